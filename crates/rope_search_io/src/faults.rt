@@ -1,0 +1,50 @@
+//! Why a command is refused, and what a source or a sink answers in place of bytes.
+use std::fmt;
+
+/// Why a command is refused. After each the session, its buffers and their reports are as before.
+/// The numbers are the order in which refusals are told: the least that applies.
+#[derive(Clone, Copy, Debug, PartialEq, Eq)]
+pub enum Fault {
+    /// There is no such buffer.
+    Nothing = 1,
+    /// The payload isn't UTF-8.
+    Utf8 = 3,
+    /// The new text would have more bytes than the limit.
+    Size = 6,
+    /// Memory was refused.
+    Memory = 7,
+}
+
+impl fmt::Display for Fault {
+    ghost use Rattle.std.specs.Prelude.{Some};
+    ghost use Rattle.rope_search_io.specs.Faults.{word_of};
+
+    ghost output = { λ fault. Some (word_of fault) };
+
+    fn fmt<W: fmt::Write>(&self, f: &mut fmt::Formatter<W>) -> fmt::Result {
+        match self {
+            Fault::Nothing => write!(f, "none"),
+            Fault::Utf8 => write!(f, "utf8"),
+            Fault::Size => write!(f, "size"),
+            Fault::Memory => write!(f, "memory"),
+        }
+    }
+}
+
+/// A source gave no bytes, or a sink took none, though it was to. It is told once and never retried here.
+#[derive(Clone, Copy, Debug, PartialEq, Eq)]
+pub struct Failed;
+
+/// Why a run broke off.
+#[derive(Clone, Copy, Debug, PartialEq, Eq)]
+pub enum Broken {
+    /// The source failed. All replies to the commands that were read whole are written.
+    Read,
+    /// The sink failed. What was written is a front of those replies, and then of the ending's line,
+    /// where the ending was met.
+    Write,
+    /// The source was read `2^62` times. All replies to the commands that were read whole are written.
+    Turns,
+    /// There was no memory for the first session. Nothing was read or written.
+    Memory,
+}

@@ -1,0 +1,162 @@
+//! Where bytes go.
+ghost use Rattle.std.specs.Prelude.{◌≡◌, ◌+◌, ◌-◌, ◌<◌, ◌≤◌, ◌↔◌, ◌⊎◌, Option, Some, IsErr, IfOk, length, min};
+ghost use Rattle.std.specs.Io.{WritesAtMost};
+ghost use Rattle.std.specs.Io.KnownBytes.{Keeps, WriteAppends};
+ghost use Rattle.rope_search_io.specs.Sources.{SinkState, failures_in, burnt};
+
+use crate::counts::Count;
+use crate::faults::{Failed, Fault};
+use crate::fuses::burns;
+use std::alloc::Global;
+use std::marker::Model;
+
+/// Where bytes go. To contracts it tells its bytes, where it knows them, and counts its calls.
+pub trait Sink {
+    // The bytes that it holds, where they are known, and what it counted.
+    ghost state: { Self → SinkState };
+
+    /// Takes bytes from the front of `bytes` and answers their number: at least one, where there is
+    /// one. After `Failed` it took none.
+    fn write(&mut self, bytes: &[u8]) -> Result<usize, Failed>
+        ensures bound { WritesAtMost result bytes.now }
+        ensures some { IfOk result (λ n. 0 < length bytes.now → 0 < n) }
+        ensures bytes { WriteAppends (state self.old).held (state self.new).held result bytes.now }
+        ensures writes { (state self.new).writes ≡ (state self.old).writes + 1 }
+        ensures flushes { (state self.new).flushes ≡ (state self.old).flushes }
+        ensures failures { (state self.new).failures ≡ (state self.old).failures + failures_in result };
+
+    /// Hands on what it may have kept back.
+    fn flush(&mut self) -> Result<(), Failed>
+        ensures bytes { Keeps (state self.old).held (state self.new).held }
+        ensures writes { (state self.new).writes ≡ (state self.old).writes }
+        ensures flushes { (state self.new).flushes ≡ (state self.old).flushes + 1 }
+        ensures failures { (state self.new).failures ≡ (state self.old).failures + failures_in result };
+}
+
+/// A sink over memory, with room for a number of bytes that it reserves when it is made.
+#[derive(Drop)]
+pub struct MemorySink {
+    bytes: Vec<u8>,
+    room: usize,
+    step: usize,
+    fuse: Option<u64>,
+    writes: Count,
+    flushes: Count,
+    failures: Count,
+}
+
+impl Model for MemorySink {
+    ghost use Rattle.std.specs.Prelude.{◌≤◌, vec_len, vec_capacity};
+    ghost use Rattle.rope_search_io.specs.Sources.{Writing};
+
+    ghost Value = { Writing };
+
+    ghost view = {
+        λ s. record {
+            held = s.bytes.items;
+            room = s.room;
+            step = s.step;
+            fuse = s.fuse;
+            writes = s.writes;
+            flushes = s.flushes;
+            failures = s.failures;
+        }
+    };
+
+    ghost invariant = { λ s. (1 ≤ s.step) × (vec_len s.bytes ≤ s.room) × (s.room ≤ vec_capacity s.bytes) };
+}
+
+impl MemorySink {
+    ghost use Rattle.std.specs.Prelude.{◌≡◌, ◌≤◌, [], IfOk, IfErr};
+
+    /// A sink with room for `room` bytes, which takes `step` of them at most in a call. The call of
+    /// the number `fail` fails, counted from 1, a `flush` too; and a `write` of some bytes fails where
+    /// the room is full. It is refused with `Fault::Memory` alone.
+    pub fn new(alloc: Global, room: usize, step: usize, fail: Option<u64>) -> Result<MemorySink, Fault>
+        requires { 1 ≤ step }
+        ensures ok { IfOk result (λ sink. sink ≡ record {
+            held = []; room = room; step = step; fuse = fail; writes = 0; flushes = 0; failures = 0 }) }
+        ensures err { IfErr result (λ fault. fault ≡ Fault.Memory) }
+    {
+        let Ok(bytes) = Vec::with_capacity(alloc, room) else {
+            return Err(Fault::Memory);
+        };
+        Ok(MemorySink {
+            bytes,
+            room,
+            step,
+            fuse: fail,
+            writes: Count::new(),
+            flushes: Count::new(),
+            failures: Count::new(),
+        })
+    }
+
+    /// The bytes that it took, in order.
+    pub fn written(&self) -> &[u8]
+        ensures { result.now ≡ self.now.held }
+    {
+        self.bytes.as_slice()
+    }
+}
+
+impl Sink for MemorySink {
+    ghost state = {
+        λ s. record { held = Some s.held; writes = s.writes; flushes = s.flushes; failures = s.failures }
+    };
+
+    fn write(&mut self, bytes: &[u8]) -> Result<usize, Failed>
+        ensures bound { WritesAtMost result bytes.now }
+        ensures some { IfOk result (λ n. 0 < length bytes.now → 0 < n) }
+        ensures bytes { WriteAppends (Some self.old.held) (Some self.new.held) result bytes.now }
+        ensures writes { self.new.writes ≡ self.old.writes + 1 }
+        ensures flushes { self.new.flushes ≡ self.old.flushes }
+        ensures failures { self.new.failures ≡ self.old.failures + failures_in result }
+
+        // It fails at that call, or where there are bytes and no room, and takes as much as it may.
+        ensures fails { IsErr result ↔ ((self.old.fuse ≡ Some 1)
+            ⊎ ((0 < length bytes.now) × (self.old.room ≤ length self.old.held))) }
+        ensures most { IfOk result (λ n. n ≡ min self.old.step
+            (min (length bytes.now) (self.old.room - length self.old.held))) }
+        ensures fuse { self.new.fuse ≡ burnt self.old.fuse }
+        ensures step { self.new.step ≡ self.old.step }
+        ensures room { self.new.room ≡ self.old.room }
+    {
+        self.writes.add();
+        if burns(&mut self.fuse) {
+            self.failures.add();
+            return Err(Failed);
+        }
+        let left = self.room - self.bytes.len();
+        let count = self.step.min(bytes.len().min(left));
+        if count == 0 && !bytes.is_empty() {
+            self.failures.add();
+            return Err(Failed);
+        }
+        if self.bytes.extend_from_slice(&bytes[..count]).is_err() {
+            self.failures.add();
+            return Err(Failed);
+        }
+        Ok(count)
+    }
+
+    fn flush(&mut self) -> Result<(), Failed>
+        ensures bytes { Keeps (Some self.old.held) (Some self.new.held) }
+        ensures writes { self.new.writes ≡ self.old.writes }
+        ensures flushes { self.new.flushes ≡ self.old.flushes + 1 }
+        ensures failures { self.new.failures ≡ self.old.failures + failures_in result }
+
+        // It fails at that call alone.
+        ensures fails { IsErr result ↔ (self.old.fuse ≡ Some 1) }
+        ensures fuse { self.new.fuse ≡ burnt self.old.fuse }
+        ensures step { self.new.step ≡ self.old.step }
+        ensures room { self.new.room ≡ self.old.room }
+    {
+        self.flushes.add();
+        if burns(&mut self.fuse) {
+            self.failures.add();
+            return Err(Failed);
+        }
+        Ok(())
+    }
+}

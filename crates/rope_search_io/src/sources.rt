@@ -1,0 +1,111 @@
+//! Where bytes come from.
+ghost use Rattle.std.specs.Prelude.{◌≡◌, ◌+◌, ◌<◌, ◌↔◌, Option, Some, IsErr, IfOk, length, min};
+ghost use Rattle.std.specs.Io.{ReadsAtMost};
+ghost use Rattle.std.specs.Io.KnownBytes.{ReadConsumes};
+ghost use Rattle.rope_search_io.specs.Sources.{SourceState, failures_in, ends_in, burnt};
+
+use crate::counts::Count;
+use crate::faults::Failed;
+use crate::fuses::burns;
+use std::marker::Model;
+
+/// Where bytes come from. To contracts it tells its bytes, where it knows them, and counts its calls.
+pub trait Source {
+    // The bytes that it has left, where they are known, and what it counted.
+    ghost state: { Self → SourceState };
+
+    /// Puts bytes into the front of `buf` and answers their number, 0 at the end or where `buf` is
+    /// empty. After `Failed` no byte is lost.
+    fn read(&mut self, buf: &mut [u8]) -> Result<usize, Failed>
+        ensures bound { ReadsAtMost result buf.new }
+        ensures bytes { ReadConsumes (state self.old).left (state self.new).left result buf.new }
+        ensures reads { (state self.new).reads ≡ (state self.old).reads + 1 }
+        ensures failures { (state self.new).failures ≡ (state self.old).failures + failures_in result }
+        ensures ends { (state self.new).ends ≡ (state self.old).ends + ends_in result buf.new };
+}
+
+/// A source over bytes in memory.
+#[derive(Drop)]
+pub struct MemorySource<'a> {
+    bytes: &'a [u8],
+    step: usize,
+    fuse: Option<u64>,
+    reads: Count,
+    failures: Count,
+    ends: Count,
+}
+
+impl<'a> Model for MemorySource<'a> {
+    ghost use Rattle.std.specs.Prelude.{◌≤◌};
+    ghost use Rattle.rope_search_io.specs.Sources.{Reading};
+
+    ghost Value = { Reading };
+
+    ghost view = {
+        λ s. record {
+            left = s.bytes.now;
+            step = s.step;
+            fuse = s.fuse;
+            reads = s.reads;
+            failures = s.failures;
+            ends = s.ends;
+        }
+    };
+
+    ghost invariant = { λ s. 1 ≤ s.step };
+}
+
+impl<'a> MemorySource<'a> {
+    ghost use Rattle.std.specs.Prelude.{◌≡◌, ◌≤◌};
+
+    /// A source of these bytes, of which a call gives `step` at most. The call of the number `fail`
+    /// fails, counted from 1, and loses nothing.
+    pub fn new(bytes: &'a [u8], step: usize, fail: Option<u64>) -> MemorySource<'a>
+        requires { 1 ≤ step }
+        ensures { result ≡ record {
+            left = bytes.now; step = step; fuse = fail; reads = 0; failures = 0; ends = 0 } }
+    {
+        MemorySource {
+            bytes,
+            step,
+            fuse: fail,
+            reads: Count::new(),
+            failures: Count::new(),
+            ends: Count::new(),
+        }
+    }
+}
+
+impl<'a> Source for MemorySource<'a> {
+    ghost state = {
+        λ s. record { left = Some s.left; reads = s.reads; failures = s.failures; ends = s.ends }
+    };
+
+    fn read(&mut self, buf: &mut [u8]) -> Result<usize, Failed>
+        ensures bound { ReadsAtMost result buf.new }
+        ensures bytes { ReadConsumes (Some self.old.left) (Some self.new.left) result buf.new }
+        ensures reads { self.new.reads ≡ self.old.reads + 1 }
+        ensures failures { self.new.failures ≡ self.old.failures + failures_in result }
+        ensures ends { self.new.ends ≡ self.old.ends + ends_in result buf.new }
+
+        // It fails at that call alone, and gives as much as it may.
+        ensures fails { IsErr result ↔ (self.old.fuse ≡ Some 1) }
+        ensures fuse { self.new.fuse ≡ burnt self.old.fuse }
+        ensures most { IfOk result (λ n. n ≡ min self.old.step (min (length buf.old) (length self.old.left))) }
+        ensures step { self.new.step ≡ self.old.step }
+    {
+        self.reads.add();
+        if burns(&mut self.fuse) {
+            self.failures.add();
+            return Err(Failed);
+        }
+        let count = self.step.min(buf.len().min(self.bytes.len()));
+        let (front, rest) = self.bytes.split_at(count);
+        buf[..count].copy_from_slice(front);
+        self.bytes = rest;
+        if count == 0 && !buf.is_empty() {
+            self.ends.add();
+        }
+        Ok(count)
+    }
+}
