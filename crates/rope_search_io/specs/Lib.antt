@@ -4,3 +4,4 @@ pub mod Sources
 pub mod Devices
 pub mod ReadAhead
 pub mod WriteBehind
+pub mod Utf8Judge

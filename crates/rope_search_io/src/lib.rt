@@ -8,6 +8,7 @@ mod fuses;
 mod read_aheads;
 mod sinks;
 mod sources;
+mod utf8_judges;
 mod write_behinds;
 
 pub use devices::Device;
@@ -15,4 +16,5 @@ pub use faults::{Broken, Failed, Fault};
 pub use read_aheads::{MOST_READS, READ_LEN, ReadAhead};
 pub use sinks::{MemorySink, Sink};
 pub use sources::{MemorySource, Source};
+pub use utf8_judges::Utf8Judge;
 pub use write_behinds::{WRITE_LEN, WriteBehind, write_all};

@@ -1,0 +1,124 @@
+//! UTF-8 of bytes that aren't kept.
+ghost use Rattle.std.specs.Prelude.{◌≡◌, ◌+◌, ◌≤◌, ◌<◌, ◌↔◌, ◌++◌, ◌∷◌, [], List, ℕ, length, take, IsTrue, IsUtf8};
+ghost use Rattle.rope_search_io.specs.Utf8Judge.{Continues, width_of};
+
+use std::marker::Model;
+
+/// Judges whether bytes are UTF-8, in whatever pieces they come, and keeps at most a part of one character.
+#[derive(Drop)]
+pub struct Utf8Judge {
+    part: [u8; 4],
+    len: usize,
+    dead: bool,
+}
+
+impl Model for Utf8Judge {
+    ghost use Rattle.std.specs.Prelude.{◌<◌, slice_index, take};
+    ghost use Rattle.rope_search_io.specs.Utf8Judge.{Judging, width_of};
+
+    ghost Value = { Judging };
+
+    ghost view = { λ j. record { part = take j.len j.part; dead = j.dead } };
+
+    ghost invariant = { λ j. (j.len < 4) × (0 < j.len → j.len < width_of (slice_index j.part 0)) };
+}
+
+/// How many bytes a character has that begins with this byte.
+const fn width(first: u8) -> usize
+    ensures value { result ≡ width_of first }
+    ensures few { result ≤ 4 }
+{
+    match first {
+        0..0x80 => 1,
+        0x80..0xe0 => 2,
+        0xe0..0xf0 => 3,
+        _ => 4,
+    }
+}
+
+/// Whether these bytes are a text.
+fn is_text(bytes: &[u8]) -> bool
+    ensures { IsTrue result ↔ IsUtf8 bytes.now }
+{
+    str::from_utf8(bytes).is_ok()
+}
+
+/// How long the longest front is that is a text.
+fn text_len(bytes: &[u8]) -> usize
+    ensures within { result ≤ length bytes.now }
+    ensures front { IsUtf8 (take result bytes.now) }
+{
+    match str::from_utf8(bytes) {
+        Ok(_) => bytes.len(),
+        Err(error) => error.valid_up_to(),
+    }
+}
+
+impl Utf8Judge {
+    /// No bytes so far.
+    pub fn new() -> Utf8Judge
+        ensures { (more : List ℕ) → Continues result more ↔ IsUtf8 more }
+    {
+        Utf8Judge {
+            part: [0; 4],
+            len: 0,
+            dead: false,
+        }
+    }
+
+    /// Judges these bytes after those so far.
+    pub fn feed(&mut self, bytes: &[u8])
+        ensures { (more : List ℕ) → Continues self.old (bytes.now ++ more) ↔ Continues self.new more }
+    {
+        let (last, rest) = bytes.split_at(self.lacking().min(bytes.len()));
+        self.push_all(last);
+        if self.len > 0 {
+            self.push_all(rest);
+            return;
+        }
+        // All but the end, which may be a part of a character, is judged at once.
+        let tail = &rest[text_len(rest)..];
+        self.push_all(tail);
+    }
+
+    /// Whether all bytes so far are UTF-8.
+    pub fn is_utf8(&self) -> bool
+        ensures { IsTrue result ↔ Continues self.now [] }
+    {
+        !self.dead && self.len == 0
+    }
+
+    // How many bytes the character that is under way lacks.
+    fn lacking(&self) -> usize {
+        if self.len == 0 {
+            return 0;
+        }
+        width(self.part[0]) - self.len
+    }
+
+    // Judges these bytes one by one.
+    fn push_all(&mut self, bytes: &[u8])
+        ensures { (more : List ℕ) → Continues self.old (bytes.now ++ more) ↔ Continues self.new more }
+    {
+        for byte in bytes {
+            self.push(*byte);
+        }
+    }
+
+    // Judges one more byte.
+    fn push(&mut self, byte: u8)
+        ensures { (more : List ℕ) → Continues self.old (byte ∷ more) ↔ Continues self.new more }
+    {
+        if self.dead {
+            return;
+        }
+        let len = self.len + 1;
+        self.part[self.len] = byte;
+        if len < width(self.part[0]) {
+            self.len = len;
+            return;
+        }
+        self.dead = !is_text(&self.part[..len]);
+        self.len = 0;
+    }
+}
