@@ -1,13 +1,11 @@
-// A library with one function.
+//! A regular expression kept live over a text that is edited, undone and forked: commands in, replies out.
 #![tactic(auto)]
 
-ghost use Rattle.std.specs.Prelude.{◌≡◌};
-ghost use Rattle.rope_search.specs.Echo.{echo_of};
+mod commands;
+mod runs;
 
-// The `ensures` clause is the contract: what `echo` returns is `echo_of` of its argument, a definition
-// in `specs/Echo.antt`, which a caller's clause can cite too.
-pub fn echo(x: usize) -> usize
-    ensures { result ≡ echo_of x }
-{
-    x
-}
+pub use commands::{Command, Payload, Reply};
+pub use rope_search_io::{
+    Broken, Device, Failed, Fault, MemorySink, MemorySource, Sink, Source,
+};
+pub use runs::Ended;

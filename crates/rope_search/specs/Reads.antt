@@ -1,0 +1,101 @@
+-- How commands are spelled, and how the bytes of an input are read as commands and an ending.
+use Rattle.std.specs.Prelude.{◌≡◌, ◌≢◌, ℕ, ◌+◌, ◌-◌, ◌*◌, ◌^◌, ◌<◌, ◌≤◌, ◌⊎◌, List, [], ◌∷◌, ◌++◌, length, codes}
+use Rattle.std.specs.List.{AllByRecursion}
+use Rattle.rope_search.specs.declared.runs.Ended.{Ended}
+use Rattle.rope_search.specs.declared.runs.Ended.TheVariants.{Input, Command, Cut}
+use Rattle.rope_search.specs.Order.{Order, SetText, PrintText, ForkBuffer, UseBuffer}
+
+-- the number that decimal digits spell after those of n
+abbrev pub digits_after : ℕ → List ℕ → ℕ
+digits_after n [] = n
+digits_after n (digit ∷ digits) = digits_after (10 * n + (digit - 48)) digits
+
+-- 1 to 20 decimal digits, perhaps with leading zeros, that spell a number below 2^64
+pub record IsNumber (digits : List ℕ) (n : ℕ) : Type 0 where
+  pub some : 0 < length digits
+  pub few : length digits ≤ 20
+  pub decimal : AllByRecursion (λ digit. (48 ≤ digit) × (digit ≤ 57)) digits
+  pub value : digits_after 0 digits ≡ n
+  pub fits : n < 2 ^ 64
+
+-- the bytes that follow a command's line
+abbrev pub payload_of : Order → List ℕ
+payload_of (SetText payload) = payload
+payload_of PrintText = []
+payload_of ForkBuffer = []
+payload_of (UseBuffer k) = []
+
+-- a command's line, without its LF: a word, then its numbers, each after one space
+abbrev pub IsLine : Order → List ℕ → Type 0
+IsLine (SetText payload) line = (digits : List ℕ) × IsNumber digits (length payload) × (line ≡ codes "text " ++ digits)
+IsLine PrintText line = line ≡ codes "print"
+IsLine ForkBuffer line = line ≡ codes "fork"
+IsLine (UseBuffer k) line = (digits : List ℕ) × IsNumber digits k × (line ≡ codes "use " ++ digits)
+
+-- a command is spelled by its line, LF, and its payload
+pub record Spells (order : Order) (bytes : List ℕ) : Type 0 where
+  pub line : List ℕ
+  pub is_line : IsLine order line
+  pub whole : bytes ≡ line ++ 10 ∷ payload_of order
+
+-- commands are spelled one after the other
+pub record SpellsFirst (order : Order) (bytes : List ℕ) (Others : List ℕ → Type 0) : Type 0 where
+  pub front : List ℕ
+  pub back : List ℕ
+  pub first : Spells order front
+  pub others : Others back
+  pub whole : bytes ≡ front ++ back
+
+abbrev pub SpellAll : List Order → List ℕ → Type 0
+SpellAll [] bytes = bytes ≡ []
+SpellAll (order ∷ orders) bytes = SpellsFirst order bytes (λ back. SpellAll orders back)
+
+-- there is no LF among these bytes
+abbrev pub HasNoLf : List ℕ → Type 0
+HasNoLf bytes = AllByRecursion (λ b. b ≢ 10) bytes
+
+-- a line of at most 128 bytes that is no command's, and its LF
+pub record IsBadLine (rest : List ℕ) : Type 0 where
+  pub line : List ℕ
+  pub more : List ℕ
+  pub no_lf : HasNoLf line
+  pub short : length line ≤ 128
+  pub whole : rest ≡ line ++ 10 ∷ more
+  pub no_command : (order : Order) → IsLine order line → ⊥
+
+-- 129 bytes and no LF among them
+pub record IsLongLine (rest : List ℕ) : Type 0 where
+  pub line : List ℕ
+  pub more : List ℕ
+  pub no_lf : HasNoLf line
+  pub long : length line ≡ 129
+  pub whole : rest ≡ line ++ more
+
+-- a line that lacks its LF
+pub record IsPartLine (rest : List ℕ) : Type 0 where
+  pub no_lf : HasNoLf rest
+  pub some : 0 < length rest
+  pub short : length rest ≤ 128
+
+-- a command's line, and fewer bytes after it than its payload has
+pub record IsPartPayload (rest : List ℕ) : Type 0 where
+  pub order : Order
+  pub line : List ℕ
+  pub part : List ℕ
+  pub is_line : IsLine order line
+  pub whole : rest ≡ line ++ 10 ∷ part
+  pub short : length part < length (payload_of order)
+
+-- what is left where no command can be read any more, and how the input ended by it
+abbrev pub Ends : List ℕ → Ended → Type 0
+Ends rest Input = rest ≡ []
+Ends rest Command = IsBadLine rest ⊎ IsLongLine rest
+Ends rest Cut = IsPartLine rest ⊎ IsPartPayload rest
+
+-- an input is read as these commands, and then ends so
+pub record Reads (input : List ℕ) (orders : List Order) (ending : Ended) : Type 0 where
+  pub spelled : List ℕ
+  pub rest : List ℕ
+  pub spells : SpellAll orders spelled
+  pub ends : Ends rest ending
+  pub whole : input ≡ spelled ++ rest

@@ -1,0 +1,35 @@
+-- What a session is: a list of buffers, of which one is chosen.
+use Rattle.std.specs.Prelude.{ℕ, List, [], ◌∷◌, Option, None, slice_index_or, slice_set}
+
+-- a history of texts with a current one, and perhaps a pattern. Texts and patterns are lists of scalar values
+pub record BufferState : Type 0 where
+  pub texts : List (List ℕ)
+  pub current : ℕ
+  pub pattern : Option (List ℕ)
+
+-- the buffers, and the number of the chosen one
+pub record State : Type 0 where
+  pub buffers : List BufferState
+  pub chosen : ℕ
+
+-- a buffer with one text and no pattern
+abbrev pub fresh : List ℕ → BufferState
+fresh text = record { texts = text ∷ []; current = 0; pattern = None }
+
+-- the first session has one buffer, chosen, with the empty text
+abbrev pub first : State
+first = record { buffers = fresh [] ∷ []; chosen = 0 }
+
+abbrev pub current_text : BufferState → List ℕ
+current_text buffer = slice_index_or buffer.texts buffer.current []
+
+abbrev pub chosen_buffer : State → BufferState
+chosen_buffer session = slice_index_or session.buffers session.chosen (fresh [])
+
+-- the buffer with a new history that begins at this text
+abbrev pub with_text : BufferState → List ℕ → BufferState
+with_text buffer text = record buffer { texts = text ∷ []; current = 0 }
+
+-- the session with another buffer in the chosen one's place
+abbrev pub with_chosen : State → BufferState → State
+with_chosen session buffer = record session { buffers = slice_set session.buffers session.chosen buffer }

@@ -1,0 +1,63 @@
+-- One step of a session: what a command may be answered, and the session after it.
+use Rattle.std.specs.Prelude.{◌≡◌, ℕ, ◌<◌, ◌≤◌, List, [], ◌∷◌, ◌++◌, length, Result, Ok, Err, IsUtf8}
+use Rattle.rope_search_io.specs.declared.faults.Fault.{Fault}
+use Rattle.rope_search_io.specs.declared.faults.Fault.TheVariants.{Nothing, Utf8, Size, Memory}
+use Rattle.rope_search.specs.declared.commands.Reply.{Reply}
+use Rattle.rope_search.specs.declared.commands.Reply.TheVariants.{Done, Number, Print}
+use Rattle.rope_search.specs.Text.{Encodes}
+use Rattle.rope_search.specs.Order.{Order, SetText, PrintText, ForkBuffer, UseBuffer}
+use Rattle.rope_search.specs.Session.{State, BufferState, fresh, current_text, chosen_buffer, with_text, with_chosen}
+
+-- what a command is answered: a reply, or why it is refused
+abbrev pub Answer : Type 0
+Answer = Result Reply Fault
+
+-- why a command is refused, under a limit on the bytes of a text. Want of memory refuses none
+abbrev pub Refuses : ℕ → State → Order → Fault → Type 0
+-- there is no such buffer
+Refuses limit session (UseBuffer k) Nothing = length session.buffers ≤ k
+-- the payload isn't UTF-8
+Refuses limit session (SetText payload) Utf8 = ¬ (IsUtf8 payload)
+-- the new text would have too many bytes
+Refuses limit session (SetText payload) Size = limit < length payload
+Refuses limit session order fault = ⊥
+
+-- the order in which refusals are told
+abbrev pub rank : Fault → ℕ
+rank Nothing = 1
+rank Utf8 = 3
+rank Size = 6
+rank Memory = 7
+
+-- of all reasons to refuse the command, this comes first
+pub record IsFirstRefusal (limit : ℕ) (session : State) (order : Order) (fault : Fault) : Type 0 where
+  pub refuses : Refuses limit session order fault
+  pub none_before : (other : Fault) → rank other < rank fault → Refuses limit session order other → ⊥
+
+-- there is no reason to refuse the command
+abbrev pub Accepts : ℕ → State → Order → Type 0
+Accepts limit session order = (fault : Fault) → Refuses limit session order fault → ⊥
+
+-- these commands take memory, and may be answered that there is none
+abbrev pub TakesMemory : Order → Type 0
+TakesMemory (SetText payload) = Unit {0}
+TakesMemory ForkBuffer = Unit {0}
+TakesMemory PrintText = ⊥
+TakesMemory (UseBuffer k) = ⊥
+
+-- what an accepted command does: its reply, and the session after it
+abbrev pub Does : State → Order → Reply → State → Type 0
+-- the text is that of the payload; the pattern stays
+Does old (SetText payload) Done new = (text : List ℕ) × Encodes text payload × (new ≡ with_chosen old (with_text (chosen_buffer old) text))
+Does old PrintText Print new = new ≡ old
+-- the new buffer has the current text alone, and comes last; the chosen one stays
+Does old ForkBuffer (Number k) new = (k ≡ length old.buffers) × (new ≡ record old { buffers = old.buffers ++ fresh (current_text (chosen_buffer old)) ∷ [] })
+Does old (UseBuffer k) Done new = new ≡ record old { chosen = k }
+-- no other reply is given
+Does old order reply new = ⊥
+
+-- under this limit the command may be answered so, and leave this session
+abbrev pub Step : ℕ → State → Order → Answer → State → Type 0
+Step limit old order (Ok reply) new = Accepts limit old order × Does old order reply new
+Step limit old order (Err Memory) new = TakesMemory order × (new ≡ old)
+Step limit old order (Err fault) new = IsFirstRefusal limit old order fault × (new ≡ old)

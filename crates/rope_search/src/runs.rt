@@ -1,0 +1,12 @@
+//! A whole run, from the bytes read to the bytes written.
+
+/// How an input ended.
+#[derive(Clone, Copy, Debug, PartialEq, Eq)]
+pub enum Ended {
+    /// The input ended before a line's first byte.
+    Input,
+    /// A line was no command. What follows it isn't read as commands.
+    Command,
+    /// The input ended inside a line or a payload. That command did nothing.
+    Cut,
+}
