@@ -1,0 +1,43 @@
+# make          builds bin/rope-search, the proved program
+# make demo     runs it on examples/first.session and shows the input and the replies
+# make test     the gate: every proof and test, then the tests of the built program
+# make bench    times loading and printing a large text
+# make clean    removes what these made
+
+# The command of the Rattle kit; make RT=PROGRAM names another.
+RT ?= rt
+crate := rope_search_cli
+program := bin/rope-search
+session := examples/first.session
+sources := crates.txt $(shell find crates -name out -prune -o -type f \
+	\( -name '*.rt' -o -name '*.antt' \) -print 2>/dev/null)
+missing := the command '$(RT)' was not found: install the Rattle kit and put its folder bin on PATH
+need_rt = $(if $(shell command -v $(RT) 2>/dev/null),,$(error $(missing)))
+
+.PHONY: all demo test bench clean
+.DELETE_ON_ERROR:
+
+all: $(program)
+
+# rt builds a program only once it is proved, and then runs it: here on empty input.
+$(program): $(sources)
+	@:$(need_rt)
+	cd crates/$(crate) && $(RT) run < /dev/null
+	@mkdir -p $(@D)
+	@cp crates/$(crate)/out/$(crate) $@.new && mv $@.new $@
+
+demo: $(program)
+	@echo '--- the input, $(session)'
+	@cat $(session)
+	@echo '--- the replies of $(program)'
+	@$(program) < $(session)
+
+test:
+	@:$(need_rt)
+	@RT='$(RT)' tests/gate
+
+bench: $(program)
+	@bench/load_print
+
+clean:
+	rm -rf bin $(wildcard crates/*/out)

@@ -1,0 +1,122 @@
+// A library to preload into a program: it counts the program's requests for memory and can refuse
+// one of them, or one and all that follow. It asks the GNU C library itself for what it grants.
+//
+//   REFUSE_MEMORY_AT=N       refuses the N-th request alone, counted from 1
+//   REFUSE_MEMORY_FROM=N     refuses the N-th request and each one after it
+//   REFUSE_MEMORY_TELL=FILE  writes 'COUNT LARGEST' and LF to FILE as the program ends: the number of
+//                            requests, and the most bytes that one of them asked for
+//
+// Requests made before the library is set up, by the dynamic loader, are granted and not counted.
+
+#include <errno.h>
+#include <fcntl.h>
+#include <stddef.h>
+#include <stdio.h>
+#include <stdlib.h>
+#include <unistd.h>
+
+extern void *__libc_malloc(size_t);
+extern void *__libc_calloc(size_t, size_t);
+extern void *__libc_realloc(void *, size_t);
+extern void *__libc_memalign(size_t, size_t);
+
+static int ready;
+static unsigned long count;
+static unsigned long largest;
+static unsigned long refuse_at;
+static unsigned long refuse_from;
+
+// Counts a request for so many bytes, and answers whether it is refused.
+static int refused(size_t bytes)
+{
+    if (!ready)
+        return 0;
+    count++;
+    if (bytes > largest)
+        largest = bytes;
+    return count == refuse_at || (refuse_from != 0 && count >= refuse_from);
+}
+
+static void *refusal(void)
+{
+    errno = ENOMEM;
+    return NULL;
+}
+
+void *malloc(size_t bytes)
+{
+    return refused(bytes) ? refusal() : __libc_malloc(bytes);
+}
+
+void *calloc(size_t items, size_t size)
+{
+    size_t bytes;
+    if (__builtin_mul_overflow(items, size, &bytes))
+        return refusal();
+    return refused(bytes) ? refusal() : __libc_calloc(items, size);
+}
+
+void *realloc(void *old, size_t bytes)
+{
+    return refused(bytes) ? refusal() : __libc_realloc(old, bytes);
+}
+
+void *reallocarray(void *old, size_t items, size_t size)
+{
+    size_t bytes;
+    if (__builtin_mul_overflow(items, size, &bytes))
+        return refusal();
+    return realloc(old, bytes);
+}
+
+void *memalign(size_t alignment, size_t bytes)
+{
+    return refused(bytes) ? refusal() : __libc_memalign(alignment, bytes);
+}
+
+void *aligned_alloc(size_t alignment, size_t bytes)
+{
+    return memalign(alignment, bytes);
+}
+
+int posix_memalign(void **made, size_t alignment, size_t bytes)
+{
+    if (alignment % sizeof(void *) != 0 || alignment == 0 || (alignment & (alignment - 1)) != 0)
+        return EINVAL;
+    int before = errno;
+    void *memory = memalign(alignment, bytes);
+    errno = before;
+    if (memory == NULL)
+        return ENOMEM;
+    *made = memory;
+    return 0;
+}
+
+static unsigned long setting(const char *name)
+{
+    const char *value = getenv(name);
+    return value == NULL ? 0 : strtoul(value, NULL, 10);
+}
+
+__attribute__((constructor)) static void set_up(void)
+{
+    refuse_at = setting("REFUSE_MEMORY_AT");
+    refuse_from = setting("REFUSE_MEMORY_FROM");
+    ready = 1;
+}
+
+__attribute__((destructor)) static void tell(void)
+{
+    ready = 0;
+    const char *name = getenv("REFUSE_MEMORY_TELL");
+    if (name == NULL)
+        return;
+    char line[64];
+    int length = snprintf(line, sizeof line, "%lu %lu\n", count, largest);
+    int file = open(name, O_WRONLY | O_CREAT | O_TRUNC, 0600);
+    if (file < 0)
+        return;
+    if (write(file, line, (size_t)length) != length)
+        unlink(name);
+    close(file);
+}
