@@ -1,14 +1,18 @@
 -- How many rows of a report a command may make.
-use Rattle.std.specs.Prelude.{◌≡◌, ℕ, ◌⊎◌, Bool, if◌then◌else◌, is_some, chars}
+use Rattle.std.specs.Prelude.{◌≡◌, ℕ, ◌⊎◌, List, if◌then◌else◌, is_some, chars}
 use Rattle.rope_search_io.specs.declared.faults.Fault.{Fault}
 use Rattle.rope_search.specs.Text.{line_count}
 use Rattle.rope_search.specs.Order.{Order, SetText, PrintText, ForkBuffer, UseBuffer}
-use Rattle.rope_search.specs.Session.{State, chosen_buffer}
+use Rattle.rope_search.specs.Session.{BufferState, State, chosen_buffer}
 use Rattle.rope_search.specs.Step.{Refuses, Accepts}
 
--- the rows that an accepted command may make. `text` may make one for each line, where there is a pattern
+-- a report that is made anew has a row for each line; there is none without a pattern
+abbrev pub rows_anew : BufferState → List ℕ → ℕ
+rows_anew buffer text = if is_some buffer.pattern then line_count text else 0
+
+-- the rows that an accepted command may make: `text` makes the report anew
 abbrev pub rows_of : State → Order → ℕ
-rows_of session (SetText payload) = if is_some (chosen_buffer session).pattern then line_count (chars payload) else 0
+rows_of session (SetText payload) = rows_anew (chosen_buffer session) (chars payload)
 rows_of session PrintText = 0
 rows_of session ForkBuffer = 0
 rows_of session (UseBuffer k) = 0
@@ -17,3 +21,10 @@ rows_of session (UseBuffer k) = 0
 abbrev pub Costs : ℕ → State → Order → ℕ → Type 0
 Costs limit session order n =
     ((fault : Fault) × Refuses limit session order fault × (n ≡ 0)) ⊎ (Accepts limit session order × (n ≡ rows_of session order))
+
+-- how often a command may search a whole text
+abbrev pub whole_searches : Order → ℕ
+whole_searches (SetText payload) = 0
+whole_searches PrintText = 0
+whole_searches ForkBuffer = 0
+whole_searches (UseBuffer k) = 0

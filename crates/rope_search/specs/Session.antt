@@ -33,3 +33,18 @@ with_text buffer text = record buffer { texts = text ∷ []; current = 0 }
 -- the session with another buffer in the chosen one's place
 abbrev pub with_chosen : State → BufferState → State
 with_chosen session buffer = record session { buffers = slice_set session.buffers session.chosen buffer }
+
+-- a buffer, and the most bytes that a text of it has
+pub record LimitedBuffer : Type 0 where
+  pub limit : ℕ
+  pub state : BufferState
+
+-- a session, and the most bytes that a text in it has
+pub record LimitedSession : Type 0 where
+  pub limit : ℕ
+  pub state : State
+
+-- how many rows were made, and how many whole texts were searched
+pub record Ticks : Type 0 where
+  pub count : ℕ
+  pub wholes : ℕ

@@ -1,11 +1,20 @@
 //! A regular expression kept live over a text that is edited, undone and forked: commands in, replies out.
 #![tactic(auto)]
 
+mod buffers;
 mod commands;
+mod headers;
+mod limits;
+mod rows;
 mod runs;
+mod sessions;
 
+pub use buffers::Buffer;
 pub use commands::{Command, Payload, Reply};
+pub use limits::Limits;
 pub use rope_search_io::{
     Broken, Device, Failed, Fault, MemorySink, MemorySource, Sink, Source,
 };
+pub use rows::Lines;
 pub use runs::Ended;
+pub use sessions::Session;

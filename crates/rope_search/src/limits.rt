@@ -1,0 +1,23 @@
+//! What a session refuses by its size.
+ghost use Rattle.std.specs.Prelude.{◌^◌, ◌<◌};
+
+/// The most bytes that a text in a buffer has.
+#[derive(Clone, Copy, Debug, PartialEq, Eq)]
+pub struct Limits {
+    /// In bytes, at most `isize::MAX`.
+    pub text: usize,
+    ghost in_range: { text < 2 ^ 63 },
+}
+
+/// One gibibyte for a text.
+impl Default for Limits {
+    ghost use Rattle.std.specs.Prelude.{◌≡◌, ◌^◌};
+
+    ghost is_default = { λ limits. limits.text ≡ 2 ^ 30 };
+
+    fn default() -> Limits {
+        Limits {
+            text: 1 << 30,
+        }
+    }
+}
