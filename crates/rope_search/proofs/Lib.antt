@@ -1,3 +1,4 @@
 pub mod HeaderLemmas
 pub mod SessionLemmas
+pub mod TakesLemmas
 pub mod TextLemmas

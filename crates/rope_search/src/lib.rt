@@ -5,6 +5,7 @@ mod buffers;
 mod commands;
 mod headers;
 mod limits;
+mod lines;
 mod rows;
 mod runs;
 mod sessions;
