@@ -1,4 +1,6 @@
 pub mod HeaderLemmas
+pub mod RunLaws
 pub mod SessionLemmas
+pub mod StepLaws
 pub mod TakesLemmas
 pub mod TextLemmas

@@ -1,0 +1,233 @@
+-- Each command has one reply, one next session and one cost, apart from want of memory.
+use Rattle.std.proofs.Common.{◌≡◌, ◌≢◌, ℕ, ◌+◌, ◌<◌, ◌≤◌, ◌⊎◌, List, [], ◌∷◌, ◌++◌, true, false, length, refl, sym, ap, ◌∙◌, subst, inl, inr, IsUtf8, arith}
+use Rattle.std.specs.Prelude.{Ok, Err, chars}
+use Rattle.std.specs.Str.{is_utf8}
+use Rattle.std.proofs.lemmas.Bool.{cases_Bool, cases_lt, cases_order}
+use Rattle.std.proofs.lemmas.Str.{IsUtf8-from_is_utf8, is_utf8-from_IsUtf8, chars_from_encodes}
+use Rattle.rope_search_io.specs.declared.faults.Fault.{Fault}
+use Rattle.rope_search_io.specs.declared.faults.Fault.TheVariants.{Nothing, Utf8, Size, Memory}
+use Rattle.rope_search.specs.declared.commands.Reply.{Reply}
+use Rattle.rope_search.specs.declared.commands.Reply.TheVariants.{Done, Number, Print}
+use Rattle.rope_search.specs.Text.{Encodes}
+use Rattle.rope_search.specs.Order.{Order, SetText, PrintText, ForkBuffer, UseBuffer}
+use Rattle.rope_search.specs.Session.{State, fresh, current_text, chosen_buffer, with_text, with_chosen}
+use Rattle.rope_search.specs.Step.{Answer, Refuses, rank, IsFirstRefusal, Accepts, Does, Step}
+use Rattle.rope_search.specs.Shows.{shows}
+use Rattle.rope_search.specs.Cost.{Costs, rows_of}
+use Rattle.rope_search.specs.Answers.{Run}
+use Rattle.rope_search.proofs.RunLaws.{Run-nil}
+
+-- bytes are UTF-8 or not
+pub utf8_choice : (bytes : List ℕ) → IsUtf8 bytes ⊎ (¬ (IsUtf8 bytes))
+utf8_choice bytes = elim (cases_Bool (is_utf8 bytes)) [
+    inl yes_it_is ↦ inl (IsUtf8-from_is_utf8 bytes yes_it_is)
+  | inr not_so ↦ inr (λ text. let e : true ≡ false = sym (is_utf8-from_IsUtf8 bytes text) ∙ not_so in absurd (cc))
+  ]
+
+-- ---- refusals
+
+-- want of memory is no refusal
+pub Refuses-memory : (limit : ℕ) (s : State) (o : Order) → Refuses limit s o Memory → ⊥
+Refuses-memory limit s (SetText payload) h = h
+Refuses-memory limit s PrintText h = h
+Refuses-memory limit s ForkBuffer h = h
+Refuses-memory limit s (UseBuffer k) h = h
+
+-- a payload that isn't UTF-8 is refused for that first
+pub refused_utf8 : (limit : ℕ) (s : State) (payload : List ℕ) → ¬ (IsUtf8 payload) → IsFirstRefusal limit s (SetText payload) Utf8
+refused_utf8 limit s payload broken = record { refuses = broken; none_before = before }
+  where
+    before : (other : Fault) → rank other < 3 → Refuses limit s (SetText payload) other → ⊥
+    before Nothing lower h = h
+    before Utf8 lower h = omega arith
+    before Size lower h = omega arith
+    before Memory lower h = h
+
+-- a text that is too long is refused for that first
+pub refused_size : (limit : ℕ) (s : State) (payload : List ℕ) → IsUtf8 payload → limit < length payload → IsFirstRefusal limit s (SetText payload) Size
+refused_size limit s payload text long = record { refuses = long; none_before = before }
+  where
+    before : (other : Fault) → rank other < 6 → Refuses limit s (SetText payload) other → ⊥
+    before Nothing lower h = h
+    before Utf8 lower h = h text
+    before Size lower h = omega arith
+    before Memory lower h = h
+
+-- a buffer that isn't there can't be chosen
+pub refused_nothing : (limit : ℕ) (s : State) (k : ℕ) → length s.buffers ≤ k → IsFirstRefusal limit s (UseBuffer k) Nothing
+refused_nothing limit s k past = record { refuses = past; none_before = before }
+  where
+    before : (other : Fault) → rank other < 1 → Refuses limit s (UseBuffer k) other → ⊥
+    before Nothing lower h = omega arith
+    before Utf8 lower h = h
+    before Size lower h = h
+    before Memory lower h = h
+
+-- a text within the limit is accepted
+pub accepted_text : (limit : ℕ) (s : State) (payload : List ℕ) → IsUtf8 payload → length payload ≤ limit → Accepts limit s (SetText payload)
+accepted_text limit s payload text short Nothing h = h
+accepted_text limit s payload text short Utf8 h = h text
+accepted_text limit s payload text short Size h = omega arith
+accepted_text limit s payload text short Memory h = h
+
+pub accepted_print : (limit : ℕ) (s : State) → Accepts limit s PrintText
+accepted_print limit s fault h = h
+
+pub accepted_fork : (limit : ℕ) (s : State) → Accepts limit s ForkBuffer
+accepted_fork limit s fault h = h
+
+-- a buffer that is there can be chosen
+pub accepted_use : (limit : ℕ) (s : State) (k : ℕ) → k < length s.buffers → Accepts limit s (UseBuffer k)
+accepted_use limit s k inside Nothing h = omega arith
+accepted_use limit s k inside Utf8 h = h
+accepted_use limit s k inside Size h = h
+accepted_use limit s k inside Memory h = h
+
+-- a command is refused for some first reason, or accepted
+pub refusal_choice : (limit : ℕ) (s : State) (o : Order) → ((f : Fault) × IsFirstRefusal limit s o f) ⊎ Accepts limit s o
+refusal_choice limit s (SetText payload) = elim (utf8_choice payload) [
+    inl text ↦ elim (cases_lt limit (length payload)) [
+        inl long ↦ inl (Size, refused_size limit s payload text long)
+      | inr short ↦ inr (accepted_text limit s payload text short)
+      ]
+  | inr broken ↦ inl (Utf8, refused_utf8 limit s payload broken)
+  ]
+refusal_choice limit s PrintText = inr (accepted_print limit s)
+refusal_choice limit s ForkBuffer = inr (accepted_fork limit s)
+refusal_choice limit s (UseBuffer k) = elim (cases_lt k (length s.buffers)) [
+    inl inside ↦ inr (accepted_use limit s k inside)
+  | inr past ↦ inl (Nothing, refused_nothing limit s k past)
+  ]
+
+-- faults of one rank are the same
+pub rank_one : (f g : Fault) → rank f ≡ rank g → f ≡ g
+rank_one Nothing Nothing e = refl
+rank_one Utf8 Utf8 e = refl
+rank_one Size Size e = refl
+rank_one Memory Memory e = refl
+rank_one f g e = absurd (omega arith)
+
+-- a command has at most one first refusal
+pub IsFirstRefusal-one : (limit : ℕ) (s : State) (o : Order) (f g : Fault) → IsFirstRefusal limit s o f → IsFirstRefusal limit s o g → f ≡ g
+IsFirstRefusal-one limit s o f g one other = elim (cases_order (rank f) (rank g)) [
+    inl same ↦ rank_one f g same
+  | inr (inl below) ↦ absurd (other.none_before f below one.refuses)
+  | inr (inr above) ↦ absurd (one.none_before g above other.refuses)
+  ]
+
+-- ---- what a command does
+
+-- what an accepted command replies
+abbrev pub reply_to : State → Order → Reply
+reply_to old (SetText payload) = Done
+reply_to old PrintText = Print
+reply_to old ForkBuffer = Number (length old.buffers)
+reply_to old (UseBuffer k) = Done
+
+-- the session after an accepted command
+abbrev pub after : State → Order → State
+after old (SetText payload) = with_chosen old (with_text (chosen_buffer old) (chars payload))
+after old PrintText = old
+after old ForkBuffer = record old { buffers = old.buffers ++ fresh (current_text (chosen_buffer old)) ∷ [] }
+after old (UseBuffer k) = record old { chosen = k }
+
+-- the text that bytes encode is the list of their characters
+pub Encodes-chars : (text bytes : List ℕ) → Encodes text bytes → text ≡ chars bytes
+Encodes-chars text bytes h = chars_from_encodes text bytes (text, (h.scalars, h.spelled)) h.spelled
+
+-- an accepted command does one thing
+pub Does-known : (old : State) (o : Order) (r : Reply) (new : State) → Does old o r new → (r ≡ reply_to old o) × (new ≡ after old o)
+Does-known old (SetText payload) Done new h = (refl, h.2 ∙ ap (λ t. with_chosen old (with_text (chosen_buffer old) t)) (Encodes-chars h.0 payload h.1))
+Does-known old PrintText Print new h = (refl, h)
+Does-known old ForkBuffer (Number k) new h = (ap Number h.0, h.1)
+Does-known old (UseBuffer k) Done new h = (refl, h)
+Does-known old o r new h = absurd h
+
+-- and each accepted command does it
+pub Does-after : (limit : ℕ) (old : State) (o : Order) → Accepts limit old o → Does old o (reply_to old o) (after old o)
+Does-after limit old (SetText payload) accepts = elim (utf8_choice payload) [
+    inl text ↦
+      let encodes : Encodes text.0 payload = record { scalars = text.1.0; spelled = text.1.1 } in
+      (text.0, encodes, ap (λ t. with_chosen old (with_text (chosen_buffer old) t)) (sym (Encodes-chars text.0 payload encodes)))
+  | inr broken ↦ absurd (accepts Utf8 broken)
+  ]
+Does-after limit old PrintText accepts = refl
+Does-after limit old ForkBuffer accepts = (refl, refl)
+Does-after limit old (UseBuffer k) accepts = refl
+
+-- ---- steps
+
+-- a command that is refused for this first is answered so, and leaves the session
+pub Step-refused : (limit : ℕ) (s : State) (o : Order) (f : Fault) → IsFirstRefusal limit s o f → Step limit s o (Err f) s
+Step-refused limit s o Nothing first = (first, refl)
+Step-refused limit s o Utf8 first = (first, refl)
+Step-refused limit s o Size first = (first, refl)
+Step-refused limit s o Memory first = absurd (Refuses-memory limit s o first.refuses)
+
+-- an answer other than want of memory tells the first refusal
+pub Step-told : (limit : ℕ) (s : State) (o : Order) (f : Fault) (new : State) → f ≢ Memory → Step limit s o (Err f) new → IsFirstRefusal limit s o f × (new ≡ s)
+Step-told limit s o Nothing new other step = step
+Step-told limit s o Utf8 new other step = step
+Step-told limit s o Size new other step = step
+Step-told limit s o Memory new other step = absurd (other refl)
+
+-- each command has a step, apart from want of memory
+pub step_exists : (limit : ℕ) (s : State) (o : Order) → (answer : Answer) × (new : State) × (answer ≢ Err Memory) × Step limit s o answer new
+step_exists limit s o = elim (refusal_choice limit s o) [
+    inl refused ↦ (Err refused.0, s, memory refused.0 (Err refused.0) refl refused.1, Step-refused limit s o refused.0 refused.1)
+  | inr accepts ↦ (Ok (reply_to s o), after s o, (λ e. cc), (accepts, Does-after limit s o accepts))
+  ]
+  where
+    memory : (f : Fault) (told : Answer) → told ≡ Err f → IsFirstRefusal limit s o f → told ≡ Err Memory → ⊥
+    memory f told is first e = let same : f ≡ Memory = cc in Refuses-memory limit s o (subst (λ g. Refuses limit s o g) same first.refuses)
+
+-- and no other
+pub step_one : (limit : ℕ) (s : State) (o : Order) (a b : Answer) (x y : State) → Step limit s o a x → Step limit s o b y → a ≢ Err Memory → b ≢ Err Memory → (a ≡ b) × (x ≡ y)
+step_one limit s o (Ok p) (Ok q) x y one other memory memory' =
+    let known = Does-known s o p x one.1 in
+    let known' = Does-known s o q y other.1 in
+    (ap Ok (known.0 ∙ sym known'.0), known.1 ∙ sym known'.1)
+step_one limit s o (Ok p) (Err g) x y one other memory memory' =
+    absurd (one.0 g (Step-told limit s o g y (λ e. memory' (ap Err e)) other).0.refuses)
+step_one limit s o (Err f) (Ok q) x y one other memory memory' =
+    absurd (other.0 f (Step-told limit s o f x (λ e. memory (ap Err e)) one).0.refuses)
+step_one limit s o (Err f) (Err g) x y one other memory memory' =
+    let told = Step-told limit s o f x (λ e. memory (ap Err e)) one in
+    let told' = Step-told limit s o g y (λ e. memory' (ap Err e)) other in
+    (ap Err (IsFirstRefusal-one limit s o f g told.0 told'.0), told.1 ∙ sym told'.1)
+
+-- ---- costs and runs
+
+-- each command has a cost
+pub costs_exist : (limit : ℕ) (s : State) (o : Order) → (n : ℕ) × Costs limit s o n
+costs_exist limit s o = elim (refusal_choice limit s o) [
+    inl refused ↦ (0, inl (refused.0, refused.1.refuses, refl))
+  | inr accepts ↦ (rows_of s o, inr (accepts, refl))
+  ]
+
+-- and no other
+pub costs_one : (limit : ℕ) (s : State) (o : Order) (m n : ℕ) → Costs limit s o m → Costs limit s o n → m ≡ n
+costs_one limit s o m n (inl one) (inl other) = one.2 ∙ sym other.2
+costs_one limit s o m n (inl one) (inr other) = absurd (other.0 one.0 one.1)
+costs_one limit s o m n (inr one) (inl other) = absurd (one.0 other.0 other.1)
+costs_one limit s o m n (inr one) (inr other) = one.1 ∙ sym other.1
+
+-- commands can be run from each session
+pub run_exists : (limit : ℕ) (s : State) (os : List Order) → (out : List ℕ) × (cost : ℕ) × (new : State) × Run limit s os out cost new
+run_exists limit s [] = ([], 0, s, Run-nil limit s)
+run_exists limit s (o ∷ os) =
+    let step = step_exists limit s o in
+    let costs = costs_exist limit s o in
+    let others = run_exists limit step.1 os in
+    (shows step.1 step.0 ++ others.0, costs.0 + others.1, others.2, record {
+      answer = step.0;
+      new = step.1;
+      own_cost = costs.0;
+      later = others.0;
+      later_cost = others.1;
+      step = step.3;
+      costs = costs.1;
+      others = others.3;
+      shown = refl;
+      added = refl;
+    })
