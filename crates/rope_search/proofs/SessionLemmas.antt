@@ -1,13 +1,10 @@
 -- Steps of a session on the list of its buffers.
-use Rattle.std.proofs.Common.{◌≡◌, ℕ, ◌+◌, ◌<◌, ◌≤◌, List, [], length, map, sym, ap, ◌∙◌, subst, slice_index_or, slice_set, Err, IsUtf8, arith}
+use Rattle.std.proofs.Common.{◌≡◌, ℕ, ◌+◌, ◌<◌, ◌≤◌, List, [], length, map, sym, ap, ◌∙◌, subst, slice_index_or, slice_set}
 use Rattle.std.proofs.lemmas.List.{map-set, get_or-map}
-use Rattle.rope_search_io.specs.declared.faults.Fault.{Fault}
-use Rattle.rope_search_io.specs.declared.faults.Fault.TheVariants.{Nothing, Utf8, Size, Memory}
 use Rattle.rope_search.specs.declared.commands.Payload.{Payload}
 use Rattle.rope_search.specs.declared.commands.Command.TheVariants.{Text}
 use Rattle.rope_search.specs.Order.{Order, SetText, PrintText, ForkBuffer, UseBuffer}
 use Rattle.rope_search.specs.Session.{State, BufferState, LimitedBuffer, fresh, chosen_buffer, with_text, with_chosen}
-use Rattle.rope_search.specs.Step.{Refuses, Accepts}
 use Rattle.rope_search.specs.Stands.{Stands, StandsFor}
 use Rattle.rope_search.specs.Cost.{Costs}
 
@@ -19,13 +16,6 @@ rows_for_text limit s payload count before each (SetText bytes) cost stands cost
 rows_for_text limit s payload count before each PrintText cost stands costs = absurd stands
 rows_for_text limit s payload count before each ForkBuffer cost stands costs = absurd stands
 rows_for_text limit s payload count before each (UseBuffer k) cost stands costs = absurd stands
-
--- a text that is UTF-8 and short enough is accepted
-pub Accepts-text : (limit : ℕ) (s : State) (bytes : List ℕ) → IsUtf8 bytes → length bytes ≤ limit → Accepts limit s (SetText bytes)
-Accepts-text limit s bytes utf8 short Nothing refused = refused
-Accepts-text limit s bytes utf8 short Utf8 refused = refused utf8
-Accepts-text limit s bytes utf8 short Size refused = omega arith
-Accepts-text limit s bytes utf8 short Memory refused = refused
 
 -- the chosen buffer written in the list is the chosen buffer of the session
 pub with_chosen-text : (items : List LimitedBuffer) (k : ℕ) (old new : LimitedBuffer) (text : List ℕ) (s : State)

@@ -6,6 +6,7 @@ mod commands;
 mod headers;
 mod limits;
 mod lines;
+mod payloads;
 mod rows;
 mod runs;
 mod sessions;

@@ -2,7 +2,8 @@ use Rattle.std.proofs.Common.{◌≡◌, ◌<◌, ◌≤◌, IsUtf8, length, sli
 use Rattle.std.specs.Str.{chars}
 use Rattle.rope_search.specs.Session.{LimitedBuffer, LimitedSession, with_text}
 use Rattle.rope_search.proofs.TextLemmas.{Encodes-chars}
-use Rattle.rope_search.proofs.SessionLemmas.{Accepts-text, with_chosen-text}
+use Rattle.rope_search.proofs.SessionLemmas.{with_chosen-text}
+use Rattle.rope_search.proofs.StepLaws.{accepted_text}
 use Rattle.rope_search.proofs.sessions.Session.set_text.Goals as goal
 
 pub returns-in_ok-set_text-in-Ok-clause-step : goal.returns-in_ok-set_text-in-Ok-clause-step
@@ -21,7 +22,7 @@ returns-in_ok-set_text-in-Ok-clause-step c = λ bytes stands.
     λ long. absurd (let told = c.in_ok-set_text-in-Ok.ensures.size.1 (omega (arith, limit, ap length same)) in cc) in
     let text : c.set_text.new.self.state ≡ with_text old.state (chars bytes) =
     c.in_ok-set_text-in-Ok.ensures.ok ∙ ap (λ t. with_text old.state (chars t)) same in
-    (Accepts-text c.args.self.now.limit c.args.self.now.state bytes utf8 (omega arith),
+    (accepted_text c.args.self.now.limit c.args.self.now.state bytes utf8 (omega arith),
      (chars bytes, Encodes-chars bytes utf8,
      with_chosen-text items inside.chosen old c.set_text.new.self (chars bytes) c.args.self.now.state room c.index_mut.ensures.value text
      (ap (λ (s : LimitedSession). s.state) c.self.view_is)))

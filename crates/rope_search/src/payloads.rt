@@ -1,0 +1,99 @@
+//! Reading a command's payload.
+ghost use Rattle.std.specs.Prelude.{◌≡◌, ◌<◌, ◌≤◌, ◌↔◌, [], List, ℕ, length, take};
+ghost use Rattle.rope_search.specs.Stands.{StandsFor};
+ghost use Rattle.rope_search.specs.Requests.{Collects, CollectsMore, TakesPayload};
+
+use crate::commands::Payload;
+use crate::limits::Limits;
+use rope_search_io::{Broken, ReadAhead, Source, Utf8Judge};
+use std::alloc::Global;
+
+/// What is kept of a payload while it is read. It takes memory for the bytes that were read alone,
+/// and none for those that a line claims.
+#[derive(Drop)]
+pub enum Collected {
+    /// All bytes so far.
+    Kept(Vec<u8>),
+    /// Whether they are UTF-8: the payload has more bytes than the limit on texts.
+    Judged(Utf8Judge),
+    /// Nothing, since there was no memory.
+    Lost,
+}
+
+impl Collected {
+    /// Nothing yet of a payload of `len` bytes.
+    pub fn new(alloc: Global, len: u64, limits: Limits) -> Collected
+        ensures { Collects limits.text len result [] }
+    {
+        if len <= limits.text as u64 {
+            Collected::Kept(Vec::new(alloc))
+        } else {
+            Collected::Judged(Utf8Judge::new())
+        }
+    }
+
+    /// The payload's next bytes.
+    pub fn add(&mut self, bytes: &[u8])
+        ensures { CollectsMore self.old self.new bytes.now }
+    {
+        match self {
+            Collected::Kept(kept) => {
+                if kept.extend_from_slice(bytes).is_err() {
+                    *self = Collected::Lost;
+                }
+            }
+            Collected::Judged(judge) => judge.feed(bytes),
+            Collected::Lost => {}
+        }
+    }
+
+    /// The payload, once all of it was read.
+    pub fn payload(&self) -> Payload<'_>
+        ensures { (limit : ℕ) (bytes : List ℕ) → Collects limit (length bytes) self.now bytes → StandsFor limit result bytes }
+    {
+        match self {
+            Collected::Kept(bytes) => Payload::Kept(bytes.as_slice()),
+            Collected::Judged(judge) => Payload::Long {
+                utf8: judge.is_utf8(),
+            },
+            Collected::Lost => Payload::Lost,
+        }
+    }
+}
+
+/// The first bytes, at most so many, and all where there aren't more.
+fn front(bytes: &[u8], most: u64) -> &[u8]
+    ensures front { result.now ≡ take (length result.now) bytes.now }
+    ensures within { length result.now ≤ length bytes.now }
+    ensures most { length result.now ≤ most }
+    ensures some { 0 < most → 0 < length bytes.now → 0 < length result.now }
+{
+    if bytes.len() as u64 <= most {
+        return bytes;
+    }
+    &bytes[..most as usize]
+}
+
+/// Reads a payload of `len` bytes. False says that the input ended before.
+pub fn read_payload<R: Source>(
+    ahead: &mut ReadAhead,
+    source: &mut R,
+    collected: &mut Collected,
+    len: u64,
+) -> Result<bool, Broken>
+    ensures { TakesPayload result len collected.old collected.new ahead.old ahead.new
+        (R.state source.old) (R.state source.new) }
+{
+    let mut left = len;
+    while left > 0 {
+        if !ahead.fill(source)? {
+            return Ok(false);
+        }
+        let bytes = front(ahead.as_slice(), left);
+        collected.add(bytes);
+        let count = bytes.len();
+        ahead.consume(count);
+        left -= count as u64;
+    }
+    Ok(true)
+}
