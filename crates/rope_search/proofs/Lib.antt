@@ -1,4 +1,5 @@
 pub mod HeaderLemmas
+pub mod PayloadLemmas
 pub mod RunLaws
 pub mod SessionLemmas
 pub mod StepLaws

@@ -1,0 +1,29 @@
+-- What is kept of a payload, part after part.
+use Rattle.std.proofs.Common.{◌≡◌, ◌↔◌, ℕ, ◌<◌, Bool, IsTrue, List, [], ◌++◌, length, IsUtf8, sym, subst, append_assoc, append-nil}
+use Rattle.rope_search_io.specs.Utf8Judge.{Judging, Continues}
+use Rattle.rope_search.specs.declared.payloads.Collected.{Collected}
+use Rattle.rope_search.specs.declared.payloads.Collected.TheVariants.{Kept, Judged, Lost}
+use Rattle.rope_search.specs.Requests.{Collects, CollectsMore}
+
+-- nothing is judged yet
+pub Collects-judged : (limit len : ℕ) (judge : Judging) → limit < len → ((more : List ℕ) → Continues judge more ↔ IsUtf8 more) → Collects limit len (Judged judge) []
+Collects-judged limit len judge long fresh = (long, λ more. ((fresh more).1, (fresh more).0))
+
+-- more bytes are judged
+pub CollectsMore-judged : (old new : Judging) (bytes : List ℕ) → ((more : List ℕ) → Continues old (bytes ++ more) ↔ Continues new more)
+    → CollectsMore (Judged old) (Judged new) bytes
+CollectsMore-judged old new bytes fed limit len before h =
+    (h.0, λ more.
+        let same = append_assoc before bytes more in
+        (λ text. (fed more).0 ((h.1 (bytes ++ more)).0 (subst IsUtf8 same text)),
+         λ judged. subst IsUtf8 (sym same) ((h.1 (bytes ++ more)).1 ((fed more).1 judged))))
+
+-- all bytes were judged
+pub judged_payload : (limit : ℕ) (bytes : List ℕ) (judge : Judging) (utf8 : Bool) → (IsTrue utf8 ↔ Continues judge [])
+    → Collects limit (length bytes) (Judged judge) bytes → (limit < length bytes) × (IsTrue utf8 ↔ IsUtf8 bytes)
+judged_payload limit bytes judge utf8 told h =
+    (h.0, (λ t. subst IsUtf8 (append-nil bytes) ((h.1 []).1 (told.0 t)), λ text. told.1 ((h.1 []).0 (subst IsUtf8 (sym (append-nil bytes)) text))))
+
+pub CollectsMore-trans : (a b c : Collected) (xs ys : List ℕ) → CollectsMore a b xs → CollectsMore b c ys → CollectsMore a c (xs ++ ys)
+CollectsMore-trans a b c xs ys p q limit len before h =
+    subst (Collects limit len c) (append_assoc before xs ys) (q limit len (before ++ xs) (p limit len before h))
