@@ -1,11 +1,15 @@
 -- Writing one list of bytes after another, and what stands written where a write in between fails.
-use Rattle.std.proofs.Common.{◌≡◌, ℕ, List, [], ◌++◌, ◌+◌, ◌-◌, length, take, drop, refl, ap, sym, subst, take-append-drop, ◌∙◌, append_assoc, append-nil, arith}
+use Rattle.std.proofs.Common.{◌≡◌, ℕ, List, [], ◌∷◌, ◌++◌, ◌<◌, ◌≤◌, get_or, ◌+◌, ◌-◌, length, take, drop, refl, ap, sym, subst, take-append-drop, ◌∙◌, append_assoc, append-nil, arith}
 use Rattle.std.proofs.KnownBytes.{Appends-trans, Appends-nil, Appends-kept}
-use Rattle.std.proofs.lemmas.List.{take_rest}
+use Rattle.std.proofs.lemmas.List.{take_rest, take_more, take_all}
+use Rattle.std.proofs.lemmas.List.Concat.{flat_map-append}
+use Rattle.std.specs.Borrow.{Bor}
 use Rattle.std.proofs.Math.Seq.{take-add}
 use Rattle.std.specs.Io.KnownBytes.{Appends, Keeps}
 use Rattle.rope_search_io.specs.Sources.{SinkState}
-use Rattle.rope_search_io.specs.WriteBehind.{Writes, WritesFront, Puts}
+use Rattle.rope_search_io.specs.WriteBehind.{Writes, WritesFront, WritesUntil, Puts, joined}
+use Rattle.rope_search_io.specs.declared.faults.Broken.{Broken}
+use Rattle.rope_search_io.specs.declared.faults.Broken.TheVariants.{Read, Write, Turns, Memory}
 
 -- nothing is written
 pub Writes-nil : (s : SinkState) → Writes s s []
@@ -72,3 +76,69 @@ pub Puts-behind : (old xs : List ℕ) (a b : SinkState) → Writes a b old → P
 Puts-behind old xs a b first = record { sent = old; split = refl; written = first }
 
 pub ruleset putting = (Puts-past, Puts-behind, WritesFront-after, WritesFront-more)
+
+-- ---- for `send_parts`
+
+pub joined-more : (parts : List (Bor (List ℕ))) (i : ℕ) (d : Bor (List ℕ)) → i < length parts
+    → joined (take (i + 1) parts) ≡ joined (take i parts) ++ (get_or parts i d).now
+joined-more parts i d inside =
+    let part : Bor (List ℕ) → List ℕ = λ p. p.now in
+    ap joined (take_more parts i d inside) ∙ flat_map-append part (take i parts) (get_or parts i d ∷ []) ∙ ap (λ l. joined (take i parts) ++ l) (append-nil (get_or parts i d).now)
+
+-- one more part went behind those before
+pub Puts-more : (parts : List (Bor (List ℕ))) (i : ℕ) (d : Bor (List ℕ)) (old mid new : List ℕ) (a b c : SinkState) → i < length parts
+    → Puts old mid a b (joined (take i parts)) → Puts mid new b c (get_or parts i d).now → Puts old new a c (joined (take (i + 1) parts))
+Puts-more parts i d old mid new a b c inside p q =
+    let part = (get_or parts i d).now in
+    record {
+      sent = p.sent ++ q.sent;
+      split = ap (λ l. old ++ l) (joined-more parts i d inside) ∙ sym (append_assoc old (joined (take i parts)) part) ∙ ap (λ l. l ++ part) p.split
+      ∙ append_assoc p.sent mid part ∙ ap (λ l. p.sent ++ l) q.split ∙ sym (append_assoc p.sent q.sent new);
+      written = Writes-trans a b c p.sent q.sent p.written q.written;
+    }
+
+-- the parts so far went on their way, and of what waits behind them the sink took a front
+front_of_parts : (parts : List (Bor (List ℕ))) (i : ℕ) (old mid xs : List ℕ) (a b c : SinkState)
+    → Puts old mid a b (joined (take i parts)) → WritesFront b c (mid ++ xs) → WritesFront a c ((old ++ joined (take i parts)) ++ xs)
+front_of_parts parts i old mid xs a b c p q =
+    subst (WritesFront a c) (sym (append_assoc p.sent mid xs) ∙ ap (λ l. l ++ xs) (sym p.split)) (WritesFront-after a b c p.sent (mid ++ xs) p.written q)
+
+pub WritesFront-part : (parts : List (Bor (List ℕ))) (i : ℕ) (d : Bor (List ℕ)) (old mid : List ℕ) (a b c : SinkState) → i < length parts
+    → Puts old mid a b (joined (take i parts)) → WritesFront b c (mid ++ (get_or parts i d).now) → WritesFront a c (old ++ joined parts)
+WritesFront-part parts i d old mid a b c inside p q =
+    let part : Bor (List ℕ) → List ℕ = λ p. p.now in
+    let here = front_of_parts parts i old mid (get_or parts i d).now a b c p q in
+    let split : joined parts ≡ joined (take (i + 1) parts) ++ joined (drop (i + 1) parts) =
+    ap joined (sym (take-append-drop (i + 1) parts)) ∙ flat_map-append part (take (i + 1) parts) (drop (i + 1) parts) in
+    let whole : ((old ++ joined (take i parts)) ++ (get_or parts i d).now) ++ joined (drop (i + 1) parts) ≡ old ++ joined parts =
+    ap (λ l. l ++ joined (drop (i + 1) parts)) (append_assoc old (joined (take i parts)) (get_or parts i d).now ∙ ap (λ l. old ++ l) (sym (joined-more parts i d inside)))
+    ∙ append_assoc old (joined (take (i + 1) parts)) (joined (drop (i + 1) parts)) ∙ ap (λ l. old ++ l) (sym split) in
+    subst (WritesFront a c) whole (WritesFront-more a c ((old ++ joined (take i parts)) ++ (get_or parts i d).now) (joined (drop (i + 1) parts)) here)
+
+-- all parts were put, and what waits is written
+pub Writes-parts : (parts : List (Bor (List ℕ))) (i : ℕ) (old mid : List ℕ) (a b c : SinkState) → length parts ≤ i
+    → Puts old mid a b (joined (take i parts)) → Writes b c mid → Writes a c (old ++ joined parts)
+Writes-parts parts i old mid a b c all p q =
+    subst (Writes a c) (sym p.split ∙ ap (λ l. old ++ joined l) (take_all i parts all)) (Writes-trans a b c p.sent mid p.written q)
+
+pub WritesFront-parts : (parts : List (Bor (List ℕ))) (i : ℕ) (old mid : List ℕ) (a b c : SinkState) → length parts ≤ i
+    → Puts old mid a b (joined (take i parts)) → WritesFront b c mid → WritesFront a c (old ++ joined parts)
+WritesFront-parts parts i old mid a b c all p q =
+    subst (WritesFront a c) (sym p.split ∙ ap (λ l. old ++ joined l) (take_all i parts all)) (WritesFront-after a b c p.sent mid p.written q)
+
+pub ruleset sending = (Puts-more, WritesFront-part, Writes-parts, WritesFront-parts)
+
+-- the same, where the error is told
+pub WritesUntil-part : (broken : Broken) (parts : List (Bor (List ℕ))) (i : ℕ) (d : Bor (List ℕ)) (old mid : List ℕ) (a b c : SinkState) → i < length parts
+    → Puts old mid a b (joined (take i parts)) → WritesUntil broken b c (mid ++ (get_or parts i d).now) → WritesUntil broken a c (old ++ joined parts)
+WritesUntil-part Write parts i d old mid a b c inside p q = WritesFront-part parts i d old mid a b c inside p q
+WritesUntil-part Read parts i d old mid a b c inside p q = absurd q
+WritesUntil-part Turns parts i d old mid a b c inside p q = absurd q
+WritesUntil-part Memory parts i d old mid a b c inside p q = absurd q
+
+pub WritesUntil-parts : (broken : Broken) (parts : List (Bor (List ℕ))) (i : ℕ) (old mid : List ℕ) (a b c : SinkState) → length parts ≤ i
+    → Puts old mid a b (joined (take i parts)) → WritesUntil broken b c mid → WritesUntil broken a c (old ++ joined parts)
+WritesUntil-parts Write parts i old mid a b c all p q = WritesFront-parts parts i old mid a b c all p q
+WritesUntil-parts Read parts i old mid a b c all p q = absurd q
+WritesUntil-parts Turns parts i old mid a b c all p q = absurd q
+WritesUntil-parts Memory parts i old mid a b c all p q = absurd q

@@ -1,5 +1,6 @@
 -- What is to go to a sink and isn't written yet, and what writing leaves.
-use Rattle.std.specs.Prelude.{◌≡◌, ℕ, ◌+◌, List, ◌++◌}
+use Rattle.std.specs.Prelude.{◌≡◌, ℕ, ◌+◌, List, ◌++◌, flat_map}
+use Rattle.std.specs.Borrow.{Bor}
 use Rattle.std.specs.Io.KnownBytes.{Appends}
 use Rattle.rope_search_io.specs.Sources.{SinkState}
 use Rattle.rope_search_io.specs.declared.faults.Broken.{Broken}
@@ -32,3 +33,7 @@ pub record Puts (old new : List ℕ) (sink sink' : SinkState) (bytes : List ℕ)
   pub sent : List ℕ
   pub split : old ++ bytes ≡ sent ++ new
   pub written : Writes sink sink' sent
+
+-- parts, one after the other
+abbrev pub joined : List (Bor (List ℕ)) → List ℕ
+joined parts = flat_map (λ (part : Bor (List ℕ)). part.now) parts

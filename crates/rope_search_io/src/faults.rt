@@ -15,6 +15,23 @@ pub enum Fault {
     Memory = 7,
 }
 
+impl Fault {
+    ghost use Rattle.std.specs.Prelude.{◌≡◌};
+    ghost use Rattle.rope_search_io.specs.Faults.{word_of};
+
+    /// The word that a reply has for it.
+    pub fn word(self) -> &'static str
+        ensures { result.now ≡ word_of self }
+    {
+        match self {
+            Fault::Nothing => "none",
+            Fault::Utf8 => "utf8",
+            Fault::Size => "size",
+            Fault::Memory => "memory",
+        }
+    }
+}
+
 impl fmt::Display for Fault {
     ghost use Rattle.std.specs.Prelude.{Some};
     ghost use Rattle.rope_search_io.specs.Faults.{word_of};
@@ -22,12 +39,7 @@ impl fmt::Display for Fault {
     ghost output = { λ fault. Some (word_of fault) };
 
     fn fmt<W: fmt::Write>(&self, f: &mut fmt::Formatter<W>) -> fmt::Result {
-        match self {
-            Fault::Nothing => write!(f, "none"),
-            Fault::Utf8 => write!(f, "utf8"),
-            Fault::Size => write!(f, "size"),
-            Fault::Memory => write!(f, "memory"),
-        }
+        f.write_str(self.word())
     }
 }
 

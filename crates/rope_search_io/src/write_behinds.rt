@@ -1,6 +1,6 @@
 //! The fixed array in which bytes for a sink are gathered.
-ghost use Rattle.std.specs.Prelude.{◌≡◌, ◌+◌, ◌++◌, ◌≤◌, [], length, MatchResult};
-ghost use Rattle.rope_search_io.specs.WriteBehind.{Writes, WritesUntil, Puts};
+ghost use Rattle.std.specs.Prelude.{◌≡◌, ◌+◌, ◌++◌, ◌≤◌, [], length, MatchResult, OnOk};
+ghost use Rattle.rope_search_io.specs.WriteBehind.{Writes, WritesUntil, Puts, joined};
 
 use crate::faults::{Broken, Failed};
 use crate::sinks::Sink;
@@ -83,6 +83,21 @@ impl WriteBehind {
             return Ok(());
         }
         write_all(sink, bytes)?;
+        Ok(())
+    }
+
+    #[tactic(auto, using(crate::proofs::Fronts::sending))]
+    /// Writes what waits, and then all of these parts, in order. After an error the sink took a front of that.
+    pub fn send_parts<W: Sink>(&mut self, sink: &mut W, parts: &[&[u8]]) -> Result<(), Broken>
+        ensures empty { OnOk result (self.new ≡ []) }
+        ensures written { MatchResult result
+            (λ _. Writes (W.state sink.old) (W.state sink.new) (self.old ++ joined parts.now))
+            (λ broken. WritesUntil broken (W.state sink.old) (W.state sink.new) (self.old ++ joined parts.now)) }
+    {
+        for part in parts {
+            self.put(sink, part)?;
+        }
+        self.send(sink)?;
         Ok(())
     }
 
