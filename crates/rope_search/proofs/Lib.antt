@@ -1,2 +1,4 @@
 pub mod RunLaws
 pub mod StepLaws
+pub mod LineLaws
+pub mod ReadLaws
