@@ -2,3 +2,4 @@ pub mod RunLaws
 pub mod StepLaws
 pub mod LineLaws
 pub mod ReadLaws
+pub mod AnswerLaws

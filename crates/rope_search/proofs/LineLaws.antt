@@ -16,28 +16,28 @@ AreDigits digits = AllByRecursion (λ digit. (48 ≤ digit) × (digit ≤ 57)) d
 pub digits_choice : (digits : List ℕ) → AreDigits digits ⊎ (¬ (AreDigits digits))
 digits_choice [] = inl tt
 digits_choice (d ∷ ds) = elim (cases_lt d 48) [
-    inl low ↦ inr (λ h. omega (arith, h.0))
+  | inl low ↦ inr (λ h. omega (arith, h.0))
   | inr high ↦ elim (cases_lt 57 d) [
-      inl over ↦ inr (λ h. omega (arith, h.0))
+    | inl over ↦ inr (λ h. omega (arith, h.0))
     | inr within ↦ elim (digits_choice ds) [ inl others ↦ inl ((high, within), others) | inr not_all ↦ inr (λ h. not_all h.1) ]
-    ]
   ]
+]
 
 -- bytes spell a number or none
 pub number_choice : (digits : List ℕ) → ((n : ℕ) × IsNumber digits n) ⊎ ((n : ℕ) → IsNumber digits n → ⊥)
 number_choice digits = elim (cases_lt 0 (length digits)) [
-    inr none ↦ inr (λ n h. omega (arith, h.some))
+  | inr none ↦ inr (λ n h. omega (arith, h.some))
   | inl some ↦ elim (cases_lt 20 (length digits)) [
-      inl many ↦ inr (λ n h. omega (arith, h.few))
+    | inl many ↦ inr (λ n h. omega (arith, h.few))
     | inr few ↦ elim (digits_choice digits) [
-        inr not_all ↦ inr (λ n h. not_all h.decimal)
+      | inr not_all ↦ inr (λ n h. not_all h.decimal)
       | inl decimal ↦ elim (cases_lt (digits_after 0 digits) (2 ^ 64)) [
-          inr large ↦ inr (λ n h. omega (arith, h.value, h.fits))
+        | inr large ↦ inr (λ n h. omega (arith, h.value, h.fits))
         | inl fits ↦ inl (digits_after 0 digits, record { some = some; few = few; decimal = decimal; value = refl; fits = fits })
-        ]
       ]
     ]
   ]
+]
 
 -- digits spell one number
 pub IsNumber-one : (digits : List ℕ) (m n : ℕ) → IsNumber digits m → IsNumber digits n → m ≡ n
@@ -55,34 +55,34 @@ list_choice [] [] = inl refl
 list_choice [] (y ∷ ys) = inr (λ e. cc)
 list_choice (x ∷ xs) [] = inr (λ e. cc)
 list_choice (x ∷ xs) (y ∷ ys) = elim (cases_eq x y) [
-    inr other ↦ inr (λ e. let head : x ≡ y = cc in other head)
+  | inr other ↦ inr (λ e. let head : x ≡ y = cc in other head)
   | inl head ↦ elim (list_choice xs ys) [
-      inl tail ↦ inl (cc)
+    | inl tail ↦ inl (cc)
     | inr other ↦ inr (λ e. let tail : xs ≡ ys = cc in other tail)
-    ]
   ]
+]
 
 -- a line begins with a word or not
 pub front_choice : (word line : List ℕ) → ((rest : List ℕ) × (line ≡ word ++ rest)) ⊎ ((rest : List ℕ) → line ≡ word ++ rest → ⊥)
 front_choice [] line = inl (line, refl)
 front_choice (x ∷ xs) [] = inr (λ rest e. cc)
 front_choice (x ∷ xs) (y ∷ ys) = elim (cases_eq x y) [
-    inr other ↦ inr (λ rest e. let head : x ≡ y = cc in other head)
+  | inr other ↦ inr (λ rest e. let head : x ≡ y = cc in other head)
   | inl head ↦ elim (front_choice xs ys) [
-      inl tail ↦ inl (tail.0, (let whole : ys ≡ xs ++ tail.0 = tail.1 in cc))
+    | inl tail ↦ inl (tail.0, (let whole : ys ≡ xs ++ tail.0 = tail.1 in cc))
     | inr other ↦ inr (λ rest e. let tail : ys ≡ xs ++ rest = cc in other rest tail)
-    ]
   ]
+]
 
 -- a line is a word and then a number, or not
 pub worded_choice : (word line : List ℕ) → ((n : ℕ) × IsWorded word line n) ⊎ ((n : ℕ) → IsWorded word line n → ⊥)
 worded_choice word line = elim (front_choice word line) [
-    inr other ↦ inr (λ n h. other h.0 h.2)
+  | inr other ↦ inr (λ n h. other h.0 h.2)
   | inl begins ↦ elim (number_choice begins.0) [
-      inl number ↦ inl (number.0, (begins.0, number.1, begins.1))
+    | inl number ↦ inl (number.0, (begins.0, number.1, begins.1))
     | inr none ↦ inr (λ n h. none n (subst (λ digits. IsNumber digits n) (append_cancel_left word h.0 begins.0 (sym h.2 ∙ begins.1)) h.1))
-    ]
   ]
+]
 
 -- a line that has the word of each command in vain is no command's
 pub no_line : (line : List ℕ) → ((n : ℕ) → IsWorded (codes "text ") line n → ⊥) → (line ≡ codes "print" → ⊥) → (line ≡ codes "fork" → ⊥)
@@ -95,18 +95,18 @@ no_line line no_text no_print no_fork no_use (UseBuffer k) h = no_use k h
 -- a line is a command's or none's
 pub line_choice : (line : List ℕ) → ((o : Order) × IsLine o line) ⊎ ((o : Order) → IsLine o line → ⊥)
 line_choice line = elim (worded_choice (codes "text ") line) [
-    inl text ↦ inl (SetText (replicate text.0 0), (text.1.0, subst (λ n. IsNumber text.1.0 n) (sym (length-replicate text.0 0)) text.1.1, text.1.2))
+  | inl text ↦ inl (SetText (replicate text.0 0), (text.1.0, subst (λ n. IsNumber text.1.0 n) (sym (length-replicate text.0 0)) text.1.1, text.1.2))
   | inr no_text ↦ elim (list_choice line (codes "print")) [
-      inl print ↦ inl (PrintText, print)
+    | inl print ↦ inl (PrintText, print)
     | inr no_print ↦ elim (list_choice line (codes "fork")) [
-        inl fork ↦ inl (ForkBuffer, fork)
+      | inl fork ↦ inl (ForkBuffer, fork)
       | inr no_fork ↦ elim (worded_choice (codes "use ") line) [
-          inl chosen ↦ inl (UseBuffer chosen.0, chosen.1)
+        | inl chosen ↦ inl (UseBuffer chosen.0, chosen.1)
         | inr no_use ↦ inr (no_line line no_text no_print no_fork no_use)
-        ]
       ]
     ]
   ]
+]
 
 -- ---- a line is one command's, but for the payload
 

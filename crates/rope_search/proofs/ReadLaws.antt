@@ -36,8 +36,9 @@ cut_none a b x clean whole =
 -- two fronts of one length are the same, and so is what follows
 pub fronts_same : (a b x y : List ℕ) → length a ≡ length b → a ++ x ≡ b ++ y → (a ≡ b) × (x ≡ y)
 fronts_same a b x y same whole = (
-    sym (take-append_seam a x) ∙ ap (take (length a)) whole ∙ ap (λ n. take n (b ++ y)) same ∙ take-append_seam b y,
-    sym (drop-append_seam a x) ∙ ap (drop (length a)) whole ∙ ap (λ n. drop n (b ++ y)) same ∙ drop-append_seam b y)
+  sym (take-append_seam a x) ∙ ap (take (length a)) whole ∙ ap (λ n. take n (b ++ y)) same ∙ take-append_seam b y,
+  sym (drop-append_seam a x) ∙ ap (drop (length a)) whole ∙ ap (λ n. drop n (b ++ y)) same ∙ drop-append_seam b y,
+)
 
 -- ---- the first line of some bytes
 
@@ -67,13 +68,13 @@ pub cut_choice : (n : ℕ) (bytes : List ℕ) → BeginsWithLine n bytes ⊎ Beg
 cut_choice zero bytes = inr (inl (record { line = []; more = bytes; no_lf = tt; long = refl; whole = refl }))
 cut_choice (suc n) [] = inr (inr (record { no_lf = tt; short = omega arith }))
 cut_choice (suc n) (b ∷ bytes) = elim (cases_eq b 10) [
-    inl lf ↦ inl (record { line = []; more = bytes; no_lf = tt; short = omega arith; whole = ap (λ c. c ∷ bytes) lf })
+  | inl lf ↦ inl (record { line = []; more = bytes; no_lf = tt; short = omega arith; whole = ap (λ c. c ∷ bytes) lf })
   | inr other ↦ elim (cut_choice n bytes) [
-      inl cut ↦ inl (record { line = b ∷ cut.line; more = cut.more; no_lf = (other, cut.no_lf); short = omega (arith, cut.short); whole = ap (λ l. b ∷ l) cut.whole })
+    | inl cut ↦ inl (record { line = b ∷ cut.line; more = cut.more; no_lf = (other, cut.no_lf); short = omega (arith, cut.short); whole = ap (λ l. b ∷ l) cut.whole })
     | inr (inl long) ↦ inr (inl (record { line = b ∷ long.line; more = long.more; no_lf = (other, long.no_lf); long = ap suc long.long; whole = ap (λ l. b ∷ l) long.whole }))
     | inr (inr without) ↦ inr (inr (record { no_lf = (other, without.no_lf); short = omega (arith, without.short) }))
-    ]
   ]
+]
 
 -- ---- one command
 
@@ -89,7 +90,7 @@ Spells-line o front back spells = ap (λ l. l ++ back) spells.whole ∙ append_a
 pub Spells-one : (o p : Order) (a b x y : List ℕ) → Spells o a → Spells p b → a ++ x ≡ b ++ y → (o ≡ p) × (x ≡ y)
 Spells-one o p a b x y one other whole =
     let cut = cut_one one.line other.line (payload_of o ++ x) (payload_of p ++ y) (HasNoLf-line o one.line one.is_line) (HasNoLf-line p other.line other.is_line)
-      (sym (Spells-line o a x one) ∙ whole ∙ Spells-line p b y other) in
+    (sym (Spells-line o a x one) ∙ whole ∙ Spells-line p b y other) in
     let is_line : IsLine p one.line = subst (IsLine p) (sym cut.0) other.is_line in
     let parts = fronts_same (payload_of o) (payload_of p) x y (IsLine-one o p one.line one.is_line is_line) cut.1 in
     (IsLine-same o p one.line one.is_line is_line parts.0, parts.1)
@@ -117,7 +118,7 @@ Spells-Ends o front back Command spells (inr long) =
 Spells-Ends o front back Cut spells (inl part) = cut_none spells.line (front ++ back) (payload_of o ++ back) part.no_lf (Spells-line o front back spells)
 Spells-Ends o front back Cut spells (inr part) =
     let cut = cut_one spells.line part.line (payload_of o ++ back) part.part (HasNoLf-line o spells.line spells.is_line) (HasNoLf-line part.order part.line part.is_line)
-      (sym (Spells-line o front back spells) ∙ part.whole) in
+    (sym (Spells-line o front back spells) ∙ part.whole) in
     omega (arith, part.short, ap length cut.1, length-append (payload_of o) back, IsLine-one o part.order spells.line spells.is_line (subst (IsLine part.order) (sym cut.0) part.is_line))
 
 -- a line that is no command's is no part of an input that was cut off
@@ -162,37 +163,37 @@ pub record NextCommand (input : List ℕ) : Type 0 where
 pub next_choice : (input : List ℕ) → NextCommand input ⊎ ((e : Ended) × Ends input e)
 next_choice [] = inr (Input, refl)
 next_choice (b ∷ bytes) = elim (cut_choice 129 (b ∷ bytes)) [
-    inr (inl long) ↦ inr (Command, inr (record { line = long.line; more = long.more; no_lf = long.no_lf; long = long.long; whole = long.whole }))
+  | inr (inl long) ↦ inr (Command, inr (record { line = long.line; more = long.more; no_lf = long.no_lf; long = long.long; whole = long.whole }))
   | inr (inr without) ↦ inr (Cut, inl (record { no_lf = without.no_lf; some = omega arith; short = omega (arith, without.short) }))
   | inl cut ↦ elim (line_choice cut.line) [
-      inr none ↦ inr (Command, inl (record { line = cut.line; more = cut.more; no_lf = cut.no_lf; short = omega (arith, cut.short); whole = cut.whole; no_command = none }))
+    | inr none ↦ inr (Command, inl (record { line = cut.line; more = cut.more; no_lf = cut.no_lf; short = omega (arith, cut.short); whole = cut.whole; no_command = none }))
     | inl found ↦ elim (cases_lt (length cut.more) (length (payload_of found.0))) [
-        inl short ↦ inr (Cut, inr (record { order = found.0; line = cut.line; part = cut.more; is_line = found.1; whole = cut.whole; short = short }))
+      | inl short ↦ inr (Cut, inr (record { order = found.0; line = cut.line; part = cut.more; is_line = found.1; whole = cut.whole; short = short }))
       | inr enough ↦
-        let n = length (payload_of found.0) in
-        let p = line_with found.0 cut.line cut.more found.1 enough in
-        inl (record {
-          order = p.0;
-          front = cut.line ++ 10 ∷ payload_of p.0;
-          back = drop n cut.more;
-          spells = record { line = cut.line; is_line = p.1; whole = refl };
-          whole = cut.whole
-            ∙ ap (λ l. cut.line ++ 10 ∷ l) (sym (take-append-drop n cut.more) ∙ ap (λ l. l ++ drop n cut.more) (sym p.2))
-            ∙ sym (append_assoc cut.line (10 ∷ payload_of p.0) (drop n cut.more));
-        })
-      ]
+          let n = length (payload_of found.0) in
+          let p = line_with found.0 cut.line cut.more found.1 enough in
+          inl (record {
+            order = p.0;
+            front = cut.line ++ 10 ∷ payload_of p.0;
+            back = drop n cut.more;
+            spells = record { line = cut.line; is_line = p.1; whole = refl };
+            whole = cut.whole
+                ∙ ap (λ l. cut.line ++ 10 ∷ l) (sym (take-append-drop n cut.more) ∙ ap (λ l. l ++ drop n cut.more) (sym p.2))
+                ∙ sym (append_assoc cut.line (10 ∷ payload_of p.0) (drop n cut.more));
+          })
     ]
   ]
+]
 
 -- an input that begins with a command is read as that one and then as what follows it is
 pub Reads-cons : (o : Order) (os : List Order) (e : Ended) (front back : List ℕ) → Spells o front → Reads back os e → Reads (front ++ back) (o ∷ os) e
 Reads-cons o os e front back spells reads = record {
-    spelled = front ++ reads.spelled;
-    rest = reads.rest;
-    spells = record { front = front; back = reads.spelled; first = spells; others = reads.spells; whole = refl };
-    ends = reads.ends;
-    whole = ap (λ l. front ++ l) reads.whole ∙ sym (append_assoc front reads.spelled reads.rest);
-  }
+  spelled = front ++ reads.spelled;
+  rest = reads.rest;
+  spells = record { front = front; back = reads.spelled; first = spells; others = reads.spells; whole = refl };
+  ends = reads.ends;
+  whole = ap (λ l. front ++ l) reads.whole ∙ sym (append_assoc front reads.spelled reads.rest);
+}
 
 -- an input that begins with an ending has no command
 pub Reads-end : (e : Ended) (input : List ℕ) → Ends input e → Reads input [] e
@@ -200,16 +201,16 @@ Reads-end e input ends = record { spelled = []; rest = input; spells = refl; end
 
 reads_within : (n : ℕ) (input : List ℕ) → length input ≤ n → (os : List Order) × (e : Ended) × Reads input os e
 reads_within zero input few = elim (next_choice input) [
-    inr ends ↦ ([], ends.0, Reads-end ends.0 input ends.1)
+  | inr ends ↦ ([], ends.0, Reads-end ends.0 input ends.1)
   | inl next ↦ absurd (omega (arith, Spells-some next.order next.front next.spells, ap length next.whole, length-append next.front next.back))
-  ]
+]
 reads_within (suc n) input few = elim (next_choice input) [
-    inr ends ↦ ([], ends.0, Reads-end ends.0 input ends.1)
+  | inr ends ↦ ([], ends.0, Reads-end ends.0 input ends.1)
   | inl next ↦
-    let fewer : length next.back ≤ n = omega (arith, Spells-some next.order next.front next.spells, ap length next.whole, length-append next.front next.back) in
-    let others = reads_within n next.back fewer in
-    (next.order ∷ others.0, others.1, subst (λ l. Reads l (next.order ∷ others.0) others.1) (sym next.whole) (Reads-cons next.order others.0 others.1 next.front next.back next.spells others.2))
-  ]
+      let fewer : length next.back ≤ n = omega (arith, Spells-some next.order next.front next.spells, ap length next.whole, length-append next.front next.back) in
+      let others = reads_within n next.back fewer in
+      (next.order ∷ others.0, others.1, subst (λ l. Reads l (next.order ∷ others.0) others.1) (sym next.whole) (Reads-cons next.order others.0 others.1 next.front next.back next.spells others.2))
+]
 
 -- each input is read in some way
 pub reads_exist : (input : List ℕ) → (os : List Order) × (e : Ended) × Reads input os e
@@ -222,13 +223,13 @@ reads_apart [] [] e f xs ys rest rest' none none' ends ends' whole =
     (refl, Ends-one rest e f ends (subst (λ l. Ends l f) (sym (ap (λ l. l ++ rest) (sym none) ∙ whole ∙ ap (λ l. l ++ rest') none')) ends'))
 reads_apart [] (p ∷ ps) e f xs ys rest rest' none spells ends ends' whole =
     absurd (Spells-Ends p spells.front (spells.back ++ rest') e spells.first
-      (subst (λ l. Ends l e) (ap (λ l. l ++ rest) (sym none) ∙ whole ∙ ap (λ l. l ++ rest') spells.whole ∙ append_assoc spells.front spells.back rest') ends))
+    (subst (λ l. Ends l e) (ap (λ l. l ++ rest) (sym none) ∙ whole ∙ ap (λ l. l ++ rest') spells.whole ∙ append_assoc spells.front spells.back rest') ends))
 reads_apart (o ∷ os) [] e f xs ys rest rest' spells none ends ends' whole =
     absurd (Spells-Ends o spells.front (spells.back ++ rest) f spells.first
-      (subst (λ l. Ends l f) (ap (λ l. l ++ rest') (sym none) ∙ sym whole ∙ ap (λ l. l ++ rest) spells.whole ∙ append_assoc spells.front spells.back rest) ends'))
+    (subst (λ l. Ends l f) (ap (λ l. l ++ rest') (sym none) ∙ sym whole ∙ ap (λ l. l ++ rest) spells.whole ∙ append_assoc spells.front spells.back rest) ends'))
 reads_apart (o ∷ os) (p ∷ ps) e f xs ys rest rest' spells spells' ends ends' whole =
     let one = Spells-one o p spells.front spells'.front (spells.back ++ rest) (spells'.back ++ rest') spells.first spells'.first
-      (sym (ap (λ l. l ++ rest) spells.whole ∙ append_assoc spells.front spells.back rest) ∙ whole ∙ ap (λ l. l ++ rest') spells'.whole ∙ append_assoc spells'.front spells'.back rest') in
+    (sym (ap (λ l. l ++ rest) spells.whole ∙ append_assoc spells.front spells.back rest) ∙ whole ∙ ap (λ l. l ++ rest') spells'.whole ∙ append_assoc spells'.front spells'.back rest') in
     let others = reads_apart os ps e f spells.back spells'.back rest rest' spells.others spells'.others ends ends' one.1 in
     let head : o ≡ p = one.0 in
     let tail : os ≡ ps = others.0 in

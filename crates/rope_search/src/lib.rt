@@ -2,6 +2,7 @@
 #![tactic(auto)]
 
 mod commands;
+pub mod laws;
 mod runs;
 
 pub use commands::{Command, Payload, Reply};
