@@ -1,5 +1,8 @@
+pub mod AnswerLaws
 pub mod HeaderLemmas
+pub mod LineLaws
 pub mod PayloadLemmas
+pub mod ReadLaws
 pub mod RunLaws
 pub mod SessionLemmas
 pub mod StepLaws

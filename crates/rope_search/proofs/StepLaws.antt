@@ -20,9 +20,9 @@ use Rattle.rope_search.proofs.RunLaws.{Run-nil}
 -- bytes are UTF-8 or not
 pub utf8_choice : (bytes : List ℕ) → IsUtf8 bytes ⊎ (¬ (IsUtf8 bytes))
 utf8_choice bytes = elim (cases_Bool (is_utf8 bytes)) [
-    inl yes_it_is ↦ inl (IsUtf8-from_is_utf8 bytes yes_it_is)
+  | inl yes_it_is ↦ inl (IsUtf8-from_is_utf8 bytes yes_it_is)
   | inr not_so ↦ inr (λ text. let e : true ≡ false = sym (is_utf8-from_IsUtf8 bytes text) ∙ not_so in absurd (cc))
-  ]
+]
 
 -- ---- refusals
 
@@ -86,18 +86,18 @@ accepted_use limit s k inside Memory h = h
 -- a command is refused for some first reason, or accepted
 pub refusal_choice : (limit : ℕ) (s : State) (o : Order) → ((f : Fault) × IsFirstRefusal limit s o f) ⊎ Accepts limit s o
 refusal_choice limit s (SetText payload) = elim (utf8_choice payload) [
-    inl text ↦ elim (cases_lt limit (length payload)) [
-        inl long ↦ inl (Size, refused_size limit s payload text long)
-      | inr short ↦ inr (accepted_text limit s payload text short)
-      ]
-  | inr broken ↦ inl (Utf8, refused_utf8 limit s payload broken)
+  | inl text ↦ elim (cases_lt limit (length payload)) [
+    | inl long ↦ inl (Size, refused_size limit s payload text long)
+    | inr short ↦ inr (accepted_text limit s payload text short)
   ]
+  | inr broken ↦ inl (Utf8, refused_utf8 limit s payload broken)
+]
 refusal_choice limit s PrintText = inr (accepted_print limit s)
 refusal_choice limit s ForkBuffer = inr (accepted_fork limit s)
 refusal_choice limit s (UseBuffer k) = elim (cases_lt k (length s.buffers)) [
-    inl inside ↦ inr (accepted_use limit s k inside)
+  | inl inside ↦ inr (accepted_use limit s k inside)
   | inr past ↦ inl (Nothing, refused_nothing limit s k past)
-  ]
+]
 
 -- faults of one rank are the same
 pub rank_one : (f g : Fault) → rank f ≡ rank g → f ≡ g
@@ -110,10 +110,10 @@ rank_one f g e = absurd (omega arith)
 -- a command has at most one first refusal
 pub IsFirstRefusal-one : (limit : ℕ) (s : State) (o : Order) (f g : Fault) → IsFirstRefusal limit s o f → IsFirstRefusal limit s o g → f ≡ g
 IsFirstRefusal-one limit s o f g one other = elim (cases_order (rank f) (rank g)) [
-    inl same ↦ rank_one f g same
+  | inl same ↦ rank_one f g same
   | inr (inl below) ↦ absurd (other.none_before f below one.refuses)
   | inr (inr above) ↦ absurd (one.none_before g above other.refuses)
-  ]
+]
 
 -- ---- what a command does
 
@@ -146,11 +146,11 @@ Does-known old o r new h = absurd h
 -- and each accepted command does it
 pub Does-after : (limit : ℕ) (old : State) (o : Order) → Accepts limit old o → Does old o (reply_to old o) (after old o)
 Does-after limit old (SetText payload) accepts = elim (utf8_choice payload) [
-    inl text ↦
+  | inl text ↦
       let encodes : Encodes text.0 payload = record { scalars = text.1.0; spelled = text.1.1 } in
       (text.0, encodes, ap (λ t. with_chosen old (with_text (chosen_buffer old) t)) (sym (Encodes-chars text.0 payload encodes)))
   | inr broken ↦ absurd (accepts Utf8 broken)
-  ]
+]
 Does-after limit old PrintText accepts = refl
 Does-after limit old ForkBuffer accepts = (refl, refl)
 Does-after limit old (UseBuffer k) accepts = refl
@@ -174,9 +174,9 @@ Step-told limit s o Memory new other step = absurd (other refl)
 -- each command has a step, apart from want of memory
 pub step_exists : (limit : ℕ) (s : State) (o : Order) → (answer : Answer) × (new : State) × (answer ≢ Err Memory) × Step limit s o answer new
 step_exists limit s o = elim (refusal_choice limit s o) [
-    inl refused ↦ (Err refused.0, s, memory refused.0 (Err refused.0) refl refused.1, Step-refused limit s o refused.0 refused.1)
+  | inl refused ↦ (Err refused.0, s, memory refused.0 (Err refused.0) refl refused.1, Step-refused limit s o refused.0 refused.1)
   | inr accepts ↦ (Ok (reply_to s o), after s o, (λ e. cc), (accepts, Does-after limit s o accepts))
-  ]
+]
   where
     memory : (f : Fault) (told : Answer) → told ≡ Err f → IsFirstRefusal limit s o f → told ≡ Err Memory → ⊥
     memory f told is first e = let same : f ≡ Memory = cc in Refuses-memory limit s o (subst (λ g. Refuses limit s o g) same first.refuses)
@@ -201,9 +201,9 @@ step_one limit s o (Err f) (Err g) x y one other memory memory' =
 -- each command has a cost
 pub costs_exist : (limit : ℕ) (s : State) (o : Order) → (n : ℕ) × Costs limit s o n
 costs_exist limit s o = elim (refusal_choice limit s o) [
-    inl refused ↦ (0, inl (refused.0, refused.1.refuses, refl))
+  | inl refused ↦ (0, inl (refused.0, refused.1.refuses, refl))
   | inr accepts ↦ (rows_of s o, inr (accepts, refl))
-  ]
+]
 
 -- and no other
 pub costs_one : (limit : ℕ) (s : State) (o : Order) (m n : ℕ) → Costs limit s o m → Costs limit s o n → m ≡ n
@@ -218,16 +218,20 @@ run_exists limit s [] = ([], 0, s, Run-nil limit s)
 run_exists limit s (o ∷ os) =
     let step = step_exists limit s o in
     let costs = costs_exist limit s o in
-    let others = run_exists limit step.1 os in
-    (shows step.1 step.0 ++ others.0, costs.0 + others.1, others.2, record {
-      answer = step.0;
-      new = step.1;
-      own_cost = costs.0;
-      later = others.0;
-      later_cost = others.1;
-      step = step.3;
-      costs = costs.1;
-      others = others.3;
-      shown = refl;
-      added = refl;
-    })
+    let others = run_exists limit step.1 os in (
+      shows step.1 step.0 ++ others.0,
+      costs.0 + others.1,
+      others.2,
+      record {
+        answer = step.0;
+        new = step.1;
+        own_cost = costs.0;
+        later = others.0;
+        later_cost = others.1;
+        step = step.3;
+        costs = costs.1;
+        others = others.3;
+        shown = refl;
+        added = refl;
+      },
+    )

@@ -1,12 +1,16 @@
 //! A regular expression kept live over a text that is edited, undone and forked: commands in, replies out.
 #![tactic(auto)]
 
+pub mod laws;
+
 mod buffers;
 mod commands;
 mod headers;
 mod limits;
 mod lines;
 mod payloads;
+mod replies;
+mod requests;
 mod rows;
 mod runs;
 mod sessions;

@@ -1,0 +1,7 @@
+-- What is answered with more behind a bad line is answered without it, and the other way round.
+use Rattle.rope_search.proofs.RunLaws.{Answers-more}
+use Rattle.rope_search.proofs.AnswerLaws.{Answers-less}
+use Rattle.rope_search.proofs.laws.ends_at_bad_line.Goals as goal
+
+pub returns : goal.returns
+returns c = λ limit input orders reads more output cost. (Answers-more limit input more output cost, Answers-less limit orders input more output cost reads)

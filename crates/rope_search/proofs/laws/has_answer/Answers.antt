@@ -1,0 +1,6 @@
+-- Commands that are read can be run.
+use Rattle.rope_search.proofs.AnswerLaws.{answers_exist}
+use Rattle.rope_search.proofs.laws.has_answer.Goals as goal
+
+pub returns : goal.returns
+returns c = λ limit input. answers_exist limit input

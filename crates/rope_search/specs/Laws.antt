@@ -1,0 +1,37 @@
+-- Laws of the definitions themselves: that they leave one reading, one step and one cost.
+use Rattle.std.specs.Prelude.{◌≡◌, ◌≢◌, ℕ, ◌↔◌, List, ◌++◌, Err}
+use Rattle.rope_search_io.specs.declared.faults.Fault.TheVariants.{Memory}
+use Rattle.rope_search.specs.declared.runs.Ended.{Ended}
+use Rattle.rope_search.specs.declared.runs.Ended.TheVariants.{Command}
+use Rattle.rope_search.specs.Order.{Order}
+use Rattle.rope_search.specs.Session.{State}
+use Rattle.rope_search.specs.Step.{Answer, Step}
+use Rattle.rope_search.specs.Reads.{Reads}
+use Rattle.rope_search.specs.Cost.{Costs}
+use Rattle.rope_search.specs.Answers.{Answers}
+
+-- these bytes are read as some commands and an ending, and as no others
+abbrev pub HasOneReading : List ℕ → Type 0
+HasOneReading input =
+    ((orders : List Order) × (ending : Ended) × Reads input orders ending)
+    × ((orders others : List Order) (ending other : Ended) → Reads input orders ending → Reads input others other → (orders ≡ others) × (ending ≡ other))
+
+-- apart from want of memory, this command has some answer with a session after it, and no other
+abbrev pub HasOneStep : ℕ → State → Order → Type 0
+HasOneStep limit old order =
+    ((answer : Answer) × (new : State) × (answer ≢ Err Memory) × Step limit old order answer new)
+    × ((answer other : Answer) (new new' : State) → Step limit old order answer new → Step limit old order other new'
+    → answer ≢ Err Memory → other ≢ Err Memory → (answer ≡ other) × (new ≡ new'))
+
+-- this command has some cost, and no other
+abbrev pub HasOneCost : ℕ → State → Order → Type 0
+HasOneCost limit old order = ((n : ℕ) × Costs limit old order n) × ((m n : ℕ) → Costs limit old order m → Costs limit old order n → m ≡ n)
+
+-- what follows a bad line changes nothing: with it and without it the same may be answered
+abbrev pub EndsAtBadLine : ℕ → List ℕ → Type 0
+EndsAtBadLine limit input =
+    (orders : List Order) → Reads input orders Command → (more output : List ℕ) (cost : ℕ) → Answers limit input Command output cost ↔ Answers limit (input ++ more) Command output cost
+
+-- these bytes end in some way, and may then be answered
+abbrev pub HasAnswer : ℕ → List ℕ → Type 0
+HasAnswer limit input = (ending : Ended) × (output : List ℕ) × (cost : ℕ) × Answers limit input ending output cost

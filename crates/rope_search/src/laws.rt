@@ -1,0 +1,32 @@
+//! Laws of what a session is asked and what it answers. Each function here does nothing: its contract is a law
+//! of the definitions by which the other contracts speak, proved.
+
+ghost use Rattle.std.specs.Prelude.{ℕ, List};
+ghost use Rattle.rope_search.specs.Order.{Order};
+ghost use Rattle.rope_search.specs.Session.{State};
+ghost use Rattle.rope_search.specs.Laws.{HasOneReading, HasOneStep, HasOneCost, EndsAtBadLine, HasAnswer};
+
+/// Each input has exactly one reading: a list of commands, and how it ends.
+pub fn one_reading()
+    ensures { (input : List ℕ) → HasOneReading input }
+{}
+
+/// Apart from `error memory`, each command in each session has exactly one reply and one session after it.
+pub fn one_step()
+    ensures { (limit : ℕ) (session : State) (order : Order) → HasOneStep limit session order }
+{}
+
+/// Each command in each session has exactly one cost.
+pub fn one_cost()
+    ensures { (limit : ℕ) (session : State) (order : Order) → HasOneCost limit session order }
+{}
+
+/// What follows a line that is no command changes nothing that may be written.
+pub fn ends_at_bad_line()
+    ensures { (limit : ℕ) (input : List ℕ) → EndsAtBadLine limit input }
+{}
+
+/// Each input, whatever its bytes, may be answered.
+pub fn has_answer()
+    ensures { (limit : ℕ) (input : List ℕ) → HasAnswer limit input }
+{}
