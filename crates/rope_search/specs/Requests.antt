@@ -8,7 +8,16 @@ use Rattle.rope_search.specs.declared.lines.LineRead.{LineRead}
 use Rattle.rope_search.specs.declared.lines.LineRead.TheVariants.{Whole, Long, Part}
 use Rattle.rope_search.specs.declared.payloads.Collected.{Collected}
 use Rattle.rope_search.specs.declared.payloads.Collected.TheVariants.{Kept, Judged, Lost}
-use Rattle.rope_search.specs.Reads.{HasNoLf}
+use Rattle.rope_search.specs.declared.headers.Header.{Header}
+use Rattle.rope_search.specs.declared.requests.Asked.{Asked}
+use Rattle.rope_search.specs.declared.requests.Asked.TheVariants.{Text, Print, Fork, Use}
+use Rattle.rope_search.specs.declared.requests.Request.{Request}
+use Rattle.rope_search.specs.declared.requests.Request.TheVariants.{Given, End}
+use Rattle.rope_search.specs.declared.runs.Ended.{Ended}
+use Rattle.rope_search.specs.declared.runs.Ended.TheVariants.{Input, Command, Cut}
+use Rattle.rope_search.specs.Order.{Order, SetText, PrintText, ForkBuffer, UseBuffer}
+use Rattle.rope_search.specs.Header.{IsHeaderOf}
+use Rattle.rope_search.specs.Reads.{HasNoLf, Spells, Ends, payload_of}
 
 -- a line of at most 128 bytes and its LF; 129 bytes without one; or the bytes without one before the end
 abbrev pub TakesLine : Result LineRead Broken → List ℕ → Ahead → Ahead → SourceState → SourceState → Type 0
@@ -39,3 +48,70 @@ TakesPayload (Ok false) len kept kept' old new source source' =
     (bytes : List ℕ) × (length bytes < len) × TakesLast old new source source' bytes
 TakesPayload (Err broken) len kept kept' old new source source' =
     (bytes : List ℕ) × (length bytes < len) × TakesUntil broken old new source source' bytes
+
+-- what was kept of a command that was read whole is of this command, under a limit on the bytes of a text
+abbrev pub IsAskedFor : ℕ → Asked → Order → Type 0
+IsAskedFor limit (Text collected) (SetText payload) = Collects limit (length payload) collected payload
+IsAskedFor limit Print PrintText = Unit {0}
+IsAskedFor limit Fork ForkBuffer = Unit {0}
+IsAskedFor limit (Use k) (UseBuffer n) = n ≡ k
+IsAskedFor limit asked order = ⊥
+
+-- all bytes of a command were taken
+pub record TakesOrder (limit : ℕ) (asked : Asked) (old new : Ahead) (source source' : SourceState) : Type 0 where
+  pub order : Order
+  pub bytes : List ℕ
+  pub spells : Spells order bytes
+  pub is : IsAskedFor limit asked order
+  pub taken : Takes old new source source' bytes
+
+-- after these bytes the source has told its end, but for a line that is no command
+abbrev pub TakesTo : Ended → Ahead → Ahead → SourceState → SourceState → List ℕ → Type 0
+TakesTo Command old new source source' bytes = Takes old new source source' bytes
+TakesTo Input old new source source' bytes = TakesLast old new source source' bytes
+TakesTo Cut old new source source' bytes = TakesLast old new source source' bytes
+
+-- bytes were taken with which the input ends so
+pub record TakesEnding (ending : Ended) (old new : Ahead) (source source' : SourceState) : Type 0 where
+  pub rest : List ℕ
+  pub ends : Ends rest ending
+  pub taken : TakesTo ending old new source source' rest
+
+-- no command is whole in these bytes, and none is known to be wrong
+abbrev pub IsUnfinished : List ℕ → Type 0
+IsUnfinished rest = Ends rest Input ⊎ Ends rest Cut
+
+-- bytes were taken that are no whole command, and then no more came
+pub record TakesUnfinished (broken : Broken) (old new : Ahead) (source source' : SourceState) : Type 0 where
+  pub rest : List ℕ
+  pub unfinished : IsUnfinished rest
+  pub taken : TakesUntil broken old new source source' rest
+
+-- a command was read whole, or the input ended, or no more bytes came
+abbrev pub TakesRequest : ℕ → Result Request Broken → Ahead → Ahead → SourceState → SourceState → Type 0
+TakesRequest limit (Ok (Given asked)) old new source source' = TakesOrder limit asked old new source source'
+TakesRequest limit (Ok (End ending)) old new source source' = TakesEnding ending old new source source'
+TakesRequest limit (Err broken) old new source source' = TakesUnfinished broken old new source source'
+
+-- the payload of a command with this header was taken
+pub record TakesRestOf (limit : ℕ) (header : Header) (asked : Asked) (old new : Ahead) (source source' : SourceState) : Type 0 where
+  pub order : Order
+  pub of_header : IsHeaderOf header order
+  pub is : IsAskedFor limit asked order
+  pub taken : Takes old new source source' (payload_of order)
+
+-- fewer bytes than the payload of a command with this header were taken, so
+pub record TakesPartOf (header : Header) (Taken : List ℕ → Type 0) : Type 0 where
+  pub order : Order
+  pub of_header : IsHeaderOf header order
+  pub part : List ℕ
+  pub short : length part < length (payload_of order)
+  pub taken : Taken part
+
+-- what follows a command's line was read
+abbrev pub TakesRest : ℕ → Header → Result Request Broken → Ahead → Ahead → SourceState → SourceState → Type 0
+TakesRest limit header (Ok (Given asked)) old new source source' = TakesRestOf limit header asked old new source source'
+TakesRest limit header (Ok (End Cut)) old new source source' = TakesPartOf header (TakesLast old new source source')
+TakesRest limit header (Ok (End Input)) old new source source' = ⊥
+TakesRest limit header (Ok (End Command)) old new source source' = ⊥
+TakesRest limit header (Err broken) old new source source' = TakesPartOf header (TakesUntil broken old new source source')

@@ -1,0 +1,38 @@
+//! Writing the answer to a command.
+ghost use Rattle.std.specs.Prelude.{◌≡◌, [], OnOk, MatchResult};
+ghost use Rattle.rope_search_io.specs.WriteBehind.{Writes, WritesUntil};
+ghost use Rattle.rope_search.specs.Shows.{shows};
+
+use crate::commands::Reply;
+use crate::sessions::Session;
+use itoa::Buffer as Digits;
+use rope_search_io::{Broken, Fault, Sink, WriteBehind};
+
+/// Writes an answer, where this is the session after it. After an error a front of it is written.
+pub fn write_answer<W: Sink>(
+    session: &Session,
+    answer: Result<Reply, Fault>,
+    behind: &mut WriteBehind,
+    sink: &mut W,
+) -> Result<(), Broken>
+    requires { behind.old ≡ [] }
+    ensures empty { OnOk result (behind.new ≡ []) }
+    ensures written { MatchResult result
+        (λ _. Writes (W.state sink.old) (W.state sink.new) (shows session.now.state answer))
+        (λ broken. WritesUntil broken (W.state sink.old) (W.state sink.new) (shows session.now.state answer)) }
+{
+    let mut digits = Digits::new();
+    match answer {
+        Ok(Reply::Done) => behind.send_parts(sink, &[b"ok\n"]),
+        Ok(Reply::Number(number)) => {
+            let number = digits.format(number).as_bytes();
+            behind.send_parts(sink, &[b"ok ", number, b"\n"])
+        }
+        Ok(Reply::Print) => {
+            let text = session.buffer().text().as_bytes();
+            let len = digits.format(text.len()).as_bytes();
+            behind.send_parts(sink, &[b"text ", len, b"\n", text, b"\n"])
+        }
+        Err(fault) => behind.send_parts(sink, &[b"error ", fault.word().as_bytes(), b"\n"]),
+    }
+}
