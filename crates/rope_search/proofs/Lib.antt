@@ -3,6 +3,7 @@ pub mod HeaderLemmas
 pub mod LineLaws
 pub mod PayloadLemmas
 pub mod ReadLaws
+pub mod RequestLemmas
 pub mod RunLaws
 pub mod SessionLemmas
 pub mod StepLaws
