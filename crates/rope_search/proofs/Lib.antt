@@ -3,3 +3,4 @@ pub mod StepLaws
 pub mod LineLaws
 pub mod ReadLaws
 pub mod AnswerLaws
+pub mod ExampleRuns
