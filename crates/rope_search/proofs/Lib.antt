@@ -9,3 +9,4 @@ pub mod SessionLemmas
 pub mod StepLaws
 pub mod TakesLemmas
 pub mod TextLemmas
+pub mod ExampleRuns

@@ -1,0 +1,96 @@
+-- What the definitions say of a few small texts, lines and sessions, each by computation.
+use Rattle.std.specs.Prelude.{◌≡◌, ℕ, List, [], ◌∷◌, Ok, Err, codes, refl}
+use Rattle.std.specs.Fmt.{digits}
+use Rattle.std.proofs.Math.Utf8.{encode}
+use Rattle.rope_search_io.specs.declared.faults.Fault.TheVariants.{Nothing, Utf8, Size, Memory}
+use Rattle.rope_search.specs.declared.commands.Reply.TheVariants.{Done, Number, Print}
+use Rattle.rope_search.specs.declared.runs.Ended.TheVariants.{Input, Command, Cut}
+use Rattle.rope_search.specs.Text.{breaks, line_count, bytes_of}
+use Rattle.rope_search.specs.Session.{State, fresh, first}
+use Rattle.rope_search.specs.Reads.{digits_after}
+use Rattle.rope_search.specs.Shows.{shows, closing}
+
+-- ---- breaks
+
+-- of the letter a, CR, LF, U+2028 and CR: CR LF is one break, and a CR at the end is one
+pub breaks_mixed : breaks (97 ∷ 13 ∷ 10 ∷ 0x2028 ∷ 13 ∷ []) ≡ 3
+breaks_mixed = refl
+
+pub breaks_crlf : breaks (13 ∷ 10 ∷ []) ≡ 1
+breaks_crlf = refl
+
+-- LF CR are two breaks
+pub breaks_lfcr : breaks (10 ∷ 13 ∷ []) ≡ 2
+breaks_lfcr = refl
+
+-- each of the break set alone: LF, VT, FF, CR, U+0085, U+2028 and U+2029
+pub breaks_each : breaks (10 ∷ 11 ∷ 12 ∷ 13 ∷ 0x85 ∷ 0x2028 ∷ 0x2029 ∷ []) ≡ 7
+breaks_each = refl
+
+-- a tab, U+001C and a space are none
+pub breaks_none : breaks (9 ∷ 0x1c ∷ 32 ∷ []) ≡ 0
+breaks_none = refl
+
+-- the empty text has one line
+pub lines_empty : line_count [] ≡ 1
+lines_empty = refl
+
+-- a break at the end has an empty line behind it
+pub lines_ended : line_count (codes "one\ntwo\n") ≡ 3
+lines_ended = refl
+
+-- ---- numbers and bytes
+
+pub digits_zeros : digits_after 0 (codes "007") ≡ 7
+digits_zeros = refl
+
+pub digits_many : digits_after 0 (codes "18446744073709551615") ≡ 18446744073709551615
+digits_many = refl
+
+-- the text with the one character U+2028 has three bytes
+pub bytes_separator : bytes_of (0x2028 ∷ []) ≡ 0xe2 ∷ 0x80 ∷ 0xa8 ∷ []
+unfolding encode
+bytes_separator = refl
+
+-- ---- what is written
+
+-- a session with one buffer, of this text
+abbrev pub session_of : List ℕ → State
+session_of text = record { buffers = fresh text ∷ []; chosen = 0 }
+
+pub shows_done : shows first (Ok Done) ≡ codes "ok\n"
+shows_done = refl
+
+pub shows_number : shows first (Ok (Number 12)) ≡ codes "ok 12\n"
+unfolding digits
+shows_number = refl
+
+-- a text is shown after the number of its bytes, and has an LF behind it
+pub shows_print : shows (session_of (codes "hi")) (Ok Print) ≡ codes "text 2\nhi\n"
+unfolding digits encode
+shows_print = refl
+
+pub shows_empty : shows first (Ok Print) ≡ codes "text 0\n\n"
+unfolding digits
+shows_empty = refl
+
+pub shows_nothing : shows first (Err Nothing) ≡ codes "error none\n"
+shows_nothing = refl
+
+pub shows_utf8 : shows first (Err Utf8) ≡ codes "error utf8\n"
+shows_utf8 = refl
+
+pub shows_size : shows first (Err Size) ≡ codes "error size\n"
+shows_size = refl
+
+pub shows_memory : shows first (Err Memory) ≡ codes "error memory\n"
+shows_memory = refl
+
+pub closing_input : closing Input ≡ []
+closing_input = refl
+
+pub closing_command : closing Command ≡ codes "error command\n"
+closing_command = refl
+
+pub closing_cut : closing Cut ≡ codes "error end\n"
+closing_cut = refl
