@@ -32,9 +32,9 @@ TakesRest-whole limit len kept kept' old new s t fresh h = record {
 part_of : (len : ℕ) (Taken : List ℕ → Type 0) (bytes : List ℕ) → length bytes < len → Taken bytes → TakesPartOf (Text len) Taken
 part_of len Taken bytes short taken = record {
     order = SetText (replicate len 0);
-    of_header = length-replicate len 0;
+    of_header = length-replicate {A = ℕ} len 0;
     part = bytes;
-    short = omega (arith, length-replicate len 0);
+    short = omega (arith, length-replicate {A = ℕ} len 0);
     taken = taken;
   }
 
