@@ -22,5 +22,5 @@ pub use rope_search_io::{
     Broken, Device, Failed, Fault, MemorySink, MemorySource, Sink, Source,
 };
 pub use rows::Lines;
-pub use runs::Ended;
+pub use runs::{Ended, run, run_limited};
 pub use sessions::Session;

@@ -1,4 +1,16 @@
 //! A whole run, from the bytes read to the bytes written.
+ghost use Rattle.std.specs.Prelude.{◌≡◌, ◌+◌, ◌^◌, ◌<◌, ◌≤◌, ◌↔◌, [], Err, IfOk, IfSome, OnOk};
+ghost use Rattle.std.specs.Io.KnownBytes.{Appends};
+ghost use Rattle.rope_search.specs.Shows.{closing};
+ghost use Rattle.rope_search.specs.Runs.{Ran, TakesTurn, Closes};
+
+use crate::limits::Limits;
+use crate::replies::write_answer;
+use crate::requests::{Request, read_request};
+use crate::rows::Lines;
+use crate::sessions::Session;
+use rope_search_io::{Broken, Failed, ReadAhead, Sink, Source, WriteBehind};
+use std::alloc::Global;
 
 /// How an input ended.
 #[derive(Clone, Copy, Debug, PartialEq, Eq)]
@@ -9,4 +21,92 @@ pub enum Ended {
     Command,
     /// The input ended inside a line or a payload. That command did nothing.
     Cut,
+}
+
+/// Reads commands to the input's end and writes their replies, under the default limits.
+pub fn run<R: Source, W: Sink>(
+    tick: &mut Lines,
+    alloc: Global,
+    reader: &mut R,
+    writer: &mut W,
+) -> Result<Ended, Broken>
+    ensures ran { Ran (2 ^ 30) result (R.state reader.old) (R.state reader.new)
+        (W.state writer.old) (W.state writer.new) tick.old tick.new }
+{
+    run_limited(tick, alloc, reader, writer, Limits::default())
+}
+
+/// Reads commands to the input's end and writes their replies, under these limits.
+pub fn run_limited<R: Source, W: Sink>(
+    tick: &mut Lines,
+    alloc: Global,
+    reader: &mut R,
+    writer: &mut W,
+    limits: Limits,
+) -> Result<Ended, Broken>
+    ensures ran { Ran limits.text result (R.state reader.old) (R.state reader.new)
+        (W.state writer.old) (W.state writer.new) tick.old tick.new }
+{
+    let Ok(mut session) = Session::new(alloc, limits) else {
+        return Err(Broken::Memory);
+    };
+    let mut ahead = ReadAhead::new();
+    let mut behind = WriteBehind::new();
+    loop {
+        if let Some(ending) = turn(tick, &mut session, &mut ahead, reader, &mut behind, writer)? {
+            close(ending, &mut behind, writer)?;
+            return Ok(ending);
+        }
+    }
+}
+
+/// Reads one command, carries it out and writes its reply; or finds how the input ended.
+fn turn<R: Source, W: Sink>(
+    tick: &mut Lines,
+    session: &mut Session,
+    ahead: &mut ReadAhead,
+    reader: &mut R,
+    behind: &mut WriteBehind,
+    writer: &mut W,
+) -> Result<Option<Ended>, Broken>
+    requires { behind.old ≡ [] }
+    ensures limit { session.new.limit ≡ session.old.limit }
+    ensures empty { OnOk result (behind.new ≡ []) }
+    ensures taken { TakesTurn session.old.limit result
+        (record { session = session.old.state; ahead = ahead.old; source = R.state reader.old; sink = W.state writer.old; ticks = tick.old })
+        (record { session = session.new.state; ahead = ahead.new; source = R.state reader.new; sink = W.state writer.new; ticks = tick.new }) }
+{
+    let alloc = session.alloc();
+    let limits = session.limits();
+    match read_request(ahead, reader, alloc, limits)? {
+        Request::End(ending) => Ok(Some(ending)),
+        Request::Given(asked) => {
+            let answer = session.apply(tick, asked.command());
+            write_answer(session, answer, behind, writer)?;
+            Ok(None)
+        }
+    }
+}
+
+/// The line that is written last.
+fn closing_line(ending: Ended) -> &'static [u8]
+    ensures { result.now ≡ closing ending }
+{
+    match ending {
+        Ended::Input => b"",
+        Ended::Command => b"error command\n",
+        Ended::Cut => b"error end\n",
+    }
+}
+
+/// Writes the line that is written last, and flushes.
+fn close<W: Sink>(ending: Ended, behind: &mut WriteBehind, writer: &mut W) -> Result<(), Broken>
+    requires { behind.old ≡ [] }
+    ensures { Closes result ending (W.state writer.old) (W.state writer.new) }
+{
+    behind.send_parts(writer, &[closing_line(ending)])?;
+    match writer.flush() {
+        Ok(()) => Ok(()),
+        Err(Failed) => Err(Broken::Write),
+    }
 }

@@ -17,6 +17,7 @@ use std::marker::Model;
 /// Buffers by number, from 0, and the chosen one.
 #[derive(Drop)]
 pub struct Session {
+    alloc: Global,
     limits: Limits,
     buffers: Vec<Buffer>,
     chosen: usize,
@@ -52,6 +53,7 @@ impl Session {
             return Err(Fault::Memory);
         }
         Ok(Session {
+            alloc,
             limits,
             buffers,
             chosen: 0,
@@ -63,6 +65,18 @@ impl Session {
         ensures { result.now ≡ record { limit = self.now.limit; state = chosen_buffer self.now.state } }
     {
         &self.buffers[self.chosen]
+    }
+
+    /// The allocator that the session was made with.
+    pub(crate) fn alloc(&self) -> Global {
+        self.alloc
+    }
+
+    /// The limits that the session was made with.
+    pub(crate) fn limits(&self) -> Limits
+        ensures { result.text ≡ self.now.limit }
+    {
+        self.limits
     }
 
     /// Chooses a buffer by its number. It is refused with `Fault::Nothing` where there is no such buffer.

@@ -1,0 +1,165 @@
+-- What a whole run did, by what its source and its sink tell.
+use Rattle.std.specs.Prelude.{◌≡◌, ◌≢◌, ℕ, ◌+◌, ◌^◌, ◌<◌, ◌≤◌, ◌⊎◌, List, [], ◌++◌, Option, None, Some, Result, Ok, Err}
+use Rattle.std.specs.Io.KnownBytes.{Appends, Consumes, IsAtEnd}
+use Rattle.rope_search_io.specs.declared.faults.Broken.{Broken}
+use Rattle.rope_search_io.specs.declared.faults.Broken.TheVariants.{Read, Write, Turns, Memory}
+use Rattle.rope_search_io.specs.Sources.{SourceState, SinkState}
+use Rattle.rope_search_io.specs.ReadAhead.{Ahead, Takes}
+use Rattle.rope_search_io.specs.WriteBehind.{Writes, WritesFront}
+use Rattle.rope_search.specs.declared.runs.Ended.{Ended}
+use Rattle.rope_search.specs.declared.runs.Ended.TheVariants.{Input, Command, Cut}
+use Rattle.rope_search.specs.Order.{Order}
+use Rattle.rope_search.specs.Session.{State, Ticks, first}
+use Rattle.rope_search.specs.Step.{Answer, Step}
+use Rattle.rope_search.specs.Reads.{Spells, SpellAll, Reads}
+use Rattle.rope_search.specs.Shows.{shows, closing}
+use Rattle.rope_search.specs.Cost.{Costs}
+use Rattle.rope_search.specs.Answers.{Run, Answers}
+use Rattle.rope_search.specs.Requests.{TakesEnding, TakesUnfinished}
+
+-- a read told the end, and all bytes were read; a line that is no command needs none
+abbrev pub TellsEnd : Ended → SourceState → SourceState → Type 0
+TellsEnd Command source source' = Unit {0}
+TellsEnd Input source source' = (source.ends < source'.ends) × IsAtEnd source'.left
+TellsEnd Cut source source' = (source.ends < source'.ends) × IsAtEnd source'.left
+
+-- what was written is an answer to what was read
+pub record IsAnswered (limit : ℕ) (ending : Ended) (source source' : SourceState) (sink sink' : SinkState) (ticks ticks' : Ticks) : Type 0 where
+  pub input : List ℕ
+  pub output : List ℕ
+  pub cost : ℕ
+  pub read : Consumes source.left source'.left input
+  pub written : Appends sink.held sink'.held output
+  pub answers : Answers limit input ending output cost
+  pub told : TellsEnd ending source source'
+  pub counted : ticks'.count ≤ ticks.count + cost
+  pub read_soundly : source'.failures ≡ source.failures
+  pub wrote_soundly : sink'.failures ≡ sink.failures
+  pub flushed : sink'.flushes ≡ sink.flushes + 1
+
+-- why no more bytes came: a read failed, or there were 2^62 of them
+abbrev pub StopsFor : Broken → SourceState → SourceState → Type 0
+StopsFor Read source source' = source'.failures ≡ source.failures + 1
+StopsFor Turns source source' = (source'.failures ≡ source.failures) × (source.reads + 2 ^ 62 ≤ source'.reads)
+StopsFor Write source source' = ⊥
+StopsFor Memory source source' = ⊥
+
+-- all replies to the commands that were read whole were written, and then no more bytes came
+pub record StopsReading (limit : ℕ) (broken : Broken) (source source' : SourceState) (sink sink' : SinkState) (ticks ticks' : Ticks) : Type 0 where
+  pub input : List ℕ
+  pub orders : List Order
+  pub ending : Ended
+  pub output : List ℕ
+  pub cost : ℕ
+  pub last : State
+  pub read : Consumes source.left source'.left input
+  pub written : Appends sink.held sink'.held output
+  pub reads : Reads input orders ending
+  pub unfinished : ending ≢ Command
+  pub run : Run limit first orders output cost last
+  pub counted : ticks'.count ≤ ticks.count + cost
+  pub why : StopsFor broken source source'
+  pub wrote_soundly : sink'.failures ≡ sink.failures
+  pub flushed : sink'.flushes ≡ sink.flushes
+
+-- the ending's line, where the ending was met: by a line that is no command, or by a read that told the end
+abbrev pub IsMet : Ended → SourceState → SourceState → List ℕ → Type 0
+IsMet ending source source' line = (line ≡ []) ⊎ ((line ≡ closing ending) × TellsEnd ending source source')
+
+-- of the replies to the commands that were read whole, and the ending's line where that was met, a front was written, and then the sink failed
+pub record StopsWriting (limit : ℕ) (source source' : SourceState) (sink sink' : SinkState) (ticks ticks' : Ticks) : Type 0 where
+  pub input : List ℕ
+  pub orders : List Order
+  pub ending : Ended
+  pub replies : List ℕ
+  pub cost : ℕ
+  pub last : State
+  pub line : List ℕ
+  pub output : List ℕ
+  pub lost : List ℕ
+  pub read : Consumes source.left source'.left input
+  pub written : Appends sink.held sink'.held output
+  pub reads : Reads input orders ending
+  pub run : Run limit first orders replies cost last
+  pub met : IsMet ending source source' line
+  pub front : replies ++ line ≡ output ++ lost
+  pub counted : ticks'.count ≤ ticks.count + cost
+  pub read_soundly : source'.failures ≡ source.failures
+  pub failed : sink'.failures ≡ sink.failures + 1
+  pub flushed : sink'.flushes ≤ sink.flushes + 1
+
+-- what a run did that answers so
+abbrev pub Ran : ℕ → Result Ended Broken → SourceState → SourceState → SinkState → SinkState → Ticks → Ticks → Type 0
+Ran limit (Ok ending) source source' sink sink' ticks ticks' = IsAnswered limit ending source source' sink sink' ticks ticks'
+-- nothing was read or written
+Ran limit (Err Memory) source source' sink sink' ticks ticks' = (source' ≡ source) × (sink' ≡ sink) × (ticks' ≡ ticks)
+Ran limit (Err Write) source source' sink sink' ticks ticks' = StopsWriting limit source source' sink sink' ticks ticks'
+Ran limit (Err broken) source source' sink sink' ticks ticks' = StopsReading limit broken source source' sink sink' ticks ticks'
+
+-- ---- inside a run
+
+-- all that a run changes
+pub record Scene : Type 0 where
+  pub session : State
+  pub ahead : Ahead
+  pub source : SourceState
+  pub sink : SinkState
+  pub ticks : Ticks
+
+-- a command was read and carried out, and of its reply so much was written
+pub record Turned (limit : ℕ) (old new : Scene) (Written : List ℕ → Type 0) : Type 0 where
+  pub order : Order
+  pub bytes : List ℕ
+  pub answer : Answer
+  pub cost : ℕ
+  pub spells : Spells order bytes
+  pub taken : Takes old.ahead new.ahead old.source new.source bytes
+  pub step : Step limit old.session order answer new.session
+  pub costs : Costs limit old.session order cost
+  pub written : Written (shows new.session answer)
+  pub counted : new.ticks.count ≤ old.ticks.count + cost
+
+-- the session, the sink and the counts are as before
+pub record OnlyReads (old new : Scene) : Type 0 where
+  pub session : new.session ≡ old.session
+  pub sink : new.sink ≡ old.sink
+  pub ticks : new.ticks ≡ old.ticks
+
+-- one turn: a command, or how the input ended, or why the run broke off
+abbrev pub TakesTurn : ℕ → Result (Option Ended) Broken → Scene → Scene → Type 0
+TakesTurn limit (Ok None) old new = Turned limit old new (Writes old.sink new.sink)
+TakesTurn limit (Ok (Some ending)) old new = TakesEnding ending old.ahead new.ahead old.source new.source × OnlyReads old new
+TakesTurn limit (Err Write) old new = Turned limit old new (WritesFront old.sink new.sink)
+TakesTurn limit (Err broken) old new = TakesUnfinished broken old.ahead new.ahead old.source new.source × OnlyReads old new
+
+-- the turns so far
+pub record SoFar (limit : ℕ) (old now : Scene) : Type 0 where
+  pub orders : List Order
+  pub bytes : List ℕ
+  pub out : List ℕ
+  pub cost : ℕ
+  pub spells : SpellAll orders bytes
+  pub taken : Takes old.ahead now.ahead old.source now.source bytes
+  pub run : Run limit old.session orders out cost now.session
+  pub written : Writes old.sink now.sink out
+  pub counted : now.ticks.count ≤ old.ticks.count + cost
+
+-- the ending's line was written, and the sink flushed
+pub record ClosesWhole (ending : Ended) (sink sink' : SinkState) : Type 0 where
+  pub appended : Appends sink.held sink'.held (closing ending)
+  pub sound : sink'.failures ≡ sink.failures
+  pub flushed : sink'.flushes ≡ sink.flushes + 1
+
+-- a front of the ending's line was written, or all of it, and then the sink failed
+pub record ClosesFront (ending : Ended) (sink sink' : SinkState) : Type 0 where
+  pub front : List ℕ
+  pub lost : List ℕ
+  pub split : closing ending ≡ front ++ lost
+  pub appended : Appends sink.held sink'.held front
+  pub failed : sink'.failures ≡ sink.failures + 1
+  pub flushed : sink'.flushes ≤ sink.flushes + 1
+
+abbrev pub Closes : {T : Type 0} → Result T Broken → Ended → SinkState → SinkState → Type 0
+Closes (Ok done) ending sink sink' = ClosesWhole ending sink sink'
+Closes (Err Write) ending sink sink' = ClosesFront ending sink sink'
+Closes (Err broken) ending sink sink' = ⊥
