@@ -9,4 +9,5 @@ pub mod SessionLemmas
 pub mod StepLaws
 pub mod TakesLemmas
 pub mod TextLemmas
+pub mod TurnLemmas
 pub mod ExampleRuns

@@ -1,0 +1,92 @@
+-- One turn of a run, and the turns so far.
+use Rattle.std.proofs.Common.{◌≡◌, ℕ, ◌+◌, ◌≤◌, List, [], ◌∷◌, ◌++◌, None, Some, Ok, Err, refl, sym, ap, subst, arith}
+use Rattle.std.proofs.KnownBytes.{Appends-trans, Appends-nil}
+use Rattle.rope_search_io.specs.declared.faults.Broken.{Broken}
+use Rattle.rope_search_io.specs.declared.faults.Broken.TheVariants.{Read, Write, Turns, Memory}
+use Rattle.rope_search_io.specs.Sources.{SourceState, SinkState}
+use Rattle.rope_search_io.specs.ReadAhead.{Ahead, Takes}
+use Rattle.rope_search_io.specs.WriteBehind.{Writes, WritesFront, WritesUntil}
+use Rattle.rope_search.specs.declared.commands.Command.{Command}
+use Rattle.rope_search.specs.declared.requests.Asked.{Asked}
+use Rattle.rope_search.specs.Order.{Order}
+use Rattle.rope_search.specs.Step.{Answer, Step}
+use Rattle.rope_search.specs.Stands.{Stands}
+use Rattle.rope_search.specs.Shows.{shows}
+use Rattle.rope_search.specs.Cost.{Costs}
+use Rattle.rope_search.specs.Requests.{IsAskedFor, TakesOrder}
+use Rattle.rope_search.specs.Runs.{Scene, Turned, TakesTurn, SoFar}
+use Rattle.rope_search.proofs.StepLaws.{costs_exist}
+use Rattle.rope_search.proofs.RunLaws.{SpellAll-append, SpellAll-one, Run-nil, Run-push}
+use Rattle.rope_search.proofs.TakesLemmas.{Takes-nil, Takes-trans}
+
+-- a command that was read whole was carried out, and so much of its answer was written
+pub Turned-given : (limit : ℕ) (asked : Asked) (command : Command) (answer : Answer) (old new : Scene) (Written : List ℕ → Type 0)
+    → TakesOrder limit asked old.ahead new.ahead old.source new.source
+    → ((limit' : ℕ) (order : Order) → IsAskedFor limit' asked order → Stands limit' command order)
+    → ((order : Order) → Stands limit command order → Step limit old.session order answer new.session)
+    → ((order : Order) (cost : ℕ) → Stands limit command order → Costs limit old.session order cost → new.ticks.count ≤ old.ticks.count + cost)
+    → Written (shows new.session answer) → Turned limit old new Written
+Turned-given limit asked command answer old new Written read stands step rows written =
+    let stood : Stands limit command read.order = stands limit read.order read.is in
+    let cost = costs_exist limit old.session read.order in
+    record {
+      order = read.order;
+      bytes = read.bytes;
+      answer = answer;
+      cost = cost.0;
+      spells = read.spells;
+      taken = read.taken;
+      step = step read.order stood;
+      costs = cost.1;
+      written = written;
+      counted = rows read.order cost.0 stood cost.1;
+    }
+
+-- a sink that failed in the middle of an answer
+pub TakesTurn-failed : (limit : ℕ) (broken : Broken) (answer : Answer) (old new : Scene)
+    → ((Written : List ℕ → Type 0) → Written (shows new.session answer) → Turned limit old new Written)
+    → WritesUntil broken old.sink new.sink (shows new.session answer) → TakesTurn limit (Err broken) old new
+TakesTurn-failed limit Write answer old new turned front = turned (WritesFront old.sink new.sink) front
+TakesTurn-failed limit Read answer old new turned front = absurd front
+TakesTurn-failed limit Turns answer old new turned front = absurd front
+TakesTurn-failed limit Memory answer old new turned front = absurd front
+
+-- ---- the turns so far
+
+Writes-nil : (s : SinkState) → Writes s s []
+Writes-nil s = record { appended = Appends-nil s.held; sound = refl; flushed = refl }
+
+pub Writes-then : (a b c : SinkState) (xs ys : List ℕ) → Writes a b xs → Writes b c ys → Writes a c (xs ++ ys)
+Writes-then a b c xs ys first second = record {
+    appended = Appends-trans a.held b.held c.held xs ys first.appended second.appended;
+    sound = omega (arith, first.sound, second.sound);
+    flushed = omega (arith, first.flushed, second.flushed);
+  }
+
+-- no turn yet
+pub SoFar-none : (limit : ℕ) (scene : Scene) → SoFar limit scene scene
+SoFar-none limit scene = record {
+    orders = [];
+    bytes = [];
+    out = [];
+    cost = 0;
+    spells = refl;
+    taken = Takes-nil scene.ahead scene.source;
+    run = Run-nil limit scene.session;
+    written = Writes-nil scene.sink;
+    counted = omega arith;
+  }
+
+-- one more turn
+pub SoFar-push : (limit : ℕ) (old mid new : Scene) → SoFar limit old mid → Turned limit mid new (Writes mid.sink new.sink) → SoFar limit old new
+SoFar-push limit old mid new so turned = record {
+    orders = so.orders ++ turned.order ∷ [];
+    bytes = so.bytes ++ turned.bytes;
+    out = so.out ++ shows new.session turned.answer;
+    cost = so.cost + turned.cost;
+    spells = SpellAll-append so.orders (turned.order ∷ []) so.bytes turned.bytes so.spells (SpellAll-one turned.order turned.bytes turned.spells);
+    taken = Takes-trans old.ahead mid.ahead new.ahead old.source mid.source new.source so.bytes turned.bytes so.taken turned.taken;
+    run = Run-push limit old.session mid.session new.session so.orders turned.order so.out so.cost turned.cost turned.answer so.run turned.step turned.costs;
+    written = Writes-then old.sink mid.sink new.sink so.out (shows new.session turned.answer) so.written turned.written;
+    counted = omega (arith, so.counted, turned.counted);
+  }
