@@ -4,6 +4,7 @@ pub mod LineLaws
 pub mod PayloadLemmas
 pub mod ReadLaws
 pub mod RequestLemmas
+pub mod RunEndings
 pub mod RunLaws
 pub mod SessionLemmas
 pub mod StepLaws

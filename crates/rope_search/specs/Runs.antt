@@ -106,6 +106,10 @@ pub record Scene : Type 0 where
   pub sink : SinkState
   pub ticks : Ticks
 
+-- before anything is read: the first session
+abbrev pub start : SourceState → SinkState → Ticks → Scene
+start source sink ticks = record { session = first; ahead = record { bytes = []; reads = 0 }; source = source; sink = sink; ticks = ticks }
+
 -- a command was read and carried out, and of its reply so much was written
 pub record Turned (limit : ℕ) (old new : Scene) (Written : List ℕ → Type 0) : Type 0 where
   pub order : Order

@@ -1,0 +1,234 @@
+-- How a run ends, by the turns before and what came after them.
+use Rattle.std.proofs.Common.{◌≡◌, ◌≢◌, ℕ, ◌+◌, ◌^◌, ◌<◌, ◌≤◌, List, [], ◌∷◌, ◌++◌, length, Option, None, Some, Ok, Err, refl, sym, ap, ◌∙◌, subst, inl, inr, append_assoc, append-nil, length-append, arith}
+use Rattle.std.proofs.KnownBytes.{Appends-trans, Consumes-trans}
+use Rattle.std.specs.Io.KnownBytes.{Appends, Consumes, prepend_known, IsAtEnd}
+use Rattle.rope_search_io.specs.declared.faults.Broken.{Broken}
+use Rattle.rope_search_io.specs.declared.faults.Broken.TheVariants.{Read, Write, Turns, Memory}
+use Rattle.rope_search_io.specs.Sources.{SourceState, SinkState}
+use Rattle.rope_search_io.specs.ReadAhead.{Ahead, Takes, to_come, most_to_come}
+use Rattle.rope_search_io.specs.WriteBehind.{Writes, WritesFront}
+use Rattle.rope_search.specs.declared.runs.Ended.{Ended}
+use Rattle.rope_search.specs.declared.runs.Ended.TheVariants.{Input, Command, Cut}
+use Rattle.rope_search.specs.Order.{Order}
+use Rattle.rope_search.specs.Session.{State, Ticks, first}
+use Rattle.rope_search.specs.Shows.{shows, closing}
+use Rattle.rope_search.specs.Reads.{Reads, Ends, SpellAll, payload_of}
+use Rattle.rope_search.specs.Requests.{TakesEnding, TakesUnfinished, IsUnfinished}
+use Rattle.rope_search.specs.Runs.{Scene, start, SoFar, Turned, TakesTurn, OnlyReads, TellsEnd, IsAnswered, StopsFor, StopsReading, StopsWriting, Ran, Closes, ClosesWhole, ClosesFront}
+use Rattle.rope_search.proofs.RunLaws.{Ends-more, Reads-after, Run-append, Run-push, SpellAll-append, SpellAll-one}
+use Rattle.rope_search.proofs.StepLaws.{run_exists}
+use Rattle.rope_search.proofs.ReadLaws.{reads_exist}
+
+-- what was read from the source: the bytes that were taken, and those that are still ahead
+pub consumed_all : (left left' : Option (List ℕ)) (bytes back : List ℕ) → Consumes (prepend_known [] left) (prepend_known back left') bytes → Consumes left left' (bytes ++ back)
+consumed_all None left' bytes back p = tt
+consumed_all (Some xs) None bytes back p = absurd p
+consumed_all (Some xs) (Some ys) bytes back p = p ∙ sym (append_assoc bytes back ys)
+
+-- ---- the input ended
+
+-- the bytes after the last command, and what they tell of the ending
+record Left (ending : Ended) (source : SourceState) (mid new : Scene) : Type 0 where
+  rest : List ℕ
+  ends : Ends (rest ++ new.ahead.bytes) ending
+  consumed : Consumes (to_come mid.ahead mid.source) (to_come new.ahead new.source) rest
+  sound : new.source.failures ≡ mid.source.failures
+  told : TellsEnd ending source new.source
+
+nothing_ahead : (rest back : List ℕ) → back ≡ [] → rest ≡ rest ++ back
+nothing_ahead rest back none = sym (append-nil rest) ∙ ap (λ l. rest ++ l) (sym none)
+
+left_by : (limit : ℕ) (ending : Ended) (source : SourceState) (sink : SinkState) (ticks : Ticks) (mid new : Scene)
+    → SoFar limit (start source sink ticks) mid → TakesEnding ending mid.ahead new.ahead mid.source new.source → Left ending source mid new
+left_by limit Command source sink ticks mid new so end = record {
+    rest = end.rest;
+    ends = Ends-more end.rest new.ahead.bytes end.ends;
+    consumed = end.taken.consumed;
+    sound = end.taken.sound;
+    told = tt;
+  }
+left_by limit Input source sink ticks mid new so end = record {
+    rest = end.rest;
+    ends = subst (λ l. Ends l Input) (nothing_ahead end.rest new.ahead.bytes end.taken.empty) end.ends;
+    consumed = end.taken.consumed;
+    sound = end.taken.sound;
+    told = (omega (arith, end.taken.told, so.taken.open_end), end.taken.at_end);
+  }
+left_by limit Cut source sink ticks mid new so end = record {
+    rest = end.rest;
+    ends = subst (λ l. Ends l Cut) (nothing_ahead end.rest new.ahead.bytes end.taken.empty) end.ends;
+    consumed = end.taken.consumed;
+    sound = end.taken.sound;
+    told = (omega (arith, end.taken.told, so.taken.open_end), end.taken.at_end);
+  }
+
+-- all bytes that were read are the commands so far and what is left
+reads_left : (limit : ℕ) (ending : Ended) (source : SourceState) (sink : SinkState) (ticks : Ticks) (mid new : Scene)
+    (so : SoFar limit (start source sink ticks) mid) (left : Left ending source mid new) → Reads ((so.bytes ++ left.rest) ++ new.ahead.bytes) so.orders ending
+reads_left limit ending source sink ticks mid new so left = record {
+    spelled = so.bytes;
+    rest = left.rest ++ new.ahead.bytes;
+    spells = so.spells;
+    ends = left.ends;
+    whole = append_assoc so.bytes left.rest new.ahead.bytes;
+  }
+
+consumed_left : (limit : ℕ) (source : SourceState) (sink : SinkState) (ticks : Ticks) (mid new : Scene) (so : SoFar limit (start source sink ticks) mid) (rest : List ℕ)
+    → Consumes (to_come mid.ahead mid.source) (to_come new.ahead new.source) rest → Consumes source.left new.source.left ((so.bytes ++ rest) ++ new.ahead.bytes)
+consumed_left limit source sink ticks mid new so rest consumed =
+    consumed_all source.left new.source.left (so.bytes ++ rest) new.ahead.bytes
+    (Consumes-trans (prepend_known [] source.left) (to_come mid.ahead mid.source) (to_come new.ahead new.source) so.bytes rest so.taken.consumed consumed)
+
+pub Ran-answered : (limit : ℕ) (ending : Ended) (source : SourceState) (sink sink' : SinkState) (ticks : Ticks) (mid new : Scene)
+    → SoFar limit (start source sink ticks) mid → TakesEnding ending mid.ahead new.ahead mid.source new.source → OnlyReads mid new
+    → ClosesWhole ending new.sink sink' → IsAnswered limit ending source new.source sink sink' ticks new.ticks
+Ran-answered limit ending source sink sink' ticks mid new so end only closed =
+    let left = left_by limit ending source sink ticks mid new so end in
+    record {
+      input = (so.bytes ++ left.rest) ++ new.ahead.bytes;
+      output = so.out ++ closing ending;
+      cost = so.cost;
+      read = consumed_left limit source sink ticks mid new so left.rest left.consumed;
+      written = Appends-trans sink.held mid.sink.held sink'.held so.out (closing ending) so.written.appended
+        (subst (λ (s : SinkState). Appends s.held sink'.held (closing ending)) only.sink closed.appended);
+      answers = record { orders = so.orders; replies = so.out; last = mid.session; reads = reads_left limit ending source sink ticks mid new so left; run = so.run; shown = refl };
+      told = left.told;
+      counted = omega (arith, so.counted, ap (λ (t : Ticks). t.count) only.ticks);
+      read_soundly = left.sound ∙ so.taken.sound;
+      wrote_soundly = closed.sound ∙ ap (λ (s : SinkState). s.failures) only.sink ∙ so.written.sound;
+      flushed = closed.flushed ∙ ap (λ (s : SinkState). s.flushes + 1) only.sink ∙ ap (λ n. n + 1) so.written.flushed;
+    }
+
+-- the ending's line wasn't written whole, or the flush failed
+unclosed : (limit : ℕ) (ending : Ended) (source : SourceState) (sink sink' : SinkState) (ticks : Ticks) (mid new : Scene)
+    → SoFar limit (start source sink ticks) mid → TakesEnding ending mid.ahead new.ahead mid.source new.source → OnlyReads mid new
+    → ClosesFront ending new.sink sink' → StopsWriting limit source new.source sink sink' ticks new.ticks
+unclosed limit ending source sink sink' ticks mid new so end only closed =
+    let left = left_by limit ending source sink ticks mid new so end in
+    record {
+      input = (so.bytes ++ left.rest) ++ new.ahead.bytes;
+      orders = so.orders;
+      ending = ending;
+      replies = so.out;
+      cost = so.cost;
+      last = mid.session;
+      line = closing ending;
+      output = so.out ++ closed.front;
+      lost = closed.lost;
+      read = consumed_left limit source sink ticks mid new so left.rest left.consumed;
+      written = Appends-trans sink.held mid.sink.held sink'.held so.out closed.front so.written.appended
+        (subst (λ (s : SinkState). Appends s.held sink'.held closed.front) only.sink closed.appended);
+      reads = reads_left limit ending source sink ticks mid new so left;
+      run = so.run;
+      met = inr (refl, left.told);
+      front = ap (λ l. so.out ++ l) closed.split ∙ sym (append_assoc so.out closed.front closed.lost);
+      counted = omega (arith, so.counted, ap (λ (t : Ticks). t.count) only.ticks);
+      read_soundly = left.sound ∙ so.taken.sound;
+      failed = closed.failed ∙ ap (λ (s : SinkState). s.failures + 1) only.sink ∙ ap (λ n. n + 1) so.written.sound;
+      flushed = omega (arith, closed.flushed, ap (λ (s : SinkState). s.flushes) only.sink, so.written.flushed);
+    }
+
+pub Ran-unclosed : (limit : ℕ) (broken : Broken) (ending : Ended) (source : SourceState) (sink sink' : SinkState) (ticks : Ticks) (mid new : Scene)
+    → SoFar limit (start source sink ticks) mid → TakesEnding ending mid.ahead new.ahead mid.source new.source → OnlyReads mid new
+    → Closes {T = Unit {0}} (Err broken) ending new.sink sink' → Ran limit (Err broken) source new.source sink sink' ticks new.ticks
+Ran-unclosed limit Write ending source sink sink' ticks mid new so end only closed = unclosed limit ending source sink sink' ticks mid new so end only closed
+Ran-unclosed limit Read ending source sink sink' ticks mid new so end only closed = absurd closed
+Ran-unclosed limit Turns ending source sink sink' ticks mid new so end only closed = absurd closed
+Ran-unclosed limit Memory ending source sink sink' ticks mid new so end only closed = absurd closed
+
+-- ---- no more bytes came
+
+-- how the bytes after the last command would end the input
+record Unfinished (rest : List ℕ) : Type 0 where
+  ending : Ended
+  ends : Ends rest ending
+  unmet : ending ≢ Command
+
+unfinished_by : (rest : List ℕ) → IsUnfinished rest → Unfinished rest
+unfinished_by rest h = elim h [ inl empty ↦ record { ending = Input; ends = empty; unmet = λ e. cc } | inr part ↦ record { ending = Cut; ends = part; unmet = λ e. cc } ]
+
+stopped : (limit : ℕ) (broken : Broken) (source : SourceState) (sink : SinkState) (ticks : Ticks) (mid new : Scene)
+    → SoFar limit (start source sink ticks) mid → OnlyReads mid new → (rest : List ℕ) → IsUnfinished rest
+    → Consumes (to_come mid.ahead mid.source) (to_come new.ahead new.source) rest → new.ahead.bytes ≡ []
+    → StopsFor broken source new.source → StopsReading limit broken source new.source sink new.sink ticks new.ticks
+stopped limit broken source sink ticks mid new so only rest unfinished consumed none why =
+    let how = unfinished_by rest unfinished in
+    record {
+      input = (so.bytes ++ rest) ++ new.ahead.bytes;
+      orders = so.orders;
+      ending = how.ending;
+      output = so.out;
+      cost = so.cost;
+      last = mid.session;
+      read = consumed_left limit source sink ticks mid new so rest consumed;
+      written = subst (λ (s : SinkState). Appends sink.held s.held so.out) (sym only.sink) so.written.appended;
+      reads = record {
+          spelled = so.bytes;
+          rest = rest;
+          spells = so.spells;
+          ends = how.ends;
+          whole = sym (nothing_ahead (so.bytes ++ rest) new.ahead.bytes none);
+        };
+      unfinished = how.unmet;
+      run = so.run;
+      counted = omega (arith, so.counted, ap (λ (t : Ticks). t.count) only.ticks);
+      why = why;
+      wrote_soundly = ap (λ (s : SinkState). s.failures) only.sink ∙ so.written.sound;
+      flushed = ap (λ (s : SinkState). s.flushes) only.sink ∙ so.written.flushed;
+    }
+
+-- ---- the sink failed in the middle of a reply
+
+cut_short : (limit : ℕ) (source : SourceState) (sink : SinkState) (ticks : Ticks) (mid new : Scene)
+    → SoFar limit (start source sink ticks) mid → Turned limit mid new (WritesFront mid.sink new.sink) → StopsWriting limit source new.source sink new.sink ticks new.ticks
+cut_short limit source sink ticks mid new so turned =
+    let bytes = so.bytes ++ turned.bytes in
+    let orders = so.orders ++ turned.order ∷ [] in
+    let shown = shows new.session turned.answer in
+    let spells = SpellAll-append so.orders (turned.order ∷ []) so.bytes turned.bytes so.spells (SpellAll-one turned.order turned.bytes turned.spells) in
+    let run = Run-push limit first mid.session new.session so.orders turned.order so.out so.cost turned.cost turned.answer so.run turned.step turned.costs in
+    let ahead = reads_exist new.ahead.bytes in
+    let later = run_exists limit new.session ahead.0 in
+    record {
+      input = bytes ++ new.ahead.bytes;
+      orders = orders ++ ahead.0;
+      ending = ahead.1;
+      replies = (so.out ++ shown) ++ later.0;
+      cost = (so.cost + turned.cost) + later.1;
+      last = later.2;
+      line = [];
+      output = so.out ++ turned.written.front;
+      lost = turned.written.lost ++ later.0;
+      read = consumed_left limit source sink ticks mid new so turned.bytes turned.taken.consumed;
+      written = Appends-trans sink.held mid.sink.held new.sink.held so.out turned.written.front so.written.appended turned.written.appended;
+      reads = Reads-after orders ahead.0 ahead.1 bytes new.ahead.bytes spells ahead.2;
+      run = Run-append limit first new.session later.2 orders ahead.0 (so.out ++ shown) later.0 (so.cost + turned.cost) later.1 run later.3;
+      met = inl refl;
+      front = append-nil ((so.out ++ shown) ++ later.0) ∙ ap (λ l. (so.out ++ l) ++ later.0) turned.written.split
+        ∙ ap (λ l. l ++ later.0) (sym (append_assoc so.out turned.written.front turned.written.lost)) ∙ append_assoc (so.out ++ turned.written.front) turned.written.lost later.0;
+      counted = omega (arith, so.counted, turned.counted);
+      read_soundly = turned.taken.sound ∙ so.taken.sound;
+      failed = turned.written.failed ∙ ap (λ n. n + 1) so.written.sound;
+      flushed = omega (arith, turned.written.flushed, so.written.flushed);
+    }
+
+pub Ran-broken : (limit : ℕ) (broken : Broken) (source : SourceState) (sink : SinkState) (ticks : Ticks) (mid new : Scene)
+    → SoFar limit (start source sink ticks) mid → TakesTurn limit (Err broken) mid new → Ran limit (Err broken) source new.source sink new.sink ticks new.ticks
+Ran-broken limit Write source sink ticks mid new so turn = cut_short limit source sink ticks mid new so turn
+Ran-broken limit Read source sink ticks mid new so turn =
+    let taken = turn.0.taken in
+    stopped limit Read source sink ticks mid new so turn.1 turn.0.rest turn.0.unfinished taken.consumed taken.empty
+    (taken.failed ∙ ap (λ n. n + 1) so.taken.sound)
+Ran-broken limit Turns source sink ticks mid new so turn =
+    let taken = turn.0.taken in
+    stopped limit Turns source sink ticks mid new so turn.1 turn.0.rest turn.0.unfinished taken.consumed taken.empty
+    (taken.sound ∙ so.taken.sound, omega (arith, taken.many, taken.counted, so.taken.counted))
+Ran-broken limit Memory source sink ticks mid new so turn = absurd turn.0.taken
+
+-- ---- a turn takes at least one byte
+
+pub most_to_come-turn : (limit : ℕ) (mid new : Scene) (Written : List ℕ → Type 0) → Turned limit mid new Written → most_to_come new.ahead < most_to_come mid.ahead
+most_to_come-turn limit mid new Written turned =
+    let line = turned.spells.line in
+    let some : 0 < length turned.bytes = omega (arith, ap length turned.spells.whole, length-append line (10 ∷ payload_of turned.order)) in
+    omega (arith, turned.taken.fewer)
