@@ -1,5 +1,5 @@
 -- How a run ends, by the turns before and what came after them.
-use Rattle.std.proofs.Common.{◌≡◌, ◌≢◌, ℕ, ◌+◌, ◌^◌, ◌<◌, ◌≤◌, List, [], ◌∷◌, ◌++◌, length, Option, None, Some, Ok, Err, refl, sym, ap, ◌∙◌, subst, inl, inr, append_assoc, append-nil, length-append, arith}
+use Rattle.std.proofs.Common.{◌≡◌, ◌≢◌, ℕ, ◌+◌, ◌^◌, ◌<◌, ◌≤◌, List, [], ◌∷◌, ◌++◌, length, Option, None, Some, IfSome, Result, Ok, Err, refl, sym, ap, ◌∙◌, subst, inl, inr, append_assoc, append-nil, length-append, arith}
 use Rattle.std.proofs.KnownBytes.{Appends-trans, Consumes-trans}
 use Rattle.std.specs.Io.KnownBytes.{Appends, Consumes, prepend_known, IsAtEnd}
 use Rattle.rope_search_io.specs.declared.faults.Broken.{Broken}
@@ -13,9 +13,10 @@ use Rattle.rope_search.specs.Order.{Order}
 use Rattle.rope_search.specs.Session.{State, Ticks, first}
 use Rattle.rope_search.specs.Shows.{shows, closing}
 use Rattle.rope_search.specs.Reads.{Reads, Ends, SpellAll, payload_of}
+use Rattle.rope_search.specs.Answers.{Answers}
 use Rattle.rope_search.specs.Requests.{TakesEnding, TakesUnfinished, IsUnfinished}
-use Rattle.rope_search.specs.Runs.{Scene, start, SoFar, Turned, TakesTurn, OnlyReads, TellsEnd, IsAnswered, StopsFor, StopsReading, StopsWriting, Ran, Closes, ClosesWhole, ClosesFront}
-use Rattle.rope_search.proofs.RunLaws.{Ends-more, Reads-after, Run-append, Run-push, SpellAll-append, SpellAll-one}
+use Rattle.rope_search.specs.Runs.{Scene, start, SoFar, Turned, TakesTurn, OnlyReads, TellsEnd, IsAnswered, IsAnswerTo, AnswersWhole, StopsFor, StopsReading, StopsWriting, Ran, Closes, ClosesWhole, ClosesFront}
+use Rattle.rope_search.proofs.RunLaws.{Answers-more, Ends-more, Reads-after, Run-append, Run-push, SpellAll-append, SpellAll-one}
 use Rattle.rope_search.proofs.StepLaws.{run_exists}
 use Rattle.rope_search.proofs.ReadLaws.{reads_exist}
 
@@ -232,3 +233,53 @@ most_to_come-turn limit mid new Written turned =
     let line = turned.spells.line in
     let some : 0 < length turned.bytes = omega (arith, ap length turned.spells.whole, length-append line (10 ∷ payload_of turned.order)) in
     omega (arith, turned.taken.fewer)
+
+-- ---- the whole input
+
+-- an answer to what was read is one to the whole input: the rest is empty, or follows a line that is no command
+whole_input : (limit : ℕ) (whole input rest output : List ℕ) (ending : Ended) (cost : ℕ) → (ending ≢ Command → rest ≡ []) → whole ≡ input ++ rest
+    → Answers limit input ending output cost → Answers limit whole ending output cost
+whole_input limit whole input rest output Command cost end split answers =
+    subst (λ l. Answers limit l Command output cost) (sym split) (Answers-more limit input rest output cost answers)
+whole_input limit whole input rest output Input cost end split answers =
+    subst (λ l. Answers limit l Input output cost) (sym (split ∙ ap (λ l. input ++ l) (end (λ e. cc)) ∙ append-nil input)) answers
+whole_input limit whole input rest output Cut cost end split answers =
+    subst (λ l. Answers limit l Cut output cost) (sym (split ∙ ap (λ l. input ++ l) (end (λ e. cc)) ∙ append-nil input)) answers
+
+-- where a read told the end, nothing is left
+none_left : (ending : Ended) (source source' : SourceState) → TellsEnd ending source source' → ending ≢ Command → IsAtEnd source'.left
+none_left Command source source' told other = absurd (other refl)
+none_left Input source source' told other = told.1
+none_left Cut source source' told other = told.1
+
+whole_answer : (limit : ℕ) (ending : Ended) (left left' : Option (List ℕ)) (input output : List ℕ) (cost : ℕ)
+    → Consumes left left' input → (ending ≢ Command → IsAtEnd left') → Answers limit input ending output cost
+    → IfSome left (λ whole. Answers limit whole ending output cost)
+whole_answer limit ending None left' input output cost read end answers = tt
+whole_answer limit ending (Some whole) None input output cost read end answers = absurd read
+whole_answer limit ending (Some whole) (Some rest) input output cost read end answers = whole_input limit whole input rest output ending cost end read answers
+
+answer_to : (limit : ℕ) (ending : Ended) (left : Option (List ℕ)) (output : List ℕ) (cost : ℕ) (sink sink' : SinkState) (ticks ticks' : Ticks)
+    → IfSome left (λ whole. Answers limit whole ending output cost) → Appends sink.held sink'.held output → ticks'.count ≤ ticks.count + cost
+    → IfSome left (λ whole. IsAnswerTo limit ending whole sink sink' ticks ticks')
+answer_to limit ending None output cost sink sink' ticks ticks' answers written counted = tt
+answer_to limit ending (Some whole) output cost sink sink' ticks ticks' answers written counted =
+    record { output = output; cost = cost; written = written; answers = answers; counted = counted }
+
+AnswersWhole-answered : (limit : ℕ) (ending : Ended) (source source' : SourceState) (sink sink' : SinkState) (ticks ticks' : Ticks)
+    → IsAnswered limit ending source source' sink sink' ticks ticks' → AnswersWhole limit (Ok ending) source sink sink' ticks ticks'
+AnswersWhole-answered limit ending source source' sink sink' ticks ticks' h =
+    answer_to limit ending source.left h.output h.cost sink sink' ticks ticks'
+    (whole_answer limit ending source.left source'.left h.input h.output h.cost h.read (none_left ending source source' h.told) h.answers) h.written h.counted
+
+pub AnswersWhole-ran : (limit : ℕ) (r : Result Ended Broken) (source source' : SourceState) (sink sink' : SinkState) (ticks ticks' : Ticks)
+    → Ran limit r source source' sink sink' ticks ticks' → AnswersWhole limit r source sink sink' ticks ticks'
+AnswersWhole-ran limit (Ok ending) source source' sink sink' ticks ticks' h = AnswersWhole-answered limit ending source source' sink sink' ticks ticks' h
+AnswersWhole-ran limit (Err broken) source source' sink sink' ticks ticks' h = tt
+
+-- a limit under another name
+pub TakesTurn-at : (m n : ℕ) (broken : Broken) (old new : Scene) → m ≡ n → TakesTurn m (Err broken) old new → TakesTurn n (Err broken) old new
+TakesTurn-at m n broken old new same turn = subst (λ limit. TakesTurn limit (Err broken) old new) same turn
+
+pub Turned-at : (m n : ℕ) (old new : Scene) → m ≡ n → TakesTurn m (Ok None) old new → Turned n old new (Writes old.sink new.sink)
+Turned-at m n old new same turn = subst (λ limit. TakesTurn limit (Ok None) old new) same turn

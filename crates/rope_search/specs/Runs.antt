@@ -1,5 +1,5 @@
 -- What a whole run did, by what its source and its sink tell.
-use Rattle.std.specs.Prelude.{◌≡◌, ◌≢◌, ℕ, ◌+◌, ◌^◌, ◌<◌, ◌≤◌, ◌⊎◌, List, [], ◌++◌, Option, None, Some, Result, Ok, Err}
+use Rattle.std.specs.Prelude.{◌≡◌, ◌≢◌, ℕ, ◌+◌, ◌^◌, ◌<◌, ◌≤◌, ◌⊎◌, List, [], ◌++◌, Option, None, Some, IfSome, Result, Ok, Err}
 use Rattle.std.specs.Io.KnownBytes.{Appends, Consumes, IsAtEnd}
 use Rattle.rope_search_io.specs.declared.faults.Broken.{Broken}
 use Rattle.rope_search_io.specs.declared.faults.Broken.TheVariants.{Read, Write, Turns, Memory}
@@ -95,6 +95,19 @@ Ran limit (Ok ending) source source' sink sink' ticks ticks' = IsAnswered limit 
 Ran limit (Err Memory) source source' sink sink' ticks ticks' = (source' ≡ source) × (sink' ≡ sink) × (ticks' ≡ ticks)
 Ran limit (Err Write) source source' sink sink' ticks ticks' = StopsWriting limit source source' sink sink' ticks ticks'
 Ran limit (Err broken) source source' sink sink' ticks ticks' = StopsReading limit broken source source' sink sink' ticks ticks'
+
+-- what was written to a sink is an answer to this whole input
+pub record IsAnswerTo (limit : ℕ) (ending : Ended) (input : List ℕ) (sink sink' : SinkState) (ticks ticks' : Ticks) : Type 0 where
+  pub output : List ℕ
+  pub cost : ℕ
+  pub written : Appends sink.held sink'.held output
+  pub answers : Answers limit input ending output cost
+  pub counted : ticks'.count ≤ ticks.count + cost
+
+-- a run that ends has answered all that its source had to give, where that is known
+abbrev pub AnswersWhole : ℕ → Result Ended Broken → SourceState → SinkState → SinkState → Ticks → Ticks → Type 0
+AnswersWhole limit (Ok ending) source sink sink' ticks ticks' = IfSome source.left (λ input. IsAnswerTo limit ending input sink sink' ticks ticks')
+AnswersWhole limit (Err broken) source sink sink' ticks ticks' = Unit {0}
 
 -- ---- inside a run
 

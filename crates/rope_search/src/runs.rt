@@ -1,8 +1,7 @@
 //! A whole run, from the bytes read to the bytes written.
-ghost use Rattle.std.specs.Prelude.{◌≡◌, ◌+◌, ◌^◌, ◌<◌, ◌≤◌, ◌↔◌, [], Err, IfOk, IfSome, OnOk};
-ghost use Rattle.std.specs.Io.KnownBytes.{Appends};
+ghost use Rattle.std.specs.Prelude.{◌≡◌, ◌+◌, ◌^◌, ◌<◌, ◌≤◌, ◌↔◌, [], Err, OnOk};
 ghost use Rattle.rope_search.specs.Shows.{closing};
-ghost use Rattle.rope_search.specs.Runs.{Ran, TakesTurn, Closes};
+ghost use Rattle.rope_search.specs.Runs.{AnswersWhole, Ran, TakesTurn, Closes};
 
 use crate::limits::Limits;
 use crate::replies::write_answer;
@@ -23,20 +22,27 @@ pub enum Ended {
     Cut,
 }
 
-/// Reads commands to the input's end and writes their replies, under the default limits.
+/// Reads commands to the input's end and writes their replies, under the default limits. What it
+/// promises is what `run_limited` does.
 pub fn run<R: Source, W: Sink>(
     tick: &mut Lines,
     alloc: Global,
     reader: &mut R,
     writer: &mut W,
 ) -> Result<Ended, Broken>
+    ensures answers { AnswersWhole (2 ^ 30) result (R.state reader.old) (W.state writer.old) (W.state writer.new) tick.old tick.new }
     ensures ran { Ran (2 ^ 30) result (R.state reader.old) (R.state reader.new)
         (W.state writer.old) (W.state writer.new) tick.old tick.new }
+
+    ensures read { (result ≡ Err Broken.Read) ↔ ((R.state reader.old).failures < (R.state reader.new).failures) }
+    ensures write { (result ≡ Err Broken.Write) ↔ ((W.state writer.old).failures < (W.state writer.new).failures) }
+    ensures turns { result ≡ Err Broken.Turns → (R.state reader.old).reads + 2 ^ 62 ≤ (R.state reader.new).reads }
 {
     run_limited(tick, alloc, reader, writer, Limits::default())
 }
 
-/// Reads commands to the input's end and writes their replies, under these limits.
+/// Reads commands to the input's end and writes their replies, each whole before the next command is
+/// carried out, under these limits. It stops at the first read or write that fails.
 pub fn run_limited<R: Source, W: Sink>(
     tick: &mut Lines,
     alloc: Global,
@@ -44,7 +50,31 @@ pub fn run_limited<R: Source, W: Sink>(
     writer: &mut W,
     limits: Limits,
 ) -> Result<Ended, Broken>
+    // Where it ends, what it wrote is an answer to the whole input, however that was cut into reads,
+    // and it made at most the rows of that answer's cost.
+    ensures answers { AnswersWhole limits.text result (R.state reader.old) (W.state writer.old) (W.state writer.new) tick.old tick.new }
+
+    // The same by what was read alone, with what each fault leaves.
     ensures ran { Ran limits.text result (R.state reader.old) (R.state reader.new)
+        (W.state writer.old) (W.state writer.new) tick.old tick.new }
+
+    // A fault comes exactly where the source or the sink counted one.
+    ensures read { (result ≡ Err Broken.Read) ↔ ((R.state reader.old).failures < (R.state reader.new).failures) }
+    ensures write { (result ≡ Err Broken.Write) ↔ ((W.state writer.old).failures < (W.state writer.new).failures) }
+    ensures turns { result ≡ Err Broken.Turns → (R.state reader.old).reads + 2 ^ 62 ≤ (R.state reader.new).reads }
+{
+    run_turns(tick, alloc, reader, writer, limits)
+}
+
+/// The turns of a run, from the first session to the ending.
+fn run_turns<R: Source, W: Sink>(
+    tick: &mut Lines,
+    alloc: Global,
+    reader: &mut R,
+    writer: &mut W,
+    limits: Limits,
+) -> Result<Ended, Broken>
+    ensures { Ran limits.text result (R.state reader.old) (R.state reader.new)
         (W.state writer.old) (W.state writer.new) tick.old tick.new }
 {
     let Ok(mut session) = Session::new(alloc, limits) else {
@@ -53,9 +83,12 @@ pub fn run_limited<R: Source, W: Sink>(
     let mut ahead = ReadAhead::new();
     let mut behind = WriteBehind::new();
     loop {
-        if let Some(ending) = turn(tick, &mut session, &mut ahead, reader, &mut behind, writer)? {
-            close(ending, &mut behind, writer)?;
-            return Ok(ending);
+        match turn(tick, &mut session, &mut ahead, reader, &mut behind, writer)? {
+            None => {}
+            Some(ending) => {
+                close(ending, &mut behind, writer)?;
+                return Ok(ending);
+            }
         }
     }
 }

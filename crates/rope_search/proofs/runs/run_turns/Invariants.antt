@@ -2,7 +2,7 @@
 use Rattle.std.proofs.Common.{◌≡◌, []}
 use Rattle.rope_search_io.specs.ReadAhead.{most_to_come}
 use Rattle.rope_search.specs.Runs.{start, SoFar}
-use Rattle.rope_search.proofs.runs.run_limited.Given as goal
+use Rattle.rope_search.proofs.runs.run_turns.Given as goal
 
 abbrev pub invariant-loop-session : goal.invariant-loop-session
 invariant-loop-session g l =
