@@ -1,5 +1,5 @@
 //! The fixed array in which bytes for a sink are gathered.
-ghost use Rattle.std.specs.Prelude.{◌≡◌, ◌+◌, ◌++◌, ◌≤◌, [], length, MatchResult, OnOk};
+ghost use Rattle.std.specs.Prelude.{◌≡◌, ◌+◌, ◌++◌, ◌≤◌, [], length, MatchResult, OnErr};
 ghost use Rattle.rope_search_io.specs.WriteBehind.{Writes, WritesUntil, Puts, joined};
 
 use crate::faults::{Broken, Failed};
@@ -67,11 +67,12 @@ impl WriteBehind {
 
     #[tactic(auto, using(crate::proofs::Fronts::putting))]
     /// Puts these bytes behind those that wait, and writes what there is no room for. After an error
-    /// the sink took a front of what waited and of these.
+    /// the sink took a front of what waited and of these, and nothing waits.
     pub fn put<W: Sink>(&mut self, sink: &mut W, bytes: &[u8]) -> Result<(), Broken>
-        ensures { MatchResult result
+        ensures written { MatchResult result
             (λ _. Puts self.old self.new (W.state sink.old) (W.state sink.new) bytes.now)
             (λ broken. WritesUntil broken (W.state sink.old) (W.state sink.new) (self.old ++ bytes.now)) }
+        ensures err { OnErr result (self.new ≡ []) }
     {
         if bytes.len() <= WRITE_LEN - self.len {
             self.keep(bytes);
@@ -87,9 +88,9 @@ impl WriteBehind {
     }
 
     #[tactic(auto, using(crate::proofs::Fronts::sending))]
-    /// Writes what waits, and then all of these parts, in order. After an error the sink took a front of that.
+    /// Writes what waits, and then all of these parts, in order. After an error the sink took a front of that, and nothing waits.
     pub fn send_parts<W: Sink>(&mut self, sink: &mut W, parts: &[&[u8]]) -> Result<(), Broken>
-        ensures empty { OnOk result (self.new ≡ []) }
+        ensures empty { self.new ≡ [] }
         ensures written { MatchResult result
             (λ _. Writes (W.state sink.old) (W.state sink.new) (self.old ++ joined parts.now))
             (λ broken. WritesUntil broken (W.state sink.old) (W.state sink.new) (self.old ++ joined parts.now)) }

@@ -1,0 +1,9 @@
+//! Tests of `rope_search` on worked inputs, and with sources and sinks that fail.
+#![tactic(auto)]
+
+#[cfg(test)]
+mod devices;
+#[cfg(test)]
+mod runs;
+#[cfg(test)]
+mod sessions;
