@@ -13,9 +13,10 @@ digits_after-le n (digit ∷ digits) = omega (arith, digits_after-le (10 * n + (
 -- a digit that is there, and fits
 pub Spelling-next : (before digit : ℕ) (digits : List ℕ) (n : ℕ) → IsDigit digit
     → Spelling before (digit ∷ digits) n ↔ Spelling (10 * before + (digit - 48)) digits n
-Spelling-next before digit digits n is =
-    (λ h. record { decimal = h.decimal.1; value = h.value; fits = h.fits },
-     λ h. record { decimal = (is, h.decimal); value = h.value; fits = h.fits })
+Spelling-next before digit digits n is = (
+  λ h. record { decimal = h.decimal.1; value = h.value; fits = h.fits },
+  λ h. record { decimal = (is, h.decimal); value = h.value; fits = h.fits },
+)
 
 -- no digit, or one too many
 pub Spelling-none : (before digit : ℕ) (digits : List ℕ) (n : ℕ) → (IsDigit digit × (10 * before + (digit - 48) < 2 ^ 64) → ⊥)
@@ -43,9 +44,10 @@ pub Spelling-step : (digits : List ℕ) (i value next : ℕ) → i < length digi
     → (n : ℕ) → Spelling 0 digits n ↔ Spelling next (drop (i + 1) digits) n
 Spelling-step digits i value next inside is grown before n =
     let here = rest_at digits i inside in
-    let both = Spelling-next value (get_or digits i 0) (drop (i + 1) digits) n is in
-    (λ h. subst (λ v. Spelling v (drop (i + 1) digits) n) (sym grown) (both.0 (subst (λ ds. Spelling value ds n) here ((before n).0 h))),
-     λ h. (before n).1 (subst (λ ds. Spelling value ds n) (sym here) (both.1 (subst (λ v. Spelling v (drop (i + 1) digits) n) grown h))))
+    let both = Spelling-next value (get_or digits i 0) (drop (i + 1) digits) n is in (
+      λ h. subst (λ v. Spelling v (drop (i + 1) digits) n) (sym grown) (both.0 (subst (λ ds. Spelling value ds n) here ((before n).0 h))),
+      λ h. (before n).1 (subst (λ ds. Spelling value ds n) (sym here) (both.1 (subst (λ v. Spelling v (drop (i + 1) digits) n) grown h))),
+    )
 
 -- a number whose next digit is none, or makes it too large
 pub Spelling-stop : (digits : List ℕ) (i value : ℕ) → i < length digits

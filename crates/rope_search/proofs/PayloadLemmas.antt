@@ -12,11 +12,14 @@ Collects-judged limit len judge long fresh = (long, λ more. ((fresh more).1, (f
 -- more bytes are judged
 pub CollectsMore-judged : (old new : Judging) (bytes : List ℕ) → ((more : List ℕ) → Continues old (bytes ++ more) ↔ Continues new more)
     → CollectsMore (Judged old) (Judged new) bytes
-CollectsMore-judged old new bytes fed limit len before h =
-    (h.0, λ more.
-        let same = append_assoc before bytes more in
-        (λ text. (fed more).0 ((h.1 (bytes ++ more)).0 (subst IsUtf8 same text)),
-         λ judged. subst IsUtf8 (sym same) ((h.1 (bytes ++ more)).1 ((fed more).1 judged))))
+CollectsMore-judged old new bytes fed limit len before h = (
+  h.0,
+  λ more.
+      let same = append_assoc before bytes more in (
+        λ text. (fed more).0 ((h.1 (bytes ++ more)).0 (subst IsUtf8 same text)),
+        λ judged. subst IsUtf8 (sym same) ((h.1 (bytes ++ more)).1 ((fed more).1 judged)),
+      ),
+)
 
 -- all bytes were judged
 pub judged_payload : (limit : ℕ) (bytes : List ℕ) (judge : Judging) (utf8 : Bool) → (IsTrue utf8 ↔ Continues judge [])

@@ -22,21 +22,21 @@ use Rattle.rope_search.proofs.TakesLemmas.{Takes-nil, Takes-trans, TakesLast-aft
 pub TakesRest-whole : (limit len : ℕ) (kept kept' : Collected) (old new : Ahead) (s t : SourceState) → Collects limit len kept []
     → TakesPayload (Ok true) len kept kept' old new s t → TakesRestOf limit (Text len) (asked.Text kept') old new s t
 TakesRest-whole limit len kept kept' old new s t fresh h = record {
-    order = SetText h.0;
-    of_header = h.1;
-    is = subst (λ n. Collects limit n kept' h.0) (sym h.1) (h.2 limit len [] fresh);
-    taken = h.3;
-  }
+  order = SetText h.0;
+  of_header = h.1;
+  is = subst (λ n. Collects limit n kept' h.0) (sym h.1) (h.2 limit len [] fresh);
+  taken = h.3;
+}
 
 -- a payload that was read in part
 part_of : (len : ℕ) (Taken : List ℕ → Type 0) (bytes : List ℕ) → length bytes < len → Taken bytes → TakesPartOf (Text len) Taken
 part_of len Taken bytes short taken = record {
-    order = SetText (replicate len 0);
-    of_header = length-replicate {A = ℕ} len 0;
-    part = bytes;
-    short = omega (arith, length-replicate {A = ℕ} len 0);
-    taken = taken;
-  }
+  order = SetText (replicate len 0);
+  of_header = length-replicate {A = ℕ} len 0;
+  part = bytes;
+  short = omega (arith, length-replicate {A = ℕ} len 0);
+  taken = taken;
+}
 
 pub TakesRest-cut : (len : ℕ) (kept kept' : Collected) (old new : Ahead) (s t : SourceState)
     → TakesPayload (Ok false) len kept kept' old new s t → TakesPartOf (Text len) (TakesLast old new s t)
@@ -58,21 +58,21 @@ line_then line rest = append_assoc line (10 ∷ []) rest
 pub TakesRequest-after : (limit : ℕ) (header : Header) (line : List ℕ) (r : Result Request Broken) (a b c : Ahead) (s t u : SourceState)
     → ((o : Order) → IsLine o line ↔ IsHeaderOf header o) → Takes a b s t (line ++ 10 ∷ []) → TakesRest limit header r b c t u → TakesRequest limit r a c s u
 TakesRequest-after limit header line (Ok (Given asked)) a b c s t u told p q = record {
-    order = q.order;
-    bytes = (line ++ 10 ∷ []) ++ payload_of q.order;
-    spells = record { line = line; is_line = (told q.order).1 q.of_header; whole = line_then line (payload_of q.order) };
-    is = q.is;
-    taken = Takes-trans a b c s t u (line ++ 10 ∷ []) (payload_of q.order) p q.taken;
-  }
+  order = q.order;
+  bytes = (line ++ 10 ∷ []) ++ payload_of q.order;
+  spells = record { line = line; is_line = (told q.order).1 q.of_header; whole = line_then line (payload_of q.order) };
+  is = q.is;
+  taken = Takes-trans a b c s t u (line ++ 10 ∷ []) (payload_of q.order) p q.taken;
+}
 TakesRequest-after limit header line (Ok (End Cut)) a b c s t u told p q = record {
-    rest = (line ++ 10 ∷ []) ++ q.part;
-    ends = inr (record { order = q.order; line = line; part = q.part; is_line = (told q.order).1 q.of_header; whole = line_then line q.part; short = q.short });
-    taken = TakesLast-after a b c s t u (line ++ 10 ∷ []) q.part p q.taken;
-  }
+  rest = (line ++ 10 ∷ []) ++ q.part;
+  ends = inr (record { order = q.order; line = line; part = q.part; is_line = (told q.order).1 q.of_header; whole = line_then line q.part; short = q.short });
+  taken = TakesLast-after a b c s t u (line ++ 10 ∷ []) q.part p q.taken;
+}
 TakesRequest-after limit header line (Ok (End Input)) a b c s t u told p q = absurd q
 TakesRequest-after limit header line (Ok (End Command)) a b c s t u told p q = absurd q
 TakesRequest-after limit header line (Err broken) a b c s t u told p q = record {
-    rest = (line ++ 10 ∷ []) ++ q.part;
-    unfinished = inr (inr (record { order = q.order; line = line; part = q.part; is_line = (told q.order).1 q.of_header; whole = line_then line q.part; short = q.short }));
-    taken = TakesUntil-after broken a b c s t u (line ++ 10 ∷ []) q.part p q.taken;
-  }
+  rest = (line ++ 10 ∷ []) ++ q.part;
+  unfinished = inr (inr (record { order = q.order; line = line; part = q.part; is_line = (told q.order).1 q.of_header; whole = line_then line q.part; short = q.short }));
+  taken = TakesUntil-after broken a b c s t u (line ++ 10 ∷ []) q.part p q.taken;
+}

@@ -42,37 +42,37 @@ nothing_ahead rest back none = sym (append-nil rest) ∙ ap (λ l. rest ++ l) (s
 left_by : (limit : ℕ) (ending : Ended) (source : SourceState) (sink : SinkState) (ticks : Ticks) (mid new : Scene)
     → SoFar limit (start source sink ticks) mid → TakesEnding ending mid.ahead new.ahead mid.source new.source → Left ending source mid new
 left_by limit Command source sink ticks mid new so end = record {
-    rest = end.rest;
-    ends = Ends-more end.rest new.ahead.bytes end.ends;
-    consumed = end.taken.consumed;
-    sound = end.taken.sound;
-    told = tt;
-  }
+  rest = end.rest;
+  ends = Ends-more end.rest new.ahead.bytes end.ends;
+  consumed = end.taken.consumed;
+  sound = end.taken.sound;
+  told = tt;
+}
 left_by limit Input source sink ticks mid new so end = record {
-    rest = end.rest;
-    ends = subst (λ l. Ends l Input) (nothing_ahead end.rest new.ahead.bytes end.taken.empty) end.ends;
-    consumed = end.taken.consumed;
-    sound = end.taken.sound;
-    told = (omega (arith, end.taken.told, so.taken.open_end), end.taken.at_end);
-  }
+  rest = end.rest;
+  ends = subst (λ l. Ends l Input) (nothing_ahead end.rest new.ahead.bytes end.taken.empty) end.ends;
+  consumed = end.taken.consumed;
+  sound = end.taken.sound;
+  told = (omega (arith, end.taken.told, so.taken.open_end), end.taken.at_end);
+}
 left_by limit Cut source sink ticks mid new so end = record {
-    rest = end.rest;
-    ends = subst (λ l. Ends l Cut) (nothing_ahead end.rest new.ahead.bytes end.taken.empty) end.ends;
-    consumed = end.taken.consumed;
-    sound = end.taken.sound;
-    told = (omega (arith, end.taken.told, so.taken.open_end), end.taken.at_end);
-  }
+  rest = end.rest;
+  ends = subst (λ l. Ends l Cut) (nothing_ahead end.rest new.ahead.bytes end.taken.empty) end.ends;
+  consumed = end.taken.consumed;
+  sound = end.taken.sound;
+  told = (omega (arith, end.taken.told, so.taken.open_end), end.taken.at_end);
+}
 
 -- all bytes that were read are the commands so far and what is left
 reads_left : (limit : ℕ) (ending : Ended) (source : SourceState) (sink : SinkState) (ticks : Ticks) (mid new : Scene)
     (so : SoFar limit (start source sink ticks) mid) (left : Left ending source mid new) → Reads ((so.bytes ++ left.rest) ++ new.ahead.bytes) so.orders ending
 reads_left limit ending source sink ticks mid new so left = record {
-    spelled = so.bytes;
-    rest = left.rest ++ new.ahead.bytes;
-    spells = so.spells;
-    ends = left.ends;
-    whole = append_assoc so.bytes left.rest new.ahead.bytes;
-  }
+  spelled = so.bytes;
+  rest = left.rest ++ new.ahead.bytes;
+  spells = so.spells;
+  ends = left.ends;
+  whole = append_assoc so.bytes left.rest new.ahead.bytes;
+}
 
 consumed_left : (limit : ℕ) (source : SourceState) (sink : SinkState) (ticks : Ticks) (mid new : Scene) (so : SoFar limit (start source sink ticks) mid) (rest : List ℕ)
     → Consumes (to_come mid.ahead mid.source) (to_come new.ahead new.source) rest → Consumes source.left new.source.left ((so.bytes ++ rest) ++ new.ahead.bytes)
@@ -91,7 +91,7 @@ Ran-answered limit ending source sink sink' ticks mid new so end only closed =
       cost = so.cost;
       read = consumed_left limit source sink ticks mid new so left.rest left.consumed;
       written = Appends-trans sink.held mid.sink.held sink'.held so.out (closing ending) so.written.appended
-        (subst (λ (s : SinkState). Appends s.held sink'.held (closing ending)) only.sink closed.appended);
+          (subst (λ (s : SinkState). Appends s.held sink'.held (closing ending)) only.sink closed.appended);
       answers = record { orders = so.orders; replies = so.out; last = mid.session; reads = reads_left limit ending source sink ticks mid new so left; run = so.run; shown = refl };
       told = left.told;
       counted = omega (arith, so.counted, ap (λ (t : Ticks). t.count) only.ticks);
@@ -118,7 +118,7 @@ unclosed limit ending source sink sink' ticks mid new so end only closed =
       lost = closed.lost;
       read = consumed_left limit source sink ticks mid new so left.rest left.consumed;
       written = Appends-trans sink.held mid.sink.held sink'.held so.out closed.front so.written.appended
-        (subst (λ (s : SinkState). Appends s.held sink'.held closed.front) only.sink closed.appended);
+          (subst (λ (s : SinkState). Appends s.held sink'.held closed.front) only.sink closed.appended);
       reads = reads_left limit ending source sink ticks mid new so left;
       run = so.run;
       met = inr (refl, left.told);
@@ -164,12 +164,12 @@ stopped limit broken source sink ticks mid new so only rest unfinished consumed 
       read = consumed_left limit source sink ticks mid new so rest consumed;
       written = subst (λ (s : SinkState). Appends sink.held s.held so.out) (sym only.sink) so.written.appended;
       reads = record {
-          spelled = so.bytes;
-          rest = rest;
-          spells = so.spells;
-          ends = how.ends;
-          whole = sym (nothing_ahead (so.bytes ++ rest) new.ahead.bytes none);
-        };
+        spelled = so.bytes;
+        rest = rest;
+        spells = so.spells;
+        ends = how.ends;
+        whole = sym (nothing_ahead (so.bytes ++ rest) new.ahead.bytes none);
+      };
       unfinished = how.unmet;
       run = so.run;
       counted = omega (arith, so.counted, ap (λ (t : Ticks). t.count) only.ticks);
@@ -206,7 +206,7 @@ cut_short limit source sink ticks mid new so turned =
       run = Run-append limit first new.session later.2 orders ahead.0 (so.out ++ shown) later.0 (so.cost + turned.cost) later.1 run later.3;
       met = inl refl;
       front = append-nil ((so.out ++ shown) ++ later.0) ∙ ap (λ l. (so.out ++ l) ++ later.0) turned.written.split
-        ∙ ap (λ l. l ++ later.0) (sym (append_assoc so.out turned.written.front turned.written.lost)) ∙ append_assoc (so.out ++ turned.written.front) turned.written.lost later.0;
+          ∙ ap (λ l. l ++ later.0) (sym (append_assoc so.out turned.written.front turned.written.lost)) ∙ append_assoc (so.out ++ turned.written.front) turned.written.lost later.0;
       counted = omega (arith, so.counted, turned.counted);
       read_soundly = turned.taken.sound ∙ so.taken.sound;
       failed = turned.written.failed ∙ ap (λ n. n + 1) so.written.sound;

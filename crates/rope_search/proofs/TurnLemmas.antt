@@ -58,35 +58,35 @@ Writes-nil s = record { appended = Appends-nil s.held; sound = refl; flushed = r
 
 pub Writes-then : (a b c : SinkState) (xs ys : List ℕ) → Writes a b xs → Writes b c ys → Writes a c (xs ++ ys)
 Writes-then a b c xs ys first second = record {
-    appended = Appends-trans a.held b.held c.held xs ys first.appended second.appended;
-    sound = omega (arith, first.sound, second.sound);
-    flushed = omega (arith, first.flushed, second.flushed);
-  }
+  appended = Appends-trans a.held b.held c.held xs ys first.appended second.appended;
+  sound = omega (arith, first.sound, second.sound);
+  flushed = omega (arith, first.flushed, second.flushed);
+}
 
 -- no turn yet
 pub SoFar-none : (limit : ℕ) (scene : Scene) → SoFar limit scene scene
 SoFar-none limit scene = record {
-    orders = [];
-    bytes = [];
-    out = [];
-    cost = 0;
-    spells = refl;
-    taken = Takes-nil scene.ahead scene.source;
-    run = Run-nil limit scene.session;
-    written = Writes-nil scene.sink;
-    counted = omega arith;
-  }
+  orders = [];
+  bytes = [];
+  out = [];
+  cost = 0;
+  spells = refl;
+  taken = Takes-nil scene.ahead scene.source;
+  run = Run-nil limit scene.session;
+  written = Writes-nil scene.sink;
+  counted = omega arith;
+}
 
 -- one more turn
 pub SoFar-push : (limit : ℕ) (old mid new : Scene) → SoFar limit old mid → Turned limit mid new (Writes mid.sink new.sink) → SoFar limit old new
 SoFar-push limit old mid new so turned = record {
-    orders = so.orders ++ turned.order ∷ [];
-    bytes = so.bytes ++ turned.bytes;
-    out = so.out ++ shows new.session turned.answer;
-    cost = so.cost + turned.cost;
-    spells = SpellAll-append so.orders (turned.order ∷ []) so.bytes turned.bytes so.spells (SpellAll-one turned.order turned.bytes turned.spells);
-    taken = Takes-trans old.ahead mid.ahead new.ahead old.source mid.source new.source so.bytes turned.bytes so.taken turned.taken;
-    run = Run-push limit old.session mid.session new.session so.orders turned.order so.out so.cost turned.cost turned.answer so.run turned.step turned.costs;
-    written = Writes-then old.sink mid.sink new.sink so.out (shows new.session turned.answer) so.written turned.written;
-    counted = omega (arith, so.counted, turned.counted);
-  }
+  orders = so.orders ++ turned.order ∷ [];
+  bytes = so.bytes ++ turned.bytes;
+  out = so.out ++ shows new.session turned.answer;
+  cost = so.cost + turned.cost;
+  spells = SpellAll-append so.orders (turned.order ∷ []) so.bytes turned.bytes so.spells (SpellAll-one turned.order turned.bytes turned.spells);
+  taken = Takes-trans old.ahead mid.ahead new.ahead old.source mid.source new.source so.bytes turned.bytes so.taken turned.taken;
+  run = Run-push limit old.session mid.session new.session so.orders turned.order so.out so.cost turned.cost turned.answer so.run turned.step turned.costs;
+  written = Writes-then old.sink mid.sink new.sink so.out (shows new.session turned.answer) so.written turned.written;
+  counted = omega (arith, so.counted, turned.counted);
+}

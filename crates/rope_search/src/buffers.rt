@@ -28,8 +28,8 @@ impl Model for Buffer {
 }
 
 impl Buffer {
-    #[tactic(auto, using(crate::proofs::TextLemmas::text_laws))]
     /// A buffer with the empty text and no pattern. It may be refused with `Fault::Memory` alone.
+    #[tactic(auto, using(crate::proofs::TextLemmas::text_laws))]
     pub fn new(alloc: Global, limits: Limits) -> Result<Buffer, Fault>
         ensures ok { IfOk result (λ buffer. buffer ≡ record { limit = limits.text; state = fresh [] }) }
         ensures err { IfErr result (λ fault. fault ≡ Fault.Memory) }
@@ -41,8 +41,8 @@ impl Buffer {
         })
     }
 
-    #[tactic(auto, using(crate::proofs::TextLemmas::text_laws))]
     /// The current text.
+    #[tactic(auto, using(crate::proofs::TextLemmas::text_laws))]
     pub fn text(&self) -> &str
         ensures { result.now ≡ bytes_of (current_text self.now.state) }
     {

@@ -62,7 +62,11 @@ fn after_word<'a>(line: &'a [u8], word: &[u8]) -> Option<&'a [u8]>
         return None;
     }
     let (front, rest) = line.split_at(word.len());
-    if is_word(front, word) { Some(rest) } else { None }
+    if is_word(front, word) {
+        Some(rest)
+    } else {
+        None
+    }
 }
 
 /// The number that these bytes spell: 1 to 20 decimal digits, at most `u64::MAX`.

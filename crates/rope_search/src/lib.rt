@@ -1,11 +1,10 @@
 //! A regular expression kept live over a text that is edited, undone and forked: commands in, replies out.
 #![tactic(auto)]
 
-pub mod laws;
-
 mod buffers;
 mod commands;
 mod headers;
+pub mod laws;
 mod limits;
 mod lines;
 mod payloads;
@@ -18,9 +17,7 @@ mod sessions;
 pub use buffers::Buffer;
 pub use commands::{Command, Payload, Reply};
 pub use limits::Limits;
-pub use rope_search_io::{
-    Broken, Device, Failed, Fault, MemorySink, MemorySource, Sink, Source,
-};
+pub use rope_search_io::{Broken, Device, Failed, Fault, MemorySink, MemorySource, Sink, Source};
 pub use rows::Lines;
 pub use runs::{Ended, run, run_limited};
 pub use sessions::Session;

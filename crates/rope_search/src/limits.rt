@@ -16,8 +16,6 @@ impl Default for Limits {
     ghost is_default = { λ limits. limits.text ≡ 2 ^ 30 };
 
     fn default() -> Limits {
-        Limits {
-            text: 1 << 30,
-        }
+        Limits { text: 1 << 30 }
     }
 }

@@ -29,16 +29,12 @@ impl Model for Session {
 
     ghost Value = { LimitedSession };
 
-    ghost view = {
-        λ s. record {
-            limit = s.limits.text;
-            state = record { buffers = map (λ (b : LimitedBuffer). b.state) s.buffers.items; chosen = s.chosen };
-        }
-    };
+    ghost view = { λ s. record {
+      limit = s.limits.text;
+      state = record { buffers = map (λ (b : LimitedBuffer). b.state) s.buffers.items; chosen = s.chosen };
+    } };
 
-    ghost invariant = {
-        λ s. (s.chosen < vec_len s.buffers) × All (λ (b : LimitedBuffer). b.limit ≡ s.limits.text) s.buffers.items
-    };
+    ghost invariant = { λ s. (s.chosen < vec_len s.buffers) × All (λ (b : LimitedBuffer). b.limit ≡ s.limits.text) s.buffers.items };
 }
 
 impl Session {
@@ -83,7 +79,9 @@ impl Session {
     pub fn choose(&mut self, number: u64) -> Result<(), Fault>
         ensures found { IsOk result ↔ (number < length self.old.state.buffers) }
         ensures ok { OnOk result (self.new ≡ record {
-            limit = self.old.limit; state = record self.old.state { chosen = number } }) }
+          limit = self.old.limit;
+          state = record self.old.state { chosen = number };
+        }) }
         ensures fault { IfErr result (λ fault. fault ≡ Fault.Nothing) }
         ensures err { OnErr result (self.new ≡ self.old) }
     {
@@ -99,9 +97,11 @@ impl Session {
     pub fn fork(&mut self) -> Result<usize, Fault>
         ensures number { IfOk result (λ number. number ≡ length self.old.state.buffers) }
         ensures ok { OnOk result (self.new ≡ record {
-            limit = self.old.limit;
-            state = record self.old.state {
-                buffers = self.old.state.buffers ++ fresh (current_text (chosen_buffer self.old.state)) ∷ [] } }) }
+          limit = self.old.limit;
+          state = record self.old.state {
+            buffers = self.old.state.buffers ++ fresh (current_text (chosen_buffer self.old.state)) ∷ [];
+          };
+        }) }
         ensures fault { IfErr result (λ fault. fault ≡ Fault.Memory) }
         ensures err { OnErr result (self.new ≡ self.old) }
     {

@@ -17,32 +17,32 @@ Writes-nil s = record { appended = Appends-nil s.held; sound = refl; flushed = r
 
 pub Writes-trans : (a b c : SinkState) (xs ys : List ℕ) → Writes a b xs → Writes b c ys → Writes a c (xs ++ ys)
 Writes-trans a b c xs ys first second = record {
-    appended = Appends-trans a.held b.held c.held xs ys first.appended second.appended;
-    sound = omega arith;
-    flushed = omega arith;
-  }
+  appended = Appends-trans a.held b.held c.held xs ys first.appended second.appended;
+  sound = omega arith;
+  flushed = omega arith;
+}
 
 -- the first bytes were written, and the next in part
 pub WritesFront-after : (a b c : SinkState) (xs ys : List ℕ) → Writes a b xs → WritesFront b c ys → WritesFront a c (xs ++ ys)
 WritesFront-after a b c xs ys first second = record {
-    front = xs ++ second.front;
-    lost = second.lost;
-    split = ap (λ l. xs ++ l) second.split ∙ sym (append_assoc xs second.front second.lost);
-    appended = Appends-trans a.held b.held c.held xs second.front first.appended second.appended;
-    failed = omega arith;
-    flushed = omega arith;
-  }
+  front = xs ++ second.front;
+  lost = second.lost;
+  split = ap (λ l. xs ++ l) second.split ∙ sym (append_assoc xs second.front second.lost);
+  appended = Appends-trans a.held b.held c.held xs second.front first.appended second.appended;
+  failed = omega arith;
+  flushed = omega arith;
+}
 
 -- what was to follow isn't written either
 pub WritesFront-more : (a b : SinkState) (xs ys : List ℕ) → WritesFront a b xs → WritesFront a b (xs ++ ys)
 WritesFront-more a b xs ys part = record {
-    front = part.front;
-    lost = part.lost ++ ys;
-    split = ap (λ l. l ++ ys) part.split ∙ append_assoc part.front part.lost ys;
-    appended = part.appended;
-    failed = part.failed;
-    flushed = part.flushed;
-  }
+  front = part.front;
+  lost = part.lost ++ ys;
+  split = ap (λ l. l ++ ys) part.split ∙ append_assoc part.front part.lost ys;
+  appended = part.appended;
+  failed = part.failed;
+  flushed = part.flushed;
+}
 
 -- ---- one more call of `write`, for what follows the bytes that were written
 
@@ -56,13 +56,13 @@ Writes-step a b c bytes done n before appended sound flushed =
 pub WritesFront-step : (a b c : SinkState) (bytes : List ℕ) (done : ℕ) → Writes a b (take done bytes)
     → Keeps b.held c.held → c.failures ≡ b.failures + 1 → c.flushes ≡ b.flushes → WritesFront a c bytes
 WritesFront-step a b c bytes done before kept failed flushed = record {
-    front = take done bytes;
-    lost = drop done bytes;
-    split = sym (take-append-drop done bytes);
-    appended = Appends-kept a.held b.held c.held (take done bytes) before.appended kept;
-    failed = omega arith;
-    flushed = omega arith;
-  }
+  front = take done bytes;
+  lost = drop done bytes;
+  split = sym (take-append-drop done bytes);
+  appended = Appends-kept a.held b.held c.held (take done bytes) before.appended kept;
+  failed = omega arith;
+  flushed = omega arith;
+}
 
 -- ---- for `put`
 
@@ -93,7 +93,7 @@ Puts-more parts i d old mid new a b c inside p q =
     record {
       sent = p.sent ++ q.sent;
       split = ap (λ l. old ++ l) (joined-more parts i d inside) ∙ sym (append_assoc old (joined (take i parts)) part) ∙ ap (λ l. l ++ part) p.split
-      ∙ append_assoc p.sent mid part ∙ ap (λ l. p.sent ++ l) q.split ∙ sym (append_assoc p.sent q.sent new);
+          ∙ append_assoc p.sent mid part ∙ ap (λ l. p.sent ++ l) q.split ∙ sym (append_assoc p.sent q.sent new);
       written = Writes-trans a b c p.sent q.sent p.written q.written;
     }
 

@@ -11,8 +11,9 @@ use Rattle.rope_search_io.specs.Utf8Judge.{width_of, Judging, Continues}
 -- two fronts of one length are the same front
 pub fronts_same : (a b x y : List ℕ) → length a ≡ length b → a ++ x ≡ b ++ y → (a ≡ b) × (x ≡ y)
 fronts_same a b x y same whole = (
-    sym (take-append_seam a x) ∙ ap (take (length a)) whole ∙ ap (λ n. take n (b ++ y)) same ∙ take-append_seam b y,
-    sym (drop-append_seam a x) ∙ ap (drop (length a)) whole ∙ ap (λ n. drop n (b ++ y)) same ∙ drop-append_seam b y)
+  sym (take-append_seam a x) ∙ ap (take (length a)) whole ∙ ap (λ n. take n (b ++ y)) same ∙ take-append_seam b y,
+  sym (drop-append_seam a x) ∙ ap (drop (length a)) whole ∙ ap (λ n. drop n (b ++ y)) same ∙ drop-append_seam b y,
+)
 
 both_true : (x y : Bool) → x && y ≡ true → (x ≡ true) × (y ≡ true)
 both_true true y h = (refl, h)
@@ -86,9 +87,10 @@ pub Continues-closed : (part : List ℕ) (byte : ℕ) (text : Bool) (more : List
 Continues-closed part byte text more width judged =
     let whole = part ++ byte ∷ [] in
     let same : part ++ byte ∷ more ≡ whole ++ more = sym (append_assoc part (byte ∷ []) more) in
-    let some : 0 < length whole = omega (arith, length-append part (byte ∷ [])) in
-    (λ h. let halves = IsUtf8-split whole more some width (subst IsUtf8 same h.1) in (not-IsTrue text (judged.1 halves.0), halves.1),
-     λ h. (refl, subst IsUtf8 (sym same) (IsUtf8-append whole more (judged.0 (IsTrue-not text h.0)) h.1)))
+    let some : 0 < length whole = omega (arith, length-append part (byte ∷ [])) in (
+      λ h. let halves = IsUtf8-split whole more some width (subst IsUtf8 same h.1) in (not-IsTrue text (judged.1 halves.0), halves.1),
+      λ h. (refl, subst IsUtf8 (sym same) (IsUtf8-append whole more (judged.0 (IsTrue-not text h.0)) h.1)),
+    )
 
 -- no byte helps once some can stand in no text
 pub Continues-dead : (part more xs : List ℕ) (byte : ℕ) → Continues (record { part = part; dead = true }) (byte ∷ xs) ↔ Continues (record { part = part; dead = true }) more
@@ -123,9 +125,10 @@ Continues-end bytes (suc n) room few =
     let part = take (suc n) bytes in
     let size : length part ≡ suc n = omega (arith, length-take (suc n) bytes) in
     let first : get_or part 0 0 ≡ get_or bytes 0 0 = same_first bytes (suc n) (omega arith) in
-    let short : length part < width_of (get_or part 0 0) = omega (arith, ap width_of first, few (omega arith)) in
-    (λ h. absurd (grind (arith, nat_tests)),
-     λ h. absurd (IsUtf8-part part (omega arith) short (subst IsUtf8 (append-nil part) h.1)))
+    let short : length part < width_of (get_or part 0 0) = omega (arith, ap width_of first, few (omega arith)) in (
+      λ h. absurd (grind (arith, nat_tests)),
+      λ h. absurd (IsUtf8-part part (omega arith) short (subst IsUtf8 (append-nil part) h.1)),
+    )
 
 -- a text, where no character is under way
 pub Continues-past : (dead : Bool) (front more : List ℕ) → IsUtf8 front
@@ -140,9 +143,10 @@ pub Continues-more : (old mid new : Judging) (bytes : List ℕ) (k byte : ℕ) �
     → (more : List ℕ) → Continues old (bytes ++ more) ↔ Continues new (drop (k + 1) bytes ++ more)
 Continues-more old mid new bytes k byte inside is before step more =
     let next : drop k bytes ++ more ≡ byte ∷ (drop (k + 1) bytes ++ more) =
-    ap (λ l. l ++ more) (drop-cons bytes k 0 inside ∙ ap (λ b. b ∷ drop (suc k) bytes) (sym is)) ∙ ap (λ n. byte ∷ (drop n bytes ++ more)) (sym (add-one k)) in
-    (λ h. (step (drop (k + 1) bytes ++ more)).0 (subst (Continues mid) next ((before more).0 h)),
-     λ h. (before more).1 (subst (Continues mid) (sym next) ((step (drop (k + 1) bytes ++ more)).1 h)))
+    ap (λ l. l ++ more) (drop-cons bytes k 0 inside ∙ ap (λ b. b ∷ drop (suc k) bytes) (sym is)) ∙ ap (λ n. byte ∷ (drop n bytes ++ more)) (sym (add-one k)) in (
+      λ h. (step (drop (k + 1) bytes ++ more)).0 (subst (Continues mid) next ((before more).0 h)),
+      λ h. (before more).1 (subst (Continues mid) (sym next) ((step (drop (k + 1) bytes ++ more)).1 h)),
+    )
 
 -- a front and what follows it, one after the other
 pub Continues-two : (old mid new : Judging) (front back bytes : List ℕ) → front ++ back ≡ bytes
@@ -150,6 +154,7 @@ pub Continues-two : (old mid new : Judging) (front back bytes : List ℕ) → fr
     → ((more : List ℕ) → Continues mid (back ++ more) ↔ Continues new more)
     → (more : List ℕ) → Continues old (bytes ++ more) ↔ Continues new more
 Continues-two old mid new front back bytes whole first second more =
-    let parts : front ++ (back ++ more) ≡ bytes ++ more = sym (append_assoc front back more) ∙ ap (λ l. l ++ more) whole in
-    (λ h. (second more).0 ((first (back ++ more)).0 (subst (Continues old) (sym parts) h)),
-     λ h. subst (Continues old) parts ((first (back ++ more)).1 ((second more).1 h)))
+    let parts : front ++ (back ++ more) ≡ bytes ++ more = sym (append_assoc front back more) ∙ ap (λ l. l ++ more) whole in (
+      λ h. (second more).0 ((first (back ++ more)).0 (subst (Continues old) (sym parts) h)),
+      λ h. subst (Continues old) parts ((first (back ++ more)).1 ((second more).1 h)),
+    )

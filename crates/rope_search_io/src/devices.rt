@@ -43,9 +43,7 @@ impl<D> Device<D> {
 }
 
 impl<D: Read> Source for Device<D> {
-    ghost state = {
-        λ d. record { left = D.remaining d.inner; reads = d.reads; failures = d.failures; ends = d.ends }
-    };
+    ghost state = { λ d. record { left = D.remaining d.inner; reads = d.reads; failures = d.failures; ends = d.ends } };
 
     fn read(&mut self, buf: &mut [u8]) -> Result<usize, Failed> {
         self.reads.add();
@@ -65,9 +63,7 @@ impl<D: Read> Source for Device<D> {
 }
 
 impl<D: Write> Sink for Device<D> {
-    ghost state = {
-        λ d. record { held = D.contents d.inner; writes = d.writes; flushes = d.flushes; failures = d.failures }
-    };
+    ghost state = { λ d. record { held = D.contents d.inner; writes = d.writes; flushes = d.flushes; failures = d.failures } };
 
     fn write(&mut self, bytes: &[u8]) -> Result<usize, Failed> {
         self.writes.add();

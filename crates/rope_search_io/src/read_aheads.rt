@@ -66,8 +66,8 @@ impl ReadAhead {
     pub fn fill<R: Source>(&mut self, source: &mut R) -> Result<bool, Broken>
         ensures taken { MatchResult result
             (λ more. MatchBool more
-                (Takes self.old self.new (R.state source.old) (R.state source.new) [])
-                (TakesLast self.old self.new (R.state source.old) (R.state source.new) []))
+            (Takes self.old self.new (R.state source.old) (R.state source.new) [])
+            (TakesLast self.old self.new (R.state source.old) (R.state source.new) []))
             (λ broken. TakesUntil broken self.old self.new (R.state source.old) (R.state source.new) []) }
         ensures some { MatchResult result (λ more. MatchBool more (0 < length self.new.bytes) (self.new.bytes ≡ [])) (λ _. self.new.bytes ≡ []) }
     {
@@ -92,8 +92,8 @@ impl ReadAhead {
     pub fn next_byte<R: Source>(&mut self, source: &mut R) -> Result<Option<u8>, Broken>
         ensures taken { MatchResult result
             (λ byte. MatchOption byte
-                (TakesLast self.old self.new (R.state source.old) (R.state source.new) [])
-                (λ b. Takes self.old self.new (R.state source.old) (R.state source.new) (b ∷ [])))
+            (TakesLast self.old self.new (R.state source.old) (R.state source.new) [])
+            (λ b. Takes self.old self.new (R.state source.old) (R.state source.new) (b ∷ [])))
             (λ broken. TakesUntil broken self.old self.new (R.state source.old) (R.state source.new) []) }
     {
         if !self.fill(source)? {

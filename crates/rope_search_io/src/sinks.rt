@@ -51,17 +51,15 @@ impl Model for MemorySink {
 
     ghost Value = { Writing };
 
-    ghost view = {
-        λ s. record {
-            held = s.bytes.items;
-            room = s.room;
-            step = s.step;
-            fuse = s.fuse;
-            writes = s.writes;
-            flushes = s.flushes;
-            failures = s.failures;
-        }
-    };
+    ghost view = { λ s. record {
+      held = s.bytes.items;
+      room = s.room;
+      step = s.step;
+      fuse = s.fuse;
+      writes = s.writes;
+      flushes = s.flushes;
+      failures = s.failures;
+    } };
 
     ghost invariant = { λ s. (1 ≤ s.step) × (vec_len s.bytes ≤ s.room) × (s.room ≤ vec_capacity s.bytes) };
 }
@@ -72,10 +70,22 @@ impl MemorySink {
     /// A sink with room for `room` bytes, which takes `step` of them at most in a call. The call of
     /// the number `fail` fails, counted from 1, a `flush` too; and a `write` of some bytes fails where
     /// the room is full. It is refused with `Fault::Memory` alone.
-    pub fn new(alloc: Global, room: usize, step: usize, fail: Option<u64>) -> Result<MemorySink, Fault>
+    pub fn new(
+        alloc: Global,
+        room: usize,
+        step: usize,
+        fail: Option<u64>,
+    ) -> Result<MemorySink, Fault>
         requires { 1 ≤ step }
         ensures ok { IfOk result (λ sink. sink ≡ record {
-            held = []; room = room; step = step; fuse = fail; writes = 0; flushes = 0; failures = 0 }) }
+          held = [];
+          room = room;
+          step = step;
+          fuse = fail;
+          writes = 0;
+          flushes = 0;
+          failures = 0;
+        }) }
         ensures err { IfErr result (λ fault. fault ≡ Fault.Memory) }
     {
         let Ok(bytes) = Vec::with_capacity(alloc, room) else {
@@ -101,9 +111,7 @@ impl MemorySink {
 }
 
 impl Sink for MemorySink {
-    ghost state = {
-        λ s. record { held = Some s.held; writes = s.writes; flushes = s.flushes; failures = s.failures }
-    };
+    ghost state = { λ s. record { held = Some s.held; writes = s.writes; flushes = s.flushes; failures = s.failures } };
 
     fn write(&mut self, bytes: &[u8]) -> Result<usize, Failed>
         ensures bound { WritesAtMost result bytes.now }

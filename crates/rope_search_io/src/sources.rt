@@ -41,16 +41,14 @@ impl<'a> Model for MemorySource<'a> {
 
     ghost Value = { Reading };
 
-    ghost view = {
-        λ s. record {
-            left = s.bytes.now;
-            step = s.step;
-            fuse = s.fuse;
-            reads = s.reads;
-            failures = s.failures;
-            ends = s.ends;
-        }
-    };
+    ghost view = { λ s. record {
+      left = s.bytes.now;
+      step = s.step;
+      fuse = s.fuse;
+      reads = s.reads;
+      failures = s.failures;
+      ends = s.ends;
+    } };
 
     ghost invariant = { λ s. 1 ≤ s.step };
 }
@@ -63,7 +61,13 @@ impl<'a> MemorySource<'a> {
     pub fn new(bytes: &'a [u8], step: usize, fail: Option<u64>) -> MemorySource<'a>
         requires { 1 ≤ step }
         ensures { result ≡ record {
-            left = bytes.now; step = step; fuse = fail; reads = 0; failures = 0; ends = 0 } }
+          left = bytes.now;
+          step = step;
+          fuse = fail;
+          reads = 0;
+          failures = 0;
+          ends = 0;
+        } }
     {
         MemorySource {
             bytes,
@@ -77,9 +81,7 @@ impl<'a> MemorySource<'a> {
 }
 
 impl<'a> Source for MemorySource<'a> {
-    ghost state = {
-        λ s. record { left = Some s.left; reads = s.reads; failures = s.failures; ends = s.ends }
-    };
+    ghost state = { λ s. record { left = Some s.left; reads = s.reads; failures = s.failures; ends = s.ends } };
 
     fn read(&mut self, buf: &mut [u8]) -> Result<usize, Failed>
         ensures bound { ReadsAtMost result buf.new }

@@ -65,9 +65,9 @@ impl WriteBehind {
         write_all(sink, &self.bytes[..len])
     }
 
-    #[tactic(auto, using(crate::proofs::Fronts::putting))]
     /// Puts these bytes behind those that wait, and writes what there is no room for. After an error
     /// the sink took a front of what waited and of these, and nothing waits.
+    #[tactic(auto, using(crate::proofs::Fronts::putting))]
     pub fn put<W: Sink>(&mut self, sink: &mut W, bytes: &[u8]) -> Result<(), Broken>
         ensures written { MatchResult result
             (λ _. Puts self.old self.new (W.state sink.old) (W.state sink.new) bytes.now)
@@ -87,8 +87,8 @@ impl WriteBehind {
         Ok(())
     }
 
-    #[tactic(auto, using(crate::proofs::Fronts::sending))]
     /// Writes what waits, and then all of these parts, in order. After an error the sink took a front of that, and nothing waits.
+    #[tactic(auto, using(crate::proofs::Fronts::sending))]
     pub fn send_parts<W: Sink>(&mut self, sink: &mut W, parts: &[&[u8]]) -> Result<(), Broken>
         ensures empty { self.new ≡ [] }
         ensures written { MatchResult result

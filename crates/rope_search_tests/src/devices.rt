@@ -79,7 +79,12 @@ fn run_once(
         calls_left: writes,
         fails,
     };
-    let result = run(&mut tick, rt.alloc(), &mut reader, &mut Device::new(&mut writer));
+    let result = run(
+        &mut tick,
+        rt.alloc(),
+        &mut reader,
+        &mut Device::new(&mut writer),
+    );
     let Writer {
         bytes,
         calls_left: _,

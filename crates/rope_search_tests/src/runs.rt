@@ -131,8 +131,13 @@ fn worked_inputs_in_pieces(rt: HostRuntime) -> Result<(), Fail> {
         for read_step in [1, 2, 3, 4096] {
             for write_step in [1, 2, 4096] {
                 let steps = (read_step, write_step);
-                let (result, sink) =
-                    run_once(&rt, case.input, Limits::default(), steps, (None, None))?;
+                let (result, sink) = run_once(
+                    &rt,
+                    case.input,
+                    Limits::default(),
+                    steps,
+                    (None, None),
+                )?;
                 assert!(rt; result == Ok(case.ending), "{steps:?}");
                 assert!(rt; sink.written() == case.output, "{steps:?}");
             }
@@ -145,14 +150,15 @@ fn worked_inputs_in_pieces(rt: HostRuntime) -> Result<(), Fail> {
 fn limits_on_texts(rt: HostRuntime) -> Result<(), Fail> {
     let cases: [(&[u8], &[u8]); 3] = [
         (b"text 5\nabcdeprint\n", b"error size\ntext 0\n\n"),
-        (b"text 5\n\xff\xff\xff\xff\xfftext 5\nabcde", b"error utf8\nerror size\n"),
+        (
+            b"text 5\n\xff\xff\xff\xff\xfftext 5\nabcde",
+            b"error utf8\nerror size\n",
+        ),
         (b"text 4\nabcdprint\n", b"ok\ntext 4\nabcd\n"),
     ];
     for (input, output) in cases {
         for step in [1, 2, 3, 4096] {
-            let limits = Limits {
-                text: 4,
-            };
+            let limits = Limits { text: 4 };
             let (result, sink) = run_once(&rt, input, limits, (step, step), (None, None))?;
             assert!(rt; result == Ok(Ended::Input));
             assert!(rt; sink.written() == output);
@@ -172,9 +178,7 @@ fn a_long_text_is_judged_in_pieces(rt: HostRuntime) -> Result<(), Fail> {
     ];
     for (input, output) in cases {
         for step in [1, 2, 3, 4, 5, 4096] {
-            let limits = Limits {
-                text: 2,
-            };
+            let limits = Limits { text: 2 };
             let (result, sink) = run_once(&rt, input, limits, (step, 4096), (None, None))?;
             assert!(rt; result == Ok(Ended::Input));
             assert!(rt; sink.written() == output);
@@ -212,11 +216,14 @@ fn reads_that_fail(rt: HostRuntime) -> Result<(), Fail> {
             let (result, sink) = run_once(&rt, case.input, Limits::default(), (1, 4096), fails)?;
             let written = sink.written();
             if result == Err(Broken::Read) {
-                failed += 1;
+                failed = failed.saturating_add(1);
                 assert!(rt; case.output.starts_with(written), "at call {call}");
                 assert!(rt; written.is_empty() || written.ends_with(b"\n"));
             } else {
-                assert!(rt; result == Ok(case.ending) && written == case.output, "at call {call}");
+                assert!(rt;
+                    result == Ok(case.ending) && written == case.output,
+                    "at call {call}"
+                );
             }
         }
         assert!(rt; failed > 0, "some read fails");
@@ -234,9 +241,12 @@ fn writes_that_fail(rt: HostRuntime) -> Result<(), Fail> {
             let written = sink.written();
             assert!(rt; case.output.starts_with(written), "at call {call}");
             if result == Err(Broken::Write) {
-                failed += 1;
+                failed = failed.saturating_add(1);
             } else {
-                assert!(rt; result == Ok(case.ending) && written == case.output, "at call {call}");
+                assert!(rt;
+                    result == Ok(case.ending) && written == case.output,
+                    "at call {call}"
+                );
             }
         }
         // One call a byte, and the flush.

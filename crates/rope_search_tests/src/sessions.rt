@@ -5,9 +5,7 @@ use std::test::Fail;
 #[test]
 fn a_buffer(rt: HostRuntime) -> Result<(), Fail> {
     let mut tick = Lines::new(&rt);
-    let limits = Limits {
-        text: 4,
-    };
+    let limits = Limits { text: 4 };
     let mut buffer = Buffer::new(rt.alloc(), limits)?;
     assert!(rt; buffer.text() == "");
     buffer.set_text(&mut tick, "aé")?;
@@ -23,9 +21,7 @@ fn a_buffer(rt: HostRuntime) -> Result<(), Fail> {
 #[test]
 fn a_session(rt: HostRuntime) -> Result<(), Fail> {
     let mut tick = Lines::new(&rt);
-    let limits = Limits {
-        text: 4,
-    };
+    let limits = Limits { text: 4 };
     let mut session = Session::new(rt.alloc(), limits)?;
     let kept = Command::Text(Payload::Kept(b"ab"));
     assert!(rt; session.apply(&mut tick, kept) == Ok(Reply::Done));
@@ -44,26 +40,14 @@ fn a_session(rt: HostRuntime) -> Result<(), Fail> {
 #[test]
 fn payloads_that_are_refused(rt: HostRuntime) -> Result<(), Fail> {
     let mut tick = Lines::new(&rt);
-    let limits = Limits {
-        text: 4,
-    };
+    let limits = Limits { text: 4 };
     let mut session = Session::new(rt.alloc(), limits)?;
     let cases = [
         (Payload::Kept(b"\xff"), Fault::Utf8),
         (Payload::Kept(b"abcde"), Fault::Size),
         (Payload::Kept(b"abcd\xff"), Fault::Utf8),
-        (
-            Payload::Long {
-                utf8: true,
-            },
-            Fault::Size,
-        ),
-        (
-            Payload::Long {
-                utf8: false,
-            },
-            Fault::Utf8,
-        ),
+        (Payload::Long { utf8: true }, Fault::Size),
+        (Payload::Long { utf8: false }, Fault::Utf8),
         (Payload::Lost, Fault::Memory),
     ];
     for (payload, fault) in cases {

@@ -16,6 +16,9 @@ loop-left-preserved g c =
     let front : Takes c.fill.new.self c.consume.new.self (g.R.Source.state c.fill.new.source) (g.R.Source.state c.fill.new.source) part =
     subst (λ (bs : List ℕ). Takes c.fill.new.self c.consume.new.self (g.R.Source.state c.fill.new.source) (g.R.Source.state c.fill.new.source) bs) here taken in
     let left : length (before.0 ++ part) + (c.loop-left.left - length part) ≡ c.args.len =
-    omega (arith, before.1, length-append before.0 part, c.front-bytes.ensures.most) in
-    (before.0 ++ part, left, CollectsMore-trans _ _ _ before.0 part before.2 c.add.ensures,
-     Takes-trans _ _ _ _ _ _ before.0 part before.3 (Takes-trans _ _ _ _ _ _ [] part filled front))
+    omega (arith, before.1, length-append before.0 part, c.front-bytes.ensures.most) in (
+      before.0 ++ part,
+      left,
+      CollectsMore-trans _ _ _ before.0 part before.2 c.add.ensures,
+      Takes-trans _ _ _ _ _ _ before.0 part before.3 (Takes-trans _ _ _ _ _ _ [] part filled front),
+    )

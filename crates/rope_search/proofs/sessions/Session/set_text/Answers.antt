@@ -21,8 +21,12 @@ returns-in_ok-set_text-in-Ok-clause-step c = λ bytes stands.
     let fits : c.args.self.now.limit < length bytes → ⊥ =
     λ long. absurd (let told = c.in_ok-set_text-in-Ok.ensures.size.1 (omega (arith, limit, ap length same)) in cc) in
     let text : c.set_text.new.self.state ≡ with_text old.state (chars bytes) =
-    c.in_ok-set_text-in-Ok.ensures.ok ∙ ap (λ t. with_text old.state (chars t)) same in
-    (accepted_text c.args.self.now.limit c.args.self.now.state bytes utf8 (omega arith),
-     (chars bytes, Encodes-chars bytes utf8,
-     with_chosen-text items inside.chosen old c.set_text.new.self (chars bytes) c.args.self.now.state room c.index_mut.ensures.value text
-     (ap (λ (s : LimitedSession). s.state) c.self.view_is)))
+    c.in_ok-set_text-in-Ok.ensures.ok ∙ ap (λ t. with_text old.state (chars t)) same in (
+      accepted_text c.args.self.now.limit c.args.self.now.state bytes utf8 (omega arith),
+      (
+        chars bytes,
+        Encodes-chars bytes utf8,
+        with_chosen-text items inside.chosen old c.set_text.new.self (chars bytes) c.args.self.now.state room c.index_mut.ensures.value text
+            (ap (λ (s : LimitedSession). s.state) c.self.view_is),
+      ),
+    )
