@@ -6,11 +6,9 @@ use Rattle.rope_search_io.specs.declared.faults.Broken.TheVariants.{Read, Write,
 use Rattle.rope_search_io.specs.Sources.{SourceState, SinkState}
 use Rattle.rope_search_io.specs.ReadAhead.{Ahead, Takes}
 use Rattle.rope_search_io.specs.WriteBehind.{Writes, WritesFront, WritesUntil}
-use Rattle.rope_search.specs.declared.commands.Command.{Command}
 use Rattle.rope_search.specs.declared.requests.Asked.{Asked}
 use Rattle.rope_search.specs.Order.{Order}
 use Rattle.rope_search.specs.Step.{Answer, Step}
-use Rattle.rope_search.specs.Stands.{Stands}
 use Rattle.rope_search.specs.Shows.{shows}
 use Rattle.rope_search.specs.Cost.{Costs}
 use Rattle.rope_search.specs.Requests.{IsAskedFor, TakesOrder}
@@ -20,14 +18,12 @@ use Rattle.rope_search.proofs.RunLaws.{SpellAll-append, SpellAll-one, Run-nil, R
 use Rattle.rope_search.proofs.TakesLemmas.{Takes-nil, Takes-trans}
 
 -- a command that was read whole was carried out, and so much of its answer was written
-pub Turned-given : (limit : ℕ) (asked : Asked) (command : Command) (answer : Answer) (old new : Scene) (Written : List ℕ → Type 0)
+pub Turned-given : (limit : ℕ) (asked : Asked) (answer : Answer) (old new : Scene) (Written : List ℕ → Type 0)
     → TakesOrder limit asked old.ahead new.ahead old.source new.source
-    → ((limit' : ℕ) (order : Order) → IsAskedFor limit' asked order → Stands limit' command order)
-    → ((order : Order) → Stands limit command order → Step limit old.session order answer new.session)
-    → ((order : Order) (cost : ℕ) → Stands limit command order → Costs limit old.session order cost → new.ticks.count ≤ old.ticks.count + cost)
+    → ((order : Order) → IsAskedFor limit asked order → Step limit old.session order answer new.session)
+    → ((order : Order) (cost : ℕ) → IsAskedFor limit asked order → Costs limit old.session order cost → new.ticks.count ≤ old.ticks.count + cost)
     → Written (shows new.session answer) → Turned limit old new Written
-Turned-given limit asked command answer old new Written read stands step rows written =
-    let stood : Stands limit command read.order = stands limit read.order read.is in
+Turned-given limit asked answer old new Written read step rows written =
     let cost = costs_exist limit old.session read.order in
     record {
       order = read.order;
@@ -36,10 +32,10 @@ Turned-given limit asked command answer old new Written read stands step rows wr
       cost = cost.0;
       spells = read.spells;
       taken = read.taken;
-      step = step read.order stood;
+      step = step read.order read.is;
       costs = cost.1;
       written = written;
-      counted = rows read.order cost.0 stood cost.1;
+      counted = rows read.order cost.0 read.is cost.1;
     }
 
 -- a sink that failed in the middle of an answer

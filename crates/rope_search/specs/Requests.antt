@@ -30,9 +30,9 @@ TakesLine (Ok (Part len)) line old new source source' =
 TakesLine (Err broken) line old new source source' =
     (bytes : List ℕ) × (length bytes ≤ 128) × HasNoLf bytes × TakesUntil broken old new source source' bytes
 
--- of a payload with this many bytes in all, what is kept of those before; it is judged alone where it is over the limit
+-- of a payload with this many bytes in all, what is kept of those before; it is judged alone exactly where it is over the limit
 abbrev pub Collects : ℕ → ℕ → Collected → List ℕ → Type 0
-Collects limit len (Kept bytes) before = bytes.items ≡ before
+Collects limit len (Kept bytes) before = (len ≤ limit) × (bytes.items ≡ before)
 Collects limit len (Judged judge) before = (limit < len) × ((more : List ℕ) → IsUtf8 (before ++ more) ↔ Continues judge more)
 Collects limit len Lost before = Unit {0}
 

@@ -1,5 +1,5 @@
 //! A buffer: a text with its history, and perhaps a pattern.
-ghost use Rattle.std.specs.Prelude.{◌≡◌, ◌+◌, ◌<◌, ◌≤◌, ◌↔◌, ◌⊎◌, [], length, chars, Err, OnOk, OnErr, IfOk, IfErr};
+ghost use Rattle.std.specs.Prelude.{◌≡◌, ◌+◌, ◌<◌, ◌≤◌, ◌↔◌, ◌⊎◌, [], length, chars, string_bytes, string_len, Err, OnOk, OnErr, IfOk, IfErr};
 ghost use Rattle.rope_search.specs.Text.{bytes_of};
 ghost use Rattle.rope_search.specs.Session.{current_text, fresh, with_text};
 ghost use Rattle.rope_search.specs.Cost.{rows_anew};
@@ -63,13 +63,31 @@ impl Buffer {
         ensures rows { tick.new.count ≤ tick.old.count + rows_anew self.old.state (chars text.now) }
         ensures wholes { tick.new.wholes ≡ tick.old.wholes }
     {
-        let _ = tick;
         if self.limits.text < text.len() {
             return Err(Fault::Size);
         }
+        // Nothing is copied that is refused.
         let Ok(text) = String::from_str(self.alloc, text) else {
             return Err(Fault::Memory);
         };
+        self.take_text(tick, text)
+    }
+
+    /// Makes this the text, as `set_text` does, without a copy.
+    pub(crate) fn take_text(&mut self, tick: &mut Lines, text: String) -> Result<(), Fault>
+        ensures ok { OnOk result (self.new.state ≡ with_text self.old.state (chars (string_bytes text))) }
+        ensures limit { self.new.limit ≡ self.old.limit }
+        ensures size { (result ≡ Err Fault.Size) ↔ (self.old.limit < string_len text) }
+        ensures fault { IfErr result (λ fault. fault ≡ Fault.Size) }
+        ensures err { OnErr result (self.new ≡ self.old) }
+        ensures refused { result ≡ Err Fault.Size → tick.new ≡ tick.old }
+        ensures rows { tick.new.count ≤ tick.old.count + rows_anew self.old.state (chars (string_bytes text)) }
+        ensures wholes { tick.new.wholes ≡ tick.old.wholes }
+    {
+        let _ = tick;
+        if text.len() > self.limits.text {
+            return Err(Fault::Size);
+        }
         self.text = text;
         Ok(())
     }

@@ -49,7 +49,8 @@ impl Collected {
 
     /// The payload, once all of it was read.
     pub fn payload(&self) -> Payload<'_>
-        ensures { (limit : ℕ) (bytes : List ℕ) → Collects limit (length bytes) self.now bytes → StandsFor limit result bytes }
+        ensures stands { (limit : ℕ) (bytes : List ℕ) → Collects limit (length bytes) self.now bytes → StandsFor limit result bytes }
+        ensures lost { result ≡ Payload.Lost → self.now ≡ Collected.Lost }
     {
         match self {
             Collected::Kept(bytes) => Payload::Kept(bytes.as_slice()),

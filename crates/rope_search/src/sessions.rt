@@ -1,14 +1,17 @@
 //! A session: buffers, of which one is chosen.
-ghost use Rattle.std.specs.Prelude.{◌≡◌, ◌+◌, ◌<◌, ◌≤◌, ◌↔◌, [], ◌∷◌, ◌++◌, List, ℕ, length, OnOk, OnErr, IfOk, IfErr, IsOk};
+ghost use Rattle.std.specs.Prelude.{◌≡◌, ◌+◌, ◌<◌, ◌≤◌, ◌↔◌, [], ◌∷◌, ◌++◌, List, ℕ, length, OnOk, OnErr, IfOk, IfErr, IsOk, string_bytes};
 ghost use Rattle.rope_search.specs.Order.{Order, SetText};
 ghost use Rattle.rope_search.specs.Session.{first, fresh, current_text, chosen_buffer};
 ghost use Rattle.rope_search.specs.Step.{Step};
 ghost use Rattle.rope_search.specs.Stands.{Stands, StandsFor};
+ghost use Rattle.rope_search.specs.Requests.{IsAskedFor};
 ghost use Rattle.rope_search.specs.Cost.{Costs, whole_searches};
 
 use crate::buffers::Buffer;
 use crate::commands::{Command, Payload, Reply};
 use crate::limits::Limits;
+use crate::payloads::Collected;
+use crate::requests::Asked;
 use crate::rows::Lines;
 use rope_search_io::Fault;
 use std::alloc::Global;
@@ -140,6 +143,23 @@ impl Session {
         }
     }
 
+    /// Carries out a command that was read, as `apply` does, and copies no payload that was kept.
+    pub(crate) fn apply_asked(&mut self, tick: &mut Lines, asked: Asked) -> Result<Reply, Fault>
+        ensures step { (order : Order) → IsAskedFor self.old.limit asked order
+            → Step self.old.limit self.old.state order result self.new.state }
+        ensures limit { self.new.limit ≡ self.old.limit }
+        ensures rows { (order : Order) (cost : ℕ) → IsAskedFor self.old.limit asked order
+            → Costs self.old.limit self.old.state order cost → tick.new.count ≤ tick.old.count + cost }
+    {
+        if let Asked::Text(Collected::Kept(bytes)) = asked {
+            let Ok(text) = String::from_utf8(bytes) else {
+                return Err(Fault::Utf8);
+            };
+            return self.take_text(tick, text);
+        }
+        self.apply(tick, asked.command())
+    }
+
     // Makes the payload the chosen buffer's text.
     fn set_text(&mut self, tick: &mut Lines, payload: Payload<'_>) -> Result<Reply, Fault>
         ensures step { (bytes : List ℕ) → StandsFor self.old.limit payload.entry bytes
@@ -161,5 +181,16 @@ impl Session {
             Payload::Long { utf8: false } => Err(Fault::Utf8),
             Payload::Lost => Err(Fault::Memory),
         }
+    }
+
+    // Makes this the chosen buffer's text.
+    fn take_text(&mut self, tick: &mut Lines, text: String) -> Result<Reply, Fault>
+        ensures step { Step self.old.limit self.old.state (SetText (string_bytes text)) result self.new.state }
+        ensures limit { self.new.limit ≡ self.old.limit }
+        ensures rows { (cost : ℕ) → Costs self.old.limit self.old.state (SetText (string_bytes text)) cost
+            → tick.new.count ≤ tick.old.count + cost }
+    {
+        self.buffers[self.chosen].take_text(tick, text)?;
+        Ok(Reply::Done)
     }
 }
