@@ -1,7 +1,6 @@
 -- Numbers by their digits, from the left.
 use Rattle.std.proofs.Common.{◌≡◌, ◌↔◌, ℕ, ◌+◌, ◌-◌, ◌*◌, ◌^◌, ◌<◌, ◌≤◌, List, [], ◌∷◌, length, drop, get_or, sym, ap, ◌∙◌, subst, refl, add-one, arith}
 use Rattle.std.proofs.Math.Seq.{drop-cons}
-use Rattle.std.specs.List.{AllByRecursion}
 use Rattle.rope_search.specs.Reads.{IsNumber, digits_after}
 use Rattle.rope_search.specs.Header.{Spelling, IsDigit}
 

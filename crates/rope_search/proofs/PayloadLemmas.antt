@@ -1,8 +1,8 @@
 -- What is kept of a payload, part after part.
-use Rattle.std.proofs.Common.{◌≡◌, ◌↔◌, ℕ, ◌<◌, Bool, IsTrue, List, [], ◌++◌, length, IsUtf8, sym, subst, append_assoc, append-nil}
+use Rattle.std.proofs.Common.{◌↔◌, ℕ, ◌<◌, Bool, IsTrue, List, [], ◌++◌, length, IsUtf8, sym, subst, append_assoc, append-nil}
 use Rattle.rope_search_io.specs.Utf8Judge.{Judging, Continues}
 use Rattle.rope_search.specs.declared.payloads.Collected.{Collected}
-use Rattle.rope_search.specs.declared.payloads.Collected.TheVariants.{Kept, Judged, Lost}
+use Rattle.rope_search.specs.declared.payloads.Collected.TheVariants.{Judged}
 use Rattle.rope_search.specs.Requests.{Collects, CollectsMore}
 
 -- nothing is judged yet

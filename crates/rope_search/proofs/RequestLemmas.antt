@@ -1,21 +1,20 @@
 -- A command's line and what follows it, read one after the other.
-use Rattle.std.proofs.Common.{◌≡◌, ◌↔◌, ℕ, ◌+◌, ◌<◌, ◌≤◌, List, [], ◌∷◌, ◌++◌, length, replicate, true, false, Result, Ok, Err, refl, sym, subst, inr, append_assoc, arith}
+use Rattle.std.proofs.Common.{◌≡◌, ◌↔◌, ℕ, ◌<◌, List, [], ◌∷◌, ◌++◌, length, replicate, true, false, Result, Ok, Err, refl, sym, subst, inr, append_assoc, arith}
 use Rattle.std.proofs.lemmas.List.{length-replicate}
 use Rattle.rope_search_io.specs.declared.faults.Broken.{Broken}
 use Rattle.rope_search_io.specs.Sources.{SourceState}
 use Rattle.rope_search_io.specs.ReadAhead.{Ahead, Takes, TakesLast, TakesUntil}
 use Rattle.rope_search.specs.declared.headers.Header.{Header}
-use Rattle.rope_search.specs.declared.headers.Header.TheVariants.{Text, Print, Fork, Use}
+use Rattle.rope_search.specs.declared.headers.Header.TheVariants.{Text, Use}
 use Rattle.rope_search.specs.declared.payloads.Collected.{Collected}
-use Rattle.rope_search.specs.declared.requests.Asked.{Asked}
 use Rattle.rope_search.specs.declared.requests.Asked.TheVariants as asked
 use Rattle.rope_search.specs.declared.requests.Request.{Request}
 use Rattle.rope_search.specs.declared.requests.Request.TheVariants.{Given, End}
 use Rattle.rope_search.specs.declared.runs.Ended.TheVariants.{Input, Command, Cut}
-use Rattle.rope_search.specs.Order.{Order, SetText, PrintText, ForkBuffer, UseBuffer}
+use Rattle.rope_search.specs.Order.{Order, SetText, UseBuffer}
 use Rattle.rope_search.specs.Header.{IsHeaderOf}
-use Rattle.rope_search.specs.Reads.{IsLine, Spells, payload_of, HasNoLf}
-use Rattle.rope_search.specs.Requests.{Collects, TakesPayload, TakesRestOf, TakesPartOf, TakesRest, TakesRequest, TakesOrder, TakesEnding, TakesUnfinished}
+use Rattle.rope_search.specs.Reads.{IsLine, payload_of}
+use Rattle.rope_search.specs.Requests.{Collects, TakesPayload, TakesRestOf, TakesPartOf, TakesRest, TakesRequest}
 use Rattle.rope_search.proofs.TakesLemmas.{Takes-nil, Takes-trans, TakesLast-after, TakesUntil-after}
 
 -- a payload that was read whole

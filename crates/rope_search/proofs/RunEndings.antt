@@ -1,20 +1,19 @@
 -- How a run ends, by the turns before and what came after them.
-use Rattle.std.proofs.Common.{◌≡◌, ◌≢◌, ℕ, ◌+◌, ◌^◌, ◌<◌, ◌≤◌, List, [], ◌∷◌, ◌++◌, length, Option, None, Some, IfSome, Result, Ok, Err, refl, sym, ap, ◌∙◌, subst, inl, inr, append_assoc, append-nil, length-append, arith}
+use Rattle.std.proofs.Common.{◌≡◌, ◌≢◌, ℕ, ◌+◌, ◌<◌, ◌≤◌, List, [], ◌∷◌, ◌++◌, length, Option, None, Some, IfSome, Result, Ok, Err, refl, sym, ap, ◌∙◌, subst, inl, inr, append_assoc, append-nil, length-append, arith}
 use Rattle.std.proofs.KnownBytes.{Appends-trans, Consumes-trans}
 use Rattle.std.specs.Io.KnownBytes.{Appends, Consumes, prepend_known, IsAtEnd}
 use Rattle.rope_search_io.specs.declared.faults.Broken.{Broken}
 use Rattle.rope_search_io.specs.declared.faults.Broken.TheVariants.{Read, Write, Turns, Memory}
 use Rattle.rope_search_io.specs.Sources.{SourceState, SinkState}
-use Rattle.rope_search_io.specs.ReadAhead.{Ahead, Takes, to_come, most_to_come}
+use Rattle.rope_search_io.specs.ReadAhead.{to_come, most_to_come}
 use Rattle.rope_search_io.specs.WriteBehind.{Writes, WritesFront}
 use Rattle.rope_search.specs.declared.runs.Ended.{Ended}
 use Rattle.rope_search.specs.declared.runs.Ended.TheVariants.{Input, Command, Cut}
-use Rattle.rope_search.specs.Order.{Order}
-use Rattle.rope_search.specs.Session.{State, Ticks, first}
+use Rattle.rope_search.specs.Session.{Ticks, first}
 use Rattle.rope_search.specs.Shows.{shows, closing}
-use Rattle.rope_search.specs.Reads.{Reads, Ends, SpellAll, payload_of}
+use Rattle.rope_search.specs.Reads.{Reads, Ends, payload_of}
 use Rattle.rope_search.specs.Answers.{Answers}
-use Rattle.rope_search.specs.Requests.{TakesEnding, TakesUnfinished, IsUnfinished}
+use Rattle.rope_search.specs.Requests.{TakesEnding, IsUnfinished}
 use Rattle.rope_search.specs.Runs.{Scene, start, SoFar, Turned, TakesTurn, OnlyReads, TellsEnd, IsAnswered, IsAnswerTo, AnswersWhole, StopsFor, StopsReading, StopsWriting, Ran, Closes, ClosesWhole, ClosesFront}
 use Rattle.rope_search.proofs.RunLaws.{Answers-more, Ends-more, Reads-after, Run-append, Run-push, SpellAll-append, SpellAll-one}
 use Rattle.rope_search.proofs.StepLaws.{run_exists}

@@ -1,11 +1,11 @@
 -- Taking bytes from a source, one part after another.
-use Rattle.std.proofs.Common.{◌≡◌, ◌≢◌, ℕ, ◌+◌, ◌-◌, ◌*◌, ◌^◌, ◌<◌, ◌≤◌, List, [], ◌∷◌, ◌++◌, length, take, drop, Option, None, Some, refl, sym, ap, ◌∙◌, subst, arith, length-append, append_assoc, append-nil, take-append-drop}
+use Rattle.std.proofs.Common.{◌≡◌, ℕ, ◌+◌, ◌-◌, ◌*◌, ◌^◌, ◌≤◌, List, [], ◌++◌, length, take, drop, Option, None, Some, refl, ap, ◌∙◌, subst, arith, length-append, append_assoc, take-append-drop}
 use Rattle.std.proofs.KnownBytes.{Consumes-trans, Consumes-nil}
 use Rattle.std.specs.Io.KnownBytes.{Consumes, prepend_known}
 use Rattle.rope_search_io.specs.declared.faults.Broken.{Broken}
 use Rattle.rope_search_io.specs.declared.faults.Broken.TheVariants.{Read, Write, Turns, Memory}
 use Rattle.rope_search_io.specs.Sources.{SourceState}
-use Rattle.rope_search_io.specs.ReadAhead.{Ahead, Takes, TakesLast, TakesUntil, TakesUntilFailure, TakesUntilLimit, most_to_come, to_come}
+use Rattle.rope_search_io.specs.ReadAhead.{Ahead, Takes, TakesLast, TakesUntil, to_come}
 
 -- nothing taken
 pub Takes-nil : (a : Ahead) (s : SourceState) → Takes a a s s []

@@ -1,5 +1,5 @@
 -- Texts and the bytes that spell them.
-use Rattle.std.proofs.Common.{◌≡◌, ℕ, List, [], IsUtf8, string_bytes, String}
+use Rattle.std.proofs.Common.{◌≡◌, ℕ, List, IsUtf8, string_bytes, String}
 use Rattle.std.proofs.lemmas.Str.{chars-nil, encodes-chars, scalars-chars, IsUtf8-string_bytes}
 use Rattle.std.specs.Str.{chars}
 use Rattle.rope_search.specs.Text.{bytes_of, Encodes}

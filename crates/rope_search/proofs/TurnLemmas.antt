@@ -1,10 +1,9 @@
 -- One turn of a run, and the turns so far.
-use Rattle.std.proofs.Common.{◌≡◌, ℕ, ◌+◌, ◌≤◌, List, [], ◌∷◌, ◌++◌, None, Some, Ok, Err, refl, sym, ap, subst, arith}
+use Rattle.std.proofs.Common.{ℕ, ◌+◌, ◌≤◌, List, [], ◌∷◌, ◌++◌, Err, refl, arith}
 use Rattle.std.proofs.KnownBytes.{Appends-trans, Appends-nil}
 use Rattle.rope_search_io.specs.declared.faults.Broken.{Broken}
 use Rattle.rope_search_io.specs.declared.faults.Broken.TheVariants.{Read, Write, Turns, Memory}
-use Rattle.rope_search_io.specs.Sources.{SourceState, SinkState}
-use Rattle.rope_search_io.specs.ReadAhead.{Ahead, Takes}
+use Rattle.rope_search_io.specs.Sources.{SinkState}
 use Rattle.rope_search_io.specs.WriteBehind.{Writes, WritesFront, WritesUntil}
 use Rattle.rope_search.specs.declared.requests.Asked.{Asked}
 use Rattle.rope_search.specs.Order.{Order}

@@ -1,5 +1,5 @@
 -- What a command's line tells of the command: its word and its number.
-use Rattle.std.specs.Prelude.{◌≡◌, ℕ, ◌+◌, ◌-◌, ◌*◌, ◌^◌, ◌<◌, ◌≤◌, List, length}
+use Rattle.std.specs.Prelude.{◌≡◌, ℕ, ◌^◌, ◌<◌, ◌≤◌, List, length}
 use Rattle.std.specs.List.{AllByRecursion}
 use Rattle.rope_search.specs.declared.headers.Header.{Header}
 use Rattle.rope_search.specs.declared.headers.Header.TheVariants.{Text, Print, Fork, Use}

@@ -1,5 +1,5 @@
 -- What reading a line, a payload and a command take from the source.
-use Rattle.std.specs.Prelude.{◌≡◌, ℕ, ◌+◌, ◌<◌, ◌≤◌, ◌↔◌, ◌⊎◌, List, [], ◌∷◌, ◌++◌, length, take, Bool, true, false, Result, Ok, Err, IsUtf8}
+use Rattle.std.specs.Prelude.{◌≡◌, ℕ, ◌<◌, ◌≤◌, ◌↔◌, ◌⊎◌, List, [], ◌∷◌, ◌++◌, length, take, Bool, true, false, Result, Ok, Err, IsUtf8}
 use Rattle.rope_search_io.specs.declared.faults.Broken.{Broken}
 use Rattle.rope_search_io.specs.Sources.{SourceState}
 use Rattle.rope_search_io.specs.ReadAhead.{Ahead, Takes, TakesLast, TakesUntil}

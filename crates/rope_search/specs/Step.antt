@@ -6,7 +6,7 @@ use Rattle.rope_search.specs.declared.commands.Reply.{Reply}
 use Rattle.rope_search.specs.declared.commands.Reply.TheVariants.{Done, Number, Print}
 use Rattle.rope_search.specs.Text.{Encodes}
 use Rattle.rope_search.specs.Order.{Order, SetText, PrintText, ForkBuffer, UseBuffer}
-use Rattle.rope_search.specs.Session.{State, BufferState, fresh, current_text, chosen_buffer, with_text, with_chosen}
+use Rattle.rope_search.specs.Session.{State, fresh, current_text, chosen_buffer, with_text, with_chosen}
 
 -- what a command is answered: a reply, or why it is refused
 abbrev pub Answer : Type 0

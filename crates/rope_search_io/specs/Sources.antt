@@ -1,5 +1,5 @@
 -- What the calls of a source and a sink count.
-use Rattle.std.specs.Prelude.{ℕ, zero, suc, ◌&&◌, List, length, min, nat_lt, ◌==◌, if◌then◌else◌, Option, None, Some, Result, Ok, Err, is_ok}
+use Rattle.std.specs.Prelude.{ℕ, zero, suc, ◌&&◌, List, length, nat_lt, ◌==◌, if◌then◌else◌, Option, None, Some, Result, Ok, Err, is_ok}
 
 -- a source: the bytes that it has left, where they are known, its calls, those that failed, and those that told its end
 pub record SourceState : Type 0 where

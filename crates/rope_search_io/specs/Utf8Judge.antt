@@ -1,5 +1,5 @@
 -- UTF-8 judged as it comes: what the bytes so far ask of those that follow.
-use Rattle.std.specs.Prelude.{◌≡◌, ℕ, Bool, true, false, List, ◌++◌, IsUtf8, ◌+◌, ◌<◌}
+use Rattle.std.specs.Prelude.{◌≡◌, ℕ, Bool, false, List, ◌++◌, IsUtf8, ◌+◌}
 use Rattle.std.specs.Str.{continuation_len}
 
 -- the bytes of a character that isn't whole yet, and whether some bytes before it can stand in no text

@@ -1,4 +1,4 @@
-use Rattle.std.proofs.Common.{◌≡◌, [], ◌++◌, ◌+◌, ◌-◌, ◌≤◌, true, List, ℕ, length, take, sym, ap, ◌∙◌, subst, arith, length-append}
+use Rattle.std.proofs.Common.{◌≡◌, [], ◌++◌, ◌+◌, ◌-◌, ◌≤◌, List, ℕ, length, take, sym, ap, ◌∙◌, subst, arith, length-append}
 use Rattle.rope_search_io.specs.ReadAhead.{Takes}
 use Rattle.rope_search.proofs.PayloadLemmas.{CollectsMore-trans}
 use Rattle.rope_search.proofs.TakesLemmas.{Takes-trans, Takes-front}

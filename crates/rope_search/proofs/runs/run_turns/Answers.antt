@@ -1,9 +1,8 @@
-use Rattle.std.proofs.Common.{◌≡◌, ◌∙◌, ap, arith}
+use Rattle.std.proofs.Common.{◌∙◌, ap}
 use Rattle.std.proofs.lemmas.Result.{err_from_is_err_and}
 use Rattle.rope_search.specs.Session.{LimitedSession}
-use Rattle.rope_search.specs.Runs.{Scene}
 use Rattle.rope_search.proofs.TurnLemmas.{SoFar-none, SoFar-push}
-use Rattle.rope_search.proofs.RunEndings.{Ran-broken, Ran-unclosed, Ran-answered, TakesTurn-at, Turned-at, most_to_come-turn}
+use Rattle.rope_search.proofs.RunEndings.{Ran-broken, Ran-unclosed, Ran-answered, TakesTurn-at, Turned-at}
 use Rattle.rope_search.proofs.runs.run_turns.Goals as goal
 
 pub loop-session-init : goal.loop-session-init

@@ -1,4 +1,4 @@
-use Rattle.std.proofs.Common.{◌≡◌, ◌<◌, ◌≤◌, length, string_bytes, string_len, ap, arith}
+use Rattle.std.proofs.Common.{◌<◌, ◌≤◌, length, string_bytes, string_len, arith}
 use Rattle.std.proofs.lemmas.Result.{err_from_is_err_and}
 use Rattle.std.proofs.lemmas.Str.{IsUtf8-string_bytes}
 use Rattle.rope_search.proofs.SessionLemmas.{Step-take_text, Step-too_long, rows_taken}

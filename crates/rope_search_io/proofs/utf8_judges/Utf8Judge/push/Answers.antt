@@ -1,4 +1,4 @@
-use Rattle.std.proofs.Common.{◌≡◌, ◌+◌, ◌<◌, ◌≤◌, ◌∷◌, [], ◌++◌, ◌↔◌, List, ℕ, Bool, false, not, length, get_or, set, take, refl, sym, ap, ◌∙◌, subst, arith}
+use Rattle.std.proofs.Common.{◌≡◌, ◌+◌, ◌<◌, ◌∷◌, [], ◌++◌, ◌↔◌, Bool, false, not, length, set, take, refl, sym, ap, ◌∙◌, subst, arith}
 use Rattle.std.proofs.lemmas.Grind.{take-set_at}
 use Rattle.rope_search_io.specs.Utf8Judge.{Judging, Continues}
 use Rattle.rope_search_io.proofs.Utf8Lemmas.{Continues-closed, width_reached}

@@ -1,6 +1,5 @@
-use Rattle.std.proofs.Common.{◌≡◌, ◌↔◌, ◌++◌, [], drop, refl, arith, length}
+use Rattle.std.proofs.Common.{◌≡◌, [], drop, refl, arith}
 use Rattle.std.proofs.lemmas.List.{drop_all}
-use Rattle.rope_search_io.specs.Utf8Judge.{Judging, Continues}
 use Rattle.rope_search_io.proofs.Utf8Lemmas.{Continues-more}
 use Rattle.rope_search_io.proofs.utf8_judges.Utf8Judge.push_all.Goals as goal
 

@@ -1,4 +1,3 @@
-use Rattle.std.proofs.Common.{arith}
 use Rattle.std.proofs.lemmas.Result.{err_from_is_err_and}
 use Rattle.rope_search_io.proofs.Fronts.{WritesUntil-part, WritesUntil-parts}
 use Rattle.rope_search_io.proofs.write_behinds.WriteBehind.send_parts.Goals as goal
