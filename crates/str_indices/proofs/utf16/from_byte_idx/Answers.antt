@@ -1,0 +1,10 @@
+use Rattle.str_indices.specs.Bytes.{unit_weights}
+use Rattle.str_indices.proofs.LeadBytes.{units_at_first_bytes}
+use Rattle.str_indices.proofs.Indices.{first_bytes-up_to, RoundsDown}
+use Rattle.str_indices.proofs.utf16.from_byte_idx.Goals as goal
+
+pub returns : goal.returns
+returns c =
+    let found = c.floor_char_boundary-end.ensures in
+    let rounded : RoundsDown c.args.text.now c.args.byte_idx c.floor_char_boundary-end.result = record { bound = found.bound; boundary = found.boundary; nearest = found.nearest } in
+    let e = first_bytes-up_to unit_weights _ units_at_first_bytes c.args.text.now c.utf8.text c.args.byte_idx c.floor_char_boundary-end.result rounded in cc

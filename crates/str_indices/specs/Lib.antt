@@ -1,0 +1,4 @@
+pub mod Text
+pub mod Bytes
+pub mod Weights
+pub mod Examples

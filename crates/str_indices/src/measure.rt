@@ -1,0 +1,118 @@
+//! How often each byte of a text counts, in each scheme.
+
+ghost use Rattle.std.specs.Prelude.{◌≡◌, ℕ, ◌+◌, ◌<◌, ◌≤◌, List, [], ◌∷◌, length, drop, slice_index};
+ghost use Rattle.str_indices.specs.Text.{starts_with_lf};
+ghost use Rattle.str_indices.specs.Bytes.{is_lead, is_lead_of_four, char_weights, pair_weights, unit_weights, ends_line, line_weights};
+ghost use Rattle.str_indices.specs.Weights.{map_len, lead_small, pair_small, unit_small, tested_len, tested_small};
+
+const LF: u8 = 0x0A;
+
+const CR: u8 = 0x0D;
+
+/// A number for each byte of a text.
+pub(crate) trait Measure {
+    ghost weights: { List ℕ → List ℕ };
+
+    fn weight(bytes: &[u8], at: usize) -> u8
+        requires { at < length bytes.now }
+        ensures { result ≡ slice_index (weights bytes.now) at };
+
+    ghost weights_len: { (bytes : List ℕ) → length (weights bytes) ≡ length bytes };
+
+    ghost weights_small: { (bytes : List ℕ) (at : ℕ) → slice_index (weights bytes) at ≤ 2 };
+}
+
+fn is_lead(byte: u8) -> bool
+    ensures { result ≡ is_lead byte }
+{
+    byte < 0x80 || byte >= 0xC0
+}
+
+fn is_lead_of_four(byte: u8) -> bool
+    ensures { result ≡ is_lead_of_four byte }
+{
+    byte >= 0xF0
+}
+
+/// Each character whose UTF-16 is a surrogate pair counts once, at its first byte.
+pub(crate) struct SurrogatePairs;
+
+impl Measure for SurrogatePairs {
+    ghost weights = { pair_weights };
+
+    ghost weights_len = { λ bytes. map_len _ bytes };
+
+    ghost weights_small = { pair_small };
+
+    fn weight(bytes: &[u8], at: usize) -> u8 {
+        is_lead_of_four(bytes[at]) as u8
+    }
+}
+
+/// Each character counts its UTF-16 code units, at its first byte.
+pub(crate) struct Utf16Units;
+
+impl Measure for Utf16Units {
+    ghost weights = { unit_weights };
+
+    ghost weights_len = { λ bytes. map_len _ bytes };
+
+    ghost weights_small = { unit_small };
+
+    fn weight(bytes: &[u8], at: usize) -> u8 {
+        is_lead(bytes[at]) as u8 + is_lead_of_four(bytes[at]) as u8
+    }
+}
+
+/// The byte before the one at `at`, and 0 before the first.
+fn byte_before(bytes: &[u8], at: usize) -> u8
+    requires { at < length bytes.now }
+    ensures { result ≡ slice_index (0 ∷ bytes.now) at }
+{
+    if at == 0 { 0 } else { bytes[at - 1] }
+}
+
+/// The second byte before the one at `at`, and 0 before the first.
+fn second_byte_before(bytes: &[u8], at: usize) -> u8
+    requires { at < length bytes.now }
+    ensures { result ≡ slice_index (0 ∷ 0 ∷ bytes.now) at }
+{
+    if at < 2 { 0 } else { bytes[at - 2] }
+}
+
+fn is_before_lf(bytes: &[u8], at: usize) -> bool
+    requires { at < length bytes.now }
+    ensures { result ≡ starts_with_lf (drop (at + 1) bytes.now) }
+{
+    at + 1 < bytes.len() && bytes[at + 1] == LF
+}
+
+/// Whether a byte is the last of a line break.
+#[tactic(auto, using(std::proofs::lemmas::Bool::Decides::nat_tests))]
+fn ends_line(bytes: &[u8], at: usize) -> bool
+    requires { at < length bytes.now }
+    ensures { result ≡ ends_line (slice_index (0 ∷ 0 ∷ bytes.now) at) (slice_index (0 ∷ bytes.now) at) (slice_index bytes.now at) (drop (at + 1) bytes.now) }
+{
+    let byte = bytes[at];
+    match byte {
+        0x0A..=0x0D => byte != CR || !is_before_lf(bytes, at),
+        0x85 => byte_before(bytes, at) == 0xC2,
+        0xA8 | 0xA9 => byte_before(bytes, at) == 0x80 && second_byte_before(bytes, at) == 0xE2,
+        _ => false,
+    }
+}
+
+/// Each line break counts once, at its last byte.
+pub(crate) struct Lines;
+
+impl Measure for Lines {
+    ghost weights = { line_weights };
+
+    ghost weights_len = { λ bytes. tested_len _ 0 0 bytes };
+
+    ghost weights_small = { λ bytes at. tested_small _ 0 0 bytes at };
+
+    fn weight(bytes: &[u8], at: usize) -> u8 {
+        ends_line(bytes, at) as u8
+    }
+}
