@@ -5,3 +5,5 @@ pub mod LeadBytes
 pub mod BreakBytes
 pub mod Tested
 pub mod Indices
+pub mod Vectors
+pub mod Chunks

@@ -27,12 +27,18 @@ abbrev pub tested_weights : (ℕ → ℕ → ℕ → List ℕ → Bool) → ℕ 
 tested_weights test b2 b1 [] = []
 tested_weights test b2 b1 (b ∷ bs) = (if test b2 b1 b bs then 1 else 0) ∷ tested_weights test b1 b bs
 
--- the last byte of a break: U+0085 is C2 85, and U+2028 and U+2029 are E2 80 A8 and E2 80 A9
+-- the last byte of a break: of one byte and not a CR before an LF; of U+0085, which is C2 85; of U+2028 or U+2029, which are E2 80 A8 and E2 80 A9
+abbrev pub ends_ascii_line : ℕ → Bool → Bool
+ends_ascii_line b before_lf = (nat_le 10 b && nat_le b 13) && not ((b == 13) && before_lf)
+
+abbrev pub ends_two_byte_line : ℕ → ℕ → Bool
+ends_two_byte_line b1 b = (b == 0x85) && (b1 == 0xC2)
+
+abbrev pub ends_three_byte_line : ℕ → ℕ → ℕ → Bool
+ends_three_byte_line b2 b1 b = (nat_le 0xA8 b && nat_le b 0xA9) && ((b1 == 0x80) && (b2 == 0xE2))
+
 abbrev pub ends_line : ℕ → ℕ → ℕ → List ℕ → Bool
-ends_line b2 b1 b rest =
-    ((nat_le 10 b && nat_le b 13) && not ((b == 13) && starts_with_lf rest))
-    || ((b == 0x85) && (b1 == 0xC2))
-    || (((b == 0xA8) || (b == 0xA9)) && ((b1 == 0x80) && (b2 == 0xE2)))
+ends_line b2 b1 b rest = ends_ascii_line b (starts_with_lf rest) || ends_two_byte_line b1 b || ends_three_byte_line b2 b1 b
 
 abbrev pub ends_crlf_line : ℕ → ℕ → ℕ → List ℕ → Bool
 ends_crlf_line b2 b1 b rest = (b == 10) || ((b == 13) && not (starts_with_lf rest))

@@ -1,4 +1,5 @@
 pub mod Text
 pub mod Bytes
 pub mod Weights
+pub mod Lanes
 pub mod Examples

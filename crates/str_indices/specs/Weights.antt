@@ -1,5 +1,6 @@
 -- The numbers of a text's bytes: there is one for each byte, and none is above 2.
-use Rattle.std.proofs.Common.{◌≡◌, ℕ, zero, suc, ◌+◌, ◌≤◌, Bool, List, [], ◌∷◌, length, map, get_or, cond, refl, ap, arith}
+use Rattle.std.proofs.Common.{◌≡◌, ℕ, zero, suc, ◌+◌, ◌*◌, ◌≤◌, Bool, List, [], ◌∷◌, length, map, take, sum, get_or, cond, refl, ap, arith}
+use Rattle.std.proofs.lemmas.List.Sums.{sum_by-cons}
 use Rattle.std.proofs.lemmas.Bool.{cond_both}
 use Rattle.std.proofs.lemmas.List.{length-map}
 use Rattle.str_indices.specs.Bytes.{is_lead, is_lead_of_four, pair_weights, unit_weights, char_weights, tested_weights}
@@ -32,3 +33,21 @@ pub tested_small : (test : ℕ → ℕ → ℕ → List ℕ → Bool) (b2 b1 : �
 tested_small test b2 b1 [] at = omega arith
 tested_small test b2 b1 (b ∷ bs) zero = omega (arith, bit_small (test b2 b1 b bs))
 tested_small test b2 b1 (b ∷ bs) (suc at) = tested_small test b1 b bs at
+
+-- sums of numbers that are 2 at most
+sum_small : (ws : List ℕ) → ((at : ℕ) → get_or ws at 0 ≤ 2) → (n : ℕ) → sum (take n ws) ≤ 2 * n
+sum_small ws h zero = omega arith
+sum_small [] h (suc n) = omega arith
+sum_small (w ∷ ws) h (suc n) = omega (arith, sum_by-cons (λ x. x) w (take n ws), h 0, sum_small ws (λ at. h (suc at)) n)
+
+pub lead_sum : (bytes : List ℕ) (n : ℕ) → sum (take n (char_weights bytes)) ≤ 2 * n
+lead_sum bytes = sum_small (char_weights bytes) (lead_small bytes)
+
+pub pair_sum : (bytes : List ℕ) (n : ℕ) → sum (take n (pair_weights bytes)) ≤ 2 * n
+pair_sum bytes = sum_small (pair_weights bytes) (pair_small bytes)
+
+pub unit_sum : (bytes : List ℕ) (n : ℕ) → sum (take n (unit_weights bytes)) ≤ 2 * n
+unit_sum bytes = sum_small (unit_weights bytes) (unit_small bytes)
+
+pub tested_sum : (test : ℕ → ℕ → ℕ → List ℕ → Bool) (bytes : List ℕ) (n : ℕ) → sum (take n (tested_weights test 0 0 bytes)) ≤ 2 * n
+tested_sum test bytes = sum_small (tested_weights test 0 0 bytes) (tested_small test 0 0 bytes)

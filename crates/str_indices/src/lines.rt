@@ -6,7 +6,7 @@ ghost use Rattle.std.specs.Str.{chars};
 ghost use Rattle.str_indices.specs.Text.{is_line_break, breaks, break_ends, ends_up_to, end_place};
 
 use crate::measure::Lines;
-use crate::scan::{count_before, find_past};
+use crate::uncounted::{count_before, find_past};
 
 /// How many line breaks a text has: one less than its lines.
 pub fn count_breaks(text: &str) -> usize

@@ -1,9 +1,12 @@
 //! How often each byte of a text counts, in each scheme.
 
-ghost use Rattle.std.specs.Prelude.{◌≡◌, ℕ, ◌+◌, ◌<◌, ◌≤◌, List, [], ◌∷◌, length, drop, slice_index};
+ghost use Rattle.std.specs.Prelude.{◌≡◌, ℕ, ◌+◌, ◌*◌, ◌<◌, ◌≤◌, ◌==◌, if◌then◌else◌, List, ◌∷◌, length, drop, take, sum, slice_index};
+ghost use Rattle.str_indices.specs.Lanes.{HasLanes};
 ghost use Rattle.str_indices.specs.Text.{starts_with_lf};
-ghost use Rattle.str_indices.specs.Bytes.{is_lead, is_lead_of_four, char_weights, pair_weights, unit_weights, ends_line, line_weights};
-ghost use Rattle.str_indices.specs.Weights.{map_len, lead_small, pair_small, unit_small, tested_len, tested_small};
+ghost use Rattle.str_indices.specs.Bytes.{is_lead, is_lead_of_four, char_weights, pair_weights, unit_weights, ends_ascii_line, ends_two_byte_line, ends_three_byte_line, ends_line, line_weights};
+ghost use Rattle.str_indices.specs.Weights.{map_len, lead_small, pair_small, unit_small, tested_len, tested_small, pair_sum, unit_sum, tested_sum};
+
+use crate::byte_chunk::ByteChunk;
 
 const LF: u8 = 0x0A;
 
@@ -17,9 +20,18 @@ pub(crate) trait Measure {
         requires { at < length bytes.now }
         ensures { result ≡ slice_index (weights bytes.now) at };
 
+    /// The numbers of as many bytes as a chunk has lanes. There are two bytes before them, and one
+    /// after them.
+    fn chunk_weights<C: ByteChunk>(bytes: &[u8], at: usize) -> C
+        requires before { 2 ≤ at }
+        requires after { at + C.SIZE < length bytes.now }
+        ensures { HasLanes C.SIZE (C.lanes result) (λ i. slice_index (weights bytes.now) (at + i)) };
+
     ghost weights_len: { (bytes : List ℕ) → length (weights bytes) ≡ length bytes };
 
     ghost weights_small: { (bytes : List ℕ) (at : ℕ) → slice_index (weights bytes) at ≤ 2 };
+
+    ghost sums_small: { (bytes : List ℕ) (n : ℕ) → sum (take n (weights bytes)) ≤ 2 * n };
 }
 
 fn is_lead(byte: u8) -> bool
@@ -44,8 +56,15 @@ impl Measure for SurrogatePairs {
 
     ghost weights_small = { pair_small };
 
+    ghost sums_small = { pair_sum };
+
     fn weight(bytes: &[u8], at: usize) -> u8 {
         is_lead_of_four(bytes[at]) as u8
+    }
+
+    #[inline(always)]
+    fn chunk_weights<C: ByteChunk>(bytes: &[u8], at: usize) -> C {
+        C::load(bytes, at).bytes_between(0xF0, 0xFF)
     }
 }
 
@@ -59,8 +78,18 @@ impl Measure for Utf16Units {
 
     ghost weights_small = { unit_small };
 
+    ghost sums_small = { unit_sum };
+
     fn weight(bytes: &[u8], at: usize) -> u8 {
         is_lead(bytes[at]) as u8 + is_lead_of_four(bytes[at]) as u8
+    }
+
+    #[inline(always)]
+    fn chunk_weights<C: ByteChunk>(bytes: &[u8], at: usize) -> C {
+        let chunk = C::load(bytes, at);
+        let continuations = chunk.bytes_between(0x80, 0xBF);
+        let leads_of_four = chunk.bytes_between(0xF0, 0xFF);
+        C::splat(1).sub(continuations).add(leads_of_four)
     }
 }
 
@@ -102,6 +131,31 @@ fn ends_line(bytes: &[u8], at: usize) -> bool
     }
 }
 
+#[inline(always)]
+fn ascii_breaks<C: ByteChunk>(chunk: C, next: C) -> C
+    ensures { HasLanes C.SIZE (C.lanes result) (λ i. if ends_ascii_line (slice_index (C.lanes chunk) i) (slice_index (C.lanes next) i == 10) then 1 else 0) }
+{
+    let split = chunk.cmp_eq_byte(CR).bitand(next.cmp_eq_byte(LF));
+    chunk.bytes_between(LF, CR).sub(split)
+}
+
+#[inline(always)]
+fn two_byte_breaks<C: ByteChunk>(chunk: C, before: C) -> C
+    ensures { HasLanes C.SIZE (C.lanes result) (λ i. if ends_two_byte_line (slice_index (C.lanes before) i) (slice_index (C.lanes chunk) i) then 1 else 0) }
+{
+    chunk.cmp_eq_byte(0x85).bitand(before.cmp_eq_byte(0xC2))
+}
+
+#[inline(always)]
+fn three_byte_breaks<C: ByteChunk>(chunk: C, before: C, second_before: C) -> C
+    ensures { HasLanes C.SIZE (C.lanes result) (λ i. if ends_three_byte_line (slice_index (C.lanes second_before) i) (slice_index (C.lanes before) i) (slice_index (C.lanes chunk) i) then 1 else 0) }
+{
+    let lead = before
+        .cmp_eq_byte(0x80)
+        .bitand(second_before.cmp_eq_byte(0xE2));
+    chunk.bytes_between(0xA8, 0xA9).bitand(lead)
+}
+
 /// Each line break counts once, at its last byte.
 pub(crate) struct Lines;
 
@@ -112,7 +166,18 @@ impl Measure for Lines {
 
     ghost weights_small = { λ bytes at. tested_small _ 0 0 bytes at };
 
+    ghost sums_small = { λ bytes n. tested_sum _ bytes n };
+
     fn weight(bytes: &[u8], at: usize) -> u8 {
         ends_line(bytes, at) as u8
+    }
+
+    #[inline(always)]
+    fn chunk_weights<C: ByteChunk>(bytes: &[u8], at: usize) -> C {
+        let chunk = C::load(bytes, at);
+        let before = C::load(bytes, at - 1);
+        ascii_breaks(chunk, C::load(bytes, at + 1))
+            .add(two_byte_breaks(chunk, before))
+            .add(three_byte_breaks(chunk, before, C::load(bytes, at - 2)))
     }
 }

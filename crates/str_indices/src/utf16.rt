@@ -5,7 +5,7 @@ ghost use Rattle.std.specs.Str.{chars};
 ghost use Rattle.str_indices.specs.Text.{units, surrogate_pairs, unit_ends, unit_starts, ends_up_to};
 
 use crate::measure::{SurrogatePairs, Utf16Units};
-use crate::scan::{count_before, find_past};
+use crate::uncounted::{count_before, find_past};
 
 /// How many code units a text takes.
 pub fn count(text: &str) -> usize

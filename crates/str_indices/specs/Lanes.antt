@@ -1,0 +1,11 @@
+-- The lanes of a chunk of bytes, which are numbers from 0 to 255.
+use Rattle.std.specs.Prelude.{◌≡◌, ◌≤◌, ◌<◌, ℕ, List, length, slice_index}
+
+-- there are `count` lanes, and lane k holds f k
+pub record HasLanes (count : ℕ) (lanes : List ℕ) (f : ℕ → ℕ) : Type 0 where
+  pub long : length lanes ≡ count
+  pub each : (k : ℕ) → k < count → slice_index lanes k ≡ f k
+
+-- no lane is above a limit
+abbrev pub LanesUpTo : ℕ → List ℕ → Type 0
+LanesUpTo limit lanes = (k : ℕ) → slice_index lanes k ≤ limit
