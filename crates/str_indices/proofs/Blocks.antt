@@ -6,14 +6,7 @@ use Rattle.str_indices.specs.Bytes.{IsFirstPast}
 use Rattle.std.proofs.Math.Seq.{take-append-add}
 use Rattle.std.proofs.lemmas.List.{length-replicate, take-append-le, take-replicate}
 use Rattle.std.proofs.lemmas.List.Sums.{sum_by-cons, sum_by-append, sum_by_push, sum_by-take-le}
-
--- the number stands at the first byte of n
-abbrev pub first_block : ℕ → ℕ → List ℕ
-first_block n w = w ∷ replicate (n - 1) 0
-
--- and at the last
-abbrev pub last_block : ℕ → ℕ → List ℕ
-last_block n w = replicate (n - 1) 0 ++ w ∷ []
+use Rattle.str_indices.specs.Counts.{first_block, last_block}
 
 pub length-first_block : (n w : ℕ) → 1 ≤ n → length (first_block n w) ≡ n
 length-first_block n w h = omega (arith, length-replicate {A = ℕ} (n - 1) 0)

@@ -1,5 +1,5 @@
 -- From the numbers of a text's bytes to its ends: what the public functions answer.
-use Rattle.std.proofs.Common.{inl, inr, ◌≡◌, ℕ, zero, suc, ◌+◌, ◌-◌, ◌<◌, ◌≤◌, List, [], ◌∷◌, ◌++◌, length, take, drop, sum, cond, min, get_or, true, nat_le, refl, ap, subst, sym, ◌∙◌, arith, length-append}
+use Rattle.std.proofs.Common.{inl, inr, ◌≢◌, ◌≡◌, ℕ, zero, suc, ◌+◌, ◌-◌, ◌<◌, ◌≤◌, List, [], ◌∷◌, ◌++◌, length, take, drop, sum, cond, min, get_or, true, nat_le, refl, ap, subst, sym, ◌∙◌, arith, length-append}
 use Rattle.std.specs.Prelude.{encode_utf8_all, replicate}
 use Rattle.std.specs.Char.{encode_utf8, len_utf8}
 use Rattle.std.specs.Str.{chars, IsUtf8, IsCharBoundary, all_scalars}
@@ -8,21 +8,12 @@ use Rattle.std.proofs.lemmas.Bool.Decides.{nat_tests}
 use Rattle.std.proofs.lemmas.List.{take_min, take_all, length-replicate, get_or-append_right, get_or_append_left, drop_at}
 use Rattle.std.proofs.lemmas.List.Sums.{sum_by-cons}
 use Rattle.std.proofs.lemmas.Str.{encodes-chars, scalars-chars, length-encode, len_utf8_bounds, len_utf8_ascii, IsCharBoundary-at_seam, IsCharBoundary-from_rest}
-use Rattle.str_indices.specs.Text.{ends_from, starts_from, ends_up_to, units_of, units, surrogate_pairs}
+use Rattle.str_indices.specs.Text.{end_place, char_ends, ends_from, starts_from, ends_up_to, units_of, units, surrogate_pairs}
 use Rattle.str_indices.specs.Bytes.{IsFirstPast}
-use Rattle.str_indices.proofs.Encodings.{encode_two, encode_three, encode_four, len_two, len_four}
-use Rattle.str_indices.proofs.Blocks.{first_block, length-first_block, sum-first_block, sum-take_past}
-use Rattle.str_indices.proofs.Spread.{at_first_bytes, at_last_bytes, length-ends_from, sum-at_first_bytes, sum-take-last_bytes, first_past-starts, first_past-ends, up_to-append, up_to-replicate_past, up_to-replicate_within, up_to-start}
-
--- what `weights` makes of a text's bytes, where each character counts at its first byte
-pub record CountsFirstBytes (weights : List ℕ → List ℕ) (count : ℕ → List ℕ → ℕ) : Type 0 where
-  pub of_text : (text : List ℕ) → weights (encode_utf8_all text) ≡ at_first_bytes count text
-  pub len : (bytes : List ℕ) → length (weights bytes) ≡ length bytes
-
--- and at its last
-pub record CountsLastBytes (weights : List ℕ → List ℕ) (count : ℕ → List ℕ → ℕ) : Type 0 where
-  pub of_text : (text : List ℕ) → weights (encode_utf8_all text) ≡ at_last_bytes count text
-  pub len : (bytes : List ℕ) → length (weights bytes) ≡ length bytes
+use Rattle.str_indices.specs.Encodings.{encode_two, encode_three, encode_four, len_two, len_four}
+use Rattle.str_indices.proofs.Blocks.{length-first_block, sum-first_block, sum-take_past}
+use Rattle.str_indices.proofs.Spread.{length-ends_from, sum-at_first_bytes, sum-take-last_bytes, first_past-starts, first_past-ends, up_to-append, up_to-replicate_past, up_to-replicate_within, up_to-start}
+use Rattle.str_indices.specs.Counts.{CountsFirstBytes, CountsLastBytes, at_first_bytes, at_last_bytes, first_block}
 
 firsts : (weights : List ℕ → List ℕ) (count : ℕ → List ℕ → ℕ) → CountsFirstBytes weights count → (bytes : List ℕ) → IsUtf8 bytes → weights bytes ≡ at_first_bytes count (chars bytes)
 firsts weights count k bytes text = ap weights (sym (encodes-chars bytes text)) ∙ k.of_text (chars bytes)
@@ -58,6 +49,16 @@ last_bytes-place weights count k bytes text j r found =
     let long : length (at_last_bytes count (chars bytes)) ≡ length bytes = ap length (sym same) ∙ k.len bytes in
     let e : 0 + length (at_last_bytes count (chars bytes)) ≡ length bytes = omega arith in
     omega (arith, first_past-ends count 0 j r (chars bytes) moved, ap (λ n. get_or (ends_from count 0 (chars bytes)) j n) e)
+
+-- the place past the byte that is found, or the length, as the end of break k
+pub last_bytes-line : (weights : List ℕ → List ℕ) (count : ℕ → List ℕ → ℕ) → CountsLastBytes weights count → (text bytes : List ℕ) (k at : ℕ) → IsUtf8 text → k ≢ 0 → bytes ≡ text → IsFirstPast (weights bytes) (k - 1) at
+    → (min (at + 1) (length text) ≡ end_place (ends_from count 0 (chars text)) k (length text)) × (at ≤ length text)
+last_bytes-line weights count counts text bytes k at utf8 some same found =
+    let e : k ≡ suc (k - 1) = omega arith in (
+      last_bytes-place weights count counts text utf8 (k - 1) at (subst (λ bs. IsFirstPast (weights bs) (k - 1) at) same found)
+          ∙ ap (λ k. end_place (ends_from count 0 (chars text)) k (length text)) (sym e),
+      omega (arith, found.within, counts.len bytes, ap length same),
+    )
 
 -- ---- each character counts at its first byte
 pub first_bytes-count : (weights : List ℕ → List ℕ) (count : ℕ → List ℕ → ℕ) → CountsFirstBytes weights count → (bytes : List ℕ) → IsUtf8 bytes
@@ -203,3 +204,25 @@ length-pair_ends at (c ∷ cs) =
     let w = cond (nat_le 0x1_0000 c) 1 0 in
     length-append (replicate w (at + len_utf8 c)) (ends_from (λ c _. cond (nat_le 0x1_0000 c) 1 0) (at + len_utf8 c) cs)
     ∙ omega (arith, length-replicate {A = ℕ} w (at + len_utf8 c), length-pair_ends (at + len_utf8 c) cs, sum_by-cons (λ c. cond (nat_le 0x1_0000 c) 1 0) c cs)
+
+pub length-char_ends : (at : ℕ) (text : List ℕ) → length (ends_from (λ _ _. 1) at text) ≡ length text
+length-char_ends at [] = refl
+length-char_ends at (c ∷ cs) = ap suc (length-char_ends (at + len_utf8 c) cs)
+
+-- the characters after the first start where those before the last end
+later_starts : (at k last c : ℕ) (cs : List ℕ) → last ≡ at + length (encode_utf8_all (c ∷ cs))
+    → get_or (starts_from (λ _ _. 1) (at + len_utf8 c) cs) k last ≡ get_or (ends_from (λ _ _. 1) at (c ∷ cs)) k last
+later_starts at zero last c [] e = e ∙ omega (arith, length-append (encode_utf8 c) [], length-encode c)
+later_starts at zero last c (d ∷ ds) e = refl
+later_starts at (suc k) last c [] e = refl
+later_starts at (suc k) last c (d ∷ ds) e =
+    later_starts (at + len_utf8 c) k last d ds (omega (arith, e, length-append (encode_utf8 c) (encode_utf8_all (d ∷ ds)), length-encode c))
+
+starts_are_ends : (k last : ℕ) (text : List ℕ) → last ≡ length (encode_utf8_all text) → get_or (starts_from (λ _ _. 1) 0 text) k last ≡ end_place (char_ends text) k last
+starts_are_ends zero last [] e = e
+starts_are_ends (suc k) last [] e = refl
+starts_are_ends zero last (c ∷ cs) e = refl
+starts_are_ends (suc k) last (c ∷ cs) e = later_starts 0 k last c cs (omega arith)
+
+pub char_starts-are_ends : (bytes : List ℕ) (k : ℕ) → IsUtf8 bytes → get_or (starts_from (λ _ _. 1) 0 (chars bytes)) k (length bytes) ≡ end_place (char_ends (chars bytes)) k (length bytes)
+char_starts-are_ends bytes k text = starts_are_ends k (length bytes) (chars bytes) (ap length (sym (encodes-chars bytes text)))

@@ -7,17 +7,8 @@ use Rattle.std.proofs.lemmas.List.Sums.{sum_by-cons, sum_by-append}
 use Rattle.std.proofs.lemmas.Str.{len_utf8_bounds}
 use Rattle.str_indices.specs.Text.{ends_from, starts_from, ends_up_to}
 use Rattle.str_indices.specs.Bytes.{IsFirstPast}
-use Rattle.str_indices.proofs.Blocks.{first_past-enters, first_past-rest, first_past-at_first, first_past-at_last, first_block, last_block, length-first_block, length-last_block, sum-first_block, sum-last_block, sum-take-last_block, sum-take_within, sum-take_past}
-
--- each character counts at its first byte
-abbrev pub at_first_bytes : (ℕ → List ℕ → ℕ) → List ℕ → List ℕ
-at_first_bytes count [] = []
-at_first_bytes count (c ∷ cs) = first_block (len_utf8 c) (count c cs) ++ at_first_bytes count cs
-
--- and at its last
-abbrev pub at_last_bytes : (ℕ → List ℕ → ℕ) → List ℕ → List ℕ
-at_last_bytes count [] = []
-at_last_bytes count (c ∷ cs) = last_block (len_utf8 c) (count c cs) ++ at_last_bytes count cs
+use Rattle.str_indices.proofs.Blocks.{first_past-enters, first_past-rest, first_past-at_first, first_past-at_last, length-first_block, length-last_block, sum-first_block, sum-last_block, sum-take-last_block, sum-take_within, sum-take_past}
+use Rattle.str_indices.specs.Counts.{at_first_bytes, at_last_bytes, first_block, last_block}
 
 long : (c : ℕ) → 1 ≤ len_utf8 c
 long c = (len_utf8_bounds c).0

@@ -2,8 +2,15 @@
 //! lines, as the Rust crate `str_indices` has them.
 #![tactic(auto)]
 
+mod breaks;
 pub mod byte_chunk;
+mod char_index;
+pub mod chars;
+mod leads;
+mod line_index;
 pub mod lines;
+pub mod lines_crlf;
+pub mod lines_lf;
 mod measure;
 mod scan;
 pub mod steps;
