@@ -4,3 +4,4 @@ pub mod Tested
 pub mod Indices
 pub mod Vectors
 pub mod Chunks
+pub mod Words

@@ -1,5 +1,5 @@
 -- The lanes of a chunk of bytes, which are numbers from 0 to 255.
-use Rattle.std.specs.Prelude.{◌≡◌, ◌≤◌, ◌<◌, ℕ, List, length, slice_index}
+use Rattle.std.specs.Prelude.{◌≡◌, ◌≤◌, ◌<◌, ℕ, zero, suc, ◌/◌, ◌%◌, List, [], ◌∷◌, length, slice_index}
 
 -- there are `count` lanes, and lane k holds f k
 pub record HasLanes (count : ℕ) (lanes : List ℕ) (f : ℕ → ℕ) : Type 0 where
@@ -9,3 +9,8 @@ pub record HasLanes (count : ℕ) (lanes : List ℕ) (f : ℕ → ℕ) : Type 0 
 -- no lane is above a limit
 abbrev pub LanesUpTo : ℕ → List ℕ → Type 0
 LanesUpTo limit lanes = (k : ℕ) → slice_index lanes k ≤ limit
+
+-- the lowest `count` bytes of a number, the lowest first
+abbrev pub low_bytes : ℕ → ℕ → List ℕ
+low_bytes zero n = []
+low_bytes (suc count) n = (n % 256) ∷ low_bytes count (n / 256)

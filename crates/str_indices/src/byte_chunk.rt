@@ -4,6 +4,7 @@ ghost use Rattle.std.specs.Prelude.{◌≡◌, ℕ, ◌+◌, ◌-◌, ◌<◌, �
 ghost use Rattle.str_indices.specs.Lanes.{HasLanes, LanesUpTo};
 
 mod vector;
+mod word;
 
 pub use std::simd::u8x16 as Chunk;
 
