@@ -5,3 +5,6 @@ pub mod Indices
 pub mod Vectors
 pub mod Chunks
 pub mod Words
+pub mod Joined
+pub mod Places
+pub mod Units

@@ -10,7 +10,7 @@ use Rattle.str_indices.specs.Bytes.{IsFirstPast}
 use Rattle.str_indices.proofs.Blocks.{first_past-enters, first_past-rest, first_past-at_first, first_past-at_last, length-first_block, length-last_block, sum-first_block, sum-last_block, sum-take-last_block, sum-take_within, sum-take_past}
 use Rattle.str_indices.specs.Counts.{at_first_bytes, at_last_bytes, first_block, last_block}
 
-long : (c : ℕ) → 1 ≤ len_utf8 c
+pub long : (c : ℕ) → 1 ≤ len_utf8 c
 long c = (len_utf8_bounds c).0
 
 sum-take-nil : (i : ℕ) → sum (take i []) ≡ 0
@@ -95,12 +95,12 @@ sum-take-last_bytes count at b (c ∷ cs) =
 
 -- ---- the place of an end
 -- the k-th of a list that begins with equal members
-among-equal : (w x k d : ℕ) (rest : List ℕ) → k < w → get_or (replicate w x ++ rest) k d ≡ x
+pub among-equal : (w x k d : ℕ) (rest : List ℕ) → k < w → get_or (replicate w x ++ rest) k d ≡ x
 among-equal w x k d rest h =
     let inside : k < length (replicate w x) = omega (arith, length-replicate w x) in
     get_or_append_left (replicate w x) rest d k inside ∙ get_or-replicate w k x d h
 
-past-equal : (w x k d : ℕ) (rest : List ℕ) → w ≤ k → get_or (replicate w x ++ rest) k d ≡ get_or rest (k - w) d
+pub past-equal : (w x k d : ℕ) (rest : List ℕ) → w ≤ k → get_or (replicate w x ++ rest) k d ≡ get_or rest (k - w) d
 past-equal w x k d rest h = get_or-append_right (replicate w x) rest w k d (length-replicate w x) h
 
 -- where each character counts at its first byte, the byte that is found starts the character

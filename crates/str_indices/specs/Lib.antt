@@ -6,4 +6,5 @@ pub mod Encodings
 pub mod LeadBytes
 pub mod BreakBytes
 pub mod Lanes
+pub mod Laws
 pub mod Examples

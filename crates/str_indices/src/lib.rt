@@ -6,6 +6,7 @@ mod breaks;
 pub mod byte_chunk;
 mod char_index;
 pub mod chars;
+pub mod laws;
 mod leads;
 mod line_index;
 pub mod lines;
