@@ -1,6 +1,9 @@
 //! Answers that are known from outside, each public function among them.
 
-use crate::{lines, utf16};
+mod kernels;
+mod plain;
+
+use crate::{chars, lines, lines_crlf, lines_lf, utf16};
 
 const LINES: &str = "Here\r\nare\r\nsome\r\nwords";
 
@@ -78,4 +81,43 @@ fn unit_of_a_byte(rt: HostRuntime) {
     assert_eq!(rt; utf16::from_byte_idx(FROGS, 23), 17);
     assert_eq!(rt; utf16::from_byte_idx(FROGS, 45), 27);
     assert_eq!(rt; utf16::from_byte_idx(FROGS, 500), 27);
+}
+
+const BREAKS: &str = "\r\n\r\n\r\n\r\n\r\n\r\n\r\n\r\n\r\n\r\n\r\n\r\n\r\n\r\n\r\n\r\n\r\n\r\n\r\n\r\n\r\n\r\n\r\n\r\n\r\n\r\n\r\n\r\n\r\n\r\n\r\n\r\n";
+
+#[test]
+fn breaks_of_two_bytes_in_a_row(rt: HostRuntime) {
+    assert_eq!(rt; BREAKS.len(), 64);
+    assert_eq!(rt; lines::count_breaks(BREAKS), 32);
+    assert_eq!(rt; lines_crlf::count_breaks(BREAKS), 32);
+    assert_eq!(rt; lines_lf::count_breaks(BREAKS), 32);
+    let odd = BREAKS.get(1..).expect(&rt, "a boundary");
+    assert_eq!(rt; lines::count_breaks(odd), 32);
+    assert_eq!(rt; lines_crlf::count_breaks(odd), 32);
+    assert_eq!(rt; lines_lf::count_breaks(odd), 32);
+}
+
+#[test]
+fn lines_of_each_set(rt: HostRuntime) {
+    let mixed = "a\r\n\u{2028}\r";
+    assert_eq!(rt; lines_crlf::count_breaks(mixed), 2);
+    assert_eq!(rt; lines_crlf::to_byte_idx(mixed, 2), 7);
+    assert_eq!(rt; lines_crlf::from_byte_idx(mixed, 6), 1);
+    assert_eq!(rt; lines_lf::count_breaks(mixed), 1);
+    assert_eq!(rt; lines_lf::to_byte_idx(mixed, 1), 3);
+    assert_eq!(rt; lines_lf::to_byte_idx(mixed, 2), 7);
+    assert_eq!(rt; lines_lf::from_byte_idx(mixed, 2), 0);
+    assert_eq!(rt; lines_lf::from_byte_idx(mixed, 7), 1);
+}
+
+#[test]
+fn characters_of_a_text(rt: HostRuntime) {
+    assert_eq!(rt; chars::count(FROGS), 23);
+    assert_eq!(rt; chars::from_byte_idx(FROGS, 3), 3);
+    assert_eq!(rt; chars::from_byte_idx(FROGS, 6), 3);
+    assert_eq!(rt; chars::from_byte_idx(FROGS, 7), 4);
+    assert_eq!(rt; chars::from_byte_idx(FROGS, 500), 23);
+    assert_eq!(rt; chars::to_byte_idx(FROGS, 4), 7);
+    assert_eq!(rt; chars::to_byte_idx(FROGS, 23), 45);
+    assert_eq!(rt; chars::to_byte_idx(FROGS, 24), 45);
 }
