@@ -218,7 +218,7 @@ later_starts at (suc k) last c [] e = refl
 later_starts at (suc k) last c (d ∷ ds) e =
     later_starts (at + len_utf8 c) k last d ds (omega (arith, e, length-append (encode_utf8 c) (encode_utf8_all (d ∷ ds)), length-encode c))
 
-starts_are_ends : (k last : ℕ) (text : List ℕ) → last ≡ length (encode_utf8_all text) → get_or (starts_from (λ _ _. 1) 0 text) k last ≡ end_place (char_ends text) k last
+pub starts_are_ends : (k last : ℕ) (text : List ℕ) → last ≡ length (encode_utf8_all text) → get_or (starts_from (λ _ _. 1) 0 text) k last ≡ end_place (char_ends text) k last
 starts_are_ends zero last [] e = e
 starts_are_ends (suc k) last [] e = refl
 starts_are_ends zero last (c ∷ cs) e = refl

@@ -8,3 +8,4 @@ pub mod Words
 pub mod Joined
 pub mod Places
 pub mod Units
+pub mod Order

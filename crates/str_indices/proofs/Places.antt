@@ -17,7 +17,7 @@ pub bytes-cons : (c : ℕ) (cs : List ℕ) → byte_len (c ∷ cs) ≡ len_utf8 
 bytes-cons c cs = omega (arith, length-append (encode_utf8 c) (encode_utf8_all cs), length-encode c)
 
 -- ---- no end and no start lies before the text's start
-ends-low : (count : ℕ → List ℕ → ℕ) (at k last : ℕ) (text : List ℕ) → at + byte_len text ≤ last → at ≤ get_or (ends_from count at text) k last
+pub ends-low : (count : ℕ → List ℕ → ℕ) (at k last : ℕ) (text : List ℕ) → at + byte_len text ≤ last → at ≤ get_or (ends_from count at text) k last
 ends-low count at k last [] h = omega arith
 ends-low count at k last (c ∷ cs) h =
     let n = len_utf8 c in
@@ -151,7 +151,7 @@ unit_starts-boundaries text k scalar = starts-boundary (λ c _. units_of c) [] k
 pub up_to-cons : (w e b : ℕ) (rest : List ℕ) → e ≤ b → ends_up_to b (replicate w e ++ rest) ≡ w + ends_up_to b rest
 up_to-cons w e b rest h = omega (arith, up_to-append b (replicate w e) rest, up_to-replicate_within w e b h)
 
-ends-back : (count : ℕ → List ℕ → ℕ) → ((c : ℕ) (cs : List ℕ) → count c cs ≤ 1) → (at k last : ℕ) (text : List ℕ) → at + byte_len text ≤ last
+pub ends-back : (count : ℕ → List ℕ → ℕ) → ((c : ℕ) (cs : List ℕ) → count c cs ≤ 1) → (at k last : ℕ) (text : List ℕ) → at + byte_len text ≤ last
     → ends_up_to (get_or (ends_from count at text) k last) (ends_from count at text) ≡ min (k + 1) (length (ends_from count at text))
 ends-back count once at k last [] h = omega arith
 ends-back count once at k last (c ∷ cs) h =

@@ -1,7 +1,7 @@
 -- Laws of the definitions, for every text.
-use Rattle.std.specs.Prelude.{◌≡◌, ℕ, ◌+◌, ◌-◌, ◌<◌, ◌≤◌, Bool, false, ◌&&◌, if◌then◌else◌, min, List, [], ◌∷◌, ◌++◌, length, slice_index, slice_index_or, true, encode_utf8_all, ◌==◌}
+use Rattle.std.specs.Prelude.{◌≡◌, ℕ, ◌+◌, ◌-◌, ◌<◌, ◌≤◌, ◌↔◌, Bool, false, ◌&&◌, if◌then◌else◌, min, List, [], ◌∷◌, ◌++◌, length, slice_index, slice_index_or, true, encode_utf8_all, ◌==◌}
 use Rattle.std.specs.Str.{IsCharBoundary, all_scalars}
-use Rattle.str_indices.specs.Text.{starts_with_lf, breaks, units, surrogate_pairs, unit_ends, unit_starts, ends_up_to, end_place}
+use Rattle.str_indices.specs.Text.{starts_with_lf, breaks, char_ends, units, surrogate_pairs, unit_ends, unit_starts, ends_up_to, end_place}
 
 -- how many bytes a text takes
 abbrev pub byte_len : List ℕ → ℕ
@@ -68,3 +68,33 @@ SecondUnitComesBackToFirst = (text : List ℕ) (k : ℕ) → IsSecondUnit text k
 
 abbrev pub OtherUnitsComeBack : Type 0
 OtherUnitsComeBack = (text : List ℕ) (k : ℕ) → ¬ (IsSecondUnit text k) → ends_up_to (slice_index_or (unit_starts text) k (byte_len text)) (unit_ends text) ≡ min k (units text)
+
+-- ---- the order of places and the order of indices
+-- an end lies at or before a place exactly if so many ends do
+abbrev pub EndsAndPlacesAgree : (List ℕ → List ℕ) → Type 0
+EndsAndPlacesAgree ends = (text : List ℕ) (k place : ℕ) → k ≤ length (ends text) → (end_place (ends text) k (byte_len text) ≤ place) ↔ (k ≤ ends_up_to place (ends text))
+
+-- the last end up to a place lies at or before it
+abbrev pub LastEndIsBefore : (List ℕ → List ℕ) → Type 0
+LastEndIsBefore ends = (text : List ℕ) (place : ℕ) → end_place (ends text) (ends_up_to place (ends text)) (byte_len text) ≤ min place (byte_len text)
+
+abbrev pub LastUnitStartIsBefore : Type 0
+LastUnitStartIsBefore = (text : List ℕ) (place : ℕ) → slice_index_or (unit_starts text) (ends_up_to place (unit_ends text)) (byte_len text) ≤ min place (byte_len text)
+
+-- the boundary between two parts of a text lies at or before character k exactly if no more than k characters end up to it
+abbrev pub CharsAndBoundariesAgree : Type 0
+CharsAndBoundariesAgree = (before after : List ℕ) (k : ℕ)
+    → (byte_len before ≤ end_place (char_ends (before ++ after)) k (byte_len (before ++ after))) ↔ (ends_up_to (byte_len before) (char_ends (before ++ after)) ≤ k)
+
+abbrev pub UnitsAndBoundariesAgree : Type 0
+UnitsAndBoundariesAgree = (before after : List ℕ) (k : ℕ)
+    → (byte_len before ≤ slice_index_or (unit_starts (before ++ after)) k (byte_len (before ++ after))) ↔ (ends_up_to (byte_len before) (unit_ends (before ++ after)) ≤ k)
+
+-- no boundary lies between a place and where its index leads back to
+abbrev pub CharsGoToLastBoundary : Type 0
+CharsGoToLastBoundary = (before after : List ℕ) (place : ℕ) → byte_len before ≤ place
+    → byte_len before ≤ end_place (char_ends (before ++ after)) (ends_up_to place (char_ends (before ++ after))) (byte_len (before ++ after))
+
+abbrev pub UnitsGoToLastBoundary : Type 0
+UnitsGoToLastBoundary = (before after : List ℕ) (place : ℕ) → byte_len before ≤ place
+    → byte_len before ≤ slice_index_or (unit_starts (before ++ after)) (ends_up_to place (unit_ends (before ++ after))) (byte_len (before ++ after))

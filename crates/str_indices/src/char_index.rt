@@ -35,6 +35,7 @@ pub(crate) fn count_impl<M: CharMeasure, C: ByteChunk, L: Ledger>(
     steps: &mut Steps<L>,
 ) -> usize
     ensures count { result ≡ length (ends_from M.count 0 (chars text.now)) }
+    ensures one_by_one { steps.old + min leading (length text.now) ≤ steps.new }
     ensures turns { steps.new ≤ steps.old + min leading (length text.now) + C.SIZE + 4 }
 {
     scan::count_before::<M, C, L>(text.as_bytes(), text.len(), leading, steps)
@@ -47,6 +48,7 @@ pub(crate) fn to_byte_idx_impl<M: CharMeasure, C: ByteChunk, L: Ledger>(
     steps: &mut Steps<L>,
 ) -> usize
     ensures place { result ≡ slice_index_or (starts_from M.count 0 (chars text.now)) idx (length text.now) }
+    ensures one_by_one { steps.old + min leading result ≤ steps.new }
     ensures turns { steps.new ≤ steps.old + min leading (length text.now) + C.SIZE + 4 }
 {
     scan::find_past::<M, C, L>(text.as_bytes(), idx, leading, steps)

@@ -42,6 +42,7 @@ pub fn count_impl<C: ByteChunk, L: Ledger>(
     steps: &mut Steps<L>,
 ) -> usize
     ensures count { result ≡ length (chars text.now) }
+    ensures one_by_one { steps.old + min leading (length text.now) ≤ steps.new }
     ensures turns { steps.new ≤ steps.old + min leading (length text.now) + C.SIZE + 4 }
 {
     char_index::count_impl::<CharStarts, C, L>(text, leading, steps)
@@ -56,6 +57,7 @@ pub fn to_byte_idx_impl<C: ByteChunk, L: Ledger>(
     steps: &mut Steps<L>,
 ) -> usize
     ensures place { result ≡ end_place (char_ends (chars text.now)) char_idx (length text.now) }
+    ensures one_by_one { steps.old + min leading result ≤ steps.new }
     ensures turns { steps.new ≤ steps.old + min leading (length text.now) + C.SIZE + 4 }
 {
     char_index::to_byte_idx_impl::<CharStarts, C, L>(text, char_idx, leading, steps)

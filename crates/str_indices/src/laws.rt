@@ -3,7 +3,7 @@
 
 ghost use Rattle.std.specs.Prelude.{ℕ, Bool, length};
 ghost use Rattle.str_indices.specs.Text.{is_line_break, is_crlf_break, is_lf_break, break_ends, char_ends, unit_ends, units, surrogate_pairs};
-ghost use Rattle.str_indices.specs.Laws.{JoinsBreaks, LosesBreakInCrLf, LosesNoBreak, AddsUp, UnitsAreCharsAndPairs, FewerBreaks, RisesWithPlace, RisesWithIndex, UnitStartsRise, EndsAreBoundaries, UnitStartsAreBoundaries, ComesBack, SecondUnitComesBackToFirst, OtherUnitsComeBack};
+ghost use Rattle.str_indices.specs.Laws.{JoinsBreaks, LosesBreakInCrLf, LosesNoBreak, AddsUp, UnitsAreCharsAndPairs, FewerBreaks, RisesWithPlace, RisesWithIndex, UnitStartsRise, EndsAreBoundaries, UnitStartsAreBoundaries, ComesBack, SecondUnitComesBackToFirst, OtherUnitsComeBack, EndsAndPlacesAgree, LastEndIsBefore, LastUnitStartIsBefore, CharsAndBoundariesAgree, UnitsAndBoundariesAgree, CharsGoToLastBoundary, UnitsGoToLastBoundary};
 
 /// Breaks of two texts joined are the sum, less one exactly if the first ends in CR and the second
 /// starts with LF, in a scheme where CR is a break.
@@ -60,4 +60,27 @@ pub fn conversion_there_and_back()
     ensures lines { (is_break : ℕ → Bool) → ComesBack (break_ends is_break) }
     ensures second_unit { SecondUnitComesBackToFirst }
     ensures other_units { OtherUnitsComeBack }
+{}
+
+/// An end lies at or before a place exactly if so many ends do, for an index up to the count.
+pub fn ends_and_places_agree()
+    ensures chars { EndsAndPlacesAgree char_ends }
+    ensures lines { (is_break : ℕ → Bool) → EndsAndPlacesAgree (break_ends is_break) }
+{}
+
+/// A character boundary lies at or before `to_byte_idx` of an index exactly if `from_byte_idx` of it is
+/// no greater than the index.
+pub fn boundaries_and_indices_agree()
+    ensures chars { CharsAndBoundariesAgree }
+    ensures units { UnitsAndBoundariesAgree }
+{}
+
+/// `to_byte_idx` of `from_byte_idx` lies at or before the place and the text's length. For characters and
+/// code units no boundary up to the place lies behind it.
+pub fn place_there_and_back()
+    ensures lines { (is_break : ℕ → Bool) → LastEndIsBefore (break_ends is_break) }
+    ensures chars { LastEndIsBefore char_ends }
+    ensures units { LastUnitStartIsBefore }
+    ensures nearest_char { CharsGoToLastBoundary }
+    ensures nearest_unit { UnitsGoToLastBoundary }
 {}

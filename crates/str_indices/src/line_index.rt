@@ -38,6 +38,7 @@ pub(crate) fn count_breaks_impl<M: BreakMeasure, C: ByteChunk, L: Ledger>(
     steps: &mut Steps<L>,
 ) -> usize
     ensures count { result ≡ breaks M.is_break (chars text.now) }
+    ensures one_by_one { steps.old + min leading (length text.now) ≤ steps.new }
     ensures turns { steps.new ≤ steps.old + min leading (length text.now) + C.SIZE + 4 }
 {
     scan::count_before::<M, C, L>(text.as_bytes(), text.len(), leading, steps)
@@ -50,6 +51,7 @@ pub(crate) fn to_byte_idx_impl<M: BreakMeasure, C: ByteChunk, L: Ledger>(
     steps: &mut Steps<L>,
 ) -> usize
     ensures place { result ≡ end_place (break_ends M.is_break (chars text.now)) line_idx (length text.now) }
+    ensures one_by_one { steps.old + min leading result ≤ steps.new }
     ensures turns { steps.new ≤ steps.old + min leading (length text.now) + C.SIZE + 4 }
 {
     if line_idx == 0 {

@@ -44,6 +44,7 @@ pub fn count_breaks_impl<C: ByteChunk, L: Ledger>(
     steps: &mut Steps<L>,
 ) -> usize
     ensures count { result ≡ breaks is_line_break (chars text.now) }
+    ensures one_by_one { steps.old + min leading (length text.now) ≤ steps.new }
     ensures turns { steps.new ≤ steps.old + min leading (length text.now) + C.SIZE + 4 }
 {
     line_index::count_breaks_impl::<LineBreaks, C, L>(text, leading, steps)
@@ -58,6 +59,7 @@ pub fn to_byte_idx_impl<C: ByteChunk, L: Ledger>(
     steps: &mut Steps<L>,
 ) -> usize
     ensures place { result ≡ end_place (break_ends is_line_break (chars text.now)) line_idx (length text.now) }
+    ensures one_by_one { steps.old + min leading result ≤ steps.new }
     ensures turns { steps.new ≤ steps.old + min leading (length text.now) + C.SIZE + 4 }
 {
     line_index::to_byte_idx_impl::<LineBreaks, C, L>(text, line_idx, leading, steps)

@@ -43,6 +43,7 @@ pub fn count_breaks_impl<C: ByteChunk, L: Ledger>(
     steps: &mut Steps<L>,
 ) -> usize
     ensures count { result ≡ breaks is_lf_break (chars text.now) }
+    ensures one_by_one { steps.old + min leading (length text.now) ≤ steps.new }
     ensures turns { steps.new ≤ steps.old + min leading (length text.now) + C.SIZE + 4 }
 {
     line_index::count_breaks_impl::<LfBreaks, C, L>(text, leading, steps)
@@ -57,6 +58,7 @@ pub fn to_byte_idx_impl<C: ByteChunk, L: Ledger>(
     steps: &mut Steps<L>,
 ) -> usize
     ensures place { result ≡ end_place (break_ends is_lf_break (chars text.now)) line_idx (length text.now) }
+    ensures one_by_one { steps.old + min leading result ≤ steps.new }
     ensures turns { steps.new ≤ steps.old + min leading (length text.now) + C.SIZE + 4 }
 {
     line_index::to_byte_idx_impl::<LfBreaks, C, L>(text, line_idx, leading, steps)

@@ -93,6 +93,7 @@ pub(crate) fn count_before<M: Measure, C: ByteChunk, L: Ledger>(
 ) -> usize
     requires { end ≤ length bytes.now }
     ensures count { result ≡ sum (take end (M.weights bytes.now)) }
+    ensures one_by_one { steps.old + min leading end ≤ steps.new }
     ensures turns { steps.new ≤ steps.old + min leading end + C.SIZE + 4 }
 {
     let first = leading.max(2).min(end);
@@ -121,7 +122,7 @@ fn skip_bytes<M: Measure, L: Ledger>(
     ensures low { from ≤ result.1 }
     ensures high { result.1 ≤ end }
     ensures passed { result.1 < end → k < sum (take (result.1 + 1) (M.weights bytes.now)) }
-    ensures turns { steps.new ≤ steps.old + min (result.1 + 1 - from) (end - from) }
+    ensures turns { steps.new ≡ steps.old + min (result.1 + 1 - from) (end - from) }
 {
     let mut count = count;
     for at in from..end {
@@ -181,6 +182,8 @@ pub(crate) fn find_past<M: Measure, C: ByteChunk, L: Ledger>(
     steps: &mut Steps<L>,
 ) -> usize
     ensures place { IsFirstPast (M.weights bytes.now) k result }
+    ensures within { result ≤ length bytes.now }
+    ensures one_by_one { steps.old + min leading (min (result + 1) (length bytes.now)) ≤ steps.new }
     ensures turns { steps.new ≤ steps.old + min leading (length bytes.now) + C.SIZE + 4 }
 {
     let end = bytes.len();

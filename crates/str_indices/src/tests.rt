@@ -83,7 +83,8 @@ fn unit_of_a_byte(rt: HostRuntime) {
     assert_eq!(rt; utf16::from_byte_idx(FROGS, 500), 27);
 }
 
-const BREAKS: &str = "\r\n\r\n\r\n\r\n\r\n\r\n\r\n\r\n\r\n\r\n\r\n\r\n\r\n\r\n\r\n\r\n\r\n\r\n\r\n\r\n\r\n\r\n\r\n\r\n\r\n\r\n\r\n\r\n\r\n\r\n\r\n\r\n";
+const BREAKS: &str =
+    "\r\n\r\n\r\n\r\n\r\n\r\n\r\n\r\n\r\n\r\n\r\n\r\n\r\n\r\n\r\n\r\n\r\n\r\n\r\n\r\n\r\n\r\n\r\n\r\n\r\n\r\n\r\n\r\n\r\n\r\n\r\n\r\n";
 
 #[test]
 fn breaks_of_two_bytes_in_a_row(rt: HostRuntime) {

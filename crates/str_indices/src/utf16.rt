@@ -49,6 +49,7 @@ pub fn count_surrogates_impl<C: ByteChunk, L: Ledger>(
     steps: &mut Steps<L>,
 ) -> usize
     ensures count { result ≡ surrogate_pairs (chars text.now) }
+    ensures one_by_one { steps.old + min leading (length text.now) ≤ steps.new }
     ensures turns { steps.new ≤ steps.old + min leading (length text.now) + C.SIZE + 4 }
 {
     char_index::count_impl::<SurrogatePairs, C, L>(text, leading, steps)
@@ -63,6 +64,7 @@ pub fn to_byte_idx_impl<C: ByteChunk, L: Ledger>(
     steps: &mut Steps<L>,
 ) -> usize
     ensures place { result ≡ slice_index_or (unit_starts (chars text.now)) utf16_idx (length text.now) }
+    ensures one_by_one { steps.old + min leading result ≤ steps.new }
     ensures turns { steps.new ≤ steps.old + min leading (length text.now) + C.SIZE + 4 }
 {
     char_index::to_byte_idx_impl::<Utf16Units, C, L>(text, utf16_idx, leading, steps)

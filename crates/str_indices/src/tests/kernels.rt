@@ -24,10 +24,22 @@ fn check_counts<C: ByteChunk, L: Ledger, R: Abort>(rt: &R, text: &str, steps: &m
     let lines_lf = plain::line_of(text, end, Breaks::Lf);
     for leading in 0..end.wrapping_add(2) {
         assert_eq!(rt; chars::count_impl::<C, L>(text, leading, steps), chars);
-        assert_eq!(rt; utf16::count_surrogates_impl::<C, L>(text, leading, steps).wrapping_add(chars), units);
-        assert_eq!(rt; lines::count_breaks_impl::<C, L>(text, leading, steps), lines);
-        assert_eq!(rt; lines_crlf::count_breaks_impl::<C, L>(text, leading, steps), lines_crlf);
-        assert_eq!(rt; lines_lf::count_breaks_impl::<C, L>(text, leading, steps), lines_lf);
+        assert_eq!(rt;
+            utf16::count_surrogates_impl::<C, L>(text, leading, steps).wrapping_add(chars),
+            units
+        );
+        assert_eq!(rt;
+            lines::count_breaks_impl::<C, L>(text, leading, steps),
+            lines
+        );
+        assert_eq!(rt;
+            lines_crlf::count_breaks_impl::<C, L>(text, leading, steps),
+            lines_crlf
+        );
+        assert_eq!(rt;
+            lines_lf::count_breaks_impl::<C, L>(text, leading, steps),
+            lines_lf
+        );
     }
 }
 
@@ -43,11 +55,26 @@ fn check_places<C: ByteChunk, L: Ledger, R: Abort>(
     let line_crlf = plain::start_of_line(text, idx, Breaks::Crlf);
     let line_lf = plain::start_of_line(text, idx, Breaks::Lf);
     for leading in 0..text.len().wrapping_add(2) {
-        assert_eq!(rt; chars::to_byte_idx_impl::<C, L>(text, idx, leading, steps), start_of_char);
-        assert_eq!(rt; utf16::to_byte_idx_impl::<C, L>(text, idx, leading, steps), start_of_unit);
-        assert_eq!(rt; lines::to_byte_idx_impl::<C, L>(text, idx, leading, steps), line);
-        assert_eq!(rt; lines_crlf::to_byte_idx_impl::<C, L>(text, idx, leading, steps), line_crlf);
-        assert_eq!(rt; lines_lf::to_byte_idx_impl::<C, L>(text, idx, leading, steps), line_lf);
+        assert_eq!(rt;
+            chars::to_byte_idx_impl::<C, L>(text, idx, leading, steps),
+            start_of_char
+        );
+        assert_eq!(rt;
+            utf16::to_byte_idx_impl::<C, L>(text, idx, leading, steps),
+            start_of_unit
+        );
+        assert_eq!(rt;
+            lines::to_byte_idx_impl::<C, L>(text, idx, leading, steps),
+            line
+        );
+        assert_eq!(rt;
+            lines_crlf::to_byte_idx_impl::<C, L>(text, idx, leading, steps),
+            line_crlf
+        );
+        assert_eq!(rt;
+            lines_lf::to_byte_idx_impl::<C, L>(text, idx, leading, steps),
+            line_lf
+        );
     }
 }
 
@@ -55,9 +82,18 @@ fn check_from_byte<R: Abort>(rt: &R, text: &str, idx: usize) {
     let (chars, units) = plain::chars_and_units_to(text, idx);
     assert_eq!(rt; chars::from_byte_idx(text, idx), chars);
     assert_eq!(rt; utf16::from_byte_idx(text, idx), units);
-    assert_eq!(rt; lines::from_byte_idx(text, idx), plain::line_of(text, idx, Breaks::Unicode));
-    assert_eq!(rt; lines_crlf::from_byte_idx(text, idx), plain::line_of(text, idx, Breaks::Crlf));
-    assert_eq!(rt; lines_lf::from_byte_idx(text, idx), plain::line_of(text, idx, Breaks::Lf));
+    assert_eq!(rt;
+        lines::from_byte_idx(text, idx),
+        plain::line_of(text, idx, Breaks::Unicode)
+    );
+    assert_eq!(rt;
+        lines_crlf::from_byte_idx(text, idx),
+        plain::line_of(text, idx, Breaks::Crlf)
+    );
+    assert_eq!(rt;
+        lines_lf::from_byte_idx(text, idx),
+        plain::line_of(text, idx, Breaks::Lf)
+    );
 }
 
 fn check_text<L: Ledger, R: Abort>(rt: &R, text: &str, steps: &mut Steps<L>) {
@@ -133,13 +169,31 @@ fn check_full_lanes<L: Ledger, R: Abort>(rt: &R, alloc: Global, blank: Blank) ->
     push_all(&mut frogs, "🐸", 5000)?;
     let breaks = breaks.as_str();
     let frogs = frogs.as_str();
-    assert_eq!(rt; lines::count_breaks_impl::<Chunk, L>(breaks, 3, &mut steps), 6000);
-    assert_eq!(rt; lines::count_breaks_impl::<usize, L>(breaks, 3, &mut steps), 6000);
-    assert_eq!(rt; lines_lf::to_byte_idx_impl::<Chunk, L>(breaks, 5999, 3, &mut steps), 5999);
+    assert_eq!(rt;
+        lines::count_breaks_impl::<Chunk, L>(breaks, 3, &mut steps),
+        6000
+    );
+    assert_eq!(rt;
+        lines::count_breaks_impl::<usize, L>(breaks, 3, &mut steps),
+        6000
+    );
+    assert_eq!(rt;
+        lines_lf::to_byte_idx_impl::<Chunk, L>(breaks, 5999, 3, &mut steps),
+        5999
+    );
     assert_eq!(rt; chars::count_impl::<Chunk, L>(breaks, 0, &mut steps), 6000);
-    assert_eq!(rt; utf16::count_surrogates_impl::<usize, L>(frogs, 1, &mut steps), 5000);
-    assert_eq!(rt; utf16::to_byte_idx_impl::<Chunk, L>(frogs, 9999, 1, &mut steps), 19_996);
-    assert_eq!(rt; utf16::to_byte_idx_impl::<usize, L>(frogs, 10_000, 1, &mut steps), 20_000);
+    assert_eq!(rt;
+        utf16::count_surrogates_impl::<usize, L>(frogs, 1, &mut steps),
+        5000
+    );
+    assert_eq!(rt;
+        utf16::to_byte_idx_impl::<Chunk, L>(frogs, 9999, 1, &mut steps),
+        19_996
+    );
+    assert_eq!(rt;
+        utf16::to_byte_idx_impl::<usize, L>(frogs, 10_000, 1, &mut steps),
+        20_000
+    );
     assert_eq!(rt; utf16::count(frogs), 10_000);
     Ok(())
 }
@@ -150,8 +204,14 @@ fn check_small_kernel<L: Ledger, R: Abort>(rt: &R, blank: Blank)
 {
     let mut steps = Steps::<L>::new(blank);
     for leading in 0..5 {
-        assert_eq!(rt; lines::count_breaks_impl::<Chunk, L>("a\r\nb", leading, &mut steps), 1);
-        assert_eq!(rt; lines::count_breaks_impl::<usize, L>("a\r\nb", leading, &mut steps), 1);
+        assert_eq!(rt;
+            lines::count_breaks_impl::<Chunk, L>("a\r\nb", leading, &mut steps),
+            1
+        );
+        assert_eq!(rt;
+            lines::count_breaks_impl::<usize, L>("a\r\nb", leading, &mut steps),
+            1
+        );
     }
 }
 
