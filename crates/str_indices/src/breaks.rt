@@ -5,7 +5,7 @@ ghost use Rattle.str_indices.specs.Text.{starts_with_lf, is_line_break, is_crlf_
 ghost use Rattle.str_indices.specs.Bytes.{ends_ascii_line, ends_two_byte_line, ends_three_byte_line, ends_line, ends_crlf_line, line_weights, crlf_line_weights, lf_line_weights};
 ghost use Rattle.str_indices.specs.Weights.{tested_len, tested_small, tested_sum};
 ghost use Rattle.str_indices.specs.BreakBytes.{lines_at_last_bytes, crlf_lines_at_last_bytes, lf_lines_at_last_bytes};
-ghost use Rattle.str_indices.specs.Lanes.{HasLanes};
+ghost use Rattle.str_indices.specs.Lanes.{MarksLanes};
 
 use crate::byte_chunk::ByteChunk;
 use crate::measure::{BreakMeasure, Measure};
@@ -41,7 +41,8 @@ fn is_before_lf(bytes: &[u8], at: usize) -> bool
 #[tactic(auto, using(std::proofs::lemmas::Bool::Decides::nat_tests))]
 fn ends_line(bytes: &[u8], at: usize) -> bool
     requires { at < length bytes.now }
-    ensures { result ≡ ends_line (slice_index (0 ∷ 0 ∷ bytes.now) at) (slice_index (0 ∷ bytes.now) at) (slice_index bytes.now at) (drop (at + 1) bytes.now) }
+    ensures { result ≡ ends_line (slice_index (0 ∷ 0 ∷ bytes.now) at) (slice_index (0 ∷ bytes.now) at)
+        (slice_index bytes.now at) (drop (at + 1) bytes.now) }
 {
     let byte = bytes[at];
     match byte {
@@ -54,7 +55,8 @@ fn ends_line(bytes: &[u8], at: usize) -> bool
 
 #[inline(always)]
 fn ascii_breaks<C: ByteChunk>(chunk: C, next: C) -> C
-    ensures { HasLanes C.SIZE (C.lanes result) (λ i. if ends_ascii_line (slice_index (C.lanes chunk) i) (slice_index (C.lanes next) i == 10) then 1 else 0) }
+    ensures { MarksLanes C.SIZE (C.lanes result)
+        (λ i. ends_ascii_line (slice_index (C.lanes chunk) i) (slice_index (C.lanes next) i == 10)) }
 {
     let split = chunk.cmp_eq_byte(CR).bitand(next.cmp_eq_byte(LF));
     chunk.bytes_between(LF, CR).sub(split)
@@ -62,14 +64,17 @@ fn ascii_breaks<C: ByteChunk>(chunk: C, next: C) -> C
 
 #[inline(always)]
 fn two_byte_breaks<C: ByteChunk>(chunk: C, before: C) -> C
-    ensures { HasLanes C.SIZE (C.lanes result) (λ i. if ends_two_byte_line (slice_index (C.lanes before) i) (slice_index (C.lanes chunk) i) then 1 else 0) }
+    ensures { MarksLanes C.SIZE (C.lanes result)
+        (λ i. ends_two_byte_line (slice_index (C.lanes before) i) (slice_index (C.lanes chunk) i)) }
 {
     chunk.cmp_eq_byte(0x85).bitand(before.cmp_eq_byte(0xC2))
 }
 
 #[inline(always)]
 fn three_byte_breaks<C: ByteChunk>(chunk: C, before: C, second_before: C) -> C
-    ensures { HasLanes C.SIZE (C.lanes result) (λ i. if ends_three_byte_line (slice_index (C.lanes second_before) i) (slice_index (C.lanes before) i) (slice_index (C.lanes chunk) i) then 1 else 0) }
+    ensures { MarksLanes C.SIZE (C.lanes result)
+        (λ i. ends_three_byte_line (slice_index (C.lanes second_before) i)
+        (slice_index (C.lanes before) i) (slice_index (C.lanes chunk) i)) }
 {
     let lead = before
         .cmp_eq_byte(0x80)
@@ -111,7 +116,8 @@ impl BreakMeasure for LineBreaks {
 
 #[inline(always)]
 fn crlf_breaks<C: ByteChunk>(chunk: C, next: C) -> C
-    ensures { HasLanes C.SIZE (C.lanes result) (λ i. if (slice_index (C.lanes chunk) i == 10) || ((slice_index (C.lanes chunk) i == 13) && not (slice_index (C.lanes next) i == 10)) then 1 else 0) }
+    ensures { MarksLanes C.SIZE (C.lanes result) (λ i. (slice_index (C.lanes chunk) i == 10)
+        || ((slice_index (C.lanes chunk) i == 13) && not (slice_index (C.lanes next) i == 10))) }
 {
     let cr = chunk.cmp_eq_byte(CR);
     let split = cr.bitand(next.cmp_eq_byte(LF));
@@ -121,7 +127,8 @@ fn crlf_breaks<C: ByteChunk>(chunk: C, next: C) -> C
 /// Whether a byte is the last of an LF, a CR or a CR LF.
 fn ends_crlf_line(bytes: &[u8], at: usize) -> bool
     requires { at < length bytes.now }
-    ensures { result ≡ ends_crlf_line (slice_index (0 ∷ 0 ∷ bytes.now) at) (slice_index (0 ∷ bytes.now) at) (slice_index bytes.now at) (drop (at + 1) bytes.now) }
+    ensures { result ≡ ends_crlf_line (slice_index (0 ∷ 0 ∷ bytes.now) at) (slice_index (0 ∷ bytes.now) at)
+        (slice_index bytes.now at) (drop (at + 1) bytes.now) }
 {
     bytes[at] == LF || (bytes[at] == CR && !is_before_lf(bytes, at))
 }

@@ -1,7 +1,7 @@
 //! Chunks of bytes that are compared and added lane by lane.
 
 ghost use Rattle.std.specs.Prelude.{◌≡◌, ℕ, ◌+◌, ◌-◌, ◌<◌, ◌≤◌, ◌&&◌, ◌==◌, if◌then◌else◌, List, length, sum, slice_index, nat_le, bit_and};
-ghost use Rattle.str_indices.specs.Lanes.{HasLanes, LanesUpTo};
+ghost use Rattle.str_indices.specs.Lanes.{HasLanes, MarksLanes, LanesUpTo};
 
 mod vector;
 mod word;
@@ -34,25 +34,31 @@ pub trait ByteChunk: Copy {
 
     /// 1 in each lane that equals a byte, and 0 in the others.
     fn cmp_eq_byte(self, byte: u8) -> Self
-        ensures { HasLanes SIZE (lanes result) (λ i. if slice_index (lanes self) i == byte then 1 else 0) };
+        ensures { MarksLanes SIZE (lanes result) (λ i. slice_index (lanes self) i == byte) };
 
     /// 1 in each lane from `low` to `high`, both included, and 0 in the others.
     fn bytes_between(self, low: u8, high: u8) -> Self
-        ensures { HasLanes SIZE (lanes result) (λ i. if nat_le low (slice_index (lanes self) i) && nat_le (slice_index (lanes self) i) high then 1 else 0) };
+        ensures { MarksLanes SIZE (lanes result)
+            (λ i. nat_le low (slice_index (lanes self) i) && nat_le (slice_index (lanes self) i) high) };
 
     /// The bits that two lanes share.
     fn bitand(self, other: Self) -> Self
-        ensures { HasLanes SIZE (lanes result) (λ i. bit_and (slice_index (lanes self) i) (slice_index (lanes other) i)) };
+        ensures { HasLanes SIZE (lanes result)
+            (λ i. bit_and (slice_index (lanes self) i) (slice_index (lanes other) i)) };
 
     /// The sums of two chunks' lanes.
     fn add(self, other: Self) -> Self
-        requires { (i : ℕ) → i < SIZE → slice_index (lanes self) i + slice_index (lanes other) i ≤ 255 }
-        ensures { HasLanes SIZE (lanes result) (λ i. slice_index (lanes self) i + slice_index (lanes other) i) };
+        requires { (i : ℕ) → i < SIZE
+            → slice_index (lanes self) i + slice_index (lanes other) i ≤ 255 }
+        ensures { HasLanes SIZE (lanes result)
+            (λ i. slice_index (lanes self) i + slice_index (lanes other) i) };
 
     /// The differences of two chunks' lanes.
     fn sub(self, other: Self) -> Self
-        requires { (i : ℕ) → i < SIZE → slice_index (lanes other) i ≤ slice_index (lanes self) i }
-        ensures { HasLanes SIZE (lanes result) (λ i. slice_index (lanes self) i - slice_index (lanes other) i) };
+        requires { (i : ℕ) → i < SIZE
+            → slice_index (lanes other) i ≤ slice_index (lanes self) i }
+        ensures { HasLanes SIZE (lanes result)
+            (λ i. slice_index (lanes self) i - slice_index (lanes other) i) };
 
     /// The sum of all lanes.
     fn sum_bytes(self) -> usize

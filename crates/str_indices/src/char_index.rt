@@ -24,7 +24,8 @@ pub(crate) fn from_byte_idx<M: CharMeasure>(text: &str, byte_idx: usize) -> usiz
 }
 
 pub(crate) fn to_byte_idx<M: CharMeasure>(text: &str, idx: usize) -> usize
-    ensures { result ≡ slice_index_or (starts_from M.count 0 (chars text.now)) idx (length text.now) }
+    ensures { result ≡ slice_index_or (starts_from M.count 0 (chars text.now)) idx
+        (length text.now) }
 {
     uncounted::find_past::<M>(text.as_bytes(), idx)
 }
@@ -47,7 +48,8 @@ pub(crate) fn to_byte_idx_impl<M: CharMeasure, C: ByteChunk, L: Ledger>(
     leading: usize,
     steps: &mut Steps<L>,
 ) -> usize
-    ensures place { result ≡ slice_index_or (starts_from M.count 0 (chars text.now)) idx (length text.now) }
+    ensures place { result ≡ slice_index_or (starts_from M.count 0 (chars text.now)) idx
+        (length text.now) }
     ensures one_by_one { steps.old + min leading result ≤ steps.new }
     ensures turns { steps.new ≤ steps.old + min leading (length text.now) + C.SIZE + 4 }
 {

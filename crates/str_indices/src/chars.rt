@@ -26,16 +26,17 @@ pub fn from_byte_idx(text: &str, byte_idx: usize) -> usize
     char_index::from_byte_idx::<CharStarts>(text, byte_idx)
 }
 
-/// The byte index at which a number of characters ends: the start of the character with that index, and
-/// the text's length past the last.
+/// The byte index at which a number of characters ends: the start of the character with that index,
+/// and the text's length past the last.
 pub fn to_byte_idx(text: &str, char_idx: usize) -> usize
-    ensures { result ≡ end_place (char_ends (chars text.now)) char_idx (length text.now) }
+    ensures { result ≡ end_place (char_ends (chars text.now)) char_idx
+        (length text.now) }
 {
     char_index::to_byte_idx::<CharStarts>(text, char_idx)
 }
 
-/// `count` by chunks of any type, with at least the first `leading` bytes one by one. A step is a turn
-/// of a loop that looks at one byte.
+/// `count` by chunks of any type, with at least the first `leading` bytes one by one. A step is a
+/// turn of a loop that looks at one byte.
 pub fn count_impl<C: ByteChunk, L: Ledger>(
     text: &str,
     leading: usize,
@@ -48,15 +49,16 @@ pub fn count_impl<C: ByteChunk, L: Ledger>(
     char_index::count_impl::<CharStarts, C, L>(text, leading, steps)
 }
 
-/// `to_byte_idx` by chunks of any type, with at least the first `leading` bytes one by one. A step is a
-/// turn of a loop that looks at one byte.
+/// `to_byte_idx` by chunks of any type, with at least the first `leading` bytes one by one. A step
+/// is a turn of a loop that looks at one byte.
 pub fn to_byte_idx_impl<C: ByteChunk, L: Ledger>(
     text: &str,
     char_idx: usize,
     leading: usize,
     steps: &mut Steps<L>,
 ) -> usize
-    ensures place { result ≡ end_place (char_ends (chars text.now)) char_idx (length text.now) }
+    ensures place { result ≡ end_place (char_ends (chars text.now)) char_idx
+        (length text.now) }
     ensures one_by_one { steps.old + min leading result ≤ steps.new }
     ensures turns { steps.new ≤ steps.old + min leading (length text.now) + C.SIZE + 4 }
 {

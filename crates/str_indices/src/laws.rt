@@ -53,8 +53,8 @@ pub fn to_byte_idx_is_a_boundary()
     ensures lines { (is_break : ℕ → Bool) → EndsAreBoundaries (break_ends is_break) }
 {}
 
-/// `from_byte_idx` of `to_byte_idx` is the smaller of the index and the count; at the second code unit of
-/// a surrogate pair it is one less.
+/// `from_byte_idx` of `to_byte_idx` is the smaller of the index and the count; at the second code
+/// unit of a surrogate pair it is one less.
 pub fn conversion_there_and_back()
     ensures chars { ComesBack char_ends }
     ensures lines { (is_break : ℕ → Bool) → ComesBack (break_ends is_break) }
@@ -68,15 +68,15 @@ pub fn ends_and_places_agree()
     ensures lines { (is_break : ℕ → Bool) → EndsAndPlacesAgree (break_ends is_break) }
 {}
 
-/// A character boundary lies at or before `to_byte_idx` of an index exactly if `from_byte_idx` of it is
-/// no greater than the index.
+/// A character boundary lies at or before `to_byte_idx` of an index exactly if `from_byte_idx` of it
+/// is no greater than the index.
 pub fn boundaries_and_indices_agree()
     ensures chars { CharsAndBoundariesAgree }
     ensures units { UnitsAndBoundariesAgree }
 {}
 
-/// `to_byte_idx` of `from_byte_idx` lies at or before the place and the text's length. For characters and
-/// code units no boundary up to the place lies behind it.
+/// `to_byte_idx` of `from_byte_idx` lies at or before the place and the text's length. For characters
+/// and code units no boundary up to the place lies behind it.
 pub fn place_there_and_back()
     ensures lines { (is_break : ℕ → Bool) → LastEndIsBefore (break_ends is_break) }
     ensures chars { LastEndIsBefore char_ends }

@@ -23,7 +23,8 @@ pub(crate) fn from_byte_idx<M: BreakMeasure>(text: &str, byte_idx: usize) -> usi
 }
 
 pub(crate) fn to_byte_idx<M: BreakMeasure>(text: &str, line_idx: usize) -> usize
-    ensures { result ≡ end_place (break_ends M.is_break (chars text.now)) line_idx (length text.now) }
+    ensures { result ≡ end_place (break_ends M.is_break (chars text.now)) line_idx
+        (length text.now) }
 {
     if line_idx == 0 {
         return 0;
@@ -50,7 +51,8 @@ pub(crate) fn to_byte_idx_impl<M: BreakMeasure, C: ByteChunk, L: Ledger>(
     leading: usize,
     steps: &mut Steps<L>,
 ) -> usize
-    ensures place { result ≡ end_place (break_ends M.is_break (chars text.now)) line_idx (length text.now) }
+    ensures place { result ≡ end_place (break_ends M.is_break (chars text.now)) line_idx
+        (length text.now) }
     ensures one_by_one { steps.old + min leading result ≤ steps.new }
     ensures turns { steps.new ≤ steps.old + min leading (length text.now) + C.SIZE + 4 }
 {

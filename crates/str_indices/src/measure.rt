@@ -42,5 +42,6 @@ pub(crate) trait BreakMeasure: Measure {
     /// The set of break characters.
     ghost is_break: { ℕ → Bool };
 
-    ghost at_last_bytes: { CountsLastBytes Self.weights (λ c rest. if ends_break is_break c rest then 1 else 0) };
+    ghost at_last_bytes: { CountsLastBytes Self.weights
+        (λ c rest. if ends_break is_break c rest then 1 else 0) };
 }

@@ -21,7 +21,8 @@ fn count_bytes<M: Measure, L: Ledger>(
 ) -> usize
     requires order { from ≤ end }
     requires within { end ≤ length bytes.now }
-    ensures count { sum (take from (M.weights bytes.now)) + result ≡ sum (take end (M.weights bytes.now)) }
+    ensures count { sum (take from (M.weights bytes.now)) + result
+        ≡ sum (take end (M.weights bytes.now)) }
     ensures turns { steps.new ≡ steps.old + (end - from) }
 {
     let mut count = 0;
@@ -44,7 +45,8 @@ fn sum_chunks<M: Measure, C: ByteChunk>(
     requires order { from ≤ last }
     requires after { last < length bytes.now }
     requires room { 2 * limit ≤ C.MAX_ACC }
-    ensures count { sum (take from (M.weights bytes.now)) + result.0 ≡ sum (take result.1 (M.weights bytes.now)) }
+    ensures count { sum (take from (M.weights bytes.now)) + result.0
+        ≡ sum (take result.1 (M.weights bytes.now)) }
     ensures low { from ≤ result.1 }
     ensures high { result.1 ≤ last }
     ensures moves { 0 < limit → from + C.SIZE ≤ last → from + C.SIZE ≤ result.1 }
@@ -68,7 +70,8 @@ fn count_chunks<M: Measure, C: ByteChunk>(bytes: &[u8], from: usize, end: usize)
     requires before { min 2 end ≤ from }
     requires order { from ≤ end }
     requires within { end ≤ length bytes.now }
-    ensures count { sum (take from (M.weights bytes.now)) + result.0 ≡ sum (take result.1 (M.weights bytes.now)) }
+    ensures count { sum (take from (M.weights bytes.now)) + result.0
+        ≡ sum (take result.1 (M.weights bytes.now)) }
     ensures order { result.1 ≤ end }
     ensures near { end ≤ result.1 + C.SIZE }
 {
@@ -103,8 +106,8 @@ pub(crate) fn count_before<M: Measure, C: ByteChunk, L: Ledger>(
     head + middle + tail
 }
 
-/// Goes on from `from`, before which the bytes count `count`, to the first byte with which they count
-/// more than `k`, or to `end`.
+/// Goes on from `from`, before which the bytes count `count`, to the first byte with which they
+/// count more than `k`, or to `end`.
 fn skip_bytes<M: Measure, L: Ledger>(
     bytes: &[u8],
     k: usize,
@@ -156,7 +159,8 @@ fn skip_chunks<M: Measure, C: ByteChunk>(
     ensures below { result.0 ≤ k }
     ensures low { from ≤ result.1 }
     ensures high { result.1 ≤ length bytes.now }
-    ensures near { limit ≡ 1 → (length bytes.now ≤ result.1 + C.SIZE) ⊎ (k < sum (take (result.1 + C.SIZE) (M.weights bytes.now))) }
+    ensures near { limit ≡ 1 → (length bytes.now ≤ result.1 + C.SIZE)
+        ⊎ (k < sum (take (result.1 + C.SIZE) (M.weights bytes.now))) }
 {
     let last = bytes.len().saturating_sub(1);
     let mut count = count;

@@ -5,8 +5,8 @@ ghost use Rattle.std.specs.Prelude.{◌≡◌, ℕ, ◌+◌, ◌<◌};
 use std::marker::Model;
 use std::sync::ledger::{Blank, Book, Ledger, Share};
 
-/// How many turns were taken of loops that look at one byte a turn. It takes no bytes when the program
-/// runs, and only `tick` changes it.
+/// How many turns were taken of loops that look at one byte a turn. It takes no bytes when the
+/// program runs, and only `tick` changes it.
 #[derive(Drop)]
 pub struct Steps<L: Ledger> {
     book: Book<L>,

@@ -33,16 +33,17 @@ pub fn from_byte_idx(text: &str, byte_idx: usize) -> usize
     char_index::from_byte_idx::<Utf16Units>(text, byte_idx)
 }
 
-/// The byte index at which the character starts that holds a code unit, units counted from 0, and the
-/// text's length for a unit past the last.
+/// The byte index at which the character starts that holds a code unit, units counted from 0, and
+/// the text's length for a unit past the last.
 pub fn to_byte_idx(text: &str, utf16_idx: usize) -> usize
-    ensures { result ≡ slice_index_or (unit_starts (chars text.now)) utf16_idx (length text.now) }
+    ensures { result ≡ slice_index_or (unit_starts (chars text.now)) utf16_idx
+        (length text.now) }
 {
     char_index::to_byte_idx::<Utf16Units>(text, utf16_idx)
 }
 
-/// `count_surrogates` by chunks of any type, with at least the first `leading` bytes one by one. A step
-/// is a turn of a loop that looks at one byte.
+/// `count_surrogates` by chunks of any type, with at least the first `leading` bytes one by one. A
+/// step is a turn of a loop that looks at one byte.
 pub fn count_surrogates_impl<C: ByteChunk, L: Ledger>(
     text: &str,
     leading: usize,
@@ -55,15 +56,16 @@ pub fn count_surrogates_impl<C: ByteChunk, L: Ledger>(
     char_index::count_impl::<SurrogatePairs, C, L>(text, leading, steps)
 }
 
-/// `to_byte_idx` by chunks of any type, with at least the first `leading` bytes one by one. A step is a
-/// turn of a loop that looks at one byte.
+/// `to_byte_idx` by chunks of any type, with at least the first `leading` bytes one by one. A step
+/// is a turn of a loop that looks at one byte.
 pub fn to_byte_idx_impl<C: ByteChunk, L: Ledger>(
     text: &str,
     utf16_idx: usize,
     leading: usize,
     steps: &mut Steps<L>,
 ) -> usize
-    ensures place { result ≡ slice_index_or (unit_starts (chars text.now)) utf16_idx (length text.now) }
+    ensures place { result ≡ slice_index_or (unit_starts (chars text.now)) utf16_idx
+        (length text.now) }
     ensures one_by_one { steps.old + min leading result ≤ steps.new }
     ensures turns { steps.new ≤ steps.old + min leading (length text.now) + C.SIZE + 4 }
 {

@@ -2,14 +2,14 @@
 
 ghost use Rattle.std.specs.Prelude.{◌≡◌, ℕ, ◌≤◌, ◌<◌, ◌==◌, if◌then◌else◌, slice_index, nat_le};
 ghost use Rattle.std.proofs.Common.{«lit≤», «lit<»};
-ghost use Rattle.str_indices.specs.Lanes.{HasLanes};
+ghost use Rattle.str_indices.specs.Lanes.{MarksLanes};
 
 use crate::byte_chunk::ByteChunk;
 use std::simd::prelude::*;
 
 #[inline(always)]
 fn at_least(lanes: u8x16, byte: u8) -> u8x16
-    ensures { HasLanes 16 result (λ i. if nat_le byte (slice_index lanes i) then 1 else 0) }
+    ensures { MarksLanes 16 result (λ i. nat_le byte (slice_index lanes i)) }
 {
     lanes
         .simd_ge(u8x16::splat(byte))
@@ -18,7 +18,7 @@ fn at_least(lanes: u8x16, byte: u8) -> u8x16
 
 #[inline(always)]
 fn at_most(lanes: u8x16, byte: u8) -> u8x16
-    ensures { HasLanes 16 result (λ i. if nat_le (slice_index lanes i) byte then 1 else 0) }
+    ensures { MarksLanes 16 result (λ i. nat_le (slice_index lanes i) byte) }
 {
     lanes
         .simd_le(u8x16::splat(byte))

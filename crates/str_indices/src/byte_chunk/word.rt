@@ -2,7 +2,7 @@
 
 ghost use Rattle.std.specs.Prelude.{◌≡◌, ℕ, ◌≤◌, ◌<◌, ◌/◌, ◌%◌, if◌then◌else◌, slice_index, nat_le};
 ghost use Rattle.std.proofs.Common.{«lit≤», «lit<»};
-ghost use Rattle.str_indices.specs.Lanes.{HasLanes, low_bytes};
+ghost use Rattle.str_indices.specs.Lanes.{HasLanes, MarksLanes, low_bytes};
 
 use crate::byte_chunk::ByteChunk;
 
@@ -32,7 +32,7 @@ fn low_bits(word: usize) -> usize
 #[inline(always)]
 fn at_least_low(word: usize, limit: u8) -> usize
     requires { limit ≤ 128 }
-    ensures { HasLanes 8 (low_bytes 8 result) (λ i. if nat_le limit (slice_index (low_bytes 8 word) i) then 1 else 0) }
+    ensures { MarksLanes 8 (low_bytes 8 result) (λ i. nat_le limit (slice_index (low_bytes 8 word) i)) }
 {
     let high = high_bits(word);
     let carried = high_bits(low_bits(word).add(usize::splat(128 - limit)));
@@ -43,7 +43,7 @@ fn at_least_low(word: usize, limit: u8) -> usize
 #[inline(always)]
 fn at_least_high(word: usize, limit: u8) -> usize
     requires { 128 < limit }
-    ensures { HasLanes 8 (low_bytes 8 result) (λ i. if nat_le limit (slice_index (low_bytes 8 word) i) then 1 else 0) }
+    ensures { MarksLanes 8 (low_bytes 8 result) (λ i. nat_le limit (slice_index (low_bytes 8 word) i)) }
 {
     let high = high_bits(word);
     let carried = high_bits(low_bits(word).add(usize::splat(255 - limit + 1)));
@@ -52,7 +52,7 @@ fn at_least_high(word: usize, limit: u8) -> usize
 
 #[inline(always)]
 fn at_least(word: usize, limit: u8) -> usize
-    ensures { HasLanes 8 (low_bytes 8 result) (λ i. if nat_le limit (slice_index (low_bytes 8 word) i) then 1 else 0) }
+    ensures { MarksLanes 8 (low_bytes 8 result) (λ i. nat_le limit (slice_index (low_bytes 8 word) i)) }
 {
     if limit <= 128 {
         at_least_low(word, limit)
