@@ -38,6 +38,7 @@ test:
 
 bench: $(program)
 	@bench/load_print
+	@RT='$(RT)' sh bench/indices.sh
 
 clean:
 	rm -rf bin $(wildcard crates/*/out)

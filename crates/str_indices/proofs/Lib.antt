@@ -1,0 +1,11 @@
+pub mod Blocks
+pub mod Spread
+pub mod Tested
+pub mod Indices
+pub mod Vectors
+pub mod Chunks
+pub mod Words
+pub mod Joined
+pub mod Places
+pub mod Units
+pub mod Order

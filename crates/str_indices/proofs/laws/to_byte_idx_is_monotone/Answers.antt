@@ -1,0 +1,13 @@
+use Rattle.std.proofs.Common.{cond}
+use Rattle.str_indices.specs.Text.{ends_break}
+use Rattle.str_indices.proofs.Places.{rises_with_index, unit_starts-rise}
+use Rattle.str_indices.proofs.laws.to_byte_idx_is_monotone.Goals as goal
+
+pub returns-clause-chars : goal.returns-clause-chars
+returns-clause-chars c = rises_with_index (λ _ _. 1)
+
+pub returns-clause-units : goal.returns-clause-units
+returns-clause-units c = unit_starts-rise
+
+pub returns-clause-lines : goal.returns-clause-lines
+returns-clause-lines c = λ is_break. rises_with_index (λ c rest. cond (ends_break is_break c rest) 1 0)

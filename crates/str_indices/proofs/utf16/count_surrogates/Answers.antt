@@ -1,0 +1,6 @@
+use Rattle.std.specs.Str.{chars}
+use Rattle.str_indices.proofs.Indices.{length-pair_ends}
+use Rattle.str_indices.proofs.utf16.count_surrogates.Goals as goal
+
+pub returns : goal.returns
+returns c = let e = length-pair_ends 0 (chars c.args.text.now) in cc

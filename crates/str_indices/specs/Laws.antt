@@ -1,0 +1,100 @@
+-- Laws of the definitions, for every text.
+use Rattle.std.specs.Prelude.{◌≡◌, ℕ, ◌+◌, ◌-◌, ◌<◌, ◌≤◌, ◌↔◌, Bool, false, ◌&&◌, if◌then◌else◌, min, List, [], ◌∷◌, ◌++◌, length, slice_index, slice_index_or, true, encode_utf8_all, ◌==◌}
+use Rattle.std.specs.Str.{IsCharBoundary, all_scalars}
+use Rattle.str_indices.specs.Text.{starts_with_lf, breaks, char_ends, units, surrogate_pairs, unit_ends, unit_starts, ends_up_to, end_place}
+
+-- how many bytes a text takes
+abbrev pub byte_len : List ℕ → ℕ
+byte_len text = length (encode_utf8_all text)
+
+abbrev pub ends_with_cr : List ℕ → Bool
+ends_with_cr [] = false
+ends_with_cr (c ∷ []) = c == 13
+ends_with_cr (c ∷ d ∷ cs) = ends_with_cr (d ∷ cs)
+
+-- ---- joined texts
+-- where CR is a break, one break is lost exactly if the first text ends in CR and the second starts with LF
+abbrev pub JoinsBreaks : (ℕ → Bool) → Type 0
+JoinsBreaks is_break = (first second : List ℕ)
+    → breaks is_break (first ++ second) + (if is_break 13 && (ends_with_cr first && starts_with_lf second) then 1 else 0) ≡ breaks is_break first + breaks is_break second
+
+abbrev pub LosesBreakInCrLf : (ℕ → Bool) → Type 0
+LosesBreakInCrLf is_break = (first second : List ℕ)
+    → breaks is_break (first ++ second) + (if ends_with_cr first && starts_with_lf second then 1 else 0) ≡ breaks is_break first + breaks is_break second
+
+abbrev pub LosesNoBreak : (ℕ → Bool) → Type 0
+LosesNoBreak is_break = (first second : List ℕ) → breaks is_break (first ++ second) ≡ breaks is_break first + breaks is_break second
+
+-- what a count says of joined texts where it is a sum
+abbrev pub AddsUp : (List ℕ → ℕ) → Type 0
+AddsUp count = (first second : List ℕ) → count (first ++ second) ≡ count first + count second
+
+-- ---- counts beside each other
+abbrev pub UnitsAreCharsAndPairs : Type 0
+UnitsAreCharsAndPairs = (text : List ℕ) → units text ≡ length text + surrogate_pairs text
+
+abbrev pub FewerBreaks : (ℕ → Bool) → (ℕ → Bool) → Type 0
+FewerBreaks few many = (text : List ℕ) → breaks few text ≤ breaks many text
+
+-- ---- conversions
+-- a greater place has no fewer ends before it
+abbrev pub RisesWithPlace : (List ℕ → List ℕ) → Type 0
+RisesWithPlace ends = (text : List ℕ) (a b : ℕ) → a ≤ b → ends_up_to a (ends text) ≤ ends_up_to b (ends text)
+
+-- a later end has no smaller place
+abbrev pub RisesWithIndex : (List ℕ → List ℕ) → Type 0
+RisesWithIndex ends = (text : List ℕ) (j k : ℕ) → j ≤ k → end_place (ends text) j (byte_len text) ≤ end_place (ends text) k (byte_len text)
+
+abbrev pub UnitStartsRise : Type 0
+UnitStartsRise = (text : List ℕ) (j k : ℕ) → j ≤ k → slice_index_or (unit_starts text) j (byte_len text) ≤ slice_index_or (unit_starts text) k (byte_len text)
+
+-- each end is a place between characters
+abbrev pub EndsAreBoundaries : (List ℕ → List ℕ) → Type 0
+EndsAreBoundaries ends = (text : List ℕ) (k : ℕ) → all_scalars text ≡ true → IsCharBoundary (encode_utf8_all text) (end_place (ends text) k (byte_len text))
+
+abbrev pub UnitStartsAreBoundaries : Type 0
+UnitStartsAreBoundaries = (text : List ℕ) (k : ℕ) → all_scalars text ≡ true → IsCharBoundary (encode_utf8_all text) (slice_index_or (unit_starts text) k (byte_len text))
+
+-- there and back: the place of end k has k ends up to it, or all of them
+abbrev pub ComesBack : (List ℕ → List ℕ) → Type 0
+ComesBack ends = (text : List ℕ) (k : ℕ) → ends_up_to (end_place (ends text) k (byte_len text)) (ends text) ≡ min k (length (ends text))
+
+-- the second unit of a pair starts where the first does
+abbrev pub IsSecondUnit : List ℕ → ℕ → Type 0
+IsSecondUnit text k = (0 < k) × (k < units text) × (slice_index (unit_starts text) (k - 1) ≡ slice_index (unit_starts text) k)
+
+abbrev pub SecondUnitComesBackToFirst : Type 0
+SecondUnitComesBackToFirst = (text : List ℕ) (k : ℕ) → IsSecondUnit text k → ends_up_to (slice_index_or (unit_starts text) k (byte_len text)) (unit_ends text) + 1 ≡ k
+
+abbrev pub OtherUnitsComeBack : Type 0
+OtherUnitsComeBack = (text : List ℕ) (k : ℕ) → ¬ (IsSecondUnit text k) → ends_up_to (slice_index_or (unit_starts text) k (byte_len text)) (unit_ends text) ≡ min k (units text)
+
+-- ---- the order of places and the order of indices
+-- an end lies at or before a place exactly if so many ends do
+abbrev pub EndsAndPlacesAgree : (List ℕ → List ℕ) → Type 0
+EndsAndPlacesAgree ends = (text : List ℕ) (k place : ℕ) → k ≤ length (ends text) → (end_place (ends text) k (byte_len text) ≤ place) ↔ (k ≤ ends_up_to place (ends text))
+
+-- the last end up to a place lies at or before it
+abbrev pub LastEndIsBefore : (List ℕ → List ℕ) → Type 0
+LastEndIsBefore ends = (text : List ℕ) (place : ℕ) → end_place (ends text) (ends_up_to place (ends text)) (byte_len text) ≤ min place (byte_len text)
+
+abbrev pub LastUnitStartIsBefore : Type 0
+LastUnitStartIsBefore = (text : List ℕ) (place : ℕ) → slice_index_or (unit_starts text) (ends_up_to place (unit_ends text)) (byte_len text) ≤ min place (byte_len text)
+
+-- the boundary between two parts of a text lies at or before character k exactly if no more than k characters end up to it
+abbrev pub CharsAndBoundariesAgree : Type 0
+CharsAndBoundariesAgree = (before after : List ℕ) (k : ℕ)
+    → (byte_len before ≤ end_place (char_ends (before ++ after)) k (byte_len (before ++ after))) ↔ (ends_up_to (byte_len before) (char_ends (before ++ after)) ≤ k)
+
+abbrev pub UnitsAndBoundariesAgree : Type 0
+UnitsAndBoundariesAgree = (before after : List ℕ) (k : ℕ)
+    → (byte_len before ≤ slice_index_or (unit_starts (before ++ after)) k (byte_len (before ++ after))) ↔ (ends_up_to (byte_len before) (unit_ends (before ++ after)) ≤ k)
+
+-- no boundary lies between a place and where its index leads back to
+abbrev pub CharsGoToLastBoundary : Type 0
+CharsGoToLastBoundary = (before after : List ℕ) (place : ℕ) → byte_len before ≤ place
+    → byte_len before ≤ end_place (char_ends (before ++ after)) (ends_up_to place (char_ends (before ++ after))) (byte_len (before ++ after))
+
+abbrev pub UnitsGoToLastBoundary : Type 0
+UnitsGoToLastBoundary = (before after : List ℕ) (place : ℕ) → byte_len before ≤ place
+    → byte_len before ≤ slice_index_or (unit_starts (before ++ after)) (ends_up_to place (unit_ends (before ++ after))) (byte_len (before ++ after))

@@ -1,0 +1,86 @@
+//! Laws of the definitions that the contracts of this crate cite. Each function does nothing: its
+//! contract is the law, which holds of every text.
+
+ghost use Rattle.std.specs.Prelude.{ℕ, Bool, length};
+ghost use Rattle.str_indices.specs.Text.{is_line_break, is_crlf_break, is_lf_break, break_ends, char_ends, unit_ends, units, surrogate_pairs};
+ghost use Rattle.str_indices.specs.Laws.{JoinsBreaks, LosesBreakInCrLf, LosesNoBreak, AddsUp, UnitsAreCharsAndPairs, FewerBreaks, RisesWithPlace, RisesWithIndex, UnitStartsRise, EndsAreBoundaries, UnitStartsAreBoundaries, ComesBack, SecondUnitComesBackToFirst, OtherUnitsComeBack, EndsAndPlacesAgree, LastEndIsBefore, LastUnitStartIsBefore, CharsAndBoundariesAgree, UnitsAndBoundariesAgree, CharsGoToLastBoundary, UnitsGoToLastBoundary};
+
+/// Breaks of two texts joined are the sum, less one exactly if the first ends in CR and the second
+/// starts with LF, in a scheme where CR is a break.
+pub fn breaks_of_joined_texts()
+    ensures any { (is_break : ℕ → Bool) → JoinsBreaks is_break }
+    ensures lines { LosesBreakInCrLf is_line_break }
+    ensures lines_crlf { LosesBreakInCrLf is_crlf_break }
+    ensures lines_lf { LosesNoBreak is_lf_break }
+{}
+
+/// Characters, code units and surrogate pairs of two texts joined are the sums.
+pub fn counts_of_joined_texts()
+    ensures chars { AddsUp length }
+    ensures units { AddsUp units }
+    ensures surrogates { AddsUp surrogate_pairs }
+{}
+
+/// A text has as many code units as characters and surrogate pairs.
+pub fn units_are_chars_and_pairs()
+    ensures { UnitsAreCharsAndPairs }
+{}
+
+/// A break by LF is one by LF and CR, and such a break is one of Unicode's.
+pub fn schemes_of_breaks()
+    ensures lf { FewerBreaks is_lf_break is_crlf_break }
+    ensures crlf { FewerBreaks is_crlf_break is_line_break }
+{}
+
+/// No `from_byte_idx` falls where its index rises.
+pub fn from_byte_idx_is_monotone()
+    ensures chars { RisesWithPlace char_ends }
+    ensures units { RisesWithPlace unit_ends }
+    ensures lines { (is_break : ℕ → Bool) → RisesWithPlace (break_ends is_break) }
+{}
+
+/// No `to_byte_idx` falls where its index rises.
+pub fn to_byte_idx_is_monotone()
+    ensures chars { RisesWithIndex char_ends }
+    ensures units { UnitStartsRise }
+    ensures lines { (is_break : ℕ → Bool) → RisesWithIndex (break_ends is_break) }
+{}
+
+/// Every `to_byte_idx` answers a character boundary.
+pub fn to_byte_idx_is_a_boundary()
+    ensures chars { EndsAreBoundaries char_ends }
+    ensures units { UnitStartsAreBoundaries }
+    ensures lines { (is_break : ℕ → Bool) → EndsAreBoundaries (break_ends is_break) }
+{}
+
+/// `from_byte_idx` of `to_byte_idx` is the smaller of the index and the count; at the second code
+/// unit of a surrogate pair it is one less.
+pub fn conversion_there_and_back()
+    ensures chars { ComesBack char_ends }
+    ensures lines { (is_break : ℕ → Bool) → ComesBack (break_ends is_break) }
+    ensures second_unit { SecondUnitComesBackToFirst }
+    ensures other_units { OtherUnitsComeBack }
+{}
+
+/// An end lies at or before a place exactly if so many ends do, for an index up to the count.
+pub fn ends_and_places_agree()
+    ensures chars { EndsAndPlacesAgree char_ends }
+    ensures lines { (is_break : ℕ → Bool) → EndsAndPlacesAgree (break_ends is_break) }
+{}
+
+/// A character boundary lies at or before `to_byte_idx` of an index exactly if `from_byte_idx` of it
+/// is no greater than the index.
+pub fn boundaries_and_indices_agree()
+    ensures chars { CharsAndBoundariesAgree }
+    ensures units { UnitsAndBoundariesAgree }
+{}
+
+/// `to_byte_idx` of `from_byte_idx` lies at or before the place and the text's length. For characters
+/// and code units no boundary up to the place lies behind it.
+pub fn place_there_and_back()
+    ensures lines { (is_break : ℕ → Bool) → LastEndIsBefore (break_ends is_break) }
+    ensures chars { LastEndIsBefore char_ends }
+    ensures units { LastUnitStartIsBefore }
+    ensures nearest_char { CharsGoToLastBoundary }
+    ensures nearest_unit { UnitsGoToLastBoundary }
+{}

@@ -1,0 +1,69 @@
+//! Lines by Unicode's mandatory breaks (UAX 14), as the Rust crate `str_indices` counts them: LF,
+//! VT, FF, CR, U+0085, U+2028 and U+2029, where CR LF is one break.
+
+ghost use Rattle.std.specs.Prelude.{◌≡◌, ◌+◌, ◌≤◌, min, length};
+ghost use Rattle.std.specs.Str.{chars};
+ghost use Rattle.str_indices.specs.Text.{is_line_break, breaks, break_ends, ends_up_to, end_place};
+
+use crate::breaks::LineBreaks;
+use crate::byte_chunk::ByteChunk;
+use crate::line_index;
+use crate::steps::Steps;
+use std::sync::ledger::Ledger;
+
+/// How many line breaks a text has: one less than its lines.
+pub fn count_breaks(text: &str) -> usize
+    ensures { result ≡ breaks is_line_break (chars text.now) }
+{
+    line_index::count_breaks::<LineBreaks>(text)
+}
+
+/// The line, counted from 0, in which a byte index lies: the number of breaks that end at or before
+/// it.
+///
+/// Between the CR and the LF of a break it is still the line that the break ends. An index past the
+/// text's length acts as the length.
+pub fn from_byte_idx(text: &str, byte_idx: usize) -> usize
+    ensures { result ≡ ends_up_to byte_idx (break_ends is_line_break (chars text.now)) }
+{
+    line_index::from_byte_idx::<LineBreaks>(text, byte_idx)
+}
+
+/// The byte index at which a line starts, lines counted from 0, and the text's length for a line
+/// past the last.
+pub fn to_byte_idx(text: &str, line_idx: usize) -> usize
+    ensures { result ≡ end_place (break_ends is_line_break (chars text.now)) line_idx
+        (length text.now) }
+{
+    line_index::to_byte_idx::<LineBreaks>(text, line_idx)
+}
+
+/// `count_breaks` by chunks of any type, with at least the first `leading` bytes one by one. A step
+/// is a turn of a loop that looks at one byte.
+pub fn count_breaks_impl<C: ByteChunk, L: Ledger>(
+    text: &str,
+    leading: usize,
+    steps: &mut Steps<L>,
+) -> usize
+    ensures count { result ≡ breaks is_line_break (chars text.now) }
+    ensures one_by_one { steps.old + min leading (length text.now) ≤ steps.new }
+    ensures turns { steps.new ≤ steps.old + min leading (length text.now) + C.SIZE + 4 }
+{
+    line_index::count_breaks_impl::<LineBreaks, C, L>(text, leading, steps)
+}
+
+/// `to_byte_idx` by chunks of any type, with at least the first `leading` bytes one by one. A step
+/// is a turn of a loop that looks at one byte.
+pub fn to_byte_idx_impl<C: ByteChunk, L: Ledger>(
+    text: &str,
+    line_idx: usize,
+    leading: usize,
+    steps: &mut Steps<L>,
+) -> usize
+    ensures place { result ≡ end_place (break_ends is_line_break (chars text.now)) line_idx
+        (length text.now) }
+    ensures one_by_one { steps.old + min leading result ≤ steps.new }
+    ensures turns { steps.new ≤ steps.old + min leading (length text.now) + C.SIZE + 4 }
+{
+    line_index::to_byte_idx_impl::<LineBreaks, C, L>(text, line_idx, leading, steps)
+}

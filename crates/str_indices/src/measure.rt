@@ -1,0 +1,47 @@
+//! How often each byte of a text counts.
+
+ghost use Rattle.std.specs.Prelude.{◌≡◌, ℕ, Bool, ◌+◌, ◌*◌, ◌<◌, ◌≤◌, if◌then◌else◌, List, length, take, sum, slice_index};
+ghost use Rattle.str_indices.specs.Text.{ends_break};
+ghost use Rattle.str_indices.specs.Counts.{CountsFirstBytes, CountsLastBytes};
+ghost use Rattle.str_indices.specs.Lanes.{HasLanes};
+
+use crate::byte_chunk::ByteChunk;
+
+/// A number for each byte of a text.
+pub(crate) trait Measure {
+    ghost weights: { List ℕ → List ℕ };
+
+    fn weight(bytes: &[u8], at: usize) -> u8
+        requires { at < length bytes.now }
+        ensures { result ≡ slice_index (weights bytes.now) at };
+
+    /// The numbers of as many bytes as a chunk has lanes. There are two bytes before them, and one
+    /// after them.
+    fn chunk_weights<C: ByteChunk>(bytes: &[u8], at: usize) -> C
+        requires before { 2 ≤ at }
+        requires after { at + C.SIZE < length bytes.now }
+        ensures { HasLanes C.SIZE (C.lanes result) (λ i. slice_index (weights bytes.now) (at + i)) };
+
+    ghost weights_len: { (bytes : List ℕ) → length (weights bytes) ≡ length bytes };
+
+    ghost weights_small: { (bytes : List ℕ) (at : ℕ) → slice_index (weights bytes) at ≤ 2 };
+
+    ghost sums_small: { (bytes : List ℕ) (n : ℕ) → sum (take n (weights bytes)) ≤ 2 * n };
+}
+
+/// A measure in which each character counts at its first byte.
+pub(crate) trait CharMeasure: Measure {
+    /// How often a character counts.
+    ghost count: { ℕ → List ℕ → ℕ };
+
+    ghost at_first_bytes: { CountsFirstBytes Self.weights count };
+}
+
+/// A measure in which each line break counts once, at its last byte.
+pub(crate) trait BreakMeasure: Measure {
+    /// The set of break characters.
+    ghost is_break: { ℕ → Bool };
+
+    ghost at_last_bytes: { CountsLastBytes Self.weights
+        (λ c rest. if ends_break is_break c rest then 1 else 0) };
+}

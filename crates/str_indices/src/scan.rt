@@ -1,0 +1,203 @@
+//! Loops over the bytes of a text, for any measure: by chunks, and by single bytes before and after
+//! them.
+
+ghost use Rattle.std.specs.Prelude.{◌≡◌, ◌⊎◌, ◌+◌, ◌-◌, ◌*◌, ◌<◌, ◌≤◌, min, length, sum, take};
+ghost use Rattle.str_indices.specs.Bytes.{IsFirstPast};
+
+use crate::byte_chunk::ByteChunk;
+use crate::measure::Measure;
+use crate::steps::Steps;
+use std::sync::ledger::Ledger;
+
+/// How many chunks are summed at a time where a search may have to go back to the first of them.
+const SEARCH_ROUND: usize = 16;
+
+/// What the bytes from `from` to `end` count, one by one.
+fn count_bytes<M: Measure, L: Ledger>(
+    bytes: &[u8],
+    from: usize,
+    end: usize,
+    steps: &mut Steps<L>,
+) -> usize
+    requires order { from ≤ end }
+    requires within { end ≤ length bytes.now }
+    ensures count { sum (take from (M.weights bytes.now)) + result
+        ≡ sum (take end (M.weights bytes.now)) }
+    ensures turns { steps.new ≡ steps.old + (end - from) }
+{
+    let mut count = 0;
+    for at in from..end {
+        steps.tick();
+        count += M::weight(bytes, at) as usize;
+    }
+    count
+}
+
+/// What up to `limit` chunks from `from` on count, none past `last`, and the place after them.
+#[inline(always)]
+fn sum_chunks<M: Measure, C: ByteChunk>(
+    bytes: &[u8],
+    from: usize,
+    last: usize,
+    limit: usize,
+) -> (usize, usize)
+    requires before { 2 ≤ from }
+    requires order { from ≤ last }
+    requires after { last < length bytes.now }
+    requires room { 2 * limit ≤ C.MAX_ACC }
+    ensures count { sum (take from (M.weights bytes.now)) + result.0
+        ≡ sum (take result.1 (M.weights bytes.now)) }
+    ensures low { from ≤ result.1 }
+    ensures high { result.1 ≤ last }
+    ensures moves { 0 < limit → from + C.SIZE ≤ last → from + C.SIZE ≤ result.1 }
+    ensures one { limit ≡ 1 → from + C.SIZE ≤ last → result.1 ≡ from + C.SIZE }
+{
+    let mut acc = C::splat(0);
+    let mut at = from;
+    let mut taken = 0;
+    while taken < limit && C::SIZE <= last - at {
+        acc = acc.add(M::chunk_weights::<C>(bytes, at));
+        at += C::SIZE;
+        taken += 1;
+    }
+    (acc.sum_bytes(), at)
+}
+
+/// What the bytes from `from` on count by chunks, and the place after the last chunk: what is left
+/// before `end` is no longer than a chunk.
+#[inline(always)]
+fn count_chunks<M: Measure, C: ByteChunk>(bytes: &[u8], from: usize, end: usize) -> (usize, usize)
+    requires before { min 2 end ≤ from }
+    requires order { from ≤ end }
+    requires within { end ≤ length bytes.now }
+    ensures count { sum (take from (M.weights bytes.now)) + result.0
+        ≡ sum (take result.1 (M.weights bytes.now)) }
+    ensures order { result.1 ≤ end }
+    ensures near { end ≤ result.1 + C.SIZE }
+{
+    let last = end.min(bytes.len().saturating_sub(1));
+    let mut count = 0;
+    let mut at = from;
+    while C::SIZE <= last.saturating_sub(at) {
+        let (sum, next) = sum_chunks::<M, C>(bytes, at, last, C::MAX_ACC / 2);
+        count += sum;
+        at = next;
+    }
+    (count, at)
+}
+
+/// What the bytes before `end` count, with at least the first `leading` of them one by one.
+#[inline(always)]
+pub(crate) fn count_before<M: Measure, C: ByteChunk, L: Ledger>(
+    bytes: &[u8],
+    end: usize,
+    leading: usize,
+    steps: &mut Steps<L>,
+) -> usize
+    requires { end ≤ length bytes.now }
+    ensures count { result ≡ sum (take end (M.weights bytes.now)) }
+    ensures one_by_one { steps.old + min leading end ≤ steps.new }
+    ensures turns { steps.new ≤ steps.old + min leading end + C.SIZE + 4 }
+{
+    let first = leading.max(2).min(end);
+    let head = count_bytes::<M, L>(bytes, 0, first, steps);
+    let (middle, at) = count_chunks::<M, C>(bytes, first, end);
+    let tail = count_bytes::<M, L>(bytes, at, end, steps);
+    head + middle + tail
+}
+
+/// Goes on from `from`, before which the bytes count `count`, to the first byte with which they
+/// count more than `k`, or to `end`.
+fn skip_bytes<M: Measure, L: Ledger>(
+    bytes: &[u8],
+    k: usize,
+    count: usize,
+    from: usize,
+    end: usize,
+    steps: &mut Steps<L>,
+) -> (usize, usize)
+    requires order { from ≤ end }
+    requires within { end ≤ length bytes.now }
+    requires counted { count ≡ sum (take from (M.weights bytes.now)) }
+    requires below { count ≤ k }
+    ensures counted { result.0 ≡ sum (take result.1 (M.weights bytes.now)) }
+    ensures below { result.0 ≤ k }
+    ensures low { from ≤ result.1 }
+    ensures high { result.1 ≤ end }
+    ensures passed { result.1 < end → k < sum (take (result.1 + 1) (M.weights bytes.now)) }
+    ensures turns { steps.new ≡ steps.old + min (result.1 + 1 - from) (end - from) }
+{
+    let mut count = count;
+    for at in from..end {
+        steps.tick();
+        let next = count + M::weight(bytes, at) as usize;
+        if next > k {
+            return (count, at);
+        }
+        count = next;
+    }
+    (count, end)
+}
+
+/// Goes on from `from`, before which the bytes count `count`, by up to `limit` chunks at a time, as
+/// long as they count no more than `k`.
+#[inline(always)]
+fn skip_chunks<M: Measure, C: ByteChunk>(
+    bytes: &[u8],
+    k: usize,
+    count: usize,
+    from: usize,
+    limit: usize,
+) -> (usize, usize)
+    requires before { min 2 (length bytes.now) ≤ from }
+    requires within { from ≤ length bytes.now }
+    requires some { 0 < limit }
+    requires room { 2 * limit ≤ C.MAX_ACC }
+    requires counted { count ≡ sum (take from (M.weights bytes.now)) }
+    requires below { count ≤ k }
+    ensures counted { result.0 ≡ sum (take result.1 (M.weights bytes.now)) }
+    ensures below { result.0 ≤ k }
+    ensures low { from ≤ result.1 }
+    ensures high { result.1 ≤ length bytes.now }
+    ensures near { limit ≡ 1 → (length bytes.now ≤ result.1 + C.SIZE)
+        ⊎ (k < sum (take (result.1 + C.SIZE) (M.weights bytes.now))) }
+{
+    let last = bytes.len().saturating_sub(1);
+    let mut count = count;
+    let mut at = from;
+    while C::SIZE <= last.saturating_sub(at) {
+        let (sum, next) = sum_chunks::<M, C>(bytes, at, last, limit);
+        if sum > k - count {
+            return (count, at);
+        }
+        count += sum;
+        at = next;
+    }
+    (count, at)
+}
+
+/// The first byte with which the bytes count more than `k`, or the length, with at least the first
+/// `leading` bytes one by one.
+#[inline(always)]
+pub(crate) fn find_past<M: Measure, C: ByteChunk, L: Ledger>(
+    bytes: &[u8],
+    k: usize,
+    leading: usize,
+    steps: &mut Steps<L>,
+) -> usize
+    ensures place { IsFirstPast (M.weights bytes.now) k result }
+    ensures within { result ≤ length bytes.now }
+    ensures one_by_one { steps.old + min leading (min (result + 1) (length bytes.now)) ≤ steps.new }
+    ensures turns { steps.new ≤ steps.old + min leading (length bytes.now) + C.SIZE + 4 }
+{
+    let end = bytes.len();
+    let first = leading.max(2).min(end);
+    let (count, at) = skip_bytes::<M, L>(bytes, k, 0, 0, first, steps);
+    if at < first {
+        return at;
+    }
+    let (count, at) = skip_chunks::<M, C>(bytes, k, count, at, SEARCH_ROUND.min(C::MAX_ACC / 2));
+    let (count, at) = skip_chunks::<M, C>(bytes, k, count, at, 1);
+    let (_, at) = skip_bytes::<M, L>(bytes, k, count, at, end, steps);
+    at
+}
