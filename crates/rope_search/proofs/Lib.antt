@@ -10,5 +10,7 @@ pub mod SessionLemmas
 pub mod StepLaws
 pub mod TakesLemmas
 pub mod TextLemmas
+pub mod RowLemmas
+pub mod ReportLemmas
 pub mod TurnLemmas
 pub mod ExampleRuns

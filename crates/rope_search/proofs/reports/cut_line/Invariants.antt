@@ -1,0 +1,11 @@
+-- No character so far is of the break set.
+use Rattle.std.proofs.Common.{length, IsUtf8}
+use Rattle.std.specs.Str.Iter.{chars_rest}
+use Rattle.rope_search.proofs.ReportLemmas.{Unbroken}
+use Rattle.rope_search.proofs.reports.cut_line.Given as goal
+
+abbrev pub invariant-loop-c : goal.invariant-loop-c
+invariant-loop-c l = Unbroken l.text (chars_rest l.rest) l.len × IsUtf8 (chars_rest l.rest)
+
+abbrev pub decreases-loop-c : goal.decreases-loop-c
+decreases-loop-c l = length (chars_rest l.rest)
