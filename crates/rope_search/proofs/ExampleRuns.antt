@@ -4,16 +4,16 @@ use Rattle.std.specs.Prelude.{Ok}
 use Rattle.std.specs.Fmt.{digits}
 use Rattle.std.proofs.Math.Utf8.{encode}
 use Rattle.rope_search_io.specs.declared.faults.Fault.{Fault}
-use Rattle.rope_search_io.specs.declared.faults.Fault.TheVariants.{Nothing, Utf8, Size, Memory}
+use Rattle.rope_search_io.specs.declared.faults.Fault.TheVariants.{Nothing, Utf8, Pattern, Limit, Size, Memory}
 use Rattle.rope_search.specs.declared.commands.Reply.TheVariants.{Done, Print}
 use Rattle.rope_search.specs.declared.runs.Ended.TheVariants.{Input, Command, Cut}
-use Rattle.rope_search.specs.Order.{Order, SetText, PrintText, ForkBuffer, UseBuffer}
+use Rattle.rope_search.specs.Order.{Order, SetText, PrintText, ForkBuffer, SetPattern, DropPattern, ListMatches, UseBuffer}
 use Rattle.rope_search.specs.Session.{first}
 use Rattle.rope_search.specs.Step.{Refuses, Accepts}
 use Rattle.rope_search.specs.Reads.{IsNumber, IsLine, Spells, Ends, Reads}
 use Rattle.rope_search.specs.Answers.{Run, Answers}
 use Rattle.rope_search.specs.Examples.{session_of}
-use Rattle.rope_search.proofs.LineLaws.{IsLine-initial}
+use Rattle.rope_search.proofs.LineLaws.{IsLine-second}
 use Rattle.rope_search.proofs.RunLaws.{Run-one, Run-append, SpellAll-one, SpellAll-append}
 use Rattle.rope_search.proofs.StepLaws.{accepted_text, accepted_print}
 
@@ -53,10 +53,13 @@ pub Ends-cr : Ends (codes "print\r\n") Command
 Ends-cr = inl (record { line = codes "print\r"; more = []; no_lf = omega arith; short = omega arith; whole = refl; no_command = none })
   where
     none : (o : Order) → IsLine o (codes "print\r") → ⊥
-    none (SetText payload) h = omega (arith, IsLine-initial (SetText payload) (codes "print\r") h)
+    none (SetText payload) h = omega (arith, IsLine-second (SetText payload) (codes "print\r") h)
     none PrintText h = omega (arith, ap length h)
-    none ForkBuffer h = omega (arith, IsLine-initial ForkBuffer (codes "print\r") h)
-    none (UseBuffer k) h = omega (arith, IsLine-initial (UseBuffer k) (codes "print\r") h)
+    none ForkBuffer h = omega (arith, IsLine-second ForkBuffer (codes "print\r") h)
+    none (SetPattern payload) h = omega (arith, IsLine-second (SetPattern payload) (codes "print\r") h)
+    none DropPattern h = omega (arith, IsLine-second DropPattern (codes "print\r") h)
+    none ListMatches h = omega (arith, IsLine-second ListMatches (codes "print\r") h)
+    none (UseBuffer k) h = omega (arith, IsLine-second (UseBuffer k) (codes "print\r") h)
 
 -- a command's line without its LF is cut off
 pub Ends-part : Ends (codes "print") Cut
@@ -72,6 +75,8 @@ Ends-payload = inr (record { order = SetText (codes "hi"); line = codes "text 2"
 pub Refuses-use : (limit : ℕ) (fault : Fault) → Refuses limit first (UseBuffer 1) fault ↔ fault ≡ Nothing
 Refuses-use limit Nothing = ((λ h. refl), (λ e. omega arith))
 Refuses-use limit Utf8 = ((λ h. absurd h), (λ e. cc))
+Refuses-use limit Pattern = ((λ h. absurd h), (λ e. cc))
+Refuses-use limit Limit = ((λ h. absurd h), (λ e. cc))
 Refuses-use limit Size = ((λ h. absurd h), (λ e. cc))
 Refuses-use limit Memory = ((λ h. absurd h), (λ e. cc))
 

@@ -1,7 +1,10 @@
 pub mod AnswerLaws
 pub mod HeaderLemmas
+pub mod ListingLemmas
 pub mod LineLaws
+pub mod PatternLemmas
 pub mod PayloadLemmas
+pub mod PutLemmas
 pub mod ReadLaws
 pub mod RequestLemmas
 pub mod RunEndings

@@ -3,7 +3,7 @@ use Rattle.std.proofs.Common.{◌≡◌, ℕ, ◌^◌, ◌≤◌, ◌⊎◌, Lis
 use Rattle.std.specs.List.{AllByRecursion}
 use Rattle.std.proofs.lemmas.Bool.{cases_lt, cases_eq}
 use Rattle.std.proofs.lemmas.List.{length-replicate, append_cancel_left}
-use Rattle.rope_search.specs.Order.{Order, SetText, PrintText, ForkBuffer, UseBuffer}
+use Rattle.rope_search.specs.Order.{Order, SetText, PrintText, ForkBuffer, SetPattern, DropPattern, ListMatches, UseBuffer}
 use Rattle.rope_search.specs.Reads.{digits_after, IsNumber, payload_of, IsLine, HasNoLf}
 
 -- ---- numbers
@@ -86,11 +86,15 @@ worded_choice word line = elim (front_choice word line) [
 
 -- a line that has the word of each command in vain is no command's
 pub no_line : (line : List ℕ) → ((n : ℕ) → IsWorded (codes "text ") line n → ⊥) → (line ≡ codes "print" → ⊥) → (line ≡ codes "fork" → ⊥)
+    → ((n : ℕ) → IsWorded (codes "pattern ") line n → ⊥) → (line ≡ codes "off" → ⊥) → (line ≡ codes "list" → ⊥)
     → ((n : ℕ) → IsWorded (codes "use ") line n → ⊥) → (o : Order) → IsLine o line → ⊥
-no_line line no_text no_print no_fork no_use (SetText payload) h = no_text (length payload) h
-no_line line no_text no_print no_fork no_use PrintText h = no_print h
-no_line line no_text no_print no_fork no_use ForkBuffer h = no_fork h
-no_line line no_text no_print no_fork no_use (UseBuffer k) h = no_use k h
+no_line line no_text no_print no_fork no_pattern no_off no_list no_use (SetText payload) h = no_text (length payload) h
+no_line line no_text no_print no_fork no_pattern no_off no_list no_use PrintText h = no_print h
+no_line line no_text no_print no_fork no_pattern no_off no_list no_use ForkBuffer h = no_fork h
+no_line line no_text no_print no_fork no_pattern no_off no_list no_use (SetPattern payload) h = no_pattern (length payload) h
+no_line line no_text no_print no_fork no_pattern no_off no_list no_use DropPattern h = no_off h
+no_line line no_text no_print no_fork no_pattern no_off no_list no_use ListMatches h = no_list h
+no_line line no_text no_print no_fork no_pattern no_off no_list no_use (UseBuffer k) h = no_use k h
 
 -- a line is a command's or none's
 pub line_choice : (line : List ℕ) → ((o : Order) × IsLine o line) ⊎ ((o : Order) → IsLine o line → ⊥)
@@ -100,9 +104,18 @@ line_choice line = elim (worded_choice (codes "text ") line) [
     | inl print ↦ inl (PrintText, print)
     | inr no_print ↦ elim (list_choice line (codes "fork")) [
       | inl fork ↦ inl (ForkBuffer, fork)
-      | inr no_fork ↦ elim (worded_choice (codes "use ") line) [
-        | inl chosen ↦ inl (UseBuffer chosen.0, chosen.1)
-        | inr no_use ↦ inr (no_line line no_text no_print no_fork no_use)
+      | inr no_fork ↦ elim (worded_choice (codes "pattern ") line) [
+        | inl pattern ↦ inl (SetPattern (replicate pattern.0 0), (pattern.1.0, subst (λ n. IsNumber pattern.1.0 n) (sym (length-replicate pattern.0 0)) pattern.1.1, pattern.1.2))
+        | inr no_pattern ↦ elim (list_choice line (codes "off")) [
+          | inl off ↦ inl (DropPattern, off)
+          | inr no_off ↦ elim (list_choice line (codes "list")) [
+            | inl list ↦ inl (ListMatches, list)
+            | inr no_list ↦ elim (worded_choice (codes "use ") line) [
+              | inl chosen ↦ inl (UseBuffer chosen.0, chosen.1)
+              | inr no_use ↦ inr (no_line line no_text no_print no_fork no_pattern no_off no_list no_use)
+            ]
+          ]
+        ]
       ]
     ]
   ]
@@ -110,18 +123,24 @@ line_choice line = elim (worded_choice (codes "text ") line) [
 
 -- ---- a line is one command's, but for the payload
 
--- the byte that a command's line begins with
-abbrev pub initial : Order → ℕ
-initial (SetText payload) = 116
-initial PrintText = 112
-initial ForkBuffer = 102
-initial (UseBuffer k) = 117
+-- the second byte of a command's line, by which all words differ
+abbrev pub second : Order → ℕ
+second (SetText payload) = 101
+second PrintText = 114
+second ForkBuffer = 111
+second (SetPattern payload) = 97
+second DropPattern = 102
+second ListMatches = 105
+second (UseBuffer k) = 115
 
-pub IsLine-initial : (o : Order) (line : List ℕ) → IsLine o line → get_or line 0 0 ≡ initial o
-IsLine-initial (SetText payload) line h = ap (λ l. get_or l 0 0) h.2
-IsLine-initial PrintText line h = ap (λ l. get_or l 0 0) h
-IsLine-initial ForkBuffer line h = ap (λ l. get_or l 0 0) h
-IsLine-initial (UseBuffer k) line h = ap (λ l. get_or l 0 0) h.2
+pub IsLine-second : (o : Order) (line : List ℕ) → IsLine o line → get_or line 1 0 ≡ second o
+IsLine-second (SetText payload) line h = ap (λ l. get_or l 1 0) h.2
+IsLine-second PrintText line h = ap (λ l. get_or l 1 0) h
+IsLine-second ForkBuffer line h = ap (λ l. get_or l 1 0) h
+IsLine-second (SetPattern payload) line h = ap (λ l. get_or l 1 0) h.2
+IsLine-second DropPattern line h = ap (λ l. get_or l 1 0) h
+IsLine-second ListMatches line h = ap (λ l. get_or l 1 0) h
+IsLine-second (UseBuffer k) line h = ap (λ l. get_or l 1 0) h.2
 
 -- behind one word one line has one number
 pub IsWorded-one : (word line : List ℕ) (m n : ℕ) → IsWorded word line m → IsWorded word line n → m ≡ n
@@ -133,18 +152,24 @@ pub IsLine-one : (o p : Order) (line : List ℕ) → IsLine o line → IsLine p 
 IsLine-one (SetText payload) (SetText payload') line one other = IsWorded-one (codes "text ") line (length payload) (length payload') one other
 IsLine-one PrintText PrintText line one other = refl
 IsLine-one ForkBuffer ForkBuffer line one other = refl
+IsLine-one (SetPattern payload) (SetPattern payload') line one other = IsWorded-one (codes "pattern ") line (length payload) (length payload') one other
+IsLine-one DropPattern DropPattern line one other = refl
+IsLine-one ListMatches ListMatches line one other = refl
 IsLine-one (UseBuffer k) (UseBuffer j) line one other = refl
-IsLine-one o p line one other = absurd (omega (arith, IsLine-initial o line one, IsLine-initial p line other))
+IsLine-one o p line one other = absurd (omega (arith, IsLine-second o line one, IsLine-second p line other))
 
 -- two commands with one line and one payload are the same
 pub IsLine-same : (o p : Order) (line : List ℕ) → IsLine o line → IsLine p line → payload_of o ≡ payload_of p → o ≡ p
 IsLine-same (SetText payload) (SetText payload') line one other same = ap SetText same
 IsLine-same PrintText PrintText line one other same = refl
 IsLine-same ForkBuffer ForkBuffer line one other same = refl
+IsLine-same (SetPattern payload) (SetPattern payload') line one other same = ap SetPattern same
+IsLine-same DropPattern DropPattern line one other same = refl
+IsLine-same ListMatches ListMatches line one other same = refl
 IsLine-same (UseBuffer k) (UseBuffer j) line one other same = ap UseBuffer (IsWorded-one (codes "use ") line k j one other)
-IsLine-same o p line one other same = absurd (omega (arith, IsLine-initial o line one, IsLine-initial p line other))
+IsLine-same o p line one other same = absurd (omega (arith, IsLine-second o line one, IsLine-second p line other))
 
--- ---- a command's line has no LF, and at most 25 bytes
+-- ---- a command's line has no LF, and at most 28 bytes
 
 pub HasNoLf-append : (a b : List ℕ) → HasNoLf a → HasNoLf b → HasNoLf (a ++ b)
 HasNoLf-append [] b first second = second
@@ -161,10 +186,16 @@ pub HasNoLf-line : (o : Order) (line : List ℕ) → IsLine o line → HasNoLf l
 HasNoLf-line (SetText payload) line h = HasNoLf-worded (codes "text ") line (length payload) (omega arith) h
 HasNoLf-line PrintText line h = subst HasNoLf (sym h) (omega arith)
 HasNoLf-line ForkBuffer line h = subst HasNoLf (sym h) (omega arith)
+HasNoLf-line (SetPattern payload) line h = HasNoLf-worded (codes "pattern ") line (length payload) (omega arith) h
+HasNoLf-line DropPattern line h = subst HasNoLf (sym h) (omega arith)
+HasNoLf-line ListMatches line h = subst HasNoLf (sym h) (omega arith)
 HasNoLf-line (UseBuffer k) line h = HasNoLf-worded (codes "use ") line k (omega arith) h
 
-pub length-line_le : (o : Order) (line : List ℕ) → IsLine o line → length line ≤ 25
+pub length-line_le : (o : Order) (line : List ℕ) → IsLine o line → length line ≤ 28
 length-line_le (SetText payload) line h = omega (arith, ap length h.2, h.1.few)
 length-line_le PrintText line h = omega (arith, ap length h)
 length-line_le ForkBuffer line h = omega (arith, ap length h)
+length-line_le (SetPattern payload) line h = omega (arith, ap length h.2, h.1.few)
+length-line_le DropPattern line h = omega (arith, ap length h)
+length-line_le ListMatches line h = omega (arith, ap length h)
 length-line_le (UseBuffer k) line h = omega (arith, ap length h.2, h.1.few)

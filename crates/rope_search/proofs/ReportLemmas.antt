@@ -17,19 +17,19 @@ pub ruleset break_tests = (nat_tests)
 
 -- ---- the lines of a text by its first character
 
-line_texts-nil : line_texts [] ≡ [] ∷ []
+pub line_texts-nil : line_texts [] ≡ [] ∷ []
 unfolding line_texts
 line_texts-nil = refl
 
-line_texts-break : (c : ℕ) (rest : List ℕ) → ends_break is_line_break c rest ≡ true → line_texts (c ∷ rest) ≡ [] ∷ line_texts rest
+pub line_texts-break : (c : ℕ) (rest : List ℕ) → ends_break is_line_break c rest ≡ true → line_texts (c ∷ rest) ≡ [] ∷ line_texts rest
 unfolding line_texts
 line_texts-break c rest is_so = cond-true _ _ _ is_so
 
-line_texts-cr : (c : ℕ) (rest : List ℕ) → ends_break is_line_break c rest ≡ false → is_line_break c ≡ true → line_texts (c ∷ rest) ≡ line_texts rest
+pub line_texts-cr : (c : ℕ) (rest : List ℕ) → ends_break is_line_break c rest ≡ false → is_line_break c ≡ true → line_texts (c ∷ rest) ≡ line_texts rest
 unfolding line_texts
 line_texts-cr c rest is_not is_so = cond-false _ _ _ is_not ∙ cond-true _ _ _ is_so
 
-line_texts-more : (c : ℕ) (rest : List ℕ) → ends_break is_line_break c rest ≡ false → is_line_break c ≡ false → line_texts (c ∷ rest) ≡ with_first c (line_texts rest)
+pub line_texts-more : (c : ℕ) (rest : List ℕ) → ends_break is_line_break c rest ≡ false → is_line_break c ≡ false → line_texts (c ∷ rest) ≡ with_first c (line_texts rest)
 unfolding line_texts
 line_texts-more c rest is_not is_not' = cond-false _ _ _ is_not ∙ cond-false _ _ _ is_not'
 

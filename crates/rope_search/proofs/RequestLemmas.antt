@@ -1,49 +1,52 @@
 -- A command's line and what follows it, read one after the other.
-use Rattle.std.proofs.Common.{◌≡◌, ◌↔◌, ℕ, ◌<◌, List, [], ◌∷◌, ◌++◌, length, replicate, true, false, Result, Ok, Err, refl, sym, subst, inr, append_assoc, arith}
+use Rattle.std.proofs.Common.{◌≡◌, ◌↔◌, ℕ, ◌<◌, List, [], ◌∷◌, ◌++◌, length, replicate, Some, Result, Ok, Err, refl, sym, subst, inr, append_assoc, arith}
 use Rattle.std.proofs.lemmas.List.{length-replicate}
 use Rattle.rope_search_io.specs.declared.faults.Broken.{Broken}
 use Rattle.rope_search_io.specs.Sources.{SourceState}
 use Rattle.rope_search_io.specs.ReadAhead.{Ahead, Takes, TakesLast, TakesUntil}
 use Rattle.rope_search.specs.declared.headers.Header.{Header}
-use Rattle.rope_search.specs.declared.headers.Header.TheVariants.{Text, Use}
+use Rattle.rope_search.specs.declared.headers.Header.TheVariants.{Text, Pattern, Use}
 use Rattle.rope_search.specs.declared.payloads.Collected.{Collected}
 use Rattle.rope_search.specs.declared.requests.Asked.TheVariants as asked
 use Rattle.rope_search.specs.declared.requests.Request.{Request}
 use Rattle.rope_search.specs.declared.requests.Request.TheVariants.{Given, End}
 use Rattle.rope_search.specs.declared.runs.Ended.TheVariants.{Input, Command, Cut}
-use Rattle.rope_search.specs.Order.{Order, SetText, UseBuffer}
+use Rattle.rope_search.specs.Order.{Order, SetText, SetPattern, UseBuffer}
+use Rattle.rope_search.specs.Pattern.{pattern_limit}
 use Rattle.rope_search.specs.Header.{IsHeaderOf}
 use Rattle.rope_search.specs.Reads.{IsLine, payload_of}
-use Rattle.rope_search.specs.Requests.{Collects, TakesPayload, TakesRestOf, TakesPartOf, TakesRest, TakesRequest}
+use Rattle.rope_search.specs.Requests.{Collects, TakesCollected, TakesRestOf, TakesPartOf, TakesRest, TakesRequest}
 use Rattle.rope_search.proofs.TakesLemmas.{Takes-nil, Takes-trans, TakesLast-after, TakesUntil-after}
 
 -- a payload that was read whole
-pub TakesRest-whole : (limit len : ℕ) (kept kept' : Collected) (old new : Ahead) (s t : SourceState) → Collects limit len kept []
-    → TakesPayload (Ok true) len kept kept' old new s t → TakesRestOf limit (Text len) (asked.Text kept') old new s t
-TakesRest-whole limit len kept kept' old new s t fresh h = record {
-  order = SetText h.0;
-  of_header = h.1;
-  is = subst (λ n. Collects limit n kept' h.0) (sym h.1) (h.2 limit len [] fresh);
-  taken = h.3;
-}
+pub TakesRest-text : (limit len : ℕ) (kept : Collected) (old new : Ahead) (s t : SourceState)
+    → TakesCollected (Ok (Some kept)) limit len old new s t → TakesRestOf limit (Text len) (asked.Text kept) old new s t
+TakesRest-text limit len kept old new s t h =
+    record { order = SetText h.0; of_header = h.1; is = subst (λ n. Collects limit n kept h.0) (sym h.1) h.2; taken = h.3 }
+
+pub TakesRest-pattern : (limit len : ℕ) (kept : Collected) (old new : Ahead) (s t : SourceState)
+    → TakesCollected (Ok (Some kept)) pattern_limit len old new s t → TakesRestOf limit (Pattern len) (asked.Pattern kept) old new s t
+TakesRest-pattern limit len kept old new s t h =
+    record { order = SetPattern h.0; of_header = h.1; is = subst (λ n. Collects pattern_limit n kept h.0) (sym h.1) h.2; taken = h.3 }
 
 -- a payload that was read in part
-part_of : (len : ℕ) (Taken : List ℕ → Type 0) (bytes : List ℕ) → length bytes < len → Taken bytes → TakesPartOf (Text len) Taken
-part_of len Taken bytes short taken = record {
+pub text_part : (len : ℕ) (Taken : List ℕ → Type 0) → (bytes : List ℕ) × (length bytes < len) × Taken bytes → TakesPartOf (Text len) Taken
+text_part len Taken h = record {
   order = SetText (replicate len 0);
   of_header = length-replicate {A = ℕ} len 0;
-  part = bytes;
-  short = omega (arith, length-replicate {A = ℕ} len 0);
-  taken = taken;
+  part = h.0;
+  short = omega (arith, h.1, length-replicate {A = ℕ} len 0);
+  taken = h.2;
 }
 
-pub TakesRest-cut : (len : ℕ) (kept kept' : Collected) (old new : Ahead) (s t : SourceState)
-    → TakesPayload (Ok false) len kept kept' old new s t → TakesPartOf (Text len) (TakesLast old new s t)
-TakesRest-cut len kept kept' old new s t h = part_of len (TakesLast old new s t) h.0 h.1 h.2
-
-pub TakesRest-broken : (broken : Broken) (len : ℕ) (kept kept' : Collected) (old new : Ahead) (s t : SourceState)
-    → TakesPayload (Err broken) len kept kept' old new s t → TakesPartOf (Text len) (TakesUntil broken old new s t)
-TakesRest-broken broken len kept kept' old new s t h = part_of len (TakesUntil broken old new s t) h.0 h.1 h.2
+pub pattern_part : (len : ℕ) (Taken : List ℕ → Type 0) → (bytes : List ℕ) × (length bytes < len) × Taken bytes → TakesPartOf (Pattern len) Taken
+pattern_part len Taken h = record {
+  order = SetPattern (replicate len 0);
+  of_header = length-replicate {A = ℕ} len 0;
+  part = h.0;
+  short = omega (arith, h.1, length-replicate {A = ℕ} len 0);
+  taken = h.2;
+}
 
 -- a command with no payload
 pub TakesRest-use : (limit k : ℕ) (a : Ahead) (s : SourceState) → TakesRestOf limit (Use k) (asked.Use k) a a s s

@@ -6,95 +6,175 @@ use Rattle.rope_search.specs.declared.payloads.Collected.{Collected}
 use Rattle.rope_search.specs.declared.requests.Asked.TheVariants as asked
 use Rattle.rope_search.specs.Requests.{Collects, IsAskedFor}
 use Rattle.rope_search.specs.declared.commands.Payload.{Payload}
-use Rattle.rope_search.specs.declared.commands.Command.TheVariants.{Text}
-use Rattle.rope_search.specs.Order.{Order, SetText, PrintText, ForkBuffer, UseBuffer}
-use Rattle.rope_search.specs.Session.{State, BufferState, LimitedBuffer, LimitedSession, fresh, chosen_buffer, with_text, with_chosen}
+use Rattle.rope_search.specs.declared.commands.Command.TheVariants.{Text, Pattern as PatternCommand}
+use Rattle.rope_search.specs.Order.{Order, SetText, PrintText, ForkBuffer, SetPattern, DropPattern, ListMatches, UseBuffer}
+use Rattle.rope_search.specs.Session.{State, BufferState, LimitedBuffer, LimitedSession, fresh, current_text, chosen_buffer, with_text, with_pattern, with_chosen}
+use Rattle.rope_search.specs.Pattern.{IsPattern, pattern_limit}
+use Rattle.rope_search.specs.Text.{line_count}
 use Rattle.rope_search.specs.Stands.{Stands, StandsFor}
 use Rattle.rope_search.specs.Step.{Step}
 use Rattle.rope_search.specs.Cost.{Costs, rows_anew}
-use Rattle.rope_search.proofs.StepLaws.{accepted_text, refused_size}
+use Rattle.rope_search.proofs.StepLaws.{accepted_text, refused_size, accepted_pattern, refused_pattern, refused_limit}
+use Rattle.rope_search.proofs.PatternLemmas.{pattern_choice}
+use Rattle.std.proofs.lemmas.Bool.{cases_lt}
+use Rattle.std.specs.Prelude.{Some, ◌⊎◌}
 use Rattle.rope_search.proofs.TextLemmas.{Encodes-chars}
-use Rattle.rope_search_io.specs.declared.faults.Fault.TheVariants.{Size}
+use Rattle.rope_search_io.specs.declared.faults.Fault.{Fault}
+use Rattle.rope_search_io.specs.declared.faults.Fault.TheVariants.{Pattern, Limit, Size, Memory}
 use Rattle.rope_search.specs.declared.commands.Reply.TheVariants.{Done}
 use Rattle.std.specs.Str.{chars}
 use Rattle.std.specs.List.{All}
 
--- what is so of each payload that is stood for is so of each command
+-- ---- what is so of each payload is so of each command
+
 pub rows_for_text : (limit : ℕ) (s : State) (payload : Payload) (count before : ℕ)
     → ((bytes : List ℕ) (cost : ℕ) → StandsFor limit payload bytes → Costs limit s (SetText bytes) cost → count ≤ before + cost)
     → (order : Order) (cost : ℕ) → Stands limit (Text payload) order → Costs limit s order cost → count ≤ before + cost
 rows_for_text limit s payload count before each (SetText bytes) cost stands costs = each bytes cost stands costs
 rows_for_text limit s payload count before each PrintText cost stands costs = absurd stands
 rows_for_text limit s payload count before each ForkBuffer cost stands costs = absurd stands
+rows_for_text limit s payload count before each (SetPattern bytes) cost stands costs = absurd stands
+rows_for_text limit s payload count before each DropPattern cost stands costs = absurd stands
+rows_for_text limit s payload count before each ListMatches cost stands costs = absurd stands
 rows_for_text limit s payload count before each (UseBuffer k) cost stands costs = absurd stands
 
--- the chosen buffer written in the list is the chosen buffer of the session
-pub with_chosen-text : (items : List LimitedBuffer) (k : ℕ) (old new : LimitedBuffer) (text : List ℕ) (s : State)
-    → k < length items → old ≡ slice_index_or items k old → new.state ≡ with_text old.state text
-    → record { buffers = map (λ (b : LimitedBuffer). b.state) items; chosen = k } ≡ s
-    → record { buffers = map (λ (b : LimitedBuffer). b.state) (slice_set items k new); chosen = k } ≡ with_chosen s (with_text (chosen_buffer s) text)
-with_chosen-text items k old new text s inside is set seen =
-    let state : LimitedBuffer → BufferState = λ b. b.state in
-    let states = map state items in
-    let found : slice_index_or states k (fresh []) ≡ old.state = get_or-map state items k old (fresh []) inside ∙ ap state (sym is) in
-    let written : new.state ≡ with_text (slice_index_or states k (fresh [])) text = set ∙ ap (λ (b : BufferState). with_text b text) (sym found) in
-    let list : map state (slice_set items k new) ≡ slice_set states k (with_text (slice_index_or states k (fresh [])) text) =
-    map-set state items k new ∙ ap (slice_set states k) written in
-    subst (λ (t : State). record { buffers = map state (slice_set items k new); chosen = k } ≡ with_chosen t (with_text (chosen_buffer t) text)) seen
-    (ap (λ (bs : List BufferState). record { buffers = bs; chosen = k }) list)
+pub rows_for_pattern : (limit : ℕ) (s : State) (payload : Payload) (count before : ℕ)
+    → ((bytes : List ℕ) (cost : ℕ) → StandsFor pattern_limit payload bytes → Costs limit s (SetPattern bytes) cost → count ≤ before + cost)
+    → (order : Order) (cost : ℕ) → Stands limit (PatternCommand payload) order → Costs limit s order cost → count ≤ before + cost
+rows_for_pattern limit s payload count before each (SetText bytes) cost stands costs = absurd stands
+rows_for_pattern limit s payload count before each PrintText cost stands costs = absurd stands
+rows_for_pattern limit s payload count before each ForkBuffer cost stands costs = absurd stands
+rows_for_pattern limit s payload count before each (SetPattern bytes) cost stands costs = each bytes cost stands costs
+rows_for_pattern limit s payload count before each DropPattern cost stands costs = absurd stands
+rows_for_pattern limit s payload count before each ListMatches cost stands costs = absurd stands
+rows_for_pattern limit s payload count before each (UseBuffer k) cost stands costs = absurd stands
 
--- a buffer of the session has the session's limit
-limit_of : (items : List LimitedBuffer) (k limit : ℕ) (old : LimitedBuffer) → k < length items → old ≡ slice_index_or items k old
-    → All (λ (b : LimitedBuffer). b.limit ≡ limit) items → old.limit ≡ limit
-limit_of items k limit old inside is all = ap (λ (b : LimitedBuffer). b.limit) is ∙ all k old inside
-
--- the chosen buffer takes a text: a step of the session
-pub Step-take_text : (items : List LimitedBuffer) (k limit : ℕ) (old new : LimitedBuffer) (bytes : List ℕ) (s : LimitedSession)
-    → k < length items → old ≡ slice_index_or items k old → All (λ (b : LimitedBuffer). b.limit ≡ limit) items
-    → record { limit = limit; state = record { buffers = map (λ (b : LimitedBuffer). b.state) items; chosen = k } } ≡ s
-    → IsUtf8 bytes → length bytes ≤ old.limit → new.state ≡ with_text old.state (chars bytes)
-    → Step s.limit s.state (SetText bytes) (Ok Done) (record { buffers = map (λ (b : LimitedBuffer). b.state) (slice_set items k new); chosen = k })
-Step-take_text items k limit old new bytes s inside is all seen utf8 short set =
-    let same : old.limit ≡ s.limit = limit_of items k limit old inside is all ∙ ap (λ (t : LimitedSession). t.limit) seen in (
-      accepted_text s.limit s.state bytes utf8 (omega arith),
-      (chars bytes, Encodes-chars bytes utf8, with_chosen-text items k old new (chars bytes) s.state inside is set (ap (λ (t : LimitedSession). t.state) seen)),
-    )
-
--- the text is too long: the session stays
-pub Step-too_long : (items : List LimitedBuffer) (k limit : ℕ) (old new : LimitedBuffer) (bytes : List ℕ) (s : LimitedSession)
-    → k < length items → old ≡ slice_index_or items k old → All (λ (b : LimitedBuffer). b.limit ≡ limit) items
-    → record { limit = limit; state = record { buffers = map (λ (b : LimitedBuffer). b.state) items; chosen = k } } ≡ s
-    → IsUtf8 bytes → old.limit < length bytes → new ≡ old
-    → Step s.limit s.state (SetText bytes) (Err Size) (record { buffers = map (λ (b : LimitedBuffer). b.state) (slice_set items k new); chosen = k })
-Step-too_long items k limit old new bytes s inside is all seen utf8 long stays =
-    let state : LimitedBuffer → BufferState = λ b. b.state in
-    let same : old.limit ≡ s.limit = limit_of items k limit old inside is all ∙ ap (λ (t : LimitedSession). t.limit) seen in
-    let list : map state (slice_set items k new) ≡ map state items = map-set_same state items k new old (ap state (stays ∙ is)) in (
-      refused_size s.limit s.state bytes utf8 (omega arith),
-      ap (λ (bs : List BufferState). record { buffers = bs; chosen = k }) list ∙ ap (λ (t : LimitedSession). t.state) seen,
-    )
-
--- the rows that a text may make are those of the command's cost
-pub rows_taken : (items : List LimitedBuffer) (k limit : ℕ) (old : LimitedBuffer) (bytes : List ℕ) (s : LimitedSession) (count before : ℕ)
-    → k < length items → old ≡ slice_index_or items k old → All (λ (b : LimitedBuffer). b.limit ≡ limit) items
-    → record { limit = limit; state = record { buffers = map (λ (b : LimitedBuffer). b.state) items; chosen = k } } ≡ s
-    → IsUtf8 bytes → length bytes ≤ old.limit → count ≤ before + rows_anew old.state (chars bytes)
-    → (cost : ℕ) → Costs s.limit s.state (SetText bytes) cost → count ≤ before + cost
-rows_taken items k limit old bytes s count before inside is all seen utf8 short rows cost costs =
-    let state : LimitedBuffer → BufferState = λ b. b.state in
-    let same : old.limit ≡ s.limit = limit_of items k limit old inside is all ∙ ap (λ (t : LimitedSession). t.limit) seen in
-    let found : slice_index_or (map state items) k (fresh []) ≡ old.state = get_or-map state items k old (fresh []) inside ∙ ap state (sym is) in
-    let chosen : chosen_buffer s.state ≡ old.state = sym (ap (λ (t : LimitedSession). chosen_buffer t.state) seen) ∙ found in
-    elim costs [
-      | inl refused ↦ absurd (accepted_text s.limit s.state bytes utf8 (omega arith) refused.0 refused.1)
-      | inr accepted ↦ omega (arith, accepted.1, ap (λ (b : BufferState). rows_anew b (chars bytes)) chosen)
-    ]
-
--- what is so of each payload that was kept so is so of each command
 pub rows_for_asked_text : (limit : ℕ) (s : State) (collected : Collected) (count before : ℕ)
     → ((bytes : List ℕ) (cost : ℕ) → Collects limit (length bytes) collected bytes → Costs limit s (SetText bytes) cost → count ≤ before + cost)
     → (order : Order) (cost : ℕ) → IsAskedFor limit (asked.Text collected) order → Costs limit s order cost → count ≤ before + cost
 rows_for_asked_text limit s collected count before each (SetText bytes) cost kept costs = each bytes cost kept costs
 rows_for_asked_text limit s collected count before each PrintText cost kept costs = absurd kept
 rows_for_asked_text limit s collected count before each ForkBuffer cost kept costs = absurd kept
+rows_for_asked_text limit s collected count before each (SetPattern bytes) cost kept costs = absurd kept
+rows_for_asked_text limit s collected count before each DropPattern cost kept costs = absurd kept
+rows_for_asked_text limit s collected count before each ListMatches cost kept costs = absurd kept
 rows_for_asked_text limit s collected count before each (UseBuffer k) cost kept costs = absurd kept
+
+-- ---- the chosen buffer in the list of all
+
+-- a session by the list of its buffers, the chosen one of which is known
+pub record Chosen (items : List LimitedBuffer) (k limit : ℕ) (old : LimitedBuffer) (s : LimitedSession) : Type 0 where
+  pub inside : k < length items
+  pub is : old ≡ slice_index_or items k old
+  pub all : All (λ (b : LimitedBuffer). b.limit ≡ limit) items
+  pub seen : record { limit = limit; state = record { buffers = map (λ (b : LimitedBuffer). b.state) items; chosen = k } } ≡ s
+
+-- the state of the session's list, with another buffer in the chosen one's place
+abbrev pub state_with : List LimitedBuffer → ℕ → LimitedBuffer → State
+state_with items k new = record { buffers = map (λ (b : LimitedBuffer). b.state) (slice_set items k new); chosen = k }
+
+-- the chosen buffer has the session's limit
+pub Chosen-limit : (items : List LimitedBuffer) (k limit : ℕ) (old : LimitedBuffer) (s : LimitedSession) → Chosen items k limit old s → old.limit ≡ s.limit
+Chosen-limit items k limit old s c =
+    ap (λ (b : LimitedBuffer). b.limit) c.is ∙ c.all k old c.inside ∙ ap (λ (t : LimitedSession). t.limit) c.seen
+
+found : (items : List LimitedBuffer) (k limit : ℕ) (old : LimitedBuffer) (s : LimitedSession) → Chosen items k limit old s
+    → slice_index_or (map (λ (b : LimitedBuffer). b.state) items) k (fresh []) ≡ old.state
+found items k limit old s c =
+    let state : LimitedBuffer → BufferState = λ b. b.state in get_or-map state items k old (fresh []) c.inside ∙ ap state (sym c.is)
+
+-- and is the one that the session chose
+pub Chosen-state : (items : List LimitedBuffer) (k limit : ℕ) (old : LimitedBuffer) (s : LimitedSession) → Chosen items k limit old s → chosen_buffer s.state ≡ old.state
+Chosen-state items k limit old s c = sym (ap (λ (t : LimitedSession). chosen_buffer t.state) c.seen) ∙ found items k limit old s c
+
+-- a change of it is a change of the session
+pub Chosen-set : (items : List LimitedBuffer) (k limit : ℕ) (old new : LimitedBuffer) (s : LimitedSession) (change : BufferState → BufferState)
+    → Chosen items k limit old s → new.state ≡ change old.state → state_with items k new ≡ with_chosen s.state (change (chosen_buffer s.state))
+Chosen-set items k limit old new s change c set =
+    let state : LimitedBuffer → BufferState = λ b. b.state in
+    let states = map state items in
+    let written : new.state ≡ change (slice_index_or states k (fresh [])) = set ∙ ap change (sym (found items k limit old s c)) in
+    let list : map state (slice_set items k new) ≡ slice_set states k (change (slice_index_or states k (fresh []))) =
+    map-set state items k new ∙ ap (slice_set states k) written in
+    subst (λ (t : LimitedSession). state_with items k new ≡ with_chosen t.state (change (chosen_buffer t.state))) c.seen
+    (ap (λ (bs : List BufferState). record { buffers = bs; chosen = k }) list)
+
+-- where it stays, the session stays
+pub Chosen-stays : (items : List LimitedBuffer) (k limit : ℕ) (old new : LimitedBuffer) (s : LimitedSession) → Chosen items k limit old s → new ≡ old → state_with items k new ≡ s.state
+Chosen-stays items k limit old new s c stays =
+    let state : LimitedBuffer → BufferState = λ b. b.state in
+    let list : map state (slice_set items k new) ≡ map state items = map-set_same state items k new old (ap state (stays ∙ c.is)) in
+    ap (λ (bs : List BufferState). record { buffers = bs; chosen = k }) list ∙ ap (λ (t : LimitedSession). t.state) c.seen
+
+-- ---- a text
+
+-- the chosen buffer takes a text: a step of the session
+pub Step-take_text : (items : List LimitedBuffer) (k limit : ℕ) (old new : LimitedBuffer) (bytes : List ℕ) (s : LimitedSession) → Chosen items k limit old s
+    → IsUtf8 bytes → length bytes ≤ old.limit → new.state ≡ with_text old.state (chars bytes) → Step s.limit s.state (SetText bytes) (Ok Done) (state_with items k new)
+Step-take_text items k limit old new bytes s c utf8 short set = (
+  accepted_text s.limit s.state bytes utf8 (omega (arith, Chosen-limit items k limit old s c)),
+  (chars bytes, Encodes-chars bytes utf8, Chosen-set items k limit old new s (λ b. with_text b (chars bytes)) c set),
+)
+
+-- the text is too long, or there is no memory: the session stays
+pub Step-refuse_text : (items : List LimitedBuffer) (k limit : ℕ) (old new : LimitedBuffer) (bytes : List ℕ) (s : LimitedSession) (fault : Fault) → Chosen items k limit old s
+    → IsUtf8 bytes → (fault ≡ Size → old.limit < length bytes) → (fault ≡ Size) ⊎ (fault ≡ Memory) → new ≡ old → Step s.limit s.state (SetText bytes) (Err fault) (state_with items k new)
+Step-refuse_text items k limit old new bytes s fault c utf8 long (inl size) stays =
+    subst (λ f. Step s.limit s.state (SetText bytes) (Err f) (state_with items k new)) (sym size)
+    (refused_size s.limit s.state bytes utf8 (omega (arith, long size, Chosen-limit items k limit old s c)), Chosen-stays items k limit old new s c stays)
+Step-refuse_text items k limit old new bytes s fault c utf8 long (inr memory) stays =
+    subst (λ f. Step s.limit s.state (SetText bytes) (Err f) (state_with items k new)) (sym memory) (tt, Chosen-stays items k limit old new s c stays)
+
+-- the rows that a text may make are those of the command's cost
+pub rows_taken : (items : List LimitedBuffer) (k limit : ℕ) (old : LimitedBuffer) (bytes : List ℕ) (s : LimitedSession) (count before : ℕ) → Chosen items k limit old s
+    → IsUtf8 bytes → (old.limit < length bytes → count ≤ before) → count ≤ before + rows_anew old.state (chars bytes)
+    → (cost : ℕ) → Costs s.limit s.state (SetText bytes) cost → count ≤ before + cost
+rows_taken items k limit old bytes s count before c utf8 long rows cost costs =
+    let same = Chosen-limit items k limit old s c in
+    elim (cases_lt old.limit (length bytes)) [
+      | inl over ↦ omega (arith, long over)
+      | inr short ↦ elim costs [
+        | inl refused ↦ absurd (accepted_text s.limit s.state bytes utf8 (omega (arith, same)) refused.0 refused.1)
+        | inr accepted ↦ omega (arith, accepted.1, ap (λ (b : BufferState). rows_anew b (chars bytes)) (Chosen-state items k limit old s c), rows)
+      ]
+    ]
+
+-- ---- a pattern
+
+-- the chosen buffer takes a pattern: a step of the session
+pub Step-take_pattern : (items : List LimitedBuffer) (k limit : ℕ) (old new : LimitedBuffer) (bytes : List ℕ) (s : LimitedSession) → Chosen items k limit old s
+    → IsUtf8 bytes → length bytes ≤ pattern_limit → IsPattern (chars bytes) → new.state ≡ with_pattern old.state (Some (chars bytes))
+    → Step s.limit s.state (SetPattern bytes) (Ok Done) (state_with items k new)
+Step-take_pattern items k limit old new bytes s c utf8 short is set = (
+  accepted_pattern s.limit s.state bytes utf8 short is,
+  (chars bytes, Encodes-chars bytes utf8, Chosen-set items k limit old new s (λ b. with_pattern b (Some (chars bytes))) c set),
+)
+
+-- it is no pattern, or too long, or there is no memory: the session stays
+pub Step-refuse_pattern : (items : List LimitedBuffer) (k limit : ℕ) (old new : LimitedBuffer) (bytes : List ℕ) (s : LimitedSession) (fault : Fault) → Chosen items k limit old s
+    → IsUtf8 bytes → (fault ≡ Limit → pattern_limit < length bytes) → (fault ≡ Pattern → (length bytes ≤ pattern_limit) × ¬ (IsPattern (chars bytes)))
+    → (fault ≡ Limit) ⊎ ((fault ≡ Pattern) ⊎ (fault ≡ Memory)) → new ≡ old → Step s.limit s.state (SetPattern bytes) (Err fault) (state_with items k new)
+Step-refuse_pattern items k limit old new bytes s fault c utf8 long other (inl is) stays =
+    subst (λ f. Step s.limit s.state (SetPattern bytes) (Err f) (state_with items k new)) (sym is)
+    (refused_limit s.limit s.state bytes utf8 (long is), Chosen-stays items k limit old new s c stays)
+Step-refuse_pattern items k limit old new bytes s fault c utf8 long other (inr (inl is)) stays =
+    subst (λ f. Step s.limit s.state (SetPattern bytes) (Err f) (state_with items k new)) (sym is)
+    (refused_pattern s.limit s.state bytes utf8 (other is).0 (other is).1, Chosen-stays items k limit old new s c stays)
+Step-refuse_pattern items k limit old new bytes s fault c utf8 long other (inr (inr is)) stays =
+    subst (λ f. Step s.limit s.state (SetPattern bytes) (Err f) (state_with items k new)) (sym is) (tt, Chosen-stays items k limit old new s c stays)
+
+-- the rows that a pattern may make are those of the command's cost
+pub rows_searched : (items : List LimitedBuffer) (k limit : ℕ) (old : LimitedBuffer) (bytes : List ℕ) (s : LimitedSession) (count before : ℕ) → Chosen items k limit old s
+    → IsUtf8 bytes → (pattern_limit < length bytes → count ≤ before) → ((length bytes ≤ pattern_limit) × ¬ (IsPattern (chars bytes)) → count ≤ before)
+    → count ≤ before + line_count (current_text old.state) → (cost : ℕ) → Costs s.limit s.state (SetPattern bytes) cost → count ≤ before + cost
+rows_searched items k limit old bytes s count before c utf8 long other rows cost costs =
+    elim (cases_lt pattern_limit (length bytes)) [
+      | inl over ↦ omega (arith, long over)
+      | inr short ↦ elim (pattern_choice (chars bytes)) [
+        | inr is_not ↦ omega (arith, other (short, is_not))
+        | inl is ↦ elim costs [
+          | inl refused ↦ absurd (accepted_pattern s.limit s.state bytes utf8 short is refused.0 refused.1)
+          | inr accepted ↦ omega (arith, accepted.1, ap (λ (b : BufferState). line_count (current_text b)) (Chosen-state items k limit old s c), rows)
+        ]
+      ]
+    ]

@@ -1,16 +1,18 @@
 -- Each command has one reply, one next session and one cost, apart from want of memory.
 use Rattle.std.proofs.Common.{◌≡◌, ◌≢◌, ℕ, ◌+◌, ◌<◌, ◌≤◌, ◌⊎◌, List, [], ◌∷◌, ◌++◌, true, false, length, refl, sym, ap, ◌∙◌, subst, inl, inr, IsUtf8, arith}
-use Rattle.std.specs.Prelude.{Ok, Err, chars}
+use Rattle.std.specs.Prelude.{Option, None, Some, Ok, Err, chars}
 use Rattle.std.specs.Str.{is_utf8}
 use Rattle.std.proofs.lemmas.Bool.{cases_Bool, cases_lt, cases_order}
 use Rattle.std.proofs.lemmas.Str.{IsUtf8-from_is_utf8, is_utf8-from_IsUtf8, chars_from_encodes}
 use Rattle.rope_search_io.specs.declared.faults.Fault.{Fault}
-use Rattle.rope_search_io.specs.declared.faults.Fault.TheVariants.{Nothing, Utf8, Size, Memory}
+use Rattle.rope_search_io.specs.declared.faults.Fault.TheVariants.{Nothing, Utf8, Pattern, Limit, Size, Memory}
 use Rattle.rope_search.specs.declared.commands.Reply.{Reply}
-use Rattle.rope_search.specs.declared.commands.Reply.TheVariants.{Done, Number, Print}
+use Rattle.rope_search.specs.declared.commands.Reply.TheVariants.{Done, Number, List as Listing, Print}
 use Rattle.rope_search.specs.Text.{Encodes}
-use Rattle.rope_search.specs.Order.{Order, SetText, PrintText, ForkBuffer, UseBuffer}
-use Rattle.rope_search.specs.Session.{State, fresh, current_text, chosen_buffer, with_text, with_chosen}
+use Rattle.rope_search.specs.Order.{Order, SetText, PrintText, ForkBuffer, SetPattern, DropPattern, ListMatches, UseBuffer}
+use Rattle.rope_search.specs.Session.{State, fresh, current_text, chosen_buffer, with_text, with_pattern, with_chosen}
+use Rattle.rope_search.specs.Pattern.{IsPattern, pattern_limit}
+use Rattle.rope_search.proofs.PatternLemmas.{pattern_choice}
 use Rattle.rope_search.specs.Step.{Answer, Refuses, rank, IsFirstRefusal, Accepts, Does, Step}
 use Rattle.rope_search.specs.Shows.{shows}
 use Rattle.rope_search.specs.Cost.{Costs, rows_of}
@@ -31,6 +33,9 @@ pub Refuses-memory : (limit : ℕ) (s : State) (o : Order) → Refuses limit s o
 Refuses-memory limit s (SetText payload) h = h
 Refuses-memory limit s PrintText h = h
 Refuses-memory limit s ForkBuffer h = h
+Refuses-memory limit s (SetPattern payload) h = h
+Refuses-memory limit s DropPattern h = h
+Refuses-memory limit s ListMatches h = h
 Refuses-memory limit s (UseBuffer k) h = h
 
 -- a payload that isn't UTF-8 is refused for that first
@@ -39,9 +44,7 @@ refused_utf8 limit s payload broken = record { refuses = broken; none_before = b
   where
     before : (other : Fault) → rank other < 3 → Refuses limit s (SetText payload) other → ⊥
     before Nothing lower h = h
-    before Utf8 lower h = omega arith
-    before Size lower h = omega arith
-    before Memory lower h = h
+    before other lower h = omega arith
 
 -- a text that is too long is refused for that first
 pub refused_size : (limit : ℕ) (s : State) (payload : List ℕ) → IsUtf8 payload → limit < length payload → IsFirstRefusal limit s (SetText payload) Size
@@ -50,23 +53,67 @@ refused_size limit s payload text long = record { refuses = long; none_before = 
     before : (other : Fault) → rank other < 6 → Refuses limit s (SetText payload) other → ⊥
     before Nothing lower h = h
     before Utf8 lower h = h text
-    before Size lower h = omega arith
-    before Memory lower h = h
+    before Pattern lower h = h
+    before Limit lower h = h
+    before other lower h = omega arith
+
+-- no refusal is told before that there is nothing
+rank_some : (fault : Fault) → rank fault < 1 → ⊥
+rank_some Nothing lower = omega arith
+rank_some Utf8 lower = omega arith
+rank_some Pattern lower = omega arith
+rank_some Limit lower = omega arith
+rank_some Size lower = omega arith
+rank_some Memory lower = omega arith
 
 -- a buffer that isn't there can't be chosen
 pub refused_nothing : (limit : ℕ) (s : State) (k : ℕ) → length s.buffers ≤ k → IsFirstRefusal limit s (UseBuffer k) Nothing
 refused_nothing limit s k past = record { refuses = past; none_before = before }
   where
     before : (other : Fault) → rank other < 1 → Refuses limit s (UseBuffer k) other → ⊥
-    before Nothing lower h = omega arith
-    before Utf8 lower h = h
-    before Size lower h = h
-    before Memory lower h = h
+    before other lower h = rank_some other lower
+
+-- without a pattern there is nothing to list
+pub refused_list : (limit : ℕ) (s : State) → (chosen_buffer s).pattern ≡ None → IsFirstRefusal limit s ListMatches Nothing
+refused_list limit s none = record { refuses = none; none_before = before }
+  where
+    before : (other : Fault) → rank other < 1 → Refuses limit s ListMatches other → ⊥
+    before other lower h = rank_some other lower
+
+-- a pattern's payload that isn't UTF-8 is refused for that first
+pub refused_pattern_utf8 : (limit : ℕ) (s : State) (payload : List ℕ) → ¬ (IsUtf8 payload) → IsFirstRefusal limit s (SetPattern payload) Utf8
+refused_pattern_utf8 limit s payload broken = record { refuses = broken; none_before = before }
+  where
+    before : (other : Fault) → rank other < 3 → Refuses limit s (SetPattern payload) other → ⊥
+    before Nothing lower h = h
+    before other lower h = omega arith
+
+-- a text that is no pattern is refused for that first
+pub refused_pattern : (limit : ℕ) (s : State) (payload : List ℕ) → IsUtf8 payload → length payload ≤ pattern_limit → ¬ (IsPattern (chars payload))
+    → IsFirstRefusal limit s (SetPattern payload) Pattern
+refused_pattern limit s payload text short other_text = record { refuses = (short, other_text); none_before = before }
+  where
+    before : (other : Fault) → rank other < 4 → Refuses limit s (SetPattern payload) other → ⊥
+    before Nothing lower h = h
+    before Utf8 lower h = h text
+    before other lower h = omega arith
+
+-- a pattern that is too long is refused for that first
+pub refused_limit : (limit : ℕ) (s : State) (payload : List ℕ) → IsUtf8 payload → pattern_limit < length payload → IsFirstRefusal limit s (SetPattern payload) Limit
+refused_limit limit s payload text long = record { refuses = long; none_before = before }
+  where
+    before : (other : Fault) → rank other < 5 → Refuses limit s (SetPattern payload) other → ⊥
+    before Nothing lower h = h
+    before Utf8 lower h = h text
+    before Pattern lower h = omega (arith, h.0)
+    before other lower h = omega arith
 
 -- a text within the limit is accepted
 pub accepted_text : (limit : ℕ) (s : State) (payload : List ℕ) → IsUtf8 payload → length payload ≤ limit → Accepts limit s (SetText payload)
 accepted_text limit s payload text short Nothing h = h
 accepted_text limit s payload text short Utf8 h = h text
+accepted_text limit s payload text short Pattern h = h
+accepted_text limit s payload text short Limit h = h
 accepted_text limit s payload text short Size h = omega arith
 accepted_text limit s payload text short Memory h = h
 
@@ -80,8 +127,37 @@ accepted_fork limit s fault h = h
 pub accepted_use : (limit : ℕ) (s : State) (k : ℕ) → k < length s.buffers → Accepts limit s (UseBuffer k)
 accepted_use limit s k inside Nothing h = omega arith
 accepted_use limit s k inside Utf8 h = h
+accepted_use limit s k inside Pattern h = h
+accepted_use limit s k inside Limit h = h
 accepted_use limit s k inside Size h = h
 accepted_use limit s k inside Memory h = h
+
+-- a pattern of at most so many bytes is accepted
+pub accepted_pattern : (limit : ℕ) (s : State) (payload : List ℕ) → IsUtf8 payload → length payload ≤ pattern_limit → IsPattern (chars payload)
+    → Accepts limit s (SetPattern payload)
+accepted_pattern limit s payload text short is Nothing h = h
+accepted_pattern limit s payload text short is Utf8 h = h text
+accepted_pattern limit s payload text short is Pattern h = h.1 is
+accepted_pattern limit s payload text short is Limit h = omega arith
+accepted_pattern limit s payload text short is Size h = h
+accepted_pattern limit s payload text short is Memory h = h
+
+pub accepted_off : (limit : ℕ) (s : State) → Accepts limit s DropPattern
+accepted_off limit s fault h = h
+
+-- where there is a pattern its report can be listed
+pub accepted_list : (limit : ℕ) (s : State) → (chosen_buffer s).pattern ≢ None → Accepts limit s ListMatches
+accepted_list limit s some Nothing h = some h
+accepted_list limit s some Utf8 h = h
+accepted_list limit s some Pattern h = h
+accepted_list limit s some Limit h = h
+accepted_list limit s some Size h = h
+accepted_list limit s some Memory h = h
+
+-- there is a pattern or none
+pub has_pattern : (pattern : Option (List ℕ)) → (pattern ≡ None) ⊎ (pattern ≢ None)
+has_pattern None = inl refl
+has_pattern (Some p) = inr (λ e. cc)
 
 -- a command is refused for some first reason, or accepted
 pub refusal_choice : (limit : ℕ) (s : State) (o : Order) → ((f : Fault) × IsFirstRefusal limit s o f) ⊎ Accepts limit s o
@@ -94,6 +170,21 @@ refusal_choice limit s (SetText payload) = elim (utf8_choice payload) [
 ]
 refusal_choice limit s PrintText = inr (accepted_print limit s)
 refusal_choice limit s ForkBuffer = inr (accepted_fork limit s)
+refusal_choice limit s (SetPattern payload) = elim (utf8_choice payload) [
+  | inl text ↦ elim (cases_lt pattern_limit (length payload)) [
+    | inl long ↦ inl (Limit, refused_limit limit s payload text long)
+    | inr short ↦ elim (pattern_choice (chars payload)) [
+      | inl is ↦ inr (accepted_pattern limit s payload text short is)
+      | inr is_not ↦ inl (Pattern, refused_pattern limit s payload text short is_not)
+    ]
+  ]
+  | inr broken ↦ inl (Utf8, refused_pattern_utf8 limit s payload broken)
+]
+refusal_choice limit s DropPattern = inr (accepted_off limit s)
+refusal_choice limit s ListMatches = elim (has_pattern (chosen_buffer s).pattern) [
+  | inl none ↦ inl (Nothing, refused_list limit s none)
+  | inr some ↦ inr (accepted_list limit s some)
+]
 refusal_choice limit s (UseBuffer k) = elim (cases_lt k (length s.buffers)) [
   | inl inside ↦ inr (accepted_use limit s k inside)
   | inr past ↦ inl (Nothing, refused_nothing limit s k past)
@@ -103,6 +194,8 @@ refusal_choice limit s (UseBuffer k) = elim (cases_lt k (length s.buffers)) [
 pub rank_one : (f g : Fault) → rank f ≡ rank g → f ≡ g
 rank_one Nothing Nothing e = refl
 rank_one Utf8 Utf8 e = refl
+rank_one Pattern Pattern e = refl
+rank_one Limit Limit e = refl
 rank_one Size Size e = refl
 rank_one Memory Memory e = refl
 rank_one f g e = absurd (omega arith)
@@ -122,6 +215,9 @@ abbrev pub reply_to : State → Order → Reply
 reply_to old (SetText payload) = Done
 reply_to old PrintText = Print
 reply_to old ForkBuffer = Number (length old.buffers)
+reply_to old (SetPattern payload) = Done
+reply_to old DropPattern = Done
+reply_to old ListMatches = Listing
 reply_to old (UseBuffer k) = Done
 
 -- the session after an accepted command
@@ -129,6 +225,9 @@ abbrev pub after : State → Order → State
 after old (SetText payload) = with_chosen old (with_text (chosen_buffer old) (chars payload))
 after old PrintText = old
 after old ForkBuffer = record old { buffers = old.buffers ++ fresh (current_text (chosen_buffer old)) ∷ [] }
+after old (SetPattern payload) = with_chosen old (with_pattern (chosen_buffer old) (Some (chars payload)))
+after old DropPattern = with_chosen old (with_pattern (chosen_buffer old) None)
+after old ListMatches = old
 after old (UseBuffer k) = record old { chosen = k }
 
 -- the text that bytes encode is the list of their characters
@@ -140,6 +239,9 @@ pub Does-known : (old : State) (o : Order) (r : Reply) (new : State) → Does ol
 Does-known old (SetText payload) Done new h = (refl, h.2 ∙ ap (λ t. with_chosen old (with_text (chosen_buffer old) t)) (Encodes-chars h.0 payload h.1))
 Does-known old PrintText Print new h = (refl, h)
 Does-known old ForkBuffer (Number k) new h = (ap Number h.0, h.1)
+Does-known old (SetPattern payload) Done new h = (refl, h.2 ∙ ap (λ p. with_chosen old (with_pattern (chosen_buffer old) (Some p))) (Encodes-chars h.0 payload h.1))
+Does-known old DropPattern Done new h = (refl, h)
+Does-known old ListMatches Listing new h = (refl, h)
 Does-known old (UseBuffer k) Done new h = (refl, h)
 Does-known old o r new h = absurd h
 
@@ -153,6 +255,14 @@ Does-after limit old (SetText payload) accepts = elim (utf8_choice payload) [
 ]
 Does-after limit old PrintText accepts = refl
 Does-after limit old ForkBuffer accepts = (refl, refl)
+Does-after limit old (SetPattern payload) accepts = elim (utf8_choice payload) [
+  | inl text ↦
+      let encodes : Encodes text.0 payload = record { scalars = text.1.0; spelled = text.1.1 } in
+      (text.0, encodes, ap (λ p. with_chosen old (with_pattern (chosen_buffer old) (Some p))) (sym (Encodes-chars text.0 payload encodes)))
+  | inr broken ↦ absurd (accepts Utf8 broken)
+]
+Does-after limit old DropPattern accepts = refl
+Does-after limit old ListMatches accepts = refl
 Does-after limit old (UseBuffer k) accepts = refl
 
 -- ---- steps
@@ -161,6 +271,8 @@ Does-after limit old (UseBuffer k) accepts = refl
 pub Step-refused : (limit : ℕ) (s : State) (o : Order) (f : Fault) → IsFirstRefusal limit s o f → Step limit s o (Err f) s
 Step-refused limit s o Nothing first = (first, refl)
 Step-refused limit s o Utf8 first = (first, refl)
+Step-refused limit s o Pattern first = (first, refl)
+Step-refused limit s o Limit first = (first, refl)
 Step-refused limit s o Size first = (first, refl)
 Step-refused limit s o Memory first = absurd (Refuses-memory limit s o first.refuses)
 
@@ -168,6 +280,8 @@ Step-refused limit s o Memory first = absurd (Refuses-memory limit s o first.ref
 pub Step-told : (limit : ℕ) (s : State) (o : Order) (f : Fault) (new : State) → f ≢ Memory → Step limit s o (Err f) new → IsFirstRefusal limit s o f × (new ≡ s)
 Step-told limit s o Nothing new other step = step
 Step-told limit s o Utf8 new other step = step
+Step-told limit s o Pattern new other step = step
+Step-told limit s o Limit new other step = step
 Step-told limit s o Size new other step = step
 Step-told limit s o Memory new other step = absurd (other refl)
 

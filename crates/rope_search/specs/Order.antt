@@ -8,5 +8,11 @@ pub data Order : Type 0 where
   PrintText : Order
   -- a new buffer has the chosen one's text
   ForkBuffer : Order
+  -- the payload becomes the chosen buffer's pattern
+  SetPattern : List ℕ → Order
+  -- the chosen buffer has no pattern any more
+  DropPattern : Order
+  -- the chosen buffer's report is shown
+  ListMatches : Order
   -- that buffer is chosen
   UseBuffer : ℕ → Order

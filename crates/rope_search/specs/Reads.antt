@@ -3,7 +3,7 @@ use Rattle.std.specs.Prelude.{◌≡◌, ◌≢◌, ℕ, ◌+◌, ◌-◌, ◌*�
 use Rattle.std.specs.List.{AllByRecursion}
 use Rattle.rope_search.specs.declared.runs.Ended.{Ended}
 use Rattle.rope_search.specs.declared.runs.Ended.TheVariants.{Input, Command, Cut}
-use Rattle.rope_search.specs.Order.{Order, SetText, PrintText, ForkBuffer, UseBuffer}
+use Rattle.rope_search.specs.Order.{Order, SetText, PrintText, ForkBuffer, SetPattern, DropPattern, ListMatches, UseBuffer}
 
 -- the number that decimal digits spell after those of n
 abbrev pub digits_after : ℕ → List ℕ → ℕ
@@ -23,6 +23,9 @@ abbrev pub payload_of : Order → List ℕ
 payload_of (SetText payload) = payload
 payload_of PrintText = []
 payload_of ForkBuffer = []
+payload_of (SetPattern payload) = payload
+payload_of DropPattern = []
+payload_of ListMatches = []
 payload_of (UseBuffer k) = []
 
 -- a command's line, without its LF: a word, then its numbers, each after one space
@@ -30,6 +33,9 @@ abbrev pub IsLine : Order → List ℕ → Type 0
 IsLine (SetText payload) line = (digits : List ℕ) × IsNumber digits (length payload) × (line ≡ codes "text " ++ digits)
 IsLine PrintText line = line ≡ codes "print"
 IsLine ForkBuffer line = line ≡ codes "fork"
+IsLine (SetPattern payload) line = (digits : List ℕ) × IsNumber digits (length payload) × (line ≡ codes "pattern " ++ digits)
+IsLine DropPattern line = line ≡ codes "off"
+IsLine ListMatches line = line ≡ codes "list"
 IsLine (UseBuffer k) line = (digits : List ℕ) × IsNumber digits k × (line ≡ codes "use " ++ digits)
 
 -- a command is spelled by its line, LF, and its payload

@@ -1,8 +1,9 @@
 -- The report of a text and a pattern: for each line, where the pattern matches in it.
-use Rattle.std.specs.Prelude.{ℕ, zero, suc, ◌+◌, ◌-◌, List, [], ◌∷◌, Option, None, Some, if◌then◌else◌, length, take, map, chars}
+use Rattle.std.specs.Prelude.{ℕ, zero, suc, ◌+◌, ◌-◌, List, [], ◌∷◌, Option, None, Some, option_map, if◌then◌else◌, length, take, map, sum_by, chars}
 use Rattle.memchr.specs.Find.{occurs_at}
 use Rattle.str_indices.specs.Text.{is_line_break, ends_break, units}
 use Rattle.rope_search.specs.Text.{bytes_of}
+use Rattle.rope_search.specs.Session.{BufferState, current_text}
 
 -- ---- lines
 
@@ -70,3 +71,11 @@ row_of pattern line = map (columns (bytes_of line)) (matches (bytes_of pattern) 
 -- the report: a row for each line of the text
 abbrev pub report : List ℕ → List ℕ → List (List (ℕ × ℕ))
 report text pattern = map (row_of pattern) (line_texts text)
+
+-- the report of a buffer's current text, where it has a pattern
+abbrev pub report_in : BufferState → Option (List (List (ℕ × ℕ)))
+report_in buffer = option_map (report (current_text buffer)) buffer.pattern
+
+-- how many matches there are in all rows
+abbrev pub match_count : List (List (ℕ × ℕ)) → ℕ
+match_count rows = sum_by length rows

@@ -1,5 +1,5 @@
 -- What reading a line, a payload and a command take from the source.
-use Rattle.std.specs.Prelude.{◌≡◌, ℕ, ◌<◌, ◌≤◌, ◌↔◌, ◌⊎◌, List, [], ◌∷◌, ◌++◌, length, take, Bool, true, false, Result, Ok, Err, IsUtf8}
+use Rattle.std.specs.Prelude.{◌≡◌, ℕ, ◌<◌, ◌≤◌, ◌↔◌, ◌⊎◌, List, [], ◌∷◌, ◌++◌, length, take, Bool, true, false, Option, None, Some, Result, Ok, Err, IsUtf8}
 use Rattle.rope_search_io.specs.declared.faults.Broken.{Broken}
 use Rattle.rope_search_io.specs.Sources.{SourceState}
 use Rattle.rope_search_io.specs.ReadAhead.{Ahead, Takes, TakesLast, TakesUntil}
@@ -10,12 +10,13 @@ use Rattle.rope_search.specs.declared.payloads.Collected.{Collected}
 use Rattle.rope_search.specs.declared.payloads.Collected.TheVariants.{Kept, Judged, Lost}
 use Rattle.rope_search.specs.declared.headers.Header.{Header}
 use Rattle.rope_search.specs.declared.requests.Asked.{Asked}
-use Rattle.rope_search.specs.declared.requests.Asked.TheVariants.{Text, Print, Fork, Use}
+use Rattle.rope_search.specs.declared.requests.Asked.TheVariants.{Text, Print, Fork, Pattern, Off, List as Listing, Use}
 use Rattle.rope_search.specs.declared.requests.Request.{Request}
 use Rattle.rope_search.specs.declared.requests.Request.TheVariants.{Given, End}
 use Rattle.rope_search.specs.declared.runs.Ended.{Ended}
 use Rattle.rope_search.specs.declared.runs.Ended.TheVariants.{Input, Command, Cut}
-use Rattle.rope_search.specs.Order.{Order, SetText, PrintText, ForkBuffer, UseBuffer}
+use Rattle.rope_search.specs.Order.{Order, SetText, PrintText, ForkBuffer, SetPattern, DropPattern, ListMatches, UseBuffer}
+use Rattle.rope_search.specs.Pattern.{pattern_limit}
 use Rattle.rope_search.specs.Header.{IsHeaderOf}
 use Rattle.rope_search.specs.Reads.{HasNoLf, Spells, Ends, payload_of}
 
@@ -49,11 +50,23 @@ TakesPayload (Ok false) len kept kept' old new source source' =
 TakesPayload (Err broken) len kept kept' old new source source' =
     (bytes : List ℕ) × (length bytes < len) × TakesUntil broken old new source source' bytes
 
+-- a payload of this many bytes was read, and collected under a limit on them; or the input ended before, or no more came
+abbrev pub TakesCollected : Result (Option Collected) Broken → ℕ → ℕ → Ahead → Ahead → SourceState → SourceState → Type 0
+TakesCollected (Ok (Some collected)) limit len old new source source' =
+    (bytes : List ℕ) × (length bytes ≡ len) × Collects limit len collected bytes × Takes old new source source' bytes
+TakesCollected (Ok None) limit len old new source source' =
+    (bytes : List ℕ) × (length bytes < len) × TakesLast old new source source' bytes
+TakesCollected (Err broken) limit len old new source source' =
+    (bytes : List ℕ) × (length bytes < len) × TakesUntil broken old new source source' bytes
+
 -- what was kept of a command that was read whole is of this command, under a limit on the bytes of a text
 abbrev pub IsAskedFor : ℕ → Asked → Order → Type 0
 IsAskedFor limit (Text collected) (SetText payload) = Collects limit (length payload) collected payload
 IsAskedFor limit Print PrintText = Unit {0}
 IsAskedFor limit Fork ForkBuffer = Unit {0}
+IsAskedFor limit (Pattern collected) (SetPattern payload) = Collects pattern_limit (length payload) collected payload
+IsAskedFor limit Off DropPattern = Unit {0}
+IsAskedFor limit Listing ListMatches = Unit {0}
 IsAskedFor limit (Use k) (UseBuffer n) = n ≡ k
 IsAskedFor limit asked order = ⊥
 

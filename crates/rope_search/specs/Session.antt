@@ -30,6 +30,10 @@ chosen_buffer session = slice_index_or session.buffers session.chosen (fresh [])
 abbrev pub with_text : BufferState → List ℕ → BufferState
 with_text buffer text = record buffer { texts = text ∷ []; current = 0 }
 
+-- the buffer with another pattern, or with none
+abbrev pub with_pattern : BufferState → Option (List ℕ) → BufferState
+with_pattern buffer pattern = record buffer { pattern = pattern }
+
 -- the session with another buffer in the chosen one's place
 abbrev pub with_chosen : State → BufferState → State
 with_chosen session buffer = record session { buffers = slice_set session.buffers session.chosen buffer }

@@ -1,21 +1,40 @@
 -- What is written for an answer, and at the end.
-use Rattle.std.specs.Prelude.{ℕ, List, [], ◌++◌, length, codes, decimal, Ok, Err}
+use Rattle.std.specs.Prelude.{ℕ, ◌+◌, List, [], ◌∷◌, ◌++◌, flat_map, length, codes, decimal, unwrap_or, Ok, Err}
 use Rattle.rope_search_io.specs.Faults.{word_of}
-use Rattle.rope_search.specs.declared.commands.Reply.TheVariants.{Done, Number, Print}
+use Rattle.rope_search.specs.declared.commands.Reply.TheVariants.{Done, Number, List as Listing, Print}
 use Rattle.rope_search.specs.declared.runs.Ended.{Ended}
 use Rattle.rope_search.specs.declared.runs.Ended.TheVariants.{Input, Command, Cut}
 use Rattle.rope_search.specs.Text.{bytes_of}
 use Rattle.rope_search.specs.Session.{State, current_text, chosen_buffer}
+use Rattle.rope_search.specs.Report.{report_in, match_count}
 use Rattle.rope_search.specs.Step.{Answer}
 
 -- how a text is shown: its number of bytes in a line, then its bytes in another
 abbrev pub shown_text : List ℕ → List ℕ
 shown_text bytes = codes "text " ++ decimal (length bytes) ++ codes "\n" ++ bytes ++ codes "\n"
 
+-- how it is shown that a command is done, with a number
+abbrev pub shown_number : ℕ → List ℕ
+shown_number n = codes "ok " ++ decimal n ++ codes "\n"
+
+-- how a match is shown: the number of its line, then its two columns
+abbrev pub shown_match : ℕ → ℕ × ℕ → List ℕ
+shown_match line span = codes "m " ++ decimal line ++ codes " " ++ decimal span.0 ++ codes " " ++ decimal span.1 ++ codes "\n"
+
+-- the matches of all rows, the first of which is that of this line
+abbrev pub shown_rows : ℕ → List (List (ℕ × ℕ)) → List ℕ
+shown_rows line [] = []
+shown_rows line (row ∷ rows) = flat_map (shown_match line) row ++ shown_rows (line + 1) rows
+
+-- how a report is shown: its matches, then their number
+abbrev pub shown_report : List (List (ℕ × ℕ)) → List ℕ
+shown_report rows = shown_rows 0 rows ++ shown_number (match_count rows)
+
 -- the bytes of an answer, where this is the session after it
 abbrev pub shows : State → Answer → List ℕ
 shows session (Ok Done) = codes "ok\n"
-shows session (Ok (Number k)) = codes "ok " ++ decimal k ++ codes "\n"
+shows session (Ok (Number k)) = shown_number k
+shows session (Ok Listing) = shown_report (unwrap_or (report_in (chosen_buffer session)) [])
 shows session (Ok Print) = shown_text (bytes_of (current_text (chosen_buffer session)))
 shows session (Err fault) = codes "error " ++ word_of fault ++ codes "\n"
 

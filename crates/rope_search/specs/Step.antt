@@ -1,12 +1,13 @@
 -- One step of a session: what a command may be answered, and the session after it.
-use Rattle.std.specs.Prelude.{◌≡◌, ℕ, ◌<◌, ◌≤◌, List, [], ◌∷◌, ◌++◌, length, Result, Ok, Err, IsUtf8}
+use Rattle.std.specs.Prelude.{◌≡◌, ℕ, ◌<◌, ◌≤◌, List, [], ◌∷◌, ◌++◌, length, Option, None, Some, Result, Ok, Err, IsUtf8, chars}
 use Rattle.rope_search_io.specs.declared.faults.Fault.{Fault}
-use Rattle.rope_search_io.specs.declared.faults.Fault.TheVariants.{Nothing, Utf8, Size, Memory}
+use Rattle.rope_search_io.specs.declared.faults.Fault.TheVariants.{Nothing, Utf8, Pattern, Limit, Size, Memory}
 use Rattle.rope_search.specs.declared.commands.Reply.{Reply}
-use Rattle.rope_search.specs.declared.commands.Reply.TheVariants.{Done, Number, Print}
+use Rattle.rope_search.specs.declared.commands.Reply.TheVariants.{Done, Number, List as Listing, Print}
 use Rattle.rope_search.specs.Text.{Encodes}
-use Rattle.rope_search.specs.Order.{Order, SetText, PrintText, ForkBuffer, UseBuffer}
-use Rattle.rope_search.specs.Session.{State, fresh, current_text, chosen_buffer, with_text, with_chosen}
+use Rattle.rope_search.specs.Order.{Order, SetText, PrintText, ForkBuffer, SetPattern, DropPattern, ListMatches, UseBuffer}
+use Rattle.rope_search.specs.Session.{State, fresh, current_text, chosen_buffer, with_text, with_pattern, with_chosen}
+use Rattle.rope_search.specs.Pattern.{IsPattern, pattern_limit}
 
 -- what a command is answered: a reply, or why it is refused
 abbrev pub Answer : Type 0
@@ -16,8 +17,15 @@ Answer = Result Reply Fault
 abbrev pub Refuses : ℕ → State → Order → Fault → Type 0
 -- there is no such buffer
 Refuses limit session (UseBuffer k) Nothing = length session.buffers ≤ k
+-- there is no pattern
+Refuses limit session ListMatches Nothing = (chosen_buffer session).pattern ≡ None
 -- the payload isn't UTF-8
 Refuses limit session (SetText payload) Utf8 = ¬ (IsUtf8 payload)
+Refuses limit session (SetPattern payload) Utf8 = ¬ (IsUtf8 payload)
+-- the payload is no pattern; one that is too long isn't judged
+Refuses limit session (SetPattern payload) Pattern = (length payload ≤ pattern_limit) × ¬ (IsPattern (chars payload))
+-- the pattern has too many bytes
+Refuses limit session (SetPattern payload) Limit = pattern_limit < length payload
 -- the new text would have too many bytes
 Refuses limit session (SetText payload) Size = limit < length payload
 Refuses limit session order fault = ⊥
@@ -26,6 +34,8 @@ Refuses limit session order fault = ⊥
 abbrev pub rank : Fault → ℕ
 rank Nothing = 1
 rank Utf8 = 3
+rank Pattern = 4
+rank Limit = 5
 rank Size = 6
 rank Memory = 7
 
@@ -42,7 +52,10 @@ Accepts limit session order = (fault : Fault) → Refuses limit session order fa
 abbrev pub TakesMemory : Order → Type 0
 TakesMemory (SetText payload) = Unit {0}
 TakesMemory ForkBuffer = Unit {0}
+TakesMemory (SetPattern payload) = Unit {0}
 TakesMemory PrintText = ⊥
+TakesMemory DropPattern = ⊥
+TakesMemory ListMatches = ⊥
 TakesMemory (UseBuffer k) = ⊥
 
 -- what an accepted command does: its reply, and the session after it
@@ -52,6 +65,10 @@ Does old (SetText payload) Done new = (text : List ℕ) × Encodes text payload 
 Does old PrintText Print new = new ≡ old
 -- the new buffer has the current text alone, and comes last; the chosen one stays
 Does old ForkBuffer (Number k) new = (k ≡ length old.buffers) × (new ≡ record old { buffers = old.buffers ++ fresh (current_text (chosen_buffer old)) ∷ [] })
+-- the pattern is that of the payload; the texts stay
+Does old (SetPattern payload) Done new = (pattern : List ℕ) × Encodes pattern payload × (new ≡ with_chosen old (with_pattern (chosen_buffer old) (Some pattern)))
+Does old DropPattern Done new = new ≡ with_chosen old (with_pattern (chosen_buffer old) None)
+Does old ListMatches Listing new = new ≡ old
 Does old (UseBuffer k) Done new = new ≡ record old { chosen = k }
 -- no other reply is given
 Does old order reply new = ⊥

@@ -1,30 +1,45 @@
 //! A buffer: a text with its history, and perhaps a pattern.
-ghost use Rattle.std.specs.Prelude.{◌≡◌, ◌+◌, ◌<◌, ◌≤◌, ◌↔◌, ◌⊎◌, [], length, chars, string_bytes, string_len, Err, OnOk, OnErr, IfOk, IfErr};
-ghost use Rattle.rope_search.specs.Text.{bytes_of};
-ghost use Rattle.rope_search.specs.Session.{current_text, fresh, with_text};
+ghost use Rattle.std.specs.Prelude.{◌≡◌, ◌+◌, ◌^◌, ◌<◌, ◌≤◌, ◌↔◌, ◌⊎◌, [], length, chars, string_bytes, string_len, option_copied, None, Some, Err, OnOk, OnErr, IfOk, IfErr, IfSome};
+ghost use Rattle.rope_search.specs.Text.{bytes_of, line_count};
+ghost use Rattle.rope_search.specs.Session.{current_text, fresh, with_text, with_pattern};
+ghost use Rattle.rope_search.specs.Pattern.{IsPattern, pattern_limit};
+ghost use Rattle.rope_search.specs.Report.{report, report_in, match_count};
 ghost use Rattle.rope_search.specs.Cost.{rows_anew};
 
 use crate::limits::Limits;
-use crate::rows::Lines;
+use crate::patterns::{PATTERN_LEN, is_pattern};
+use crate::reports::report_of;
+use crate::rows::{Lines, Row};
 use rope_search_io::Fault;
 use std::alloc::Global;
 use std::marker::Model;
 
-/// A text in memory of its own, within a limit on its bytes.
+/// A text in memory of its own, within a limit on its bytes; and where a pattern is set, the report of
+/// its matches.
 #[derive(Drop)]
 pub struct Buffer {
     alloc: Global,
     limits: Limits,
     text: String,
+    pattern: Option<String>,
+    // A row for each line of the text. There is none without a pattern.
+    rows: Vec<Row>,
 }
 
 impl Model for Buffer {
-    ghost use Rattle.std.specs.Prelude.{chars, string_bytes};
-    ghost use Rattle.rope_search.specs.Session.{LimitedBuffer, fresh};
+    ghost use Rattle.std.specs.Prelude.{◌≡◌, ◌<◌, length, chars, string_bytes, option_map, IfSome};
+    ghost use Rattle.rope_search.specs.Session.{LimitedBuffer, fresh, with_pattern};
+    ghost use Rattle.rope_search.specs.Report.{report};
 
     ghost Value = { LimitedBuffer };
 
-    ghost view = { λ b. record { limit = b.limits.text; state = fresh (chars (string_bytes b.text)) } };
+    ghost view = { λ b. record {
+      limit = b.limits.text;
+      state = with_pattern (fresh (chars (string_bytes b.text))) (option_map (λ p. chars (string_bytes p)) b.pattern);
+    } };
+
+    ghost invariant = { λ b. IfSome b.pattern (λ p.
+        (0 < length (string_bytes p)) × (b.rows.items ≡ report (chars (string_bytes b.text)) (chars (string_bytes p)))) };
 }
 
 impl Buffer {
@@ -38,6 +53,8 @@ impl Buffer {
             alloc,
             limits,
             text: String::new(alloc),
+            pattern: None,
+            rows: Vec::new(alloc),
         })
     }
 
@@ -49,8 +66,9 @@ impl Buffer {
         self.text.as_str()
     }
 
-    /// Makes this the text, with a new history. It is refused with `Fault::Size` where it has more
-    /// bytes than the limit, and perhaps with `Fault::Memory`; the buffer is then as before.
+    /// Makes this the text, with a new history; the pattern stays, and its report is made anew. It is
+    /// refused with `Fault::Size` where it has more bytes than the limit, and perhaps with
+    /// `Fault::Memory`; the buffer is then as before.
     pub fn set_text(&mut self, tick: &mut Lines, text: &str) -> Result<(), Fault>
         ensures ok { OnOk result (self.new.state ≡ with_text self.old.state (chars text.now)) }
         ensures limit { self.new.limit ≡ self.old.limit }
@@ -78,18 +96,86 @@ impl Buffer {
         ensures ok { OnOk result (self.new.state ≡ with_text self.old.state (chars (string_bytes text))) }
         ensures limit { self.new.limit ≡ self.old.limit }
         ensures size { (result ≡ Err Fault.Size) ↔ (self.old.limit < string_len text) }
-        ensures fault { IfErr result (λ fault. fault ≡ Fault.Size) }
+        ensures fault { IfErr result (λ fault. (fault ≡ Fault.Size) ⊎ (fault ≡ Fault.Memory)) }
         ensures err { OnErr result (self.new ≡ self.old) }
         ensures refused { result ≡ Err Fault.Size → tick.new ≡ tick.old }
         ensures rows { tick.new.count ≤ tick.old.count + rows_anew self.old.state (chars (string_bytes text)) }
         ensures wholes { tick.new.wholes ≡ tick.old.wholes }
     {
-        let _ = tick;
         if text.len() > self.limits.text {
             return Err(Fault::Size);
         }
+        let rows = self.rows_in(tick, text.as_str())?;
         self.text = text;
+        self.rows = rows;
         Ok(())
+    }
+
+    // The rows of a text: those of its report where there is a pattern.
+    fn rows_in(&self, tick: &mut Lines, text: &str) -> Result<Vec<Row>, Fault>
+        ensures ok { IfOk result (λ rows. IfSome self.now.state.pattern (λ pattern. rows.items ≡ report (chars text.now) pattern)) }
+        ensures fault { IfErr result (λ fault. fault ≡ Fault.Memory) }
+        ensures rows { tick.new.count ≤ tick.old.count + rows_anew self.now.state (chars text.now) }
+        ensures wholes { tick.new.wholes ≡ tick.old.wholes }
+    {
+        match &self.pattern {
+            None => Ok(Vec::new(self.alloc)),
+            Some(pattern) => report_of(tick, self.alloc, pattern.as_str(), text),
+        }
+    }
+
+    /// Makes this the pattern, in place of any other, and makes the report. It is refused with
+    /// `Fault::Limit` where it has more than 65,536 bytes, else with `Fault::Pattern` where it isn't one
+    /// or more characters that stand for themselves, which are all but `\ . + * ? ( ) | [ { ^ $`; and
+    /// perhaps with `Fault::Memory`. The buffer is then as before.
+    pub fn set_pattern(&mut self, tick: &mut Lines, pattern: &str) -> Result<(), Fault>
+        ensures ok { OnOk result (self.new.state ≡ with_pattern self.old.state (Some (chars pattern.now))) }
+        ensures limit { self.new.limit ≡ self.old.limit }
+        ensures too_long { (result ≡ Err Fault.Limit) ↔ (pattern_limit < length pattern.now) }
+        ensures no_pattern { (result ≡ Err Fault.Pattern) ↔ ((length pattern.now ≤ pattern_limit) × ¬ (IsPattern (chars pattern.now))) }
+        ensures fault { IfErr result (λ fault. (fault ≡ Fault.Limit) ⊎ ((fault ≡ Fault.Pattern) ⊎ (fault ≡ Fault.Memory))) }
+        ensures err { OnErr result (self.new ≡ self.old) }
+
+        // The report has a row for each line; for what is no pattern nothing is searched.
+        ensures long_unsearched { result ≡ Err Fault.Limit → tick.new ≡ tick.old }
+        ensures unsearched { result ≡ Err Fault.Pattern → tick.new ≡ tick.old }
+        ensures rows { tick.new.count ≤ tick.old.count + line_count (current_text self.old.state) }
+        ensures wholes { tick.new.wholes ≡ tick.old.wholes }
+    {
+        if pattern.len() > PATTERN_LEN {
+            return Err(Fault::Limit);
+        }
+        if !is_pattern(pattern) {
+            return Err(Fault::Pattern);
+        }
+        let Ok(kept) = String::from_str(self.alloc, pattern) else {
+            return Err(Fault::Memory);
+        };
+        let rows = report_of(tick, self.alloc, pattern, self.text.as_str())?;
+        self.pattern = Some(kept);
+        self.rows = rows;
+        Ok(())
+    }
+
+    /// Drops the pattern and its report, where there is one.
+    pub fn off(&mut self)
+        ensures off { self.new.state ≡ with_pattern self.old.state None }
+        ensures limit { self.new.limit ≡ self.old.limit }
+    {
+        self.pattern = None;
+        self.rows = Vec::new(self.alloc);
+    }
+
+    /// The report of the current text: a row for each line, from the first, with the matches of the
+    /// pattern in that line alone. None where there is no pattern.
+    pub fn report(&self) -> Option<&[Row]>
+        ensures rows { option_copied result ≡ report_in self.now.state }
+        ensures few { IfSome result (λ rows. match_count rows.now < 2 ^ 64) }
+    {
+        match &self.pattern {
+            None => None,
+            Some(_) => Some(self.rows.as_slice()),
+        }
     }
 
     /// A new buffer with the current text alone: a history of its own, and no pattern. It may be
@@ -106,6 +192,8 @@ impl Buffer {
             alloc: self.alloc,
             limits: self.limits,
             text,
+            pattern: None,
+            rows: Vec::new(self.alloc),
         })
     }
 }

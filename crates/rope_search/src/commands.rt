@@ -9,6 +9,12 @@ pub enum Command<'a> {
     Print,
     /// Makes a new buffer of the chosen one's text.
     Fork,
+    /// Sets the chosen buffer's pattern.
+    Pattern(Payload<'a>),
+    /// Drops the chosen buffer's pattern.
+    Off,
+    /// Shows the chosen buffer's report.
+    List,
     /// Chooses a buffer by its number.
     Use(u64),
 }
@@ -18,7 +24,8 @@ pub enum Command<'a> {
 pub enum Payload<'a> {
     /// All of its bytes.
     Kept(&'a [u8]),
-    /// It has more bytes than the limit on texts. It was read past, and judged over all its bytes.
+    /// It has more bytes than the limit: on texts, or the 65,536 bytes of a pattern. It was read past,
+    /// and judged over all its bytes.
     Long {
         /// Whether it is UTF-8.
         utf8: bool,
@@ -34,6 +41,8 @@ pub enum Reply {
     Done,
     /// It is done, and this is the number of a buffer.
     Number(usize),
+    /// The chosen buffer's report is to be shown.
+    List,
     /// The chosen buffer's text is to be shown.
     Print,
 }

@@ -13,6 +13,12 @@ pub enum Header {
     Print,
     /// `fork`
     Fork,
+    /// `pattern`, and how many bytes the payload has.
+    Pattern(u64),
+    /// `off`
+    Off,
+    /// `list`
+    List,
     /// `use`, and the number of a buffer.
     Use(u64),
 }
@@ -31,6 +37,12 @@ pub fn header_of(line: &[u8]) -> Option<Header>
         };
         return Some(Header::Text(len));
     }
+    if let Some(digits) = after_word(line, b"pattern ") {
+        let Some(len) = number_of(digits) else {
+            return None;
+        };
+        return Some(Header::Pattern(len));
+    }
     if let Some(digits) = after_word(line, b"use ") {
         let Some(number) = number_of(digits) else {
             return None;
@@ -42,6 +54,12 @@ pub fn header_of(line: &[u8]) -> Option<Header>
     }
     if is_word(line, b"fork") {
         return Some(Header::Fork);
+    }
+    if is_word(line, b"off") {
+        return Some(Header::Off);
+    }
+    if is_word(line, b"list") {
+        return Some(Header::List);
     }
     None
 }

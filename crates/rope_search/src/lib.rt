@@ -7,6 +7,8 @@ mod headers;
 pub mod laws;
 mod limits;
 mod lines;
+mod listings;
+mod patterns;
 mod payloads;
 mod replies;
 mod reports;

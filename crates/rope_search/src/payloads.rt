@@ -1,10 +1,9 @@
 //! Reading a command's payload.
 ghost use Rattle.std.specs.Prelude.{◌≡◌, ◌<◌, ◌≤◌, ◌↔◌, [], List, ℕ, length, take};
 ghost use Rattle.rope_search.specs.Stands.{StandsFor};
-ghost use Rattle.rope_search.specs.Requests.{Collects, CollectsMore, TakesPayload};
+ghost use Rattle.rope_search.specs.Requests.{Collects, CollectsMore, TakesPayload, TakesCollected};
 
 use crate::commands::Payload;
-use crate::limits::Limits;
 use rope_search_io::{Broken, ReadAhead, Source, Utf8Judge};
 use std::alloc::Global;
 
@@ -14,18 +13,18 @@ use std::alloc::Global;
 pub enum Collected {
     /// All bytes so far.
     Kept(Vec<u8>),
-    /// Whether they are UTF-8: the payload has more bytes than the limit on texts.
+    /// Whether they are UTF-8: the payload has more bytes than the limit on it.
     Judged(Utf8Judge),
     /// Nothing, since there was no memory.
     Lost,
 }
 
 impl Collected {
-    /// Nothing yet of a payload of `len` bytes.
-    pub fn new(alloc: Global, len: u64, limits: Limits) -> Collected
-        ensures { Collects limits.text len result [] }
+    /// Nothing yet of a payload of `len` bytes, which is kept where there are at most so many.
+    pub fn new(alloc: Global, len: u64, most: usize) -> Collected
+        ensures { Collects most len result [] }
     {
-        if len <= limits.text as u64 {
+        if len <= most as u64 {
             Collected::Kept(Vec::new(alloc))
         } else {
             Collected::Judged(Utf8Judge::new())
@@ -97,4 +96,23 @@ pub fn read_payload<R: Source>(
         left -= count as u64;
     }
     Ok(true)
+}
+
+/// Reads a payload of `len` bytes, which is kept where there are at most so many. None says that the
+/// input ended before.
+pub fn collect<R: Source>(
+    ahead: &mut ReadAhead,
+    source: &mut R,
+    alloc: Global,
+    len: u64,
+    most: usize,
+) -> Result<Option<Collected>, Broken>
+    ensures { TakesCollected result most len ahead.old ahead.new (R.state source.old) (R.state source.new) }
+{
+    let mut collected = Collected::new(alloc, len, most);
+    if read_payload(ahead, source, &mut collected, len)? {
+        Ok(Some(collected))
+    } else {
+        Ok(None)
+    }
 }

@@ -4,6 +4,7 @@ ghost use Rattle.rope_search_io.specs.WriteBehind.{Writes, WritesUntil};
 ghost use Rattle.rope_search.specs.Shows.{shows};
 
 use crate::commands::Reply;
+use crate::listings::write_report;
 use crate::sessions::Session;
 use itoa::Buffer as Digits;
 use rope_search_io::{Broken, Fault, Sink, WriteBehind};
@@ -27,6 +28,10 @@ pub fn write_answer<W: Sink>(
         Ok(Reply::Number(number)) => {
             let number = digits.format(number).as_bytes();
             behind.send_parts(sink, &[b"ok ", number, b"\n"])
+        }
+        Ok(Reply::List) => {
+            let rows = session.buffer().report().unwrap_or(&[]);
+            write_report(rows, behind, sink)
         }
         Ok(Reply::Print) => {
             let text = session.buffer().text().as_bytes();

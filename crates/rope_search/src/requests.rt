@@ -8,7 +8,8 @@ use crate::commands::Command;
 use crate::headers::{Header, header_of};
 use crate::limits::Limits;
 use crate::lines::{LINE_LEN, LineRead, read_line};
-use crate::payloads::{Collected, read_payload};
+use crate::patterns::PATTERN_LEN;
+use crate::payloads::{Collected, collect};
 use crate::runs::Ended;
 use rope_search_io::{Broken, ReadAhead, Source};
 use std::alloc::Global;
@@ -22,6 +23,12 @@ pub enum Asked {
     Print,
     /// `fork`
     Fork,
+    /// `pattern`, and its payload.
+    Pattern(Collected),
+    /// `off`
+    Off,
+    /// `list`
+    List,
     /// `use`, and the number of a buffer.
     Use(u64),
 }
@@ -46,6 +53,9 @@ impl Asked {
             Asked::Text(collected) => Command::Text(collected.payload()),
             Asked::Print => Command::Print,
             Asked::Fork => Command::Fork,
+            Asked::Pattern(collected) => Command::Pattern(collected.payload()),
+            Asked::Off => Command::Off,
+            Asked::List => Command::List,
             Asked::Use(number) => Command::Use(*number),
         }
     }
@@ -83,16 +93,18 @@ fn read_rest<R: Source>(
     ensures { TakesRest limits.text header result ahead.old ahead.new (R.state source.old) (R.state source.new) }
 {
     match header {
-        Header::Text(len) => {
-            let mut collected = Collected::new(alloc, len, limits);
-            if read_payload(ahead, source, &mut collected, len)? {
-                Ok(Request::Given(Asked::Text(collected)))
-            } else {
-                Ok(Request::End(Ended::Cut))
-            }
-        }
+        Header::Text(len) => match collect(ahead, source, alloc, len, limits.text)? {
+            Some(collected) => Ok(Request::Given(Asked::Text(collected))),
+            None => Ok(Request::End(Ended::Cut)),
+        },
+        Header::Pattern(len) => match collect(ahead, source, alloc, len, PATTERN_LEN)? {
+            Some(collected) => Ok(Request::Given(Asked::Pattern(collected))),
+            None => Ok(Request::End(Ended::Cut)),
+        },
         Header::Print => Ok(Request::Given(Asked::Print)),
         Header::Fork => Ok(Request::Given(Asked::Fork)),
+        Header::Off => Ok(Request::Given(Asked::Off)),
+        Header::List => Ok(Request::Given(Asked::List)),
         Header::Use(number) => Ok(Request::Given(Asked::Use(number))),
     }
 }

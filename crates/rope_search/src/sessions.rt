@@ -1,7 +1,8 @@
 //! A session: buffers, of which one is chosen.
-ghost use Rattle.std.specs.Prelude.{◌≡◌, ◌+◌, ◌<◌, ◌≤◌, ◌↔◌, [], ◌∷◌, ◌++◌, List, ℕ, length, OnOk, OnErr, IfOk, IfErr, IsOk, string_bytes};
-ghost use Rattle.rope_search.specs.Order.{Order, SetText};
-ghost use Rattle.rope_search.specs.Session.{first, fresh, current_text, chosen_buffer};
+ghost use Rattle.std.specs.Prelude.{◌≡◌, ◌+◌, ◌<◌, ◌≤◌, ◌↔◌, [], ◌∷◌, ◌++◌, List, ℕ, length, OnOk, OnErr, IfOk, IfErr, IsOk, None, string_bytes};
+ghost use Rattle.rope_search.specs.Order.{Order, SetText, SetPattern, ListMatches};
+ghost use Rattle.rope_search.specs.Session.{first, fresh, current_text, chosen_buffer, with_pattern, with_chosen};
+ghost use Rattle.rope_search.specs.Pattern.{pattern_limit};
 ghost use Rattle.rope_search.specs.Step.{Step};
 ghost use Rattle.rope_search.specs.Stands.{Stands, StandsFor};
 ghost use Rattle.rope_search.specs.Requests.{IsAskedFor};
@@ -136,6 +137,9 @@ impl Session {
                 let number = self.fork()?;
                 Ok(Reply::Number(number))
             }
+            Command::Pattern(payload) => self.set_pattern(tick, payload),
+            Command::Off => Ok(self.drop_pattern()),
+            Command::List => self.list(),
             Command::Use(number) => {
                 self.choose(number)?;
                 Ok(Reply::Done)
@@ -151,13 +155,10 @@ impl Session {
         ensures rows { (order : Order) (cost : ℕ) → IsAskedFor self.old.limit asked order
             → Costs self.old.limit self.old.state order cost → tick.new.count ≤ tick.old.count + cost }
     {
-        if let Asked::Text(Collected::Kept(bytes)) = asked {
-            let Ok(text) = String::from_utf8(bytes) else {
-                return Err(Fault::Utf8);
-            };
-            return self.take_text(tick, text);
+        match asked {
+            Asked::Text(Collected::Kept(bytes)) => self.take_text(tick, bytes),
+            asked => self.apply(tick, asked.command()),
         }
-        self.apply(tick, asked.command())
     }
 
     // Makes the payload the chosen buffer's text.
@@ -183,13 +184,59 @@ impl Session {
         }
     }
 
-    // Makes this the chosen buffer's text.
-    fn take_text(&mut self, tick: &mut Lines, text: String) -> Result<Reply, Fault>
-        ensures step { Step self.old.limit self.old.state (SetText (string_bytes text)) result self.new.state }
+    // Makes the payload the chosen buffer's pattern.
+    fn set_pattern(&mut self, tick: &mut Lines, payload: Payload<'_>) -> Result<Reply, Fault>
+        ensures step { (bytes : List ℕ) → StandsFor pattern_limit payload.entry bytes
+            → Step self.old.limit self.old.state (SetPattern bytes) result self.new.state }
         ensures limit { self.new.limit ≡ self.old.limit }
-        ensures rows { (cost : ℕ) → Costs self.old.limit self.old.state (SetText (string_bytes text)) cost
+        ensures rows { (bytes : List ℕ) (cost : ℕ) → StandsFor pattern_limit payload.entry bytes
+            → Costs self.old.limit self.old.state (SetPattern bytes) cost → tick.new.count ≤ tick.old.count + cost }
+        ensures wholes { tick.new.wholes ≡ tick.old.wholes }
+    {
+        match payload {
+            Payload::Kept(bytes) => match str::from_utf8(bytes) {
+                Ok(pattern) => {
+                    self.buffers[self.chosen].set_pattern(tick, pattern)?;
+                    Ok(Reply::Done)
+                }
+                Err(_) => Err(Fault::Utf8),
+            },
+            Payload::Long { utf8: true } => Err(Fault::Limit),
+            Payload::Long { utf8: false } => Err(Fault::Utf8),
+            Payload::Lost => Err(Fault::Memory),
+        }
+    }
+
+    // Drops the chosen buffer's pattern.
+    fn drop_pattern(&mut self) -> Reply
+        ensures reply { result ≡ Reply.Done }
+        ensures state { self.new.state ≡ with_chosen self.old.state (with_pattern (chosen_buffer self.old.state) None) }
+        ensures limit { self.new.limit ≡ self.old.limit }
+    {
+        self.buffers[self.chosen].off();
+        Reply::Done
+    }
+
+    // Tells that the chosen buffer's report is to be shown, where it has one.
+    fn list(&self) -> Result<Reply, Fault>
+        ensures { Step self.now.limit self.now.state ListMatches result self.now.state }
+    {
+        match self.buffer().report() {
+            None => Err(Fault::Nothing),
+            Some(_) => Ok(Reply::List),
+        }
+    }
+
+    // Makes these bytes the chosen buffer's text.
+    fn take_text(&mut self, tick: &mut Lines, bytes: Vec<u8>) -> Result<Reply, Fault>
+        ensures step { Step self.old.limit self.old.state (SetText bytes.items) result self.new.state }
+        ensures limit { self.new.limit ≡ self.old.limit }
+        ensures rows { (cost : ℕ) → Costs self.old.limit self.old.state (SetText bytes.items) cost
             → tick.new.count ≤ tick.old.count + cost }
     {
+        let Ok(text) = String::from_utf8(bytes) else {
+            return Err(Fault::Utf8);
+        };
         self.buffers[self.chosen].take_text(tick, text)?;
         Ok(Reply::Done)
     }

@@ -77,13 +77,17 @@ Puts-behind old xs a b first = record { sent = old; split = refl; written = firs
 
 pub ruleset putting = (Puts-past, Puts-behind, WritesFront-after, WritesFront-more)
 
--- ---- for `send_parts`
+-- ---- for `put_parts`
 
 pub joined-more : (parts : List (Bor (List ℕ))) (i : ℕ) (d : Bor (List ℕ)) → i < length parts
     → joined (take (i + 1) parts) ≡ joined (take i parts) ++ (get_or parts i d).now
 joined-more parts i d inside =
     let part : Bor (List ℕ) → List ℕ = λ p. p.now in
     ap joined (take_more parts i d inside) ∙ flat_map-append part (take i parts) (get_or parts i d ∷ []) ∙ ap (λ l. joined (take i parts) ++ l) (append-nil (get_or parts i d).now)
+
+-- no part went on its way yet
+pub Puts-nil : (old : List ℕ) (a : SinkState) → Puts old old a a []
+Puts-nil old a = record { sent = []; split = append-nil old; written = Writes-nil a }
 
 -- one more part went behind those before
 pub Puts-more : (parts : List (Bor (List ℕ))) (i : ℕ) (d : Bor (List ℕ)) (old mid new : List ℕ) (a b c : SinkState) → i < length parts
@@ -96,6 +100,11 @@ Puts-more parts i d old mid new a b c inside p q =
           ∙ append_assoc p.sent mid part ∙ ap (λ l. p.sent ++ l) q.split ∙ sym (append_assoc p.sent q.sent new);
       written = Writes-trans a b c p.sent q.sent p.written q.written;
     }
+
+-- all parts are on their way
+pub Puts-all : (parts : List (Bor (List ℕ))) (i : ℕ) (old new : List ℕ) (a b : SinkState) → length parts ≤ i
+    → Puts old new a b (joined (take i parts)) → Puts old new a b (joined parts)
+Puts-all parts i old new a b all p = subst (λ ps. Puts old new a b (joined ps)) (take_all i parts all) p
 
 -- the parts so far went on their way, and of what waits behind them the sink took a front
 front_of_parts : (parts : List (Bor (List ℕ))) (i : ℕ) (old mid xs : List ℕ) (a b c : SinkState)
@@ -115,19 +124,6 @@ WritesFront-part parts i d old mid a b c inside p q =
     ∙ append_assoc old (joined (take (i + 1) parts)) (joined (drop (i + 1) parts)) ∙ ap (λ l. old ++ l) (sym split) in
     subst (WritesFront a c) whole (WritesFront-more a c ((old ++ joined (take i parts)) ++ (get_or parts i d).now) (joined (drop (i + 1) parts)) here)
 
--- all parts were put, and what waits is written
-pub Writes-parts : (parts : List (Bor (List ℕ))) (i : ℕ) (old mid : List ℕ) (a b c : SinkState) → length parts ≤ i
-    → Puts old mid a b (joined (take i parts)) → Writes b c mid → Writes a c (old ++ joined parts)
-Writes-parts parts i old mid a b c all p q =
-    subst (Writes a c) (sym p.split ∙ ap (λ l. old ++ joined l) (take_all i parts all)) (Writes-trans a b c p.sent mid p.written q)
-
-pub WritesFront-parts : (parts : List (Bor (List ℕ))) (i : ℕ) (old mid : List ℕ) (a b c : SinkState) → length parts ≤ i
-    → Puts old mid a b (joined (take i parts)) → WritesFront b c mid → WritesFront a c (old ++ joined parts)
-WritesFront-parts parts i old mid a b c all p q =
-    subst (WritesFront a c) (sym p.split ∙ ap (λ l. old ++ joined l) (take_all i parts all)) (WritesFront-after a b c p.sent mid p.written q)
-
-pub ruleset sending = (Puts-more, WritesFront-part, Writes-parts, WritesFront-parts)
-
 -- the same, where the error is told
 pub WritesUntil-part : (broken : Broken) (parts : List (Bor (List ℕ))) (i : ℕ) (d : Bor (List ℕ)) (old mid : List ℕ) (a b c : SinkState) → i < length parts
     → Puts old mid a b (joined (take i parts)) → WritesUntil broken b c (mid ++ (get_or parts i d).now) → WritesUntil broken a c (old ++ joined parts)
@@ -136,9 +132,22 @@ WritesUntil-part Read parts i d old mid a b c inside p q = absurd q
 WritesUntil-part Turns parts i d old mid a b c inside p q = absurd q
 WritesUntil-part Memory parts i d old mid a b c inside p q = absurd q
 
-pub WritesUntil-parts : (broken : Broken) (parts : List (Bor (List ℕ))) (i : ℕ) (old mid : List ℕ) (a b c : SinkState) → length parts ≤ i
-    → Puts old mid a b (joined (take i parts)) → WritesUntil broken b c mid → WritesUntil broken a c (old ++ joined parts)
-WritesUntil-parts Write parts i old mid a b c all p q = WritesFront-parts parts i old mid a b c all p q
-WritesUntil-parts Read parts i old mid a b c all p q = absurd q
-WritesUntil-parts Turns parts i old mid a b c all p q = absurd q
-WritesUntil-parts Memory parts i old mid a b c all p q = absurd q
+pub ruleset putting_parts = (Puts-nil, Puts-more, Puts-all)
+
+-- ---- for `send_parts`
+
+-- what was put is on its way, and what waits is written
+pub Writes-put : (old mid xs : List ℕ) (a b c : SinkState) → Puts old mid a b xs → Writes b c mid → Writes a c (old ++ xs)
+Writes-put old mid xs a b c p q = subst (Writes a c) (sym p.split) (Writes-trans a b c p.sent mid p.written q)
+
+pub WritesFront-put : (old mid xs : List ℕ) (a b c : SinkState) → Puts old mid a b xs → WritesFront b c mid → WritesFront a c (old ++ xs)
+WritesFront-put old mid xs a b c p q = subst (WritesFront a c) (sym p.split) (WritesFront-after a b c p.sent mid p.written q)
+
+pub ruleset sending = (Writes-put)
+
+-- the same, where the error is told
+pub WritesUntil-put : (broken : Broken) (old mid xs : List ℕ) (a b c : SinkState) → Puts old mid a b xs → WritesUntil broken b c mid → WritesUntil broken a c (old ++ xs)
+WritesUntil-put Write old mid xs a b c p q = WritesFront-put old mid xs a b c p q
+WritesUntil-put Read old mid xs a b c p q = absurd q
+WritesUntil-put Turns old mid xs a b c p q = absurd q
+WritesUntil-put Memory old mid xs a b c p q = absurd q

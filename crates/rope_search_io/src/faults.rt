@@ -5,10 +5,14 @@ use std::fmt;
 /// The numbers are the order in which refusals are told: the least that applies.
 #[derive(Clone, Copy, Debug, PartialEq, Eq)]
 pub enum Fault {
-    /// There is no such buffer.
+    /// There is no such buffer, or no pattern.
     Nothing = 1,
     /// The payload isn't UTF-8.
     Utf8 = 3,
+    /// The payload is no pattern.
+    Pattern = 4,
+    /// The pattern is too long.
+    Limit = 5,
     /// The new text would have more bytes than the limit.
     Size = 6,
     /// Memory was refused.
@@ -26,6 +30,8 @@ impl Fault {
         match self {
             Fault::Nothing => "none",
             Fault::Utf8 => "utf8",
+            Fault::Pattern => "pattern",
+            Fault::Limit => "limit",
             Fault::Size => "size",
             Fault::Memory => "memory",
         }

@@ -87,6 +87,21 @@ impl WriteBehind {
         Ok(())
     }
 
+    /// Puts these parts behind the bytes that wait, in order, and writes what there is no room for.
+    /// After an error the sink took a front of what waited and of these, and nothing waits.
+    #[tactic(auto, using(crate::proofs::Fronts::putting_parts))]
+    pub fn put_parts<W: Sink>(&mut self, sink: &mut W, parts: &[&[u8]]) -> Result<(), Broken>
+        ensures written { MatchResult result
+            (λ _. Puts self.old self.new (W.state sink.old) (W.state sink.new) (joined parts.now))
+            (λ broken. WritesUntil broken (W.state sink.old) (W.state sink.new) (self.old ++ joined parts.now)) }
+        ensures err { OnErr result (self.new ≡ []) }
+    {
+        for part in parts {
+            self.put(sink, part)?;
+        }
+        Ok(())
+    }
+
     /// Writes what waits, and then all of these parts, in order. After an error the sink took a front of that, and nothing waits.
     #[tactic(auto, using(crate::proofs::Fronts::sending))]
     pub fn send_parts<W: Sink>(&mut self, sink: &mut W, parts: &[&[u8]]) -> Result<(), Broken>
@@ -95,9 +110,7 @@ impl WriteBehind {
             (λ _. Writes (W.state sink.old) (W.state sink.new) (self.old ++ joined parts.now))
             (λ broken. WritesUntil broken (W.state sink.old) (W.state sink.new) (self.old ++ joined parts.now)) }
     {
-        for part in parts {
-            self.put(sink, part)?;
-        }
+        self.put_parts(sink, parts)?;
         self.send(sink)?;
         Ok(())
     }

@@ -1,7 +1,7 @@
 -- The parts so far went behind what waited.
 use Rattle.std.proofs.Common.{take}
 use Rattle.rope_search_io.specs.WriteBehind.{Puts, joined}
-use Rattle.rope_search_io.proofs.write_behinds.WriteBehind.send_parts.Given as goal
+use Rattle.rope_search_io.proofs.write_behinds.WriteBehind.put_parts.Given as goal
 
 abbrev pub invariant-loop-part : goal.invariant-loop-part
 invariant-loop-part g l =

@@ -1,0 +1,9 @@
+-- The matches so far went behind what waited.
+use Rattle.std.proofs.Common.{take, flat_map}
+use Rattle.rope_search_io.specs.WriteBehind.{Puts}
+use Rattle.rope_search.specs.Shows.{shown_match}
+use Rattle.rope_search.proofs.listings.put_row.Given as goal
+
+abbrev pub invariant-loop-span : goal.invariant-loop-span
+invariant-loop-span g l =
+    Puts l.fn.behind l.behind (g.W.Sink.state l.fn.sink) (g.W.Sink.state l.sink) (flat_map (shown_match l.line) (take l.span-index l.matches))
