@@ -180,10 +180,13 @@ Writes-report r rows count i tail mid a b c all counted p is sent = by r sent
   where
     same : take i rows ≡ rows
     same = take_all i rows all
+
     last : tail ≡ shown_number (match_count rows)
     last = is ∙ ap shown_number (counted ∙ ap match_count same)
+
     put : Puts [] mid a b (shown_rows 0 rows)
     put = subst (λ rs. Puts [] mid a b (shown_rows 0 rs)) same p
+
     by : (r : Result Unit Broken) → MatchResult r (λ _. Writes b c (mid ++ tail)) (λ broken. WritesUntil broken b c (mid ++ tail))
         → MatchResult r (λ _. Writes a c (shown_report rows)) (λ broken. WritesUntil broken a c (shown_report rows))
     by (Ok done) sent = subst (λ l. Writes a c (shown_rows 0 rows ++ l)) last (Writes-put [] mid (shown_rows 0 rows) tail a b c put sent)

@@ -192,7 +192,7 @@ impl Buffer {
             alloc: self.alloc,
             limits: self.limits,
             text,
-            pattern: None,
+            pattern: None, // It stays with this buffer.
             rows: Vec::new(self.alloc),
         })
     }

@@ -20,7 +20,11 @@ fn put_match<W: Sink>(
         (λ _. Puts behind.old behind.new (W.state sink.old) (W.state sink.new) (shown_match line span))
         (λ broken. WritesUntil broken (W.state sink.old) (W.state sink.new) (behind.old ++ shown_match line span)) }
 {
-    let (mut line_digits, mut start_digits, mut end_digits) = (Digits::new(), Digits::new(), Digits::new());
+    let (mut line_digits, mut start_digits, mut end_digits) = (
+        Digits::new(),
+        Digits::new(),
+        Digits::new(),
+    );
     let line = line_digits.format(line).as_bytes();
     let start = start_digits.format(span.0).as_bytes();
     let end = end_digits.format(span.1).as_bytes();

@@ -2,7 +2,11 @@
 #![tactic(auto)]
 
 #[cfg(test)]
+mod cases;
+#[cfg(test)]
 mod devices;
+#[cfg(test)]
+mod patterns;
 #[cfg(test)]
 mod reports;
 #[cfg(test)]
