@@ -38,6 +38,7 @@ test:
 
 bench: $(program)
 	@bench/load_print
+	@bench/list_matches
 	@RT='$(RT)' sh bench/indices.sh
 
 clean:

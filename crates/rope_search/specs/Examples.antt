@@ -1,13 +1,16 @@
 -- What the definitions say of a few small texts, lines and sessions, each by computation.
-use Rattle.std.specs.Prelude.{◌≡◌, ℕ, List, [], ◌∷◌, Ok, Err, codes, refl}
+use Rattle.std.specs.Prelude.{◌≡◌, ℕ, List, [], ◌∷◌, Some, Ok, Err, true, false, map, codes, refl}
 use Rattle.std.specs.Fmt.{digits}
 use Rattle.std.proofs.Math.Utf8.{encode}
-use Rattle.rope_search_io.specs.declared.faults.Fault.TheVariants.{Nothing, Utf8, Size, Memory}
-use Rattle.rope_search.specs.declared.commands.Reply.TheVariants.{Done, Number, Print}
+use Rattle.rope_search_io.specs.declared.faults.Fault.TheVariants.{Nothing, Utf8, Pattern, Limit, Size, Memory}
+use Rattle.rope_search.specs.declared.commands.Reply.TheVariants.{Done, Number, List as Listing, Print}
 use Rattle.rope_search.specs.declared.runs.Ended.TheVariants.{Input, Command, Cut}
 use Rattle.str_indices.specs.Text.{is_line_break, breaks}
 use Rattle.rope_search.specs.Text.{line_count, bytes_of}
-use Rattle.rope_search.specs.Session.{State, fresh, first}
+use Rattle.rope_search.specs.Pattern.{is_meta}
+use Rattle.rope_search.specs.Session.{State, fresh, first, with_pattern}
+use Rattle.std.specs.Str.{chars}
+use Rattle.rope_search.specs.Report.{line_texts, find_among, matches_from, row_of}
 use Rattle.rope_search.specs.Reads.{digits_after}
 use Rattle.rope_search.specs.Shows.{shows, closing}
 
@@ -53,6 +56,12 @@ pub bytes_separator : bytes_of (0x2028 ∷ []) ≡ 0xe2 ∷ 0x80 ∷ 0xa8 ∷ []
 unfolding encode
 bytes_separator = refl
 
+-- ---- patterns
+
+-- a dot and a dollar are meta characters, a closing bracket and an LF aren't
+pub meta_some : map is_meta (codes ".$]\n") ≡ true ∷ true ∷ false ∷ false ∷ []
+meta_some = refl
+
 -- ---- what is written
 
 -- a session with one buffer, of this text
@@ -71,6 +80,11 @@ pub shows_print : shows (session_of (codes "hi")) (Ok Print) ≡ codes "text 2\n
 unfolding digits encode
 shows_print = refl
 
+-- the report of a buffer whose text is q, CR LF, q, and whose pattern is q
+pub shows_list : shows (record { buffers = with_pattern (fresh (codes "q\r\nq")) (Some (codes "q")) ∷ []; chosen = 0 }) (Ok Listing) ≡ codes "m 0 0 1\nm 1 0 1\nok 2\n"
+unfolding digits encode chars line_texts find_among matches_from row_of
+shows_list = refl
+
 pub shows_empty : shows first (Ok Print) ≡ codes "text 0\n\n"
 unfolding digits
 shows_empty = refl
@@ -80,6 +94,12 @@ shows_nothing = refl
 
 pub shows_utf8 : shows first (Err Utf8) ≡ codes "error utf8\n"
 shows_utf8 = refl
+
+pub shows_pattern : shows first (Err Pattern) ≡ codes "error pattern\n"
+shows_pattern = refl
+
+pub shows_limit : shows first (Err Limit) ≡ codes "error limit\n"
+shows_limit = refl
 
 pub shows_size : shows first (Err Size) ≡ codes "error size\n"
 shows_size = refl
