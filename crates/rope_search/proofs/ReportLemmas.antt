@@ -1,17 +1,17 @@
 -- The lines of a text, cut off one by one.
-use Rattle.std.proofs.Common.{◌≡◌, ◌≢◌, ℕ, suc, ◌+◌, ◌-◌, ◌<◌, ◌≤◌, ◌==◌, Bool, true, false, not, cond, ◌&&◌, List, [], ◌∷◌, ◌++◌, Option, None, Some, IsUtf8, map, length, replicate, take, refl, sym, ap, subst, ◌∙◌, ◌⊎◌, ⊎_elim, append-nil, arith, chars, append_assoc, length-append}
+use Rattle.std.proofs.Common.{◌≡◌, ◌≢◌, ℕ, suc, ◌+◌, ◌-◌, ◌<◌, ◌≤◌, ◌==◌, Bool, true, false, not, cond, ◌&&◌, List, [], ◌∷◌, ◌++◌, Option, None, Some, IsUtf8, map, length, get_or, replicate, take, drop, take-append-drop, refl, sym, ap, subst, ◌∙◌, ◌⊎◌, ⊎_elim, append-nil, arith, chars, append_assoc, length-append}
 use Rattle.std.proofs.Math.Seq.{take-append_seam}
 use Rattle.std.proofs.Math.Utf8.{encode}
 use Rattle.std.proofs.lemmas.Bool.{cases_Bool, cond-true, cond-false}
 use Rattle.std.proofs.lemmas.Bool.Decides.{nat_tests}
-use Rattle.std.proofs.lemmas.List.{length-map, length-replicate}
-use Rattle.std.proofs.lemmas.Str.{IsUtf8-take, IsCharBoundary-at_seam, chars-append, chars-nil, chars_past_char, encodes-chars, encodes-append, encodes_same, encode_ascii}
+use Rattle.std.proofs.lemmas.List.{length-map, length-replicate, length-take-le, take_more}
+use Rattle.std.proofs.lemmas.Str.{IsUtf8-take, IsUtf8-past_char, IsCharBoundary-at_seam, chars-append, chars-nil, chars_past_char, encodes-chars, encodes-append, encodes_same, encode_ascii}
 use Rattle.std.specs.Char.{len_utf8}
 use Rattle.std.specs.Str.{NonePass, IsCharBoundary}
 use Rattle.str_indices.specs.Text.{is_line_break, ends_break, starts_with_lf, ends_from, breaks}
 use Rattle.rope_search.specs.Session.{Ticks}
 use Rattle.rope_search.specs.Text.{bytes_of}
-use Rattle.rope_search.specs.Report.{with_first, line_texts, lines_left, row_of, report}
+use Rattle.rope_search.specs.Report.{is_stop, with_first, line_texts, lines_left, row_of, report}
 
 pub ruleset break_tests = (nat_tests)
 
@@ -104,6 +104,62 @@ Unbroken-step text rest after len len' c sofar split is_not len-is =
       ends = omega (arith, len-is, ap length whole, length-append (bytes_of (sofar.front ++ c ∷ [])) after);
       none = none-more is_line_break sofar.front c sofar.none is_not;
     }
+
+-- ---- plain bytes: at none of them may a line end
+
+plain-one : (b : ℕ) → is_stop b ≡ false → (b < 128) × (is_line_break b ≡ false)
+plain-one b plain = (grind (arith, nat_tests, plain), grind (arith, nat_tests, plain))
+
+plain-none : (bs : List ℕ) → NonePass is_stop bs → NonePass is_line_break bs
+plain-none [] plain = tt
+plain-none (b ∷ bs) plain = ((plain-one b plain.0).1, plain-none bs plain.1)
+
+-- each is a character of one byte
+plain-bytes : (bs : List ℕ) → NonePass is_stop bs → bytes_of bs ≡ bs
+plain-bytes [] plain = refl
+plain-bytes (b ∷ bs) plain = ap (λ l. l ++ bytes_of bs) (encode_ascii b (plain-one b plain.0).0) ∙ ap (λ l. b ∷ l) (plain-bytes bs plain.1)
+
+plain-past : (front rest : List ℕ) → NonePass is_stop front → IsUtf8 (front ++ rest) → IsUtf8 rest
+plain-past [] rest plain utf8 = utf8
+plain-past (b ∷ bs) rest plain utf8 =
+    plain-past bs rest plain.1
+    (IsUtf8-past_char (b ∷ bs ++ rest) (bs ++ rest) b utf8 (ap (λ l. l ++ (bs ++ rest)) (sym (encode_ascii b (plain-one b plain.0).0))))
+
+-- what follows plain bytes is a text
+pub plain-utf8 : (rest : List ℕ) (n : ℕ) → NonePass is_stop (take n rest) → IsUtf8 rest → IsUtf8 (drop n rest)
+plain-utf8 rest n plain utf8 = plain-past (take n rest) (drop n rest) plain (subst IsUtf8 (sym (take-append-drop n rest)) utf8)
+
+-- and may be cut off there
+pub plain-boundary : (rest : List ℕ) (n : ℕ) → n ≤ length rest → NonePass is_stop (take n rest) → IsUtf8 rest → IsCharBoundary rest n
+plain-boundary rest n within plain utf8 =
+    subst (IsCharBoundary rest) (length-take-le n rest within)
+    (IsCharBoundary-at_seam rest (take n rest) (drop n rest) (sym (take-append-drop n rest)) (plain-utf8 rest n plain utf8))
+
+none-append : (p : ℕ → Bool) (cs ds : List ℕ) → NonePass p cs → NonePass p ds → NonePass p (cs ++ ds)
+none-append p [] ds none none' = none'
+none-append p (c ∷ cs) ds none none' = (none.0, none-append p cs ds none.1 none')
+
+-- plain bytes more
+pub Unbroken-skip : (text rest after : List ℕ) (len len' n : ℕ) → Unbroken text rest len → n ≤ length rest → NonePass is_stop (take n rest) → after ≡ drop n rest
+    → len' ≡ length text - length after → Unbroken text after len'
+Unbroken-skip text rest after len len' n sofar within plain after-is len-is =
+    let more = take n rest in
+    let one : bytes_of (sofar.front ++ more) ≡ bytes_of sofar.front ++ more =
+    encodes-append sofar.front more ∙ ap (λ bs. bytes_of sofar.front ++ bs) (plain-bytes more plain) in
+    let whole : text ≡ bytes_of (sofar.front ++ more) ++ after =
+    sofar.split ∙ ap (λ bs. bytes_of sofar.front ++ bs) (sym (take-append-drop n rest) ∙ ap (λ bs. more ++ bs) (sym after-is))
+    ∙ sym (append_assoc (bytes_of sofar.front) more after) ∙ ap (λ bs. bs ++ after) (sym one) in
+    record {
+      front = sofar.front ++ more;
+      split = whole;
+      ends = omega (arith, len-is, ap length whole, length-append (bytes_of (sofar.front ++ more)) after);
+      none = none-append is_line_break sofar.front more sofar.none (plain-none more plain);
+    }
+
+-- one more plain byte
+pub plain-more : (bytes : List ℕ) (n d : ℕ) → n < length bytes → NonePass is_stop (take n bytes) → is_stop (get_or bytes n d) ≡ false → NonePass is_stop (take (n + 1) bytes)
+plain-more bytes n d inside plain fails =
+    subst (NonePass is_stop) (sym (take_more bytes n d inside)) (none-more is_stop (take n bytes) (get_or bytes n d) plain fails)
 
 front-taken : (text rest : List ℕ) (len : ℕ) → (sofar : Unbroken text rest len) → take len text ≡ bytes_of sofar.front
 front-taken text rest len sofar =

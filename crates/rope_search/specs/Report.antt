@@ -1,5 +1,5 @@
 -- The report of a text and a pattern: for each line, where the pattern matches in it.
-use Rattle.std.specs.Prelude.{ℕ, zero, suc, ◌+◌, ◌-◌, List, [], ◌∷◌, Option, None, Some, option_map, if◌then◌else◌, length, take, map, sum_by, chars}
+use Rattle.std.specs.Prelude.{ℕ, Bool, ◌&&◌, ◌||◌, nat_le, zero, suc, ◌+◌, ◌-◌, List, [], ◌∷◌, Option, None, Some, option_map, if◌then◌else◌, length, take, map, sum_by, chars}
 use Rattle.memchr.specs.Find.{occurs_at}
 use Rattle.str_indices.specs.Text.{is_line_break, ends_break, units}
 use Rattle.rope_search.specs.Text.{bytes_of}
@@ -20,6 +20,10 @@ line_texts (c ∷ rest) =
     if ends_break is_line_break c rest then [] ∷ line_texts rest
     else if is_line_break c then line_texts rest
     else with_first c (line_texts rest)
+
+-- a byte at which a line may end: LF, VT, FF or CR, or a byte of a character that has several
+abbrev pub is_stop : ℕ → Bool
+is_stop byte = nat_le 128 byte || (nat_le 10 byte && nat_le byte 13)
 
 -- the lines of a text that is left, and no line if none is
 abbrev pub lines_left : Option (List ℕ) → List (List ℕ)

@@ -1,7 +1,8 @@
 //! The report of a text: its lines, each searched by itself.
-ghost use Rattle.std.specs.Prelude.{◌≡◌, ◌+◌, ◌<◌, ◌≤◌, [], ◌∷◌, true, length, chars, option_copied, IfOk, IfErr, IfSome};
+ghost use Rattle.std.specs.Prelude.{◌≡◌, ◌+◌, ◌<◌, ◌≤◌, [], ◌∷◌, true, length, take, chars, option_copied, IfOk, IfErr, IfSome};
 ghost use Rattle.str_indices.specs.Text.{is_line_break, breaks};
-ghost use Rattle.rope_search.specs.Report.{line_texts, lines_left, report};
+ghost use Rattle.std.specs.Str.{NonePass};
+ghost use Rattle.rope_search.specs.Report.{is_stop, line_texts, lines_left, report};
 
 use crate::rows::{Lines, Row, search_line};
 use rope_search_io::Fault;
@@ -31,21 +32,46 @@ fn after_break(first: char, after: &str) -> &str
     }
 }
 
+/// Whether a line may end at a byte: that of a break of one byte, or a byte of a longer character.
+#[tactic(auto, using(crate::proofs::ReportLemmas::break_tests))]
+fn is_stop_byte(byte: u8) -> bool
+    ensures { result ≡ is_stop byte }
+{
+    byte >= 0x80 || matches!(byte, b'\n'..=b'\r')
+}
+
+/// How many bytes a text begins with at which no line may end.
+fn plain_len(text: &str) -> usize
+    ensures within { result ≤ length text.now }
+    ensures plain { NonePass is_stop (take result text.now) }
+{
+    let bytes = text.as_bytes();
+    let mut len = 0;
+    while len < bytes.len() && !is_stop_byte(bytes[len]) {
+        len += 1;
+    }
+    len
+}
+
 /// The text of the first line, and what follows the break at its end, if there is one.
 fn cut_line(text: &str) -> (&str, Option<&str>)
     ensures lines { line_texts (chars text.now) ≡ chars result.0.now ∷ lines_left (option_copied result.1) }
     ensures shorter { IfSome result.1 (λ rest. length rest.now < length text.now) }
 {
-    let mut rest = text.chars();
-    let mut len = 0;
-    while let Some(c) = rest.next() {
-        let after = rest.as_str();
+    // What follows the characters so far, of which none is in a break.
+    let mut rest = text;
+    loop {
+        // Most characters are plain, so these are passed byte by byte.
+        let mut others = rest[plain_len(rest)..].chars();
+        let len = text.len() - others.as_str().len();
+        let Some(c) = others.next() else {
+            return (text, None);
+        };
+        rest = others.as_str();
         if is_break(c) {
-            return (&text[..len], Some(after_break(c, after)));
+            return (&text[..len], Some(after_break(c, rest)));
         }
-        len = text.len() - after.len();
     }
-    (text, None)
 }
 
 /// The report of a text and a needle that isn't empty: a row for each line, from the first. It counts at

@@ -1,11 +1,10 @@
 -- No character so far is of the break set.
-use Rattle.std.proofs.Common.{length, IsUtf8}
-use Rattle.std.specs.Str.Iter.{chars_rest}
+use Rattle.std.proofs.Common.{◌-◌, length, IsUtf8}
 use Rattle.rope_search.proofs.ReportLemmas.{Unbroken}
 use Rattle.rope_search.proofs.reports.cut_line.Given as goal
 
 abbrev pub invariant-loop-c : goal.invariant-loop-c
-invariant-loop-c l = Unbroken l.text (chars_rest l.rest) l.len × IsUtf8 (chars_rest l.rest)
+invariant-loop-c l = Unbroken l.text l.rest (length l.text - length l.rest) × IsUtf8 l.rest
 
 abbrev pub decreases-loop-c : goal.decreases-loop-c
-decreases-loop-c l = length (chars_rest l.rest)
+decreases-loop-c l = length l.rest
