@@ -72,6 +72,7 @@ fn count_chunks<M: Measure, C: ByteChunk>(bytes: &[u8], from: usize, end: usize)
     requires within { end ≤ length bytes.now }
     ensures count { sum (take from (M.weights bytes.now)) + result.0
         ≡ sum (take result.1 (M.weights bytes.now)) }
+    ensures low { from ≤ result.1 }
     ensures order { result.1 ≤ end }
     ensures near { end ≤ result.1 + C.SIZE }
 {
@@ -102,8 +103,10 @@ pub(crate) fn count_before<M: Measure, C: ByteChunk, L: Ledger>(
     let first = leading.max(2).min(end);
     let head = count_bytes::<M, L>(bytes, 0, first, steps);
     let (middle, at) = count_chunks::<M, C>(bytes, first, end);
+    // Of what is left, less than a chunk, eight bytes may still go at once.
+    let (small, at) = count_chunks::<M, usize>(bytes, at, end);
     let tail = count_bytes::<M, L>(bytes, at, end, steps);
-    head + middle + tail
+    head + middle + small + tail
 }
 
 /// Goes on from `from`, before which the bytes count `count`, to the first byte with which they
