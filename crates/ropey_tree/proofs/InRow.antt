@@ -1,0 +1,68 @@
+-- Nodes in a row, and the pieces of their texts.
+use Rattle.std.proofs.Common.{◌≡◌, ℕ, ◌+◌, ◌^◌, ◌<◌, ◌≤◌, List, [], ◌∷◌, ◌++◌, length, get_or, take, drop, refl, ap, arith, sym, ◌∙◌}
+use Rattle.std.specs.List.{flat_map}
+use Rattle.std.proofs.lemmas.Grind.{flat_map-append}
+use Rattle.std.proofs.lemmas.List.Concat.{flat_map-cons}
+use Rattle.std.proofs.lemmas.List.{take_more, take-append-drop, append-nil, append_assoc}
+use Rattle.ropey_tree.specs.NodeView.{NodeView}
+use Rattle.ropey_tree.specs.declared.counts.Counts.{Counts}
+use Rattle.ropey_tree.specs.Counts.{total, plus}
+use Rattle.ropey_tree.specs.Nodes.{all_pieces, count_of}
+use Rattle.ropey_tree.proofs.Totals.{total-append, total-below}
+
+pub all_pieces-append : (vs ws : List NodeView) → all_pieces (vs ++ ws) ≡ all_pieces vs ++ all_pieces ws
+all_pieces-append vs ws = flat_map-append (λ v. v.pieces) vs ws
+
+pub all_pieces-one : (v : NodeView) → all_pieces (v ∷ []) ≡ v.pieces
+all_pieces-one v = flat_map-cons (λ v. v.pieces) v [] ∙ append-nil v.pieces
+
+-- one child more
+pub all_pieces-take_more : (vs : List NodeView) (k : ℕ) (d : NodeView) → k < length vs → all_pieces (take (k + 1) vs) ≡ all_pieces (take k vs) ++ (get_or vs k d).pieces
+all_pieces-take_more vs k d h = rw (take_more vs k d h, all_pieces-append (take k vs) (get_or vs k d ∷ []), all_pieces-one (get_or vs k d)) refl
+
+-- the pieces of the child at k, and those on both sides
+pub all_pieces-parts : (vs : List NodeView) (k : ℕ) (d : NodeView) → k < length vs → all_pieces vs ≡ all_pieces (take k vs) ++ (get_or vs k d).pieces ++ all_pieces (drop (k + 1) vs)
+all_pieces-parts vs k d h =
+    let whole : all_pieces (take (k + 1) vs ++ drop (k + 1) vs) ≡ all_pieces (take (k + 1) vs) ++ all_pieces (drop (k + 1) vs) = all_pieces-append (take (k + 1) vs) (drop (k + 1) vs) in
+    ap all_pieces (sym (take-append-drop (k + 1) vs)) ∙ whole ∙ ap (λ ps. ps ++ all_pieces (drop (k + 1) vs)) (all_pieces-take_more vs k d h)
+
+abbrev pub no_view : NodeView
+no_view = record { pieces = []; height = 0; degree = 0 }
+
+-- what stands before the next child
+pub total-take_more : (vs : List NodeView) (k : ℕ) (d : NodeView) → k < length vs → total (all_pieces (take (k + 1) vs)) ≡ plus (total (all_pieces (take k vs))) (count_of (get_or vs k d))
+total-take_more vs k d h = ap total (all_pieces-take_more vs k d h) ∙ total-append (all_pieces (take k vs)) (get_or vs k d).pieces
+
+-- no part counts more than the whole
+pub bytes-take-le : (vs : List NodeView) (k : ℕ) → (total (all_pieces (take k vs))).bytes ≤ (total (all_pieces vs)).bytes
+bytes-take-le vs k =
+    let parts = ap all_pieces (sym (take-append-drop k vs)) ∙ all_pieces-append (take k vs) (drop k vs) in
+    let sums = ap total parts ∙ total-append (all_pieces (take k vs)) (all_pieces (drop k vs)) in
+    let bytes : (total (all_pieces vs)).bytes ≡ (total (all_pieces (take k vs))).bytes + (total (all_pieces (drop k vs))).bytes = ap (λ c. c.bytes) sums in
+    omega arith
+
+-- the child at k goes to what stands before it
+pub record Steps (vs : List NodeView) (k : ℕ) (before count : Counts) : Type 0 where
+  pub bytes : before.bytes + count.bytes < 2 ^ 64
+  pub chars : before.chars + count.chars < 2 ^ 64
+  pub units : before.units + count.units < 2 ^ 64
+  pub breaks : before.breaks + count.breaks < 2 ^ 64
+  pub is : plus before count ≡ total (all_pieces (take (k + 1) vs))
+
+pub steps : (vs : List NodeView) (k : ℕ) (before count : Counts) → k < length vs → (total (all_pieces vs)).bytes < 2 ^ 63
+    → before ≡ total (all_pieces (take k vs)) → count ≡ count_of (get_or vs k no_view) → Steps vs k before count
+steps vs k before count within fits stands_before counted =
+    let is : plus before count ≡ total (all_pieces (take (k + 1) vs)) = rw (stands_before, counted) (sym (total-take_more vs k no_view within)) in
+    let below = total-below (all_pieces (take (k + 1) vs)) in
+    let less = bytes-take-le vs (k + 1) in
+    let b : before.bytes + count.bytes ≡ (total (all_pieces (take (k + 1) vs))).bytes = ap (λ c. c.bytes) is in
+    let c : before.chars + count.chars ≡ (total (all_pieces (take (k + 1) vs))).chars = ap (λ c. c.chars) is in
+    let u : before.units + count.units ≡ (total (all_pieces (take (k + 1) vs))).units = ap (λ c. c.units) is in
+    let l : before.breaks + count.breaks ≡ (total (all_pieces (take (k + 1) vs))).breaks = ap (λ c. c.breaks) is in
+    record {
+      bytes = omega (arith, less, b);
+      chars = omega (arith, less, c, below.chars);
+      units = omega (arith, less, u, below.units);
+      breaks = omega (arith, less, l, below.breaks);
+      is = is;
+    }

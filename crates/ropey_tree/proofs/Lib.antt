@@ -1,0 +1,13 @@
+pub mod Totals
+pub mod Filled
+pub mod InRow
+pub mod Heights
+pub mod Descents
+pub mod Texts
+pub mod Pieces
+pub mod Packing
+pub mod Joining
+pub mod Splitting
+pub mod Levels
+pub mod Ends
+pub mod CutSoFar

@@ -1,0 +1,29 @@
+-- What texts count, in the four measures: bytes of UTF-8, characters, UTF-16 code units and line breaks.
+use Rattle.std.specs.Prelude.{ℕ, ◌+◌, List, [], ◌∷◌, length, sum_by}
+use Rattle.str_indices.specs.Text.{is_line_break, breaks, units}
+use Rattle.str_indices.specs.Laws.{byte_len}
+use Rattle.ropey_tree.specs.declared.counts.Counts.{Counts}
+use Rattle.ropey_tree.specs.declared.counts.By.{By}
+use Rattle.ropey_tree.specs.declared.counts.By.TheVariants.{Bytes, Chars, Units, Breaks}
+
+-- what a text counts
+abbrev pub counts_of : List ℕ → Counts
+counts_of text = record { bytes = byte_len text; chars = length text; units = units text; breaks = breaks is_line_break text }
+
+-- what the empty text counts
+abbrev pub zero_counts : Counts
+zero_counts = record { bytes = 0; chars = 0; units = 0; breaks = 0 }
+
+abbrev pub plus : Counts → Counts → Counts
+plus c d = record { bytes = c.bytes + d.bytes; chars = c.chars + d.chars; units = c.units + d.units; breaks = c.breaks + d.breaks }
+
+-- the count in one measure
+abbrev pub amount : By → Counts → ℕ
+amount Bytes c = c.bytes
+amount Chars c = c.chars
+amount Units c = c.units
+amount Breaks c = c.breaks
+
+-- what pieces of text count together: the sums over the pieces
+abbrev pub total : List (List ℕ) → Counts
+total pieces = record { bytes = sum_by byte_len pieces; chars = sum_by length pieces; units = sum_by units pieces; breaks = sum_by (breaks is_line_break) pieces }

@@ -1,0 +1,34 @@
+-- Texts that are cut into pieces. A text is a list of Unicode scalar values, and pieces are joined by `concat`.
+use Rattle.std.specs.Prelude.{◌≡◌, ℕ, ◌^◌, ◌<◌, ◌≤◌, Bool, true, false, ◌&&◌, List, [], ◌∷◌, ◌++◌}
+use Rattle.std.specs.Str.{all_scalars}
+use Rattle.str_indices.specs.Text.{starts_with_lf}
+use Rattle.str_indices.specs.Laws.{byte_len, ends_with_cr}
+use Rattle.ropey_tree.specs.Counts.{total}
+
+-- scalar values of 1 to 984 bytes together
+pub record IsPiece (piece : List ℕ) : Type 0 where
+  pub scalars : all_scalars piece ≡ true
+  pub not_empty : 1 ≤ byte_len piece
+  pub not_long : byte_len piece ≤ 984
+
+-- a CR at the end of the first, and an LF at the start of the second
+abbrev pub cuts_cr_lf : List ℕ → List ℕ → Bool
+cuts_cr_lf first second = ends_with_cr first && starts_with_lf second
+
+-- pieces of which no two neighbours cut a CR LF
+abbrev pub IsCutting : List (List ℕ) → Type 0
+IsCutting [] = Unit {0}
+IsCutting (p ∷ []) = IsPiece p
+IsCutting (p ∷ q ∷ ps) = IsPiece p × (cuts_cr_lf p q ≡ false) × IsCutting (q ∷ ps)
+
+-- the pieces of a text that a rope may hold: of at most `isize::MAX` bytes
+pub record IsText (pieces : List (List ℕ)) : Type 0 where
+  pub cut : IsCutting pieces
+  pub fits : (total pieces).bytes < 2 ^ 63
+
+-- a byte index between two characters of a text, or at its start or its end
+pub record IsBoundaryOf (text : List ℕ) (at : ℕ) : Type 0 where
+  pub front : List ℕ
+  pub back : List ℕ
+  pub parts : text ≡ front ++ back
+  pub place : byte_len front ≡ at

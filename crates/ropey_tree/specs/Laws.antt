@@ -1,0 +1,9 @@
+-- Laws of the definitions.
+use Rattle.std.specs.Prelude.{◌≡◌, ℕ, List}
+use Rattle.std.specs.List.{concat}
+use Rattle.ropey_tree.specs.Counts.{counts_of, total}
+use Rattle.ropey_tree.specs.Cutting.{IsCutting}
+
+-- what the pieces of a cutting count together is what their text counts
+abbrev pub CountsAreOfTheText : Type 0
+CountsAreOfTheText = (pieces : List (List ℕ)) → IsCutting pieces → total pieces ≡ counts_of (concat pieces)

@@ -1,0 +1,13 @@
+pub mod Counts
+pub mod Cutting
+pub mod NodeView
+pub mod Nodes
+pub mod Shown
+pub mod Children
+pub mod Bodies
+pub mod Falls
+pub mod Rows
+pub mod Parts
+pub mod Splits
+pub mod Laws
+pub mod Examples

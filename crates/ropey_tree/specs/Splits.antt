@@ -1,0 +1,20 @@
+-- A text before and after a place in it.
+use Rattle.std.specs.Prelude.{◌≡◌, ℕ, List, [], ◌++◌, Option, Some, None}
+use Rattle.std.specs.List.{concat}
+use Rattle.std.specs.declared.rc.Rc.{Rc}
+use Rattle.std.specs.declared.alloc.Global.{Global}
+use Rattle.ropey_tree.specs.declared.nodes.Node.{Node}
+use Rattle.ropey_tree.specs.Counts.{total}
+use Rattle.ropey_tree.specs.Cutting.{IsText}
+
+-- the pieces of a tree, or none
+abbrev pub pieces_in : Option (Rc Node Global) → List (List ℕ)
+pieces_in None = []
+pieces_in (Some node) = node.value.pieces
+
+-- The texts before and after a byte index. What may stand before the whole text may stand before the first part, and what may stand after it may stand after the second.
+pub record IsSplit (pieces : List (List ℕ)) (at : ℕ) (left right : List (List ℕ)) : Type 0 where
+  pub text : concat left ++ concat right ≡ concat pieces
+  pub place : (total left).bytes ≡ at
+  pub after : (before : List (List ℕ)) → IsText (before ++ pieces) → IsText (before ++ left)
+  pub before : (after : List (List ℕ)) → IsText (pieces ++ after) → IsText (right ++ after)

@@ -1,0 +1,66 @@
+//! Building a tree from its leaves, level by level.
+
+ghost use Rattle.std.specs.Prelude.{◌≡◌, ◌+◌, ◌<◌, ◌≤◌, ◌⊎◌, length, IfOk, vec_len};
+ghost use Rattle.ropey_tree.specs.Cutting.{IsText};
+ghost use Rattle.ropey_tree.specs.Nodes.{AreNodes, IsInner, all_pieces};
+ghost use Rattle.ropey_tree.specs.Rows.{views, IsLevelOver};
+
+use crate::nodes::Node;
+use crate::rows::{Row, over};
+use crate::{MAX_CHILDREN, MIN_CHILDREN};
+use std::alloc::{AllocError, Global};
+use std::rc::Rc;
+
+/// How many of the nodes that are left the next node takes: all of them, or so many that both it and
+/// the rest are full.
+fn share(left: usize) -> usize
+    requires { 2 ≤ left }
+    ensures some { 2 ≤ result }
+    ensures room { result ≤ 24 }
+    ensures within { result ≤ left }
+    ensures full { (result ≡ left) ⊎ ((12 ≤ result) × (result + 12 ≤ left)) }
+{
+    if left <= MAX_CHILDREN {
+        left
+    } else if left < MAX_CHILDREN + MIN_CHILDREN {
+        left - MIN_CHILDREN
+    } else {
+        MAX_CHILDREN
+    }
+}
+
+/// The nodes of the next level.
+fn level(alloc: Global, height: usize, nodes: &[Rc<Node>]) -> Result<Vec<Rc<Node>>, AllocError>
+    requires { IsInner height (views nodes.now) }
+    ensures { IfOk result (λ above. IsLevelOver height (views nodes.now) (views above.items)) }
+{
+    let mut above = Vec::new(alloc);
+    let mut from = 0;
+    while from < nodes.len() {
+        let to = from + share(nodes.len() - from);
+        let children = Row::Nodes(nodes).gather(from, to)?;
+        let node = over(alloc, height, children)?;
+        above.push(node)?;
+        from = to;
+    }
+    Ok(above)
+}
+
+/// A tree over leaves. Its nodes are full but for the last two of each level.
+pub fn build(alloc: Global, leaves: Vec<Rc<Node>>) -> Result<Rc<Node>, AllocError>
+    requires some { 1 ≤ vec_len leaves }
+    requires leaves { AreNodes 0 12 (views leaves.items) }
+    requires text { IsText (all_pieces (views leaves.items)) }
+    ensures { IfOk result (λ node. node.value.pieces ≡ all_pieces (views leaves.items)) }
+{
+    let mut nodes = leaves;
+    let mut height = 0;
+    while nodes.len() > 1 {
+        height += 1;
+        nodes = level(alloc, height, &nodes)?;
+    }
+    match nodes.pop() {
+        Some(node) => Ok(node),
+        None => unreachable!(),
+    }
+}

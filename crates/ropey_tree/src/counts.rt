@@ -1,0 +1,91 @@
+//! What a text counts, in the four measures by which a rope is indexed.
+
+ghost use Rattle.std.specs.Prelude.{◌≡◌, ◌+◌, ◌<◌, ◌^◌};
+ghost use Rattle.std.specs.Str.{chars};
+
+use str_indices::{chars, lines, utf16};
+
+/// A measure of text.
+#[derive(Clone, Copy, Debug, PartialEq, Eq)]
+pub enum By {
+    /// Bytes of UTF-8.
+    Bytes,
+    /// Characters, which are Unicode scalar values.
+    Chars,
+    /// UTF-16 code units.
+    Units,
+    /// Line breaks.
+    Breaks,
+}
+
+/// What a text counts in each measure: the `TextInfo` of `ropey`, with code units in the place of
+/// surrogate pairs.
+#[derive(Clone, Copy, Debug, Default, PartialEq, Eq)]
+pub struct Counts {
+    /// Bytes of UTF-8.
+    pub bytes: usize,
+    /// Characters.
+    pub chars: usize,
+    /// UTF-16 code units.
+    pub units: usize,
+    /// Line breaks, CR LF as one.
+    pub breaks: usize,
+}
+
+impl Counts {
+    ghost use Rattle.ropey_tree.specs.Counts.{counts_of, zero_counts, plus, amount};
+
+    /// What the empty text counts.
+    pub const fn zero() -> Self
+        ensures { result ≡ zero_counts }
+    {
+        Counts {
+            bytes: 0,
+            chars: 0,
+            units: 0,
+            breaks: 0,
+        }
+    }
+
+    /// What a text counts.
+    pub fn of(text: &str) -> Self
+        ensures { result ≡ counts_of (chars text.now) }
+    {
+        Counts {
+            bytes: text.len(),
+            chars: chars::count(text),
+            units: utf16::count(text),
+            breaks: lines::count_breaks(text),
+        }
+    }
+
+    /// The sums, measure by measure.
+    #[inline]
+    pub fn plus(self, other: Self) -> Self
+        requires bytes { self.bytes + other.bytes < 2 ^ 64 }
+        requires chars { self.chars + other.chars < 2 ^ 64 }
+        requires units { self.units + other.units < 2 ^ 64 }
+        requires breaks { self.breaks + other.breaks < 2 ^ 64 }
+        ensures { result ≡ plus self other }
+    {
+        Counts {
+            bytes: self.bytes + other.bytes,
+            chars: self.chars + other.chars,
+            units: self.units + other.units,
+            breaks: self.breaks + other.breaks,
+        }
+    }
+
+    /// The count in one measure.
+    #[inline]
+    pub fn by(&self, by: By) -> usize
+        ensures { result ≡ amount by self.now }
+    {
+        match by {
+            By::Bytes => self.bytes,
+            By::Chars => self.chars,
+            By::Units => self.units,
+            By::Breaks => self.breaks,
+        }
+    }
+}

@@ -1,0 +1,86 @@
+//! Joining two trees of any heights.
+
+ghost use Rattle.std.specs.Prelude.{◌≡◌, ◌++◌, IfOk};
+ghost use Rattle.ropey_tree.specs.Cutting.{IsText};
+ghost use Rattle.ropey_tree.specs.Nodes.{AreJoined};
+ghost use Rattle.ropey_tree.specs.Rows.{nodes_of};
+
+use crate::children::Children;
+use crate::nodes::{Node, Parts};
+use crate::rows::{Joined, Row, over, pack};
+use std::alloc::{AllocError, Global};
+use std::rc::Rc;
+
+/// The children of two nodes of one height, or two leaves.
+fn beside(alloc: Global, left: &Rc<Node>, right: &Rc<Node>) -> Result<Joined, AllocError>
+    requires level { left.now.value.height ≡ right.now.value.height }
+    requires text { IsText (left.now.value.pieces ++ right.now.value.pieces) }
+    ensures { IfOk result (λ joined. AreJoined left.now.value right.now.value (nodes_of joined)) }
+{
+    match left.parts() {
+        Parts::Leaf(_) => match right.parts() {
+            Parts::Leaf(_) => {
+                let first = left.clone()?;
+                let second = right.clone()?;
+                Ok(Joined::Two(first, second))
+            }
+            Parts::Inner(_) => unreachable!(),
+        },
+        Parts::Inner(front) => {
+            let Parts::Inner(back) = right.parts() else {
+                unreachable!()
+            };
+            let _ = (front.len(), back.len());
+            let joined = pack(alloc, left.height(), Row::Both(front, back))?;
+            Ok(joined)
+        }
+    }
+}
+
+/// One node or two, as high as the higher of two nodes, whose pieces are theirs in order. The path
+/// down the side of the higher one is copied, and all else is shared.
+pub fn join(alloc: Global, left: &Rc<Node>, right: &Rc<Node>) -> Result<Joined, AllocError>
+    requires { IsText (left.now.value.pieces ++ right.now.value.pieces) }
+    ensures { IfOk result (λ joined. AreJoined left.now.value right.now.value (nodes_of joined)) }
+{
+    let (l, r) = (left.height(), right.height());
+    if l == r {
+        let joined = beside(alloc, left, right)?;
+        Ok(joined)
+    } else if l > r {
+        let Parts::Inner(front) = left.parts() else {
+            unreachable!()
+        };
+        let last = join(alloc, front.get(front.len() - 1), right)?;
+        let joined = pack(alloc, l, Row::Front(front, &last))?;
+        Ok(joined)
+    } else {
+        let Parts::Inner(back) = right.parts() else {
+            unreachable!()
+        };
+        let _ = back.len();
+        let first = join(alloc, left, back.get(0))?;
+        let joined = pack(alloc, r, Row::Back(&first, back))?;
+        Ok(joined)
+    }
+}
+
+/// One tree of the pieces of two, in order. Neither of them changes.
+pub fn concat(alloc: Global, left: &Rc<Node>, right: &Rc<Node>) -> Result<Rc<Node>, AllocError>
+    requires { IsText (left.now.value.pieces ++ right.now.value.pieces) }
+    ensures { IfOk result (λ node. node.value.pieces ≡ left.now.value.pieces ++ right.now.value.pieces) }
+{
+    match join(alloc, left, right)? {
+        Joined::One(node) => Ok(node),
+        Joined::Two(first, second) => {
+            let height = left.height().max(right.height());
+            let mut children = Children::new();
+            let counts = first.counts();
+            children.push(first, counts);
+            let counts = second.counts();
+            children.push(second, counts);
+            let node = over(alloc, height + 1, children)?;
+            Ok(node)
+        }
+    }
+}

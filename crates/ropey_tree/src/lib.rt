@@ -1,0 +1,25 @@
+//! The tree that a rope is made of: leaves of text under nodes of children, with counts kept beside
+//! each child, as the inner part of the Rust crate `ropey` has them.
+#![tactic(auto)]
+
+pub mod builds;
+pub mod children;
+pub mod counts;
+pub mod cuts;
+pub mod errors;
+pub mod joins;
+pub mod laws;
+pub mod leaves;
+pub mod nodes;
+pub mod rows;
+pub mod splits;
+pub mod visits;
+
+/// The most bytes of a leaf's text.
+pub const MAX_BYTES: usize = 984;
+
+/// The most children of a node.
+pub const MAX_CHILDREN: usize = 24;
+
+/// The fewest children of a node that is not the root.
+pub const MIN_CHILDREN: usize = 12;

@@ -1,0 +1,125 @@
+//! Splitting a tree between two characters.
+
+ghost use Rattle.std.specs.Prelude.{◌≡◌, ◌≤◌, ◌++◌, IfOk, take, length};
+ghost use Rattle.std.specs.List.{concat};
+ghost use Rattle.ropey_tree.specs.Cutting.{IsText, IsBoundaryOf};
+ghost use Rattle.ropey_tree.specs.Nodes.{leaf_view, all_pieces, IsInner};
+ghost use Rattle.ropey_tree.specs.Splits.{pieces_in, IsSplit};
+
+use crate::children::Children;
+use crate::counts::By;
+use crate::joins;
+use crate::leaves::Leaf;
+use crate::nodes::{Node, Parts};
+use crate::rows::{Row, over};
+use std::alloc::{AllocError, Global};
+use std::rc::Rc;
+
+/// What is left and right of a place. A side with no text has no tree.
+#[derive(Drop)]
+pub struct Halves {
+    /// What stands before the place.
+    pub left: Option<Rc<Node>>,
+    /// What stands after it.
+    pub right: Option<Rc<Node>>,
+}
+
+/// The halves of a leaf.
+fn split_leaf(alloc: Global, node: &Rc<Node>, leaf: &Leaf, at: usize) -> Result<Halves, AllocError>
+    requires leaf { node.now.value ≡ leaf_view leaf.now }
+    requires boundary { IsBoundaryOf leaf.now at }
+    ensures { IfOk result (λ halves. IsSplit node.now.value.pieces at (pieces_in halves.left) (pieces_in halves.right)) }
+{
+    let text = leaf.as_str();
+    if at == 0 {
+        let right = node.clone()?;
+        return Ok(Halves {
+            left: None,
+            right: Some(right),
+        });
+    }
+    if at == text.len() {
+        let left = node.clone()?;
+        return Ok(Halves {
+            left: Some(left),
+            right: None,
+        });
+    }
+    let left = Rc::new(alloc, Node::from_leaf(Leaf::new(&text[..at])))?;
+    let right = Rc::new(alloc, Node::from_leaf(Leaf::new(&text[at..])))?;
+    Ok(Halves {
+        left: Some(left),
+        right: Some(right),
+    })
+}
+
+/// A tree over the children from one index up to another.
+fn siblings(
+    alloc: Global,
+    height: usize,
+    children: &Children,
+    from: usize,
+    to: usize,
+) -> Result<Option<Rc<Node>>, AllocError>
+    requires inner { IsInner height children.now }
+    requires range { from ≤ to }
+    requires within { to ≤ length children.now }
+    ensures { IfOk result (λ tree. all_pieces (take from children.now) ++ pieces_in tree ≡ all_pieces (take to children.now)) }
+{
+    let _ = children.len();
+    if from == to {
+        return Ok(None);
+    }
+    if to - from == 1 {
+        let child = children.get(from).clone()?;
+        return Ok(Some(child));
+    }
+    let some = Row::One(children).gather(from, to)?;
+    let node = over(alloc, height, some)?;
+    Ok(Some(node))
+}
+
+/// `joins::concat`, where either side may have no text.
+pub fn concat(
+    alloc: Global,
+    left: Option<Rc<Node>>,
+    right: Option<Rc<Node>>,
+) -> Result<Option<Rc<Node>>, AllocError>
+    requires { IsText (pieces_in left ++ pieces_in right) }
+    ensures { IfOk result (λ tree. pieces_in tree ≡ pieces_in left ++ pieces_in right) }
+{
+    match (left, right) {
+        (None, right) => Ok(right),
+        (Some(left), None) => Ok(Some(left)),
+        (Some(left), Some(right)) => {
+            let node = joins::concat(alloc, &left, &right)?;
+            Ok(Some(node))
+        }
+    }
+}
+
+/// The texts before and after a byte index that lies between two characters, or at the start or the
+/// end. The tree stays as it is; what both it and a half hold, they share.
+pub fn split(alloc: Global, node: &Rc<Node>, at: usize) -> Result<Halves, AllocError>
+    requires { IsBoundaryOf (concat node.now.value.pieces) at }
+    ensures { IfOk result (λ halves. IsSplit node.now.value.pieces at (pieces_in halves.left) (pieces_in halves.right)) }
+{
+    let height = node.height();
+    match node.parts() {
+        Parts::Leaf(leaf) => {
+            let halves = split_leaf(alloc, node, leaf, at)?;
+            Ok(halves)
+        }
+        Parts::Inner(children) => {
+            let len = children.len();
+            let choice = children.choose(By::Bytes, at);
+            let child = children.get(choice.index);
+            let halves = split(alloc, child, at - choice.before.bytes)?;
+            let front = siblings(alloc, height, children, 0, choice.index)?;
+            let left = concat(alloc, front, halves.left)?;
+            let back = siblings(alloc, height, children, choice.index + 1, len)?;
+            let right = concat(alloc, halves.right, back)?;
+            Ok(Halves { left, right })
+        }
+    }
+}
