@@ -1,0 +1,11 @@
+pub mod SetLemmas
+pub mod RangeLemmas
+pub mod FoldLemmas
+pub mod DigitLemmas
+pub mod TextLemmas
+pub mod EscapeLaws
+pub mod ReaderLemmas
+pub mod ClassLaws
+pub mod RepetitionLaws
+pub mod GroupLaws
+pub mod GrammarLaws

@@ -1,0 +1,100 @@
+-- What stands between brackets.
+use Rattle.std.specs.Prelude.{◌≡◌, ℕ, ◌≤◌, ◌⊎◌, Bool, true, false, not, ◌==◌, ◌||◌, List, [], ◌∷◌, ◌++◌}
+use Rattle.rx_grammar.specs.declared.ast.ClassPerlKind.{ClassPerlKind}
+use Rattle.rx_grammar.specs.declared.ast.ClassItem.{ClassItem}
+use Rattle.rx_grammar.specs.declared.ast.ClassItem.TheVariants.{Span, Perl}
+use Rattle.rx_grammar.specs.Settings.{Settings}
+use Rattle.rx_grammar.specs.Sets.{InPerl, Folded}
+use Rattle.rx_grammar.specs.Texts.{Begins}
+use Rattle.rx_grammar.specs.Escapes.{EscapedCharacter, perl_letter}
+
+-- a scalar value is one that an item of a class names
+abbrev pub InItem : ℕ → ClassItem → Type 0
+InItem c (Span low high) = (low ≤ c) × (c ≤ high)
+InItem c (Perl kind negated) = InPerl kind negated c
+
+-- some item names this scalar value
+abbrev pub InItems : ℕ → List ClassItem → Type 0
+InItems c [] = ⊥
+InItems c (item ∷ items) = InItem c item ⊎ InItems c items
+
+-- a character that stands for itself in a class wherever it stands: any but \ [ ] and -
+abbrev pub is_class_literal : ℕ → Bool
+is_class_literal c = not ((c == 92) || (c == 91) || (c == 93) || (c == 45))
+
+-- && -- and ~~ don't stand in a class
+abbrev pub doubles : ℕ → Bool
+doubles c = (c == 38) || (c == 45) || (c == 126)
+
+-- these characters don't begin with a second c that would make && -- or ~~ of it
+abbrev pub NotDoubled : ℕ → List ℕ → Type 0
+NotDoubled c u = doubles c ≡ true → Begins c u → ⊥
+
+-- one character of a class: it stands for itself, or is escaped
+pub data ClassCharacter : List ℕ → ℕ → List ℕ → Type 0 where
+  itself : {t u : List ℕ} {c : ℕ} → t ≡ c ∷ u → is_class_literal c ≡ true → NotDoubled c u → ClassCharacter t c u
+  escaped : {t u v : List ℕ} {c : ℕ} → t ≡ 92 ∷ v → EscapedCharacter v c u → ClassCharacter t c u
+
+-- a - here would be between two ends of a range; the one before ] is none
+abbrev pub GoesOnAsRange : List ℕ → Type 0
+GoesOnAsRange [] = ⊥
+GoesOnAsRange (c ∷ u) = (c ≡ 45) × (Begins 93 u → ⊥)
+
+-- one item, and u after it
+pub data OneItem : List ℕ → ClassItem → List ℕ → Type 0 where
+  character : {t u : List ℕ} {c : ℕ} → ClassCharacter t c u → (GoesOnAsRange u → ⊥) → OneItem t (Span c c) u
+  range : {t u v w : List ℕ} {low high : ℕ} → ClassCharacter t low v → v ≡ 45 ∷ w → ClassCharacter w high u → low ≤ high → OneItem t (Span low high) u
+  letter_class : {t u : List ℕ} (kind : ClassPerlKind) (negated : Bool) → t ≡ 92 ∷ perl_letter kind negated ∷ u → OneItem t (Perl kind negated) u
+
+-- the items up to the ] that closes the class, and u after it
+pub data ClassItems : List ℕ → List ClassItem → List ℕ → Type 0 where
+  closed : {t u : List ℕ} → t ≡ 93 ∷ u → ClassItems t [] u
+  -- - stands for itself where it is last
+  last_hyphen : {t u v : List ℕ} → t ≡ 45 ∷ v → v ≡ 93 ∷ u → ClassItems t (Span 45 45 ∷ []) u
+  further : {t u v : List ℕ} {item : ClassItem} {items : List ClassItem} → OneItem t item v → ClassItems v items u → ClassItems t (item ∷ items) u
+
+-- ] and - stand for themselves where they are first. Then -- doesn't stand there, and ] begins no range
+pub data ClassBody : List ℕ → List ClassItem → List ℕ → Type 0 where
+  bracket_first : {t u v : List ℕ} {items : List ClassItem} → t ≡ 93 ∷ v → ClassItems v items u → ClassBody t (Span 93 93 ∷ items) u
+  hyphen_first : {t u v : List ℕ} {items : List ClassItem} → t ≡ 45 ∷ v → (Begins 45 v → ⊥) → ClassItems v items u → ClassBody t (Span 45 45 ∷ items) u
+  other_first : {t u : List ℕ} {items : List ClassItem} → (Begins 93 t → ⊥) → (Begins 45 t → ⊥) → ClassItems t items u → ClassBody t items u
+
+-- a whole class, after its [: whether ^ negates it, its items, and u after its ]
+pub data Class : List ℕ → Bool → List ClassItem → List ℕ → Type 0 where
+  plain : {t u : List ℕ} {items : List ClassItem} → (Begins 94 t → ⊥) → ClassBody t items u → Class t false items u
+  negation : {t u v : List ℕ} {items : List ClassItem} → t ≡ 94 ∷ v → ClassBody v items u → Class t true items u
+
+-- what a class stands for: folding comes before the negation
+abbrev pub InClass : Settings → Bool → List ClassItem → ℕ → Type 0
+InClass settings false items c = Folded settings (λ d. InItems d items) c
+InClass settings true items c = ¬ (Folded settings (λ d. InItems d items) c)
+
+-- no such thing stands at the start of the text
+abbrev pub NoClassCharacter : List ℕ → Type 0
+NoClassCharacter t = (c : ℕ) (u : List ℕ) → ClassCharacter t c u → ⊥
+
+abbrev pub NoLetterClass : List ℕ → Type 0
+NoLetterClass t = (kind : ClassPerlKind) (negated : Bool) (u : List ℕ) → t ≡ 92 ∷ perl_letter kind negated ∷ u → ⊥
+
+abbrev pub NoItem : List ℕ → Type 0
+NoItem t = (item : ClassItem) (u : List ℕ) → OneItem t item u → ⊥
+
+abbrev pub NoItems : List ℕ → Type 0
+NoItems t = (items : List ClassItem) (u : List ℕ) → ClassItems t items u → ⊥
+
+abbrev pub NoClassBody : List ℕ → Type 0
+NoClassBody t = (items : List ClassItem) (u : List ℕ) → ClassBody t items u → ⊥
+
+abbrev pub NoClass : List ℕ → Type 0
+NoClass t = (negated : Bool) (items : List ClassItem) (u : List ℕ) → Class t negated items u → ⊥
+
+-- the text spells items, which stand after others in a list
+pub record ItemsAfter (before all : List ClassItem) (t u : List ℕ) : Type 0 where
+  pub items : List ClassItem
+  pub whole : all ≡ before ++ items
+  pub reads : ClassItems t items u
+
+-- a - with another end of a range after it
+pub record RangeGoesOn (t u : List ℕ) : Type 0 where
+  pub hyphen : t ≡ 45 ∷ u
+  pub open_end : Begins 93 u → ⊥

@@ -1,0 +1,11 @@
+pub mod Settings
+pub mod Sets
+pub mod Trees
+pub mod Texts
+pub mod Escapes
+pub mod Classes
+pub mod Repetitions
+pub mod Groups
+pub mod Grammar
+pub mod Laws
+pub mod Examples

@@ -1,0 +1,34 @@
+//! Parts of a pattern's text that have a meaning of their own.
+
+/// A flag of a setting or a group, as in `(?i)`.
+#[derive(Debug, Clone, Copy, PartialEq, Eq)]
+pub enum Flag {
+    /// `i`: letters match in each case.
+    CaseInsensitive,
+    /// `m`: `^` and `$` stand at the ends of lines too.
+    MultiLine,
+    /// `s`: `.` matches the line terminator too.
+    DotMatchesNewLine,
+    /// `U`: repetitions are lazy, and greedy with `?`.
+    SwapGreed,
+}
+
+/// What a letter class names: `\d`, `\s` or `\w`. The capital letter names the characters that aren't in it.
+#[derive(Debug, Clone, Copy, PartialEq, Eq)]
+pub enum ClassPerlKind {
+    /// `\d`: the decimal digits, General_Category Nd.
+    Digit,
+    /// `\s`: the property White_Space.
+    Space,
+    /// `\w`: the properties Alphabetic and Join_Control, and the General_Categories Mark, Nd and Pc.
+    Word,
+}
+
+/// What an item of a class names.
+#[derive(Debug, Clone, Copy, PartialEq, Eq)]
+pub enum ClassItem {
+    /// The characters from one to another.
+    Span(char, char),
+    /// A letter class, negated or not.
+    Perl(ClassPerlKind, bool),
+}

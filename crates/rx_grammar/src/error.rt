@@ -1,0 +1,27 @@
+//! Why a pattern is refused.
+
+use std::alloc::AllocError;
+use thiserror::Error;
+
+/// Why a pattern's text is refused.
+#[derive(Debug, Clone, Copy, PartialEq, Eq, Error)]
+pub enum SyntaxError {
+    /// The text has more than 65,536 bytes. This is asked first.
+    #[error("the pattern has more than 65,536 bytes")]
+    TooLong,
+    /// The text spells nothing: its groups and repetitions stand deeper in one another than the nest limit.
+    #[error("the pattern is nested too deeply")]
+    Nesting,
+    /// The text spells nothing: it isn't in the grammar.
+    #[error("the pattern isn't in the grammar")]
+    Outside,
+    /// There was no memory for what the text may spell.
+    #[error("there was no memory for the pattern")]
+    Memory,
+}
+
+impl From<AllocError> for SyntaxError {
+    fn from(_: AllocError) -> Self {
+        SyntaxError::Memory
+    }
+}

@@ -1,0 +1,102 @@
+//! What a backslash spells with the characters after it.
+
+ghost use Rattle.std.specs.Prelude.{◌≡◌, ◌≤◌, length, MatchOption, ℕ};
+ghost use Rattle.rx_grammar.specs.Escapes.{SpellsScalar, EscapedCharacter, SpellsNoCharacter, NumberOfLength, NoNumberOfLength, NumberInBraces, NoNumberInBraces, NumberAfter, NoNumberAfter, escaped_by};
+
+use crate::texts::{CharacterTest, eat, first, split_front};
+
+/// The character that one character after a backslash spells by itself: a control character for `a`, `f`, `t`,
+/// `n`, `r` and `v`, and itself for any ASCII character but letters, digits, `<` and `>`.
+pub fn escaped_by(c: char) -> Option<char>
+    ensures { result ≡ escaped_by c }
+{
+    match c {
+        'a' => Some('\u{7}'),
+        'f' => Some('\u{C}'),
+        't' => Some('\t'),
+        'n' => Some('\n'),
+        'r' => Some('\r'),
+        'v' => Some('\u{B}'),
+        '<' | '>' => None,
+        _ if c.is_ascii() && !c.is_ascii_alphanumeric() => Some(c),
+        _ => None,
+    }
+}
+
+/// The greatest scalar value.
+const MAX_SCALAR: u32 = 0x10_FFFF;
+
+/// The scalar value that hexadecimal digits spell, and `None` where they spell none.
+fn scalar_of(digits: &[char]) -> Option<char>
+    ensures { MatchOption result ((c : ℕ) → SpellsScalar digits.now c → ⊥) (λ c. SpellsScalar digits.now c) }
+{
+    let mut code: u32 = 0;
+    for digit in digits {
+        code = 16 * code + digit.to_digit(16)?;
+        if code > MAX_SCALAR {
+            return None;
+        }
+    }
+    char::from_u32(code)
+}
+
+/// What follows `\x` or `\u`: `count` hexadecimal digits, or one to eight in braces.
+fn number_after(text: &[char], count: usize) -> Option<(char, &[char])>
+    requires { 1 ≤ count }
+    ensures { MatchOption result (NoNumberAfter count text.now) (λ r. NumberAfter count text.now r.0 r.1.now) }
+{
+    match eat(text, '{') {
+        Some(inside) => number_in_braces(inside),
+        None => number_of_length(text, count),
+    }
+}
+
+/// One to eight hexadecimal digits and `}`.
+fn number_in_braces(text: &[char]) -> Option<(char, &[char])>
+    ensures { MatchOption result (NoNumberInBraces text.now) (λ r. NumberInBraces text.now r.0 r.1.now) }
+{
+    let (digits, rest) = split_front(text, CharacterTest::HexDigit);
+    let Some(rest) = eat(rest, '}') else {
+        return None;
+    };
+    if digits.is_empty() || digits.len() > 8 {
+        return None;
+    }
+    match scalar_of(digits) {
+        Some(c) => Some((c, rest)),
+        None => None,
+    }
+}
+
+/// Hexadecimal digits, `count` of them.
+fn number_of_length(text: &[char], count: usize) -> Option<(char, &[char])>
+    ensures { MatchOption result (NoNumberOfLength count text.now) (λ r. NumberOfLength count text.now r.0 r.1.now) }
+{
+    if text.len() < count {
+        return None;
+    }
+    let (digits, rest) = text.split_at(count);
+    match scalar_of(digits) {
+        Some(c) => Some((c, rest)),
+        None => None,
+    }
+}
+
+/// The character that the text after a backslash spells, and `None` where it spells none.
+pub fn escaped_character(text: &[char]) -> Option<(char, &[char])>
+    ensures { MatchOption result (SpellsNoCharacter text.now) (λ r. EscapedCharacter text.now r.0 r.1.now) }
+{
+    let Some((letter, rest)) = first(text) else {
+        return None;
+    };
+    if letter == 'x' {
+        return number_after(rest, 2);
+    }
+    if letter == 'u' {
+        return number_after(rest, 4);
+    }
+    match escaped_by(letter) {
+        Some(c) => Some((c, rest)),
+        None => None,
+    }
+}

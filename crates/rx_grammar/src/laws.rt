@@ -1,0 +1,11 @@
+//! Laws of what a pattern spells. Each function here does nothing: its contract is a law of the definitions by
+//! which the other contracts speak, proved.
+
+ghost use Rattle.std.specs.Prelude.{ℕ, List};
+ghost use Rattle.rx_grammar.specs.Settings.{Settings};
+ghost use Rattle.rx_grammar.specs.Laws.{SpellsAtMostOne};
+
+/// Under given settings a text spells at most one tree.
+pub fn spells_at_most_one()
+    ensures { (text : List ℕ) (settings : Settings) → SpellsAtMostOne text settings }
+{}

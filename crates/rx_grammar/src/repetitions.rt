@@ -1,0 +1,114 @@
+//! What stands after an atom and says how often it is taken.
+
+ghost use Rattle.std.specs.Prelude.{◌≡◌, ◌≤◌, ◌<◌, true, MatchOption};
+ghost use Rattle.std.specs.Char.{is_ascii_digit};
+ghost use Rattle.std.specs.List.{AllByRecursion};
+ghost use Rattle.rx_grammar.specs.Repetitions.{Number, NoNumber, decimal_after, CountInBraces, NoCountInBraces, Count, NoCount, Postfix, NoPostfix};
+
+use crate::hir::Repetition;
+use crate::texts::{CharacterTest, eat, first, split_front};
+
+/// The greatest number in braces.
+const MAX_NUMBER: u32 = 65_535;
+
+/// The number that decimal digits spell, and `None` where it is above 65,535.
+fn number_of(digits: &[char]) -> Option<u32>
+    ensures { MatchOption result (AllByRecursion (λ c. is_ascii_digit c ≡ true) digits.now → 65535 < decimal_after 0 digits.now) (λ n. (decimal_after 0 digits.now ≡ n) × (n ≤ 65535)) }
+{
+    let mut number: u32 = 0;
+    for digit in digits {
+        number = 10 * number + digit.to_digit(10)?;
+        if number > MAX_NUMBER {
+            return None;
+        }
+    }
+    Some(number)
+}
+
+/// A number in braces, of at most 65,535. Zeros may stand before it.
+pub fn number(text: &[char]) -> Option<(u32, &[char])>
+    ensures { MatchOption result (NoNumber text.now) (λ r. Number text.now r.0 r.1.now) }
+{
+    let (digits, rest) = split_front(text, CharacterTest::Digit);
+    if digits.is_empty() {
+        return None;
+    }
+    match number_of(digits) {
+        Some(number) => Some((number, rest)),
+        None => None,
+    }
+}
+
+/// How often something is taken: the least number of times, and the greatest if there is one.
+pub type Bounds = (u32, Option<u32>);
+
+/// What stands in braces after `{`: `n}`, `n,}` or `n,m}`.
+fn count_in_braces(text: &[char]) -> Option<(Bounds, &[char])>
+    ensures { MatchOption result (NoCountInBraces text.now) (λ r. CountInBraces text.now r.0.0 r.0.1 r.1.now) }
+{
+    let Some((least, rest)) = number(text) else {
+        return None;
+    };
+    if let Some(after) = eat(rest, '}') {
+        return Some(((least, Some(least)), after));
+    }
+    let Some(behind) = eat(rest, ',') else {
+        return None;
+    };
+    if let Some(after) = eat(behind, '}') {
+        return Some(((least, None), after));
+    }
+    let Some((most, last)) = number(behind) else {
+        return None;
+    };
+    let Some(after) = eat(last, '}') else {
+        return None;
+    };
+    if most < least {
+        return None;
+    }
+    Some(((least, Some(most)), after))
+}
+
+/// `*`, `+`, `?`, `{n}`, `{n,}` or `{n,m}`, and `None` where the text begins with none of them.
+pub fn count(text: &[char]) -> Option<(Bounds, &[char])>
+    ensures { MatchOption result (NoCount text.now) (λ r. Count text.now r.0.0 r.0.1 r.1.now) }
+{
+    let Some((sign, rest)) = first(text) else {
+        return None;
+    };
+    match sign {
+        '*' => Some(((0, None), rest)),
+        '+' => Some(((1, None), rest)),
+        '?' => Some(((0, Some(1)), rest)),
+        '{' => count_in_braces(rest),
+        _ => None,
+    }
+}
+
+/// A count, and whether it is greedy: not with a `?` straight after it. `swap_greed` turns that round.
+pub fn postfix(text: &[char], swap_greed: bool) -> Option<(Repetition, &[char])>
+    ensures { MatchOption result (NoPostfix swap_greed text.now) (λ r. Postfix swap_greed text.now r.0 r.1.now) }
+{
+    let Some(((min, max), rest)) = count(text) else {
+        return None;
+    };
+    match eat(rest, '?') {
+        Some(after) => Some((
+            Repetition {
+                min,
+                max,
+                greedy: swap_greed,
+            },
+            after,
+        )),
+        None => Some((
+            Repetition {
+                min,
+                max,
+                greedy: !swap_greed,
+            },
+            rest,
+        )),
+    }
+}
