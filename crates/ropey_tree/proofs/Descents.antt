@@ -1,5 +1,5 @@
 -- Ways down a tree: the part of a text in which a place lies.
-use Rattle.std.proofs.Common.{◌≡◌, ℕ, ◌+◌, ◌-◌, ◌^◌, ◌<◌, ◌≤◌, ◌⊎◌, inl, inr, List, [], ◌∷◌, ◌++◌, length, get_or, take, drop, refl, ap, arith, sym, ◌∙◌, append_assoc}
+use Rattle.std.proofs.Common.{◌≡◌, ℕ, ◌+◌, ◌-◌, ◌^◌, ◌<◌, ◌≤◌, ◌⊎◌, inl, inr, List, [], ◌++◌, length, get_or, take, drop, refl, ap, arith, sym, ◌∙◌, append_assoc}
 use Rattle.std.proofs.lemmas.List.{append-nil}
 use Rattle.std.proofs.Math.ListN.{drop_of_length-le}
 use Rattle.ropey_tree.specs.declared.counts.Counts.{Counts}
@@ -9,7 +9,7 @@ use Rattle.ropey_tree.specs.Counts.{total, plus, amount, zero_counts}
 use Rattle.ropey_tree.specs.NodeView.{NodeView}
 use Rattle.ropey_tree.specs.Nodes.{all_pieces, LiesIn}
 use Rattle.ropey_tree.proofs.Totals.{total-append, amount-plus, total-below}
-use Rattle.ropey_tree.proofs.InRow.{all_pieces-parts, all_pieces-take_more, no_view}
+use Rattle.ropey_tree.proofs.InRow.{all_pieces-parts, all_pieces-take_more}
 
 -- the child that `choose` chooses
 pub child_lies : (vs : List NodeView) (k : ℕ) (v : NodeView) (by : By) (i : ℕ) (before : Counts) → k < length vs → v ≡ get_or vs k v

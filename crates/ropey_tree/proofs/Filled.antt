@@ -1,5 +1,5 @@
 -- Arrays of which the first places are filled.
-use Rattle.std.proofs.Common.{◌≡◌, ℕ, zero, suc, ◌+◌, ◌<◌, ◌≤◌, List, [], ◌∷◌, ◌++◌, length, Option, Some, None, get_or, replicate, refl, ap, arith, ◌∙◌, sym}
+use Rattle.std.proofs.Common.{◌≡◌, ℕ, zero, suc, ◌<◌, ◌≤◌, List, [], ◌∷◌, ◌++◌, length, Option, Some, None, get_or, replicate, refl, ap, arith, ◌∙◌, sym}
 use Rattle.std.proofs.Math.ListN.{set}
 use Rattle.ropey_tree.specs.NodeView.{NodeView}
 use Rattle.std.proofs.Common.{map, length-set}

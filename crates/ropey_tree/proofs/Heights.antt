@@ -1,13 +1,12 @@
 -- How many pieces stand below a node of some height, and how high a node can be.
-use Rattle.std.proofs.Common.{◌≡◌, ℕ, zero, suc, ◌+◌, ◌*◌, ◌^◌, ◌<◌, ◌≤◌, ◌⊎◌, List, [], ◌∷◌, ◌++◌, length, refl, ap, arith, length-append, ◌∙◌}
+use Rattle.std.proofs.Common.{◌≡◌, ℕ, suc, ◌+◌, ◌*◌, ◌^◌, ◌≤◌, List, [], ◌∷◌, length, ap, arith, length-append, ◌∙◌}
 use Rattle.std.proofs.Math.Nat.{pow-suc, pow-le-pow_right, mul-le-mul_left, mul-le-mul_right}
-use Rattle.std.specs.Prelude.{sum_by}
 use Rattle.std.proofs.lemmas.List.Sums.{sum_by-cons}
 use Rattle.std.proofs.lemmas.List.Elements.{All-head, All-tail}
 use Rattle.std.proofs.lemmas.List.Concat.{flat_map-cons}
 use Rattle.str_indices.specs.Laws.{byte_len}
 use Rattle.ropey_tree.specs.Counts.{total}
-use Rattle.ropey_tree.specs.Cutting.{IsPiece, IsCutting, IsText}
+use Rattle.ropey_tree.specs.Cutting.{IsPiece, IsCutting}
 use Rattle.ropey_tree.specs.NodeView.{NodeView}
 use Rattle.ropey_tree.specs.Nodes.{all_pieces, AreNodes, IsNodeOf, IsTree, IsInner, leaf_view, inner_view}
 

@@ -1,9 +1,8 @@
 -- Nodes in a row, and the pieces of their texts.
 use Rattle.std.proofs.Common.{◌≡◌, ℕ, ◌+◌, ◌^◌, ◌<◌, ◌≤◌, List, [], ◌∷◌, ◌++◌, length, get_or, take, drop, refl, ap, arith, sym, ◌∙◌}
-use Rattle.std.specs.List.{flat_map}
 use Rattle.std.proofs.lemmas.Grind.{flat_map-append}
 use Rattle.std.proofs.lemmas.List.Concat.{flat_map-cons}
-use Rattle.std.proofs.lemmas.List.{take_more, take-append-drop, append-nil, append_assoc}
+use Rattle.std.proofs.lemmas.List.{take_more, take-append-drop, append-nil}
 use Rattle.ropey_tree.specs.NodeView.{NodeView}
 use Rattle.ropey_tree.specs.declared.counts.Counts.{Counts}
 use Rattle.ropey_tree.specs.Counts.{total, plus}

@@ -1,11 +1,11 @@
 -- Rows of which one side is a joined child.
-use Rattle.std.proofs.Common.{◌≡◌, ℕ, ◌+◌, ◌-◌, ◌*◌, ◌^◌, ◌<◌, ◌≤◌, ◌⊎◌, min, max, inl, inr, List, [], ◌∷◌, ◌++◌, length, take, drop, get_or, refl, ap, arith, sym, ◌∙◌, subst, append_assoc, length-append, length-take-le}
-use Rattle.std.proofs.lemmas.List.{append-nil, take_more}
+use Rattle.std.proofs.Common.{◌≡◌, ℕ, ◌+◌, ◌-◌, ◌<◌, ◌≤◌, min, max, inl, inr, List, [], ◌∷◌, ◌++◌, length, take, drop, get_or, refl, ap, arith, sym, ◌∙◌, subst, append_assoc, length-append, length-take-le}
+use Rattle.std.proofs.lemmas.List.{take_more}
 use Rattle.std.proofs.Math.Seq.{take-length}
 use Rattle.std.proofs.lemmas.List.Elements.{All-head, All-tail, All-cons, All-nil, All-append}
 use Rattle.ropey_tree.specs.Cutting.{IsText}
 use Rattle.ropey_tree.specs.NodeView.{NodeView}
-use Rattle.ropey_tree.specs.Nodes.{all_pieces, AreNodes, IsNodeOf, IsInner, IsTree, leaf_view, inner_view, AreJoined}
+use Rattle.ropey_tree.specs.Nodes.{all_pieces, AreNodes, IsNodeOf, IsInner, leaf_view, inner_view, AreJoined}
 use Rattle.ropey_tree.specs.Rows.{IsRow, Packed, nodes_of}
 use Rattle.ropey_tree.specs.declared.rows.Joined.{Joined}
 use Rattle.ropey_tree.specs.declared.rows.Joined.TheVariants.{One, Two}

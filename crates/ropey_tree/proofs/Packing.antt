@@ -1,10 +1,8 @@
 -- Nodes over parts of a row.
-use Rattle.std.proofs.Common.{◌≡◌, ℕ, ◌+◌, ◌*◌, ◌^◌, ◌<◌, ◌≤◌, min, inl, inr, List, [], ◌∷◌, ◌++◌, length, take, drop, take-append-drop, refl, ap, arith, sym, ◌∙◌, subst, append_assoc, length-append}
-use Rattle.std.proofs.lemmas.List.{append-nil}
+use Rattle.std.proofs.Common.{◌≡◌, ℕ, ◌≤◌, min, inl, inr, List, [], ◌∷◌, ◌++◌, length, take, drop, take-append-drop, refl, ap, arith, sym, ◌∙◌, length-append}
 use Rattle.std.proofs.lemmas.List.Elements.{All-head, All-tail, All-cons, All-nil}
-use Rattle.ropey_tree.specs.Cutting.{IsText}
 use Rattle.ropey_tree.specs.NodeView.{NodeView}
-use Rattle.ropey_tree.specs.Nodes.{all_pieces, AreNodes, IsNodeOf, IsInner, IsTree, inner_view}
+use Rattle.ropey_tree.specs.Nodes.{all_pieces, AreNodes, IsNodeOf, IsInner, inner_view}
 use Rattle.ropey_tree.specs.Rows.{IsRow, Packed}
 use Rattle.ropey_tree.proofs.InRow.{all_pieces-append, all_pieces-one}
 use Rattle.ropey_tree.proofs.Pieces.{text-left, text-right}

@@ -1,7 +1,7 @@
 -- Parts of cuttings and of texts.
-use Rattle.std.proofs.Common.{◌≡◌, ℕ, ◌+◌, ◌^◌, ◌<◌, ◌≤◌, false, List, [], ◌∷◌, ◌++◌, length, refl, ap, arith, sym, ◌∙◌}
-use Rattle.ropey_tree.specs.Counts.{total, plus}
-use Rattle.ropey_tree.specs.Cutting.{IsPiece, IsCutting, IsText, cuts_cr_lf}
+use Rattle.std.proofs.Common.{◌≡◌, ℕ, ◌+◌, List, [], ◌∷◌, ◌++◌, ap, arith}
+use Rattle.ropey_tree.specs.Counts.{total}
+use Rattle.ropey_tree.specs.Cutting.{IsPiece, IsCutting, IsText}
 use Rattle.ropey_tree.proofs.Totals.{total-append}
 
 pub first_piece : (p : List ℕ) (ps : List (List ℕ)) → IsCutting (p ∷ ps) → IsPiece p

@@ -1,9 +1,9 @@
 -- Texts before and after a place.
-use Rattle.std.proofs.Common.{◌≡◌, ℕ, zero, suc, ◌+◌, ◌-◌, ◌^◌, ◌<◌, ◌≤◌, ◌⊎◌, Bool, true, false, ◌&&◌, inl, inr, List, [], ◌∷◌, ◌++◌, length, take, drop, take-append-drop, get_or, refl, ap, arith, sym, ◌∙◌, subst, append_assoc, length-append}
-use Rattle.std.specs.Prelude.{encode_utf8, encode_utf8_all}
+use Rattle.std.proofs.Common.{◌≡◌, ℕ, ◌+◌, ◌-◌, ◌<◌, ◌≤◌, ◌⊎◌, Bool, true, false, ◌&&◌, inl, inr, List, [], ◌∷◌, ◌++◌, length, take, drop, take-append-drop, get_or, refl, ap, arith, sym, ◌∙◌, subst, append_assoc, length-append}
+use Rattle.std.specs.Prelude.{encode_utf8_all}
 use Rattle.std.specs.List.{concat}
 use lib.Utf8.{scalar}
-use Rattle.std.specs.Str.{all_scalars, chars, IsUtf8, IsCharBoundary}
+use Rattle.std.specs.Str.{all_scalars, chars, IsCharBoundary}
 use Rattle.std.proofs.lemmas.List.{append-nil, append_cancel_left}
 use Rattle.std.proofs.lemmas.List.Elements.{All-get_or}
 use Rattle.std.proofs.lemmas.Grind.{common_steps}
@@ -15,7 +15,7 @@ use Rattle.std.proofs.lemmas.Str.{encodes-append, length-le-encodes, chars-encod
 use Rattle.str_indices.specs.Text.{starts_with_lf}
 use Rattle.str_indices.specs.Laws.{byte_len, ends_with_cr}
 use Rattle.ropey_tree.specs.Counts.{total}
-use Rattle.ropey_tree.specs.Cutting.{IsPiece, IsCutting, IsText, IsBoundaryOf, cuts_cr_lf}
+use Rattle.ropey_tree.specs.Cutting.{IsPiece, IsCutting, IsText, IsBoundaryOf}
 use Rattle.ropey_tree.specs.NodeView.{NodeView}
 use Rattle.ropey_tree.specs.Nodes.{all_pieces, inner_view, IsInner, IsNodeOf}
 use Rattle.ropey_tree.proofs.InRow.{all_pieces-parts, all_pieces-take_more, all_pieces-append}

@@ -1,12 +1,11 @@
 -- The counts of a text that is cut into pieces.
-use Rattle.std.proofs.Common.{◌≡◌, ℕ, ◌+◌, ◌≤◌, Bool, true, false, cond, ◌&&◌, List, [], ◌∷◌, ◌++◌, length, refl, ap, arith, sym, ◌∙◌, length-append, zero-add}
+use Rattle.std.proofs.Common.{◌≡◌, ℕ, ◌+◌, ◌≤◌, false, cond, ◌&&◌, List, [], ◌∷◌, ◌++◌, length, refl, ap, arith, sym, ◌∙◌, length-append, zero-add}
 use Rattle.std.proofs.lemmas.List.{append-nil}
 use Rattle.std.proofs.lemmas.Str.{encodes-append}
 use Rattle.std.specs.List.{concat}
 use Rattle.str_indices.specs.Text.{is_line_break, breaks, units, starts_with_lf}
 use Rattle.str_indices.specs.Laws.{byte_len, ends_with_cr, LosesBreakInCrLf, AddsUp}
-use Rattle.ropey_tree.specs.declared.counts.Counts.{Counts}
-use Rattle.ropey_tree.specs.Counts.{total, plus, counts_of, zero_counts}
+use Rattle.ropey_tree.specs.Counts.{total, plus, counts_of}
 use Rattle.ropey_tree.specs.Cutting.{IsPiece, IsCutting, cuts_cr_lf}
 use Rattle.ropey_tree.proofs.Totals.{total-append}
 

@@ -1,9 +1,9 @@
 -- Worked examples of the definitions.
-use Rattle.std.specs.Prelude.{◌≡◌, ◌⊎◌, [], ◌∷◌, true, false, refl}
+use Rattle.std.specs.Prelude.{◌≡◌, [], ◌∷◌, true, false, refl}
 use Rattle.std.specs.List.{concat}
 use Rattle.std.specs.Char.{encode_utf8}
-use Rattle.ropey_tree.specs.declared.counts.By.TheVariants.{Bytes, Breaks}
-use Rattle.ropey_tree.specs.Counts.{counts_of, total, amount, plus}
+use Rattle.ropey_tree.specs.declared.counts.By.TheVariants.{Breaks}
+use Rattle.ropey_tree.specs.Counts.{counts_of, total, amount}
 use Rattle.ropey_tree.specs.Cutting.{cuts_cr_lf}
 use Rattle.ropey_tree.specs.Nodes.{leaf_view, inner_view, all_pieces}
 

@@ -1,4 +1,4 @@
-use Rattle.std.proofs.Common.{◌≡◌, ◌+◌, ◌-◌, ◌<◌, ◌≤◌, length, get_or, ap, sym, ◌∙◌, arith}
+use Rattle.std.proofs.Common.{◌-◌, ◌≤◌, length, arith}
 use Rattle.ropey_tree.proofs.Ends.{floor_low, whole_end, before_cr, no_cr, not_before_lf}
 use Rattle.ropey_tree.proofs.cuts.piece_end.Goals as goal
 use Rattle.ropey_tree.proofs.cuts.piece_end.Goals.{After-as_bytes-bytes, else-bytes-end-eq13-via-then-bytes-end-eq13+else-bytes-end-eq10, else-bytes-end-eq13-via-else-bytes-end-eq13}
