@@ -13,7 +13,5 @@ pub mod SessionLemmas
 pub mod StepLaws
 pub mod TakesLemmas
 pub mod TextLemmas
-pub mod RowLemmas
-pub mod ReportLemmas
 pub mod TurnLemmas
 pub mod ExampleRuns

@@ -5,7 +5,7 @@ use Rattle.std.proofs.lemmas.Bool.{cases_Bool, cases_lt}
 use Rattle.std.proofs.lemmas.Bool.Decides.{nat_tests}
 use Rattle.std.proofs.lemmas.Str.{chars-nil, encodes-chars}
 use Rattle.std.proofs.Common.{IsUtf8, chars}
-use Rattle.rope_search.specs.Text.{bytes_of}
+use Rattle.rope_search_reports.specs.Text.{bytes_of}
 use Rattle.rope_search.specs.Pattern.{is_meta, IsPattern}
 
 pub ruleset meta_tests = (nat_tests)

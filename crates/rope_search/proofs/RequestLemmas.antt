@@ -3,7 +3,7 @@ use Rattle.std.proofs.Common.{◌≡◌, ◌↔◌, ℕ, ◌<◌, List, [], ◌�
 use Rattle.std.proofs.lemmas.List.{length-replicate}
 use Rattle.rope_search_io.specs.declared.faults.Broken.{Broken}
 use Rattle.rope_search_io.specs.Sources.{SourceState}
-use Rattle.rope_search_io.specs.ReadAhead.{Ahead, Takes, TakesLast, TakesUntil}
+use Rattle.rope_search_io.specs.ReadAhead.{Ahead, Takes}
 use Rattle.rope_search.specs.declared.headers.Header.{Header}
 use Rattle.rope_search.specs.declared.headers.Header.TheVariants.{Text, Pattern, Use}
 use Rattle.rope_search.specs.declared.payloads.Collected.{Collected}

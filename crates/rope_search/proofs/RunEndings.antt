@@ -9,7 +9,8 @@ use Rattle.rope_search_io.specs.ReadAhead.{to_come, most_to_come}
 use Rattle.rope_search_io.specs.WriteBehind.{Writes, WritesFront}
 use Rattle.rope_search.specs.declared.runs.Ended.{Ended}
 use Rattle.rope_search.specs.declared.runs.Ended.TheVariants.{Input, Command, Cut}
-use Rattle.rope_search.specs.Session.{Ticks, first}
+use Rattle.rope_search_reports.specs.Ticks.{Ticks}
+use Rattle.rope_search.specs.Session.{first}
 use Rattle.rope_search.specs.Shows.{shows, closing}
 use Rattle.rope_search.specs.Reads.{Reads, Ends, payload_of}
 use Rattle.rope_search.specs.Answers.{Answers}

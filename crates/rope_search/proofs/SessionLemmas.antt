@@ -10,7 +10,7 @@ use Rattle.rope_search.specs.declared.commands.Command.TheVariants.{Text, Patter
 use Rattle.rope_search.specs.Order.{Order, SetText, PrintText, ForkBuffer, SetPattern, DropPattern, ListMatches, UseBuffer}
 use Rattle.rope_search.specs.Session.{State, BufferState, LimitedBuffer, LimitedSession, fresh, current_text, chosen_buffer, with_text, with_pattern, with_chosen}
 use Rattle.rope_search.specs.Pattern.{IsPattern, pattern_limit}
-use Rattle.rope_search.specs.Text.{line_count}
+use Rattle.rope_search_reports.specs.Text.{line_count}
 use Rattle.rope_search.specs.Stands.{Stands, StandsFor}
 use Rattle.rope_search.specs.Step.{Step}
 use Rattle.rope_search.specs.Cost.{Costs, rows_anew}

@@ -2,7 +2,7 @@
 use Rattle.std.proofs.Common.{◌≡◌, ℕ, List, IsUtf8, string_bytes, String}
 use Rattle.std.proofs.lemmas.Str.{chars-nil, encodes-chars, scalars-chars, IsUtf8-string_bytes}
 use Rattle.std.specs.Str.{chars}
-use Rattle.rope_search.specs.Text.{bytes_of, Encodes}
+use Rattle.rope_search_reports.specs.Text.{bytes_of, Encodes}
 
 -- the text that UTF-8 spells
 pub Encodes-chars : (bytes : List ℕ) → IsUtf8 bytes → Encodes (chars bytes) bytes

@@ -1,7 +1,7 @@
 -- How many rows of a report a command may make.
 use Rattle.std.specs.Prelude.{◌≡◌, ℕ, ◌⊎◌, List, if◌then◌else◌, is_some, chars}
 use Rattle.rope_search_io.specs.declared.faults.Fault.{Fault}
-use Rattle.rope_search.specs.Text.{line_count}
+use Rattle.rope_search_reports.specs.Text.{line_count}
 use Rattle.rope_search.specs.Order.{Order, SetText, PrintText, ForkBuffer, SetPattern, DropPattern, ListMatches, UseBuffer}
 use Rattle.rope_search.specs.Session.{BufferState, State, current_text, chosen_buffer}
 use Rattle.rope_search.specs.Step.{Refuses, Accepts}

@@ -1,60 +1,24 @@
--- What the definitions say of a few small texts, lines and sessions, each by computation.
+-- What the definitions say of a few small lines and sessions, each by computation.
 use Rattle.std.specs.Prelude.{◌≡◌, ℕ, List, [], ◌∷◌, Some, Ok, Err, true, false, map, codes, refl}
 use Rattle.std.specs.Fmt.{digits}
 use Rattle.std.proofs.Math.Utf8.{encode}
 use Rattle.rope_search_io.specs.declared.faults.Fault.TheVariants.{Nothing, Utf8, Pattern, Limit, Size, Memory}
 use Rattle.rope_search.specs.declared.commands.Reply.TheVariants.{Done, Number, List as Listing, Print}
 use Rattle.rope_search.specs.declared.runs.Ended.TheVariants.{Input, Command, Cut}
-use Rattle.str_indices.specs.Text.{is_line_break, breaks}
-use Rattle.rope_search.specs.Text.{line_count, bytes_of}
 use Rattle.rope_search.specs.Pattern.{is_meta}
 use Rattle.rope_search.specs.Session.{State, fresh, first, with_pattern}
 use Rattle.std.specs.Str.{chars}
-use Rattle.rope_search.specs.Report.{line_texts, find_among, matches_from, row_of}
+use Rattle.rope_search_reports.specs.Report.{line_texts, find_among, matches_from, row_of}
 use Rattle.rope_search.specs.Reads.{digits_after}
 use Rattle.rope_search.specs.Shows.{shows, closing}
 
--- ---- breaks
-
--- of the letter a, CR, LF, U+2028 and CR: CR LF is one break, and a CR at the end is one
-pub breaks_mixed : breaks is_line_break (97 ∷ 13 ∷ 10 ∷ 0x2028 ∷ 13 ∷ []) ≡ 3
-breaks_mixed = refl
-
-pub breaks_crlf : breaks is_line_break (13 ∷ 10 ∷ []) ≡ 1
-breaks_crlf = refl
-
--- LF CR are two breaks
-pub breaks_lfcr : breaks is_line_break (10 ∷ 13 ∷ []) ≡ 2
-breaks_lfcr = refl
-
--- each of the break set alone: LF, VT, FF, CR, U+0085, U+2028 and U+2029
-pub breaks_each : breaks is_line_break (10 ∷ 11 ∷ 12 ∷ 13 ∷ 0x85 ∷ 0x2028 ∷ 0x2029 ∷ []) ≡ 7
-breaks_each = refl
-
--- a tab, U+001C and a space are none
-pub breaks_none : breaks is_line_break (9 ∷ 0x1c ∷ 32 ∷ []) ≡ 0
-breaks_none = refl
-
--- the empty text has one line
-pub lines_empty : line_count [] ≡ 1
-lines_empty = refl
-
--- a break at the end has an empty line behind it
-pub lines_ended : line_count (codes "one\ntwo\n") ≡ 3
-lines_ended = refl
-
--- ---- numbers and bytes
+-- ---- numbers
 
 pub digits_zeros : digits_after 0 (codes "007") ≡ 7
 digits_zeros = refl
 
 pub digits_many : digits_after 0 (codes "18446744073709551615") ≡ 18446744073709551615
 digits_many = refl
-
--- the text with the one character U+2028 has three bytes
-pub bytes_separator : bytes_of (0x2028 ∷ []) ≡ 0xe2 ∷ 0x80 ∷ 0xa8 ∷ []
-unfolding encode
-bytes_separator = refl
 
 -- ---- patterns
 

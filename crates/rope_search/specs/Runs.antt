@@ -9,7 +9,8 @@ use Rattle.rope_search_io.specs.WriteBehind.{Writes, WritesFront}
 use Rattle.rope_search.specs.declared.runs.Ended.{Ended}
 use Rattle.rope_search.specs.declared.runs.Ended.TheVariants.{Input, Command, Cut}
 use Rattle.rope_search.specs.Order.{Order}
-use Rattle.rope_search.specs.Session.{State, Ticks, first}
+use Rattle.rope_search_reports.specs.Ticks.{Ticks}
+use Rattle.rope_search.specs.Session.{State, first}
 use Rattle.rope_search.specs.Step.{Answer, Step}
 use Rattle.rope_search.specs.Reads.{Spells, SpellAll, Reads}
 use Rattle.rope_search.specs.Shows.{shows, closing}

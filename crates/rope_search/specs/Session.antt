@@ -1,5 +1,6 @@
 -- What a session is: a list of buffers, of which one is chosen.
-use Rattle.std.specs.Prelude.{ℕ, List, [], ◌∷◌, Option, None, slice_index_or, slice_set}
+use Rattle.std.specs.Prelude.{ℕ, List, [], ◌∷◌, Option, None, option_map, slice_index_or, slice_set}
+use Rattle.rope_search_reports.specs.Report.{report}
 
 -- a history of texts with a current one, and perhaps a pattern. Texts and patterns are lists of scalar values
 pub record BufferState : Type 0 where
@@ -34,6 +35,10 @@ with_text buffer text = record buffer { texts = text ∷ []; current = 0 }
 abbrev pub with_pattern : BufferState → Option (List ℕ) → BufferState
 with_pattern buffer pattern = record buffer { pattern = pattern }
 
+-- the report of the buffer's current text, where it has a pattern
+abbrev pub report_in : BufferState → Option (List (List (ℕ × ℕ)))
+report_in buffer = option_map (report (current_text buffer)) buffer.pattern
+
 -- the session with another buffer in the chosen one's place
 abbrev pub with_chosen : State → BufferState → State
 with_chosen session buffer = record session { buffers = slice_set session.buffers session.chosen buffer }
@@ -47,8 +52,3 @@ pub record LimitedBuffer : Type 0 where
 pub record LimitedSession : Type 0 where
   pub limit : ℕ
   pub state : State
-
--- how many rows were made, and how many whole texts were searched
-pub record Ticks : Type 0 where
-  pub count : ℕ
-  pub wholes : ℕ

@@ -4,9 +4,9 @@ use Rattle.rope_search_io.specs.Faults.{word_of}
 use Rattle.rope_search.specs.declared.commands.Reply.TheVariants.{Done, Number, List as Listing, Print}
 use Rattle.rope_search.specs.declared.runs.Ended.{Ended}
 use Rattle.rope_search.specs.declared.runs.Ended.TheVariants.{Input, Command, Cut}
-use Rattle.rope_search.specs.Text.{bytes_of}
-use Rattle.rope_search.specs.Session.{State, current_text, chosen_buffer}
-use Rattle.rope_search.specs.Report.{report_in, match_count}
+use Rattle.rope_search_reports.specs.Text.{bytes_of}
+use Rattle.rope_search.specs.Session.{State, current_text, chosen_buffer, report_in}
+use Rattle.rope_search_reports.specs.Report.{match_count}
 use Rattle.rope_search.specs.Step.{Answer}
 
 -- how a text is shown: its number of bytes in a line, then its bytes in another

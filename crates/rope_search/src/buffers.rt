@@ -1,16 +1,16 @@
 //! A buffer: a text with its history, and perhaps a pattern.
 ghost use Rattle.std.specs.Prelude.{◌≡◌, ◌+◌, ◌^◌, ◌<◌, ◌≤◌, ◌↔◌, ◌⊎◌, [], length, chars, string_bytes, string_len, option_copied, None, Some, Err, OnOk, OnErr, IfOk, IfErr, IfSome};
-ghost use Rattle.rope_search.specs.Text.{bytes_of, line_count};
-ghost use Rattle.rope_search.specs.Session.{current_text, fresh, with_text, with_pattern};
+ghost use Rattle.rope_search_reports.specs.Text.{bytes_of, line_count};
+ghost use Rattle.rope_search_reports.specs.Report.{report, match_count};
+ghost use Rattle.rope_search.specs.Session.{current_text, fresh, with_text, with_pattern, report_in};
 ghost use Rattle.rope_search.specs.Pattern.{IsPattern, pattern_limit};
-ghost use Rattle.rope_search.specs.Report.{report, report_in, match_count};
 ghost use Rattle.rope_search.specs.Cost.{rows_anew};
 
 use crate::limits::Limits;
 use crate::patterns::{PATTERN_LEN, is_pattern};
-use crate::reports::report_of;
-use crate::rows::{Lines, Row};
 use rope_search_io::Fault;
+use rope_search_reports::laws::few_matches;
+use rope_search_reports::{Lines, Row, report_of};
 use std::alloc::Global;
 use std::marker::Model;
 
@@ -29,7 +29,7 @@ pub struct Buffer {
 impl Model for Buffer {
     ghost use Rattle.std.specs.Prelude.{◌≡◌, ◌<◌, length, chars, string_bytes, option_map, IfSome};
     ghost use Rattle.rope_search.specs.Session.{LimitedBuffer, fresh, with_pattern};
-    ghost use Rattle.rope_search.specs.Report.{report};
+    ghost use Rattle.rope_search_reports.specs.Report.{report};
 
     ghost Value = { LimitedBuffer };
 
@@ -174,7 +174,10 @@ impl Buffer {
     {
         match &self.pattern {
             None => None,
-            Some(_) => Some(self.rows.as_slice()),
+            Some(_) => {
+                few_matches();
+                Some(self.rows.as_slice())
+            }
         }
     }
 

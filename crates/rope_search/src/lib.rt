@@ -11,9 +11,7 @@ mod listings;
 mod patterns;
 mod payloads;
 mod replies;
-mod reports;
 mod requests;
-mod rows;
 mod runs;
 mod sessions;
 
@@ -21,6 +19,6 @@ pub use buffers::Buffer;
 pub use commands::{Command, Payload, Reply};
 pub use limits::Limits;
 pub use rope_search_io::{Broken, Device, Failed, Fault, MemorySink, MemorySource, Sink, Source};
-pub use rows::{Lines, Row, search_line};
+pub use rope_search_reports::{Lines, Row, search_line};
 pub use runs::{Ended, run, run_limited};
 pub use sessions::Session;

@@ -1,12 +1,12 @@
 //! Writing a report.
 ghost use Rattle.std.specs.Prelude.{◌≡◌, ◌<◌, ◌^◌, [], ◌++◌, flat_map, OnOk, OnErr, MatchResult};
 ghost use Rattle.rope_search_io.specs.WriteBehind.{Puts, Writes, WritesUntil};
-ghost use Rattle.rope_search.specs.Report.{match_count};
+ghost use Rattle.rope_search_reports.specs.Report.{match_count};
 ghost use Rattle.rope_search.specs.Shows.{shown_match, shown_report};
 
-use crate::rows::Row;
 use itoa::Buffer as Digits;
 use rope_search_io::{Broken, Sink, WriteBehind};
+use rope_search_reports::Row;
 
 /// Puts a match behind the bytes that wait: the number of its line, and its two columns. After an error
 /// the sink took a front of what waited and of this.

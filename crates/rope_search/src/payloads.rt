@@ -22,7 +22,8 @@ pub enum Collected {
 impl Collected {
     /// Nothing yet of a payload of `len` bytes, which is kept where there are at most so many.
     pub fn new(alloc: Global, len: u64, most: usize) -> Collected
-        ensures { Collects most len result [] }
+        ensures collects { Collects most len result [] }
+        ensures kept_or_judged { result ≡ Collected.Lost → ⊥ }
     {
         if len <= most as u64 {
             Collected::Kept(Vec::new(alloc))

@@ -6,9 +6,9 @@ ghost use Rattle.rope_search.specs.Runs.{AnswersWhole, Ran, TakesTurn, Closes};
 use crate::limits::Limits;
 use crate::replies::write_answer;
 use crate::requests::{Request, read_request};
-use crate::rows::Lines;
 use crate::sessions::Session;
 use rope_search_io::{Broken, Failed, ReadAhead, Sink, Source, WriteBehind};
+use rope_search_reports::Lines;
 use std::alloc::Global;
 
 /// How an input ended.

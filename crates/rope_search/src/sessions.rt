@@ -13,8 +13,8 @@ use crate::commands::{Command, Payload, Reply};
 use crate::limits::Limits;
 use crate::payloads::Collected;
 use crate::requests::Asked;
-use crate::rows::Lines;
 use rope_search_io::Fault;
+use rope_search_reports::Lines;
 use std::alloc::Global;
 use std::marker::Model;
 

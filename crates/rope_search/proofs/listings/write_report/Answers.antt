@@ -1,4 +1,4 @@
-use Rattle.std.proofs.Common.{◌≡◌, ◌+◌, ◌∙◌, arith}
+use Rattle.std.proofs.Common.{◌∙◌, arith}
 use Rattle.std.proofs.lemmas.Result.{err_from_is_err_and}
 use Rattle.rope_search.proofs.ListingLemmas.{Puts-row, count-row, WritesUntil-row, Writes-report}
 use Rattle.rope_search.proofs.listings.write_report.Goals as goal

@@ -3,7 +3,7 @@ use Rattle.std.specs.Str.{chars}
 use Rattle.rope_search.specs.Session.{with_pattern}
 use Rattle.rope_search.specs.Pattern.{IsPattern, pattern_limit}
 use Rattle.rope_search.proofs.PatternLemmas.{known_pattern}
-use Rattle.rope_search.proofs.SessionLemmas.{Chosen, Step-take_pattern}
+use Rattle.rope_search.proofs.SessionLemmas.{Step-take_pattern}
 use Rattle.rope_search.proofs.sessions.Session.set_pattern.Goals as goal
 
 pub returns-in_ok-set_pattern-in-Ok-clause-step : goal.returns-in_ok-set_pattern-in-Ok-clause-step

@@ -1,7 +1,7 @@
-use Rattle.std.proofs.Common.{◌≡◌, ◌<◌, ◌≤◌, IsUtf8, length, sym, ap, ◌∙◌, subst, arith}
+use Rattle.std.proofs.Common.{◌≡◌, ◌<◌, IsUtf8, length, sym, ap, ◌∙◌, subst, arith}
 use Rattle.std.specs.Str.{chars}
 use Rattle.rope_search.specs.Session.{with_text}
-use Rattle.rope_search.proofs.SessionLemmas.{Chosen, Step-take_text}
+use Rattle.rope_search.proofs.SessionLemmas.{Step-take_text}
 use Rattle.rope_search.proofs.sessions.Session.set_text.Goals as goal
 
 pub returns-in_ok-set_text-in-Ok-clause-step : goal.returns-in_ok-set_text-in-Ok-clause-step

@@ -1,9 +1,10 @@
-use Rattle.std.proofs.Common.{◌≡◌, ◌<◌, ◌≤◌, ◌+◌, IsUtf8, List, ℕ, Vec, Global, length, chars, string_bytes, string_len, sym, ap, ◌∙◌, subst, arith}
+use Rattle.std.proofs.Common.{◌≡◌, ◌<◌, ◌≤◌, ◌+◌, IsUtf8, ℕ, Vec, Global, length, chars, string_bytes, string_len, ap, subst, arith}
 use Rattle.std.proofs.lemmas.Result.{err_from_is_err_and}
 use Rattle.std.proofs.lemmas.Str.{IsUtf8-string_bytes}
-use Rattle.rope_search.specs.Session.{with_text, Ticks}
+use Rattle.rope_search_reports.specs.Ticks.{Ticks}
+use Rattle.rope_search.specs.Session.{with_text}
 use Rattle.rope_search.specs.Cost.{rows_anew}
-use Rattle.rope_search.proofs.SessionLemmas.{Chosen, Step-take_text, Step-refuse_text, rows_taken}
+use Rattle.rope_search.proofs.SessionLemmas.{Step-take_text, Step-refuse_text, rows_taken}
 use Rattle.rope_search.proofs.sessions.Session.take_text.Goals as goal
 
 pub returns-in_err-take_text-clause-step : goal.returns-in_err-take_text-clause-step

@@ -1,0 +1,5 @@
+use Rattle.rope_search_reports.proofs.FewLemmas.{report-few}
+use Rattle.rope_search_reports.proofs.laws.few_matches.Goals as goal
+
+pub returns : goal.returns
+returns c = report-few

@@ -1,0 +1,9 @@
+pub mod Text
+pub mod TextExamples
+pub mod Report
+pub mod ReportExamples
+pub mod Position
+pub mod PositionExamples
+pub mod Ticks
+pub mod Laws
+pub mod LineCuts

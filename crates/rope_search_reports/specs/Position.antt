@@ -1,0 +1,37 @@
+-- Positions: a line and a column, for a place in a text. A place is a number of bytes of its UTF-8.
+use Rattle.std.specs.Prelude.{◌≡◌, ℕ, ◌+◌, ◌-◌, ◌≤◌, List, [], length, take, drop, slice_index_or, chars}
+use Rattle.std.specs.Str.{IsCharBoundary}
+use Rattle.str_indices.specs.Text.{is_line_break, break_ends, ends_up_to, end_place, units}
+use Rattle.rope_search_reports.specs.Text.{bytes_of}
+use Rattle.rope_search_reports.specs.Report.{line_texts}
+
+-- the line that a place is in: how many breaks end there or before
+abbrev pub line_at : List ℕ → ℕ → ℕ
+line_at text place = ends_up_to place (break_ends is_line_break text)
+
+-- where a line starts: at the end of the break before it, the first one at 0
+abbrev pub line_start : List ℕ → ℕ → ℕ
+line_start text line = end_place (break_ends is_line_break text) line (length (bytes_of text))
+
+-- how many code units there are from where the place's line starts up to the place
+abbrev pub column_at : List ℕ → ℕ → ℕ
+column_at text place =
+    let start = line_start text (line_at text place) in units (chars (take (place - start) (drop start (bytes_of text))))
+
+-- the position of a boundary: its line and its column
+abbrev pub position : List ℕ → ℕ → ℕ × ℕ
+position text place = (line_at text place, column_at text place)
+
+-- where a line's text ends: before its break
+abbrev pub text_end : List ℕ → ℕ → ℕ
+text_end text line = line_start text line + length (bytes_of (slice_index_or (line_texts text) line []))
+
+-- the position is at this place: a boundary, in the line's text or at its end
+pub record IsAt (text : List ℕ) (spot : ℕ × ℕ) (place : ℕ) : Type 0 where
+  pub boundary : IsCharBoundary (bytes_of text) place
+  pub same : spot ≡ position text place
+  pub within : place ≤ text_end text spot.0
+
+-- the position is at no place: inside a character or a break, behind its line's text, or past the last line
+abbrev pub IsNowhere : List ℕ → ℕ × ℕ → Type 0
+IsNowhere text spot = (place : ℕ) → IsAt text spot place → ⊥

@@ -1,0 +1,10 @@
+//! The report of a text and a pattern: for each line, where the pattern matches in it; and the count of
+//! the lines that were searched.
+#![tactic(auto)]
+
+pub mod laws;
+mod reports;
+mod rows;
+
+pub use reports::report_of;
+pub use rows::{Lines, Row, search_line};
