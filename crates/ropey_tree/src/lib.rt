@@ -12,6 +12,7 @@ pub mod laws;
 pub mod leaves;
 pub mod nodes;
 pub mod rows;
+pub mod seams;
 pub mod splits;
 pub mod visits;
 
