@@ -14,6 +14,8 @@ pub mod nodes;
 pub mod rows;
 pub mod seams;
 pub mod splits;
+#[cfg(test)]
+mod tests;
 pub mod visits;
 
 /// The most bytes of a leaf's text.
