@@ -1,18 +1,17 @@
 -- Where a piece may end: the bytes on both sides of a place in UTF-8.
-use Rattle.std.proofs.Common.{◌≡◌, ℕ, suc, ◌+◌, ◌-◌, ◌<◌, ◌≤◌, Bool, true, false, ◌&&◌, List, [], ◌∷◌, ◌++◌, length, take, drop, get_or, refl, ap, arith, sym, ◌∙◌, length-append}
+use Rattle.std.proofs.Common.{◌≡◌, ℕ, suc, ◌+◌, ◌-◌, ◌<◌, ◌≤◌, Bool, true, false, ◌&&◌, List, [], ◌∷◌, ◌++◌, length, take, drop, get_or, refl, ap, arith, sym, ◌∙◌, length-append, length-drop}
 use Rattle.std.specs.Prelude.{encode_utf8_all}
-use Rattle.std.specs.Str.{all_scalars, chars, IsUtf8, IsCharBoundary}
+use Rattle.std.specs.Str.{chars, IsUtf8, IsCharBoundary}
 use Rattle.std.specs.Char.{encode_utf8, len_utf8}
-use Rattle.std.proofs.lemmas.Str.{encodes-append, encodes-chars, scalars-chars, length-encode, IsCharBoundary-at_seam, IsUtf8-take, IsUtf8-drop, chars-nil, len_utf8_bounds}
+use Rattle.std.proofs.lemmas.Str.{encodes-append, encodes-chars, IsCharBoundary-past_char, IsUtf8-take, IsUtf8-drop, chars-nil, len_utf8_bounds}
 use Rattle.std.proofs.lemmas.List.{get_or-drop, get_or-take}
 use Rattle.std.proofs.Math.Seq.{get_or-append_seam, drop-cons}
 use Rattle.std.proofs.Math.ListN.{drop_of_length-le}
 use Rattle.std.proofs.Common.{length-take-le, add-zero, ◌==◌}
 use Rattle.std.proofs.lemmas.Bool.Decides.{nat_tests}
 use Rattle.str_indices.specs.Text.{starts_with_lf}
-use Rattle.str_indices.specs.Laws.{byte_len, ends_with_cr}
+use Rattle.str_indices.specs.Laws.{ends_with_cr}
 use Rattle.ropey_tree.specs.Cutting.{cuts_cr_lf}
-use Rattle.ropey_tree.proofs.Splitting.{scalars-both}
 
 pub is_code : (c d : ℕ) → (c == d) ≡ true → c ≡ d
 is_code c d h = grind (arith, nat_tests)
@@ -55,34 +54,30 @@ unless_both true true h = absurd (h refl refl)
 unless_both true false h = refl
 unless_both false b h = refl
 
--- a text of more than eight bytes has a boundary up to there
-pub record HasSecond (bytes : List ℕ) : Type 0 where
-  pub place : ℕ
-  pub low : 2 ≤ place
-  pub high : place ≤ 8
-  pub boundary : IsCharBoundary bytes place
+-- the next boundary is at most four bytes on
+record HasNext (bytes : List ℕ) (end : ℕ) : Type 0 where
+  place : ℕ
+  later : end < place
+  near : place ≤ end + 4
+  boundary : IsCharBoundary bytes place
 
-second_end : (bytes : List ℕ) (t : List ℕ) → all_scalars t ≡ true → encode_utf8_all t ≡ bytes → 984 < length bytes → HasSecond bytes
-second_end bytes [] s e long = absurd (omega (arith, ap length e))
-second_end bytes (c ∷ []) s e long = absurd (omega (arith, ap length e, length-append (encode_utf8 c) [], length-encode c, (len_utf8_bounds c).1))
-second_end bytes (c ∷ d ∷ cs) s e long =
-    let whole : bytes ≡ encode_utf8_all (c ∷ d ∷ []) ++ encode_utf8_all cs = sym e ∙ encodes-append (c ∷ d ∷ []) cs in
-    let len : byte_len (c ∷ d ∷ []) ≡ len_utf8 c + len_utf8 d =
-    omega (arith, length-append (encode_utf8 c) (encode_utf8 d ++ []), length-append (encode_utf8 d) [], length-encode c, length-encode d) in
-    let first = len_utf8_bounds c in
-    let second = len_utf8_bounds d in
+next_end : (bytes t : List ℕ) (end : ℕ) → IsUtf8 (drop end bytes) → end < length bytes → encode_utf8_all t ≡ drop end bytes → HasNext bytes end
+next_end bytes [] end u within e = absurd (omega (arith, within, ap length e, length-drop end bytes))
+next_end bytes (c ∷ cs) end u within e =
+    let len = len_utf8_bounds c in
     record {
-      place = byte_len (c ∷ d ∷ []);
-      low = omega (arith, len, first.0, second.0);
-      high = omega (arith, len, first.1, second.1);
-      boundary = IsCharBoundary-at_seam bytes (encode_utf8_all (c ∷ d ∷ [])) (encode_utf8_all cs) whole (cs, ((scalars-both (c ∷ d ∷ []) cs s).1, refl));
+      place = end + len_utf8 c;
+      later = omega (arith, len.0);
+      near = omega (arith, len.1);
+      boundary = IsCharBoundary-past_char bytes (encode_utf8_all cs) end c (omega (arith, within)) u (sym e);
     }
 
--- so the last boundary up to 984 is past the first character
-pub floor_low : (bytes : List ℕ) (end : ℕ) → IsUtf8 bytes → 984 < length bytes → ((i : ℕ) → end < i → i ≤ 984 → ¬ (IsCharBoundary bytes i)) → 2 ≤ end
-floor_low bytes end u long nearest =
-    let second = second_end bytes (chars bytes) (scalars-chars bytes u) (encodes-chars bytes u) long in
-    let not_below : end < 2 → ⊥ = λ below. nearest second.place (omega (arith, second.low, below)) (omega (arith, second.high)) second.boundary in
+-- so the last boundary up to 984 is at most three bytes before it
+pub floor_low : (bytes : List ℕ) (end : ℕ) → IsUtf8 bytes → 984 < length bytes → IsCharBoundary bytes end → end ≤ 984 → ((i : ℕ) → end < i → i ≤ 984 → ¬ (IsCharBoundary bytes i)) → 981 ≤ end
+floor_low bytes end u long boundary high nearest =
+    let rest = IsUtf8-drop bytes end u boundary in
+    let next = next_end bytes (chars (drop end bytes)) end rest (omega (arith, long, high)) (encodes-chars (drop end bytes) rest) in
+    let not_below : end < 981 → ⊥ = λ below. nearest next.place next.later (omega (arith, next.near, below)) next.boundary in
     omega (arith, not_below)
 
 -- the end of a text

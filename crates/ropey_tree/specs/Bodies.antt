@@ -7,8 +7,8 @@ use Rattle.ropey_tree.specs.Nodes.{leaf_view, inner_view, IsInner}
 
 abbrev pub view_of : Body → NodeView
 view_of (Leaf leaf) = leaf_view leaf
-view_of (Inner height children) = inner_view height children
+view_of (Inner height children) = inner_view height children.value
 
 abbrev pub IsBody : Body → Type 0
 IsBody (Leaf leaf) = IsPiece leaf
-IsBody (Inner height children) = IsInner height children
+IsBody (Inner height children) = IsInner height children.value

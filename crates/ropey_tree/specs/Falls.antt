@@ -29,4 +29,4 @@ tallest_le below (v ∷ vs) h =
 
 pub deep_le-height : (body : Body) → IsBody body → max (deep-Body body) 0 ≤ 2 * (view_of body).height
 deep_le-height (Leaf leaf) h = omega arith
-deep_le-height (Inner height children) h = omega (arith, h.level, tallest_le h.below children h.nodes)
+deep_le-height (Inner height children) h = omega (arith, h.level, tallest_le h.below children.value h.nodes)

@@ -1,6 +1,6 @@
 //! Cutting a text into leaves.
 
-ghost use Rattle.std.specs.Prelude.{◌≡◌, ◌≤◌, length, take, drop, false, IfOk};
+ghost use Rattle.std.specs.Prelude.{◌≡◌, ◌≤◌, ◌⊎◌, length, take, drop, false, IfOk};
 ghost use Rattle.std.specs.List.{concat};
 ghost use Rattle.std.specs.Str.{chars, IsCharBoundary};
 ghost use Rattle.ropey_tree.specs.Cutting.{IsCutting, cuts_cr_lf};
@@ -19,6 +19,7 @@ pub fn piece_end(text: &str) -> usize
     requires { 1 ≤ length text.now }
     ensures not_empty { 1 ≤ result }
     ensures not_long { result ≤ 984 }
+    ensures long { (result ≡ length text.now) ⊎ (980 ≤ result) }
     ensures within { result ≤ length text.now }
     ensures boundary { IsCharBoundary text.now result }
     ensures whole { cuts_cr_lf (chars (take result text.now)) (chars (drop result text.now)) ≡ false }

@@ -1,6 +1,6 @@
 //! Nodes: leaves, and nodes of children one level below.
 
-ghost use Rattle.std.specs.Prelude.{◌≡◌, ◌+◌, ◌<◌, ◌≤◌, [], ◌∷◌};
+ghost use Rattle.std.specs.Prelude.{◌≡◌, ◌+◌, ◌<◌, ◌≤◌, [], ◌∷◌, IfOk};
 ghost use Rattle.ropey_tree.specs.Counts.{total};
 ghost use Rattle.ropey_tree.specs.Nodes.{leaf_view, inner_view, IsInner, IsTree, LiesIn};
 ghost use Rattle.ropey_tree.specs.Parts.{ShowsParts};
@@ -9,6 +9,7 @@ use crate::children::Children;
 use crate::counts::{By, Counts};
 use crate::leaves::Leaf;
 use crate::visits::Visits;
+use std::alloc::{AllocError, Global};
 use std::marker::{Brand, Model};
 use std::sync::ledger::{Blank, Ledger};
 
@@ -23,8 +24,8 @@ pub struct Node {
 #[derive(Drop)]
 enum Body {
     Leaf(Leaf),
-    // The height, and the children.
-    Inner(usize, Children),
+    // The height, and the children, which lie elsewhere: a leaf takes no room for any.
+    Inner(usize, Box<Children>),
 }
 
 impl Model for Node {
@@ -58,13 +59,18 @@ impl Node {
     }
 
     /// A node over children that are one level below its height.
-    pub fn from_children(height: usize, children: Children) -> Self
+    pub fn from_children(
+        alloc: Global,
+        height: usize,
+        children: Children,
+    ) -> Result<Self, AllocError>
         requires { IsInner height children }
-        ensures { result ≡ inner_view height children }
+        ensures { IfOk result (λ node. node ≡ inner_view height children) }
     {
-        Node {
+        let children = Box::new(alloc, children)?;
+        Ok(Node {
             body: Body::Inner(height, children),
-        }
+        })
     }
 
     /// How many levels there are below: 0 for a leaf.
@@ -73,13 +79,17 @@ impl Node {
         ensures value { result ≡ self.now.height }
         ensures low { result ≤ 18 }
         ensures tree { IsTree self.now }
+        ensures few { self.now.degree ≤ 24 }
     {
         match &self.body {
             Body::Leaf(leaf) => {
                 let _ = leaf.as_str();
                 0
             }
-            Body::Inner(height, _) => *height,
+            Body::Inner(height, children) => {
+                let _ = children.len();
+                *height
+            }
         }
     }
 

@@ -168,7 +168,8 @@ pub(crate) fn over(alloc: Global, height: usize, children: Children) -> Result<R
     requires { IsInner height children }
     ensures { IfOk result (λ node. node.value ≡ inner_view height children) }
 {
-    Ok(Rc::new(alloc, Node::from_children(height, children))?)
+    let node = Node::from_children(alloc, height, children)?;
+    Ok(Rc::new(alloc, node)?)
 }
 
 /// One node over a row of up to 24, or two nodes over its halves.

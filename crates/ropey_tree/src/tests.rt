@@ -6,6 +6,7 @@ ghost use Rattle.std.specs.Str.{chars, IsCharBoundary};
 ghost use Rattle.ropey_tree.specs.Counts.{total};
 ghost use Rattle.ropey_tree.specs.Splits.{pieces_in};
 
+use crate::MAX_BYTES;
 use crate::builds::build;
 use crate::counts::{By, Counts};
 use crate::cuts::leaves_of;
@@ -93,6 +94,16 @@ fn is_tree_of(tree: &Option<Rc<Node>>, text: &str) -> bool {
         None => text.is_empty(),
         Some(node) => reads_back(node, text),
     }
+}
+
+// A leaf takes no room for children.
+#[test]
+fn leaves_are_small(rt: HostRuntime) {
+    assert!(rt;
+        size_of::<Node>() <= MAX_BYTES + 24,
+        "{} bytes",
+        size_of::<Node>()
+    );
 }
 
 #[test]

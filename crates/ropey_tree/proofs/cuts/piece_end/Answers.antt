@@ -1,4 +1,4 @@
-use Rattle.std.proofs.Common.{◌-◌, ◌≤◌, length, arith}
+use Rattle.std.proofs.Common.{◌-◌, ◌≤◌, inr, length, arith}
 use Rattle.ropey_tree.proofs.Ends.{floor_low, whole_end, before_cr, no_cr, not_before_lf}
 use Rattle.ropey_tree.proofs.cuts.piece_end.Goals as goal
 use Rattle.ropey_tree.proofs.cuts.piece_end.Goals.{After-as_bytes-bytes, else-bytes-end-eq13-via-then-bytes-end-eq13+else-bytes-end-eq10, else-bytes-end-eq13-via-else-bytes-end-eq13}
@@ -6,8 +6,10 @@ use Rattle.ropey_tree.proofs.cuts.piece_end.Goals.{After-as_bytes-bytes, else-by
 pub returns-then-text-le-MAX_BYTES-clause-whole : goal.returns-then-text-le-MAX_BYTES-clause-whole
 returns-then-text-le-MAX_BYTES-clause-whole c = whole_end c.args.text.now
 
-low : (c : After-as_bytes-bytes) → 2 ≤ c.floor_char_boundary-end.result
-low c = floor_low c.args.text.now c.floor_char_boundary-end.result c.utf8.text c.if-text-le-MAX_BYTES.false c.floor_char_boundary-end.ensures.nearest
+low : (c : After-as_bytes-bytes) → 981 ≤ c.floor_char_boundary-end.result
+low c =
+    let e = c.floor_char_boundary-end.ensures in
+    floor_low c.args.text.now c.floor_char_boundary-end.result c.utf8.text c.if-text-le-MAX_BYTES.false e.boundary e.bound e.nearest
 
 pub overflow_sub-end : goal.overflow_sub-end
 overflow_sub-end c = let l = low c in omega (arith, l)
@@ -34,3 +36,9 @@ returns-else-bytes-end-eq13-clause-whole c =
       | else-bytes-end-eq13-via-else-bytes-end-eq13 w ↦
           no_cr c.args.text.now end c.utf8.text c.floor_char_boundary-end.ensures.boundary (omega (arith, l)) within (rw c.as_bytes-bytes.ensures.value at w.if-bytes-end-eq13.false)
     ]
+
+pub returns-then-bytes-end-eq10-clause-long : goal.returns-then-bytes-end-eq10-clause-long
+returns-then-bytes-end-eq10-clause-long c = let l = low (goal.at.returns-then-bytes-end-eq10-clause-long c).After-as_bytes-bytes in inr (omega (arith, l))
+
+pub returns-else-bytes-end-eq13-clause-long : goal.returns-else-bytes-end-eq13-clause-long
+returns-else-bytes-end-eq13-clause-long c = let l = low (goal.at.returns-else-bytes-end-eq13-clause-long c).After-as_bytes-bytes in inr (omega (arith, l))
