@@ -14,6 +14,7 @@ mod replies;
 mod requests;
 mod runs;
 mod sessions;
+mod texts;
 
 pub use buffers::Buffer;
 pub use commands::{Command, Payload, Reply};
