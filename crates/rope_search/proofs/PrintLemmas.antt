@@ -140,9 +140,11 @@ pub WritesUntil-head : (broken : Broken) (bytes head tail : List ℕ) (a b : Sin
 WritesUntil-head broken bytes head tail a b sent is =
     subst (WritesUntil broken a b) is (WritesUntil-put broken [] [] [] head (bytes ++ tail) a a b (Puts-nil [] a) sent)
 
+parts-shown : (word len lf bytes : List ℕ) → (word ++ (len ++ (lf ++ []))) ++ (bytes ++ (lf ++ [])) ≡ word ++ (len ++ (lf ++ (bytes ++ lf)))
+parts-shown word len lf bytes =
+    append_assoc word (len ++ (lf ++ [])) (bytes ++ (lf ++ []))
+    ∙ ap (λ l. word ++ l) (append_assoc len (lf ++ []) (bytes ++ (lf ++ [])) ∙ ap (λ l. len ++ l) (ap (λ l. l ++ (bytes ++ l)) (append-nil lf)))
+
 -- the parts of a shown text
 pub shown : (bytes len : List ℕ) → len ≡ decimal (length bytes) → (codes "text " ++ (len ++ (codes "\n" ++ []))) ++ (bytes ++ (codes "\n" ++ [])) ≡ shown_text bytes
-shown bytes len is =
-    append_assoc (codes "text ") (len ++ codes "\n") (bytes ++ codes "\n")
-    ∙ ap (λ l. codes "text " ++ l) (append_assoc len (codes "\n") (bytes ++ codes "\n"))
-    ∙ ap (λ l. codes "text " ++ (l ++ (codes "\n" ++ (bytes ++ codes "\n")))) is
+shown bytes len is = parts-shown (codes "text ") len (codes "\n") bytes ∙ ap (λ l. codes "text " ++ (l ++ (codes "\n" ++ (bytes ++ codes "\n")))) is

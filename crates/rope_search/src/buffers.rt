@@ -159,6 +159,7 @@ impl Buffer {
         match &self.pattern {
             None => None,
             Some(_) => {
+                // A text has fewer than 2^63 bytes, which bounds the matches.
                 let _ = self.text.len_bytes();
                 few_matches();
                 Some(self.rows.as_slice())

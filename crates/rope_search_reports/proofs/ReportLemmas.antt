@@ -201,17 +201,17 @@ cut-at text rest line len after sofar utf8 utf8' line-is ends =
       ends = ends;
     }
 
+-- no bytes spell no characters
+pub chars-none : (bytes : List ℕ) → length bytes ≡ 0 → chars bytes ≡ []
+chars-none [] none = chars-nil
+chars-none (b ∷ bytes) none = absurd (omega (arith, none))
+
 -- no break is in the text
 pub cut-end : (text rest : List ℕ) (len : ℕ) → Unbroken text rest len → IsUtf8 text → IsUtf8 rest → length rest ≡ 0 → NonePass is_line_break (chars text)
 cut-end text rest len sofar utf8 utf8' none =
-    let empty : chars rest ≡ [] = empty-chars rest none in
+    let empty : chars rest ≡ [] = chars-none rest none in
     let same : chars text ≡ sofar.front = text-chars text rest len sofar utf8 utf8' ∙ ap (λ cs. sofar.front ++ cs) empty ∙ append-nil sofar.front in
     subst (NonePass is_line_break) (sym same) sofar.none
-  where
-    empty-chars : (bs : List ℕ) → length bs ≡ 0 → chars bs ≡ []
-    empty-chars [] none = chars-nil
-    empty-chars (b ∷ bs) none = absurd (omega (arith, none))
-
 -- ---- breaks
 
 -- a break of one character
@@ -239,11 +239,11 @@ BeginsWithBreak-one c rest is_so other = record {
 }
 
 -- CR LF
-pub BeginsWithBreak-two : (rest : List ℕ) → BeginsWithBreak (13 ∷ 10 ∷ rest) rest
-BeginsWithBreak-two rest = record { one = 13 ∷ 10 ∷ []; parts = refl; lines = λ later whole. lines-two (rest ++ later) }
-
 pub lines-two : (rest : List ℕ) → line_texts (13 ∷ 10 ∷ rest) ≡ [] ∷ line_texts rest
 lines-two rest = line_texts-cr 13 (10 ∷ rest) refl refl ∙ line_texts-break 10 rest refl
+
+pub BeginsWithBreak-two : (rest : List ℕ) → BeginsWithBreak (13 ∷ 10 ∷ rest) rest
+BeginsWithBreak-two rest = record { one = 13 ∷ 10 ∷ []; parts = refl; lines = λ later whole. lines-two (rest ++ later) }
 
 pub chars-lf : (bytes rest : List ℕ) → IsUtf8 bytes → bytes ≡ 10 ∷ rest → chars bytes ≡ 10 ∷ chars rest
 chars-lf bytes rest utf8 e =

@@ -145,8 +145,8 @@ impl Draft {
     /// Adds the row of the last line, which ends with these characters, and answers all rows.
     fn finish(mut self, tick: &mut Lines, needle: &str, end: &str) -> Result<Vec<Row>, Fault>
         requires { 0 < length needle.now }
-        ensures rows { IfOk result (λ rows. rows.items ≡ self.entry.rows.items
-            ++ row_of (chars needle.now) (chars (string_bytes self.entry.front) ++ chars end.now) ∷ []) }
+        ensures rows { IfOk result (λ rows. rows.items ≡ self.rows.items
+            ++ row_of (chars needle.now) (chars (string_bytes self.front) ++ chars end.now) ∷ []) }
         ensures fault { IfErr result (λ fault. fault ≡ Fault.Memory) }
         ensures count { tick.new.count ≤ tick.old.count + 1 }
         ensures wholes { tick.new.wholes ≡ tick.old.wholes }

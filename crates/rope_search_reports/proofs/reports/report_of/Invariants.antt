@@ -5,9 +5,9 @@ use Rattle.std.proofs.Common.{◌+◌, ◌-◌, ◌*◌, length, chars, string_b
 use Rattle.rope_search_reports.proofs.DraftLemmas.{Reported}
 use Rattle.rope_search_reports.proofs.reports.report_of.Given as goal
 
-abbrev pub invariant-loop-line : goal.invariant-loop-line
-invariant-loop-line l =
+abbrev pub invariant-loop-next : goal.invariant-loop-next
+invariant-loop-next l =
     shadow (Utf8 l.rest) × Reported (chars l.needle) l.text (chars l.rest) l.at (chars (string_bytes l.draft.front)) l.draft.rows.items l.initial.tick l.tick
 
-abbrev pub decreases-loop-line : goal.decreases-loop-line
-decreases-loop-line l = 2 * (l.len - l.at) + length l.rest
+abbrev pub decreases-loop-next : goal.decreases-loop-next
+decreases-loop-next l = 2 * (l.len - l.at) + length l.rest

@@ -11,4 +11,6 @@ returns-in-Some-clause-few c =
       arith,
       ap match_count (c.as_slice.ensures.value ∙ kept.1),
       c.few_matches.ensures (text_of inside.text) (chars (string_bytes c.in-Some.field-0)),
+      c.len_bytes.ensures.bytes,
+      c.len_bytes.ensures.fits,
     )
