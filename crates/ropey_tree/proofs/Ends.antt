@@ -14,7 +14,7 @@ use Rattle.str_indices.specs.Laws.{byte_len, ends_with_cr}
 use Rattle.ropey_tree.specs.Cutting.{cuts_cr_lf}
 use Rattle.ropey_tree.proofs.Splitting.{scalars-both}
 
-is_code : (c d : ℕ) → (c == d) ≡ true → c ≡ d
+pub is_code : (c d : ℕ) → (c == d) ≡ true → c ≡ d
 is_code c d h = grind (arith, nat_tests)
 
 -- a text that starts with LF starts with its byte
@@ -23,7 +23,7 @@ unfolding encode_utf8
 first_byte [] h = cc
 first_byte (c ∷ cs) h = rw (is_code c 10 h) refl
 
-ends_at_cr : (t : List ℕ) → ends_with_cr t ≡ true → (init : List ℕ) × (t ≡ init ++ 13 ∷ [])
+pub ends_at_cr : (t : List ℕ) → ends_with_cr t ≡ true → (init : List ℕ) × (t ≡ init ++ 13 ∷ [])
 ends_at_cr [] h = ([], cc)
 ends_at_cr (c ∷ []) h = ([], ap (λ d. d ∷ []) (is_code c 13 h))
 ends_at_cr (c ∷ d ∷ cs) h = let rest = ends_at_cr (d ∷ cs) h in (c ∷ rest.0, ap (λ t. c ∷ t) rest.1)

@@ -10,4 +10,5 @@ pub mod Joining
 pub mod Splitting
 pub mod Levels
 pub mod Ends
+pub mod OverSeams
 pub mod CutSoFar

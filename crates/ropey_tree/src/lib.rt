@@ -12,7 +12,10 @@ pub mod laws;
 pub mod leaves;
 pub mod nodes;
 pub mod rows;
+pub mod seams;
 pub mod splits;
+#[cfg(test)]
+mod tests;
 pub mod visits;
 
 /// The most bytes of a leaf's text.
