@@ -1,7 +1,6 @@
 -- A text that is written chunk by chunk.
 use Rattle.std.proofs.Common.{◌≡◌, ◌≢◌, ℕ, ◌+◌, ◌<◌, ◌≤◌, List, [], ◌∷◌, ◌++◌, length, codes, decimal, refl, sym, ap, subst, ◌∙◌, append-nil, append_assoc, arith, length-append}
 use Rattle.std.specs.Prelude.{Result, Ok, Err, MatchResult}
-use Rattle.std.specs.List.{concat}
 use Rattle.std.proofs.Math.Utf8.{encode}
 use Rattle.std.proofs.lemmas.List.Folds.{concat-append}
 use Rattle.std.proofs.lemmas.Str.{encodes-append, length-encode, len_utf8_bounds}
@@ -64,8 +63,7 @@ pub chunk-within : (pieces : List (List ℕ)) (at : ℕ) (old new : List ℕ) (s
 chunk-within pieces at old new sink sink' chunk byte char line sofar follows cut more shown =
     let found = next pieces at old new sink sink' chunk byte char line sofar follows cut more shown in
     let some = some_byte chunk (λ none. absurd (omega (arith, more, ap (λ ps. byte_len (text_of ps)) (shown.some none)))) in
-    let rest : bytes_of (text_of sofar.after) ≡ bytes_of chunk ++ bytes_of (text_of found.after) = ap (λ ps. bytes_of (text_of ps)) found.first ∙ bytes_of-piece chunk found.after in
-    (
+    let rest : bytes_of (text_of sofar.after) ≡ bytes_of chunk ++ bytes_of (text_of found.after) = ap (λ ps. bytes_of (text_of ps)) found.first ∙ bytes_of-piece chunk found.after in (
       some,
       omega (
         arith,
@@ -140,11 +138,12 @@ pub WritesUntil-head : (broken : Broken) (bytes head tail : List ℕ) (a b : Sin
 WritesUntil-head broken bytes head tail a b sent is =
     subst (WritesUntil broken a b) is (WritesUntil-put broken [] [] [] head (bytes ++ tail) a a b (Puts-nil [] a) sent)
 
-parts-shown : (word len lf bytes : List ℕ) → (word ++ (len ++ (lf ++ []))) ++ (bytes ++ (lf ++ [])) ≡ word ++ (len ++ (lf ++ (bytes ++ lf)))
+parts-shown : (word len lf bytes : List ℕ) → (word ++ (len ++ (lf ++ []))) ++ (bytes ++ (lf ++ [])) ≡ (((word ++ len) ++ lf) ++ bytes) ++ lf
 parts-shown word len lf bytes =
-    append_assoc word (len ++ (lf ++ [])) (bytes ++ (lf ++ []))
-    ∙ ap (λ l. word ++ l) (append_assoc len (lf ++ []) (bytes ++ (lf ++ [])) ∙ ap (λ l. len ++ l) (ap (λ l. l ++ (bytes ++ l)) (append-nil lf)))
+    ap (λ l. (word ++ (len ++ l)) ++ (bytes ++ l)) (append-nil lf)
+    ∙ ap (λ l. l ++ (bytes ++ lf)) (sym (append_assoc word len lf))
+    ∙ sym (append_assoc ((word ++ len) ++ lf) bytes lf)
 
 -- the parts of a shown text
 pub shown : (bytes len : List ℕ) → len ≡ decimal (length bytes) → (codes "text " ++ (len ++ (codes "\n" ++ []))) ++ (bytes ++ (codes "\n" ++ [])) ≡ shown_text bytes
-shown bytes len is = parts-shown (codes "text ") len (codes "\n") bytes ∙ ap (λ l. codes "text " ++ (l ++ (codes "\n" ++ (bytes ++ codes "\n")))) is
+shown bytes len is = parts-shown (codes "text ") len (codes "\n") bytes ∙ ap (λ l. (((codes "text " ++ l) ++ codes "\n") ++ bytes) ++ codes "\n") is

@@ -1,10 +1,10 @@
 -- The lines of a text, cut off one by one.
-use Rattle.std.proofs.Common.{◌≡◌, ◌≢◌, ℕ, suc, ◌+◌, ◌-◌, ◌<◌, ◌≤◌, ◌==◌, Bool, true, false, not, cond, ◌&&◌, List, [], ◌∷◌, ◌++◌, Option, None, Some, IsUtf8, map, length, get_or, replicate, take, drop, take-append-drop, refl, sym, ap, subst, ◌∙◌, ◌⊎◌, inl, inr, ⊎_elim, append-nil, arith, chars, append_assoc, length-append}
+use Rattle.std.proofs.Common.{◌≡◌, ◌≢◌, ℕ, suc, ◌+◌, ◌-◌, ◌<◌, ◌≤◌, ◌==◌, Bool, true, false, not, cond, ◌&&◌, List, [], ◌∷◌, ◌++◌, IsUtf8, length, get_or, replicate, take, drop, take-append-drop, refl, sym, ap, subst, ◌∙◌, ◌⊎◌, inl, inr, ⊎_elim, append-nil, arith, chars, append_assoc, length-append}
 use Rattle.std.proofs.Math.Seq.{take-append_seam}
 use Rattle.std.proofs.Math.Utf8.{encode}
 use Rattle.std.proofs.lemmas.Bool.{cases_Bool, cond-true, cond-false, false≢true}
 use Rattle.std.proofs.lemmas.Bool.Decides.{nat_tests}
-use Rattle.std.proofs.lemmas.List.{length-map, length-replicate, length-take-le, take_more}
+use Rattle.std.proofs.lemmas.List.{length-replicate, length-take-le, take_more}
 use Rattle.std.proofs.lemmas.Str.{IsUtf8-take, IsUtf8-past_char, IsCharBoundary-at_seam, chars-append, chars-nil, chars_past_char, encodes-chars, encodes-append, encodes_same, encode_ascii}
 use Rattle.std.specs.Char.{len_utf8}
 use Rattle.std.specs.Str.{NonePass, IsCharBoundary}
@@ -212,6 +212,7 @@ cut-end text rest len sofar utf8 utf8' none =
     let empty : chars rest ≡ [] = chars-none rest none in
     let same : chars text ≡ sofar.front = text-chars text rest len sofar utf8 utf8' ∙ ap (λ cs. sofar.front ++ cs) empty ∙ append-nil sofar.front in
     subst (NonePass is_line_break) (sym same) sofar.none
+
 -- ---- breaks
 
 -- a break of one character

@@ -1,4 +1,4 @@
-use Rattle.std.proofs.Common.{◌≡◌, ◌+◌, ◌-◌, ◌<◌, ℕ, List, chars, length, ap, sym, ◌∙◌, arith}
+use Rattle.std.proofs.Common.{◌≡◌, ◌+◌, ◌-◌, ◌<◌, chars, length, ap, sym, ◌∙◌, arith}
 use Rattle.std.proofs.lemmas.Result.{err_from_is_err_and}
 use Rattle.std.proofs.lemmas.Str.{encodes-chars}
 use Rattle.str_indices.specs.Laws.{byte_len}
@@ -32,8 +32,10 @@ returns-in_err-put g c =
     let more : c.loop-at.at < byte_len (text_of c.args.text.now) = omega (arith, c.loop-at-test.true, c.len_bytes-len.ensures.bytes) in
     let chunk = c.chunk_at_byte.result.0.now in
     let is : bytes_of (chars chunk) ≡ c.as_bytes.result.now = encodes-chars chunk c.chunk_at_byte.ensures.utf8 ∙ sym c.as_bytes.ensures.value in
-    rw (p.1, p.2) (record { written = WritesUntil-chunk _ _ _ _ _ _ _ _ _ _ _ _ _ c.loop-at.invariant c.next_chunk_follows.ensures c.chunk_at_byte.ensures.cut.cut more
-        c.chunk_at_byte.ensures.chunk is c.in_err-put.ensures.written })
+    rw (p.1, p.2) (record {
+      written = WritesUntil-chunk _ _ _ _ _ _ _ _ _ _ _ _ _ c.loop-at.invariant c.next_chunk_follows.ensures c.chunk_at_byte.ensures.cut.cut more
+          c.chunk_at_byte.ensures.chunk is c.in_err-put.ensures.written;
+    })
 
 pub loop-at-preserved : goal.loop-at-preserved
 loop-at-preserved g c =
