@@ -15,3 +15,4 @@ pub mod TakesLemmas
 pub mod TextLemmas
 pub mod TurnLemmas
 pub mod ExampleRuns
+pub mod PrintLemmas

@@ -2,9 +2,6 @@
 use Rattle.std.proofs.Common.{◌≡◌, ℕ, ◌+◌, ◌<◌, ◌≤◌, List, [], length, map, sym, ap, ◌∙◌, subst, inl, inr, IsUtf8, Ok, Err, arith, slice_index_or, slice_set}
 use Rattle.std.proofs.lemmas.List.{map-set, get_or-map}
 use Rattle.std.proofs.Math.Seq.{map-set_same}
-use Rattle.rope_search.specs.declared.payloads.Collected.{Collected}
-use Rattle.rope_search.specs.declared.requests.Asked.TheVariants as asked
-use Rattle.rope_search.specs.Requests.{Collects, IsAskedFor}
 use Rattle.rope_search.specs.declared.commands.Payload.{Payload}
 use Rattle.rope_search.specs.declared.commands.Command.TheVariants.{Text, Pattern as PatternCommand}
 use Rattle.rope_search.specs.Order.{Order, SetText, PrintText, ForkBuffer, SetPattern, DropPattern, ListMatches, UseBuffer}
@@ -48,17 +45,6 @@ rows_for_pattern limit s payload count before each (SetPattern bytes) cost stand
 rows_for_pattern limit s payload count before each DropPattern cost stands costs = absurd stands
 rows_for_pattern limit s payload count before each ListMatches cost stands costs = absurd stands
 rows_for_pattern limit s payload count before each (UseBuffer k) cost stands costs = absurd stands
-
-pub rows_for_asked_text : (limit : ℕ) (s : State) (collected : Collected) (count before : ℕ)
-    → ((bytes : List ℕ) (cost : ℕ) → Collects limit (length bytes) collected bytes → Costs limit s (SetText bytes) cost → count ≤ before + cost)
-    → (order : Order) (cost : ℕ) → IsAskedFor limit (asked.Text collected) order → Costs limit s order cost → count ≤ before + cost
-rows_for_asked_text limit s collected count before each (SetText bytes) cost kept costs = each bytes cost kept costs
-rows_for_asked_text limit s collected count before each PrintText cost kept costs = absurd kept
-rows_for_asked_text limit s collected count before each ForkBuffer cost kept costs = absurd kept
-rows_for_asked_text limit s collected count before each (SetPattern bytes) cost kept costs = absurd kept
-rows_for_asked_text limit s collected count before each DropPattern cost kept costs = absurd kept
-rows_for_asked_text limit s collected count before each ListMatches cost kept costs = absurd kept
-rows_for_asked_text limit s collected count before each (UseBuffer k) cost kept costs = absurd kept
 
 -- ---- the chosen buffer in the list of all
 

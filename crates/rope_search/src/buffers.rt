@@ -1,6 +1,7 @@
 //! A buffer: a text with its history, and perhaps a pattern.
-ghost use Rattle.std.specs.Prelude.{◌≡◌, ◌+◌, ◌^◌, ◌<◌, ◌≤◌, ◌↔◌, ◌⊎◌, [], length, chars, string_bytes, string_len, option_copied, None, Some, Err, OnOk, OnErr, IfOk, IfErr, IfSome};
-ghost use Rattle.rope_search_reports.specs.Text.{bytes_of, line_count};
+ghost use Rattle.std.specs.Prelude.{◌≡◌, ◌+◌, ◌^◌, ◌<◌, ◌≤◌, ◌↔◌, ◌⊎◌, [], length, chars, option_copied, None, Some, Err, OnOk, OnErr, IfOk, IfErr, IfSome};
+ghost use Rattle.ropey.specs.Chunks.{text_of};
+ghost use Rattle.rope_search_reports.specs.Text.{line_count};
 ghost use Rattle.rope_search_reports.specs.Report.{report, match_count};
 ghost use Rattle.rope_search.specs.Session.{current_text, fresh, with_text, with_pattern, report_in};
 ghost use Rattle.rope_search.specs.Pattern.{IsPattern, pattern_limit};
@@ -11,16 +12,17 @@ use crate::patterns::{PATTERN_LEN, is_pattern};
 use rope_search_io::Fault;
 use rope_search_reports::laws::few_matches;
 use rope_search_reports::{Lines, Row, report_of};
+use ropey::Rope;
 use std::alloc::Global;
 use std::marker::Model;
 
-/// A text in memory of its own, within a limit on its bytes; and where a pattern is set, the report of
-/// its matches.
+/// A text within a limit on its bytes; and where a pattern is set, the report of its matches. A fork
+/// shares the memory of the text.
 #[derive(Drop)]
 pub struct Buffer {
     alloc: Global,
     limits: Limits,
-    text: String,
+    text: Rope,
     pattern: Option<String>,
     // A row for each line of the text. There is none without a pattern.
     rows: Vec<Row>,
@@ -28,6 +30,7 @@ pub struct Buffer {
 
 impl Model for Buffer {
     ghost use Rattle.std.specs.Prelude.{◌≡◌, ◌<◌, length, chars, string_bytes, option_map, IfSome};
+    ghost use Rattle.ropey.specs.Chunks.{text_of};
     ghost use Rattle.rope_search.specs.Session.{LimitedBuffer, fresh, with_pattern};
     ghost use Rattle.rope_search_reports.specs.Report.{report};
 
@@ -35,16 +38,15 @@ impl Model for Buffer {
 
     ghost view = { λ b. record {
       limit = b.limits.text;
-      state = with_pattern (fresh (chars (string_bytes b.text))) (option_map (λ p. chars (string_bytes p)) b.pattern);
+      state = with_pattern (fresh (text_of b.text)) (option_map (λ p. chars (string_bytes p)) b.pattern);
     } };
 
     ghost invariant = { λ b. IfSome b.pattern (λ p.
-        (0 < length (string_bytes p)) × (b.rows.items ≡ report (chars (string_bytes b.text)) (chars (string_bytes p)))) };
+        (0 < length (string_bytes p)) × (b.rows.items ≡ report (text_of b.text) (chars (string_bytes p)))) };
 }
 
 impl Buffer {
     /// A buffer with the empty text and no pattern. It may be refused with `Fault::Memory` alone.
-    #[tactic(auto, using(crate::proofs::TextLemmas::text_laws))]
     pub fn new(alloc: Global, limits: Limits) -> Result<Buffer, Fault>
         ensures ok { IfOk result (λ buffer. buffer ≡ record { limit = limits.text; state = fresh [] }) }
         ensures err { IfErr result (λ fault. fault ≡ Fault.Memory) }
@@ -52,18 +54,17 @@ impl Buffer {
         Ok(Buffer {
             alloc,
             limits,
-            text: String::new(alloc),
+            text: Rope::new(),
             pattern: None,
             rows: Vec::new(alloc),
         })
     }
 
     /// The current text.
-    #[tactic(auto, using(crate::proofs::TextLemmas::text_laws))]
-    pub fn text(&self) -> &str
-        ensures { result.now ≡ bytes_of (current_text self.now.state) }
+    pub fn text(&self) -> &Rope
+        ensures { text_of result.now ≡ current_text self.now.state }
     {
-        self.text.as_str()
+        &self.text
     }
 
     /// Makes this the text, with a new history; the pattern stays, and its report is made anew. It is
@@ -85,37 +86,20 @@ impl Buffer {
             return Err(Fault::Size);
         }
         // Nothing is copied that is refused.
-        let Ok(text) = String::from_str(self.alloc, text) else {
+        let Ok(text) = Rope::from_str(self.alloc, text) else {
             return Err(Fault::Memory);
         };
-        self.take_text(tick, text)
-    }
-
-    /// Makes this the text, as `set_text` does, without a copy.
-    pub(crate) fn take_text(&mut self, tick: &mut Lines, text: String) -> Result<(), Fault>
-        ensures ok { OnOk result (self.new.state ≡ with_text self.old.state (chars (string_bytes text))) }
-        ensures limit { self.new.limit ≡ self.old.limit }
-        ensures size { (result ≡ Err Fault.Size) ↔ (self.old.limit < string_len text) }
-        ensures fault { IfErr result (λ fault. (fault ≡ Fault.Size) ⊎ (fault ≡ Fault.Memory)) }
-        ensures err { OnErr result (self.new ≡ self.old) }
-        ensures refused { result ≡ Err Fault.Size → tick.new ≡ tick.old }
-        ensures rows { tick.new.count ≤ tick.old.count + rows_anew self.old.state (chars (string_bytes text)) }
-        ensures wholes { tick.new.wholes ≡ tick.old.wholes }
-    {
-        if text.len() > self.limits.text {
-            return Err(Fault::Size);
-        }
-        let rows = self.rows_in(tick, text.as_str())?;
+        let rows = self.rows_in(tick, &text)?;
         self.text = text;
         self.rows = rows;
         Ok(())
     }
 
     // The rows of a text: those of its report where there is a pattern.
-    fn rows_in(&self, tick: &mut Lines, text: &str) -> Result<Vec<Row>, Fault>
-        ensures ok { IfOk result (λ rows. IfSome self.now.state.pattern (λ pattern. rows.items ≡ report (chars text.now) pattern)) }
+    fn rows_in(&self, tick: &mut Lines, text: &Rope) -> Result<Vec<Row>, Fault>
+        ensures ok { IfOk result (λ rows. IfSome self.now.state.pattern (λ pattern. rows.items ≡ report (text_of text.now) pattern)) }
         ensures fault { IfErr result (λ fault. fault ≡ Fault.Memory) }
-        ensures rows { tick.new.count ≤ tick.old.count + rows_anew self.now.state (chars text.now) }
+        ensures rows { tick.new.count ≤ tick.old.count + rows_anew self.now.state (text_of text.now) }
         ensures wholes { tick.new.wholes ≡ tick.old.wholes }
     {
         match &self.pattern {
@@ -151,7 +135,7 @@ impl Buffer {
         let Ok(kept) = String::from_str(self.alloc, pattern) else {
             return Err(Fault::Memory);
         };
-        let rows = report_of(tick, self.alloc, pattern, self.text.as_str())?;
+        let rows = report_of(tick, self.alloc, pattern, &self.text)?;
         self.pattern = Some(kept);
         self.rows = rows;
         Ok(())
@@ -175,6 +159,8 @@ impl Buffer {
         match &self.pattern {
             None => None,
             Some(_) => {
+                // A text has fewer than 2^63 bytes, which bounds the matches.
+                let _ = self.text.len_bytes();
                 few_matches();
                 Some(self.rows.as_slice())
             }

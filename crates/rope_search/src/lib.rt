@@ -14,11 +14,13 @@ mod replies;
 mod requests;
 mod runs;
 mod sessions;
+mod texts;
 
 pub use buffers::Buffer;
 pub use commands::{Command, Payload, Reply};
 pub use limits::Limits;
 pub use rope_search_io::{Broken, Device, Failed, Fault, MemorySink, MemorySource, Sink, Source};
 pub use rope_search_reports::{Lines, Row, search_line};
+pub use ropey::Rope;
 pub use runs::{Ended, run, run_limited};
 pub use sessions::Session;

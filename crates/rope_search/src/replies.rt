@@ -6,6 +6,7 @@ ghost use Rattle.rope_search.specs.Shows.{shows};
 use crate::commands::Reply;
 use crate::listings::write_report;
 use crate::sessions::Session;
+use crate::texts::write_text;
 use itoa::Buffer as Digits;
 use rope_search_io::{Broken, Fault, Sink, WriteBehind};
 
@@ -33,11 +34,7 @@ pub fn write_answer<W: Sink>(
             let rows = session.buffer().report().unwrap_or(&[]);
             write_report(rows, behind, sink)
         }
-        Ok(Reply::Print) => {
-            let text = session.buffer().text().as_bytes();
-            let len = digits.format(text.len()).as_bytes();
-            behind.send_parts(sink, &[b"text ", len, b"\n", text, b"\n"])
-        }
+        Ok(Reply::Print) => write_text(session.buffer().text(), behind, sink),
         Err(fault) => behind.send_parts(sink, &[b"error ", fault.word().as_bytes(), b"\n"]),
     }
 }

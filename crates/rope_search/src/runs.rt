@@ -114,7 +114,7 @@ fn turn<R: Source, W: Sink>(
     match read_request(ahead, reader, alloc, limits)? {
         Request::End(ending) => Ok(Some(ending)),
         Request::Given(asked) => {
-            let answer = session.apply_asked(tick, asked);
+            let answer = session.apply(tick, asked.command());
             write_answer(session, answer, behind, writer)?;
             Ok(None)
         }

@@ -1,18 +1,15 @@
 //! A session: buffers, of which one is chosen.
-ghost use Rattle.std.specs.Prelude.{◌≡◌, ◌+◌, ◌<◌, ◌≤◌, ◌↔◌, [], ◌∷◌, ◌++◌, List, ℕ, length, OnOk, OnErr, IfOk, IfErr, IsOk, None, string_bytes};
+ghost use Rattle.std.specs.Prelude.{◌≡◌, ◌+◌, ◌<◌, ◌≤◌, ◌↔◌, [], ◌∷◌, ◌++◌, List, ℕ, length, OnOk, OnErr, IfOk, IfErr, IsOk, None};
 ghost use Rattle.rope_search.specs.Order.{Order, SetText, SetPattern, ListMatches};
 ghost use Rattle.rope_search.specs.Session.{first, fresh, current_text, chosen_buffer, with_pattern, with_chosen};
 ghost use Rattle.rope_search.specs.Pattern.{pattern_limit};
 ghost use Rattle.rope_search.specs.Step.{Step};
 ghost use Rattle.rope_search.specs.Stands.{Stands, StandsFor};
-ghost use Rattle.rope_search.specs.Requests.{IsAskedFor};
 ghost use Rattle.rope_search.specs.Cost.{Costs, whole_searches};
 
 use crate::buffers::Buffer;
 use crate::commands::{Command, Payload, Reply};
 use crate::limits::Limits;
-use crate::payloads::Collected;
-use crate::requests::Asked;
 use rope_search_io::Fault;
 use rope_search_reports::Lines;
 use std::alloc::Global;
@@ -147,20 +144,6 @@ impl Session {
         }
     }
 
-    /// Carries out a command that was read, as `apply` does, and copies no payload that was kept.
-    pub(crate) fn apply_asked(&mut self, tick: &mut Lines, asked: Asked) -> Result<Reply, Fault>
-        ensures step { (order : Order) → IsAskedFor self.old.limit asked order
-            → Step self.old.limit self.old.state order result self.new.state }
-        ensures limit { self.new.limit ≡ self.old.limit }
-        ensures rows { (order : Order) (cost : ℕ) → IsAskedFor self.old.limit asked order
-            → Costs self.old.limit self.old.state order cost → tick.new.count ≤ tick.old.count + cost }
-    {
-        match asked {
-            Asked::Text(Collected::Kept(bytes)) => self.take_text(tick, bytes),
-            asked => self.apply(tick, asked.command()),
-        }
-    }
-
     // Makes the payload the chosen buffer's text.
     fn set_text(&mut self, tick: &mut Lines, payload: Payload<'_>) -> Result<Reply, Fault>
         ensures step { (bytes : List ℕ) → StandsFor self.old.limit payload.entry bytes
@@ -225,19 +208,5 @@ impl Session {
             None => Err(Fault::Nothing),
             Some(_) => Ok(Reply::List),
         }
-    }
-
-    // Makes these bytes the chosen buffer's text.
-    fn take_text(&mut self, tick: &mut Lines, bytes: Vec<u8>) -> Result<Reply, Fault>
-        ensures step { Step self.old.limit self.old.state (SetText bytes.items) result self.new.state }
-        ensures limit { self.new.limit ≡ self.old.limit }
-        ensures rows { (cost : ℕ) → Costs self.old.limit self.old.state (SetText bytes.items) cost
-            → tick.new.count ≤ tick.old.count + cost }
-    {
-        let Ok(text) = String::from_utf8(bytes) else {
-            return Err(Fault::Utf8);
-        };
-        self.buffers[self.chosen].take_text(tick, text)?;
-        Ok(Reply::Done)
     }
 }

@@ -1,3 +1,4 @@
 pub mod RowLemmas
 pub mod ReportLemmas
 pub mod FewLemmas
+pub mod DraftLemmas

@@ -1,18 +1,18 @@
 -- The lines of a text, cut off one by one.
-use Rattle.std.proofs.Common.{◌≡◌, ◌≢◌, ℕ, suc, ◌+◌, ◌-◌, ◌<◌, ◌≤◌, ◌==◌, Bool, true, false, not, cond, ◌&&◌, List, [], ◌∷◌, ◌++◌, Option, None, Some, IsUtf8, map, length, get_or, replicate, take, drop, take-append-drop, refl, sym, ap, subst, ◌∙◌, ◌⊎◌, ⊎_elim, append-nil, arith, chars, append_assoc, length-append}
+use Rattle.std.proofs.Common.{◌≡◌, ◌≢◌, ℕ, suc, ◌+◌, ◌-◌, ◌<◌, ◌≤◌, ◌==◌, Bool, true, false, not, cond, ◌&&◌, List, [], ◌∷◌, ◌++◌, IsUtf8, length, get_or, replicate, take, drop, take-append-drop, refl, sym, ap, subst, ◌∙◌, ◌⊎◌, inl, inr, ⊎_elim, append-nil, arith, chars, append_assoc, length-append}
 use Rattle.std.proofs.Math.Seq.{take-append_seam}
 use Rattle.std.proofs.Math.Utf8.{encode}
-use Rattle.std.proofs.lemmas.Bool.{cases_Bool, cond-true, cond-false}
+use Rattle.std.proofs.lemmas.Bool.{cases_Bool, cond-true, cond-false, false≢true}
 use Rattle.std.proofs.lemmas.Bool.Decides.{nat_tests}
-use Rattle.std.proofs.lemmas.List.{length-map, length-replicate, length-take-le, take_more}
+use Rattle.std.proofs.lemmas.List.{length-replicate, length-take-le, take_more}
 use Rattle.std.proofs.lemmas.Str.{IsUtf8-take, IsUtf8-past_char, IsCharBoundary-at_seam, chars-append, chars-nil, chars_past_char, encodes-chars, encodes-append, encodes_same, encode_ascii}
 use Rattle.std.specs.Char.{len_utf8}
 use Rattle.std.specs.Str.{NonePass, IsCharBoundary}
 use Rattle.str_indices.specs.Text.{is_line_break, ends_break, starts_with_lf, ends_from, breaks}
-use Rattle.rope_search_reports.specs.Ticks.{Ticks}
+use Rattle.str_indices.specs.Laws.{ends_with_cr}
 use Rattle.rope_search_reports.specs.Text.{bytes_of}
-use Rattle.rope_search_reports.specs.Report.{with_first, line_texts, row_of, report}
-use Rattle.rope_search_reports.specs.LineCuts.{is_stop, lines_left}
+use Rattle.rope_search_reports.specs.Report.{with_first, line_texts}
+use Rattle.rope_search_reports.specs.LineCuts.{is_stop, BeginsWithBreak, BeginsWithLine}
 
 pub ruleset break_tests = (nat_tests)
 
@@ -136,7 +136,7 @@ plain-boundary rest n within plain utf8 =
     subst (IsCharBoundary rest) (length-take-le n rest within)
     (IsCharBoundary-at_seam rest (take n rest) (drop n rest) (sym (take-append-drop n rest)) (plain-utf8 rest n plain utf8))
 
-none-append : (p : ℕ → Bool) (cs ds : List ℕ) → NonePass p cs → NonePass p ds → NonePass p (cs ++ ds)
+pub none-append : (p : ℕ → Bool) (cs ds : List ℕ) → NonePass p cs → NonePass p ds → NonePass p (cs ++ ds)
 none-append p [] ds none none' = none'
 none-append p (c ∷ cs) ds none none' = (none.0, none-append p cs ds none.1 none')
 
@@ -185,27 +185,33 @@ text-chars text rest len sofar utf8 utf8' =
     ∙ ap (λ cs. cs ++ chars rest) (front-chars text rest len sofar utf8 utf8')
 
 -- the first line, where what follows it begins with a break
-line-cut : (cs ds : List ℕ) (others : List (List ℕ)) → NonePass is_line_break cs → line_texts ds ≡ [] ∷ others → line_texts (cs ++ ds) ≡ cs ∷ others
+pub line-cut : (cs ds : List ℕ) (others : List (List ℕ)) → NonePass is_line_break cs → line_texts ds ≡ [] ∷ others → line_texts (cs ++ ds) ≡ cs ∷ others
 line-cut [] ds others none e = e
 line-cut (c ∷ cs) ds others none e =
     line_texts-more c (cs ++ ds) (no_break-ends_none c (cs ++ ds) none.0) none.0 ∙ ap (with_first c) (line-cut cs ds others none.1 e)
 
-pub cut-at : (text rest line : List ℕ) (len : ℕ) (others : List (List ℕ)) → Unbroken text rest len → IsUtf8 text → IsUtf8 rest → line ≡ take len text
-    → line_texts (chars rest) ≡ [] ∷ others → line_texts (chars text) ≡ chars line ∷ others
-cut-at text rest line len others sofar utf8 utf8' line-is e =
+pub cut-at : (text rest line : List ℕ) (len : ℕ) (after : List ℕ) → Unbroken text rest len → IsUtf8 text → IsUtf8 rest → line ≡ take len text
+    → BeginsWithBreak (chars rest) after → BeginsWithLine (chars text) (chars line) after
+cut-at text rest line len after sofar utf8 utf8' line-is ends =
     let same : chars line ≡ sofar.front = ap chars (line-is ∙ front-taken text rest len sofar) ∙ front-chars text rest len sofar utf8 utf8' in
-    ap line_texts (text-chars text rest len sofar utf8 utf8') ∙ line-cut sofar.front (chars rest) others sofar.none e ∙ ap (λ l. l ∷ others) (sym same)
+    record {
+      behind = chars rest;
+      parts = text-chars text rest len sofar utf8 utf8' ∙ ap (λ l. l ++ chars rest) (sym same);
+      plain = subst (NonePass is_line_break) (sym same) sofar.none;
+      ends = ends;
+    }
 
-pub cut-end : (text rest : List ℕ) (len : ℕ) → Unbroken text rest len → IsUtf8 text → IsUtf8 rest → length rest ≡ 0 → line_texts (chars text) ≡ chars text ∷ []
+-- no bytes spell no characters
+pub chars-none : (bytes : List ℕ) → length bytes ≡ 0 → chars bytes ≡ []
+chars-none [] none = chars-nil
+chars-none (b ∷ bytes) none = absurd (omega (arith, none))
+
+-- no break is in the text
+pub cut-end : (text rest : List ℕ) (len : ℕ) → Unbroken text rest len → IsUtf8 text → IsUtf8 rest → length rest ≡ 0 → NonePass is_line_break (chars text)
 cut-end text rest len sofar utf8 utf8' none =
-    let empty : chars rest ≡ [] = empty-chars rest none in
-    let whole : chars text ≡ sofar.front ++ chars rest = text-chars text rest len sofar utf8 utf8' in
-    let same : chars text ≡ sofar.front = whole ∙ ap (λ cs. sofar.front ++ cs) empty ∙ append-nil sofar.front in
-    ap line_texts whole ∙ line-cut sofar.front (chars rest) [] sofar.none (ap line_texts empty ∙ line_texts-nil) ∙ ap (λ l. l ∷ []) (sym same)
-  where
-    empty-chars : (bs : List ℕ) → length bs ≡ 0 → chars bs ≡ []
-    empty-chars [] none = chars-nil
-    empty-chars (b ∷ bs) none = absurd (omega (arith, none))
+    let empty : chars rest ≡ [] = chars-none rest none in
+    let same : chars text ≡ sofar.front = text-chars text rest len sofar utf8 utf8' ∙ ap (λ cs. sofar.front ++ cs) empty ∙ append-nil sofar.front in
+    subst (NonePass is_line_break) (sym same) sofar.none
 
 -- ---- breaks
 
@@ -216,9 +222,29 @@ lines-one c rest is_so other = line_texts-break c rest (ends other)
     ends : (c ≢ 13) ⊎ (starts_with_lf rest ≡ false) → ends_break is_line_break c rest ≡ true
     ends other = grind (arith, nat_tests, is_so, other)
 
+one-whole : (c : ℕ) (rest later : List ℕ) → (c ≢ 13) ⊎ (starts_with_lf rest ≡ false) → (ends_with_cr (c ∷ rest) && starts_with_lf later) ≡ false
+    → (c ≢ 13) ⊎ (starts_with_lf (rest ++ later) ≡ false)
+one-whole c rest later (inl other) whole = inl other
+one-whole c (d ∷ ds) later (inr none) whole = inr none
+one-whole c [] later (inr none) whole =
+    ⊎_elim
+    (λ lf. inl (λ cr. absurd (false≢true (sym whole ∙ ap (λ n. (n == 13) && starts_with_lf later) cr ∙ lf))))
+    (λ no_lf. inr no_lf)
+    (cases_Bool (starts_with_lf later))
+
+pub BeginsWithBreak-one : (c : ℕ) (rest : List ℕ) → is_line_break c ≡ true → ((c ≢ 13) ⊎ (starts_with_lf rest ≡ false)) → BeginsWithBreak (c ∷ rest) rest
+BeginsWithBreak-one c rest is_so other = record {
+  one = c ∷ [];
+  parts = refl;
+  lines = λ later whole. lines-one c (rest ++ later) is_so (one-whole c rest later other whole);
+}
+
 -- CR LF
 pub lines-two : (rest : List ℕ) → line_texts (13 ∷ 10 ∷ rest) ≡ [] ∷ line_texts rest
 lines-two rest = line_texts-cr 13 (10 ∷ rest) refl refl ∙ line_texts-break 10 rest refl
+
+pub BeginsWithBreak-two : (rest : List ℕ) → BeginsWithBreak (13 ∷ 10 ∷ rest) rest
+BeginsWithBreak-two rest = record { one = 13 ∷ 10 ∷ []; parts = refl; lines = λ later whole. lines-two (rest ++ later) }
 
 pub chars-lf : (bytes rest : List ℕ) → IsUtf8 bytes → bytes ≡ 10 ∷ rest → chars bytes ≡ 10 ∷ chars rest
 chars-lf bytes rest utf8 e =
@@ -236,49 +262,3 @@ no_lf-by (d ∷ cs) bytes e none =
 
 pub no_lf : (bytes : List ℕ) → IsUtf8 bytes → ((rest : List ℕ) → bytes ≢ 10 ∷ rest) → starts_with_lf (chars bytes) ≡ false
 no_lf bytes utf8 none = no_lf-by (chars bytes) bytes (encodes-chars bytes utf8) none
-
--- ---- the report so far
-
-pub record Reported (needle text rest : List ℕ) (rows : List (List (ℕ × ℕ))) (old new : Ticks) : Type 0 where
-  pub same : report (chars text) (chars needle) ≡ rows ++ report (chars rest) (chars needle)
-  pub counted : new.count ≤ old.count + length rows
-  pub wholes : new.wholes ≡ old.wholes
-
-pub Reported-start : (needle text : List ℕ) (ticks : Ticks) → Reported needle text text [] ticks ticks
-Reported-start needle text ticks = record { same = refl; counted = omega arith; wholes = refl }
-
--- one row more
-line-same : (needle rest line : List ℕ) (after : Option (List ℕ)) (row : List (ℕ × ℕ)) → line_texts (chars rest) ≡ chars line ∷ lines_left after
-    → row ≡ row_of (chars needle) (chars line) → report (chars rest) (chars needle) ≡ row ∷ map (row_of (chars needle)) (lines_left after)
-line-same needle rest line after row lines row-is =
-    ap (map (row_of (chars needle))) lines ∙ ap (λ r. r ∷ map (row_of (chars needle)) (lines_left after)) (sym row-is)
-
-pub Reported-step : (needle text rest line next : List ℕ) (rows : List (List (ℕ × ℕ))) (row : List (ℕ × ℕ)) (old mid new : Ticks) → Reported needle text rest rows old mid
-    → line_texts (chars rest) ≡ chars line ∷ lines_left (Some next) → row ≡ row_of (chars needle) (chars line)
-    → new.count ≤ mid.count + 1 → new.wholes ≡ mid.wholes → Reported needle text next (rows ++ row ∷ []) old new
-Reported-step needle text rest line next rows row old mid new sofar lines row-is count wholes =
-    record {
-      same = sofar.same ∙ ap (λ rs. rows ++ rs) (line-same needle rest line (Some next) row lines row-is) ∙ sym (append_assoc rows (row ∷ []) (report (chars next) (chars needle)));
-      counted = omega (arith, sofar.counted, count, length-append rows (row ∷ []));
-      wholes = wholes ∙ sofar.wholes;
-    }
-
-pub Reported-end : (needle text rest line : List ℕ) (rows : List (List (ℕ × ℕ))) (row : List (ℕ × ℕ)) (old mid : Ticks) → Reported needle text rest rows old mid
-    → line_texts (chars rest) ≡ chars line ∷ lines_left None → row ≡ row_of (chars needle) (chars line) → rows ++ row ∷ [] ≡ report (chars text) (chars needle)
-Reported-end needle text rest line rows row old mid sofar lines row-is =
-    sym (sofar.same ∙ ap (λ rs. rows ++ rs) (line-same needle rest line None row lines row-is))
-
--- one row more is still within the count
-pub Reported-room : (needle text rest : List ℕ) (rows : List (List (ℕ × ℕ))) (old mid : Ticks) → Reported needle text rest rows old mid
-    → mid.count + 1 ≤ old.count + breaks is_line_break (chars text) + 1
-Reported-room needle text rest rows old mid sofar =
-    omega (
-      arith,
-      sofar.counted,
-      ap length sofar.same,
-      length-append rows (report (chars rest) (chars needle)),
-      length-map (line_texts (chars text)) (row_of (chars needle)),
-      length-map (line_texts (chars rest)) (row_of (chars needle)),
-      lines-counted (chars text),
-      lines-counted (chars rest),
-    )

@@ -1,12 +1,15 @@
 //! The report of a text: its lines, each searched by itself.
-ghost use Rattle.std.specs.Prelude.{◌≡◌, ◌+◌, ◌<◌, ◌≤◌, [], ◌∷◌, true, length, take, chars, option_copied, IfOk, IfErr, IfSome};
+ghost use Rattle.std.specs.Prelude.{◌≡◌, ◌+◌, ◌<◌, ◌≤◌, [], ◌∷◌, ◌++◌, true, length, take, chars, string_bytes, option_copied, IfOk, IfErr, IfSome, OnOk};
 ghost use Rattle.str_indices.specs.Text.{is_line_break, breaks};
 ghost use Rattle.std.specs.Str.{NonePass};
-ghost use Rattle.rope_search_reports.specs.Report.{line_texts, report};
-ghost use Rattle.rope_search_reports.specs.LineCuts.{is_stop, lines_left};
+ghost use Rattle.ropey.specs.Chunks.{text_of};
+ghost use Rattle.rope_search_reports.specs.Report.{row_of, report};
+ghost use Rattle.rope_search_reports.specs.LineCuts.{is_stop, BeginsWithBreak, CutsLine};
 
 use crate::rows::{Lines, Row, search_line};
 use rope_search_io::Fault;
+use ropey::Rope;
+use ropey::laws::{chunks_cut_no_cr_lf, next_chunk_follows};
 use std::alloc::Global;
 
 /// Whether a character ends a line or is the CR of a CR LF.
@@ -21,7 +24,7 @@ fn is_break(c: char) -> bool
 /// with it.
 fn after_break(first: char, after: &str) -> &str
     requires { is_line_break first ≡ true }
-    ensures lines { line_texts (first ∷ chars after.now) ≡ [] ∷ line_texts (chars result.now) }
+    ensures lines { BeginsWithBreak (first ∷ chars after.now) (chars result.now) }
     ensures within { length result.now ≤ length after.now }
 {
     if first != '\r' {
@@ -54,9 +57,10 @@ fn plain_len(text: &str) -> usize
     len
 }
 
-/// The text of the first line, and what follows the break at its end, if there is one.
+/// The text of the first line and what follows its break; or all of the text, where there is no break
+/// in it.
 fn cut_line(text: &str) -> (&str, Option<&str>)
-    ensures lines { line_texts (chars text.now) ≡ chars result.0.now ∷ lines_left (option_copied result.1) }
+    ensures lines { CutsLine (chars text.now) (chars result.0.now) (option_copied result.1) }
     ensures shorter { IfSome result.1 (λ rest. length rest.now < length text.now) }
 {
     // What follows the characters so far, of which none is in a break.
@@ -75,31 +79,132 @@ fn cut_line(text: &str) -> (&str, Option<&str>)
     }
 }
 
-/// The report of a text and a needle that isn't empty: a row for each line, from the first. It counts at
-/// most a row a line, and may be refused with `Fault::Memory` alone.
+/// A report that is being made.
+#[derive(Drop)]
+struct Draft {
+    alloc: Global,
+    // The rows of the lines so far.
+    rows: Vec<Row>,
+    // The front of the next line, where that goes on in another chunk.
+    front: String,
+}
+
+impl Draft {
+    /// No line yet.
+    fn new(alloc: Global) -> Draft
+        ensures rows { result.rows.items ≡ [] }
+        ensures front { string_bytes result.front ≡ [] }
+    {
+        Draft {
+            alloc,
+            rows: Vec::new(alloc),
+            front: String::new(alloc),
+        }
+    }
+
+    /// The row of the line that ends with these characters. They are searched in place where they are
+    /// the whole line. It may be refused with `Fault::Memory` alone.
+    fn search(&mut self, tick: &mut Lines, needle: &str, end: &str) -> Result<Row, Fault>
+        requires { 0 < length needle.now }
+        ensures row { IfOk result (λ row.
+            row ≡ row_of (chars needle.now) (chars (string_bytes self.old.front) ++ chars end.now)) }
+        ensures rows { OnOk result (self.new.rows.items ≡ self.old.rows.items) }
+        ensures front { OnOk result (string_bytes self.new.front ≡ []) }
+        ensures fault { IfErr result (λ fault. fault ≡ Fault.Memory) }
+        ensures count { tick.new.count ≤ tick.old.count + 1 }
+        ensures wholes { tick.new.wholes ≡ tick.old.wholes }
+    {
+        if self.front.is_empty() {
+            return search_line(tick, self.alloc, needle, end);
+        }
+        if self.front.push_str(end).is_err() {
+            return Err(Fault::Memory);
+        }
+        let row = search_line(tick, self.alloc, needle, self.front.as_str())?;
+        self.front.clear();
+        Ok(row)
+    }
+
+    /// Adds the row of the line that ends with these characters.
+    fn end_line(&mut self, tick: &mut Lines, needle: &str, end: &str) -> Result<(), Fault>
+        requires { 0 < length needle.now }
+        ensures rows { OnOk result (self.new.rows.items ≡ self.old.rows.items
+            ++ row_of (chars needle.now) (chars (string_bytes self.old.front) ++ chars end.now) ∷ []) }
+        ensures front { OnOk result (string_bytes self.new.front ≡ []) }
+        ensures fault { IfErr result (λ fault. fault ≡ Fault.Memory) }
+        ensures count { tick.new.count ≤ tick.old.count + 1 }
+        ensures wholes { tick.new.wholes ≡ tick.old.wholes }
+    {
+        let row = self.search(tick, needle, end)?;
+        if self.rows.push(row).is_err() {
+            return Err(Fault::Memory);
+        }
+        Ok(())
+    }
+
+    /// Adds the row of the last line, which ends with these characters, and answers all rows.
+    fn finish(mut self, tick: &mut Lines, needle: &str, end: &str) -> Result<Vec<Row>, Fault>
+        requires { 0 < length needle.now }
+        ensures rows { IfOk result (λ rows. rows.items ≡ self.rows.items
+            ++ row_of (chars needle.now) (chars (string_bytes self.front) ++ chars end.now) ∷ []) }
+        ensures fault { IfErr result (λ fault. fault ≡ Fault.Memory) }
+        ensures count { tick.new.count ≤ tick.old.count + 1 }
+        ensures wholes { tick.new.wholes ≡ tick.old.wholes }
+    {
+        self.end_line(tick, needle, end)?;
+        let Draft { rows, .. } = self;
+        Ok(rows)
+    }
+
+    /// Keeps these characters: the line goes on in the next chunk.
+    fn carry(&mut self, part: &str) -> Result<(), Fault>
+        ensures rows { OnOk result (self.new.rows.items ≡ self.old.rows.items) }
+        ensures front { OnOk result (chars (string_bytes self.new.front)
+            ≡ chars (string_bytes self.old.front) ++ chars part.now) }
+        ensures fault { IfErr result (λ fault. fault ≡ Fault.Memory) }
+    {
+        if self.front.push_str(part).is_err() {
+            return Err(Fault::Memory);
+        }
+        Ok(())
+    }
+}
+
+/// The report of a text and a needle that isn't empty: a row for each line, from the first. A line is
+/// copied for its search where it lies in more than one chunk. It counts at most a row a line, and may
+/// be refused with `Fault::Memory` alone.
 pub fn report_of(
     tick: &mut Lines,
     alloc: Global,
     needle: &str,
-    text: &str,
+    text: &Rope,
 ) -> Result<Vec<Row>, Fault>
     requires { 0 < length needle.now }
-    ensures rows { IfOk result (λ rows. rows.items ≡ report (chars text.now) (chars needle.now)) }
+    ensures rows { IfOk result (λ rows. rows.items ≡ report (text_of text.now) (chars needle.now)) }
     ensures fault { IfErr result (λ fault. fault ≡ Fault.Memory) }
-    ensures count { tick.new.count ≤ tick.old.count + breaks is_line_break (chars text.now) + 1 }
+    ensures count { tick.new.count ≤ tick.old.count + breaks is_line_break (text_of text.now) + 1 }
     ensures wholes { tick.new.wholes ≡ tick.old.wholes }
 {
-    let mut rows = Vec::new(alloc);
-    let mut rest = text;
+    chunks_cut_no_cr_lf();
+    next_chunk_follows();
+    let len = text.len_bytes();
+    let mut draft = Draft::new(alloc);
+    // What is left of a chunk, and where the next one starts.
+    let mut rest = "";
+    let mut at = 0;
     loop {
         let (line, after) = cut_line(rest);
-        let row = search_line(tick, alloc, needle, line)?;
-        if rows.push(row).is_err() {
-            return Err(Fault::Memory);
+        if let Some(next) = after {
+            draft.end_line(tick, needle, line)?;
+            rest = next;
+            continue;
         }
-        let Some(next) = after else {
-            return Ok(rows);
-        };
-        rest = next;
+        if at == len {
+            return draft.finish(tick, needle, line);
+        }
+        draft.carry(line)?;
+        let (chunk, ..) = text.chunk_at_byte(at);
+        rest = chunk;
+        at += chunk.len();
     }
 }

@@ -74,6 +74,40 @@ fn the_report_of_a_buffer(rt: HostRuntime) -> Result<(), Fail> {
 }
 
 #[test]
+fn lines_that_lie_across_chunks(rt: HostRuntime) -> Result<(), Fail> {
+    let mut tick = Lines::new(&rt);
+    let mut buffer = Buffer::new(rt.alloc(), Limits::default())?;
+    buffer.set_pattern(&mut tick, "éb")?;
+    // A chunk has 984 bytes at most.
+    for len in [981usize, 982, 983, 984, 985, 1_967, 1_968, 3_000] {
+        let mut text = String::new(rt.alloc());
+        for _ in 0..len {
+            text.push('a')?;
+        }
+        text.push_str("éb\r\nébéb\r\r\n")?;
+        for _ in 0..len {
+            text.push('é')?;
+        }
+        text.push_str("b")?;
+        buffer.set_text(&mut tick, text.as_str())?;
+        let rows = buffer.report().unwrap_or(&[]);
+        assert!(rt; rows.len() == 4);
+        let expected: [&[(usize, usize)]; 4] = [
+            &[(len, len.wrapping_add(2))],
+            &[(0, 2), (2, 4)],
+            &[],
+            &[(len.wrapping_sub(1), len.wrapping_add(1))],
+        ];
+        for (row, matches) in rows.iter().zip(expected) {
+            assert!(rt; row.matches() == matches, "{len}");
+        }
+    }
+    // A row for the empty text, and four for each of the others.
+    assert!(rt; tick.count() == 33);
+    Ok(())
+}
+
+#[test]
 fn the_words_of_a_session(rt: HostRuntime) -> Result<(), Fail> {
     let mut tick = Lines::new(&rt);
     let mut session = Session::new(rt.alloc(), Limits { text: 4 })?;

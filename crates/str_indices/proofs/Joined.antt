@@ -1,13 +1,14 @@
 -- Counts of joined texts, and counts beside each other.
 use Rattle.std.proofs.Common.{◌≡◌, ℕ, ◌+◌, ◌≤◌, inl, inr, Bool, true, false, cond, List, [], ◌∷◌, ◌++◌, length, replicate, nat_le, refl, subst, sym, ◌∙◌, arith, length-append}
-use Rattle.std.specs.Prelude.{◌&&◌, not, ◌==◌}
-use Rattle.std.specs.Char.{len_utf8}
-use Rattle.std.proofs.lemmas.Bool.{cases_eq, ne_eqb, cond-false}
+use Rattle.std.specs.Prelude.{◌&&◌, not, ◌==◌, encode_utf8_all}
+use Rattle.std.specs.Char.{encode_utf8, len_utf8}
+use Rattle.std.proofs.lemmas.Bool.{cases_eq, ne_eqb, cond-false, cond_both}
 use Rattle.std.proofs.lemmas.Bool.Decides.{nat_tests}
 use Rattle.std.proofs.lemmas.List.{length-replicate}
 use Rattle.std.proofs.lemmas.List.Sums.{sum_by-cons, sum_by-append}
-use Rattle.str_indices.specs.Text.{is_line_break, is_crlf_break, is_lf_break, ends_from, starts_with_lf, ends_break, units_of, units, surrogate_pairs}
-use Rattle.str_indices.specs.Laws.{ends_with_cr, JoinsBreaks, AddsUp, UnitsAreCharsAndPairs, FewerBreaks}
+use Rattle.std.proofs.lemmas.Str.{length-encode, length-le-encodes}
+use Rattle.str_indices.specs.Text.{is_line_break, is_crlf_break, is_lf_break, ends_from, starts_with_lf, ends_break, breaks, units_of, units, surrogate_pairs}
+use Rattle.str_indices.specs.Laws.{ends_with_cr, JoinsBreaks, AddsUp, UnitsAreCharsAndPairs, FewerBreaks, NoMoreThanBytes}
 
 abbrev break_count : (ℕ → Bool) → ℕ → List ℕ → ℕ
 break_count is_break c rest = cond (ends_break is_break c rest) 1 0
@@ -101,3 +102,21 @@ lf-fewer = fewer is_lf_break is_crlf_break (λ c. grind (arith, nat_tests))
 
 pub crlf-fewer : FewerBreaks is_crlf_break is_line_break
 crlf-fewer = fewer is_crlf_break is_line_break (λ c. grind (arith, nat_tests))
+
+-- ---- no count is above the bytes
+units_of-le : (c : ℕ) → units_of c ≤ len_utf8 c
+units_of-le c = grind (arith, nat_tests)
+
+pub units-le-bytes : NoMoreThanBytes units
+units-le-bytes [] = omega arith
+units-le-bytes (c ∷ cs) = omega (arith, sum_by-cons units_of c cs, length-append (encode_utf8 c) (encode_utf8_all cs), length-encode c, units_of-le c, units-le-bytes cs)
+
+total-le-length : (is_break : ℕ → Bool) (text : List ℕ) → total (break_count is_break) text ≤ length text
+total-le-length is_break [] = omega arith
+total-le-length is_break (c ∷ cs) =
+    let few : break_count is_break c cs ≤ 1 = cond_both (ends_break is_break c cs) 1 0 (λ n. n ≤ 1) (λ _. omega arith) (λ _. omega arith) in
+    omega (arith, few, total-le-length is_break cs)
+
+pub breaks-le-bytes : (is_break : ℕ → Bool) → NoMoreThanBytes (breaks is_break)
+breaks-le-bytes is_break text =
+    omega (arith, total-le-length is_break text, length-ends_from-total (break_count is_break) 0 text, length-le-encodes text)

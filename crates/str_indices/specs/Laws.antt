@@ -36,6 +36,10 @@ UnitsAreCharsAndPairs = (text : List ℕ) → units text ≡ length text + surro
 abbrev pub FewerBreaks : (ℕ → Bool) → (ℕ → Bool) → Type 0
 FewerBreaks few many = (text : List ℕ) → breaks few text ≤ breaks many text
 
+-- no text counts more than it has bytes
+abbrev pub NoMoreThanBytes : (List ℕ → ℕ) → Type 0
+NoMoreThanBytes count = (text : List ℕ) → count text ≤ byte_len text
+
 -- ---- conversions
 -- a greater place has no fewer ends before it
 abbrev pub RisesWithPlace : (List ℕ → List ℕ) → Type 0

@@ -2,8 +2,8 @@
 //! contract is the law, which holds of every text.
 
 ghost use Rattle.std.specs.Prelude.{ℕ, Bool, length};
-ghost use Rattle.str_indices.specs.Text.{is_line_break, is_crlf_break, is_lf_break, break_ends, char_ends, unit_ends, units, surrogate_pairs};
-ghost use Rattle.str_indices.specs.Laws.{JoinsBreaks, LosesBreakInCrLf, LosesNoBreak, AddsUp, UnitsAreCharsAndPairs, FewerBreaks, RisesWithPlace, RisesWithIndex, UnitStartsRise, EndsAreBoundaries, UnitStartsAreBoundaries, ComesBack, SecondUnitComesBackToFirst, OtherUnitsComeBack, EndsAndPlacesAgree, LastEndIsBefore, LastUnitStartIsBefore, CharsAndBoundariesAgree, UnitsAndBoundariesAgree, CharsGoToLastBoundary, UnitsGoToLastBoundary};
+ghost use Rattle.str_indices.specs.Text.{is_line_break, is_crlf_break, is_lf_break, breaks, break_ends, char_ends, unit_ends, units, surrogate_pairs};
+ghost use Rattle.str_indices.specs.Laws.{JoinsBreaks, LosesBreakInCrLf, LosesNoBreak, AddsUp, UnitsAreCharsAndPairs, FewerBreaks, NoMoreThanBytes, RisesWithPlace, RisesWithIndex, UnitStartsRise, EndsAreBoundaries, UnitStartsAreBoundaries, ComesBack, SecondUnitComesBackToFirst, OtherUnitsComeBack, EndsAndPlacesAgree, LastEndIsBefore, LastUnitStartIsBefore, CharsAndBoundariesAgree, UnitsAndBoundariesAgree, CharsGoToLastBoundary, UnitsGoToLastBoundary};
 
 /// Breaks of two texts joined are the sum, less one exactly if the first ends in CR and the second
 /// starts with LF, in a scheme where CR is a break.
@@ -30,6 +30,13 @@ pub fn units_are_chars_and_pairs()
 pub fn schemes_of_breaks()
     ensures lf { FewerBreaks is_lf_break is_crlf_break }
     ensures crlf { FewerBreaks is_crlf_break is_line_break }
+{}
+
+/// No text has more characters, code units or line breaks than bytes.
+pub fn counts_are_at_most_bytes()
+    ensures chars { NoMoreThanBytes length }
+    ensures units { NoMoreThanBytes units }
+    ensures lines { (is_break : ℕ → Bool) → NoMoreThanBytes (breaks is_break) }
 {}
 
 /// No `from_byte_idx` falls where its index rises.

@@ -6,11 +6,13 @@ pub returns-in_err-write_answer-in-Given-clause-taken : goal.returns-in_err-writ
 returns-in_err-write_answer-in-Given-clause-taken g c =
     let p = err_from_is_err_and c.from_residual-in_err-write_answer-in-Given.result c.from_residual-in_err-write_answer-in-Given.ensures.1 in
     let read = rw (c.in-Given.is, c.limits-limits.ensures) at c.in_ok-ending.ensures in
-    rw (p.1, p.2) (TakesTurn-failed _ _ c.apply_asked-answer.result _ _
-    (λ Written written. Turned-given _ _ c.apply_asked-answer.result _ _ Written read c.apply_asked-answer.ensures.step c.apply_asked-answer.ensures.rows written)
+    rw (p.1, p.2) (TakesTurn-failed _ _ c.apply-answer.result _ _
+    (λ Written written. Turned-given _ _ c.apply-answer.result _ _ Written read (λ order is. c.apply-answer.ensures.step order (c.command.ensures _ order is))
+    (λ order cost is costs. c.apply-answer.ensures.rows order cost (c.command.ensures _ order is) costs) written)
     c.in_err-write_answer-in-Given.ensures.written)
 
 pub returns-in_ok-write_answer-in-Given-clause-taken : goal.returns-in_ok-write_answer-in-Given-clause-taken
 returns-in_ok-write_answer-in-Given-clause-taken g c =
     let read = rw (c.in-Given.is, c.limits-limits.ensures) at c.in_ok-ending.ensures in
-    Turned-given _ _ c.apply_asked-answer.result _ _ _ read c.apply_asked-answer.ensures.step c.apply_asked-answer.ensures.rows c.in_ok-write_answer-in-Given.ensures.written
+    Turned-given _ _ c.apply-answer.result _ _ _ read (λ order is. c.apply-answer.ensures.step order (c.command.ensures _ order is))
+    (λ order cost is costs. c.apply-answer.ensures.rows order cost (c.command.ensures _ order is) costs) c.in_ok-write_answer-in-Given.ensures.written

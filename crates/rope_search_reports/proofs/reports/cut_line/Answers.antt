@@ -1,8 +1,8 @@
-use Rattle.std.proofs.Common.{◌≡◌, ◌++◌, ◌-◌, ◌∷◌, false, IsUtf8, length, take, drop, chars, ap, refl, sym, subst, ◌∙◌, arith}
+use Rattle.std.proofs.Common.{◌≡◌, ◌++◌, ◌-◌, ◌∷◌, ℕ, List, false, IsUtf8, length, take, drop, chars, ap, refl, sym, subst, ◌∙◌, arith}
 use Rattle.std.proofs.Math.Utf8.{encode}
 use Rattle.std.proofs.lemmas.Str.{IsUtf8-past_char, chars_past_char}
 use Rattle.str_indices.specs.Text.{is_line_break}
-use Rattle.rope_search_reports.specs.Report.{line_texts}
+use Rattle.rope_search_reports.specs.LineCuts.{BeginsWithBreak}
 use Rattle.rope_search_reports.proofs.ReportLemmas.{Unbroken, Unbroken-boundary, Unbroken-step, Unbroken-skip, plain-utf8, plain-boundary, cut-at, cut-end}
 use Rattle.rope_search_reports.proofs.reports.cut_line.Goals as goal
 
@@ -19,7 +19,7 @@ returns-in_default-clause-lines c =
     let utf8 : IsUtf8 tail = subst IsUtf8 (sym tail-is) (plain-utf8 rest n c.plain_len.ensures.plain c.loop-c.invariant.1) in
     let sofar : Unbroken text tail (length text - length tail) =
     Unbroken-skip text rest tail (length text - length rest) (length text - length tail) n c.loop-c.invariant.0 c.plain_len.ensures.within c.plain_len.ensures.plain tail-is refl in
-    cut-end text tail (length text - length tail) sofar c.utf8.text utf8 (ap length c.as_str.ensures ∙ c.in_default.ensures.steps.0.0)
+    (refl, cut-end text tail (length text - length tail) sofar c.utf8.text utf8 (ap length c.as_str.ensures ∙ c.in_default.ensures.steps.0.0))
 
 pub range-requires-clause-end_boundary : goal.range-requires-clause-end_boundary
 range-requires-clause-end_boundary c =
@@ -49,7 +49,8 @@ returns-then-is_break-clause-lines c =
     let len = length text - length tail in
     let none : len - 0 ≡ len = omega arith in
     let line : c.range.result.now ≡ take len text = c.range.ensures.value ∙ ap (λ m. take m text) none in
-    cut-at text tail c.range.result.now len (line_texts (chars c.after_break.result.now)) sofar c.utf8.text utf8 line (ap line_texts first ∙ c.after_break.ensures.lines)
+    let after = chars c.after_break.result.now in
+    cut-at text tail c.range.result.now len after sofar c.utf8.text utf8 line (subst (λ (t : List ℕ). BeginsWithBreak t after) (sym first) c.after_break.ensures.lines)
 
 pub loop-c-preserved : goal.loop-c-preserved
 loop-c-preserved c =

@@ -1,0 +1,48 @@
+//! Writing a text.
+ghost use Rattle.std.specs.Prelude.{◌≡◌, [], ◌++◌, OnOk, MatchResult};
+ghost use Rattle.rope_search_io.specs.WriteBehind.{Puts, Writes, WritesUntil};
+ghost use Rattle.rope_search_reports.specs.Text.{bytes_of};
+ghost use Rattle.ropey.specs.Chunks.{text_of};
+ghost use Rattle.rope_search.specs.Shows.{shown_text};
+
+use itoa::Buffer as Digits;
+use rope_search_io::{Broken, Sink, WriteBehind};
+use ropey::Rope;
+use ropey::laws::next_chunk_follows;
+
+/// Puts a text behind the bytes that wait, chunk by chunk. After an error the sink took a front of what
+/// waited and of this.
+fn put_text<W: Sink>(text: &Rope, behind: &mut WriteBehind, sink: &mut W) -> Result<(), Broken>
+    ensures written { MatchResult result
+        (λ _. Puts behind.old behind.new (W.state sink.old) (W.state sink.new) (bytes_of (text_of text.now)))
+        (λ broken. WritesUntil broken (W.state sink.old) (W.state sink.new) (behind.old ++ bytes_of (text_of text.now))) }
+{
+    next_chunk_follows();
+    let len = text.len_bytes();
+    let mut at = 0;
+    while at < len {
+        let (chunk, ..) = text.chunk_at_byte(at);
+        behind.put(sink, chunk.as_bytes())?;
+        at += chunk.len();
+    }
+    Ok(())
+}
+
+/// Writes a text: how many bytes it has, and then these. After an error a front of that is written.
+pub fn write_text<W: Sink>(
+    text: &Rope,
+    behind: &mut WriteBehind,
+    sink: &mut W,
+) -> Result<(), Broken>
+    requires { behind.old ≡ [] }
+    ensures empty { OnOk result (behind.new ≡ []) }
+    ensures written { MatchResult result
+        (λ _. Writes (W.state sink.old) (W.state sink.new) (shown_text (bytes_of (text_of text.now))))
+        (λ broken. WritesUntil broken (W.state sink.old) (W.state sink.new) (shown_text (bytes_of (text_of text.now)))) }
+{
+    let mut digits = Digits::new();
+    let len = digits.format(text.len_bytes()).as_bytes();
+    behind.put_parts(sink, &[b"text ", len, b"\n"])?;
+    put_text(text, behind, sink)?;
+    behind.send_parts(sink, &[b"\n"])
+}

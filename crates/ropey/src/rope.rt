@@ -1,0 +1,220 @@
+//! A text in a balanced tree of shared nodes.
+
+ghost use Rattle.std.specs.Prelude.{◌≡◌, ◌+◌, ◌-◌, ◌*◌, ◌^◌, ◌<◌, ◌≤◌, ◌⊎◌, ◌↔◌, min, [], length, Err, IfOk, IfErr, IfSome, IsNone, encode_utf8_all, string_bytes};
+ghost use Rattle.std.specs.Str.{chars, IsUtf8};
+ghost use Rattle.str_indices.specs.Text.{units};
+ghost use Rattle.str_indices.specs.Laws.{byte_len};
+ghost use Rattle.ropey_tree.specs.Counts.{counts_of};
+ghost use Rattle.ropey_tree.specs.Cutting.{IsText};
+ghost use Rattle.ropey.specs.Chunks.{text_of, line_breaks, ShowsChunk};
+ghost use Rattle.ropey.specs.Standing.{StandsAt};
+
+use ropey_tree::MAX_BYTES;
+use ropey_tree::builds::build;
+use ropey_tree::counts::{By, Counts};
+use ropey_tree::cuts::leaves_of;
+use ropey_tree::errors::Error;
+use ropey_tree::nodes::{Node, leaf_at};
+use std::alloc::{AllocError, Global};
+use std::marker::Model;
+use std::rc::Rc;
+
+/// The most bytes of a text: `isize::MAX`.
+const MAX_TEXT_BYTES: usize = 0x7FFF_FFFF_FFFF_FFFF;
+
+/// A text. Contracts see the pieces into which it is cut, its chunks.
+///
+/// A clone shares all of its source, and neither changes the other.
+#[derive(Drop)]
+pub struct Rope {
+    // A text with no character has no tree.
+    root: Option<Rc<Node>>,
+}
+
+impl Model for Rope {
+    ghost use Rattle.std.specs.Prelude.{List, ℕ};
+    ghost use Rattle.ropey_tree.specs.Splits.{pieces_in};
+    ghost use Rattle.ropey_tree.specs.Cutting.{IsText};
+
+    ghost Value = { List (List ℕ) };
+
+    ghost view = { λ rope. pieces_in rope.root };
+
+    ghost invariant = { λ rope. IsText (pieces_in rope.root) };
+}
+
+impl Clone for Rope {
+    ghost is_clone = { λ rope copy. copy ≡ rope };
+
+    fn clone(&self) -> Result<Rope, AllocError> {
+        match &self.root {
+            None => Ok(Rope { root: None }),
+            Some(node) => {
+                let node = node.clone()?;
+                Ok(Rope { root: Some(node) })
+            }
+        }
+    }
+}
+
+/// A chunk, with what stands before it.
+#[derive(Clone, Copy)]
+struct Chunk<'a> {
+    text: &'a str,
+    start: Counts,
+}
+
+impl Rope {
+    /// The empty text.
+    pub fn new() -> Self
+        ensures { result ≡ [] }
+    {
+        Rope { root: None }
+    }
+
+    /// A rope of a text.
+    ///
+    /// `Size` where the text has more than `isize::MAX` bytes, which is asked first, and `Memory`
+    /// where memory is refused.
+    pub fn from_str(alloc: Global, text: &str) -> Result<Self, Error>
+        ensures text { IfOk result (λ rope. text_of rope ≡ chars text.now) }
+        ensures size { (result ≡ Err Error.Size) ↔ (2 ^ 63 ≤ length text.now) }
+        ensures refused { IfErr result (λ error. (error ≡ Error.Size) ⊎ (error ≡ Error.Memory)) }
+    {
+        if text.len() > MAX_TEXT_BYTES {
+            return Err(Error::Size);
+        }
+        ropey_tree::laws::counts_of_a_cutting();
+        let leaves = leaves_of(alloc, text)?;
+        if leaves.is_empty() {
+            return Ok(Rope { root: None });
+        }
+        let root = build(alloc, leaves)?;
+        Ok(Rope { root: Some(root) })
+    }
+
+    /// What the text counts.
+    fn counts(&self) -> Counts
+        ensures counts { result ≡ counts_of (text_of self.now) }
+        ensures cut { IsText self.now }
+    {
+        ropey_tree::laws::counts_of_a_cutting();
+        match &self.root {
+            None => Counts::zero(),
+            Some(node) => node.counts(),
+        }
+    }
+
+    /// How many bytes of UTF-8 the text has.
+    pub fn len_bytes(&self) -> usize
+        ensures bytes { result ≡ byte_len (text_of self.now) }
+        ensures fits { result < 2 ^ 63 }
+        ensures cut { IsText self.now }
+    {
+        self.counts().bytes
+    }
+
+    /// How many characters the text has.
+    pub fn len_chars(&self) -> usize
+        ensures { result ≡ length (text_of self.now) }
+    {
+        self.counts().chars
+    }
+
+    /// How many UTF-16 code units the text takes.
+    pub fn len_utf16_cu(&self) -> usize
+        ensures { result ≡ units (text_of self.now) }
+    {
+        self.counts().units
+    }
+
+    /// How many lines the text has: one more than line breaks.
+    pub fn len_lines(&self) -> usize
+        ensures { result ≡ line_breaks (text_of self.now) + 1 }
+    {
+        str_indices::laws::counts_are_at_most_bytes();
+        self.counts().breaks + 1
+    }
+
+    /// The chunk in which place `i` of a measure lies.
+    fn chunk(&self, by: By, i: usize) -> Chunk<'_>
+        ensures stands { StandsAt self.now by i (chars result.text.now) result.start }
+        ensures cut { IsText self.now }
+        ensures utf8 { IsUtf8 result.text.now }
+    {
+        ropey_tree::laws::counts_of_a_cutting();
+        match &self.root {
+            None => Chunk {
+                text: "",
+                start: Counts::zero(),
+            },
+            Some(node) => {
+                let found = leaf_at(node, by, i);
+                Chunk {
+                    text: found.leaf.as_str(),
+                    start: found.before,
+                }
+            }
+        }
+    }
+
+    /// The chunk that holds a byte, with the byte, the character and the line at which it starts.
+    /// At the text's length it is the last chunk; an empty text shows an empty one.
+    pub fn chunk_at_byte(&self, byte_idx: usize) -> (&str, usize, usize, usize)
+        requires { byte_idx ≤ byte_len (text_of self.now) }
+        ensures chunk { ShowsChunk self.now byte_len byte_idx (chars result.0.now) result.1 result.2 result.3 }
+        ensures utf8 { IsUtf8 result.0.now }
+        ensures cut { IsText self.now }
+    {
+        let chunk = self.chunk(By::Bytes, byte_idx);
+        (
+            chunk.text,
+            chunk.start.bytes,
+            chunk.start.chars,
+            chunk.start.breaks,
+        )
+    }
+
+    /// `chunk_at_byte`, and none past the text's length.
+    pub fn get_chunk_at_byte(&self, byte_idx: usize) -> Option<(&str, usize, usize, usize)>
+        ensures none { IsNone result ↔ (byte_len (text_of self.now) < byte_idx) }
+        ensures chunk { IfSome result (λ shown. ShowsChunk self.now byte_len byte_idx (chars shown.0.now) shown.1 shown.2 shown.3) }
+        ensures utf8 { IfSome result (λ shown. IsUtf8 shown.0.now) }
+    {
+        if byte_idx <= self.len_bytes() {
+            Some(self.chunk_at_byte(byte_idx))
+        } else {
+            None
+        }
+    }
+
+    /// The whole text. The one refusal is `Memory`.
+    pub fn to_text(&self, alloc: Global) -> Result<String, Error>
+        ensures text { IfOk result (λ text. string_bytes text ≡ encode_utf8_all (text_of self.now)) }
+        ensures refused { IfErr result (λ error. error ≡ Error.Memory) }
+    {
+        let len = self.len_bytes();
+        let mut text = String::with_capacity(alloc, len)?;
+        while text.len() < len {
+            let (chunk, ..) = self.chunk_at_byte(text.len());
+            text.push_str(chunk)?;
+        }
+        Ok(text)
+    }
+
+    /// How many bytes the rope has room for without a new chunk: `MAX_BYTES` for each, and
+    /// `usize::MAX` where that is too much to say.
+    pub fn capacity(&self) -> usize
+        ensures { result ≡ min (984 * length self.now) (2 ^ 64 - 1) }
+    {
+        let len = self.len_bytes();
+        let mut at = 0;
+        let mut chunks: usize = 0;
+        while at < len {
+            let (chunk, ..) = self.chunk_at_byte(at);
+            at += chunk.len();
+            chunks += 1;
+        }
+        chunks.saturating_mul(MAX_BYTES)
+    }
+}
