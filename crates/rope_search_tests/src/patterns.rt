@@ -1,9 +1,10 @@
 //! Patterns and reports: what is a pattern, how long it may be, and what a search costs.
 use crate::cases::run_once;
 use rope_search::{
-    Buffer, Command, Ended, Fault, Limits, Lines, MemorySink, MemorySource, Payload, Reply,
+    Buffer, Command, Ended, Fault, Limits, Lines, MemorySink, MemorySource, Payload, Reply, Row,
     Session, run,
 };
+use std::alloc::Global;
 use std::test::Fail;
 
 /// How many bytes a pattern has at most.
@@ -73,6 +74,32 @@ fn the_report_of_a_buffer(rt: HostRuntime) -> Result<(), Fail> {
     Ok(())
 }
 
+/// A text of four lines, of which the first and the last have this many characters more than two and
+/// than one. Both may lie across chunks.
+fn long_lines(alloc: Global, len: usize) -> Result<String, Fail> {
+    let mut text = String::new(alloc);
+    for _ in 0..len {
+        text.push('a')?;
+    }
+    text.push_str("éb\r\nébéb\r\r\n")?;
+    for _ in 0..len {
+        text.push('é')?;
+    }
+    text.push_str("b")?;
+    Ok(text)
+}
+
+/// Whether these are the rows of `éb` in that text.
+fn are_rows_of_long_lines(rows: &[Row], len: usize) -> bool {
+    let [first, second, third, last] = rows else {
+        return false;
+    };
+    first.matches() == [(len, len.wrapping_add(2))]
+        && second.matches() == [(0, 2), (2, 4)]
+        && third.matches().is_empty()
+        && last.matches() == [(len.wrapping_sub(1), len.wrapping_add(1))]
+}
+
 #[test]
 fn lines_that_lie_across_chunks(rt: HostRuntime) -> Result<(), Fail> {
     let mut tick = Lines::new(&rt);
@@ -80,27 +107,10 @@ fn lines_that_lie_across_chunks(rt: HostRuntime) -> Result<(), Fail> {
     buffer.set_pattern(&mut tick, "éb")?;
     // A chunk has 984 bytes at most.
     for len in [981usize, 982, 983, 984, 985, 1_967, 1_968, 3_000] {
-        let mut text = String::new(rt.alloc());
-        for _ in 0..len {
-            text.push('a')?;
-        }
-        text.push_str("éb\r\nébéb\r\r\n")?;
-        for _ in 0..len {
-            text.push('é')?;
-        }
-        text.push_str("b")?;
+        let text = long_lines(rt.alloc(), len)?;
         buffer.set_text(&mut tick, text.as_str())?;
         let rows = buffer.report().unwrap_or(&[]);
-        assert!(rt; rows.len() == 4);
-        let expected: [&[(usize, usize)]; 4] = [
-            &[(len, len.wrapping_add(2))],
-            &[(0, 2), (2, 4)],
-            &[],
-            &[(len.wrapping_sub(1), len.wrapping_add(1))],
-        ];
-        for (row, matches) in rows.iter().zip(expected) {
-            assert!(rt; row.matches() == matches, "{len}");
-        }
+        assert!(rt; are_rows_of_long_lines(rows, len), "{len}");
     }
     // A row for the empty text, and four for each of the others.
     assert!(rt; tick.count() == 33);
