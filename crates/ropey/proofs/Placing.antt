@@ -151,7 +151,7 @@ module _ (pieces : List (List ℕ)) (bytes : List ℕ) (start : Counts) (utf8 : 
       let starts : start.breaks ≡ line_breaks before = ap (λ c. c.breaks) h.start_is in
       let at : ℕ = end_place (break_ends is_line_break chunk) (suc j - start.breaks) (length bytes) in
       let at_is : at ≡ end_place (break_ends is_line_break chunk) (suc j - line_breaks before) (byte_len chunk) =
-          ap (λ n. end_place (break_ends is_line_break chunk) (suc j - start.breaks) n) len ∙ ap (λ n. end_place (break_ends is_line_break chunk) (suc j - n) (byte_len chunk)) starts in
+      ap (λ n. end_place (break_ends is_line_break chunk) (suc j - start.breaks) n) len ∙ ap (λ n. end_place (break_ends is_line_break chunk) (suc j - n) (byte_len chunk)) starts in
       let inside : at ≤ byte_len chunk = omega (arith, at_is, (boundaries chunk (suc j - line_breaks before) (scalars-chars bytes utf8)).0) in
       let same : suc j - 1 ≡ j = omega arith in
       let low : line_breaks before ≤ j = omega (arith, h.not_past, same) in
@@ -207,7 +207,7 @@ tells may_meet count ends law meets none rises below text chunk start at counted
     let inside : place - d ≡ at = omega (arith, starts) in
     let part = law h.before chunk h.after place a b (omega (arith, starts)) (omega (arith, starts, front, h.within)) in
     let value : counted + ends_up_to at (ends chunk) ≡ ends_up_to place (ends text) =
-        ap (λ n. n + ends_up_to at (ends chunk)) e ∙ ap (λ n. count h.before + ends_up_to n (ends chunk)) (sym inside) ∙ sym part ∙ ap (λ t. ends_up_to place (ends t)) (sym h.parts) in
+    ap (λ n. n + ends_up_to at (ends chunk)) e ∙ ap (λ n. count h.before + ends_up_to n (ends chunk)) (sym inside) ∙ sym part ∙ ap (λ t. ends_up_to place (ends t)) (sym h.parts) in
     let past : place ≤ byte_len text = omega (arith, starts, front, h.within, ap byte_len h.parts, byte_len-append (h.before ++ chunk) h.after) in
     record {
       is = value;

@@ -35,7 +35,7 @@ byte_read pieces i bytes start utf8 h text inside =
       | inr e ↦ omega (arith, inside, len, part.sums, ap byte_len (none_after h.after e))
     ] in
     let all : encode_utf8_all (text_of pieces) ≡ (encode_utf8_all before ++ bytes) ++ encode_utf8_all after =
-        ap encode_utf8_all part.parts ∙ encodes-append (before ++ chunk) after ∙ ap (λ bs. bs ++ encode_utf8_all after) (encodes-append before chunk ∙ ap (λ bs. encode_utf8_all before ++ bs) (encodes-chars bytes utf8)) in
+    ap encode_utf8_all part.parts ∙ encodes-append (before ++ chunk) after ∙ ap (λ bs. bs ++ encode_utf8_all after) (encodes-append before chunk ∙ ap (λ bs. encode_utf8_all before ++ bs) (encodes-chars bytes utf8)) in
     let front : i < length (encode_utf8_all before ++ bytes) = omega (arith, within, length-append (encode_utf8_all before) bytes) in
     let low : byte_len before ≤ i = h.not_past in
     record {
@@ -82,17 +82,17 @@ char_read law agree last boundaries pieces k bytes start utf8 h text inside =
     ] in
     let front : k < length (before ++ chunk) = omega (arith, within, starts, low, length-append before chunk) in
     let same : get_or chunk j 0 ≡ get_or (text_of pieces) k 0 =
-        ap (λ n. get_or chunk (k - n) 0) starts
-        ∙ sym (ap (λ t. get_or t k 0) part.parts ∙ get_or_append_left (before ++ chunk) after 0 k front ∙ get_or-append_right before chunk (length before) k 0 refl low) in
+    ap (λ n. get_or chunk (k - n) 0) starts
+    ∙ sym (ap (λ t. get_or t k 0) part.parts ∙ get_or_append_left (before ++ chunk) after 0 k front ∙ get_or-append_right before chunk (length before) k 0 refl low) in
     let first = take j chunk in
     let count : length first ≡ j = length-take-le j chunk (omega (arith, within)) in
     let at : ℕ = end_place (char_ends chunk) j (length bytes) in
     let whole : chunk ≡ first ++ drop j chunk = sym (take-append-drop j chunk) in
     let placed : at ≡ byte_len first =
-        ap (λ n. end_place (char_ends chunk) j n) len
-        ∙ ap (λ t. end_place (char_ends t) j (byte_len t)) whole
-        ∙ ap (λ n. end_place (char_ends (first ++ drop j chunk)) n (byte_len (first ++ drop j chunk))) (sym count)
-        ∙ place_of_front law agree last first (drop j chunk) in
+    ap (λ n. end_place (char_ends chunk) j n) len
+    ∙ ap (λ t. end_place (char_ends t) j (byte_len t)) whole
+    ∙ ap (λ n. end_place (char_ends (first ++ drop j chunk)) n (byte_len (first ++ drop j chunk))) (sym count)
+    ∙ place_of_front law agree last first (drop j chunk) in
     let spelled : bytes ≡ encode_utf8_all first ++ encode_utf8_all (drop j chunk) = sym (encodes-chars bytes utf8) ∙ ap encode_utf8_all whole ∙ encodes-append first (drop j chunk) in
     let rest : drop at bytes ≡ encode_utf8_all (drop j chunk) = ap (λ n. drop n bytes) placed ∙ ap (λ bs. drop (byte_len first) bs) spelled ∙ drop_at (encode_utf8_all first) (encode_utf8_all (drop j chunk)) (byte_len first) refl in
     let bounded = boundaries chunk j (scalars-chars bytes utf8) in

@@ -22,7 +22,7 @@ pub returns-clause-text : goal.returns-clause-text
 returns-clause-text c =
     let bytes = string_bytes c.self.inside.text in
     let text : chars (string_bytes c.push_str.new.self) ≡ c.args.self.now ++ chars c.args.text.now =
-        ap chars c.in_ok-push_str.ensures.bytes ∙ chars-append bytes c.args.text.now (IsUtf8-string_bytes c.self.inside.text) ∙ ap (λ t. t ++ chars c.args.text.now) c.self.view_is in
+    ap chars c.in_ok-push_str.ensures.bytes ∙ chars-append bytes c.args.text.now (IsUtf8-string_bytes c.self.inside.text) ∙ ap (λ t. t ++ chars c.args.text.now) c.self.view_is in
     text
 
 pub returns-clause-size : goal.returns-clause-size
