@@ -1,3 +1,5 @@
 pub mod Cuts
 pub mod Shows
 pub mod Walks
+pub mod Placing
+pub mod Reading

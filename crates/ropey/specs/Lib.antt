@@ -1,3 +1,4 @@
 pub mod Chunks
+pub mod Conversions
 pub mod Standing
 pub mod Laws

@@ -1,5 +1,6 @@
 -- A chunk inside a rope, with what stands before it in all four measures.
-use Rattle.std.specs.Prelude.{◌≡◌, ℕ, ◌<◌, ◌≤◌, ◌⊎◌, List, [], ◌++◌}
+use Rattle.std.specs.Prelude.{◌≡◌, ℕ, ◌^◌, ◌<◌, ◌≤◌, ◌⊎◌, List, [], ◌++◌}
+use Rattle.str_indices.specs.Laws.{byte_len, NoCrLfBetween}
 use Rattle.ropey_tree.specs.declared.counts.Counts.{Counts}
 use Rattle.ropey_tree.specs.declared.counts.By.{By}
 use Rattle.ropey_tree.specs.Counts.{counts_of, amount}
@@ -14,3 +15,14 @@ pub record StandsAt (pieces : List (List ℕ)) (by : By) (i : ℕ) (chunk : List
   pub start_is : start ≡ counts_of (text_of before)
   pub not_past : amount by (counts_of (text_of before)) ≤ i
   pub passed : (i < amount by (counts_of (text_of before ++ chunk))) ⊎ (after ≡ [])
+
+-- a chunk of a text, cut through no CR LF, with what stands before it, and a place in it
+pub record IsPlaceIn (text chunk : List ℕ) (start : Counts) (at : ℕ) : Type 0 where
+  pub before : List ℕ
+  pub after : List ℕ
+  pub parts : text ≡ before ++ chunk ++ after
+  pub start_is : start ≡ counts_of before
+  pub whole_before : NoCrLfBetween before chunk
+  pub whole_after : NoCrLfBetween (before ++ chunk) after
+  pub within : at ≤ byte_len chunk
+  pub fits : byte_len text < 2 ^ 63

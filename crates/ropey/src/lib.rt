@@ -1,8 +1,13 @@
 //! Texts that are edited, in a balanced tree of shared nodes, as the Rust crate `ropey` has them.
 #![tactic(auto)]
 
+mod chunks;
+mod conversions;
 pub mod laws;
+mod places;
 mod rope;
+mod rope_builder;
 
 pub use crate::rope::Rope;
+pub use crate::rope_builder::RopeBuilder;
 pub use ropey_tree::errors::Error;

@@ -20,7 +20,7 @@ use std::marker::Model;
 use std::rc::Rc;
 
 /// The most bytes of a text: `isize::MAX`.
-const MAX_TEXT_BYTES: usize = 0x7FFF_FFFF_FFFF_FFFF;
+pub(crate) const MAX_TEXT_BYTES: usize = 0x7FFF_FFFF_FFFF_FFFF;
 
 /// A text. Contracts see the pieces into which it is cut, its chunks.
 ///
@@ -59,9 +59,11 @@ impl Clone for Rope {
 
 /// A chunk, with what stands before it.
 #[derive(Clone, Copy)]
-struct Chunk<'a> {
-    text: &'a str,
-    start: Counts,
+pub(crate) struct Chunk<'a> {
+    /// Its text.
+    pub(crate) text: &'a str,
+    /// What stands before it.
+    pub(crate) start: Counts,
 }
 
 impl Rope {
@@ -137,7 +139,7 @@ impl Rope {
     }
 
     /// The chunk in which place `i` of a measure lies.
-    fn chunk(&self, by: By, i: usize) -> Chunk<'_>
+    pub(crate) fn chunk(&self, by: By, i: usize) -> Chunk<'_>
         ensures stands { StandsAt self.now by i (chars result.text.now) result.start }
         ensures cut { IsText self.now }
         ensures utf8 { IsUtf8 result.text.now }

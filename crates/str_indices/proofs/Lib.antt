@@ -9,3 +9,4 @@ pub mod Joined
 pub mod Places
 pub mod Units
 pub mod Order
+pub mod Parts

@@ -1,5 +1,5 @@
 -- Laws of the definitions, for every text.
-use Rattle.std.specs.Prelude.{◌≡◌, ℕ, ◌+◌, ◌-◌, ◌<◌, ◌≤◌, ◌↔◌, Bool, false, ◌&&◌, if◌then◌else◌, min, List, [], ◌∷◌, ◌++◌, length, slice_index, slice_index_or, true, encode_utf8_all, ◌==◌}
+use Rattle.std.specs.Prelude.{◌≡◌, ℕ, ◌+◌, ◌-◌, ◌<◌, ◌≤◌, ◌↔◌, ◌⊎◌, Bool, false, ◌&&◌, if◌then◌else◌, min, List, [], ◌∷◌, ◌++◌, length, slice_index, slice_index_or, true, encode_utf8_all, ◌==◌}
 use Rattle.std.specs.Str.{IsCharBoundary, all_scalars}
 use Rattle.str_indices.specs.Text.{starts_with_lf, breaks, char_ends, units, surrogate_pairs, unit_ends, unit_starts, ends_up_to, end_place}
 
@@ -102,3 +102,26 @@ CharsGoToLastBoundary = (before after : List ℕ) (place : ℕ) → byte_len bef
 abbrev pub UnitsGoToLastBoundary : Type 0
 UnitsGoToLastBoundary = (before after : List ℕ) (place : ℕ) → byte_len before ≤ place
     → byte_len before ≤ slice_index_or (unit_starts (before ++ after)) (ends_up_to place (unit_ends (before ++ after))) (byte_len (before ++ after))
+
+-- ---- a part of a text
+-- no CR ends the first text where an LF starts the second
+abbrev pub NoCrLfBetween : List ℕ → List ℕ → Type 0
+NoCrLfBetween first second = (ends_with_cr first && starts_with_lf second) ≡ false
+
+abbrev pub AnyTexts : List ℕ → List ℕ → Type 0
+AnyTexts first second = Unit {0}
+
+-- up to a place in a part of a text: what the text before it counts, and the ends in the part
+abbrev pub EndsAddUp : (List ℕ → List ℕ → Type 0) → (List ℕ → ℕ) → (List ℕ → List ℕ) → Type 0
+EndsAddUp may_meet count ends = (before part after : List ℕ) (place : ℕ) → may_meet before part → may_meet (before ++ part) after → byte_len before ≤ place → place ≤ byte_len (before ++ part)
+    → ends_up_to place (ends (before ++ part ++ after)) ≡ count before + ends_up_to (place - byte_len before) (ends part)
+
+-- an end in a part of a text: the bytes before the part, and the place in it
+abbrev pub PlacesAddUp : (List ℕ → List ℕ → Type 0) → (List ℕ → ℕ) → (List ℕ → List ℕ) → Type 0
+PlacesAddUp may_meet count ends = (before part after : List ℕ) (k : ℕ) → may_meet before part → may_meet (before ++ part) after → count before < k → (k ≤ count (before ++ part)) ⊎ (after ≡ [])
+    → end_place (ends (before ++ part ++ after)) k (byte_len (before ++ part ++ after)) ≡ byte_len before + end_place (ends part) (k - count before) (byte_len part)
+
+-- the start of a character in a part of a text, by one of its code units
+abbrev pub UnitStartsAddUp : Type 0
+UnitStartsAddUp = (before part after : List ℕ) (k : ℕ) → units before ≤ k → (k < units (before ++ part)) ⊎ (after ≡ [])
+    → slice_index_or (unit_starts (before ++ part ++ after)) k (byte_len (before ++ part ++ after)) ≡ byte_len before + slice_index_or (unit_starts part) (k - units before) (byte_len part)

@@ -3,7 +3,7 @@
 
 ghost use Rattle.std.specs.Prelude.{ℕ, Bool, length};
 ghost use Rattle.str_indices.specs.Text.{is_line_break, is_crlf_break, is_lf_break, breaks, break_ends, char_ends, unit_ends, units, surrogate_pairs};
-ghost use Rattle.str_indices.specs.Laws.{JoinsBreaks, LosesBreakInCrLf, LosesNoBreak, AddsUp, UnitsAreCharsAndPairs, FewerBreaks, NoMoreThanBytes, RisesWithPlace, RisesWithIndex, UnitStartsRise, EndsAreBoundaries, UnitStartsAreBoundaries, ComesBack, SecondUnitComesBackToFirst, OtherUnitsComeBack, EndsAndPlacesAgree, LastEndIsBefore, LastUnitStartIsBefore, CharsAndBoundariesAgree, UnitsAndBoundariesAgree, CharsGoToLastBoundary, UnitsGoToLastBoundary};
+ghost use Rattle.str_indices.specs.Laws.{JoinsBreaks, LosesBreakInCrLf, LosesNoBreak, AddsUp, UnitsAreCharsAndPairs, FewerBreaks, NoMoreThanBytes, RisesWithPlace, RisesWithIndex, UnitStartsRise, EndsAreBoundaries, UnitStartsAreBoundaries, ComesBack, SecondUnitComesBackToFirst, OtherUnitsComeBack, EndsAndPlacesAgree, LastEndIsBefore, LastUnitStartIsBefore, CharsAndBoundariesAgree, UnitsAndBoundariesAgree, CharsGoToLastBoundary, UnitsGoToLastBoundary, NoCrLfBetween, AnyTexts, EndsAddUp, PlacesAddUp, UnitStartsAddUp};
 
 /// Breaks of two texts joined are the sum, less one exactly if the first ends in CR and the second
 /// starts with LF, in a scheme where CR is a break.
@@ -90,4 +90,20 @@ pub fn place_there_and_back()
     ensures units { LastUnitStartIsBefore }
     ensures nearest_char { CharsGoToLastBoundary }
     ensures nearest_unit { UnitsGoToLastBoundary }
+{}
+
+/// Ends up to a place in a part of a text are those before the part and those up to the place in it.
+/// For lines no CR LF may be cut at either side of the part.
+pub fn ends_of_a_part()
+    ensures chars { EndsAddUp AnyTexts length char_ends }
+    ensures units { EndsAddUp AnyTexts units unit_ends }
+    ensures lines { (is_break : ℕ → Bool) → EndsAddUp NoCrLfBetween (breaks is_break) (break_ends is_break) }
+{}
+
+/// The place of an end in a part of a text is its place in the part, past the bytes before the part.
+/// For lines no CR LF may be cut at either side of the part.
+pub fn places_of_a_part()
+    ensures chars { PlacesAddUp AnyTexts length char_ends }
+    ensures units { UnitStartsAddUp }
+    ensures lines { (is_break : ℕ → Bool) → PlacesAddUp NoCrLfBetween (breaks is_break) (break_ends is_break) }
 {}
