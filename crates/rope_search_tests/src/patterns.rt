@@ -94,10 +94,10 @@ fn are_rows_of_long_lines(rows: &[Row], len: usize) -> bool {
     let [first, second, third, last] = rows else {
         return false;
     };
-    first.matches() == [(len, len.wrapping_add(2))]
-        && second.matches() == [(0, 2), (2, 4)]
+    first.matches() == [(len, len.wrapping_add(2))].as_slice()
+        && second.matches() == [(0, 2), (2, 4)].as_slice()
         && third.matches().is_empty()
-        && last.matches() == [(len.wrapping_sub(1), len.wrapping_add(1))]
+        && last.matches() == [(len.wrapping_sub(1), len.wrapping_add(1))].as_slice()
 }
 
 #[test]
