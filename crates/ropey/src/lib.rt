@@ -7,6 +7,8 @@ pub mod laws;
 mod places;
 mod rope;
 mod rope_builder;
+#[cfg(test)]
+mod tests;
 
 pub use crate::rope::Rope;
 pub use crate::rope_builder::RopeBuilder;

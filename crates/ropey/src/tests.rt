@@ -1,0 +1,184 @@
+//! Answers that are known from outside, and ropes of many lengths against plain loops.
+
+use crate::{Error, Rope};
+use std::alloc::Global;
+use std::process::Abort;
+use std::test::Fail;
+
+/// A text of so many bytes: some `a`, and then copies of a unit.
+fn text_of(alloc: Global, unit: &str, bytes: usize) -> Result<String, Fail> {
+    let len = unit.len().max(1);
+    let mut text = String::new(alloc);
+    for _ in 0..bytes % len {
+        text.push('a')?;
+    }
+    for _ in 0..bytes / len {
+        text.push_str(unit)?;
+    }
+    Ok(text)
+}
+
+#[test]
+fn lines_of_cr_lf(rt: HostRuntime) -> Result<(), Fail> {
+    let rope = Rope::from_str(rt.alloc(), "\r\n")?;
+    assert_eq!(rt; rope.len_bytes(), 2);
+    assert_eq!(rt; rope.len_lines(), 2);
+    assert!(rt; rope.try_byte_to_line(0) == Ok(0));
+    assert!(rt; rope.try_byte_to_line(1) == Ok(0));
+    assert!(rt; rope.try_byte_to_line(2) == Ok(1));
+    assert!(rt; rope.try_line_to_byte(0) == Ok(0));
+    assert!(rt; rope.try_line_to_byte(1) == Ok(2));
+    assert!(rt; rope.try_line_to_byte(2) == Ok(2));
+    assert!(rt; rope.try_line_to_byte(3) == Err(Error::LineIndexOutOfBounds(3, 2)));
+    assert!(rt; rope.try_byte_to_char(3) == Err(Error::ByteIndexOutOfBounds(3, 2)));
+    assert!(rt; rope.try_char_to_line(3) == Err(Error::CharIndexOutOfBounds(3, 2)));
+    Ok(())
+}
+
+#[test]
+fn units_of_a_pair(rt: HostRuntime) -> Result<(), Fail> {
+    let rope = Rope::from_str(rt.alloc(), "🐸")?;
+    assert_eq!(rt; rope.len_chars(), 1);
+    assert_eq!(rt; rope.len_utf16_cu(), 2);
+    assert!(rt; rope.try_utf16_cu_to_char(0) == Ok(0));
+    assert!(rt; rope.try_utf16_cu_to_char(1) == Ok(0));
+    assert!(rt; rope.try_utf16_cu_to_char(2) == Ok(1));
+    assert!(rt; rope.try_utf16_cu_to_char(3) == Err(Error::Utf16IndexOutOfBounds(3, 2)));
+    assert!(rt; rope.try_byte_to_char(3) == Ok(0));
+    assert!(rt; rope.try_char_to_utf16_cu(1) == Ok(2));
+    assert!(rt; rope.get_char(0) == Some('🐸'));
+    assert!(rt; rope.get_char(1).is_none());
+    assert!(rt; rope.get_byte(1) == Some(0x9F));
+    assert!(rt; rope.get_byte(4).is_none());
+    Ok(())
+}
+
+#[test]
+fn an_empty_rope(rt: HostRuntime) {
+    let rope = Rope::new();
+    assert_eq!(rt; rope.capacity(), 0);
+    assert_eq!(rt; rope.len_lines(), 1);
+    assert!(rt; rope.try_line_to_byte(1) == Ok(0));
+    assert!(rt; rope.get_chunk_at_byte(0) == Some(("", 0, 0, 0)));
+    assert!(rt; rope.get_chunk_at_char(0) == Some(("", 0, 0, 0)));
+    assert!(rt; rope.get_chunk_at_line_break(1) == Some(("", 0, 0, 0)));
+    assert!(rt; rope.get_chunk_at_line_break(2).is_none());
+}
+
+fn is_break(c: char) -> bool {
+    matches!(c, '\n'..='\r' | '\u{85}' | '\u{2028}' | '\u{2029}')
+}
+
+/// A place between two characters, by each measure.
+#[derive(Clone, Copy)]
+struct Place {
+    byte: usize,
+    char: usize,
+    unit: usize,
+    line: usize,
+}
+
+fn check_place(rt: &impl Abort, rope: &Rope, place: Place) {
+    let Place {
+        byte,
+        char,
+        unit,
+        line,
+    } = place;
+    assert!(rt; rope.try_byte_to_char(byte) == Ok(char), "byte {byte}");
+    assert!(rt; rope.try_byte_to_line(byte) == Ok(line), "byte {byte}");
+    assert!(rt; rope.try_char_to_byte(char) == Ok(byte), "char {char}");
+    assert!(rt; rope.try_char_to_line(char) == Ok(line), "char {char}");
+    assert!(rt; rope.try_char_to_utf16_cu(char) == Ok(unit), "char {char}");
+    assert!(rt; rope.try_utf16_cu_to_char(unit) == Ok(char), "unit {unit}");
+}
+
+/// Each so many characters a place, and each start of a line.
+fn check_places(rt: &impl Abort, rope: &Rope, text: &str, every: usize) {
+    let mut place = Place {
+        byte: 0,
+        char: 0,
+        unit: 0,
+        line: 0,
+    };
+    let mut before = None;
+    for (byte, c) in text.char_indices() {
+        place.byte = byte;
+        if let Some(b) = before
+            && is_break(b)
+            && !(b == '\r' && c == '\n')
+        {
+            place.line = place.line.wrapping_add(1);
+            assert!(rt;
+                rope.try_line_to_byte(place.line) == Ok(byte),
+                "line {}",
+                place.line
+            );
+            assert!(rt;
+                rope.try_line_to_char(place.line) == Ok(place.char),
+                "line {}",
+                place.line
+            );
+        }
+        if every != 0 && place.char % every == 0 {
+            check_place(rt, rope, place);
+            assert!(rt; rope.get_char(place.char) == Some(c), "char {}", place.char);
+        }
+        place.char = place.char.wrapping_add(1);
+        place.unit = place.unit.wrapping_add(if c < '\u{10000}' { 1 } else { 2 });
+        before = Some(c);
+    }
+    if let Some(b) = before
+        && is_break(b)
+    {
+        place.line = place.line.wrapping_add(1);
+    }
+    place.byte = text.len();
+    check_place(rt, rope, place);
+    assert_eq!(rt; rope.len_lines(), place.line.wrapping_add(1));
+}
+
+/// The chunks, one after the other, join to the text and cut no CR LF.
+fn check_chunks(rt: &impl Abort, rope: &Rope, text: &str) {
+    let bytes = text.as_bytes();
+    let mut at: usize = 0;
+    let mut chunks: usize = 0;
+    for _ in 0..bytes.len() {
+        if at < bytes.len() {
+            let Some((chunk, byte, char, line)) = rope.get_chunk_at_byte(at) else {
+                panic!(rt; "no chunk at {at}")
+            };
+            assert_eq!(rt; byte, at);
+            assert!(rt; bytes[at..].starts_with(chunk.as_bytes()), "chunk at {at}");
+            assert!(rt; chunk.len() <= 984);
+            assert!(rt; rope.try_byte_to_char(byte) == Ok(char));
+            assert!(rt; rope.try_byte_to_line(byte) == Ok(line));
+            assert!(rt; rope.get_chunk_at_char(char) == Some((chunk, byte, char, line)));
+            at = at.saturating_add(chunk.len());
+            chunks = chunks.saturating_add(1);
+            assert!(rt;
+                !(chunk.as_bytes().last() == Some(&b'\r') && bytes.get(at) == Some(&b'\n')),
+                "cut at {at}"
+            );
+        }
+    }
+    assert_eq!(rt; at, bytes.len());
+    assert_eq!(rt; rope.capacity(), chunks.saturating_mul(984));
+}
+
+#[test]
+fn ropes_of_many_lengths(rt: HostRuntime) -> Result<(), Fail> {
+    for unit in ["a", "é", "せ", "🐸", "\r\n"] {
+        for bytes in [0, 1, 983, 984, 985, 1968, 50_000] {
+            let text = text_of(rt.alloc(), unit, bytes)?;
+            let rope = Rope::from_str(rt.alloc(), &text)?;
+            check_chunks(&rt, &rope, &text);
+            check_places(&rt, &rope, &text, if bytes < 1000 { 1 } else { 97 });
+            let same = rope.to_text(rt.alloc())?;
+            assert!(rt; same == text, "{bytes} bytes of {unit:?}");
+            let copy = rope.clone()?;
+            assert_eq!(rt; copy.len_bytes(), bytes);
+        }
+    }
+    Ok(())
+}
