@@ -5,7 +5,7 @@ use Rattle.str_indices.specs.Text.{is_line_break, breaks}
 use Rattle.str_indices.specs.Laws.{byte_len}
 
 -- how a rope is cut, in the words of the tree
-unfoldable pub use Rattle.ropey_tree.specs.Cutting.{IsPiece, IsCutting, IsText}
+pub use Rattle.ropey_tree.specs.Cutting.{IsPiece, IsCutting, IsText}
 
 -- the text that pieces make together
 abbrev pub text_of : List (List ℕ) → List ℕ

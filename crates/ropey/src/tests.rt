@@ -1,6 +1,6 @@
 //! Answers that are known from outside, and ropes of many lengths against plain loops.
 
-use crate::{Error, Rope};
+use crate::{Error, Rope, RopeBuilder};
 use std::alloc::Global;
 use std::process::Abort;
 use std::test::Fail;
@@ -93,7 +93,16 @@ fn check_place(rt: &impl Abort, rope: &Rope, place: Place) {
     assert!(rt; rope.try_utf16_cu_to_char(unit) == Ok(char), "unit {unit}");
 }
 
-/// Each so many characters a place, and each start of a line.
+/// That a line starts at a place.
+fn check_line(rt: &impl Abort, rope: &Rope, place: Place) {
+    let Place {
+        byte, char, line, ..
+    } = place;
+    assert!(rt; rope.try_line_to_byte(line) == Ok(byte), "line {line}");
+    assert!(rt; rope.try_line_to_char(line) == Ok(char), "line {line}");
+}
+
+/// Each so many characters a place, and each so many lines the start of one.
 fn check_places(rt: &impl Abort, rope: &Rope, text: &str, every: usize) {
     let mut place = Place {
         byte: 0,
@@ -109,16 +118,9 @@ fn check_places(rt: &impl Abort, rope: &Rope, text: &str, every: usize) {
             && !(b == '\r' && c == '\n')
         {
             place.line = place.line.wrapping_add(1);
-            assert!(rt;
-                rope.try_line_to_byte(place.line) == Ok(byte),
-                "line {}",
-                place.line
-            );
-            assert!(rt;
-                rope.try_line_to_char(place.line) == Ok(place.char),
-                "line {}",
-                place.line
-            );
+            if every != 0 && place.line % every == 0 {
+                check_line(rt, rope, place);
+            }
         }
         if every != 0 && place.char % every == 0 {
             check_place(rt, rope, place);
@@ -178,6 +180,65 @@ fn ropes_of_many_lengths(rt: HostRuntime) -> Result<(), Fail> {
             assert!(rt; same == text, "{bytes} bytes of {unit:?}");
             let copy = rope.clone()?;
             assert_eq!(rt; copy.len_bytes(), bytes);
+        }
+    }
+    Ok(())
+}
+
+#[test]
+fn ropes_of_ten_million_bytes(rt: HostRuntime) -> Result<(), Fail> {
+    for unit in ["a", "é", "せ", "🐸", "\r\n"] {
+        let text = text_of(rt.alloc(), unit, 10_000_000)?;
+        let rope = Rope::from_str(rt.alloc(), &text)?;
+        check_chunks(&rt, &rope, &text);
+        check_places(&rt, &rope, &text, 9_973);
+    }
+    Ok(())
+}
+
+/// The text of `len` characters with this number among those of CR, LF and `a`.
+fn small_text(alloc: Global, len: usize, number: usize) -> Result<String, Fail> {
+    let mut text = String::new(alloc);
+    let mut rest = number;
+    for _ in 0..len {
+        text.push(match rest % 3 {
+            0 => '\r',
+            1 => '\n',
+            _ => 'a',
+        })?;
+        rest /= 3;
+    }
+    Ok(text)
+}
+
+/// A rope of a text of one-byte characters that is appended in parts. The lowest bit of `cuts` says
+/// whether it is cut before its first character, and so on.
+fn built(alloc: Global, text: &str, cuts: usize) -> Result<Rope, Fail> {
+    let mut builder = RopeBuilder::new(alloc);
+    let mut cuts = cuts;
+    let mut from = 0;
+    for at in 0..text.len() {
+        if cuts % 2 == 1 {
+            builder.append(text.get(from..at).unwrap_or(""))?;
+            from = at;
+        }
+        cuts /= 2;
+    }
+    builder.append(text.get(from..).unwrap_or(""))?;
+    let rope = builder.finish()?;
+    Ok(rope)
+}
+
+#[test]
+fn texts_built_of_parts(rt: HostRuntime) -> Result<(), Fail> {
+    for (len, texts) in [(0, 1), (1, 3), (2, 9), (3, 27), (4, 81), (5, 243)] {
+        for number in 0..texts {
+            let text = small_text(rt.alloc(), len, number)?;
+            for cuts in 0..32 {
+                let rope = built(rt.alloc(), &text, cuts)?;
+                check_chunks(&rt, &rope, &text);
+                check_places(&rt, &rope, &text, 1);
+            }
         }
     }
     Ok(())
