@@ -8,4 +8,12 @@ pub mod ReaderLemmas
 pub mod ClassLaws
 pub mod RepetitionLaws
 pub mod GroupLaws
+pub mod HeadLaws
 pub mod GrammarLaws
+pub mod LeafLaws
+pub mod NameLaws
+pub mod ResumeLaws
+pub mod PatternLaws
+pub mod ShorterLaws
+pub mod StackLaws
+pub mod StandingLaws

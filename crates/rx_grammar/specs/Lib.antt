@@ -6,6 +6,13 @@ pub mod Escapes
 pub mod Classes
 pub mod Repetitions
 pub mod Groups
+pub mod Heads
 pub mod Grammar
+pub mod Postorder
+pub mod Nodes
+pub mod Stacks
+pub mod Resuming
+pub mod Leaves
+pub mod Standing
 pub mod Laws
 pub mod Examples
