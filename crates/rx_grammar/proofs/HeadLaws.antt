@@ -1,5 +1,5 @@
 -- What readers of flags, names and heads know.
-use Rattle.std.proofs.Common.{◌≡◌, ◌≢◌, ◌⊎◌, inl, inr, ℕ, suc, ◌+◌, ◌≤◌, ◌<◌, ◌==◌, ◌||◌, Bool, true, false, List, [], ◌∷◌, ◌++◌, length, map, get_or, drop, Option, Some, None, ⊎_elim, append-nil, append_assoc, length-append, AllPairs, Contains, refl, sym, ap, ap₂, subst, ◌∙◌, arith, true≢false}
+use Rattle.std.proofs.Common.{◌≡◌, ◌≢◌, ◌⊎◌, inl, inr, ℕ, ◌+◌, ◌≤◌, ◌<◌, ◌==◌, true, false, List, [], ◌∷◌, ◌++◌, length, map, get_or, drop, Some, None, ⊎_elim, append-nil, append_assoc, length-append, AllPairs, refl, sym, ap, ap₂, subst, ◌∙◌, arith, true≢false}
 use Rattle.std.proofs.lemmas.List.{get_or_append_left, drop_at, map-append}
 use Rattle.std.proofs.lemmas.List.Quantifiers.{all_pairs_push}
 use Rattle.std.proofs.lemmas.Bool.Decides.{nat_tests}
@@ -12,8 +12,8 @@ use Rattle.rx_grammar.specs.Texts.{Begins, Stops, SplitsFront, passes}
 use Rattle.rx_grammar.specs.declared.texts.CharacterTest.TheVariants.{NameCharacter}
 use Rattle.rx_grammar.specs.Groups.{is_flag_letter, FlagLetters, Flags, turning_on, turning_off, flagged, Setting, setting, is_name_start, IsName, Capture, numbered, unnumbered, Opening, plain, without_number, with_name, with_short_name, changing}
 use Rattle.rx_grammar.specs.Heads.{FlagsAfter, NoFlagsAfter, NoFlagLetter, FlagsChange, NoFlags, NoName, NameOpening, NoNameOpening, NoHead}
-use Rattle.rx_grammar.proofs.TextLemmas.{first_is, rest_is, apart, told_apart, Stops-not, Begins-from, fronts}
-use Rattle.rx_grammar.proofs.GroupLaws.{letter_of-passes, letter_of-unique, letters_unique, letters_along, flags_along, flags_unique, IsName-passes, behind, flags_begin, setting_begins, opening_begins}
+use Rattle.rx_grammar.proofs.TextLemmas.{first_is, rest_is, apart, Stops-not, Begins-from, fronts}
+use Rattle.rx_grammar.proofs.GroupLaws.{letter_of-passes, letter_of-unique, letters_unique, letters_along, flags_along, IsName-passes, behind, flags_begin, setting_begins, opening_begins}
 
 -- flags that were read after others
 pub record ReadFlags (before all : List Flag) (text rest : List ℕ) : Type 0 where
@@ -31,7 +31,7 @@ ReadFlags-more {before = before} {all = all} {rest = rest} {u = u} {flag = flag}
   flags = read.flags ++ flag ∷ [];
   whole = is ∙ ap (λ l. l ++ flag ∷ []) read.whole ∙ append_assoc before read.flags (flag ∷ []);
   text_is = read.text_is ∙ ap (λ x. map letter_of read.flags ++ x) e ∙ sym (append_assoc (map letter_of read.flags) (letter_of flag ∷ []) u)
-    ∙ ap (λ x. x ++ u) (sym (map-append letter_of read.flags (flag ∷ [])));
+      ∙ ap (λ x. x ++ u) (sym (map-append letter_of read.flags (flag ∷ [])));
   once = subst (λ l. AllPairs (λ a b. a ≢ b) l) (sym is) (all_pairs_push (λ a b. a ≢ b) all flag read.once other);
 }
 
@@ -156,7 +156,7 @@ flags_off {t = t} {v = v} {on = on} {all = all} read minus after more is =
       on = on;
       off = after.flags;
       reads = turning_off (subst (λ l. FlagLetters t l v) (sym read.whole) read.reads) minus after.reads (at_least after.flags (λ none. more (ap length after.whole ∙ length-append on after.flags ∙ omega_zero none)))
-        (subst (λ l. AllPairs (λ a b. a ≢ b) l) after.whole after.once);
+          (subst (λ l. AllPairs (λ a b. a ≢ b) l) after.whole after.once);
       is = is ∙ ap (λ l. flagged _ on l) off_is;
     }
   where

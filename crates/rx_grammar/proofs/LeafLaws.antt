@@ -3,7 +3,7 @@ use Rattle.std.proofs.Common.{◌≡◌, ℕ, List, ◌∷◌, refl, sym, subst}
 use Rattle.rx_grammar.specs.Settings.{Settings}
 use Rattle.rx_grammar.specs.Trees.{Tree}
 use Rattle.rx_grammar.specs.Classes.{NoClass}
-use Rattle.rx_grammar.specs.Grammar.{is_literal, Escape, Leaf, literal, dot, caret, dollar, escape, class}
+use Rattle.rx_grammar.specs.Grammar.{is_literal, Leaf, literal, dot, caret, dollar, escape, class}
 use Rattle.rx_grammar.specs.Leaves.{ClassLeaf, NoEscape, NoLeaf}
 use Rattle.rx_grammar.proofs.TextLemmas.{rest_is, apart, told_apart}
 use Rattle.rx_grammar.proofs.GrammarLaws.{escape_along, class_along}

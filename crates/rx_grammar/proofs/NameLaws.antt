@@ -1,11 +1,11 @@
 -- The names of the groups of a tree, and those of its nodes.
-use Rattle.std.proofs.Common.{◌≡◌, ◌≢◌, ℕ, ◌+◌, ◌≤◌, ◌<◌, List, [], ◌∷◌, ◌++◌, length, get_or, take, drop, map, reverse, append_assoc, append-nil, All, AllPairs, Contains, Option, Some, None, refl, sym, ap, ap₂, subst, ◌∙◌, arith}
+use Rattle.std.proofs.Common.{◌≡◌, ◌≢◌, ℕ, ◌+◌, ◌≤◌, ◌<◌, List, [], ◌∷◌, ◌++◌, length, get_or, take, drop, map, reverse, append_assoc, append-nil, All, AllPairs, Contains, Some, None, refl, sym, ap, ap₂, subst, ◌∙◌, arith}
 use Rattle.std.specs.List.{flat_map}
 use Rattle.std.proofs.lemmas.List.{reverse-append, take-append-drop, map-append, map_more, take-map, take_all, get_or-map, length-map}
 use Rattle.std.proofs.lemmas.List.Elements.{All-more}
 use Rattle.std.proofs.lemmas.List.Quantifiers.{all_pairs_push}
 use Rattle.std.proofs.lemmas.List.Concat.{flat_map-append}
-use Rattle.rx_grammar.specs.Trees.{Name, Tree, Trees, empty, in_a_row, concat_of, alternation_of, names_of, all_names_of}
+use Rattle.rx_grammar.specs.Trees.{Name, Tree, empty, in_a_row, concat_of, names_of, all_names_of}
 use Rattle.rx_grammar.specs.Postorder.{Step, an_empty, a_set, a_look, a_group, a_concat, an_alternation, a_repetition, alternate, after_node, after_nodes, trees_of, tree_of, own_names, names_in}
 use Rattle.rx_grammar.specs.declared.hir.Node.{Node}
 use Rattle.rx_grammar.specs.Nodes.{step_of}
@@ -83,7 +83,7 @@ pub NamesSoFar-skip : {names : List Name} (nodes : List Node) (i : ℕ) (node : 
     → own_names (step_of node) ≡ [] → NamesSoFar names (take (i + 1) nodes)
 NamesSoFar-skip nodes i node so_far lt is none = record {
   names_are = so_far.names_are ∙ sym (append-nil (names_in (map step_of (take i nodes)))) ∙ ap (λ x. names_in (map step_of (take i nodes)) ++ x) (sym none)
-    ∙ sym (names_of_more nodes i node lt is);
+      ∙ sym (names_of_more nodes i node lt is);
   once = so_far.once;
 }
 
@@ -99,10 +99,10 @@ pub NamesSoFar-twice : {names : List Name} {name : Name} (nodes : List Node) (i 
 NamesSoFar-twice {names = names} {name = name} nodes i node so_far lt is own found once =
     let later = names_in (map step_of (drop (i + 1) nodes)) in
     let front : names_in (map step_of (take (i + 1) nodes)) ≡ names ++ name ∷ [] =
-        names_of_more nodes i node lt is ∙ ap₂ (λ x y. x ++ y) (sym so_far.names_are) own in
+    names_of_more nodes i node lt is ∙ ap₂ (λ x y. x ++ y) (sym so_far.names_are) own in
     let split : names_in (map step_of nodes) ≡ names ++ name ∷ later =
-        ap (λ x. names_in (map step_of x)) (sym (take-append-drop (i + 1) nodes)) ∙ ap names_in (map-append step_of (take (i + 1) nodes) (drop (i + 1) nodes))
-        ∙ flat_map-append own_names (map step_of (take (i + 1) nodes)) (map step_of (drop (i + 1) nodes)) ∙ ap (λ x. x ++ later) front ∙ append_assoc names (name ∷ []) later in
+    ap (λ x. names_in (map step_of x)) (sym (take-append-drop (i + 1) nodes)) ∙ ap names_in (map-append step_of (take (i + 1) nodes) (drop (i + 1) nodes))
+    ∙ flat_map-append own_names (map step_of (take (i + 1) nodes)) (map step_of (drop (i + 1) nodes)) ∙ ap (λ x. x ++ later) front ∙ append_assoc names (name ∷ []) later in
     AllPairs-behind names later name found.0 name found.1 found.2 (subst (λ l. AllPairs (λ a b. a ≢ b) l) split once)
 
 -- a name among names that are kept otherwise

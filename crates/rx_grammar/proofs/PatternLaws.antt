@@ -1,7 +1,7 @@
 -- What a whole pattern spells, by where its reading ends.
-use Rattle.std.proofs.Common.{◌≡◌, ◌≢◌, ℕ, ◌≤◌, List, [], ◌∷◌, length, AllPairs, encode_utf8_all, refl, sym, ap, subst, ◌∙◌, arith}
+use Rattle.std.proofs.Common.{◌≡◌, ◌≢◌, ℕ, ◌≤◌, List, [], ◌∷◌, length, AllPairs, encode_utf8_all, refl, sym, subst, ◌∙◌, arith}
 use Rattle.rx_grammar.specs.Settings.{Settings}
-use Rattle.rx_grammar.specs.Trees.{Tree, alternation_of, names_of}
+use Rattle.rx_grammar.specs.Trees.{Tree, names_of}
 use Rattle.rx_grammar.specs.Grammar.{Spells, SpellsNothing}
 use Rattle.rx_grammar.specs.Resuming.{Level, OpenGroup, Place, no_level, tree_at, Ends, Resumes, whole, Completes, SameEnds, NoEnds}
 use Rattle.rx_grammar.specs.Standing.{start_of, StepTaken, TextRead, Stands}

@@ -1,5 +1,5 @@
 -- How each part of a pattern brings the place in it further.
-use Rattle.std.proofs.Common.{◌≡◌, ℕ, ◌+◌, ◌≤◌, Bool, true, false, not, List, [], ◌∷◌, ◌++◌, append-nil, append_assoc, max, refl, sym, ap, ap₂, subst, ◌∙◌, arith, true≢false}
+use Rattle.std.proofs.Common.{◌≡◌, ℕ, ◌+◌, ◌≤◌, Bool, false, List, [], ◌∷◌, ◌++◌, append-nil, append_assoc, max, refl, sym, ap, ap₂, subst, ◌∙◌, arith}
 use Rattle.std.proofs.lemmas.Bool.Decides.{nat_tests}
 use Rattle.rx_grammar.specs.Settings.{Settings}
 use Rattle.rx_grammar.specs.Trees.{Tree, concat_of, alternation_of}
@@ -313,7 +313,16 @@ group_first {t = t} opening (item (leaf one) postfixes items) = absurd (leaf_beg
 group_first {s = s} {m = m} opening (item {e = e} {w = x} {g = g} (group {d = d} {u = y} {h = h} {hs = hs} opening' inside close) postfixes items) =
     let head = opening_unique opening opening' in
     record {
-      first = _; others = _; d = _; z = _; n = _; u = _; w = _; g = _; e = _; x = _;
+      first = _;
+      others = _;
+      d = _;
+      z = _;
+      n = _;
+      u = _;
+      w = _;
+      g = _;
+      e = _;
+      x = _;
       branches = branches_along head.0 (ap (opened m) head.1) head.2 inside;
       close = close;
       postfixes = subst (λ k. Postfixes s.swap_greed (grouped m k (alternation_of h hs)) (d + 1) y g e x) (sym head.1) postfixes;
@@ -347,7 +356,9 @@ Stops-both (c ∷ cs) stops = both c stops
 
 pub ends_here : {t : List ℕ} (l : Level) (s : Settings) (m : ℕ) → Stops goes_on_in_branches t → Ends l s m t (tree_at l) l.depth m t
 ends_here {t = t} l s m stops = record {
-  items = []; later = []; deep = 0;
+  items = [];
+  later = [];
+  deep = 0;
   rest = last (ended (Stops-both t stops)) stops;
   tree_is = ap (λ x. alternate (l.branches ++ concat_of x ∷ [])) (sym (append-nil l.items));
   depth_is = sym (max-zero l.depth);

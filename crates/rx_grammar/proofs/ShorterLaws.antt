@@ -1,5 +1,5 @@
 -- What is left of a text after a part of it is shorter.
-use Rattle.std.proofs.Common.{◌≡◌, ℕ, ◌+◌, ◌≤◌, ◌<◌, Bool, List, [], ◌∷◌, ◌++◌, length, map, Option, sym, ap, arith, length-append}
+use Rattle.std.proofs.Common.{ℕ, ◌≤◌, ◌<◌, Bool, List, ◌∷◌, length, map, Option, ap, arith, length-append}
 use Rattle.rx_grammar.specs.declared.ast.Flag.{Flag}
 use Rattle.rx_grammar.specs.declared.ast.ClassItem.{ClassItem}
 use Rattle.rx_grammar.specs.declared.hir.Repetition.{Repetition}

@@ -1,13 +1,13 @@
 -- The trees that nodes make.
-use Rattle.std.proofs.Common.{◌≡◌, ℕ, ◌+◌, ◌-◌, ◌≤◌, Bool, List, [], ◌∷◌, ◌++◌, length, take, drop, map, reverse, append_assoc, append-nil, Option, Some, None, refl, sym, ap, ap₂, subst, ◌∙◌, arith, length-append, length-drop}
+use Rattle.std.proofs.Common.{◌≡◌, ℕ, ◌+◌, ◌-◌, ◌≤◌, Bool, List, [], ◌∷◌, ◌++◌, length, take, drop, map, reverse, Some, None, refl, sym, ap, ap₂, subst, ◌∙◌, arith, length-append, length-drop}
 use Rattle.std.proofs.lemmas.List.{take_at, drop_at, reverse-reverse, length-reverse, map-append}
 use Rattle.rx_grammar.specs.declared.hir.Node.{Node}
 use Rattle.rx_grammar.specs.declared.hir.Node.TheVariants as node
 use Rattle.rx_grammar.specs.declared.groups.Captures.{Captures}
 use Rattle.rx_grammar.specs.declared.groups.Captures.TheVariants.{Numbered, Unnumbered}
 use Rattle.rx_grammar.specs.declared.hir.Repetition.{Repetition}
-use Rattle.rx_grammar.specs.Trees.{Tree, empty, repeated, concat_of}
-use Rattle.rx_grammar.specs.Postorder.{Step, an_empty, a_set, a_look, a_group, a_concat, an_alternation, a_repetition, alternate, after_node, after_nodes, trees_of}
+use Rattle.rx_grammar.specs.Trees.{Tree, empty, repeated}
+use Rattle.rx_grammar.specs.Postorder.{Step, an_empty, a_set, a_look, a_group, a_concat, an_alternation, a_repetition, after_node, after_nodes, trees_of}
 use Rattle.rx_grammar.specs.Nodes.{step_of, trees_in}
 use Rattle.rx_grammar.specs.Texts.{Stops}
 use Rattle.rx_grammar.specs.Repetitions.{Postfix, NoPostfix, Postfixes, is_postfix_start}

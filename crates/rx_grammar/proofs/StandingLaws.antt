@@ -1,5 +1,5 @@
 -- How the parser's place goes on with what it reads.
-use Rattle.std.proofs.Common.{◌≡◌, ℕ, ◌+◌, ◌≤◌, ◌<◌, Bool, List, [], ◌∷◌, ◌++◌, length, reverse, map, max, Result, Ok, Err, MatchResult, IsErrAnd, Option, None, Some, append_assoc, refl, sym, ap, ap₂, subst, ◌∙◌, arith, length-append}
+use Rattle.std.proofs.Common.{◌≡◌, ℕ, ◌+◌, ◌≤◌, ◌<◌, Bool, List, [], ◌∷◌, ◌++◌, length, reverse, max, Result, Ok, Err, MatchResult, IsErrAnd, refl, sym, ap, subst, ◌∙◌, arith, length-append}
 use Rattle.std.proofs.lemmas.List.{reverse-append, length-reverse}
 use Rattle.rx_grammar.specs.declared.error.SyntaxError.{SyntaxError}
 use Rattle.rx_grammar.specs.declared.error.SyntaxError.TheVariants.{TooLong, Nesting, Outside, Memory}
@@ -8,19 +8,17 @@ use Rattle.rx_grammar.specs.declared.parser.Around.{Around}
 use Rattle.rx_grammar.specs.declared.parser.Parser.{Parser}
 use Rattle.rx_grammar.specs.Settings.{Settings}
 use Rattle.rx_grammar.specs.Trees.{Tree, concat_of}
-use Rattle.rx_grammar.specs.Texts.{Begins, Stops}
-use Rattle.rx_grammar.specs.Repetitions.{Postfixes}
+use Rattle.rx_grammar.specs.Texts.{Begins}
 use Rattle.rx_grammar.specs.Groups.{Setting, Capture, numbered, unnumbered, Opening, opened, grouped}
-use Rattle.rx_grammar.specs.Grammar.{Leaf, leaf, goes_on}
+use Rattle.rx_grammar.specs.Grammar.{Leaf, leaf}
 use Rattle.rx_grammar.specs.Heads.{NoHead, capture_of}
 use Rattle.rx_grammar.specs.Leaves.{NoLeaf}
 use Rattle.rx_grammar.specs.Stacks.{captured, IsRefusal, PostfixesTooDeep}
-use Rattle.rx_grammar.specs.Resuming.{Level, OpenGroup, Place, no_level, with_item, with_branch, tree_at, Resumes, Completes, SameEnds, NoEnds}
+use Rattle.rx_grammar.specs.Resuming.{Level, OpenGroup, Place, no_level, with_item, with_branch, tree_at, Resumes, NoEnds}
 use Rattle.rx_grammar.specs.Standing.{IsLevel, Surround, outermost, further, Stands, item_at, opened_at, ItemRead, StepTaken, IsLeafPlace}
-use Rattle.rx_grammar.proofs.TextLemmas.{rest_is}
 use Rattle.rx_grammar.proofs.ShorterLaws.{leaf_shorter, postfixes_shorter}
 use Rattle.rx_grammar.proofs.RepetitionLaws.{postfixes_along}
-use Rattle.rx_grammar.proofs.ResumeLaws.{setting_on, setting_back, item_on, item_back, branch_on, branch_back, open_on, open_back, close_on, close_back, resumes_deep, postfixes_deep, no_item, no_close, no_open_group, no_head, no_leaf}
+use Rattle.rx_grammar.proofs.ResumeLaws.{setting_on, setting_back, item_on, item_back, branch_on, branch_back, open_on, open_back, close_on, close_back, postfixes_deep, no_item, no_close, no_open_group, no_head, no_leaf}
 
 pub refusal_map : {P Q : Type 0} (e : SyntaxError) → (P → Q) → IsRefusal e P → IsRefusal e Q
 refusal_map TooLong f h = h

@@ -1,9 +1,9 @@
 -- The nodes of a tree as the code keeps them.
-use Rattle.std.specs.Prelude.{◌≡◌, ℕ, ◌+◌, ◌≤◌, List, [], ◌∷◌, ◌++◌, length, map, reverse, Option, Some, None}
+use Rattle.std.specs.Prelude.{◌≡◌, List, [], ◌∷◌, map, Some, None}
 use Rattle.rx_grammar.specs.declared.hir.Node.{Node}
 use Rattle.rx_grammar.specs.declared.hir.Node.TheVariants as node
 use Rattle.rx_grammar.specs.Trees.{Tree}
-use Rattle.rx_grammar.specs.Postorder.{Step, an_empty, a_set, a_look, a_group, a_concat, an_alternation, a_repetition, after_node, trees_of, tree_of}
+use Rattle.rx_grammar.specs.Postorder.{Step, an_empty, a_set, a_look, a_group, a_concat, an_alternation, a_repetition, trees_of, tree_of}
 
 abbrev pub step_of : Node → Step
 step_of node.Empty = an_empty

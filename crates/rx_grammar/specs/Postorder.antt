@@ -1,5 +1,5 @@
 -- A tree as the list of its nodes, each after what stands below it.
-use Rattle.std.specs.Prelude.{◌≡◌, ℕ, ◌+◌, List, [], ◌∷◌, ◌++◌, reverse, take, drop, flat_map, Option, Some}
+use Rattle.std.specs.Prelude.{ℕ, List, [], ◌∷◌, reverse, take, drop, flat_map, Option, Some}
 use Rattle.rx_grammar.specs.declared.hir.Look.{Look}
 use Rattle.rx_grammar.specs.declared.hir.Repetition.{Repetition}
 use Rattle.rx_grammar.specs.Sets.{Range}

@@ -1,5 +1,5 @@
 -- What the parser's parts say of one another.
-use Rattle.std.specs.Prelude.{◌≡◌, ℕ, ◌+◌, ◌≤◌, Bool, List, [], ◌∷◌, ◌++◌, length}
+use Rattle.std.specs.Prelude.{◌≡◌, ℕ, ◌≤◌, Bool, List, ◌∷◌, length}
 use Rattle.rx_grammar.specs.declared.error.SyntaxError.{SyntaxError}
 use Rattle.rx_grammar.specs.declared.error.SyntaxError.TheVariants.{TooLong, Nesting, Outside, Memory}
 use Rattle.rx_grammar.specs.declared.trees.TreeStack.{TreeStack}

@@ -1,5 +1,5 @@
 -- Where the parser stands in a pattern.
-use Rattle.std.specs.Prelude.{◌≡◌, ℕ, ◌+◌, ◌≤◌, ◌<◌, List, [], ◌∷◌, ◌++◌, length, reverse, max}
+use Rattle.std.specs.Prelude.{◌≡◌, ℕ, ◌+◌, ◌≤◌, ◌<◌, List, [], ◌∷◌, ◌++◌, length, reverse}
 use Rattle.rx_grammar.specs.declared.parser.Heights.{Heights}
 use Rattle.rx_grammar.specs.declared.parser.Around.{Around}
 use Rattle.rx_grammar.specs.declared.parser.Parser.{Parser}

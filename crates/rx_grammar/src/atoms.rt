@@ -23,14 +23,22 @@ impl Atoms {
         Atoms { alloc }
     }
 
-    pub(crate) fn perl(&mut self, kind: ClassPerlKind, negated: bool) -> Result<Rc<CharacterSet>, AllocError>
+    pub(crate) fn perl(
+        &mut self,
+        kind: ClassPerlKind,
+        negated: bool,
+    ) -> Result<Rc<CharacterSet>, AllocError>
         ensures { IfOk result (λ set. IsSetOf set.value (InPerl kind negated)) }
     {
         let _ = (kind, negated);
         Err(AllocError)
     }
 
-    pub(crate) fn literal(&mut self, config: &Config, c: char) -> Result<Rc<CharacterSet>, AllocError>
+    pub(crate) fn literal(
+        &mut self,
+        config: &Config,
+        c: char,
+    ) -> Result<Rc<CharacterSet>, AllocError>
         ensures { IfOk result (λ set. IsSetOf set.value (Folded config.now (λ d. d ≡ c))) }
     {
         let _ = (config.get_multi_line(), c);
@@ -44,7 +52,12 @@ impl Atoms {
         Err(AllocError)
     }
 
-    pub(crate) fn class(&mut self, config: &Config, negated: bool, items: &[ClassItem]) -> Result<Rc<CharacterSet>, AllocError>
+    pub(crate) fn class(
+        &mut self,
+        config: &Config,
+        negated: bool,
+        items: &[ClassItem],
+    ) -> Result<Rc<CharacterSet>, AllocError>
         ensures { IfOk result (λ set. IsSetOf set.value (InClass config.now negated items.now)) }
     {
         let _ = (config.get_multi_line(), negated, items.len());

@@ -89,7 +89,11 @@ fn flag_changes<'a>(
     let count = on.len();
     let changed = config.with_flags(true, &on);
     let Some(behind) = eat(rest, '-') else {
-        return Ok(if count == 0 { None } else { Some((changed, rest)) });
+        return Ok(if count == 0 {
+            None
+        } else {
+            Some((changed, rest))
+        });
     };
     let Some((all, last)) = flag_letters(behind, on)? else {
         return Ok(None);
@@ -190,6 +194,9 @@ pub fn group_head<'a>(
     };
     match eat(inside, '?') {
         Some(behind) => marked_head(alloc, behind, config),
-        None => Ok(Some((Head::Group(config.copied(), Captures::Numbered(None)), inside))),
+        None => Ok(Some((
+            Head::Group(config.copied(), Captures::Numbered(None)),
+            inside,
+        ))),
     }
 }

@@ -78,7 +78,9 @@ impl Parser {
         ensures reads { (place : Place) (tree : Tree) → Stands self.old (tree ∷ []) place → MatchResult result (λ rest. ItemRead self.old self.new place tree depth text.now rest.now) (λ e. IsRefusal e (PostfixesTooDeep place.settings.swap_greed tree depth text.now self.old.limit)) }
     {
         let swap_greed = self.config.get_swap_greed();
-        let (deep, rest) = self.trees.read_postfixes(text, depth, self.limit, swap_greed)?;
+        let (deep, rest) = self
+            .trees
+            .read_postfixes(text, depth, self.limit, swap_greed)?;
         self.heights.depth = self.heights.depth.max(deep);
         Ok(rest)
     }
@@ -170,12 +172,14 @@ impl Parser {
         ensures steps { (place : Place) → Stands self.old [] place → MatchResult result (λ rest'. StepTaken self.old self.new place (41 ∷ rest.now) rest'.now) (λ e. IsRefusal e (NoEnds place (41 ∷ rest.now) self.old.limit)) }
     {
         self.end_level()?;
-        let Some(Around {
-            heights,
-            config: outside,
-            number,
-            captures,
-        }) = self.around.pop()
+        let Some(
+            Around {
+                heights,
+                config: outside,
+                number,
+                captures,
+            },
+        ) = self.around.pop()
         else {
             return Err(SyntaxError::Outside);
         };
@@ -189,7 +193,12 @@ impl Parser {
     }
 
     /// What stands at the start of a text, and the text after it.
-    pub(crate) fn step<'a>(&mut self, c: char, rest: &'a [char], text: &'a [char]) -> Result<&'a [char], SyntaxError>
+    pub(crate) fn step<'a>(
+        &mut self,
+        c: char,
+        rest: &'a [char],
+        text: &'a [char],
+    ) -> Result<&'a [char], SyntaxError>
         requires stands { IsStanding self.old }
         requires text { text.now ≡ c ∷ rest.now }
         requires room { self.old.groups + length text.now < 2 ^ 32 }

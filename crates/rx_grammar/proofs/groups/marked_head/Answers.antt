@@ -1,5 +1,5 @@
-use Rattle.std.proofs.Common.{◌≡◌, ℕ, List, ◌∷◌, ◌++◌, Some, sym, subst, ap, ◌∙◌}
-use Rattle.rx_grammar.specs.Groups.{IsName, Opening, numbered, unnumbered}
+use Rattle.std.proofs.Common.{◌∷◌, Some, sym, subst}
+use Rattle.rx_grammar.specs.Groups.{Opening, numbered, unnumbered}
 use Rattle.rx_grammar.proofs.HeadLaws.{colon_head, no_name_head, name_head}
 use Rattle.rx_grammar.proofs.groups.marked_head.Goals as goal
 

@@ -1,6 +1,5 @@
-use Rattle.std.proofs.Common.{◌+◌, [], ◌∷◌, take, map, sym, ap, subst, ◌∙◌}
 use Rattle.std.proofs.lemmas.List.{map-append}
-use Rattle.rx_grammar.proofs.NameLaws.{NamesSoFar, NamesSoFar-skip, NamesSoFar-push, NamesSoFar-twice}
+use Rattle.rx_grammar.proofs.NameLaws.{NamesSoFar-skip, NamesSoFar-push, NamesSoFar-twice}
 use Rattle.rx_grammar.proofs.patterns.has_distinct_names.Goals.{in-Some+else-stands_in+in_ok-push, in_default}
 use Rattle.rx_grammar.proofs.patterns.has_distinct_names.Goals as goal
 

@@ -1,6 +1,5 @@
-use Rattle.std.proofs.Common.{◌≡◌, ◌≢◌, ◌≤◌, AllPairs, sym, ap, subst, ◌∙◌, arith}
+use Rattle.std.proofs.Common.{◌≢◌, ◌≤◌, AllPairs, sym, ap, subst, ◌∙◌, arith}
 use Rattle.std.proofs.lemmas.Result.{err_from_is_err_and}
-use Rattle.rx_grammar.specs.Trees.{names_of}
 use Rattle.rx_grammar.specs.Postorder.{tree_of, names_in}
 use Rattle.rx_grammar.specs.Standing.{start_of}
 use Rattle.rx_grammar.proofs.NameLaws.{names_in-tree}

@@ -1,4 +1,4 @@
-use Rattle.std.proofs.Common.{◌≡◌, ◌≤◌, length, sym, ap, ◌∙◌, arith}
+use Rattle.std.proofs.Common.{length, sym, ap, ◌∙◌, arith}
 use Rattle.rx_grammar.specs.Resuming.{with_branch}
 use Rattle.rx_grammar.proofs.StandingLaws.{group_within}
 use Rattle.rx_grammar.proofs.parser.Parser.end_level.Goals as goal
@@ -13,16 +13,18 @@ join_branches-requires-clause-above c =
     omega (arith, len, group_within s.level)
 
 pub returns : goal.returns
-returns c = record { ends = λ place stands.
-    let s = c.in_ok-end_branch.ensures.ends place stands in
-    record {
-      below = s.below;
-      trees_are = c.in_ok-join_branches.ensures.trees (with_branch place.level).branches s.below (s.trees_are ∙ s.level.trees_are) (sym s.level.group_is);
-      counted = c.in_ok-join_branches.ensures.counted;
-      depth_is = s.level.depth_is;
-      depth_fits = s.level.depth_fits;
-      around = s.around;
-      groups_are = s.groups;
-      limit = c.in_ok-end_branch.ensures.kept.0;
-      groups = c.in_ok-end_branch.ensures.kept.1;
-    } }
+returns c = record {
+  ends = λ place stands.
+      let s = c.in_ok-end_branch.ensures.ends place stands in
+      record {
+        below = s.below;
+        trees_are = c.in_ok-join_branches.ensures.trees (with_branch place.level).branches s.below (s.trees_are ∙ s.level.trees_are) (sym s.level.group_is);
+        counted = c.in_ok-join_branches.ensures.counted;
+        depth_is = s.level.depth_is;
+        depth_fits = s.level.depth_fits;
+        around = s.around;
+        groups_are = s.groups;
+        limit = c.in_ok-end_branch.ensures.kept.0;
+        groups = c.in_ok-end_branch.ensures.kept.1;
+      };
+}

@@ -1,4 +1,4 @@
-use Rattle.std.proofs.Common.{◌≡◌, ◌+◌, [], ◌∷◌, length, reverse, refl, sym, ap, ap₂, subst, ◌∙◌}
+use Rattle.std.proofs.Common.{◌+◌, length, reverse, refl, sym, ap, ap₂, subst, ◌∙◌}
 use Rattle.std.proofs.lemmas.List.{reverse-append}
 use Rattle.rx_grammar.specs.Heads.{capture_of}
 use Rattle.rx_grammar.specs.Resuming.{no_level}
@@ -23,5 +23,5 @@ returns-clause-opens c = λ place stands.
       settings = c.replace-2.ensures.after;
       groups = groups;
       around = subst (λ x. Surround limit x (opened_at place c.args.config k).around trees) (sym turned)
-        (further (subst (λ x. IsLevel x limit place.level trees stands.below) (sym c.replace.ensures.value) stands.level) (c.replace-2.ensures.value ∙ stands.settings) groups refl stands.around);
+          (further (subst (λ x. IsLevel x limit place.level trees stands.below) (sym c.replace.ensures.value) stands.level) (c.replace-2.ensures.value ∙ stands.settings) groups refl stands.around);
     }

@@ -1,4 +1,4 @@
-use Rattle.std.proofs.Common.{◌≡◌, ◌+◌, ◌≤◌, ◌<◌, ◌^◌, length, ap, arith}
+use Rattle.std.proofs.Common.{◌<◌, ◌^◌, length, ap, arith}
 use Rattle.rx_grammar.proofs.StackLaws.{trees_in-push, length-trees_in}
 use Rattle.rx_grammar.proofs.trees.TreeStack.push.Goals as goal
 

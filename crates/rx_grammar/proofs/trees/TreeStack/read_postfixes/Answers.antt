@@ -1,4 +1,4 @@
-use Rattle.std.proofs.Common.{◌≡◌, ◌+◌, ◌≤◌, length, ap, arith}
+use Rattle.std.proofs.Common.{length, ap, arith}
 use Rattle.rx_grammar.specs.declared.hir.Node.TheVariants as node
 use Rattle.rx_grammar.specs.Nodes.{trees_in}
 use Rattle.rx_grammar.proofs.ShorterLaws.{postfix_shorter}
