@@ -2,11 +2,14 @@
 #![tactic(auto)]
 
 mod ast;
+pub mod atoms;
 pub mod classes;
 mod error;
 pub mod escapes;
+mod foldings;
 mod hir;
 pub mod laws;
+mod letters;
 pub mod repetitions;
 mod sets;
 pub mod syntax;
