@@ -1,6 +1,6 @@
 //! The sets that the atoms of a pattern stand for.
 
-ghost use Rattle.std.specs.Prelude.{◌≡◌, ℕ, ◌↔◌, IfOk, OnOk};
+ghost use Rattle.std.specs.Prelude.{◌≡◌, ◌≢◌, ◌↔◌, [], ◌∷◌, ◌++◌, Contains, IsTrue, IfOk, OnOk, IfSome};
 ghost use Rattle.rx_grammar.specs.Sets.{IsSetOf, FoldedIf, Folded, InPerl};
 ghost use Rattle.rx_grammar.specs.Classes.{InItems, InClass};
 ghost use Rattle.rx_grammar.specs.Grammar.{InDot};
@@ -24,6 +24,45 @@ const LETTER_CLASSES: [(ClassPerlKind, bool); 6] = [
     (ClassPerlKind::Word, true),
 ];
 
+/// The letter class that the items are, if they are one.
+fn only_letters(items: &[ClassItem]) -> Option<(ClassPerlKind, bool)>
+    ensures { IfSome result (λ r. items.now ≡ ClassItem.Perl r.0 r.1 ∷ []) }
+{
+    match items {
+        [ClassItem::Perl(kind, negated)] => Some((*kind, *negated)),
+        _ => None,
+    }
+}
+
+/// Whether the item is this letter class.
+fn is_letters(item: ClassItem, kind: ClassPerlKind, negated: bool) -> bool
+    ensures { IsTrue result ↔ (item ≡ ClassItem.Perl kind negated) }
+{
+    match item {
+        ClassItem::Perl(found, opposite) => found == kind && opposite == negated,
+        ClassItem::Span(_, _) => false,
+    }
+}
+
+/// Whether the letter class is among the items.
+fn has_letters(items: &[ClassItem], kind: ClassPerlKind, negated: bool) -> bool
+    ensures { IsTrue result ↔ Contains items.now (ClassItem.Perl kind negated) }
+{
+    for item in items {
+        if is_letters(*item, kind, negated) {
+            return true;
+        }
+    }
+    false
+}
+
+/// Appends the ranges of a set.
+fn push_set(ranges: &mut Vec<Range>, set: &CharacterSet) -> Result<(), AllocError>
+    ensures { OnOk result (ranges.new.items ≡ ranges.old.items ++ set.now) }
+{
+    ranges.extend_from_slice(set.ranges())
+}
+
 /// The one character, closed under folding or as it is.
 fn character_set(alloc: Global, fold: bool, c: char) -> Result<CharacterSet, AllocError>
     ensures { IfOk result (λ set. IsSetOf set (FoldedIf fold (λ d. d ≡ c))) }
@@ -31,6 +70,33 @@ fn character_set(alloc: Global, fold: bool, c: char) -> Result<CharacterSet, All
     let mut ranges = Vec::new(alloc);
     push_folded_if(&mut ranges, fold, c, c)?;
     CharacterSet::from_ranges(ranges)
+}
+
+/// All characters.
+fn any_set(alloc: Global) -> Result<CharacterSet, AllocError>
+    ensures { IfOk result (λ set. IsSetOf set (λ d. Unit {0})) }
+{
+    let none = CharacterSet::empty(alloc);
+    none.complement()
+}
+
+/// All characters but one.
+fn all_but(alloc: Global, c: char) -> Result<CharacterSet, AllocError>
+    ensures { IfOk result (λ set. IsSetOf set (λ d. d ≢ c)) }
+{
+    let one = character_set(alloc, false, c)?;
+    one.complement()
+}
+
+/// What `.` stands for.
+fn dot_set(alloc: Global, config: &Config) -> Result<CharacterSet, AllocError>
+    ensures { IfOk result (λ set. IsSetOf set (InDot config.now)) }
+{
+    if config.get_dot_matches_new_line() {
+        any_set(alloc)
+    } else {
+        all_but(alloc, char::from(config.get_line_terminator()))
+    }
 }
 
 /// Makes the sets of a pattern's atoms. The set of a letter class is made once and shared.
@@ -92,12 +158,7 @@ impl Atoms {
     pub fn dot(&self, config: &Config) -> Result<Rc<CharacterSet>, AllocError>
         ensures { IfOk result (λ set. IsSetOf set.value (InDot config.now)) }
     {
-        let left_out = if config.get_dot_matches_new_line() {
-            CharacterSet::empty(self.alloc)
-        } else {
-            character_set(self.alloc, false, char::from(config.get_line_terminator()))?
-        };
-        Ok(Rc::new(self.alloc, left_out.complement()?)?)
+        Ok(Rc::new(self.alloc, dot_set(self.alloc, config)?)?)
     }
 
     /// Appends what a letter class names, if it is among the items.
@@ -111,11 +172,11 @@ impl Atoms {
     ) -> Result<(), AllocError>
         ensures { OnOk result (Adds ranges.old.items ranges.new.items (λ c. InLetters fold items.now c (kind, negated))) }
     {
-        if items.contains(&ClassItem::Perl(kind, negated)) {
-            let set = self.letters(fold, kind, negated)?;
-            ranges.extend_from_slice(set.ranges())?;
+        if !has_letters(items, kind, negated) {
+            return Ok(());
         }
-        Ok(())
+        let set = self.letters(fold, kind, negated)?;
+        push_set(ranges, &set)
     }
 
     /// Appends what the letter classes among the items name, each once.
@@ -143,6 +204,17 @@ impl Atoms {
         CharacterSet::from_ranges(ranges)
     }
 
+    /// The same set, shared where the items are one letter class.
+    fn named(&mut self, fold: bool, items: &[ClassItem]) -> Result<Rc<CharacterSet>, AllocError>
+        ensures { IfOk result (λ set. IsSetOf set.value (FoldedIf fold (λ d. InItems d items.now))) }
+    {
+        if let Some((kind, negated)) = only_letters(items) {
+            return self.letters(fold, kind, negated);
+        }
+        let set = self.union(fold, items)?;
+        Ok(Rc::new(self.alloc, set)?)
+    }
+
     /// What a class in brackets stands for.
     pub fn class(
         &mut self,
@@ -152,14 +224,10 @@ impl Atoms {
     ) -> Result<Rc<CharacterSet>, AllocError>
         ensures { IfOk result (λ set. IsSetOf set.value (InClass config.now negated items.now)) }
     {
-        let fold = config.get_case_insensitive();
-        if let [ClassItem::Perl(kind, opposite)] = items
-            && !negated
-        {
-            return self.letters(fold, *kind, *opposite);
+        let named = self.named(config.get_case_insensitive(), items)?;
+        if !negated {
+            return Ok(named);
         }
-        let union = self.union(fold, items)?;
-        let set = if negated { union.complement()? } else { union };
-        Ok(Rc::new(self.alloc, set)?)
+        Ok(Rc::new(self.alloc, named.complement()?)?)
     }
 }

@@ -1,9 +1,9 @@
 //! Ranges of what an item of a class names, and of what has the same simple case folding.
 
-ghost use Rattle.std.specs.Prelude.{ℕ, ◌≤◌, ◌↔◌, OnOk, Contains};
-ghost use Rattle.unicode.specs.CaseFolding.{fold_pairs};
-ghost use Rattle.rx_grammar.specs.Sets.{FoldsInto, FoldedIf};
-ghost use Rattle.rx_grammar.specs.Unions.{Adds, OneOf, Between, Leads, InSpan};
+ghost use Rattle.std.specs.Prelude.{◌≡◌, ◌≢◌, ℕ, ◌↔◌, ◌&&◌, IsTrue, OnOk, Contains};
+ghost use Rattle.unicode.specs.CaseFolding.{simple_fold};
+ghost use Rattle.rx_grammar.specs.Sets.{is_scalar, FoldsInto, FoldedIf};
+ghost use Rattle.rx_grammar.specs.Unions.{Adds, OneOf, Between, LeadsOut, InSpan};
 
 use crate::ast::ClassItem;
 use crate::sets::{Range, is_scalar, ordinal, ordinal_of_code};
@@ -12,7 +12,7 @@ use unicode::case::fold_pairs;
 
 /// The pairs of code points with one simple case folding whose first part is from `low` to `high`.
 fn pairs_between(low: char, high: char) -> &'static [(u32, u32)]
-    ensures { (p : ℕ × ℕ) → Contains result.now p ↔ (Contains fold_pairs p × Between low high p.0) }
+    ensures { (a b : ℕ) → Contains result.now (a, b) ↔ ((a ≢ b) × (simple_fold a ≡ simple_fold b) × Between low high a) }
 {
     let pairs = fold_pairs();
     let (_, rest) = pairs.split_at(pairs.partition_point(|pair| pair.0 < low as u32));
@@ -20,15 +20,49 @@ fn pairs_between(low: char, high: char) -> &'static [(u32, u32)]
     between
 }
 
-/// Appends the second part of each pair of scalar values.
-fn push_seconds(ranges: &mut Vec<Range>, pairs: &[(u32, u32)]) -> Result<(), AllocError>
-    ensures { OnOk result (Adds ranges.old.items ranges.new.items (λ c. OneOf (Leads c) pairs.now)) }
+/// Whether both parts are scalar values.
+fn are_scalars(pair: (u32, u32)) -> bool
+    ensures { result ≡ (is_scalar pair.0 && is_scalar pair.1) }
+{
+    is_scalar(pair.0) && is_scalar(pair.1)
+}
+
+/// Whether the code point is from `low` to `high`.
+fn is_between(low: char, high: char, code: u32) -> bool
+    ensures { IsTrue result ↔ Between low high code }
+{
+    low as u32 <= code && code <= high as u32
+}
+
+/// Appends the second part of a pair of scalar values, unless it is from `low` to `high` itself.
+fn push_second(
+    ranges: &mut Vec<Range>,
+    low: char,
+    high: char,
+    pair: (u32, u32),
+) -> Result<(), AllocError>
+    ensures { OnOk result (Adds ranges.old.items ranges.new.items (λ c. LeadsOut low high c pair)) }
+{
+    if is_between(low, high, pair.1) || !are_scalars(pair) {
+        return Ok(());
+    }
+    let other = ordinal_of_code(pair.1);
+    ranges.push((other, other))?;
+    Ok(())
+}
+
+/// Appends the second part of each pair of scalar values, unless it is from `low` to `high` itself. So ranges
+/// that are closed already stay short.
+fn push_seconds(
+    ranges: &mut Vec<Range>,
+    low: char,
+    high: char,
+    pairs: &[(u32, u32)],
+) -> Result<(), AllocError>
+    ensures { OnOk result (Adds ranges.old.items ranges.new.items (λ c. OneOf (LeadsOut low high c) pairs.now)) }
 {
     for pair in pairs {
-        if is_scalar(pair.0) && is_scalar(pair.1) {
-            let other = ordinal_of_code(pair.1);
-            ranges.push((other, other))?;
-        }
+        push_second(ranges, low, high, *pair)?;
     }
     Ok(())
 }
@@ -46,7 +80,7 @@ fn push_folded(ranges: &mut Vec<Range>, low: char, high: char) -> Result<(), All
     ensures { OnOk result (Adds ranges.old.items ranges.new.items (FoldsInto (Between low high))) }
 {
     push_span(ranges, low, high)?;
-    push_seconds(ranges, pairs_between(low, high))
+    push_seconds(ranges, low, high, pairs_between(low, high))
 }
 
 /// Appends the scalar values from `low` to `high`, closed under folding or as they are.

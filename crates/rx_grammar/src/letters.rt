@@ -1,11 +1,12 @@
 //! The sets of the letter classes, `\d`, `\s` and `\w`.
 
-ghost use Rattle.std.specs.Prelude.{◌≡◌, ℕ, ◌-◌, ◌↔◌, IfOk, IfSome, IsTrue, nat_lt, if◌then◌else◌};
-ghost use Rattle.unicode.specs.Rows.{in_ranges};
-ghost use Rattle.rx_grammar.specs.Sets.{IsScalar, Holds, IsSetOf, FoldedIf, in_kind, InPerl};
+ghost use Rattle.std.specs.Prelude.{◌≡◌, IfOk, OnOk, IsTrue};
+ghost use Rattle.unicode.specs.Rows.{in_ranges, HasExactly};
+ghost use Rattle.rx_grammar.specs.Sets.{IsSetOf, FoldedIf, in_kind, InPerl};
+ghost use Rattle.rx_grammar.specs.Unions.{Adds, Between, scalars_below};
 
 use crate::ast::ClassPerlKind;
-use crate::sets::{CharacterSet, push_part};
+use crate::sets::{CharacterSet, Range, push_part};
 use std::alloc::{AllocError, Global};
 use std::marker::Model;
 use std::rc::Rc;
@@ -13,7 +14,7 @@ use unicode::perl::{digit_ranges, space_ranges, word_ranges};
 
 /// How many scalar values have a code point below this one.
 fn scalars_below(code: u32) -> u32
-    ensures { result ≡ (if nat_lt code 0xD800 then code else if nat_lt code 0xE000 then 0xD800 else code - 0x800) }
+    ensures { result ≡ scalars_below code }
 {
     if code < 0xD800 {
         code
@@ -24,27 +25,41 @@ fn scalars_below(code: u32) -> u32
     }
 }
 
+/// Appends the scalar values from `low` to `high`, two code points.
+fn push_codes(ranges: &mut Vec<Range>, low: u32, high: u32) -> Result<(), AllocError>
+    ensures { OnOk result (Adds ranges.old.items ranges.new.items (Between low high)) }
+{
+    let end = high.min(0x10_FFFF) + 1;
+    push_part(ranges, scalars_below(low), scalars_below(end))
+}
+
 /// The scalar values in these ranges of code points.
 fn set_of_codes(alloc: Global, codes: &[(u32, u32)]) -> Result<CharacterSet, AllocError>
     ensures { IfOk result (λ set. IsSetOf set (λ c. IsTrue (in_ranges codes.now c))) }
 {
     let mut ranges = Vec::new(alloc);
     for range in codes {
-        let end = range.1.min(0x10_FFFF) + 1;
-        push_part(&mut ranges, scalars_below(range.0), scalars_below(end))?;
+        push_codes(&mut ranges, range.0, range.1)?;
     }
     CharacterSet::from_ranges(ranges)
+}
+
+/// The code points that a letter class names with its small letter, as ranges.
+fn kind_ranges(alloc: Global, kind: ClassPerlKind) -> Result<Vec<(u32, u32)>, AllocError>
+    ensures { IfOk result (λ codes. HasExactly codes.items (in_kind kind)) }
+{
+    match kind {
+        ClassPerlKind::Digit => digit_ranges(alloc),
+        ClassPerlKind::Space => space_ranges(alloc),
+        ClassPerlKind::Word => word_ranges(alloc),
+    }
 }
 
 /// What a letter class names with its small letter.
 fn kind_set(alloc: Global, kind: ClassPerlKind) -> Result<CharacterSet, AllocError>
     ensures { IfOk result (λ set. IsSetOf set (λ c. IsTrue (in_kind kind c))) }
 {
-    let codes = match kind {
-        ClassPerlKind::Digit => digit_ranges(alloc),
-        ClassPerlKind::Space => space_ranges(alloc),
-        ClassPerlKind::Word => word_ranges(alloc),
-    }?;
+    let codes = kind_ranges(alloc, kind)?;
     set_of_codes(alloc, &codes)
 }
 

@@ -21,4 +21,6 @@ pub use hir::{Look, Repetition};
 pub use sets::{CharacterSet, Range, ordinal};
 
 #[cfg(test)]
+mod atom_tests;
+#[cfg(test)]
 mod tests;

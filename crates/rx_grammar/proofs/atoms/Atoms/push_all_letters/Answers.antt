@@ -1,0 +1,9 @@
+use Rattle.rx_grammar.specs.Unions.{InLetters}
+use Rattle.rx_grammar.proofs.UnionLemmas.{Completes-end}
+use Rattle.rx_grammar.proofs.atoms.Atoms.push_all_letters.Goals as goal
+
+pub loop-letters-preserved : goal.loop-letters-preserved
+loop-letters-preserved c = let adds = c.in_ok-push_letters.ensures in ?
+
+pub returns : goal.returns
+returns c = Completes-end (InLetters c.args.fold c.args.items.now) _ _ c.loop-letters.letters-index _ c.loop-letters-test.false c.loop-letters.invariant
