@@ -249,14 +249,18 @@ IsSetOf-negated_class settings fold negated items set folds turned is =
 pub IsSetOf-nothing : IsSetOf [] (λ c. ⊥)
 IsSetOf-nothing = record { canonical = tt; members = λ c scalar. (λ h. Holds-none c h, λ h. absurd h) }
 
-any_in_dot : (all : Bool) (terminator d : ℕ) → all ≡ true → Unit {0} ↔ elim all [ true ↦ Unit {0} | false ↦ d ≢ terminator ]
+-- what `.` stands for, by its flag and the terminator
+abbrev dot_if : Bool → ℕ → ℕ → Type 0
+dot_if all terminator d = elim all [ true ↦ Unit {0} | false ↦ d ≢ terminator ]
+
+any_in_dot : (all : Bool) (terminator d : ℕ) → all ≡ true → Unit {0} ↔ dot_if all terminator d
 any_in_dot true terminator d e = (λ h. tt, λ h. tt)
 any_in_dot false terminator d e = absurd (true≢false (sym e))
 
 pub any_is_dot : (settings : Settings) (d : ℕ) → IsScalar d → settings.dot_matches_new_line ≡ true → Unit {0} ↔ InDot settings d
 any_is_dot settings d scalar e = any_in_dot settings.dot_matches_new_line settings.line_terminator d e
 
-others_in_dot : (all : Bool) (terminator c d : ℕ) → all ≡ false → c ≡ terminator → (d ≢ c) ↔ elim all [ true ↦ Unit {0} | false ↦ d ≢ terminator ]
+others_in_dot : (all : Bool) (terminator c d : ℕ) → all ≡ false → c ≡ terminator → (d ≢ c) ↔ dot_if all terminator d
 others_in_dot true terminator c d e same = absurd (true≢false e)
 others_in_dot false terminator c d e same = (λ other is. other (is ∙ sym same), λ other is. other (is ∙ same))
 
