@@ -1,6 +1,9 @@
 pub mod SetLemmas
 pub mod RangeLemmas
 pub mod FoldLemmas
+pub mod UnionLemmas
+pub mod PairLemmas
+pub mod LetterLemmas
 pub mod DigitLemmas
 pub mod TextLemmas
 pub mod EscapeLaws

@@ -6,10 +6,12 @@ mod atoms;
 pub mod classes;
 mod error;
 pub mod escapes;
+mod foldings;
 pub mod groups;
 mod hir;
 pub mod laws;
 mod leaves;
+mod letters;
 mod parser;
 mod patterns;
 pub mod repetitions;
@@ -24,6 +26,8 @@ pub use hir::{Hir, Look, Node, Repetition};
 pub use patterns::parse;
 pub use sets::{CharacterSet, Range, ordinal};
 
+#[cfg(test)]
+mod atom_tests;
 #[cfg(test)]
 mod pattern_tests;
 #[cfg(test)]
