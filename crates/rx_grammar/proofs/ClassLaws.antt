@@ -190,7 +190,7 @@ number_shorter : {n c : ℕ} {t u : List ℕ} → NumberAfter n t c u → length
 number_shorter {u = u} (unbraced number) = omega (arith, ap length number.whole, length-append number.digits u)
 number_shorter {u = u} (braced e number) = omega (arith, ap length e, ap length number.whole, length-append number.digits (125 ∷ u))
 
-escape_shorter : {c : ℕ} {t u : List ℕ} → EscapedCharacter t c u → length u < length t
+pub escape_shorter : {c : ℕ} {t u : List ℕ} → EscapedCharacter t c u → length u < length t
 escape_shorter (control l e f) = omega (arith, ap length e)
 escape_shorter (escaped_itself e f) = omega (arith, ap length e)
 escape_shorter (two_digits e number) = omega (arith, ap length e, number_shorter number)

@@ -8,14 +8,14 @@ use Rattle.unicode.specs.CaseFolding.{simple_fold, IsFoldPairs}
 use Rattle.rx_grammar.proofs.RangeLemmas.{in_ranges-append}
 use Rattle.rx_grammar.specs.Sets.{IsScalar, is_scalar, ordinal, Range, in_ranges, Holds, FoldsInto}
 
-IsScalar-from_test : (c : ℕ) → is_scalar c ≡ true → IsScalar c
+pub IsScalar-from_test : (c : ℕ) → is_scalar c ≡ true → IsScalar c
 IsScalar-from_test c h = grind (arith, nat_tests)
 
-is_scalar-true : (c : ℕ) → IsScalar c → is_scalar c ≡ true
+pub is_scalar-true : (c : ℕ) → IsScalar c → is_scalar c ≡ true
 is_scalar-true c h = grind (arith, nat_tests)
 
 -- scalar values with the same ordinal are the same
-ordinal-unique : (c d : ℕ) → IsScalar c → IsScalar d → ordinal c ≡ ordinal d → c ≡ d
+pub ordinal-unique : (c d : ℕ) → IsScalar c → IsScalar d → ordinal c ≡ ordinal d → c ≡ d
 ordinal-unique c d scalar scalar' e = grind (arith, nat_tests)
 
 -- the pair leads from a member to the ordinal

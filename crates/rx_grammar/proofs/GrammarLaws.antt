@@ -43,13 +43,13 @@ escape_tree_unique (look {asked = a} l e f) (look {asked = a'} l' e' f') =
     let same : a ≡ a' = cc in
     (ap (λ x. look_at x) same, rest_is e e')
 
-escape_along : {s : Settings} {t t' u : List ℕ} {h : Tree} → t ≡ t' → Escape s t' h u → Escape s t h u
+pub escape_along : {s : Settings} {t t' u : List ℕ} {h : Tree} → t ≡ t' → Escape s t' h u → Escape s t h u
 escape_along {s = s} {u = u} {h = h} e one = subst (λ x. Escape s x h u) (sym e) one
 
-class_along : {t t' u : List ℕ} {n : Bool} {items : List ClassItem} → t ≡ t' → Class t' n items u → Class t n items u
+pub class_along : {t t' u : List ℕ} {n : Bool} {items : List ClassItem} → t ≡ t' → Class t' n items u → Class t n items u
 class_along {u = u} {n = n} {items = items} e one = subst (λ x. Class x n items u) (sym e) one
 
-leaf_unique : {s : Settings} {t u u' : List ℕ} {h h' : Tree} → Leaf s t h u → Leaf s t h' u' → (h ≡ h') × (u ≡ u')
+pub leaf_unique : {s : Settings} {t u u' : List ℕ} {h h' : Tree} → Leaf s t h u → Leaf s t h' u' → (h ≡ h') × (u ≡ u')
 leaf_unique {s = s} (literal e is_one is) (literal e' is_one' is') = (same_characters s (first_is e e') is is', rest_is e e')
 leaf_unique (literal e is_one is) (dot e' allowed' is') = absurd (told_apart is_literal e e' is_one refl)
 leaf_unique (literal e is_one is) (caret e') = absurd (told_apart is_literal e e' is_one refl)
@@ -92,10 +92,10 @@ leaf_unique {s = s} (class {negated = n} {items = items} {ranges = rs} e one is)
     (ap (λ r. one_of r) (IsSetOf-unique rs ss P is is''), same.2)
 
 -- what an atom that is no group begins with
-abbrev is_leaf_start : ℕ → Bool
+abbrev pub is_leaf_start : ℕ → Bool
 is_leaf_start c = is_literal c || ((c == 46) || (c == 94) || (c == 36) || (c == 92) || (c == 91))
 
-leaf_begins : {s : Settings} {t u : List ℕ} {h : Tree} → Leaf s t h u → Stops is_leaf_start t → ⊥
+pub leaf_begins : {s : Settings} {t u : List ℕ} {h : Tree} → Leaf s t h u → Stops is_leaf_start t → ⊥
 leaf_begins (literal e is_one is) stops = Stops-not is_leaf_start stops e (or_left _ _ is_one)
 leaf_begins (dot e allowed is) stops = Stops-not is_leaf_start stops e refl
 leaf_begins (caret e) stops = Stops-not is_leaf_start stops e refl
@@ -103,7 +103,7 @@ leaf_begins (dollar e) stops = Stops-not is_leaf_start stops e refl
 leaf_begins (escape e one) stops = Stops-not is_leaf_start stops e refl
 leaf_begins (class e one is) stops = Stops-not is_leaf_start stops e refl
 
-Stops-paren : (t : List ℕ) → Begins 40 t → Stops is_leaf_start t
+pub Stops-paren : (t : List ℕ) → Begins 40 t → Stops is_leaf_start t
 Stops-paren [] begins = tt
 Stops-paren (c ∷ cs) begins = subst (λ x. is_leaf_start x ≡ false) (sym begins) refl
 
@@ -114,28 +114,28 @@ Stops-end (c ∷ cs) stops = ends_no_leaf c stops
     ends_no_leaf : (c : ℕ) → goes_on c ≡ false → is_leaf_start c ≡ false
     ends_no_leaf c fails = grind (arith, nat_tests)
 
-no_paren : (t : List ℕ) → Begins 40 t → Stops goes_on t → ⊥
+pub no_paren : (t : List ℕ) → Begins 40 t → Stops goes_on t → ⊥
 no_paren [] begins stops = begins
 no_paren (c ∷ cs) begins stops = true≢false (sym (subst (λ x. goes_on x ≡ true) (sym begins) refl) ∙ stops)
 
-atom_goes_on : {s : Settings} {m n d : ℕ} {t u : List ℕ} {h : Tree} → Atom s m t h d n u → Stops goes_on t → ⊥
+pub atom_goes_on : {s : Settings} {m n d : ℕ} {t u : List ℕ} {h : Tree} → Atom s m t h d n u → Stops goes_on t → ⊥
 atom_goes_on {t = t} (leaf one) stops = leaf_begins one (Stops-end t stops)
 atom_goes_on {t = t} (group opening inside close) stops = no_paren t (opening_begins opening) stops
 
-setting_goes_on : {s s' : Settings} {t u : List ℕ} → Setting s t s' u → Stops goes_on t → ⊥
+pub setting_goes_on : {s s' : Settings} {t u : List ℕ} → Setting s t s' u → Stops goes_on t → ⊥
 setting_goes_on {t = t} one stops = no_paren t (setting_begins one) stops
 
-setting_or_atom : {s s' : Settings} {m n d : ℕ} {t u v : List ℕ} {h : Tree} → Setting s t s' u → Atom s m t h d n v → ⊥
+pub setting_or_atom : {s s' : Settings} {m n d : ℕ} {t u v : List ℕ} {h : Tree} → Setting s t s' u → Atom s m t h d n v → ⊥
 setting_or_atom {t = t} one (leaf other) = leaf_begins other (Stops-paren t (setting_begins one))
 setting_or_atom one (group opening inside close) = setting_or_opening one opening
 
-items_along : {s s' z : Settings} {m m' n d : ℕ} {t t' u : List ℕ} {hs : List Tree} → s ≡ s' → m ≡ m' → t ≡ t' → Items s' m' t' hs d z n u → Items s m t hs d z n u
+pub items_along : {s s' z : Settings} {m m' n d : ℕ} {t t' u : List ℕ} {hs : List Tree} → s ≡ s' → m ≡ m' → t ≡ t' → Items s' m' t' hs d z n u → Items s m t hs d z n u
 items_along {s = s} {z = z} {m = m} {m' = m'} {n = n} {d = d} {t' = t'} {u = u} {hs = hs} es em et items =
     let a = subst (λ x. Items x m' t' hs d z n u) (sym es) items in
     let b = subst (λ x. Items s x t' hs d z n u) (sym em) a in
     subst (λ x. Items s m x hs d z n u) (sym et) b
 
-branches_along : {s s' z : Settings} {m m' n d : ℕ} {t t' u : List ℕ} {h : Tree} {hs : List Tree} → s ≡ s' → m ≡ m' → t ≡ t' → Branches s' m' t' h hs d z n u → Branches s m t h hs d z n u
+pub branches_along : {s s' z : Settings} {m m' n d : ℕ} {t t' u : List ℕ} {h : Tree} {hs : List Tree} → s ≡ s' → m ≡ m' → t ≡ t' → Branches s' m' t' h hs d z n u → Branches s m t h hs d z n u
 branches_along {s = s} {z = z} {m = m} {m' = m'} {n = n} {d = d} {t' = t'} {u = u} {h = h} {hs = hs} es em et branches =
     let a = subst (λ x. Branches x m' t' h hs d z n u) (sym es) branches in
     let b = subst (λ x. Branches s x t' h hs d z n u) (sym em) a in
@@ -146,7 +146,7 @@ one_more : {x y : Tree} {xs ys : List Tree} → x ≡ y → xs ≡ ys → x ∷ 
 one_more e f = ap₂ (λ a l. a ∷ l) e f
 
 mutual
-  atom_unique : {s : Settings} {m n n' d d' : ℕ} {t u u' : List ℕ} {h h' : Tree} → Atom s m t h d n u → Atom s m t h' d' n' u' → (h ≡ h') × (d ≡ d') × (n ≡ n') × (u ≡ u')
+  pub atom_unique : {s : Settings} {m n n' d d' : ℕ} {t u u' : List ℕ} {h h' : Tree} → Atom s m t h d n u → Atom s m t h' d' n' u' → (h ≡ h') × (d ≡ d') × (n ≡ n') × (u ≡ u')
   atom_unique (leaf one) (leaf one') = let same = leaf_unique one one' in (same.0, refl, refl, same.1)
   atom_unique {t = t} (leaf one) (group opening inside close) = absurd (leaf_begins one (Stops-paren t (opening_begins opening)))
   atom_unique {t = t} (group opening inside close) (leaf one) = absurd (leaf_begins one (Stops-paren t (opening_begins opening)))

@@ -11,13 +11,13 @@ use Rattle.rx_grammar.specs.declared.texts.CharacterTest.TheVariants.{NameCharac
 use Rattle.rx_grammar.specs.Groups.{is_flag_letter, FlagLetters, Flags, turning_on, turning_off, flagged, Setting, setting, IsName, Capture, numbered, Opening, plain, without_number, with_name, with_short_name, changing}
 use Rattle.rx_grammar.proofs.TextLemmas.{first_is, rest_is, apart, told_apart, Begins-from, fronts}
 
-letter_of-passes : (flag : Flag) → is_flag_letter (letter_of flag) ≡ true
+pub letter_of-passes : (flag : Flag) → is_flag_letter (letter_of flag) ≡ true
 letter_of-passes CaseInsensitive = refl
 letter_of-passes MultiLine = refl
 letter_of-passes DotMatchesNewLine = refl
 letter_of-passes SwapGreed = refl
 
-letter_of-unique : (f g : Flag) → letter_of f ≡ letter_of g → f ≡ g
+pub letter_of-unique : (f g : Flag) → letter_of f ≡ letter_of g → f ≡ g
 letter_of-unique CaseInsensitive CaseInsensitive e = refl
 letter_of-unique CaseInsensitive MultiLine e = absurd (eqb-false (letter_of CaseInsensitive) (letter_of MultiLine) refl e)
 letter_of-unique CaseInsensitive DotMatchesNewLine e = absurd (eqb-false (letter_of CaseInsensitive) (letter_of DotMatchesNewLine) refl e)
@@ -46,12 +46,12 @@ map-letter_of-unique (f ∷ fs) [] e = absurd (cc)
 map-letter_of-unique (f ∷ fs) (g ∷ gs) e =
     ap₂ (λ a l. a ∷ l) (letter_of-unique f g (first_is refl e)) (map-letter_of-unique fs gs (rest_is refl e))
 
-letters_unique : {t u u' : List ℕ} {fs gs : List Flag} → FlagLetters t fs u → FlagLetters t gs u' → (fs ≡ gs) × (u ≡ u')
+pub letters_unique : {t u u' : List ℕ} {fs gs : List Flag} → FlagLetters t fs u → FlagLetters t gs u' → (fs ≡ gs) × (u ≡ u')
 letters_unique {u = u} {u' = u'} {fs = fs} {gs = gs} a b =
     let parts = fronts is_flag_letter (map letter_of fs) (map letter_of gs) u u' (letters_pass fs) (letters_pass gs) a.ends b.ends (sym a.whole ∙ b.whole) in
     (map-letter_of-unique fs gs parts.0, parts.1)
 
-letters_along : {t t' u : List ℕ} {fs : List Flag} → t ≡ t' → FlagLetters t' fs u → FlagLetters t fs u
+pub letters_along : {t t' u : List ℕ} {fs : List Flag} → t ≡ t' → FlagLetters t' fs u → FlagLetters t fs u
 letters_along {u = u} {fs = fs} e letters = subst (λ x. FlagLetters x fs u) (sym e) letters
 
 pub flags_unique : {t u u' : List ℕ} {on on' off off' : List Flag} → Flags t on off u → Flags t on' off' u' → (on ≡ on') × (off ≡ off') × (u ≡ u')
@@ -66,14 +66,14 @@ flags_unique (turning_off letters minus off some once) (turning_off letters' min
     let same' = letters_unique off (letters_along (rest_is minus (same.1 ∙ minus')) off') in
     (same.0, same'.0, same'.1)
 
-flags_along : {t t' u : List ℕ} {on off : List Flag} → t ≡ t' → Flags t' on off u → Flags t on off u
+pub flags_along : {t t' u : List ℕ} {on off : List Flag} → t ≡ t' → Flags t' on off u → Flags t on off u
 flags_along {u = u} {on = on} {off = off} e flags = subst (λ x. Flags x on off u) (sym e) flags
 
 -- what flags begin with
-abbrev is_flag_start : ℕ → Bool
+abbrev pub is_flag_start : ℕ → Bool
 is_flag_start c = is_flag_letter c || (c == 45)
 
-letters_begin : {t u v : List ℕ} {b : ℕ} (flags : List Flag) → FlagLetters t flags u → 1 ≤ length flags → t ≡ b ∷ v → is_flag_start b ≡ false → ⊥
+pub letters_begin : {t u v : List ℕ} {b : ℕ} (flags : List Flag) → FlagLetters t flags u → 1 ≤ length flags → t ≡ b ∷ v → is_flag_start b ≡ false → ⊥
 letters_begin [] letters some e fails = absurd (omega arith)
 letters_begin (flag ∷ flags) letters some e fails = told_apart is_flag_start letters.whole e (or_left _ _ (letter_of-passes flag)) fails
 
@@ -81,12 +81,12 @@ letters_or_minus : {t u v w : List ℕ} {b : ℕ} (flags : List Flag) → FlagLe
 letters_or_minus [] letters minus e fails = told_apart is_flag_start (letters.whole ∙ minus) e refl fails
 letters_or_minus (flag ∷ flags) letters minus e fails = told_apart is_flag_start letters.whole e (or_left _ _ (letter_of-passes flag)) fails
 
-flags_begin : {t u v : List ℕ} {on off : List Flag} {b : ℕ} → Flags t on off u → t ≡ b ∷ v → is_flag_start b ≡ false → ⊥
+pub flags_begin : {t u v : List ℕ} {on off : List Flag} {b : ℕ} → Flags t on off u → t ≡ b ∷ v → is_flag_start b ≡ false → ⊥
 flags_begin {on = on} (turning_on letters some stop once) e fails = letters_begin on letters some e fails
 flags_begin {on = on} (turning_off letters minus off some once) e fails = letters_or_minus on letters minus e fails
 
 -- what stands behind `(?`
-behind : {t u v : List ℕ} → t ≡ 40 ∷ 63 ∷ u → t ≡ 40 ∷ 63 ∷ v → u ≡ v
+pub behind : {t u v : List ℕ} → t ≡ 40 ∷ 63 ∷ u → t ≡ 40 ∷ 63 ∷ v → u ≡ v
 behind e f = rest_is refl (rest_is e f)
 
 pub setting_unique : {s s' s'' : Settings} {t u u' : List ℕ} → Setting s t s' u → Setting s t s'' u' → (s' ≡ s'') × (u ≡ u')
@@ -94,7 +94,7 @@ setting_unique {s = s} (setting e flags close) (setting e' flags' close') =
     let same = flags_unique flags (flags_along (behind e e') flags') in
     (ap₂ (λ a b. flagged s a b) same.0 same.1, rest_is close (same.2 ∙ close'))
 
-IsName-passes : (name : Name) → IsName name → AllByRecursion (λ c. passes NameCharacter c ≡ true) name
+pub IsName-passes : (name : Name) → IsName name → AllByRecursion (λ c. passes NameCharacter c ≡ true) name
 IsName-passes [] is = absurd is
 IsName-passes (c ∷ cs) is = is.1
 

@@ -1,6 +1,9 @@
 pub mod SetLemmas
 pub mod RangeLemmas
 pub mod FoldLemmas
+pub mod UnionLemmas
+pub mod PairLemmas
+pub mod LetterLemmas
 pub mod DigitLemmas
 pub mod TextLemmas
 pub mod EscapeLaws
@@ -8,4 +11,12 @@ pub mod ReaderLemmas
 pub mod ClassLaws
 pub mod RepetitionLaws
 pub mod GroupLaws
+pub mod HeadLaws
 pub mod GrammarLaws
+pub mod LeafLaws
+pub mod NameLaws
+pub mod ResumeLaws
+pub mod PatternLaws
+pub mod ShorterLaws
+pub mod StackLaws
+pub mod StandingLaws

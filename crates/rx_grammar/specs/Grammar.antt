@@ -82,3 +82,7 @@ pub record Spells (text : List ℕ) (settings : Settings) (tree : Tree) : Type 0
   pub nesting : depth ≤ settings.nest_limit
   pub names : AllPairs (λ a b. a ≢ b) (names_of tree)
   pub size : length (encode_utf8_all text) ≤ 65536
+
+-- the text spells no tree
+abbrev pub SpellsNothing : List ℕ → Settings → Type 0
+SpellsNothing text settings = (tree : Tree) → Spells text settings tree → ⊥

@@ -4,8 +4,16 @@ pub mod Trees
 pub mod Texts
 pub mod Escapes
 pub mod Classes
+pub mod Unions
 pub mod Repetitions
 pub mod Groups
+pub mod Heads
 pub mod Grammar
+pub mod Postorder
+pub mod Nodes
+pub mod Stacks
+pub mod Resuming
+pub mod Leaves
+pub mod Standing
 pub mod Laws
 pub mod Examples

@@ -65,9 +65,13 @@ FoldsInto P c = (d : ℕ) × IsScalar d × P d × (simple_fold c ≡ simple_fold
 abbrev pub HasExactly : List Range → (ℕ → Bool) → Type 0
 HasExactly ranges p = (n : ℕ) → n < scalar_count → in_ranges ranges n ≡ p n
 
+-- what P names, or that closed under folding
+abbrev pub FoldedIf : Bool → (ℕ → Type 0) → ℕ → Type 0
+FoldedIf fold P c = elim fold [ true ↦ FoldsInto P c | false ↦ P c ]
+
 -- what a literal or a class stands for, where P is what it names: under `i` it is closed under folding
 abbrev pub Folded : Settings → (ℕ → Type 0) → ℕ → Type 0
-Folded settings P c = elim settings.case_insensitive [ true ↦ FoldsInto P c | false ↦ P c ]
+Folded settings P c = FoldedIf settings.case_insensitive P c
 
 -- a letter class names this scalar value
 abbrev pub in_kind : ClassPerlKind → ℕ → Bool

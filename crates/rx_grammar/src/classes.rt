@@ -47,7 +47,7 @@ pub fn class_character(text: &[char]) -> Option<(char, &[char])>
 }
 
 /// What a letter names: `d`, `s`, `w`, or with a capital letter what isn't in it.
-fn letter_named(letter: char) -> Option<(ClassPerlKind, bool)>
+pub(crate) fn letter_named(letter: char) -> Option<(ClassPerlKind, bool)>
     ensures { MatchOption result (IsNoClassLetter letter) (λ r. letter ≡ perl_letter r.0 r.1) }
 {
     match letter {

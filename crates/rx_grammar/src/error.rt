@@ -1,5 +1,8 @@
 //! Why a pattern is refused.
 
+ghost use Rattle.std.specs.Prelude.{◌≡◌};
+ghost use Rattle.rx_grammar.specs.declared.error.SyntaxError.TheVariants.{Memory};
+
 use std::alloc::AllocError;
 use thiserror::Error;
 
@@ -21,6 +24,8 @@ pub enum SyntaxError {
 }
 
 impl From<AllocError> for SyntaxError {
+    ghost from_gives = { λ _ e. e ≡ Memory };
+
     fn from(_: AllocError) -> Self {
         SyntaxError::Memory
     }

@@ -1,5 +1,13 @@
 //! What a pattern spells.
 
+ghost use Rattle.std.specs.Prelude.{◌≡◌, [], ◌∷◌, map, MatchOption};
+ghost use Rattle.rx_grammar.specs.Postorder.{own_names};
+ghost use Rattle.rx_grammar.specs.Nodes.{step_of, IsTree};
+
+use crate::sets::CharacterSet;
+use std::marker::Model;
+use std::rc::Rc;
+
 /// A place that an assertion asks for. It takes no character.
 #[derive(Debug, Clone, Copy, PartialEq, Eq)]
 pub enum Look {
@@ -26,4 +34,73 @@ pub struct Repetition {
     pub max: Option<u32>,
     /// Whether more times are tried before fewer.
     pub greedy: bool,
+}
+
+/// A node of a tree, without what stands below it.
+#[derive(Debug, Drop)]
+pub enum Node {
+    /// No item.
+    Empty,
+    /// One character of a set.
+    Set(Rc<CharacterSet>),
+    /// A place, which takes no character.
+    Look(Look),
+    /// A group with a number, and perhaps a name, around one tree.
+    Group(u32, Option<Vec<char>>),
+    /// So many trees, two or more, one after the other.
+    Concat(usize),
+    /// So many trees, two or more, of which the first that matches is taken.
+    Alternation(usize),
+    /// One tree, taken again and again.
+    Repeat(Repetition),
+}
+
+impl Node {
+    /// The name of a group that has one.
+    pub fn name(&self) -> Option<&[char]>
+        ensures { MatchOption result (own_names (step_of self.now) ≡ []) (λ name. own_names (step_of self.now) ≡ name.now ∷ []) }
+    {
+        match self {
+            Node::Group(_, Some(name)) => Some(name),
+            _ => None,
+        }
+    }
+}
+
+/// What a pattern spells: a tree, with nothing in it simplified. It comes from `parse` alone. Contracts see it as
+/// its nodes, each after what stands below it, which make the tree.
+#[derive(Debug, Drop)]
+pub struct Hir {
+    nodes: Vec<Node>,
+}
+
+impl Model for Hir {
+    ghost use Rattle.std.specs.Prelude.{List, ◌≡◌, ◌∷◌, [], map};
+    ghost use Rattle.rx_grammar.specs.Postorder.{Step, trees_of, tree_of};
+
+    ghost Value = { List Step };
+
+    ghost use Rattle.rx_grammar.specs.Nodes.{step_of, IsTree};
+
+    ghost view = { λ h. map step_of h.nodes.items };
+
+    ghost invariant = { λ h. trees_of (map step_of h.nodes.items) ≡ tree_of (map step_of h.nodes.items) ∷ [] };
+}
+
+impl Hir {
+    /// The nodes, each after what stands below it, so that the last one is the root. What stands below a node
+    /// are the last trees before it that stand below no other.
+    pub fn nodes(&self) -> &[Node]
+        ensures { map step_of result.now ≡ self.now }
+    {
+        &self.nodes
+    }
+}
+
+/// The tree of nodes that make one.
+pub(crate) fn tree(nodes: Vec<Node>) -> Hir
+    requires { IsTree nodes.items }
+    ensures { result ≡ map step_of nodes.items }
+{
+    Hir { nodes }
 }

@@ -23,21 +23,21 @@ pub fn ordinal(c: char) -> u32
 }
 
 /// The ordinal of the scalar value with this code point.
-fn ordinal_of_code(code: u32) -> u32
+pub fn ordinal_of_code(code: u32) -> u32
     ensures { result ≡ ordinal code }
 {
     if code < 0xD800 { code } else { code - 0x800 }
 }
 
 /// Whether the code point is a scalar value.
-fn is_scalar(code: u32) -> bool
+pub fn is_scalar(code: u32) -> bool
     ensures { result ≡ is_scalar code }
 {
     code < 0xD800 || (0xE000 <= code && code <= 0x10_FFFF)
 }
 
 /// Appends the ordinals from `start` up to `end`, if there are any between them.
-fn push_part(ranges: &mut Vec<Range>, start: u32, end: u32) -> Result<(), AllocError>
+pub fn push_part(ranges: &mut Vec<Range>, start: u32, end: u32) -> Result<(), AllocError>
     ensures { OnOk result (ranges.new.items ≡ ranges.old.items ++ part start end) }
 {
     if start < end {

@@ -1,8 +1,10 @@
 //! The settings that a pattern is read under.
 
-ghost use Rattle.std.specs.Prelude.{◌≡◌};
-ghost use Rattle.rx_grammar.specs.Settings.{default_settings};
+ghost use Rattle.std.specs.Prelude.{◌≡◌, if◌then◌else◌};
+ghost use Rattle.rx_grammar.specs.Settings.{default_settings, with_flag, with_flags};
 
+use crate::ast::Flag;
+use crate::hir::Look;
 use std::marker::Model;
 
 /// The settings that a pattern is read under. Flags in the pattern change the first four for a part of it.
@@ -85,6 +87,65 @@ impl Config {
     {
         self.line_terminator = byte;
         self
+    }
+
+    /// The same settings.
+    pub(crate) fn copied(&self) -> Config
+        ensures { result ≡ self.now }
+    {
+        Config {
+            case_insensitive: self.case_insensitive,
+            multi_line: self.multi_line,
+            dot_matches_new_line: self.dot_matches_new_line,
+            swap_greed: self.swap_greed,
+            nest_limit: self.nest_limit,
+            line_terminator: self.line_terminator,
+        }
+    }
+
+    /// What `^` asks for.
+    pub(crate) fn line_start(&self) -> Look
+        ensures { result ≡ (if self.now.multi_line then Look.StartLine else Look.Start) }
+    {
+        if self.multi_line {
+            Look::StartLine
+        } else {
+            Look::Start
+        }
+    }
+
+    /// What `$` asks for.
+    pub(crate) fn line_end(&self) -> Look
+        ensures { result ≡ (if self.now.multi_line then Look.EndLine else Look.End) }
+    {
+        if self.multi_line {
+            Look::EndLine
+        } else {
+            Look::End
+        }
+    }
+
+    /// The settings with a flag on, or off.
+    fn with_flag(self, on: bool, flag: Flag) -> Config
+        ensures { result ≡ with_flag on self flag }
+    {
+        match flag {
+            Flag::CaseInsensitive => self.case_insensitive(on),
+            Flag::MultiLine => self.multi_line(on),
+            Flag::DotMatchesNewLine => self.dot_matches_new_line(on),
+            Flag::SwapGreed => self.swap_greed(on),
+        }
+    }
+
+    /// The settings with all these flags on, or all of them off.
+    pub(crate) fn with_flags(&self, on: bool, flags: &[Flag]) -> Config
+        ensures { result ≡ with_flags on self.now flags.now }
+    {
+        let mut changed = self.copied();
+        for flag in flags {
+            changed = changed.with_flag(on, *flag);
+        }
+        changed
     }
 
     /// Whether letters match in each case.

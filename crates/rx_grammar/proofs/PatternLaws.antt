@@ -1,0 +1,92 @@
+-- What a whole pattern spells, by where its reading ends.
+use Rattle.std.proofs.Common.{◌≡◌, ◌≢◌, ℕ, ◌≤◌, List, [], ◌∷◌, length, AllPairs, encode_utf8_all, refl, sym, subst, ◌∙◌, arith}
+use Rattle.rx_grammar.specs.Settings.{Settings}
+use Rattle.rx_grammar.specs.Trees.{Tree, names_of}
+use Rattle.rx_grammar.specs.Grammar.{Spells, SpellsNothing}
+use Rattle.rx_grammar.specs.Resuming.{Level, OpenGroup, Place, no_level, tree_at, Ends, Resumes, whole, Completes, SameEnds, NoEnds}
+use Rattle.rx_grammar.specs.Standing.{start_of, StepTaken, TextRead, Stands}
+use Rattle.rx_grammar.specs.declared.parser.Parser.{Parser}
+use Rattle.rx_grammar.proofs.ResumeLaws.{ends_branches, branches_of, ends_here, end_of_text, end_in_group}
+
+SameEnds-none : (place : Place) (t : List ℕ) → SameEnds place t place t
+SameEnds-none place t = record { on = λ tree depth r. r; back = λ tree depth r. r }
+
+pub SameEnds-more : {place place' place'' : Place} {t t' t'' : List ℕ} → SameEnds place t place' t' → SameEnds place' t' place'' t'' → SameEnds place t place'' t''
+SameEnds-more a b = record { on = λ tree depth r. b.on tree depth (a.on tree depth r); back = λ tree depth r. a.back tree depth (b.back tree depth r) }
+
+pub NoEnds-before : {place place' : Place} {t t' : List ℕ} {limit : ℕ} → SameEnds place t place' t' → NoEnds place' t' limit → NoEnds place t limit
+NoEnds-before same none = λ tree depth r fits. none tree depth (same.on tree depth r) fits
+
+-- a text that is read in part
+pub record ReadSoFar (before after : Parser) (place : Place) (t u : List ℕ) : Type 0 where
+  pub next : Place
+  pub stands : Stands after [] next
+  pub same : SameEnds place t next u
+  pub limit : after.limit ≡ before.limit
+
+pub ReadSoFar-none : (parser : Parser) (place : Place) (t : List ℕ) → Stands parser [] place → ReadSoFar parser parser place t t
+ReadSoFar-none parser place t stands = record { next = place; stands = stands; same = SameEnds-none place t; limit = refl }
+
+pub ReadSoFar-more : {before middle after : Parser} {place : Place} {t u v : List ℕ} → (read : ReadSoFar before middle place t u) → StepTaken middle after read.next u v → ReadSoFar before after place t v
+ReadSoFar-more read step = record { next = step.next; stands = step.stands; same = SameEnds-more read.same step.same; limit = step.limit ∙ read.limit }
+
+pub ReadSoFar-end : {before after : Parser} {place : Place} {t u : List ℕ} → ReadSoFar before after place t u → u ≡ [] → TextRead before after place t
+ReadSoFar-end {place = place} {t = t} read is = record { next = read.next; stands = read.stands; same = subst (λ x. SameEnds place t read.next x) is read.same; limit = read.limit }
+
+-- the end of the text in an open group
+pub group_open_at_end : (place : Place) (limit : ℕ) → (place.around ≡ [] → ⊥) → NoEnds place [] limit
+group_open_at_end place limit some = λ tree depth r fits. at place.around refl r
+  where
+    at : {tree : Tree} {depth : ℕ} (os : List OpenGroup) → place.around ≡ os → Resumes place.around place.level place.settings place.groups [] tree depth → ⊥
+    at [] e r = some e
+    at {tree = tree} {depth = depth} (o ∷ os) e r = end_in_group (subst (λ x. Resumes x place.level place.settings place.groups [] tree depth) e r)
+
+completes_here : (place : Place) → place.around ≡ [] → Completes place [] (tree_at place.level) place.level.depth
+completes_here place is =
+    subst (λ x. Resumes x place.level place.settings place.groups [] (tree_at place.level) place.level.depth) (sym is) (whole (ends_here place.level place.settings place.groups tt))
+
+record Whole (s : Settings) (t : List ℕ) (tree : Tree) (depth : ℕ) : Type 0 where
+  groups : ℕ
+  ends : Ends no_level s 0 t tree depth groups []
+
+whole_of : {s : Settings} {t : List ℕ} {tree : Tree} {depth : ℕ} → Completes (start_of s) t tree depth → Whole s t tree depth
+whole_of completes = let found = at completes in record { groups = found.0; ends = found.1 }
+  where
+    at : {l : Level} {s : Settings} {m depth : ℕ} {t : List ℕ} {tree : Tree} → Resumes [] l s m t tree depth → (n : ℕ) × Ends l s m t tree depth n []
+    at (whole ends) = (_, ends)
+
+pub spells_by : (text : List ℕ) (settings : Settings) (next : Place) (tree : Tree) → SameEnds (start_of settings) text next [] → next.around ≡ [] → tree ≡ tree_at next.level
+    → next.level.depth ≤ settings.nest_limit → AllPairs (λ a b. a ≢ b) (names_of tree) → length (encode_utf8_all text) ≤ 65536 → Spells text settings tree
+spells_by text settings next tree same closed is fits once size =
+    let found = whole_of (same.back (tree_at next.level) next.level.depth (completes_here next closed)) in
+    let branches = branches_of found.ends in
+    record {
+      first = branches.first;
+      others = branches.others;
+      depth = next.level.depth;
+      groups = found.groups;
+      settings_after = branches.after;
+      whole = branches.branches;
+      tree_is = is ∙ branches.tree_is;
+      nesting = fits;
+      names = once;
+      size = size;
+    }
+
+-- what a text spells completes it from its start
+completes_from : {text : List ℕ} {settings : Settings} {tree : Tree} → (spells : Spells text settings tree) → Completes (start_of settings) text tree spells.depth
+completes_from {text = text} {settings = settings} spells =
+    subst (λ x. Resumes [] no_level settings 0 text x spells.depth) (sym spells.tree_is) (whole (ends_branches spells.whole))
+
+pub spells_nothing : {text : List ℕ} {settings : Settings} {limit : ℕ} → limit ≡ settings.nest_limit → NoEnds (start_of settings) text limit → SpellsNothing text settings
+spells_nothing {settings = settings} {limit = limit} is none = λ tree spells.
+    let nesting : spells.depth ≤ settings.nest_limit = spells.nesting in
+    let fits : spells.depth ≤ limit = omega (arith, is, nesting) in
+    none tree spells.depth (completes_from spells) fits
+
+pub names_stand_twice : {text : List ℕ} {settings : Settings} (next : Place) (tree : Tree) → SameEnds (start_of settings) text next [] → next.around ≡ [] → tree ≡ tree_at next.level
+    → (AllPairs (λ a b. a ≢ b) (names_of tree) → ⊥) → SpellsNothing text settings
+names_stand_twice next tree same closed is twice = λ other spells.
+    let r = subst (λ x. Resumes x next.level next.settings next.groups [] other spells.depth) closed (same.on other spells.depth (completes_from spells)) in
+    let equal : tree ≡ other = is ∙ sym (end_of_text r).0 in
+    twice (subst (λ x. AllPairs (λ a b. a ≢ b) (names_of x)) (sym equal) spells.names)

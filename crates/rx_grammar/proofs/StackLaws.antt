@@ -1,0 +1,157 @@
+-- The trees that nodes make.
+use Rattle.std.proofs.Common.{◌≡◌, ℕ, ◌+◌, ◌-◌, ◌≤◌, Bool, List, [], ◌∷◌, ◌++◌, length, take, drop, map, reverse, Some, None, refl, sym, ap, ap₂, subst, ◌∙◌, arith, length-append, length-drop}
+use Rattle.std.proofs.lemmas.List.{take_at, drop_at, reverse-reverse, length-reverse, map-append}
+use Rattle.rx_grammar.specs.declared.hir.Node.{Node}
+use Rattle.rx_grammar.specs.declared.hir.Node.TheVariants as node
+use Rattle.rx_grammar.specs.declared.groups.Captures.{Captures}
+use Rattle.rx_grammar.specs.declared.groups.Captures.TheVariants.{Numbered, Unnumbered}
+use Rattle.rx_grammar.specs.declared.hir.Repetition.{Repetition}
+use Rattle.rx_grammar.specs.Trees.{Tree, empty, repeated}
+use Rattle.rx_grammar.specs.Postorder.{Step, an_empty, a_set, a_look, a_group, a_concat, an_alternation, a_repetition, after_node, after_nodes, trees_of}
+use Rattle.rx_grammar.specs.Nodes.{step_of, trees_in}
+use Rattle.rx_grammar.specs.Texts.{Stops}
+use Rattle.rx_grammar.specs.Repetitions.{Postfix, NoPostfix, Postfixes, is_postfix_start}
+use Rattle.rx_grammar.specs.Repetitions as repetitions
+use Rattle.rx_grammar.specs.Heads.{capture_of}
+use Rattle.rx_grammar.specs.Stacks.{captured, PostfixesRead, PostfixesTooDeep}
+use Rattle.rx_grammar.proofs.RepetitionLaws.{postfix_unique, postfix_starts, postfixes_along}
+use Rattle.rx_grammar.proofs.ResumeLaws.{postfixes_deep}
+
+after_nodes-append : (trees : List Tree) (xs ys : List Step) → after_nodes trees (xs ++ ys) ≡ after_nodes (after_nodes trees xs) ys
+after_nodes-append trees [] ys = refl
+after_nodes-append trees (x ∷ xs) ys = after_nodes-append (after_node trees x) xs ys
+
+pub trees_in-push : (nodes all : List Node) (node : Node) → all ≡ nodes ++ node ∷ [] → trees_in all ≡ after_node (trees_in nodes) (step_of node)
+trees_in-push nodes all node e =
+    ap trees_in e ∙ ap trees_of (map-append step_of nodes (node ∷ [])) ∙ after_nodes-append [] (map step_of nodes) (step_of node ∷ [])
+
+-- a node makes at most one tree more
+length-after_node : (trees : List Tree) (node : Step) → length (after_node trees node) ≤ length trees + 1
+length-after_node trees an_empty = omega arith
+length-after_node trees (a_set ranges) = omega arith
+length-after_node trees (a_look look) = omega arith
+length-after_node [] (a_group number name) = omega arith
+length-after_node (tree ∷ trees) (a_group number name) = omega arith
+length-after_node trees (a_concat count) = omega (arith, length-drop count trees)
+length-after_node trees (an_alternation count) = omega (arith, length-drop count trees)
+length-after_node [] (a_repetition repetition) = omega arith
+length-after_node (tree ∷ trees) (a_repetition repetition) = omega arith
+
+length-after_nodes : (trees : List Tree) (nodes : List Step) → length (after_nodes trees nodes) ≤ length trees + length nodes
+length-after_nodes trees [] = omega arith
+length-after_nodes trees (node ∷ nodes) = omega (arith, length-after_nodes (after_node trees node) nodes, length-after_node trees node)
+
+steps_length : (nodes : List Node) → length (map step_of nodes) ≡ length nodes
+steps_length [] = refl
+steps_length (x ∷ xs) = omega (arith, steps_length xs)
+
+pub length-trees_in : (nodes : List Node) → length (trees_in nodes) ≤ length nodes
+length-trees_in nodes = omega (arith, length-after_nodes [] (map step_of nodes), steps_length nodes)
+
+-- the last trees, as they stand in a row
+front_taken : (items below : List Tree) → reverse (take (length items) (reverse items ++ below)) ≡ items
+front_taken items below = ap reverse (take_at (reverse items) below (length items) (length-reverse items)) ∙ reverse-reverse items
+
+front_dropped : (items below : List Tree) → drop (length items) (reverse items ++ below) ≡ below
+front_dropped items below = drop_at (reverse items) below (length items) (length-reverse items)
+
+pub joined : (f : List Tree → Tree) (n : ℕ) (trees items below : List Tree) → trees ≡ reverse items ++ below → n ≡ length items
+    → f (reverse (take n trees)) ∷ drop n trees ≡ f items ∷ below
+joined f n trees items below e len =
+    ap₂ (λ x y. f (reverse (take x y)) ∷ drop x y) len e ∙ ap₂ (λ x y. f x ∷ y) (front_taken items below) (front_dropped items below)
+
+pub count_above : (trees items below : List Tree) (n height group : ℕ) → trees ≡ reverse items ++ below → n ≡ height - group → height ≡ length trees → group ≡ length below → n ≡ length items
+count_above trees items below n height group e is counted at =
+    omega (arith, ap length e, length-append (reverse items) below, length-reverse items)
+
+pub joined_none : (f : List Tree → Tree) → f [] ≡ empty → (trees items below : List Tree) → trees ≡ reverse items ++ below → 0 ≡ length items → empty ∷ trees ≡ f items ∷ below
+joined_none f none trees [] below e len = ap₂ (λ x y. x ∷ y) (sym none) e
+joined_none f none trees (item ∷ items) below e len = absurd (omega arith)
+
+pub joined_one : (f : List Tree → Tree) → ((h : Tree) → f (h ∷ []) ≡ h) → (trees items below : List Tree) → trees ≡ reverse items ++ below → 1 ≡ length items → trees ≡ f items ∷ below
+joined_one f one trees [] below e len = absurd (omega arith)
+joined_one f one trees (item ∷ []) below e len = e ∙ ap (λ x. x ∷ below) (sym (one item))
+joined_one f one trees (item ∷ second ∷ items) below e len = absurd (omega arith)
+
+pub length-joined : (trees : List Tree) (tree : Tree) (n height : ℕ) → n ≤ height → height ≡ length trees → length (tree ∷ drop n trees) + n ≡ height + 1
+length-joined trees tree n height within counted = omega (arith, length-drop n trees)
+
+-- postfixes that are read one by one
+pub record PostfixesSoFar (swap : Bool) (tree : Tree) (depth : ℕ) (t : List ℕ) (trees below : List Tree) (deep : ℕ) (u : List ℕ) : Type 0 where
+  pub made : Tree
+  pub trees_are : trees ≡ made ∷ below
+  pub on : (g : Tree) (e : ℕ) (w : List ℕ) → Postfixes swap made deep u g e w → Postfixes swap tree depth t g e w
+  pub back : (g : Tree) (e : ℕ) (w : List ℕ) → Postfixes swap tree depth t g e w → Postfixes swap made deep u g e w
+
+pub PostfixesSoFar-none : (swap : Bool) (tree : Tree) (depth : ℕ) (t : List ℕ) (trees below : List Tree) → trees ≡ tree ∷ below → PostfixesSoFar swap tree depth t trees below depth t
+PostfixesSoFar-none swap tree depth t trees below e = record { made = tree; trees_are = e; on = λ g e w p. p; back = λ g e w p. p }
+
+first_postfix : {swap : Bool} {h g : Tree} {d e : ℕ} {t u w : List ℕ} {r : Repetition} → Postfix swap t r u → Postfixes swap h d t g e w → Postfixes swap (repeated r h) (d + 1) u g e w
+first_postfix one (repetitions.ended stops) = absurd (postfix_starts one stops)
+first_postfix {h = h} one (repetitions.further one' others) =
+    let same = postfix_unique one one' in postfixes_along (ap (λ r. repeated r h) same.0) refl same.1 others
+
+pub PostfixesSoFar-more : {swap : Bool} {tree : Tree} {depth deep deeper : ℕ} {t u v : List ℕ} {trees trees' below : List Tree} {r : Repetition} → PostfixesSoFar swap tree depth t trees below deep u
+    → Postfix swap u r v → deeper ≡ deep + 1 → trees' ≡ after_node trees (a_repetition r) → PostfixesSoFar swap tree depth t trees' below deeper v
+PostfixesSoFar-more {swap = swap} {v = v} {r = r} so_far one is e = record {
+  made = repeated r so_far.made;
+  trees_are = e ∙ ap (λ x. after_node x (a_repetition r)) so_far.trees_are;
+  on = λ g e w postfixes. so_far.on g e w (repetitions.further one (subst (λ x. Postfixes swap (repeated r so_far.made) x v g e w) is postfixes));
+  back = λ g e w postfixes. subst (λ x. Postfixes swap (repeated r so_far.made) x v g e w) (sym is) (first_postfix one (so_far.back g e w postfixes));
+}
+
+pub PostfixesSoFar-end : {swap : Bool} {tree : Tree} {depth deep limit : ℕ} {t u : List ℕ} {trees below : List Tree} → PostfixesSoFar swap tree depth t trees below deep u
+    → Stops is_postfix_start u → deep ≤ limit → PostfixesRead swap tree depth t trees below limit deep u
+PostfixesSoFar-end so_far stops fits = record { made = so_far.made; postfixes = so_far.on _ _ _ (repetitions.ended stops); trees_are = so_far.trees_are; fits = fits }
+
+-- where a postfix should stand, none does
+pub PostfixesSoFar-none_here : {swap : Bool} {tree : Tree} {depth deep limit : ℕ} {t u : List ℕ} {trees below : List Tree} → PostfixesSoFar swap tree depth t trees below deep u
+    → (Stops is_postfix_start u → ⊥) → NoPostfix swap u → PostfixesTooDeep swap tree depth t limit
+PostfixesSoFar-none_here {swap = swap} {u = u} so_far starts none = λ made deep w postfixes fits. no_more (so_far.back made deep w postfixes)
+  where
+    no_more : {h g : Tree} {d e : ℕ} {w : List ℕ} → Postfixes swap h d u g e w → ⊥
+    no_more (repetitions.ended stops) = starts stops
+    no_more (repetitions.further one others) = none _ _ one
+
+-- one more postfix is too deep
+pub PostfixesSoFar-too_deep : {swap : Bool} {tree : Tree} {depth deep limit : ℕ} {t u v : List ℕ} {trees below : List Tree} {r : Repetition} → PostfixesSoFar swap tree depth t trees below deep u
+    → Postfix swap u r v → limit ≤ deep → PostfixesTooDeep swap tree depth t limit
+PostfixesSoFar-too_deep so_far one over = λ made last w postfixes fits.
+    absurd (omega (arith, over, fits, postfixes_deep (first_postfix one (so_far.back made last w postfixes))))
+
+-- nodes over one tree
+abbrev pub IsOver : Node → Type 0
+IsOver (node.Group number name) = Unit {0}
+IsOver (node.Repeat repetition) = Unit {0}
+IsOver _ = ⊥
+
+over_one : (trees : List Tree) (over : Node) → IsOver over → 1 ≤ length trees → length (after_node trees (step_of over)) ≡ length trees
+over_one [] over is some = absurd (omega arith)
+over_one (tree ∷ trees) node.Empty is some = absurd is
+over_one (tree ∷ trees) (node.Set set) is some = absurd is
+over_one (tree ∷ trees) (node.Look look) is some = absurd is
+over_one (tree ∷ trees) (node.Group number None) is some = refl
+over_one (tree ∷ trees) (node.Group number (Some name)) is some = refl
+over_one (tree ∷ trees) (node.Concat count) is some = absurd is
+over_one (tree ∷ trees) (node.Alternation count) is some = absurd is
+over_one (tree ∷ trees) (node.Repeat repetition) is some = refl
+
+pub length-over : (trees : List Tree) (over : Node) (height : ℕ) → IsOver over → 1 ≤ height → height ≡ length trees → length (after_node trees (step_of over)) + 1 ≡ height + 1
+length-over trees over height is some counted =
+    let least : 1 ≤ length trees = omega (arith, counted) in
+    let same = over_one trees over is least in
+    omega (arith, counted)
+
+abbrev group_node : ℕ → Captures → Node
+group_node number (Numbered name) = node.Group number name
+group_node number Unnumbered = node.Empty
+
+abbrev IsNumbered : Captures → Type 0
+IsNumbered (Numbered name) = Unit {0}
+IsNumbered Unnumbered = ⊥
+
+pub captured_made : (number : ℕ) (captures : Captures) (trees below : List Tree) (tree : Tree) → IsNumbered captures → trees ≡ tree ∷ below
+    → after_node trees (step_of (group_node number captures)) ≡ captured number (capture_of captures) tree ∷ below
+captured_made number (Numbered None) trees below tree is e = ap (λ x. after_node x (step_of (group_node number (Numbered None)))) e
+captured_made number (Numbered (Some name)) trees below tree is e = ap (λ x. after_node x (step_of (group_node number (Numbered (Some name))))) e
+captured_made number Unnumbered trees below tree is e = absurd is

@@ -1,0 +1,11 @@
+use Rattle.std.proofs.Common.{[], ℕ, List, subst}
+use Rattle.rx_grammar.specs.Sets.{Range, IsSetOf}
+use Rattle.rx_grammar.proofs.UnionLemmas.{IsSetOf-nothing}
+use Rattle.rx_grammar.proofs.LetterLemmas.{IfOk-same, IfOk-complement, IsSetOf-along}
+use Rattle.rx_grammar.proofs.atoms.any_set.Goals as goal
+
+pub returns : goal.returns
+returns c =
+    let Nothing : ℕ → Type 0 = λ d. ⊥ in
+    IfOk-same c.complement.result (λ d. ¬ Nothing d) (λ d. Unit {0}) (λ d scalar. (λ h. tt, λ h e. e))
+    (IfOk-complement c.complement.result _ Nothing c.complement.ensures.canonical c.complement.ensures.members (IsSetOf-along [] _ Nothing c.empty-none.ensures IsSetOf-nothing))

@@ -1,0 +1,16 @@
+use Rattle.std.proofs.Common.{[], reverse, refl, sym, ap, subst}
+use Rattle.rx_grammar.specs.Standing.{Surround, outermost}
+use Rattle.rx_grammar.proofs.StandingLaws.{level_none}
+use Rattle.rx_grammar.proofs.parser.Parser.new.Goals as goal
+
+pub returns-clause-stands : goal.returns-clause-stands
+returns-clause-stands c = record {
+  trees = [];
+  below = [];
+  trees_are = c.new-2.ensures.trees;
+  counted = c.new-2.ensures.counted;
+  level = level_none [] c.get_nest_limit.result 0 refl;
+  settings = c.copied.ensures;
+  groups = refl;
+  around = subst (λ x. Surround c.get_nest_limit.result x [] []) (sym (ap reverse c.new.ensures.items)) outermost;
+}

@@ -1,0 +1,59 @@
+-- A tree as the list of its nodes, each after what stands below it.
+use Rattle.std.specs.Prelude.{ℕ, List, [], ◌∷◌, reverse, take, drop, flat_map, Option, Some}
+use Rattle.rx_grammar.specs.declared.hir.Look.{Look}
+use Rattle.rx_grammar.specs.declared.hir.Repetition.{Repetition}
+use Rattle.rx_grammar.specs.Sets.{Range}
+use Rattle.rx_grammar.specs.Trees.{Name, Tree, empty, one_of, look_at, group, repeated, concat_of, alternation_of}
+
+-- a node without what stands below it
+pub data Step : Type 0 where
+  an_empty : Step
+  a_set : List Range → Step
+  a_look : Look → Step
+  a_group : ℕ → Option Name → Step
+  -- how many trees stand below
+  a_concat : ℕ → Step
+  an_alternation : ℕ → Step
+  a_repetition : Repetition → Step
+
+-- branches beside one another
+abbrev pub alternate : List Tree → Tree
+alternate [] = empty
+alternate (first ∷ others) = alternation_of first others
+
+-- the trees that stand in a row after a node, the last one first: a node takes the last trees
+abbrev pub after_node : List Tree → Step → List Tree
+after_node trees an_empty = empty ∷ trees
+after_node trees (a_set ranges) = one_of ranges ∷ trees
+after_node trees (a_look look) = look_at look ∷ trees
+after_node [] (a_group number name) = group number name empty ∷ []
+after_node (tree ∷ trees) (a_group number name) = group number name tree ∷ trees
+after_node trees (a_concat count) = concat_of (reverse (take count trees)) ∷ drop count trees
+after_node trees (an_alternation count) = alternate (reverse (take count trees)) ∷ drop count trees
+after_node [] (a_repetition repetition) = repeated repetition empty ∷ []
+after_node (tree ∷ trees) (a_repetition repetition) = repeated repetition tree ∷ trees
+
+abbrev pub after_nodes : List Tree → List Step → List Tree
+after_nodes trees [] = trees
+after_nodes trees (node ∷ nodes) = after_nodes (after_node trees node) nodes
+
+-- the trees that nodes make, the last one first
+abbrev pub trees_of : List Step → List Tree
+trees_of nodes = after_nodes [] nodes
+
+abbrev pub first_of : List Tree → Tree
+first_of [] = empty
+first_of (tree ∷ trees) = tree
+
+-- the tree that the nodes make
+abbrev pub tree_of : List Step → Tree
+tree_of nodes = first_of (trees_of nodes)
+
+-- the name of a group that has one
+abbrev pub own_names : Step → List Name
+own_names (a_group number (Some name)) = name ∷ []
+own_names _ = []
+
+-- the names of the groups among the nodes, in their order
+abbrev pub names_in : List Step → List Name
+names_in nodes = flat_map own_names nodes

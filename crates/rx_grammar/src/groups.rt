@@ -1,0 +1,202 @@
+//! What stands at the start of a group, and settings.
+
+ghost use Rattle.std.specs.Prelude.{◌≡◌, ◌≢◌, AllPairs, [], ◌∷◌, ◌++◌, MatchOption, IfOk};
+ghost use Rattle.rx_grammar.specs.Groups.{is_name_start, IsName, opened};
+ghost use Rattle.rx_grammar.specs.Texts.{Begins};
+ghost use Rattle.rx_grammar.specs.Heads.{capture_of, NameOpening, NoNameOpening, IsFlagLetter, NoFlagLetter, FlagsAfter, NoFlagsAfter, FlagsChange, NoFlags, NoName, IsHead, NoHead};
+
+use crate::ast::Flag;
+use crate::syntax::Config;
+use crate::texts::{CharacterTest, eat, first, split_front};
+use std::alloc::{AllocError, Global};
+
+/// What a group captures.
+#[derive(Debug, Drop)]
+pub enum Captures {
+    /// The group has a number, and perhaps a name.
+    Numbered(Option<Vec<char>>),
+    /// The group has no number.
+    Unnumbered,
+}
+
+impl Captures {
+    /// How many groups with a number the group is: one or none.
+    pub(crate) fn count(&self) -> u32
+        ensures { result ≡ opened 0 (capture_of self.now) }
+    {
+        match self {
+            Captures::Numbered(_) => 1,
+            Captures::Unnumbered => 0,
+        }
+    }
+}
+
+/// What a parenthesis begins.
+#[derive(Debug, Drop)]
+pub enum Head {
+    /// A setting, with what is set after it.
+    Setting(Config),
+    /// The head of a group, with what is set inside it and what it captures.
+    Group(Config, Captures),
+}
+
+/// The flag that a letter spells.
+fn flag_letter(text: &[char]) -> Option<(Flag, &[char])>
+    ensures { MatchOption result (NoFlagLetter text.now) (λ r. IsFlagLetter text.now r.0 r.1.now) }
+{
+    let Some((letter, rest)) = first(text) else {
+        return None;
+    };
+    match letter {
+        'i' => Some((Flag::CaseInsensitive, rest)),
+        'm' => Some((Flag::MultiLine, rest)),
+        's' => Some((Flag::DotMatchesNewLine, rest)),
+        'U' => Some((Flag::SwapGreed, rest)),
+        _ => None,
+    }
+}
+
+/// The flags that the text's letters spell, appended to `flags`, and `None` where a flag would stand there twice.
+fn flag_letters(
+    text: &[char],
+    mut flags: Vec<Flag>,
+) -> Result<Option<(Vec<Flag>, &[char])>, AllocError>
+    requires { AllPairs (λ a b. a ≢ b) flags.items }
+    ensures { IfOk result (λ found. MatchOption found (NoFlagsAfter flags.items text.now) (λ r. FlagsAfter flags.items r.0.items text.now r.1.now)) }
+{
+    let mut rest = text;
+    while let Some((flag, behind)) = flag_letter(rest) {
+        if flags.contains(&flag) {
+            return Ok(None);
+        }
+        flags.push(flag)?;
+        rest = behind;
+    }
+    Ok(Some((flags, rest)))
+}
+
+/// What flags change of the settings: those before a `-` are turned on, those after it off.
+fn flag_changes<'a>(
+    alloc: Global,
+    text: &'a [char],
+    config: &Config,
+) -> Result<Option<(Config, &'a [char])>, AllocError>
+    ensures { IfOk result (λ found. MatchOption found (NoFlags text.now) (λ r. FlagsChange config.now text.now r.0 r.1.now)) }
+{
+    let Some((on, rest)) = flag_letters(text, Vec::new(alloc))? else {
+        return Ok(None);
+    };
+    let count = on.len();
+    let changed = config.with_flags(true, &on);
+    let Some(behind) = eat(rest, '-') else {
+        return Ok(if count == 0 {
+            None
+        } else {
+            Some((changed, rest))
+        });
+    };
+    let Some((all, last)) = flag_letters(behind, on)? else {
+        return Ok(None);
+    };
+    if all.len() == count {
+        return Ok(None);
+    }
+    Ok(Some((changed.with_flags(false, &all[count..]), last)))
+}
+
+/// Whether a name may begin with the character.
+fn is_name_start(c: char) -> bool
+    ensures { result ≡ is_name_start c }
+{
+    c.is_ascii_alphabetic() || c == '_'
+}
+
+/// A name, and what follows the `>` after it.
+fn group_name(text: &[char]) -> Option<(&[char], &[char])>
+    ensures { MatchOption result (NoName text.now) (λ r. IsName r.0.now × (text.now ≡ r.0.now ++ 62 ∷ r.1.now)) }
+{
+    let (front, rest) = split_front(text, CharacterTest::NameCharacter);
+    let Some((start, _)) = first(front) else {
+        return None;
+    };
+    if !is_name_start(start) {
+        return None;
+    }
+    match eat(rest, '>') {
+        Some(behind) => Some((front, behind)),
+        None => None,
+    }
+}
+
+/// What follows `P<` or `<`.
+fn before_name(text: &[char]) -> Option<&[char]>
+    ensures { MatchOption result (NoNameOpening text.now) (λ rest. NameOpening text.now rest.now) }
+{
+    match eat(text, 'P') {
+        Some(behind) => eat(behind, '<'),
+        None => eat(text, '<'),
+    }
+}
+
+/// What follows `(?` where it names no group and leaves the settings as they are: flags.
+fn flagged_head<'a>(
+    alloc: Global,
+    text: &'a [char],
+    config: &Config,
+) -> Result<Option<(Head, &'a [char])>, AllocError>
+    requires colon { Begins 58 text.now → ⊥ }
+    requires name { NoNameOpening text.now }
+    ensures { IfOk result (λ found. MatchOption found (NoHead config.now (40 ∷ 63 ∷ text.now)) (λ r. IsHead config.now (40 ∷ 63 ∷ text.now) r.0 r.1.now)) }
+{
+    let Some((changed, rest)) = flag_changes(alloc, text, config)? else {
+        return Ok(None);
+    };
+    if let Some(behind) = eat(rest, ')') {
+        return Ok(Some((Head::Setting(changed), behind)));
+    }
+    match eat(rest, ':') {
+        Some(behind) => Ok(Some((Head::Group(changed, Captures::Unnumbered), behind))),
+        None => Ok(None),
+    }
+}
+
+/// What follows `(?`.
+fn marked_head<'a>(
+    alloc: Global,
+    text: &'a [char],
+    config: &Config,
+) -> Result<Option<(Head, &'a [char])>, AllocError>
+    ensures { IfOk result (λ found. MatchOption found (NoHead config.now (40 ∷ 63 ∷ text.now)) (λ r. IsHead config.now (40 ∷ 63 ∷ text.now) r.0 r.1.now)) }
+{
+    if let Some(rest) = eat(text, ':') {
+        return Ok(Some((Head::Group(config.copied(), Captures::Unnumbered), rest)));
+    }
+    let Some(inside) = before_name(text) else {
+        return flagged_head(alloc, text, config);
+    };
+    let Some((name, rest)) = group_name(inside) else {
+        return Ok(None);
+    };
+    let captures = Captures::Numbered(Some(Vec::from_slice(alloc, name)?));
+    Ok(Some((Head::Group(config.copied(), captures), rest)))
+}
+
+/// What a parenthesis begins, and `None` where the text doesn't begin with a setting or the head of a group.
+pub fn group_head<'a>(
+    alloc: Global,
+    text: &'a [char],
+    config: &Config,
+) -> Result<Option<(Head, &'a [char])>, AllocError>
+    ensures { IfOk result (λ found. MatchOption found (NoHead config.now text.now) (λ r. IsHead config.now text.now r.0 r.1.now)) }
+{
+    let Some(inside) = eat(text, '(') else {
+        return Ok(None);
+    };
+    match eat(inside, '?') {
+        Some(behind) => marked_head(alloc, behind, config),
+        None => Ok(Some((
+            Head::Group(config.copied(), Captures::Numbered(None)),
+            inside,
+        ))),
+    }
+}

@@ -1,0 +1,242 @@
+//! A pattern that is read part by part.
+
+ghost use Rattle.std.specs.Prelude.{ℕ, ◌≡◌, ◌+◌, ◌≤◌, ◌<◌, ◌^◌, [], ◌∷◌, length, OnOk, MatchResult};
+ghost use Rattle.rx_grammar.specs.Trees.{Tree};
+ghost use Rattle.rx_grammar.specs.Stacks.{IsRefusal, PostfixesTooDeep};
+ghost use Rattle.rx_grammar.specs.Resuming.{Place, NoEnds, with_branch};
+ghost use Rattle.rx_grammar.specs.Texts.{Begins};
+ghost use Rattle.rx_grammar.specs.Heads.{capture_of};
+ghost use Rattle.rx_grammar.specs.Standing.{start_of, opened_at, Stands, IsStanding, ItemRead, EndsLevel, IsLeafPlace, StepTaken, TextRead, IsFinished};
+
+use crate::atoms::Atoms;
+use crate::error::SyntaxError;
+use crate::groups::{Captures, Head, group_head};
+use crate::hir::{Hir, tree};
+use crate::leaves::leaf;
+use crate::syntax::Config;
+use crate::texts::first;
+use crate::trees::{TreeStack, deeper};
+use std::alloc::{AllocError, Global};
+
+/// The heights at which the trees of a group begin, and those of its last branch, and how deep its items are.
+#[derive(Debug, Drop)]
+pub(crate) struct Heights {
+    group: usize,
+    branch: usize,
+    depth: u32,
+}
+
+/// What a group stands in, and what it captures: its number is the number of groups up to it.
+#[derive(Debug, Drop)]
+pub(crate) struct Around {
+    heights: Heights,
+    config: Config,
+    number: u32,
+    captures: Captures,
+}
+
+/// A pattern that is read in part.
+#[derive(Drop)]
+pub(crate) struct Parser {
+    alloc: Global,
+    limit: u32,
+    config: Config,
+    groups: u32,
+    heights: Heights,
+    around: Vec<Around>,
+    trees: TreeStack,
+    atoms: Atoms,
+}
+
+impl Parser {
+    /// Nothing is read yet.
+    pub(crate) fn new(alloc: Global, config: &Config) -> Parser
+        ensures stands { Stands result [] (start_of config.now) }
+        ensures limit { result.limit ≡ config.now.nest_limit }
+        ensures groups { result.groups ≡ 0 }
+    {
+        Parser {
+            alloc,
+            limit: config.get_nest_limit(),
+            config: config.copied(),
+            groups: 0,
+            heights: Heights {
+                group: 0,
+                branch: 0,
+                depth: 0,
+            },
+            around: Vec::new(alloc),
+            trees: TreeStack::new(alloc),
+            atoms: Atoms::new(alloc),
+        }
+    }
+
+    /// The postfixes after an atom of this depth, which is an item with them. Answers the text after it.
+    fn finish_item<'a>(&mut self, text: &'a [char], depth: u32) -> Result<&'a [char], SyntaxError>
+        requires stands { (place : Place) × (tree : Tree) × Stands self.old (tree ∷ []) place }
+        requires depth { depth ≤ self.old.limit }
+        ensures reads { (place : Place) (tree : Tree) → Stands self.old (tree ∷ []) place → MatchResult result (λ rest. ItemRead self.old self.new place tree depth text.now rest.now) (λ e. IsRefusal e (PostfixesTooDeep place.settings.swap_greed tree depth text.now self.old.limit)) }
+    {
+        let swap_greed = self.config.get_swap_greed();
+        let (deep, rest) = self
+            .trees
+            .read_postfixes(text, depth, self.limit, swap_greed)?;
+        self.heights.depth = self.heights.depth.max(deep);
+        Ok(rest)
+    }
+
+    /// An atom that is no group, with its postfixes.
+    fn read_leaf<'a>(&mut self, text: &'a [char]) -> Result<&'a [char], SyntaxError>
+        requires stands { IsStanding self.old }
+        requires leaf { IsLeafPlace text.now }
+        ensures steps { (place : Place) → Stands self.old [] place → MatchResult result (λ rest. StepTaken self.old self.new place text.now rest.now) (λ e. IsRefusal e (NoEnds place text.now self.old.limit)) }
+    {
+        let Some((tree, behind)) = leaf(self.alloc, &mut self.atoms, text, &self.config)? else {
+            return Err(SyntaxError::Outside);
+        };
+        self.trees.push_leaf(tree)?;
+        self.finish_item(behind, 0)
+    }
+
+    /// The branch ends.
+    fn end_branch(&mut self) -> Result<(), AllocError>
+        requires stands { IsStanding self.old }
+        ensures ends { (place : Place) → Stands self.old [] place → OnOk result (Stands self.new [] (record place { level = with_branch place.level })) }
+        ensures kept { (self.new.limit ≡ self.old.limit) × (self.new.groups ≡ self.old.groups) }
+    {
+        self.trees.join_items(self.heights.branch)?;
+        self.heights.branch = self.trees.height();
+        Ok(())
+    }
+
+    /// The group, or the whole pattern, ends, and its branches are one tree.
+    fn end_level(&mut self) -> Result<(), AllocError>
+        requires stands { IsStanding self.old }
+        ensures ends { (place : Place) → Stands self.old [] place → OnOk result (EndsLevel self.old self.new place) }
+    {
+        self.end_branch()?;
+        self.trees.join_branches(self.heights.group)?;
+        Ok(())
+    }
+
+    /// What a parenthesis begins.
+    fn read_head<'a>(&mut self, text: &'a [char]) -> Result<&'a [char], SyntaxError>
+        requires stands { IsStanding self.old }
+        requires parenthesis { Begins 40 text.now }
+        requires room { self.old.groups + length text.now < 2 ^ 32 }
+        ensures steps { (place : Place) → Stands self.old [] place → MatchResult result (λ rest. StepTaken self.old self.new place text.now rest.now) (λ e. IsRefusal e (NoEnds place text.now self.old.limit)) }
+    {
+        let Some((head, rest)) = group_head(self.alloc, text, &self.config)? else {
+            return Err(SyntaxError::Outside);
+        };
+        match head {
+            Head::Setting(config) => {
+                self.config = config;
+                Ok(rest)
+            }
+            Head::Group(config, captures) => {
+                self.open(config, captures)?;
+                Ok(rest)
+            }
+        }
+    }
+
+    /// A group begins.
+    fn open(&mut self, config: Config, captures: Captures) -> Result<(), AllocError>
+        requires stands { IsStanding self.old }
+        requires room { self.old.groups + 1 < 2 ^ 32 }
+        ensures opens { (place : Place) → Stands self.old [] place → OnOk result (Stands self.new [] (opened_at place config (capture_of captures))) }
+        ensures groups { OnOk result (self.new.groups ≤ self.old.groups + 1) }
+        ensures limit { self.new.limit ≡ self.old.limit }
+    {
+        self.groups += captures.count();
+        let height = self.trees.height();
+        let inside = Heights {
+            group: height,
+            branch: height,
+            depth: 0,
+        };
+        let around = Around {
+            heights: std::mem::replace(&mut self.heights, inside),
+            config: std::mem::replace(&mut self.config, config),
+            number: self.groups,
+            captures,
+        };
+        self.around.push(around)?;
+        Ok(())
+    }
+
+    /// The innermost group ends, and postfixes follow it.
+    fn close<'a>(&mut self, rest: &'a [char]) -> Result<&'a [char], SyntaxError>
+        requires stands { IsStanding self.old }
+        ensures steps { (place : Place) → Stands self.old [] place → MatchResult result (λ rest'. StepTaken self.old self.new place (41 ∷ rest.now) rest'.now) (λ e. IsRefusal e (NoEnds place (41 ∷ rest.now) self.old.limit)) }
+    {
+        self.end_level()?;
+        let Some(
+            Around {
+                heights,
+                config: outside,
+                number,
+                captures,
+            },
+        ) = self.around.pop()
+        else {
+            return Err(SyntaxError::Outside);
+        };
+        let Some(depth) = deeper(self.heights.depth, self.limit) else {
+            return Err(SyntaxError::Nesting);
+        };
+        self.heights = heights;
+        self.config = outside;
+        self.trees.push_group(number, captures)?;
+        self.finish_item(rest, depth)
+    }
+
+    /// What stands at the start of a text, and the text after it.
+    pub(crate) fn step<'a>(
+        &mut self,
+        c: char,
+        rest: &'a [char],
+        text: &'a [char],
+    ) -> Result<&'a [char], SyntaxError>
+        requires stands { IsStanding self.old }
+        requires text { text.now ≡ c ∷ rest.now }
+        requires room { self.old.groups + length text.now < 2 ^ 32 }
+        ensures steps { (place : Place) → Stands self.old [] place → MatchResult result (λ after. StepTaken self.old self.new place text.now after.now) (λ e. IsRefusal e (NoEnds place text.now self.old.limit)) }
+    {
+        match c {
+            '|' => {
+                self.end_branch()?;
+                Ok(rest)
+            }
+            '(' => self.read_head(text),
+            ')' => self.close(rest),
+            _ => self.read_leaf(text),
+        }
+    }
+
+    /// A whole text.
+    pub(crate) fn read(&mut self, text: &[char]) -> Result<(), SyntaxError>
+        requires stands { IsStanding self.old }
+        requires room { self.old.groups + length text.now < 2 ^ 32 }
+        ensures reads { (place : Place) → Stands self.old [] place → MatchResult result (λ _. TextRead self.old self.new place text.now) (λ e. IsRefusal e (NoEnds place text.now self.old.limit)) }
+    {
+        let mut rest = text;
+        while let Some((c, behind)) = first(rest) {
+            rest = self.step(c, behind, rest)?;
+        }
+        Ok(())
+    }
+
+    /// The tree of the pattern, where no group is open.
+    pub(crate) fn finish(mut self) -> Result<Hir, SyntaxError>
+        requires stands { IsStanding self }
+        ensures ends { (place : Place) → Stands self [] place → MatchResult result (λ hir. IsFinished place hir self.limit) (λ e. IsRefusal e (NoEnds place [] self.limit)) }
+    {
+        if !self.around.is_empty() {
+            return Err(SyntaxError::Outside);
+        }
+        self.end_level()?;
+        Ok(tree(self.trees.into_nodes()))
+    }
+}

@@ -1,0 +1,77 @@
+//! Reading a whole pattern.
+
+ghost use Rattle.std.specs.Prelude.{◌≡◌, ◌≢◌, ◌<◌, ◌≤◌, ◌↔◌, All, AllPairs, Contains, MatchBool, length, chars, encode_utf8_all, map, IfOk, IfErr};
+ghost use Rattle.rx_grammar.specs.Postorder.{tree_of, names_in};
+ghost use Rattle.rx_grammar.specs.Grammar.{Spells, SpellsNothing};
+ghost use Rattle.rx_grammar.specs.Nodes.{step_of};
+ghost use Rattle.rx_grammar.specs.Stacks.{IsRefusal};
+
+use crate::error::SyntaxError;
+use crate::hir::{Hir, Node};
+use crate::parser::Parser;
+use crate::syntax::Config;
+use std::alloc::{AllocError, Global};
+
+/// The greatest number of bytes of a pattern.
+const MAX_BYTES: usize = 65_536;
+
+/// Whether the name stands among the names.
+fn stands_in(name: &[char], names: &[&[char]]) -> bool
+    ensures { MatchBool result (Contains (map (λ name. name.now) names.now) name.now) (All (λ other. other ≢ name.now) (map (λ name. name.now) names.now)) }
+{
+    for other in names {
+        if *other == name {
+            return true;
+        }
+    }
+    false
+}
+
+/// Whether no two groups among the nodes have one name.
+fn has_distinct_names(alloc: Global, nodes: &[Node]) -> Result<bool, AllocError>
+    ensures { IfOk result (λ distinct. MatchBool distinct (AllPairs (λ a b. a ≢ b) (names_in (map step_of nodes.now))) (AllPairs (λ a b. a ≢ b) (names_in (map step_of nodes.now)) → ⊥)) }
+{
+    let mut names: Vec<&[char]> = Vec::new(alloc);
+    for node in nodes {
+        if let Some(name) = node.name() {
+            if stands_in(name, &names) {
+                return Ok(false);
+            }
+            names.push(name)?;
+        }
+    }
+    Ok(true)
+}
+
+/// What a pattern of at most 65,536 bytes spells.
+fn parse_characters(alloc: Global, text: &[char], config: &Config) -> Result<Hir, SyntaxError>
+    requires size { length (encode_utf8_all text.now) ≤ 65536 }
+    requires short { length text.now ≤ 65536 }
+    ensures spells { IfOk result (λ hir. Spells text.now config.now (tree_of hir)) }
+    ensures refused { IfErr result (λ e. IsRefusal e (SpellsNothing text.now config.now)) }
+{
+    let mut parser = Parser::new(alloc, config);
+    parser.read(text)?;
+    let hir = parser.finish()?;
+    let distinct = has_distinct_names(alloc, hir.nodes())?;
+    if distinct {
+        Ok(hir)
+    } else {
+        Err(SyntaxError::Outside)
+    }
+}
+
+/// What a pattern spells under these settings, exactly where it spells anything. Else the pattern is refused as
+/// `TooLong` where it has more than 65,536 bytes, and as `Outside` or `Nesting` where it has no more and spells
+/// nothing. `Memory` may stand in place of a tree and of the last two.
+pub fn parse(alloc: Global, text: &str, config: &Config) -> Result<Hir, SyntaxError>
+    ensures spells { IfOk result (λ hir. Spells (chars text.now) config.now (tree_of hir)) }
+    ensures refused { IfErr result (λ e. e ≢ SyntaxError.TooLong → IsRefusal e (SpellsNothing (chars text.now) config.now)) }
+    ensures too_long { (result ≡ Err SyntaxError.TooLong) ↔ (65536 < length text.now) }
+{
+    if text.len() > MAX_BYTES {
+        return Err(SyntaxError::TooLong);
+    }
+    let characters: Vec<char> = text.chars().collect(alloc)?;
+    parse_characters(alloc, &characters, config)
+}
