@@ -3,7 +3,6 @@ use Rattle.std.specs.Prelude.{◌≡◌, ℕ, ◌<◌, ◌≤◌, ◌⊎◌, Lis
 use Rattle.std.specs.List.{concat}
 use Rattle.str_indices.specs.Text.{is_line_break, breaks}
 use Rattle.str_indices.specs.Laws.{byte_len}
-
 -- how a rope is cut, in the words of the tree
 pub use Rattle.ropey_tree.specs.Cutting.{IsPiece, IsCutting, IsText}
 

@@ -96,7 +96,10 @@ fn check_place(rt: &impl Abort, rope: &Rope, place: Place) {
 /// That a line starts at a place.
 fn check_line(rt: &impl Abort, rope: &Rope, place: Place) {
     let Place {
-        byte, char, line, ..
+        byte,
+        char,
+        line,
+        ..
     } = place;
     assert!(rt; rope.try_line_to_byte(line) == Ok(byte), "line {line}");
     assert!(rt; rope.try_line_to_char(line) == Ok(char), "line {line}");
