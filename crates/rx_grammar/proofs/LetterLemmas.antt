@@ -1,13 +1,12 @@
 -- The sets of letter classes.
-use Rattle.std.proofs.Common.{◌≡◌, ◌≢◌, ℕ, ◌+◌, ◌-◌, ◌<◌, ◌≤◌, ◌↔◌, ◌⊎◌, Bool, true, false, not, ◌&&◌, ◌||◌, nat_le, nat_lt, min, IsTrue, IfOk, Result, Ok, Err, List, [], ◌∷◌, ◌++◌, refl, sym, ap, subst, ◌∙◌, arith, inl, inr, true≢false}
+use Rattle.std.proofs.Common.{◌≡◌, ℕ, ◌+◌, ◌<◌, ◌≤◌, ◌↔◌, Bool, true, false, not, ◌||◌, min, IsTrue, IfOk, Result, Ok, Err, List, [], ◌∷◌, ◌++◌, refl, sym, ap, subst, ◌∙◌, arith, inl, inr, true≢false}
 use Rattle.std.proofs.lemmas.Bool.{or_cases, or_left, or_right, and_parts, and_from, cases_lt, leb-true, le-leb, ltb-true, lt-ltb}
 use Rattle.std.proofs.lemmas.Bool.Decides.{nat_tests}
 use Rattle.unicode.specs.Rows as rows
 use Rattle.rx_grammar.specs.declared.ast.ClassPerlKind.{ClassPerlKind}
-use Rattle.rx_grammar.specs.Settings.{Settings}
-use Rattle.rx_grammar.specs.Sets.{Range, part, IsScalar, ordinal, in_ranges, Holds, IsCanonical, IsSetOf, HasExactly, FoldsInto, FoldedIf, in_kind, InPerl}
+use Rattle.rx_grammar.specs.Sets.{Range, part, IsScalar, ordinal, in_ranges, Holds, IsCanonical, IsSetOf, HasExactly, FoldsInto, in_kind, InPerl}
 use Rattle.rx_grammar.specs.Unions.{OneOf, Adds, Between, scalars_below}
-use Rattle.rx_grammar.proofs.RangeLemmas.{in_ranges-append, in_part, within}
+use Rattle.rx_grammar.proofs.RangeLemmas.{in_ranges-append, in_part}
 use Rattle.rx_grammar.proofs.UnionLemmas.{IsSetOf-added, IsSetOf-complement, IsSetOf-closed, IsSetOf-map}
 
 le_ordinal : (a c : ℕ) → IsScalar c → a ≤ c → scalars_below a ≤ ordinal c
@@ -20,14 +19,13 @@ ordinal_le a c scalar le = grind (arith, nat_tests)
 pub in_codes : (low high c : ℕ) → IsScalar c
     → in_ranges (part (scalars_below low) (scalars_below (min high 0x10_FFFF + 1))) (ordinal c) ≡ true ↔ Between low high c
 in_codes low high c scalar =
-    let is = in_part (scalars_below low) (scalars_below (min high 0x10_FFFF + 1)) (ordinal c) in
-    (
+    let is = in_part (scalars_below low) (scalars_below (min high 0x10_FFFF + 1)) (ordinal c) in (
       λ h.
-        let tests = and_parts _ _ (sym is ∙ h) in
-        let from : low ≤ c = ordinal_le low c scalar (leb-true _ _ tests.0) in
-        let to : ordinal c < scalars_below (min high 0x10_FFFF + 1) = ltb-true _ _ tests.1 in
-        (from, elim (cases_lt high c) [ inl above ↦ absurd (past high c scalar above to) | inr inside ↦ inside ]),
-      λ h. is ∙ and_from _ _ (le-leb _ _ (le_ordinal low c scalar h.0)) (lt-ltb _ _ (before high c scalar h.1))
+          let tests = and_parts _ _ (sym is ∙ h) in
+          let from : low ≤ c = ordinal_le low c scalar (leb-true _ _ tests.0) in
+          let to : ordinal c < scalars_below (min high 0x10_FFFF + 1) = ltb-true _ _ tests.1 in
+          (from, elim (cases_lt high c) [ inl above ↦ absurd (past high c scalar above to) | inr inside ↦ inside ]),
+      λ h. is ∙ and_from _ _ (le-leb _ _ (le_ordinal low c scalar h.0)) (lt-ltb _ _ (before high c scalar h.1)),
     )
   where
     past : (high c : ℕ) → IsScalar c → high < c → ordinal c < scalars_below (min high 0x10_FFFF + 1) → ⊥
@@ -50,9 +48,10 @@ pub Adds-part : (old new : List Range) (low high : ℕ) → new ≡ old ++ part 
 Adds-part old new low high is c scalar =
     let codes = part (scalars_below low) (scalars_below (min high 0x10_FFFF + 1)) in
     let split : in_ranges new (ordinal c) ≡ (in_ranges old (ordinal c) || in_ranges codes (ordinal c)) =
-    ap (λ l. in_ranges l (ordinal c)) is ∙ in_ranges-append old codes (ordinal c) in
-    (λ h. elim (or_cases _ _ (sym split ∙ h)) [ inl a ↦ inl a | inr b ↦ inr ((in_codes low high c scalar).0 b) ],
-     λ h. split ∙ elim h [ inl a ↦ or_left _ _ a | inr p ↦ or_right _ _ ((in_codes low high c scalar).1 p) ])
+    ap (λ l. in_ranges l (ordinal c)) is ∙ in_ranges-append old codes (ordinal c) in (
+      λ h. elim (or_cases _ _ (sym split ∙ h)) [ inl a ↦ inl a | inr b ↦ inr ((in_codes low high c scalar).0 b) ],
+      λ h. split ∙ elim h [ inl a ↦ or_left _ _ a | inr p ↦ or_right _ _ ((in_codes low high c scalar).1 p) ],
+    )
 
 some_row : (codes : List Range) (c : ℕ) → OneOf (λ (r : Range). Between r.0 r.1 c) codes → rows.in_ranges codes c ≡ true
 unfolding rows.in_ranges

@@ -1,5 +1,5 @@
 -- The pairs of code points with one simple case folding, in order.
-use Rattle.std.proofs.Common.{◌≡◌, ℕ, zero, suc, ◌+◌, ◌-◌, ◌<◌, ◌≤◌, ◌↔◌, ◌⊎◌, ◌==◌, Bool, true, false, ◌&&◌, ◌||◌, nat_le, nat_lt, List, [], ◌∷◌, length, take, drop, get_or, Contains, refl, sym, ap, subst, ◌∙◌, arith, inl, inr, true≢false, ◌≢◌, not}
+use Rattle.std.proofs.Common.{◌≡◌, ℕ, zero, suc, ◌+◌, ◌-◌, ◌<◌, ◌≤◌, ◌↔◌, ◌⊎◌, ◌==◌, true, false, ◌&&◌, ◌||◌, nat_le, nat_lt, List, [], ◌∷◌, length, take, drop, get_or, Contains, refl, sym, ap, subst, ◌∙◌, arith, inl, inr, true≢false, ◌≢◌}
 use Rattle.std.proofs.lemmas.Bool.{or_cases, and_parts, and_from, cases_eq, cases_lt, ltb-true, ltb-false, leb-true, leb-false, eqb-true}
 use Rattle.std.proofs.lemmas.List.{length-take-le, length-drop, get_or-drop, get_or-take}
 use Rattle.std.proofs.lemmas.Bool.Decides.{nat_tests}
@@ -91,25 +91,23 @@ pairs_found table rest run i j low high meaning in_bounds first rest_is within l
     let within' : j ≤ length (drop i table) = subst (λ (l : List Pair). j ≤ length l) rest_is within in
     let last' : IsPartitionPoint (λ (p : Pair). nat_le p.0 high ≡ true) (λ (p : Pair). nat_le p.0 high ≡ false) (drop i table) j =
     subst (λ (l : List Pair). IsPartitionPoint (λ (p : Pair). nat_le p.0 high ≡ true) (λ (p : Pair). nat_le p.0 high ≡ false) l j) rest_is last in
-    let run_is' : run ≡ take j (drop i table) = run_is ∙ ap (λ (l : List Pair). take j l) rest_is in
-    (
+    let run_is' : run ≡ take j (drop i table) = run_is ∙ ap (λ (l : List Pair). take j l) rest_is in (
       λ has.
-        let found = in_run table i j low high in_bounds first within' last' (a, b) (subst (λ (l : List Pair). Contains l (a, b)) run_is' has) in
-        let pair = (meaning a b).0 found.0 in
-        (pair.0, pair.1, found.1),
+          let found = in_run table i j low high in_bounds first within' last' (a, b) (subst (λ (l : List Pair). Contains l (a, b)) run_is' has) in
+          let pair = (meaning a b).0 found.0 in
+          (pair.0, pair.1, found.1),
       λ h.
-        let listed : Contains table (a, b) = (meaning a b).1 (h.0, h.1) in
-        subst (λ (l : List Pair). Contains l (a, b)) (sym run_is') (from_table table i j low high in_bounds first within' last' (a, b) (listed, h.2))
+          let listed : Contains table (a, b) = (meaning a b).1 (h.0, h.1) in
+          subst (λ (l : List Pair). Contains l (a, b)) (sym run_is') (from_table table i j low high in_bounds first within' last' (a, b) (listed, h.2)),
     )
 
 -- a pair of scalar values gives the ordinal of its second
 pub second_in : (pair : Pair) → (is_scalar pair.0 && is_scalar pair.1) ≡ true → (c : ℕ) → IsScalar c
     → in_ranges ((ordinal pair.1, ordinal pair.1) ∷ []) (ordinal c) ≡ true ↔ Leads c pair
 second_in pair scalars c scalar =
-    let tests = and_parts _ _ scalars in
-    (
+    let tests = and_parts _ _ scalars in (
       λ h. (IsScalar-from_test pair.0 tests.0, ordinal-unique pair.1 c (IsScalar-from_test pair.1 tests.1) scalar (one_ordinal (ordinal pair.1) (ordinal c) h)),
-      λ leads. subst (λ n. in_ranges ((ordinal pair.1, ordinal pair.1) ∷ []) n ≡ true) (ap ordinal leads.1) (itself (ordinal pair.1))
+      λ leads. subst (λ n. in_ranges ((ordinal pair.1, ordinal pair.1) ∷ []) n ≡ true) (ap ordinal leads.1) (itself (ordinal pair.1)),
     )
   where
     one_ordinal : (m n : ℕ) → ((nat_le m n && nat_le n m) || false) ≡ true → m ≡ n

@@ -1,5 +1,5 @@
 -- How ranges are put together item by item.
-use Rattle.std.proofs.Common.{◌≡◌, ◌≢◌, ℕ, zero, suc, ◌+◌, ◌<◌, ◌≤◌, ◌↔◌, ◌⊎◌, Bool, true, false, not, ◌||◌, Result, Ok, Err, OnOk, List, [], ◌∷◌, ◌++◌, length, drop, get_or, Contains, refl, sym, ap, subst, ◌∙◌, arith, inl, inr, true≢false}
+use Rattle.std.proofs.Common.{◌≡◌, ◌≢◌, ℕ, zero, suc, ◌<◌, ◌≤◌, ◌↔◌, ◌⊎◌, Bool, true, false, not, ◌||◌, Result, Ok, Err, OnOk, List, [], ◌∷◌, ◌++◌, length, drop, get_or, Contains, refl, sym, ap, subst, ◌∙◌, arith, inl, inr, true≢false}
 use Rattle.std.proofs.lemmas.Bool.{or_cases, or_left, or_right}
 use Rattle.std.proofs.lemmas.List.{drop_all}
 use Rattle.rx_grammar.specs.declared.ast.ClassItem.{ClassItem}
@@ -12,7 +12,7 @@ use Rattle.rx_grammar.specs.Settings.{Settings}
 use Rattle.rx_grammar.specs.Sets.{Range, IsScalar, ordinal, in_ranges, Holds, IsCanonical, IsSetOf, HasExactly, FoldsInto, FoldedIf, InPerl}
 use Rattle.rx_grammar.specs.Classes.{InItem, InItems, InClass}
 use Rattle.rx_grammar.specs.Grammar.{InDot}
-use Rattle.rx_grammar.specs.Unions.{OneOf, Adds, Letters, InSpan, InLetters}
+use Rattle.rx_grammar.specs.Unions.{OneOf, Adds, InSpan, InLetters}
 use Rattle.rx_grammar.proofs.SetLemmas.{ordinal_below}
 use Rattle.rx_grammar.proofs.RangeLemmas.{in_ranges-append}
 
@@ -40,9 +40,10 @@ pub Adds-pushed : (old new : List Range) (range : Range) (P : ℕ → Type 0) �
     → ((c : ℕ) → IsScalar c → in_ranges (range ∷ []) (ordinal c) ≡ true ↔ P c) → Adds old new P
 Adds-pushed old new range P is meant c scalar =
     let split : in_ranges new (ordinal c) ≡ (in_ranges old (ordinal c) || in_ranges (range ∷ []) (ordinal c)) =
-    ap (λ l. in_ranges l (ordinal c)) is ∙ in_ranges-append old (range ∷ []) (ordinal c) in
-    (λ h. elim (or_cases _ _ (sym split ∙ h)) [ inl a ↦ inl a | inr b ↦ inr ((meant c scalar).0 b) ],
-     λ h. split ∙ elim h [ inl a ↦ or_left _ _ a | inr p ↦ or_right _ _ ((meant c scalar).1 p) ])
+    ap (λ l. in_ranges l (ordinal c)) is ∙ in_ranges-append old (range ∷ []) (ordinal c) in (
+      λ h. elim (or_cases _ _ (sym split ∙ h)) [ inl a ↦ inl a | inr b ↦ inr ((meant c scalar).0 b) ],
+      λ h. split ∙ elim h [ inl a ↦ or_left _ _ a | inr p ↦ or_right _ _ ((meant c scalar).1 p) ],
+    )
 
 pub Adds-nothing : (old : List Range) (P : ℕ → Type 0) → ((c : ℕ) → IsScalar c → P c → ⊥) → Adds old old P
 Adds-nothing old P none c scalar = (λ h. inl h, λ h. elim h [ inl a ↦ a | inr p ↦ absurd (none c scalar p) ])
@@ -50,7 +51,7 @@ Adds-nothing old P none c scalar = (λ h. inl h, λ h. elim h [ inl a ↦ a | in
 pub Adds-map : (old new : List Range) (P Q : ℕ → Type 0) → ((c : ℕ) → IsScalar c → P c ↔ Q c) → Adds old new P → Adds old new Q
 Adds-map old new P Q iff adds c scalar = (
   λ h. elim ((adds c scalar).0 h) [ inl a ↦ inl a | inr p ↦ inr ((iff c scalar).0 p) ],
-  λ h. elim h [ inl a ↦ (adds c scalar).1 (inl a) | inr q ↦ (adds c scalar).1 (inr ((iff c scalar).1 q)) ]
+  λ h. elim h [ inl a ↦ (adds c scalar).1 (inl a) | inr q ↦ (adds c scalar).1 (inr ((iff c scalar).1 q)) ],
 )
 
 pub Adds-both : (old middle new : List Range) (P Q : ℕ → Type 0) → Adds old middle P → Adds middle new Q → Adds old new (λ c. P c ⊎ Q c)
@@ -63,7 +64,7 @@ Adds-both old middle new P Q first second c scalar = (
     | inl a ↦ (second c scalar).1 (inl ((first c scalar).1 (inl a)))
     | inr (inl p) ↦ (second c scalar).1 (inl ((first c scalar).1 (inr p)))
     | inr (inr q) ↦ (second c scalar).1 (inr q)
-  ]
+  ],
 )
 
 -- what is appended so far, with what is to come of a list, makes what the whole list adds
@@ -75,20 +76,20 @@ Completes-start Q old all = record { both = λ c scalar. (λ h. h, λ h. h) }
 
 pub Completes-step : {X : Type 0} (Q : ℕ → X → Type 0) (old so_far new : List Range) (x : X) (rest left all : List X) → rest ≡ x ∷ left
     → Adds so_far new (λ c. Q c x) → Completes Q old so_far rest all → Completes Q old new left all
-Completes-step Q old so_far new x rest left all more adds before = record { both = λ c scalar.
-  let was : (Holds so_far c ⊎ (Q c x ⊎ OneOf (Q c) left)) ↔ (Holds old c ⊎ OneOf (Q c) all) =
-  subst (λ l. (Holds so_far c ⊎ OneOf (Q c) l) ↔ (Holds old c ⊎ OneOf (Q c) all)) more (before.both c scalar) in
-  (
-    λ h. elim h [
-      | inl n ↦ elim ((adds c scalar).0 n) [ inl a ↦ was.0 (inl a) | inr q ↦ was.0 (inr (inl q)) ]
-      | inr r ↦ was.0 (inr (inr r))
-    ],
-    λ h. elim (was.1 h) [
-      | inl a ↦ inl ((adds c scalar).1 (inl a))
-      | inr (inl q) ↦ inl ((adds c scalar).1 (inr q))
-      | inr (inr r) ↦ inr r
-    ]
-  )
+Completes-step Q old so_far new x rest left all more adds before = record {
+  both = λ c scalar.
+      let was : (Holds so_far c ⊎ (Q c x ⊎ OneOf (Q c) left)) ↔ (Holds old c ⊎ OneOf (Q c) all) =
+      subst (λ l. (Holds so_far c ⊎ OneOf (Q c) l) ↔ (Holds old c ⊎ OneOf (Q c) all)) more (before.both c scalar) in (
+        λ h. elim h [
+          | inl n ↦ elim ((adds c scalar).0 n) [ inl a ↦ was.0 (inl a) | inr q ↦ was.0 (inr (inl q)) ]
+          | inr r ↦ was.0 (inr (inr r))
+        ],
+        λ h. elim (was.1 h) [
+          | inl a ↦ inl ((adds c scalar).1 (inl a))
+          | inr (inl q) ↦ inl ((adds c scalar).1 (inr q))
+          | inr (inr r) ↦ inr r
+        ],
+      );
 }
 
 pub Completes-end : {X : Type 0} (Q : ℕ → X → Type 0) (old so_far : List Range) (i : ℕ) (all : List X) → length all ≤ i
@@ -104,7 +105,7 @@ IsSetOf-added ranges set P canonical has adds = record {
   canonical = canonical;
   members = λ c scalar. (
     λ h. elim ((adds c scalar).0 (sym (has (ordinal c) (ordinal_below c scalar)) ∙ h)) [ inl none ↦ absurd (Holds-none c none) | inr p ↦ p ],
-    λ p. has (ordinal c) (ordinal_below c scalar) ∙ (adds c scalar).1 (inr p)
+    λ p. has (ordinal c) (ordinal_below c scalar) ∙ (adds c scalar).1 (inr p),
   );
 }
 
@@ -118,9 +119,10 @@ IsSetOf-map set P Q iff is = record {
 pub Adds-set : (old new set : List Range) (P : ℕ → Type 0) → new ≡ old ++ set → IsSetOf set P → Adds old new P
 Adds-set old new set P is set_of c scalar =
     let split : in_ranges new (ordinal c) ≡ (in_ranges old (ordinal c) || in_ranges set (ordinal c)) =
-    ap (λ l. in_ranges l (ordinal c)) is ∙ in_ranges-append old set (ordinal c) in
-    (λ h. elim (or_cases _ _ (sym split ∙ h)) [ inl a ↦ inl a | inr b ↦ inr ((set_of.members c scalar).0 b) ],
-     λ h. split ∙ elim h [ inl a ↦ or_left _ _ a | inr p ↦ or_right _ _ ((set_of.members c scalar).1 p) ])
+    ap (λ l. in_ranges l (ordinal c)) is ∙ in_ranges-append old set (ordinal c) in (
+      λ h. elim (or_cases _ _ (sym split ∙ h)) [ inl a ↦ inl a | inr b ↦ inr ((set_of.members c scalar).0 b) ],
+      λ h. split ∙ elim h [ inl a ↦ or_left _ _ a | inr p ↦ or_right _ _ ((set_of.members c scalar).1 p) ],
+    )
 
 not_true : (b : Bool) → (b ≡ true → ⊥) → not b ≡ true
 not_true b never = elim b as (λ v. (v ≡ true → ⊥) → not v ≡ true) [ true ↦ λ n. absurd (n refl) | false ↦ λ n. refl ] never
@@ -130,11 +132,10 @@ pub IsSetOf-complement : (set others : List Range) (P : ℕ → Type 0) → IsCa
 IsSetOf-complement set others P canonical has is = record {
   canonical = canonical;
   members = λ c scalar.
-    let here : in_ranges others (ordinal c) ≡ not (in_ranges set (ordinal c)) = has (ordinal c) (ordinal_below c scalar) in
-    (
-      λ h p. true≢false (sym h ∙ here ∙ ap not ((is.members c scalar).1 p)),
-      λ never. here ∙ not_true (in_ranges set (ordinal c)) (λ h. never ((is.members c scalar).0 h))
-    );
+      let here : in_ranges others (ordinal c) ≡ not (in_ranges set (ordinal c)) = has (ordinal c) (ordinal_below c scalar) in (
+        λ h p. true≢false (sym h ∙ here ∙ ap not ((is.members c scalar).1 p)),
+        λ never. here ∙ not_true (in_ranges set (ordinal c)) (λ h. never ((is.members c scalar).0 h)),
+      );
 }
 
 pub FoldsInto-map : (P Q : ℕ → Type 0) (c : ℕ) → ((d : ℕ) → IsScalar d → P d → Q d) → FoldsInto P c → FoldsInto Q c
@@ -146,7 +147,7 @@ IsSetOf-closed set closed P canonical has is = record {
   canonical = canonical;
   members = λ c scalar. (
     λ h. FoldsInto-map (Holds set) P c (λ d s q. (is.members d s).0 q) ((has c scalar).0 h),
-    λ h. (has c scalar).1 (FoldsInto-map P (Holds set) c (λ d s p. (is.members d s).1 p) h)
+    λ h. (has c scalar).1 (FoldsInto-map P (Holds set) c (λ d s p. (is.members d s).1 p) h),
   );
 }
 
@@ -222,15 +223,15 @@ parts_of_items fold items c scalar = (
         OneOf-from (λ item. FoldedIf fold (λ d. InItem d item) c) items (Perl some.0.0 some.0.1) some.2.0 some.2.1)
   ]),
   λ h.
-    let some = OneOf-some (λ item. FoldedIf fold (λ d. InItem d item) c) items (spread fold items c h) in
-    sort_item fold items c some.0 some.1 some.2
+      let some = OneOf-some (λ item. FoldedIf fold (λ d. InItem d item) c) items (spread fold items c h) in
+      sort_item fold items c some.0 some.1 some.2,
 )
 
 -- a letter class alone among the items
 pub one_letter_class : (fold : Bool) (items : List ClassItem) (kind : ClassPerlKind) (negated : Bool) → items ≡ Perl kind negated ∷ [] → (c : ℕ) → IsScalar c
     → FoldedIf fold (InPerl kind negated) c ↔ FoldedIf fold (λ d. InItems d items) c
 one_letter_class fold items kind negated is = FoldedIf-same fold (InPerl kind negated) (λ d. InItems d items) (λ d scalar.
-  subst (λ (l : List ClassItem). InPerl kind negated d ↔ InItems d l) (sym is) (λ h. inl h, λ h. elim h [ inl p ↦ p | inr none ↦ absurd none ]))
+    subst (λ (l : List ClassItem). InPerl kind negated d ↔ InItems d l) (sym is) (λ h. inl h, λ h. elim h [ inl p ↦ p | inr none ↦ absurd none ]))
 
 -- a class is what its items name, or what they don't
 pub IsSetOf-plain_class : (settings : Settings) (fold negated : Bool) (items : List ClassItem) (set : List Range) → fold ≡ settings.case_insensitive → negated ≡ false

@@ -7,9 +7,13 @@ use crate::{CharacterSet, ClassItem, ClassPerlKind, ordinal};
 use std::test::Fail;
 
 const DIGIT: ClassItem = ClassItem::Perl(ClassPerlKind::Digit, false);
+
 const SPACE: ClassItem = ClassItem::Perl(ClassPerlKind::Space, false);
+
 const NO_SPACE: ClassItem = ClassItem::Perl(ClassPerlKind::Space, true);
+
 const WORD: ClassItem = ClassItem::Perl(ClassPerlKind::Word, false);
+
 const K: ClassItem = ClassItem::Span('k', 'k');
 
 fn folding() -> Config {

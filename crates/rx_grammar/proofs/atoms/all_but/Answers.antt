@@ -1,4 +1,4 @@
-use Rattle.std.proofs.Common.{◌≡◌, ℕ}
+use Rattle.std.proofs.Common.{◌≡◌}
 use Rattle.rx_grammar.proofs.LetterLemmas.{IfOk-complement}
 use Rattle.rx_grammar.proofs.atoms.all_but.Goals as goal
 

@@ -1,5 +1,4 @@
-use Rattle.std.proofs.Common.{[], ℕ, List, subst}
-use Rattle.rx_grammar.specs.Sets.{Range, IsSetOf}
+use Rattle.std.proofs.Common.{[], ℕ}
 use Rattle.rx_grammar.proofs.UnionLemmas.{IsSetOf-nothing}
 use Rattle.rx_grammar.proofs.LetterLemmas.{IfOk-same, IfOk-complement, IsSetOf-along}
 use Rattle.rx_grammar.proofs.atoms.any_set.Goals as goal

@@ -1,4 +1,4 @@
-use Rattle.std.proofs.Common.{◌≡◌, ◌≢◌, ◌∙◌, sym}
+use Rattle.std.proofs.Common.{◌≢◌, ◌∙◌, sym}
 use Rattle.rx_grammar.specs.Grammar.{InDot}
 use Rattle.rx_grammar.proofs.UnionLemmas.{any_is_dot, others_are_dot}
 use Rattle.rx_grammar.proofs.LetterLemmas.{IfOk-same}

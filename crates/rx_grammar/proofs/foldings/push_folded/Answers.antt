@@ -1,4 +1,4 @@
-use Rattle.std.proofs.Common.{ℕ, ◌⊎◌, OnOk}
+use Rattle.std.proofs.Common.{ℕ, ◌⊎◌}
 use Rattle.rx_grammar.specs.Sets.{FoldsInto}
 use Rattle.rx_grammar.specs.Unions.{Adds, OneOf, Between, LeadsOut}
 use Rattle.rx_grammar.proofs.UnionLemmas.{Adds-map, Adds-both, OnOk-map}

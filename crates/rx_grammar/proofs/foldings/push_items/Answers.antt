@@ -1,4 +1,3 @@
-use Rattle.std.proofs.Common.{drop}
 use Rattle.std.proofs.lemmas.List.{drop_more}
 use Rattle.rx_grammar.specs.Unions.{InSpan}
 use Rattle.rx_grammar.proofs.UnionLemmas.{Completes-step, Completes-end}

@@ -1,4 +1,4 @@
-use Rattle.std.proofs.Common.{ℕ, drop}
+use Rattle.std.proofs.Common.{drop}
 use Rattle.rx_grammar.specs.Unions.{InSpan}
 use Rattle.rx_grammar.proofs.UnionLemmas.{Completes}
 use Rattle.rx_grammar.proofs.foldings.push_items.Given as goal

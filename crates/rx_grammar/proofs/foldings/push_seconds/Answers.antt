@@ -1,7 +1,6 @@
-use Rattle.std.proofs.Common.{ℕ, drop}
 use Rattle.std.proofs.lemmas.List.{drop_more}
 use Rattle.rx_grammar.specs.Unions.{LeadsOut}
-use Rattle.rx_grammar.proofs.UnionLemmas.{Completes-start, Completes-step, Completes-end}
+use Rattle.rx_grammar.proofs.UnionLemmas.{Completes-step, Completes-end}
 use Rattle.rx_grammar.proofs.foldings.push_seconds.Goals as goal
 
 pub loop-pair-preserved : goal.loop-pair-preserved

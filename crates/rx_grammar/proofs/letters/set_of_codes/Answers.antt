@@ -1,4 +1,4 @@
-use Rattle.std.proofs.Common.{ℕ, [], drop, IsTrue}
+use Rattle.std.proofs.Common.{ℕ, [], IsTrue}
 use Rattle.std.proofs.lemmas.List.{drop_more}
 use Rattle.unicode.specs.Rows.{in_ranges}
 use Rattle.rx_grammar.specs.Sets.{Range}

@@ -1,4 +1,4 @@
-use Rattle.std.proofs.Common.{ℕ, [], drop}
+use Rattle.std.proofs.Common.{[], drop}
 use Rattle.rx_grammar.specs.Sets.{Range}
 use Rattle.rx_grammar.specs.Unions.{Between}
 use Rattle.rx_grammar.proofs.UnionLemmas.{Completes}

@@ -1,4 +1,3 @@
-use Rattle.std.proofs.Common.{ℕ}
 use Rattle.rx_grammar.specs.Sets.{InPerl, FoldedIf}
 use Rattle.rx_grammar.specs.Classes.{InItems}
 use Rattle.rx_grammar.proofs.UnionLemmas.{one_letter_class}

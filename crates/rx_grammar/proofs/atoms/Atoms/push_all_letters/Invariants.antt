@@ -1,4 +1,4 @@
-use Rattle.std.proofs.Common.{ℕ, drop}
+use Rattle.std.proofs.Common.{drop}
 use Rattle.rx_grammar.specs.Unions.{InLetters}
 use Rattle.rx_grammar.proofs.UnionLemmas.{Completes}
 use Rattle.rx_grammar.proofs.atoms.Atoms.push_all_letters.Given as goal
