@@ -1,7 +1,7 @@
 # make          builds bin/rope-search, the proved program
 # make demo     runs it on examples/first.session and shows the input and the replies
 # make test     the gate: every proof and test, then the tests of the built program
-# make bench    times loading and printing a large text
+# make bench    times large texts, their reports, ropes and patterns
 # make clean    removes what these made
 
 # The command of the Rattle kit; make RT=PROGRAM names another.
@@ -40,6 +40,8 @@ bench: $(program)
 	@bench/load_print
 	@bench/list_matches
 	@RT='$(RT)' sh bench/indices.sh
+	@RT='$(RT)' sh bench/ropes.sh
+	@RT='$(RT)' sh bench/patterns.sh
 
 clean:
 	rm -rf bin $(wildcard crates/*/out)

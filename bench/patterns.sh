@@ -1,0 +1,53 @@
+#!/bin/sh
+# Measures how long patterns of up to 65,536 bytes take to be parsed, and the most memory that a
+# program takes which does so three times. Takes the command `rt` from RT, if it is set.
+set -eu
+here=$(cd "$(dirname "$0")" && pwd)
+work=$(mktemp -d)
+trap 'rm -rf "$work"' EXIT
+rt=${RT:-rt}
+
+mkdir -p "$work/repository/crates"
+cp -r "$here/../crates/rx_grammar" "$work/repository/crates/"
+rm -rf "$work/repository/crates/rx_grammar/out"
+cp -r "$here/patterns" "$work/repository/crates/bench_patterns"
+# The sources of the measuring program end in .txt here, since it is no crate of this repository.
+find "$work/repository/crates/bench_patterns" -name '*.txt' | while read -r source; do
+    mv "$source" "${source%.txt}"
+done
+cp "$here/../HANDLES" "$work/repository/"
+grep '^rx_grammar:' "$here/../crates.txt" > "$work/repository/crates.txt"
+echo 'bench_patterns: rx_grammar' >> "$work/repository/crates.txt"
+cd "$work/repository/crates/bench_patterns"
+"$rt" run < /dev/null
+program=$PWD/out/bench_patterns
+
+python3 - "$program" "$work" << 'END'
+import itertools, os, subprocess, sys
+program, work = sys.argv[1:]
+letters = "abcdefghijklmnopqrstuvwxyz"
+names = ("".join(name) for name in itertools.product(letters, repeat=3))
+patterns = [
+    ("32,768 times \\w", "parse", "\\w" * 32768),
+    ("16,384 times [\\w]", "parse", "[\\w]" * 16384),
+    ("16,384 times [\\w], letters in each case", "fold", "[\\w]" * 16384),
+    ("13,107 times [^\\w], letters in each case", "fold", "[^\\w]" * 13107),
+    ("13,107 times [\\wa], letters in each case", "fold", "[\\wa]" * 13107),
+    ("65,535 postfixes", "parse", "a" + "*" * 65535),
+    ("32,767 groups in one another", "parse", "(" * 32767 + ")" * 32767),
+    ("a class of 65,000 items", "parse", "[" + (letters * 2500) + "]"),
+    ("a class of 21,844 items of three bytes, letters in each case", "fold",
+     "[" + "".join(chr(0x3041 + 3 * i % 0x8000) for i in range(21844)) + "]"),
+    ("65,536 literals, letters in each case", "fold", "k" * 65536),
+    ("65,536 dots", "parse", "." * 65536),
+    ("8,192 named groups", "parse", "".join(f"(?<{next(names)}>)" for _ in range(8192))),
+    ("65,536 alternatives, nearly", "parse", "a|" * 32768),
+]
+for name, mode, text in patterns:
+    assert len(text.encode()) <= 65536, name
+    path = os.path.join(work, "pattern")
+    with open(path, "w", encoding="utf-8", newline="") as file:
+        file.write(text)
+    print(name + ": ", end="", flush=True)
+    subprocess.run([program, mode, path], check=True)
+END
