@@ -6,7 +6,6 @@
 
 # The command of the Rattle kit; make RT=PROGRAM names another.
 RT ?= rt
-crate := rope_search_cli
 program := bin/rope-search
 session := examples/first.session
 sources := crates.txt $(shell find crates -name out -prune -o -type f \
@@ -19,8 +18,11 @@ need_rt = $(if $(shell command -v $(RT) 2>/dev/null),,$(error $(missing)))
 
 all: $(program)
 
+$(program): crate := rope_search_cli
+bin/memory-tests: crate := memory_tests
+
 # rt builds a program only once it is proved, and then runs it: here on empty input.
-$(program): $(sources)
+$(program) bin/memory-tests: $(sources)
 	@:$(need_rt)
 	cd crates/$(crate) && $(RT) run < /dev/null
 	@mkdir -p $(@D)

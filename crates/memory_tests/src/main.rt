@@ -1,0 +1,66 @@
+//! A program for tests in which memory is refused. It parses a pattern or builds a rope, as its
+//! arguments say, and tells what came of it.
+#![tactic(auto)]
+
+use ropey::{Rope, RopeBuilder};
+use rx_grammar::syntax::Config;
+use rx_grammar::{SyntaxError, parse};
+use std::env::Args;
+use std::iter::Skip;
+use std::{env, io};
+
+/// `parse PATTERN` and `fold PATTERN` write the tree of a pattern, `fold` where letters match in each
+/// case, or why there is none. `build PART..` appends the parts to a builder and writes the rope: a
+/// line for each part that was refused, then each chunk's length and all of its text.
+fn main(rt: HostRuntime) -> io::Result<()> {
+    let mut args = env::args(&rt)?.skip(1);
+    let Some(mode) = args.next() else {
+        return Ok(());
+    };
+    match mode.as_str() {
+        "build" => build(&rt, args),
+        mode => match args.next() {
+            Some(pattern) => tell_tree(&rt, mode == "fold", pattern.as_str()),
+            None => Ok(()),
+        },
+    }
+}
+
+/// Parses a pattern.
+fn tell_tree(rt: &HostRuntime, fold: bool, pattern: &str) -> io::Result<()> {
+    let config = Config::new().case_insensitive(fold);
+    match parse(rt.alloc(), pattern, &config) {
+        Ok(hir) => println!(rt; "{:?}", hir),
+        Err(SyntaxError::TooLong) => println!(rt; "too long"),
+        Err(SyntaxError::Nesting) => println!(rt; "nested too deeply"),
+        Err(SyntaxError::Outside) => println!(rt; "outside the grammar"),
+        Err(SyntaxError::Memory) => println!(rt; "no memory"),
+    }
+}
+
+/// Builds a rope of parts.
+fn build(rt: &HostRuntime, parts: Skip<Args>) -> io::Result<()> {
+    let mut builder = RopeBuilder::new(rt.alloc());
+    let mut number: usize = 0;
+    for part in parts {
+        if builder.append(part.as_str()).is_err() {
+            println!(rt; "part {number} is refused")?;
+        }
+        number += 1;
+    }
+    match builder.finish() {
+        Ok(rope) => tell_rope(rt, &rope),
+        Err(_) => println!(rt; "no memory"),
+    }
+}
+
+/// Writes a rope chunk by chunk.
+fn tell_rope(rt: &HostRuntime, rope: &Rope) -> io::Result<()> {
+    let mut at = 0;
+    while at < rope.len_bytes() {
+        let (chunk, ..) = rope.chunk_at_byte(at);
+        println!(rt; "{} {}", chunk.len(), chunk)?;
+        at += chunk.len();
+    }
+    println!(rt; "{} bytes", at)
+}
