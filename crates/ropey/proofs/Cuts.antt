@@ -9,7 +9,10 @@ use Rattle.str_indices.specs.Text.{starts_with_lf}
 use Rattle.str_indices.specs.Laws.{byte_len, ends_with_cr}
 use Rattle.ropey_tree.specs.Counts.{total}
 use Rattle.ropey_tree.specs.Cutting.{IsPiece, IsCutting, IsText, cuts_cr_lf}
-use Rattle.ropey.specs.Chunks.{text_of}
+use Rattle.ropey.specs.Chunks.{text_of, joined}
+use Rattle.std.specs.Borrow.{Bor}
+use Rattle.std.proofs.lemmas.Grind.{flat_map-append}
+use Rattle.std.proofs.lemmas.List.Concat.{flat_map-cons}
 use Rattle.ropey.specs.Laws.{CutsNoCrLf}
 
 pub byte_len-append : (s t : List ℕ) → byte_len (s ++ t) ≡ byte_len s + byte_len t
@@ -71,3 +74,8 @@ text_fits ps h = omega (arith, bytes-concat ps, h.fits)
 -- pieces of a text that fits
 pub fits_in : (ps : List (List ℕ)) (text : List ℕ) → IsCutting ps → concat ps ≡ chars text → IsUtf8 text → length text < 2 ^ 63 → IsText ps
 fits_in ps text cut joined utf8 fits = record { cut = cut; fits = omega (arith, bytes-concat ps, ap byte_len joined, ap length (encodes-chars text utf8), fits) }
+
+-- one part more
+pub joined-last : (parts : List (Bor (List ℕ))) (part : Bor (List ℕ)) → joined (parts ++ part ∷ []) ≡ joined parts ++ chars part.now
+joined-last parts part =
+    flat_map-append (λ p. chars p.now) parts (part ∷ []) ∙ ap (λ t. joined parts ++ t) (flat_map-cons (λ p. chars p.now) part [] ∙ append-nil (chars part.now))

@@ -1,6 +1,8 @@
 -- The text of a rope, and the chunks that its calls show.
 use Rattle.std.specs.Prelude.{◌≡◌, ℕ, ◌<◌, ◌≤◌, ◌⊎◌, List, [], ◌∷◌, ◌++◌, length}
-use Rattle.std.specs.List.{concat}
+use Rattle.std.specs.List.{concat, flat_map}
+use Rattle.std.specs.Str.{chars}
+use Rattle.std.specs.Borrow.{Bor}
 use Rattle.str_indices.specs.Text.{is_line_break, breaks}
 use Rattle.str_indices.specs.Laws.{byte_len}
 -- how a rope is cut, in the words of the tree
@@ -9,6 +11,10 @@ pub use Rattle.ropey_tree.specs.Cutting.{IsPiece, IsCutting, IsText}
 -- the text that pieces make together
 abbrev pub text_of : List (List ℕ) → List ℕ
 text_of pieces = concat pieces
+
+-- the characters of parts of a text, joined
+abbrev pub joined : List (Bor (List ℕ)) → List ℕ
+joined parts = flat_map (λ part. chars part.now) parts
 
 -- how many line breaks a text has, CR LF as one
 abbrev pub line_breaks : List ℕ → ℕ

@@ -1,14 +1,19 @@
 //! A text in a balanced tree of shared nodes.
 
-ghost use Rattle.std.specs.Prelude.{◌≡◌, ◌+◌, ◌-◌, ◌*◌, ◌^◌, ◌<◌, ◌≤◌, ◌⊎◌, ◌↔◌, min, [], length, Err, IfOk, IfErr, IfSome, IsNone, encode_utf8_all, string_bytes};
+ghost use Rattle.std.specs.Prelude.{◌≡◌, ℕ, List, ◌+◌, ◌-◌, ◌*◌, ◌^◌, ◌<◌, ◌≤◌, ◌⊎◌, ◌↔◌, min, [], length, Err, IfOk, IfErr, IfSome, IsNone, encode_utf8_all, string_bytes};
 ghost use Rattle.std.specs.Str.{chars, IsUtf8};
+ghost use Rattle.std.specs.Iterator.{Drains, IsFiniteIterable, Yields};
+ghost use Rattle.std.specs.Borrow.{Bor};
 ghost use Rattle.str_indices.specs.Text.{units};
 ghost use Rattle.str_indices.specs.Laws.{byte_len};
 ghost use Rattle.ropey_tree.specs.Counts.{counts_of};
 ghost use Rattle.ropey_tree.specs.Cutting.{IsText};
-ghost use Rattle.ropey.specs.Chunks.{text_of, line_breaks, ShowsChunk};
+ghost use Rattle.ropey_tree.specs.Nodes.{AreNodes, all_pieces};
+ghost use Rattle.ropey_tree.specs.Rows.{views};
+ghost use Rattle.ropey.specs.Chunks.{text_of, joined, line_breaks, ShowsChunk};
 ghost use Rattle.ropey.specs.Standing.{StandsAt};
 
+use crate::rope_builder::RopeBuilder;
 use ropey_tree::MAX_BYTES;
 use ropey_tree::builds::build;
 use ropey_tree::counts::{By, Counts};
@@ -86,8 +91,38 @@ impl Rope {
         if text.len() > MAX_TEXT_BYTES {
             return Err(Error::Size);
         }
-        ropey_tree::laws::counts_of_a_cutting();
         let leaves = leaves_of(alloc, text)?;
+        let rope = Rope::from_leaves(alloc, leaves)?;
+        Ok(rope)
+    }
+
+    /// A rope of the parts of a text that an iterator yields, joined in their order.
+    ///
+    /// `Size` where so many have come that they have more than `isize::MAX` bytes together, and
+    /// `Memory` where memory is refused before that.
+    pub fn from_chunks<'a, I: IntoIterator<Item = &'a str>>(
+        alloc: Global,
+        chunks: I,
+    ) -> Result<Self, Error>
+        requires ends { IsFiniteIterable I.into_iter_gives I.IntoIter.can_next I.IntoIter.remaining chunks }
+        ensures text { IfOk result (λ rope. (it : I.IntoIter) × (parts : List (Bor (List ℕ))) × I.into_iter_gives chunks it × Drains I.IntoIter.next_gives it parts × (text_of rope ≡ joined parts)) }
+        ensures size { (result ≡ Err Error.Size) → (it : I.IntoIter) × (parts : List (Bor (List ℕ))) × (after : I.IntoIter) × I.into_iter_gives chunks it × Yields I.IntoIter.next_gives it parts after × (2 ^ 63 ≤ byte_len (joined parts)) }
+        ensures refused { IfErr result (λ error. (error ≡ Error.Size) ⊎ (error ≡ Error.Memory)) }
+    {
+        let mut builder = RopeBuilder::new(alloc);
+        for chunk in chunks {
+            builder.append_part(chunk)?;
+        }
+        let rope = builder.finish()?;
+        Ok(rope)
+    }
+
+    /// A rope over leaves.
+    pub(crate) fn from_leaves(alloc: Global, leaves: Vec<Rc<Node>>) -> Result<Self, AllocError>
+        requires leaves { AreNodes 0 12 (views leaves.items) }
+        requires text { IsText (all_pieces (views leaves.items)) }
+        ensures { IfOk result (λ rope. rope ≡ all_pieces (views leaves.items)) }
+    {
         if leaves.is_empty() {
             return Ok(Rope { root: None });
         }

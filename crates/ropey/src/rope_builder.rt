@@ -6,26 +6,30 @@ ghost use Rattle.str_indices.specs.Laws.{byte_len};
 ghost use Rattle.ropey.specs.Chunks.{text_of};
 
 use crate::rope::{MAX_TEXT_BYTES, Rope};
+use ropey_tree::cuts::Cutter;
 use ropey_tree::errors::Error;
 use std::alloc::Global;
 use std::marker::Model;
 
-/// A text that comes in parts. Contracts see the text so far.
+/// A text that comes in parts, which lies in leaves but for its last part that fills none. Contracts
+/// see the text so far.
 #[derive(Drop)]
 pub struct RopeBuilder {
     alloc: Global,
-    text: String,
+    text: Cutter,
+    // How many bytes the text has.
+    len: usize,
 }
 
 impl Model for RopeBuilder {
-    ghost use Rattle.std.specs.Prelude.{List, ℕ, ◌<◌, ◌^◌, length, string_bytes};
-    ghost use Rattle.std.specs.Str.{chars};
+    ghost use Rattle.std.specs.Prelude.{◌≡◌, List, ℕ, ◌<◌, ◌^◌};
+    ghost use Rattle.str_indices.specs.Laws.{byte_len};
 
     ghost Value = { List ℕ };
 
-    ghost view = { λ builder. chars (string_bytes builder.text) };
+    ghost view = { λ builder. builder.text };
 
-    ghost invariant = { λ builder. length (string_bytes builder.text) < 2 ^ 63 };
+    ghost invariant = { λ builder. (builder.len ≡ byte_len builder.text) × (builder.len < 2 ^ 63) };
 }
 
 impl RopeBuilder {
@@ -35,7 +39,8 @@ impl RopeBuilder {
     {
         RopeBuilder {
             alloc,
-            text: String::new(alloc),
+            text: Cutter::new(alloc),
+            len: 0,
         }
     }
 
@@ -47,12 +52,21 @@ impl RopeBuilder {
         ensures size { (result ≡ Err Error.Size) ↔ (2 ^ 63 ≤ byte_len self.old + length text.now) }
         ensures refused { IfErr result (λ error. (error ≡ Error.Size) ⊎ (error ≡ Error.Memory)) }
     {
-        let len = self.text.as_str().len();
-        if text.len() > MAX_TEXT_BYTES - len {
+        if text.len() > MAX_TEXT_BYTES - self.len {
             return Err(Error::Size);
         }
-        self.text.push_str(text)?;
+        self.text.append(text)?;
+        self.len += text.len();
         Ok(())
+    }
+
+    /// `append`, for callers that see a part's characters alone.
+    pub(crate) fn append_part(&mut self, part: &str) -> Result<(), Error>
+        ensures text { OnOk result (self.new ≡ self.old ++ chars part.now) }
+        ensures size { (result ≡ Err Error.Size) → 2 ^ 63 ≤ byte_len (self.old ++ chars part.now) }
+        ensures refused { IfErr result (λ error. (error ≡ Error.Size) ⊎ (error ≡ Error.Memory)) }
+    {
+        self.append(part)
     }
 
     /// The rope of the text. A refusal, which is `Memory`, drops the builder.
@@ -60,7 +74,8 @@ impl RopeBuilder {
         ensures text { IfOk result (λ rope. text_of rope ≡ self) }
         ensures refused { IfErr result (λ error. error ≡ Error.Memory) }
     {
-        let rope = Rope::from_str(self.alloc, self.text.as_str())?;
+        let leaves = self.text.finish()?;
+        let rope = Rope::from_leaves(self.alloc, leaves)?;
         Ok(rope)
     }
 }

@@ -246,3 +246,101 @@ fn texts_built_of_parts(rt: HostRuntime) -> Result<(), Fail> {
     }
     Ok(())
 }
+
+/// The parts of a text that are cut at every so many bytes, a character that lies there kept whole.
+fn parts_of<'a>(alloc: Global, text: &'a str, size: usize) -> Result<Vec<&'a str>, Fail> {
+    let mut parts = Vec::new(alloc);
+    let mut rest = text;
+    for _ in 0..text.len() {
+        if !rest.is_empty() {
+            let (part, after) = rest.split_at(rest.ceil_char_boundary(size));
+            parts.push(part)?;
+            rest = after;
+        }
+    }
+    Ok(parts)
+}
+
+/// Whether each chunk but the last has 980 bytes or more.
+fn are_chunks_long(rope: &Rope) -> bool {
+    let len = rope.len_bytes();
+    let mut at: usize = 0;
+    for _ in 0..len {
+        if at < len {
+            let (chunk, ..) = rope.chunk_at_byte(at);
+            at = at.saturating_add(chunk.len());
+            if chunk.len() < 980 && at < len {
+                return false;
+            }
+        }
+    }
+    at == len
+}
+
+/// Whether two ropes have the same lengths.
+fn are_as_long(rope: &Rope, other: &Rope) -> bool {
+    rope.len_bytes() == other.len_bytes()
+        && rope.len_chars() == other.len_chars()
+        && rope.len_utf16_cu() == other.len_utf16_cu()
+        && rope.len_lines() == other.len_lines()
+}
+
+fn check_parts(rt: &impl Abort, alloc: Global, text: &str, size: usize) -> Result<(), Fail> {
+    let parts = parts_of(alloc, text, size)?;
+    let mut builder = RopeBuilder::new(alloc);
+    for part in &parts {
+        builder.append(part)?;
+    }
+    let built = builder.finish()?;
+    let whole = Rope::from_str(alloc, text)?;
+    let joined = Rope::from_chunks(alloc, parts)?;
+    for rope in [&built, &joined] {
+        check_chunks(rt, rope, text);
+        assert!(rt; are_chunks_long(rope), "parts of {size} bytes");
+        assert!(rt; are_as_long(rope, &whole), "parts of {size} bytes");
+    }
+    Ok(())
+}
+
+#[test]
+fn long_texts_built_of_parts(rt: HostRuntime) -> Result<(), Fail> {
+    for unit in ["a", "é", "せ", "🐸", "\r\n"] {
+        for bytes in [983, 984, 985, 1968, 50_000] {
+            let text = text_of(rt.alloc(), unit, bytes)?;
+            for size in [1, 7, 983, 984, 985] {
+                check_parts(&rt, rt.alloc(), &text, size)?;
+            }
+        }
+    }
+    Ok(())
+}
+
+#[test]
+fn no_parts_and_empty_parts(rt: HostRuntime) -> Result<(), Fail> {
+    let none: [&str; 0] = [];
+    let rope = Rope::from_chunks(rt.alloc(), none)?;
+    assert_eq!(rt; rope.len_bytes(), 0);
+    let rope = Rope::from_chunks(rt.alloc(), ["", "", ""])?;
+    assert_eq!(rt; rope.len_bytes(), 0);
+    let rope = Rope::from_chunks(rt.alloc(), ["", "a\r", "", "\nb", ""])?;
+    assert!(rt; rope.get_chunk_at_byte(2) == Some(("a\r\nb", 0, 0, 0)));
+    Ok(())
+}
+
+// A leaf with room for CR alone is cut before it, one with room for two bytes takes both.
+#[test]
+fn a_cr_at_the_end_of_a_leaf(rt: HostRuntime) -> Result<(), Fail> {
+    for (letters, chunks) in [(981, 1), (982, 1), (983, 2), (984, 2)] {
+        let mut builder = RopeBuilder::new(rt.alloc());
+        let mut text = text_of(rt.alloc(), "a", letters)?;
+        text.push('\r')?;
+        builder.append(&text)?;
+        builder.append("")?;
+        builder.append("\n")?;
+        text.push('\n')?;
+        let rope = builder.finish()?;
+        check_chunks(&rt, &rope, &text);
+        assert_eq!(rt; rope.capacity(), 984 * chunks);
+    }
+    Ok(())
+}

@@ -1,17 +1,16 @@
--- Where a piece may end: the bytes on both sides of a place in UTF-8.
+-- Where a leaf may end: the bytes on both sides of a place in UTF-8.
 use Rattle.std.proofs.Common.{◌≡◌, ℕ, suc, ◌+◌, ◌-◌, ◌<◌, ◌≤◌, Bool, true, false, ◌&&◌, List, [], ◌∷◌, ◌++◌, length, take, drop, get_or, refl, ap, arith, sym, ◌∙◌, length-append, length-drop}
 use Rattle.std.specs.Prelude.{encode_utf8_all}
 use Rattle.std.specs.Str.{chars, IsUtf8, IsCharBoundary}
 use Rattle.std.specs.Char.{encode_utf8, len_utf8}
-use Rattle.std.proofs.lemmas.Str.{encodes-append, encodes-chars, IsCharBoundary-past_char, IsUtf8-take, IsUtf8-drop, chars-nil, len_utf8_bounds}
-use Rattle.std.proofs.lemmas.List.{get_or-drop, get_or-take}
+use Rattle.std.proofs.lemmas.Str.{encodes-append, encodes-chars, IsCharBoundary-past_char, IsUtf8-take, IsUtf8-drop, chars-nil, len_utf8_bounds, len_utf8_ascii}
+use Rattle.std.proofs.lemmas.List.{get_or-take}
 use Rattle.std.proofs.Math.Seq.{get_or-append_seam, drop-cons}
 use Rattle.std.proofs.Math.ListN.{drop_of_length-le}
-use Rattle.std.proofs.Common.{length-take-le, add-zero, ◌==◌}
+use Rattle.std.proofs.Common.{length-take-le, ◌==◌}
 use Rattle.std.proofs.lemmas.Bool.Decides.{nat_tests}
 use Rattle.str_indices.specs.Text.{starts_with_lf}
 use Rattle.str_indices.specs.Laws.{ends_with_cr}
-use Rattle.ropey_tree.specs.Cutting.{cuts_cr_lf}
 
 pub is_code : (c d : ℕ) → (c == d) ≡ true → c ≡ d
 is_code c d h = grind (arith, nat_tests)
@@ -26,6 +25,10 @@ pub ends_at_cr : (t : List ℕ) → ends_with_cr t ≡ true → (init : List ℕ
 ends_at_cr [] h = ([], cc)
 ends_at_cr (c ∷ []) h = ([], ap (λ d. d ∷ []) (is_code c 13 h))
 ends_at_cr (c ∷ d ∷ cs) h = let rest = ends_at_cr (d ∷ cs) h in (c ∷ rest.0, ap (λ t. c ∷ t) rest.1)
+
+pub lf_front : (t : List ℕ) → starts_with_lf t ≡ true → (rest : List ℕ) × (t ≡ 10 ∷ rest)
+lf_front [] h = ([], cc)
+lf_front (c ∷ cs) h = (cs, ap (λ d. d ∷ cs) (is_code c 10 h))
 
 cr_byte : encode_utf8_all (13 ∷ []) ≡ 13 ∷ []
 unfolding encode_utf8
@@ -49,7 +52,7 @@ pub and_false : (a b : Bool) → b ≡ false → (a && b) ≡ false
 and_false true b e = e
 and_false false b e = refl
 
-unless_both : (a b : Bool) → (a ≡ true → b ≡ true → ⊥) → (a && b) ≡ false
+pub unless_both : (a b : Bool) → (a ≡ true → b ≡ true → ⊥) → (a && b) ≡ false
 unless_both true true h = absurd (h refl refl)
 unless_both true false h = refl
 unless_both false b h = refl
@@ -72,39 +75,56 @@ next_end bytes (c ∷ cs) end u within e =
       boundary = IsCharBoundary-past_char bytes (encode_utf8_all cs) end c (omega (arith, within)) u (sym e);
     }
 
--- so the last boundary up to 984 is at most three bytes before it
-pub floor_low : (bytes : List ℕ) (end : ℕ) → IsUtf8 bytes → 984 < length bytes → IsCharBoundary bytes end → end ≤ 984 → ((i : ℕ) → end < i → i ≤ 984 → ¬ (IsCharBoundary bytes i)) → 981 ≤ end
-floor_low bytes end u long boundary high nearest =
-    let rest = IsUtf8-drop bytes end u boundary in
-    let next = next_end bytes (chars (drop end bytes)) end rest (omega (arith, long, high)) (encodes-chars (drop end bytes) rest) in
-    let not_below : end < 981 → ⊥ = λ below. nearest next.place next.later (omega (arith, next.near, below)) next.boundary in
-    omega (arith, not_below)
+-- the last boundary up to a room: at most three bytes of it are left, and LF does not stand there if any is
+module _ (bytes : List ℕ) (room end : ℕ) (u : IsUtf8 bytes) (long : room ≤ length bytes) (boundary : IsCharBoundary bytes end) (high : end ≤ room)
+    (nearest : (i : ℕ) → end < i → i ≤ room → ¬ (IsCharBoundary bytes i)) where
+  rest_utf8 : IsUtf8 (drop end bytes)
+  rest_utf8 = IsUtf8-drop bytes end u boundary
 
--- the end of a text
-pub whole_end : (bytes : List ℕ) → cuts_cr_lf (chars (take (length bytes) bytes)) (chars (drop (length bytes) bytes)) ≡ false
-whole_end bytes =
+  rest_bytes : encode_utf8_all (chars (drop end bytes)) ≡ drop end bytes
+  rest_bytes = encodes-chars (drop end bytes) rest_utf8
+
+  too_low : end + 3 < room → ⊥
+  too_low below =
+      let next = next_end bytes (chars (drop end bytes)) end rest_utf8 (omega (arith, long, below)) rest_bytes in
+      nearest next.place next.later (omega (arith, next.near, below)) next.boundary
+
+  pub floor_low : room ≤ end + 3
+  floor_low = let low = too_low in omega (arith, low)
+
+  too_low_for_lf : starts_with_lf (chars (drop end bytes)) ≡ true → end < room → ⊥
+  too_low_for_lf lf below =
+      let parts = lf_front (chars (drop end bytes)) lf in
+      let is : drop end bytes ≡ encode_utf8 10 ++ encode_utf8_all parts.0 = sym rest_bytes ∙ ap encode_utf8_all parts.1 in
+      let len = len_utf8_ascii 10 (omega arith) in
+      nearest (end + len_utf8 10) (omega (arith, len)) (omega (arith, len, below)) (IsCharBoundary-past_char bytes (encode_utf8_all parts.0) end 10 (omega (arith, long, below)) rest_utf8 is)
+
+  pub lf_at_room : starts_with_lf (chars (drop end bytes)) ≡ true → end ≡ room
+  lf_at_room lf = let low = too_low_for_lf lf in omega (arith, low, high)
+
+-- at the end of a text
+pub no_lf_at_end : (bytes : List ℕ) → starts_with_lf (chars (drop (length bytes) bytes)) ≡ true → ⊥
+no_lf_at_end bytes lf =
     let none : chars (drop (length bytes) bytes) ≡ [] = ap chars (drop_of_length-le bytes (omega arith)) ∙ chars-nil in
-    and_false (ends_with_cr (chars (take (length bytes) bytes))) (starts_with_lf (chars (drop (length bytes) bytes))) (ap starts_with_lf none)
+    let no : starts_with_lf (chars (drop (length bytes) bytes)) ≡ false = ap starts_with_lf none in
+    cc
 
--- before a CR
-pub before_cr : (bytes : List ℕ) (at : ℕ) → at < length bytes → get_or bytes at 0 ≡ 13 → cuts_cr_lf (chars (take at bytes)) (chars (drop at bytes)) ≡ false
-before_cr bytes at within is =
+-- at a CR
+pub no_lf_at_cr : (bytes : List ℕ) (at : ℕ) → at < length bytes → get_or bytes at 0 ≡ 13 → starts_with_lf (chars (drop at bytes)) ≡ true → ⊥
+no_lf_at_cr bytes at within is lf =
     let rest : drop at bytes ≡ 13 ∷ drop (suc at) bytes = drop-cons bytes at 0 within ∙ ap (λ b. b ∷ drop (suc at) bytes) is in
-    and_false (ends_with_cr (chars (take at bytes))) (starts_with_lf (chars (drop at bytes))) (ap (λ bs. starts_with_lf (chars bs)) rest ∙ no_lf (drop (suc at) bytes))
+    let no : starts_with_lf (chars (drop at bytes)) ≡ false = ap (λ bs. starts_with_lf (chars bs)) rest ∙ no_lf (drop (suc at) bytes) in
+    cc
 
--- between other bytes than CR and LF
-module _ (bytes : List ℕ) (at : ℕ) (u : IsUtf8 bytes) (boundary : IsCharBoundary bytes at) (some : 1 ≤ at) (within : at ≤ length bytes) where
-  pub no_cr : (get_or bytes (at - 1) 0 ≡ 13 → ⊥) → cuts_cr_lf (chars (take at bytes)) (chars (drop at bytes)) ≡ false
-  no_cr other =
-      let front = encodes-chars (take at bytes) (IsUtf8-take bytes at u boundary) in
-      let len : length (encode_utf8_all (chars (take at bytes))) ≡ at - 1 + 1 = ap length front ∙ length-take-le at bytes within ∙ omega (arith, some) in
-      let here : get_or (take at bytes) (at - 1) 0 ≡ get_or bytes (at - 1) 0 = get_or-take at bytes (at - 1) 0 (omega (arith, some)) in
-      unless_both (ends_with_cr (chars (take at bytes))) (starts_with_lf (chars (drop at bytes)))
-      (λ cr _. other (sym here ∙ ap (λ bs. get_or bs (at - 1) 0) (sym front) ∙ last_byte (chars (take at bytes)) (at - 1) len cr))
+not_true : (b : Bool) → (b ≡ true → ⊥) → b ≡ false
+not_true true h = absurd (h refl)
+not_true false h = refl
 
-  pub not_before_lf : (get_or bytes at 0 ≡ 10 → ⊥) → cuts_cr_lf (chars (take at bytes)) (chars (drop at bytes)) ≡ false
-  not_before_lf other =
-      let back = encodes-chars (drop at bytes) (IsUtf8-drop bytes at u boundary) in
-      let here : get_or (drop at bytes) 0 0 ≡ get_or bytes at 0 = get_or-drop at bytes 0 0 ∙ ap (λ n. get_or bytes n 0) (add-zero at) in
-      unless_both (ends_with_cr (chars (take at bytes))) (starts_with_lf (chars (drop at bytes)))
-      (λ _ lf. other (sym here ∙ ap (λ bs. get_or bs 0 0) (sym back) ∙ first_byte (chars (drop at bytes)) lf))
+-- after another byte than CR
+pub no_cr : (bytes : List ℕ) (at : ℕ) → IsUtf8 bytes → IsCharBoundary bytes at → 1 ≤ at → at ≤ length bytes → (get_or bytes (at - 1) 0 ≡ 13 → ⊥) → ends_with_cr (chars (take at bytes)) ≡ false
+no_cr bytes at u boundary some within other =
+    let front = encodes-chars (take at bytes) (IsUtf8-take bytes at u boundary) in
+    let len : length (encode_utf8_all (chars (take at bytes))) ≡ at - 1 + 1 = ap length front ∙ length-take-le at bytes within ∙ omega (arith, some) in
+    let here : get_or (take at bytes) (at - 1) 0 ≡ get_or bytes (at - 1) 0 = get_or-take at bytes (at - 1) 0 (omega (arith, some)) in
+    not_true (ends_with_cr (chars (take at bytes)))
+    (λ cr. other (sym here ∙ ap (λ bs. get_or bs (at - 1) 0) (sym front) ∙ last_byte (chars (take at bytes)) (at - 1) len cr))

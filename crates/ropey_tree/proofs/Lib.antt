@@ -11,4 +11,4 @@ pub mod Splitting
 pub mod Levels
 pub mod Ends
 pub mod OverSeams
-pub mod CutSoFar
+pub mod Filling

@@ -19,7 +19,7 @@ use Rattle.ropey_tree.specs.Splits.{IsSplit}
 use Rattle.ropey_tree.proofs.Texts.{byte_len-append}
 use Rattle.ropey_tree.proofs.Pieces.{first_piece, bytes-append}
 use Rattle.ropey_tree.proofs.Splitting.{between, bytes-concat, starts-append, ends-append}
-use Rattle.ropey_tree.proofs.Ends.{is_code, first_byte, last_byte, ends_at_cr, and_false}
+use Rattle.ropey_tree.proofs.Ends.{is_code, first_byte, last_byte, ends_at_cr, lf_front, and_false}
 
 pub false_and : (a b : Bool) → a ≡ false → (a && b) ≡ false
 false_and a b e = ap (λ c. c && b) e
@@ -132,10 +132,6 @@ same_front front back short rest e len =
     let parts = between front back short rest e (omega (arith, len)) in
     let none : parts.mid ≡ [] = no_text parts.mid (omega (arith, len, ap byte_len parts.front_is, byte_len-append short parts.mid)) in
     (parts.front_is ∙ ap (λ t. short ++ t) none ∙ append-nil short, sym (parts.rest_is ∙ ap (λ t. t ++ back) none))
-
-lf_front : (t : List ℕ) → starts_with_lf t ≡ true → (rest : List ℕ) × (t ≡ 10 ∷ rest)
-lf_front [] h = ([], cc)
-lf_front (c ∷ cs) h = (cs, ap (λ d. d ∷ cs) (is_code c 10 h))
 
 pub cr_some : (ps : List (List ℕ)) → ends_with_cr (concat ps) ≡ true → 1 ≤ (total ps).bytes
 cr_some ps h = let parts = ends_at_cr (concat ps) h in omega (arith, bytes-concat ps, ap byte_len parts.1, byte_len-append parts.0 (13 ∷ []), one_byte 13 (omega arith))

@@ -6,6 +6,7 @@ pub mod Shown
 pub mod Children
 pub mod Bodies
 pub mod Falls
+pub mod Cutter
 pub mod Rows
 pub mod Parts
 pub mod Splits

@@ -1,54 +1,112 @@
 //! Cutting a text into leaves.
 
-ghost use Rattle.std.specs.Prelude.{◌≡◌, ◌≤◌, ◌⊎◌, length, take, drop, false, IfOk};
+ghost use Rattle.std.specs.Prelude.{◌≡◌, ◌≤◌, ◌++◌, [], length, IfOk, OnOk, OnErr};
 ghost use Rattle.std.specs.List.{concat};
-ghost use Rattle.std.specs.Str.{chars, IsCharBoundary};
-ghost use Rattle.ropey_tree.specs.Cutting.{IsCutting, cuts_cr_lf};
-ghost use Rattle.ropey_tree.specs.Nodes.{AreNodes, all_pieces};
+ghost use Rattle.std.specs.Str.{chars};
+ghost use Rattle.str_indices.specs.Laws.{byte_len};
+ghost use Rattle.ropey_tree.specs.Cutting.{IsCutting, IsPiece};
+ghost use Rattle.ropey_tree.specs.Nodes.{AreNodes, all_pieces, leaf_view};
 ghost use Rattle.ropey_tree.specs.Rows.{views};
 
 use crate::MAX_BYTES;
-use crate::leaves::Leaf;
+use crate::leaves::LeafBuffer;
 use crate::nodes::Node;
 use std::alloc::{AllocError, Global};
+use std::marker::Model;
 use std::rc::Rc;
 
-/// Where the first piece of a text ends: as late as a leaf has room, but not inside a character or a
-/// CR LF.
-pub fn piece_end(text: &str) -> usize
-    requires { 1 ≤ length text.now }
-    ensures not_empty { 1 ≤ result }
-    ensures not_long { result ≤ 984 }
-    ensures long { (result ≡ length text.now) ⊎ (980 ≤ result) }
-    ensures within { result ≤ length text.now }
-    ensures boundary { IsCharBoundary text.now result }
-    ensures whole { cuts_cr_lf (chars (take result text.now)) (chars (drop result text.now)) ≡ false }
-{
-    if text.len() <= MAX_BYTES {
-        return text.len();
+/// A text that comes in parts and is cut into leaves as it comes. Contracts see the text so far.
+#[derive(Drop)]
+pub struct Cutter {
+    alloc: Global,
+    leaves: Vec<Rc<Node>>,
+    // What stands after the leaves.
+    rest: LeafBuffer,
+}
+
+impl Model for Cutter {
+    ghost use Rattle.std.specs.Prelude.{ℕ, List, ◌++◌};
+    ghost use Rattle.std.specs.List.{concat};
+    ghost use Rattle.ropey_tree.specs.Nodes.{all_pieces};
+    ghost use Rattle.ropey_tree.specs.Rows.{views};
+    ghost use Rattle.ropey_tree.specs.Cutter.{IsCutBefore};
+
+    ghost Value = { List ℕ };
+
+    ghost view = { λ cutter. concat (all_pieces (views cutter.leaves.items)) ++ cutter.rest };
+
+    ghost invariant = { λ cutter. IsCutBefore cutter.rest (views cutter.leaves.items) };
+}
+
+impl Cutter {
+    /// No text yet.
+    pub fn new(alloc: Global) -> Self
+        ensures { result ≡ [] }
+    {
+        Cutter {
+            alloc,
+            leaves: Vec::new(alloc),
+            rest: LeafBuffer::new(),
+        }
     }
-    let end = text.floor_char_boundary(MAX_BYTES);
-    let bytes = text.as_bytes();
-    if bytes[end - 1] == b'\r' && bytes[end] == b'\n' {
-        end - 1
-    } else {
-        end
+
+    /// Appends a text. Want of memory leaves the cutter as it was; a text that doesn't fill a leaf takes
+    /// none.
+    pub fn append(&mut self, text: &str) -> Result<(), AllocError>
+        ensures text { OnOk result (self.new ≡ self.old ++ chars text.now) }
+        ensures kept { OnErr result (self.new ≡ self.old) }
+    {
+        if text.len() < self.rest.room() {
+            self.rest.fill(text);
+            return Ok(());
+        }
+        // A refusal is to leave everything as it was, so what is made lies aside until all is there.
+        let mut made = Vec::new(self.alloc);
+        let mut rest = self.rest.copy();
+        let end = rest.fill(text);
+        let mut left = &text[end..];
+        while !left.is_empty() {
+            made.push(leaf_node(self.alloc, rest)?)?;
+            rest = LeafBuffer::new();
+            let end = rest.fill(left);
+            left = &left[end..];
+        }
+        self.leaves.append(&mut made)?;
+        self.rest = rest;
+        Ok(())
+    }
+
+    /// The leaves of the text. Want of memory drops the cutter.
+    pub fn finish(self) -> Result<Vec<Rc<Node>>, AllocError>
+        ensures leaves { IfOk result (λ leaves. AreNodes 0 12 (views leaves.items)) }
+        ensures text { IfOk result (λ leaves. concat (all_pieces (views leaves.items)) ≡ self) }
+        ensures cut { IfOk result (λ leaves. IsCutting (all_pieces (views leaves.items))) }
+    {
+        if self.rest.room() == MAX_BYTES {
+            return Ok(self.leaves);
+        }
+        let mut leaves = self.leaves;
+        leaves.push(leaf_node(self.alloc, self.rest)?)?;
+        Ok(leaves)
     }
 }
 
-/// The leaves of a text, each as long as may be.
+/// A leaf of what was gathered.
+fn leaf_node(alloc: Global, text: LeafBuffer) -> Result<Rc<Node>, AllocError>
+    requires { 1 ≤ byte_len text }
+    ensures node { IfOk result (λ node. node.value ≡ leaf_view text) }
+    ensures piece { IsPiece text }
+{
+    Ok(Rc::new(alloc, Node::from_leaf(text.into_leaf()))?)
+}
+
+/// The leaves of a text, each but the last with room for less than a character.
 pub fn leaves_of(alloc: Global, text: &str) -> Result<Vec<Rc<Node>>, AllocError>
     ensures leaves { IfOk result (λ leaves. AreNodes 0 12 (views leaves.items)) }
     ensures text { IfOk result (λ leaves. concat (all_pieces (views leaves.items)) ≡ chars text.now) }
     ensures cut { IfOk result (λ leaves. IsCutting (all_pieces (views leaves.items))) }
 {
-    let mut leaves = Vec::new(alloc);
-    let mut rest = text;
-    while !rest.is_empty() {
-        let end = piece_end(rest);
-        let leaf = Rc::new(alloc, Node::from_leaf(Leaf::new(&rest[..end])))?;
-        leaves.push(leaf)?;
-        rest = &rest[end..];
-    }
-    Ok(leaves)
+    let mut cutter = Cutter::new(alloc);
+    cutter.append(text)?;
+    cutter.finish()
 }

@@ -4,14 +4,8 @@ use Rattle.ropey_tree.specs.Rows.{views}
 use Rattle.ropey.proofs.Cuts.{fits_in}
 use Rattle.ropey.proofs.rope.Rope.from_str.Goals as goal
 
-pub build-requires-clause-text : goal.build-requires-clause-text
-build-requires-clause-text c =
+pub from_leaves-requires-clause-text : goal.from_leaves-requires-clause-text
+from_leaves-requires-clause-text c =
     let e = c.in_ok-leaves.ensures in
     let fits : length c.args.text.now < 2 ^ 63 = omega (arith, c.if-text-gt-MAX_TEXT_BYTES.false) in
     fits_in (all_pieces (views c.in_ok-leaves.leaves.items)) c.args.text.now e.cut e.text c.utf8.text fits
-
-pub invariant_of-result-2 : goal.invariant_of-result-2
-invariant_of-result-2 c =
-    let e = c.in_ok-leaves.ensures in
-    let fits : length c.args.text.now < 2 ^ 63 = omega (arith, c.if-text-gt-MAX_TEXT_BYTES.false) in
-    rw c.in_ok-root.ensures (fits_in (all_pieces (views c.in_ok-leaves.leaves.items)) c.args.text.now e.cut e.text c.utf8.text fits)

@@ -1,33 +1,18 @@
-use Rattle.std.proofs.Common.{◌≡◌, ◌+◌, ◌^◌, ◌<◌, ◌++◌, length, string_bytes, ap, sym, ◌∙◌, refl, arith, rules}
-use Rattle.std.proofs.lemmas.Grind.{common_steps}
+use Rattle.std.proofs.Common.{◌≡◌, ◌+◌, ◌^◌, ◌<◌, ◌++◌, length, ap, sym, ◌∙◌, refl, arith, rules}
 use Rattle.std.specs.Str.{chars}
-use Rattle.std.proofs.lemmas.Str.{chars-append, encodes-chars, IsUtf8-string_bytes}
+use Rattle.std.proofs.lemmas.Str.{encodes-chars}
 use Rattle.str_indices.specs.Laws.{byte_len}
+use Rattle.ropey.proofs.Cuts.{byte_len-append}
 use Rattle.ropey.proofs.rope_builder.RopeBuilder.append.Goals as goal
 
-pub returns-then-text-len-clause-size : goal.returns-then-text-len-clause-size
-returns-then-text-len-clause-size c =
-    let bytes = string_bytes c.self.inside.text in
-    let len : byte_len c.args.self.now ≡ length bytes = ap byte_len (sym c.self.view_is) ∙ ap length (encodes-chars bytes (IsUtf8-string_bytes c.self.inside.text)) in
-    (λ _. omega (arith, c.if-text-len.true, len, ap length c.as_str-len.ensures.value, c.self.invariant), λ _. refl)
+pub returns-then-text-self-clause-size : goal.returns-then-text-self-clause-size
+returns-then-text-self-clause-size c =
+    let len : byte_len c.args.self.now ≡ c.self.inside.len = ap byte_len (sym c.self.view_is) ∙ sym c.self.invariant.0 in
+    (λ _. omega (arith, c.if-text-self.true, len, c.self.invariant.1), λ _. refl)
 
-pub returns-in_err-push_str-clause-size : goal.returns-in_err-push_str-clause-size
-returns-in_err-push_str-clause-size c =
-    let bytes = string_bytes c.self.inside.text in
-    let len : byte_len c.args.self.now ≡ length bytes = ap byte_len (sym c.self.view_is) ∙ ap length (encodes-chars bytes (IsUtf8-string_bytes c.self.inside.text)) in
-    let small : byte_len c.args.self.now + length c.args.text.now < 2 ^ 63 = omega (arith, c.if-text-len.false, len, ap length c.as_str-len.ensures.value, c.self.invariant) in
-    first_of (search rules, grind (arith, common_steps))
-
-pub returns-clause-text : goal.returns-clause-text
-returns-clause-text c =
-    let bytes = string_bytes c.self.inside.text in
-    let text : chars (string_bytes c.push_str.new.self) ≡ c.args.self.now ++ chars c.args.text.now =
-    ap chars c.in_ok-push_str.ensures.bytes ∙ chars-append bytes c.args.text.now (IsUtf8-string_bytes c.self.inside.text) ∙ ap (λ t. t ++ chars c.args.text.now) c.self.view_is in
-    text
-
-pub returns-clause-size : goal.returns-clause-size
-returns-clause-size c =
-    let bytes = string_bytes c.self.inside.text in
-    let len : byte_len c.args.self.now ≡ length bytes = ap byte_len (sym c.self.view_is) ∙ ap length (encodes-chars bytes (IsUtf8-string_bytes c.self.inside.text)) in
-    let small : byte_len c.args.self.now + length c.args.text.now < 2 ^ 63 = omega (arith, c.if-text-len.false, len, ap length c.as_str-len.ensures.value, c.self.invariant) in
-    (λ e. cc, λ h. absurd (omega (arith, h, small)))
+pub invariant_of-self-2 : goal.invariant_of-self-2
+invariant_of-self-2 c =
+    let text = c.args.text.now in
+    let whole : byte_len c.append.new.self ≡ c.self.inside.len + length text =
+        ap byte_len c.in_ok-append.ensures.text ∙ byte_len-append c.self.inside.text (chars text) ∙ omega (arith, c.self.invariant.0, ap length (encodes-chars text c.utf8.text)) in
+    (sym whole, omega (arith, c.if-text-self.false, c.self.invariant.1))
