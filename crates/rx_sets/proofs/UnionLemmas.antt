@@ -1,5 +1,5 @@
 -- How ranges are put together item by item.
-use Rattle.std.proofs.Common.{◌≡◌, ◌≢◌, ℕ, zero, suc, ◌<◌, ◌≤◌, ◌↔◌, ◌⊎◌, Bool, true, false, not, ◌||◌, Result, Ok, Err, OnOk, List, [], ◌∷◌, ◌++◌, length, drop, get_or, Contains, refl, sym, ap, subst, ◌∙◌, arith, inl, inr, true≢false}
+use Rattle.std.proofs.Common.{◌≡◌, ℕ, zero, suc, ◌<◌, ◌≤◌, ◌↔◌, ◌⊎◌, Bool, true, false, not, ◌||◌, Result, Ok, Err, OnOk, List, [], ◌∷◌, ◌++◌, length, drop, get_or, Contains, refl, sym, ap, subst, ◌∙◌, arith, inl, inr, true≢false}
 use Rattle.std.proofs.lemmas.Bool.{or_cases, or_left, or_right}
 use Rattle.std.proofs.lemmas.List.{drop_all}
 use Rattle.rx_sets.specs.declared.items.ClassItem.{ClassItem}
