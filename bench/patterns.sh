@@ -8,15 +8,17 @@ trap 'rm -rf "$work"' EXIT
 rt=${RT:-rt}
 
 mkdir -p "$work/repository/crates"
-cp -r "$here/../crates/rx_grammar" "$work/repository/crates/"
-rm -rf "$work/repository/crates/rx_grammar/out"
+for crate in rx_sets rx_grammar; do
+    cp -r "$here/../crates/$crate" "$work/repository/crates/"
+    rm -rf "$work/repository/crates/$crate/out"
+done
 cp -r "$here/patterns" "$work/repository/crates/bench_patterns"
 # The sources of the measuring program end in .txt here, since it is no crate of this repository.
 find "$work/repository/crates/bench_patterns" -name '*.txt' | while read -r source; do
     mv "$source" "${source%.txt}"
 done
 cp "$here/../HANDLES" "$work/repository/"
-grep '^rx_grammar:' "$here/../crates.txt" > "$work/repository/crates.txt"
+grep -E '^rx_(sets|grammar):' "$here/../crates.txt" > "$work/repository/crates.txt"
 echo 'bench_patterns: rx_grammar' >> "$work/repository/crates.txt"
 cd "$work/repository/crates/bench_patterns"
 "$rt" run < /dev/null

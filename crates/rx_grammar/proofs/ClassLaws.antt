@@ -2,9 +2,9 @@
 use Rattle.std.proofs.Common.{◌≡◌, ℕ, ◌≤◌, ◌==◌, ◌||◌, Bool, false, List, [], ◌∷◌, ◌++◌, length, ◌<◌, arith, length-append, refl, sym, ap, ap₂, subst, ◌∙◌}
 use Rattle.std.proofs.lemmas.List.{append-nil, append_assoc}
 use Rattle.std.proofs.lemmas.Bool.{or_right}
-use Rattle.rx_grammar.specs.declared.ast.ClassPerlKind.{ClassPerlKind}
-use Rattle.rx_grammar.specs.declared.ast.ClassItem.{ClassItem}
-use Rattle.rx_grammar.specs.declared.ast.ClassItem.TheVariants.{Span, Perl}
+use Rattle.rx_sets.specs.declared.items.ClassPerlKind.{ClassPerlKind}
+use Rattle.rx_sets.specs.declared.items.ClassItem.{ClassItem}
+use Rattle.rx_sets.specs.declared.items.ClassItem.TheVariants.{Span, Perl}
 use Rattle.rx_grammar.specs.Texts.{Begins}
 use Rattle.rx_grammar.specs.Escapes.{NumberAfter, unbraced, braced, EscapedCharacter, control, itself as escaped_itself, two_digits, four_digits, perl_letter}
 use Rattle.rx_grammar.specs.Classes.{is_class_literal, NoLetterClass, NoItem, NoItems, NoClassBody, NoClass, ItemsAfter, RangeGoesOn, ClassCharacter, itself, escaped, GoesOnAsRange, OneItem, character, range, letter_class, ClassItems, closed, last_hyphen, further, ClassBody, bracket_first, hyphen_first, other_first, Class, plain, negation}

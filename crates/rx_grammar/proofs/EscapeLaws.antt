@@ -3,8 +3,8 @@ use Rattle.std.proofs.Common.{◌≡◌, ℕ, ◌≤◌, ◌==◌, ◌||◌, Boo
 use Rattle.std.proofs.lemmas.Bool.{eqb-false}
 use Rattle.std.proofs.lemmas.Bool.Decides.{nat_tests}
 use Rattle.std.specs.List.{AllByRecursion}
-use Rattle.rx_grammar.specs.declared.ast.ClassPerlKind.{ClassPerlKind}
-use Rattle.rx_grammar.specs.declared.ast.ClassPerlKind.TheVariants.{Digit, Space, Word}
+use Rattle.rx_sets.specs.declared.items.ClassPerlKind.{ClassPerlKind}
+use Rattle.rx_sets.specs.declared.items.ClassPerlKind.TheVariants.{Digit, Space, Word}
 use Rattle.std.specs.Char.{is_ascii_hexdigit}
 use Rattle.rx_grammar.specs.Escapes.{control_of, perl_letter, look_of, is_escapable, hex_after, SpellsScalar, NumberOfLength, NumberInBraces, NumberAfter, unbraced, braced, EscapedCharacter, control, itself, two_digits, four_digits}
 use Rattle.rx_grammar.proofs.TextLemmas.{first_is, rest_is, apart, told_apart, fronts, fronts_of_length}

@@ -7,11 +7,11 @@ use Rattle.rx_grammar.specs.Sets.{Range, IsSetOf, Folded, InPerl}
 use Rattle.rx_grammar.specs.Trees.{Tree, one_of, look_at, concat_of, alternation_of}
 use Rattle.rx_grammar.specs.Texts.{Begins, Stops}
 use Rattle.rx_grammar.specs.Escapes.{look_of}
-use Rattle.rx_grammar.specs.declared.ast.ClassItem.{ClassItem}
+use Rattle.rx_sets.specs.declared.items.ClassItem.{ClassItem}
 use Rattle.rx_grammar.specs.Classes.{Class, InClass}
 use Rattle.rx_grammar.specs.Groups.{Setting, opened, grouped}
 use Rattle.rx_grammar.specs.Grammar.{is_literal, InDot, Escape, character, letter_class, look, Leaf, literal, dot, caret, dollar, escape, class, goes_on, goes_on_in_branches, Atom, leaf, group, Items, ended, setting, item, Branches, last, bar, Spells}
-use Rattle.rx_grammar.proofs.SetLemmas.{IsSetOf-unique}
+use Rattle.rx_grammar.proofs.SetLaws.{IsSetOf-unique}
 use Rattle.rx_grammar.proofs.TextLemmas.{first_is, rest_is, apart, told_apart, Stops-not}
 use Rattle.rx_grammar.proofs.EscapeLaws.{escape_unique, perl_letter-unique, perl_letter-no_character, is_look, look-no_character, perl_letter-no_look}
 use Rattle.rx_grammar.proofs.ClassLaws.{class_unique}

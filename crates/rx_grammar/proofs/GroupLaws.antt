@@ -2,8 +2,8 @@
 use Rattle.std.proofs.Common.{◌≡◌, ℕ, ◌≤◌, ◌==◌, ◌||◌, Bool, true, false, List, [], ◌∷◌, ◌++◌, length, map, Some, refl, sym, ap, ap₂, subst, ◌∙◌, arith}
 use Rattle.std.proofs.lemmas.Bool.{eqb-false, or_left}
 use Rattle.std.specs.List.{AllByRecursion}
-use Rattle.rx_grammar.specs.declared.ast.Flag.{Flag}
-use Rattle.rx_grammar.specs.declared.ast.Flag.TheVariants.{CaseInsensitive, MultiLine, DotMatchesNewLine, SwapGreed}
+use Rattle.rx_grammar.specs.declared.flags.Flag.{Flag}
+use Rattle.rx_grammar.specs.declared.flags.Flag.TheVariants.{CaseInsensitive, MultiLine, DotMatchesNewLine, SwapGreed}
 use Rattle.rx_grammar.specs.Settings.{Settings, letter_of}
 use Rattle.rx_grammar.specs.Trees.{Name}
 use Rattle.rx_grammar.specs.Texts.{Begins, passes}

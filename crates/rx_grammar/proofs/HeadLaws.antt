@@ -4,8 +4,8 @@ use Rattle.std.proofs.lemmas.List.{get_or_append_left, drop_at, map-append}
 use Rattle.std.proofs.lemmas.List.Quantifiers.{all_pairs_push}
 use Rattle.std.proofs.lemmas.Bool.Decides.{nat_tests}
 use Rattle.std.specs.List.{AllByRecursion}
-use Rattle.rx_grammar.specs.declared.ast.Flag.{Flag}
-use Rattle.rx_grammar.specs.declared.ast.Flag.TheVariants.{CaseInsensitive, MultiLine, DotMatchesNewLine, SwapGreed}
+use Rattle.rx_grammar.specs.declared.flags.Flag.{Flag}
+use Rattle.rx_grammar.specs.declared.flags.Flag.TheVariants.{CaseInsensitive, MultiLine, DotMatchesNewLine, SwapGreed}
 use Rattle.rx_grammar.specs.Settings.{Settings, letter_of}
 use Rattle.rx_grammar.specs.Trees.{Name}
 use Rattle.rx_grammar.specs.Texts.{Begins, Stops, SplitsFront, passes}

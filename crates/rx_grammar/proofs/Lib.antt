@@ -1,9 +1,4 @@
-pub mod SetLemmas
-pub mod RangeLemmas
-pub mod FoldLemmas
-pub mod UnionLemmas
-pub mod PairLemmas
-pub mod LetterLemmas
+pub mod SetLaws
 pub mod DigitLemmas
 pub mod TextLemmas
 pub mod EscapeLaws
@@ -15,6 +10,7 @@ pub mod HeadLaws
 pub mod GrammarLaws
 pub mod LeafLaws
 pub mod NameLaws
+pub mod NumberLaws
 pub mod ResumeLaws
 pub mod PatternLaws
 pub mod ShorterLaws

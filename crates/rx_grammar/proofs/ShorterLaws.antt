@@ -1,7 +1,7 @@
 -- What is left of a text after a part of it is shorter.
 use Rattle.std.proofs.Common.{ℕ, ◌≤◌, ◌<◌, Bool, List, ◌∷◌, length, map, Option, ap, arith, length-append}
-use Rattle.rx_grammar.specs.declared.ast.Flag.{Flag}
-use Rattle.rx_grammar.specs.declared.ast.ClassItem.{ClassItem}
+use Rattle.rx_grammar.specs.declared.flags.Flag.{Flag}
+use Rattle.rx_sets.specs.declared.items.ClassItem.{ClassItem}
 use Rattle.rx_grammar.specs.declared.hir.Repetition.{Repetition}
 use Rattle.rx_grammar.specs.Settings.{Settings, letter_of}
 use Rattle.rx_grammar.specs.Trees.{Tree}

@@ -1,22 +1,12 @@
 -- What stands between brackets.
-use Rattle.std.specs.Prelude.{◌≡◌, ℕ, ◌≤◌, ◌⊎◌, Bool, true, false, not, ◌==◌, ◌||◌, List, [], ◌∷◌, ◌++◌}
-use Rattle.rx_grammar.specs.declared.ast.ClassPerlKind.{ClassPerlKind}
-use Rattle.rx_grammar.specs.declared.ast.ClassItem.{ClassItem}
-use Rattle.rx_grammar.specs.declared.ast.ClassItem.TheVariants.{Span, Perl}
+use Rattle.std.specs.Prelude.{◌≡◌, ℕ, ◌≤◌, Bool, true, false, not, ◌==◌, ◌||◌, List, [], ◌∷◌, ◌++◌}
+use Rattle.rx_sets.specs.declared.items.ClassPerlKind.{ClassPerlKind}
+use Rattle.rx_sets.specs.declared.items.ClassItem.{ClassItem}
+use Rattle.rx_sets.specs.declared.items.ClassItem.TheVariants.{Span, Perl}
 use Rattle.rx_grammar.specs.Settings.{Settings}
-use Rattle.rx_grammar.specs.Sets.{InPerl, Folded}
+use Rattle.rx_sets.specs.Items as named
 use Rattle.rx_grammar.specs.Texts.{Begins}
 use Rattle.rx_grammar.specs.Escapes.{EscapedCharacter, perl_letter}
-
--- a scalar value is one that an item of a class names
-abbrev pub InItem : ℕ → ClassItem → Type 0
-InItem c (Span low high) = (low ≤ c) × (c ≤ high)
-InItem c (Perl kind negated) = InPerl kind negated c
-
--- some item names this scalar value
-abbrev pub InItems : ℕ → List ClassItem → Type 0
-InItems c [] = ⊥
-InItems c (item ∷ items) = InItem c item ⊎ InItems c items
 
 -- a character that stands for itself in a class wherever it stands: any but \ [ ] and -
 abbrev pub is_class_literal : ℕ → Bool
@@ -64,10 +54,9 @@ pub data Class : List ℕ → Bool → List ClassItem → List ℕ → Type 0 wh
   plain : {t u : List ℕ} {items : List ClassItem} → (Begins 94 t → ⊥) → ClassBody t items u → Class t false items u
   negation : {t u v : List ℕ} {items : List ClassItem} → t ≡ 94 ∷ v → ClassBody v items u → Class t true items u
 
--- what a class stands for: folding comes before the negation
+-- what a class stands for: under `i` it is closed under folding, before it is negated
 abbrev pub InClass : Settings → Bool → List ClassItem → ℕ → Type 0
-InClass settings false items c = Folded settings (λ d. InItems d items) c
-InClass settings true items c = ¬ (Folded settings (λ d. InItems d items) c)
+InClass settings negated items c = named.InClass settings.case_insensitive negated items c
 
 -- no such thing stands at the start of the text
 abbrev pub NoClassCharacter : List ℕ → Type 0

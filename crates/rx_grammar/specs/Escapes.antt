@@ -3,8 +3,8 @@ use Rattle.std.specs.Prelude.{◌≡◌, ℕ, ◌+◌, ◌*◌, ◌≤◌, Bool,
 use Rattle.std.specs.Char.{is_ascii_hexdigit, is_ascii_alphanumeric, digit_value}
 use Rattle.std.specs.List.{AllByRecursion}
 use Rattle.rx_grammar.specs.Sets.{IsScalar}
-use Rattle.rx_grammar.specs.declared.ast.ClassPerlKind.{ClassPerlKind}
-use Rattle.rx_grammar.specs.declared.ast.ClassPerlKind.TheVariants.{Digit, Space, Word}
+use Rattle.rx_sets.specs.declared.items.ClassPerlKind.{ClassPerlKind}
+use Rattle.rx_sets.specs.declared.items.ClassPerlKind.TheVariants.{Digit, Space, Word}
 use Rattle.rx_grammar.specs.declared.hir.Look.{Look}
 use Rattle.rx_grammar.specs.declared.hir.Look.TheVariants.{Start, End, WordUnicode, WordUnicodeNegate}
 

@@ -1,6 +1,6 @@
 -- The grammar of patterns: what a text spells.
 use Rattle.std.specs.Prelude.{◌≡◌, ◌≢◌, ℕ, ◌+◌, ◌≤◌, ◌<◌, Bool, true, false, not, ◌==◌, ◌||◌, List, [], ◌∷◌, Some, max, AllPairs, length, encode_utf8_all, if◌then◌else◌}
-use Rattle.rx_grammar.specs.declared.ast.ClassPerlKind.{ClassPerlKind}
+use Rattle.rx_sets.specs.declared.items.ClassPerlKind.{ClassPerlKind}
 use Rattle.rx_grammar.specs.declared.hir.Look.{Look}
 use Rattle.rx_grammar.specs.declared.hir.Look.TheVariants.{Start, End, StartLine, EndLine}
 use Rattle.rx_grammar.specs.Settings.{Settings}
@@ -8,7 +8,7 @@ use Rattle.rx_grammar.specs.Sets.{Range, IsSetOf, Folded, InPerl}
 use Rattle.rx_grammar.specs.Trees.{Tree, one_of, look_at, concat_of, alternation_of, names_of}
 use Rattle.rx_grammar.specs.Texts.{Stops}
 use Rattle.rx_grammar.specs.Escapes.{EscapedCharacter, perl_letter, look_of}
-use Rattle.rx_grammar.specs.declared.ast.ClassItem.{ClassItem}
+use Rattle.rx_sets.specs.declared.items.ClassItem.{ClassItem}
 use Rattle.rx_grammar.specs.Classes.{Class, InClass}
 use Rattle.rx_grammar.specs.Repetitions.{Postfixes}
 use Rattle.rx_grammar.specs.Groups.{Setting, Capture, Opening, opened, grouped}

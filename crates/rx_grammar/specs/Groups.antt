@@ -2,7 +2,7 @@
 use Rattle.std.specs.Prelude.{◌≡◌, ◌≢◌, ℕ, ◌+◌, ◌≤◌, Bool, true, false, ◌==◌, ◌||◌, List, [], ◌∷◌, ◌++◌, length, map, codes, Option, Some, None, AllPairs}
 use Rattle.std.specs.Char.{is_ascii_alphabetic}
 use Rattle.std.specs.List.{AllByRecursion}
-use Rattle.rx_grammar.specs.declared.ast.Flag.{Flag}
+use Rattle.rx_grammar.specs.declared.flags.Flag.{Flag}
 use Rattle.rx_grammar.specs.Settings.{Settings, letter_of, with_flags}
 use Rattle.rx_grammar.specs.Trees.{Name, Tree, group}
 use Rattle.rx_grammar.specs.Texts.{Begins, Stops, passes}

@@ -1,6 +1,6 @@
 -- What a reader of flags, of a name and of the head of a group finds.
 use Rattle.std.specs.Prelude.{◌≡◌, ◌≢◌, ◌⊎◌, ℕ, List, ◌∷◌, ◌++◌, Some, None, AllPairs}
-use Rattle.rx_grammar.specs.declared.ast.Flag.{Flag}
+use Rattle.rx_grammar.specs.declared.flags.Flag.{Flag}
 use Rattle.rx_grammar.specs.declared.groups.Captures.{Captures}
 use Rattle.rx_grammar.specs.declared.groups.Captures.TheVariants.{Numbered, Unnumbered}
 use Rattle.rx_grammar.specs.declared.groups.Head.{Head}

@@ -1,9 +1,13 @@
 -- Laws of the definitions themselves.
-use Rattle.std.specs.Prelude.{◌≡◌, ℕ, List}
+use Rattle.std.specs.Prelude.{◌≡◌, ℕ, ◌+◌, ◌<◌, List, length, get_or}
 use Rattle.rx_grammar.specs.Settings.{Settings}
-use Rattle.rx_grammar.specs.Trees.{Tree}
+use Rattle.rx_grammar.specs.Trees.{Tree, numbers_of}
 use Rattle.rx_grammar.specs.Grammar.{Spells}
 
 -- the text spells at most one tree
 abbrev pub SpellsAtMostOne : List ℕ → Settings → Type 0
 SpellsAtMostOne text settings = (tree other : Tree) → Spells text settings tree → Spells text settings other → tree ≡ other
+
+-- the groups of what the text spells have the numbers 1, 2 and so on, in the order in which they open
+abbrev pub NumbersGroups : List ℕ → Settings → Type 0
+NumbersGroups text settings = (tree : Tree) → Spells text settings tree → (k : ℕ) → k < length (numbers_of tree) → get_or (numbers_of tree) k 0 ≡ k + 1

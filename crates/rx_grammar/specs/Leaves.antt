@@ -1,6 +1,6 @@
 -- What a reader of an atom that is no group finds.
 use Rattle.std.specs.Prelude.{◌≡◌, ℕ, Bool, List}
-use Rattle.rx_grammar.specs.declared.ast.ClassItem.{ClassItem}
+use Rattle.rx_sets.specs.declared.items.ClassItem.{ClassItem}
 use Rattle.rx_grammar.specs.declared.leaves.LeafTree.{LeafTree}
 use Rattle.rx_grammar.specs.declared.leaves.LeafTree.TheVariants as leaf
 use Rattle.rx_grammar.specs.Settings.{Settings}

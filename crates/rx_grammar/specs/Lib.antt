@@ -4,7 +4,6 @@ pub mod Trees
 pub mod Texts
 pub mod Escapes
 pub mod Classes
-pub mod Unions
 pub mod Repetitions
 pub mod Groups
 pub mod Heads

@@ -57,3 +57,8 @@ own_names _ = []
 -- the names of the groups among the nodes, in their order
 abbrev pub names_in : List Step → List Name
 names_in nodes = flat_map own_names nodes
+
+-- how many groups a node is by itself, without those below it
+abbrev pub own_groups : Step → ℕ
+own_groups (a_group number name) = 1
+own_groups _ = 0

@@ -1,7 +1,7 @@
 -- The settings that a pattern is read under, and what flags in the pattern change of them.
 use Rattle.std.specs.Prelude.{ℕ, Bool, false, List, [], ◌∷◌}
-use Rattle.rx_grammar.specs.declared.ast.Flag.{Flag}
-use Rattle.rx_grammar.specs.declared.ast.Flag.TheVariants.{CaseInsensitive, MultiLine, DotMatchesNewLine, SwapGreed}
+use Rattle.rx_grammar.specs.declared.flags.Flag.{Flag}
+use Rattle.rx_grammar.specs.declared.flags.Flag.TheVariants.{CaseInsensitive, MultiLine, DotMatchesNewLine, SwapGreed}
 
 pub record Settings : Type 0 where
   pub case_insensitive : Bool

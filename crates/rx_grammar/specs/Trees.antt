@@ -56,3 +56,18 @@ abbrev mutual
   pub all_names_of : Trees → List Name
   all_names_of (two first second) = names_of first ++ names_of second
   all_names_of (more first others) = names_of first ++ all_names_of others
+
+-- the numbers of the groups, in the order in which these open
+abbrev mutual
+  pub numbers_of : Tree → List ℕ
+  numbers_of empty = []
+  numbers_of (one_of ranges) = []
+  numbers_of (look_at look) = []
+  numbers_of (group number name tree) = number ∷ numbers_of tree
+  numbers_of (concat trees) = all_numbers_of trees
+  numbers_of (alternation trees) = all_numbers_of trees
+  numbers_of (repeated repetition tree) = numbers_of tree
+
+  pub all_numbers_of : Trees → List ℕ
+  all_numbers_of (two first second) = numbers_of first ++ numbers_of second
+  all_numbers_of (more first others) = numbers_of first ++ all_numbers_of others

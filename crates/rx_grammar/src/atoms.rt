@@ -1,233 +1,45 @@
-//! The sets that the atoms of a pattern stand for.
+//! The sets that the atoms of a pattern stand for under its settings.
 
-ghost use Rattle.std.specs.Prelude.{◌≡◌, ◌≢◌, ◌↔◌, [], ◌∷◌, ◌++◌, Contains, IsTrue, IfOk, OnOk, IfSome};
-ghost use Rattle.rx_grammar.specs.Sets.{IsSetOf, FoldedIf, Folded, InPerl};
-ghost use Rattle.rx_grammar.specs.Classes.{InItems, InClass};
+ghost use Rattle.std.specs.Prelude.{◌≡◌, IfOk};
+ghost use Rattle.rx_grammar.specs.Sets.{IsSetOf, Folded};
+ghost use Rattle.rx_grammar.specs.Classes.{InClass};
 ghost use Rattle.rx_grammar.specs.Grammar.{InDot};
-ghost use Rattle.rx_grammar.specs.Unions.{Adds, OneOf, InLetters};
 
-use crate::ast::{ClassItem, ClassPerlKind};
-use crate::foldings::{push_folded_if, push_items};
-use crate::letters::LetterSet;
-use crate::sets::{CharacterSet, Range};
 use crate::syntax::Config;
-use std::alloc::{AllocError, Global};
+use rx_sets::{Atoms, CharacterSet, ClassItem};
+use std::alloc::AllocError;
 use std::rc::Rc;
 
-/// The letter classes.
-const LETTER_CLASSES: [(ClassPerlKind, bool); 6] = [
-    (ClassPerlKind::Digit, false),
-    (ClassPerlKind::Digit, true),
-    (ClassPerlKind::Space, false),
-    (ClassPerlKind::Space, true),
-    (ClassPerlKind::Word, false),
-    (ClassPerlKind::Word, true),
-];
-
-/// The letter class that the items are, if they are one.
-fn only_letters(items: &[ClassItem]) -> Option<(ClassPerlKind, bool)>
-    ensures { IfSome result (λ r. items.now ≡ ClassItem.Perl r.0 r.1 ∷ []) }
+/// What a literal stands for.
+pub(crate) fn literal_set(
+    atoms: &Atoms,
+    config: &Config,
+    c: char,
+) -> Result<Rc<CharacterSet>, AllocError>
+    ensures { IfOk result (λ set. IsSetOf set.value (Folded config.now (λ d. d ≡ c))) }
 {
-    match items {
-        [ClassItem::Perl(kind, negated)] => Some((*kind, *negated)),
-        _ => None,
-    }
+    atoms.literal(config.get_case_insensitive(), c)
 }
 
-/// Whether the item is this letter class.
-fn is_letters(item: ClassItem, kind: ClassPerlKind, negated: bool) -> bool
-    ensures { IsTrue result ↔ (item ≡ ClassItem.Perl kind negated) }
-{
-    match item {
-        ClassItem::Perl(found, opposite) => found == kind && opposite == negated,
-        ClassItem::Span(_, _) => false,
-    }
-}
-
-/// Whether the letter class is among the items.
-fn has_letters(items: &[ClassItem], kind: ClassPerlKind, negated: bool) -> bool
-    ensures { IsTrue result ↔ Contains items.now (ClassItem.Perl kind negated) }
-{
-    for item in items {
-        if is_letters(*item, kind, negated) {
-            return true;
-        }
-    }
-    false
-}
-
-/// Appends the ranges of a set.
-fn push_set(ranges: &mut Vec<Range>, set: &CharacterSet) -> Result<(), AllocError>
-    ensures { OnOk result (ranges.new.items ≡ ranges.old.items ++ set.now) }
-{
-    ranges.extend_from_slice(set.ranges())
-}
-
-/// The one character, closed under folding or as it is.
-fn character_set(alloc: Global, fold: bool, c: char) -> Result<CharacterSet, AllocError>
-    ensures { IfOk result (λ set. IsSetOf set (FoldedIf fold (λ d. d ≡ c))) }
-{
-    let mut ranges = Vec::new(alloc);
-    push_folded_if(&mut ranges, fold, c, c)?;
-    CharacterSet::from_ranges(ranges)
-}
-
-/// All characters.
-fn any_set(alloc: Global) -> Result<CharacterSet, AllocError>
-    ensures { IfOk result (λ set. IsSetOf set (λ d. Unit {0})) }
-{
-    let none = CharacterSet::empty(alloc);
-    none.complement()
-}
-
-/// All characters but one.
-fn all_but(alloc: Global, c: char) -> Result<CharacterSet, AllocError>
-    ensures { IfOk result (λ set. IsSetOf set (λ d. d ≢ c)) }
-{
-    let one = character_set(alloc, false, c)?;
-    one.complement()
-}
-
-/// What `.` stands for.
-fn dot_set(alloc: Global, config: &Config) -> Result<CharacterSet, AllocError>
-    ensures { IfOk result (λ set. IsSetOf set (InDot config.now)) }
+/// What `.` stands for. Folding changes nothing of it.
+pub(crate) fn dot_set(atoms: &Atoms, config: &Config) -> Result<Rc<CharacterSet>, AllocError>
+    ensures { IfOk result (λ set. IsSetOf set.value (InDot config.now)) }
 {
     if config.get_dot_matches_new_line() {
-        any_set(alloc)
+        atoms.any()
     } else {
-        all_but(alloc, char::from(config.get_line_terminator()))
+        atoms.all_but(char::from(config.get_line_terminator()))
     }
 }
 
-/// Makes the sets of a pattern's atoms. The set of a letter class is made once and shared.
-#[derive(Drop)]
-pub struct Atoms {
-    alloc: Global,
-    letters: Vec<LetterSet>,
-}
-
-impl Atoms {
-    /// No set is made yet.
-    pub fn new(alloc: Global) -> Atoms {
-        Atoms {
-            alloc,
-            letters: Vec::new(alloc),
-        }
-    }
-
-    /// What a letter class names, closed under folding or as it is.
-    fn letters(
-        &mut self,
-        fold: bool,
-        kind: ClassPerlKind,
-        negated: bool,
-    ) -> Result<Rc<CharacterSet>, AllocError>
-        ensures { IfOk result (λ set. IsSetOf set.value (FoldedIf fold (InPerl kind negated))) }
-    {
-        for letters in &self.letters {
-            if letters.is_of(fold, kind, negated) {
-                return letters.share();
-            }
-        }
-        let made = LetterSet::new(self.alloc, fold, kind, negated)?;
-        let set = made.share()?;
-        self.letters.push(made)?;
-        Ok(set)
-    }
-
-    /// What a letter class outside brackets stands for.
-    pub fn perl(
-        &mut self,
-        kind: ClassPerlKind,
-        negated: bool,
-    ) -> Result<Rc<CharacterSet>, AllocError>
-        ensures { IfOk result (λ set. IsSetOf set.value (InPerl kind negated)) }
-    {
-        self.letters(false, kind, negated)
-    }
-
-    /// What a literal stands for.
-    pub fn literal(&self, config: &Config, c: char) -> Result<Rc<CharacterSet>, AllocError>
-        ensures { IfOk result (λ set. IsSetOf set.value (Folded config.now (λ d. d ≡ c))) }
-    {
-        let set = character_set(self.alloc, config.get_case_insensitive(), c)?;
-        Ok(Rc::new(self.alloc, set)?)
-    }
-
-    /// What `.` stands for. Folding changes nothing of it.
-    pub fn dot(&self, config: &Config) -> Result<Rc<CharacterSet>, AllocError>
-        ensures { IfOk result (λ set. IsSetOf set.value (InDot config.now)) }
-    {
-        Ok(Rc::new(self.alloc, dot_set(self.alloc, config)?)?)
-    }
-
-    /// Appends what a letter class names, if it is among the items.
-    fn push_letters(
-        &mut self,
-        ranges: &mut Vec<Range>,
-        fold: bool,
-        items: &[ClassItem],
-        kind: ClassPerlKind,
-        negated: bool,
-    ) -> Result<(), AllocError>
-        ensures { OnOk result (Adds ranges.old.items ranges.new.items (λ c. InLetters fold items.now c (kind, negated))) }
-    {
-        if !has_letters(items, kind, negated) {
-            return Ok(());
-        }
-        let set = self.letters(fold, kind, negated)?;
-        push_set(ranges, &set)
-    }
-
-    /// Appends what the letter classes among the items name, each once.
-    fn push_all_letters(
-        &mut self,
-        ranges: &mut Vec<Range>,
-        fold: bool,
-        items: &[ClassItem],
-    ) -> Result<(), AllocError>
-        ensures { OnOk result (Adds ranges.old.items ranges.new.items (λ c. OneOf (InLetters fold items.now c) LETTER_CLASSES)) }
-    {
-        for letters in &LETTER_CLASSES {
-            self.push_letters(ranges, fold, items, letters.0, letters.1)?;
-        }
-        Ok(())
-    }
-
-    /// What the items of a class name, closed under folding or as it is.
-    fn union(&mut self, fold: bool, items: &[ClassItem]) -> Result<CharacterSet, AllocError>
-        ensures { IfOk result (λ set. IsSetOf set (FoldedIf fold (λ d. InItems d items.now))) }
-    {
-        let mut ranges = Vec::new(self.alloc);
-        push_items(&mut ranges, fold, items)?;
-        self.push_all_letters(&mut ranges, fold, items)?;
-        CharacterSet::from_ranges(ranges)
-    }
-
-    /// The same set, shared where the items are one letter class.
-    fn named(&mut self, fold: bool, items: &[ClassItem]) -> Result<Rc<CharacterSet>, AllocError>
-        ensures { IfOk result (λ set. IsSetOf set.value (FoldedIf fold (λ d. InItems d items.now))) }
-    {
-        if let Some((kind, negated)) = only_letters(items) {
-            return self.letters(fold, kind, negated);
-        }
-        let set = self.union(fold, items)?;
-        Ok(Rc::new(self.alloc, set)?)
-    }
-
-    /// What a class in brackets stands for.
-    pub fn class(
-        &mut self,
-        config: &Config,
-        negated: bool,
-        items: &[ClassItem],
-    ) -> Result<Rc<CharacterSet>, AllocError>
-        ensures { IfOk result (λ set. IsSetOf set.value (InClass config.now negated items.now)) }
-    {
-        let named = self.named(config.get_case_insensitive(), items)?;
-        if !negated {
-            return Ok(named);
-        }
-        Ok(Rc::new(self.alloc, named.complement()?)?)
-    }
+/// What a class in brackets stands for.
+pub(crate) fn class_set(
+    atoms: &mut Atoms,
+    config: &Config,
+    negated: bool,
+    items: &[ClassItem],
+) -> Result<Rc<CharacterSet>, AllocError>
+    ensures { IfOk result (λ set. IsSetOf set.value (InClass config.now negated items.now)) }
+{
+    atoms.class(config.get_case_insensitive(), negated, items)
 }

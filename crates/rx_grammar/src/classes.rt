@@ -5,9 +5,9 @@ ghost use Rattle.rx_grammar.specs.Texts.{Begins};
 ghost use Rattle.rx_grammar.specs.Escapes.{perl_letter, IsNoClassLetter};
 ghost use Rattle.rx_grammar.specs.Classes.{is_class_literal, doubles, ClassCharacter, NoClassCharacter, NoLetterClass, GoesOnAsRange, RangeGoesOn, OneItem, NoItem, NoItems, ItemsAfter, ClassBody, NoClassBody, Class, NoClass};
 
-use crate::ast::{ClassItem, ClassPerlKind};
 use crate::escapes::escaped_character;
 use crate::texts::{eat, first};
+use rx_sets::{ClassItem, ClassPerlKind};
 use std::alloc::{AllocError, Global};
 
 /// Whether the character stands for itself in a class wherever it stands: any but `\`, `[`, `]` and `-`.
@@ -25,7 +25,7 @@ fn doubles(c: char) -> bool
 }
 
 /// One character of a class, which stands for itself or is escaped.
-pub fn class_character(text: &[char]) -> Option<(char, &[char])>
+pub(crate) fn class_character(text: &[char]) -> Option<(char, &[char])>
     ensures { MatchOption result (NoClassCharacter text.now) (λ r. ClassCharacter text.now r.0 r.1.now) }
 {
     let Some((c, rest)) = first(text) else {
@@ -62,7 +62,7 @@ pub(crate) fn letter_named(letter: char) -> Option<(ClassPerlKind, bool)>
 }
 
 /// `\d`, `\D`, `\s`, `\S`, `\w` or `\W`: what it names, and whether that is negated.
-pub fn letter_class(text: &[char]) -> Option<((ClassPerlKind, bool), &[char])>
+pub(crate) fn letter_class(text: &[char]) -> Option<((ClassPerlKind, bool), &[char])>
     ensures { MatchOption result (NoLetterClass text.now) (λ r. text.now ≡ 92 ∷ perl_letter r.0.0 r.0.1 ∷ r.1.now) }
 {
     let Some(behind) = eat(text, '\\') else {
@@ -91,7 +91,7 @@ fn range_goes_on(text: &[char]) -> Option<&[char]>
 }
 
 /// One item of a class: a character, a range of characters or a letter class.
-pub fn class_item(text: &[char]) -> Option<(ClassItem, &[char])>
+pub(crate) fn class_item(text: &[char]) -> Option<(ClassItem, &[char])>
     ensures { MatchOption result (NoItem text.now) (λ r. OneItem text.now r.0 r.1.now) }
 {
     if let Some(((kind, negated), rest)) = letter_class(text) {
@@ -160,7 +160,7 @@ fn class_body(alloc: Global, text: &[char]) -> Result<Option<(Vec<ClassItem>, &[
 
 /// A class after its `[`: whether `^` negates it, its items in order, and the text after its `]`. `None` where the
 /// text spells no class. The only error is want of memory.
-pub fn class(
+pub(crate) fn class(
     alloc: Global,
     text: &[char],
 ) -> Result<Option<((bool, Vec<ClassItem>), &[char])>, AllocError>

@@ -7,7 +7,7 @@ use crate::texts::{CharacterTest, eat, first, split_front};
 
 /// The character that one character after a backslash spells by itself: a control character for `a`, `f`, `t`,
 /// `n`, `r` and `v`, and itself for any ASCII character but letters, digits, `<` and `>`.
-pub fn escaped_by(c: char) -> Option<char>
+pub(crate) fn escaped_by(c: char) -> Option<char>
     ensures { result ≡ escaped_by c }
 {
     match c {
@@ -83,7 +83,7 @@ fn number_of_length(text: &[char], count: usize) -> Option<(char, &[char])>
 }
 
 /// The character that the text after a backslash spells, and `None` where it spells none.
-pub fn escaped_character(text: &[char]) -> Option<(char, &[char])>
+pub(crate) fn escaped_character(text: &[char]) -> Option<(char, &[char])>
     ensures { MatchOption result (SpellsNoCharacter text.now) (λ r. EscapedCharacter text.now r.0 r.1.now) }
 {
     let Some((letter, rest)) = first(text) else {

@@ -5,14 +5,14 @@ ghost use Rattle.rx_grammar.specs.Groups.{is_name_start, IsName, opened};
 ghost use Rattle.rx_grammar.specs.Texts.{Begins};
 ghost use Rattle.rx_grammar.specs.Heads.{capture_of, NameOpening, NoNameOpening, IsFlagLetter, NoFlagLetter, FlagsAfter, NoFlagsAfter, FlagsChange, NoFlags, NoName, IsHead, NoHead};
 
-use crate::ast::Flag;
+use crate::flags::Flag;
 use crate::syntax::Config;
 use crate::texts::{CharacterTest, eat, first, split_front};
 use std::alloc::{AllocError, Global};
 
 /// What a group captures.
 #[derive(Debug, Drop)]
-pub enum Captures {
+pub(crate) enum Captures {
     /// The group has a number, and perhaps a name.
     Numbered(Option<Vec<char>>),
     /// The group has no number.
@@ -33,7 +33,7 @@ impl Captures {
 
 /// What a parenthesis begins.
 #[derive(Debug, Drop)]
-pub enum Head {
+pub(crate) enum Head {
     /// A setting, with what is set after it.
     Setting(Config),
     /// The head of a group, with what is set inside it and what it captures.
@@ -182,7 +182,7 @@ fn marked_head<'a>(
 }
 
 /// What a parenthesis begins, and `None` where the text doesn't begin with a setting or the head of a group.
-pub fn group_head<'a>(
+pub(crate) fn group_head<'a>(
     alloc: Global,
     text: &'a [char],
     config: &Config,

@@ -1,10 +1,11 @@
 //! What a pattern spells.
 
-ghost use Rattle.std.specs.Prelude.{◌≡◌, [], ◌∷◌, map, MatchOption};
-ghost use Rattle.rx_grammar.specs.Postorder.{own_names};
+ghost use Rattle.std.specs.Prelude.{◌≡◌, ◌≤◌, [], ◌∷◌, length, map, MatchOption};
+ghost use Rattle.rx_grammar.specs.Trees.{numbers_of};
+ghost use Rattle.rx_grammar.specs.Postorder.{own_names, own_groups, tree_of};
 ghost use Rattle.rx_grammar.specs.Nodes.{step_of, IsTree};
 
-use crate::sets::CharacterSet;
+use rx_sets::CharacterSet;
 use std::marker::Model;
 use std::rc::Rc;
 
@@ -65,6 +66,17 @@ impl Node {
             _ => None,
         }
     }
+
+    /// How many groups the node is by itself: one or none.
+    fn own_groups(&self) -> usize
+        ensures value { result ≡ own_groups (step_of self.now) }
+        ensures few { result ≤ 1 }
+    {
+        match self {
+            Node::Group(_, _) => 1,
+            _ => 0,
+        }
+    }
 }
 
 /// What a pattern spells: a tree, with nothing in it simplified. It comes from `parse` alone. Contracts see it as
@@ -94,6 +106,18 @@ impl Hir {
         ensures { map step_of result.now ≡ self.now }
     {
         &self.nodes
+    }
+
+    /// How many groups with a number there are: the greatest number of a group. The whole match, which is called
+    /// group 0 elsewhere, isn't counted.
+    pub fn group_count(&self) -> usize
+        ensures { result ≡ length (numbers_of (tree_of self.now)) }
+    {
+        let mut count = 0;
+        for node in &self.nodes {
+            count += node.own_groups();
+        }
+        count
     }
 }
 

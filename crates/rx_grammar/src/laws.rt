@@ -3,9 +3,14 @@
 
 ghost use Rattle.std.specs.Prelude.{ℕ, List};
 ghost use Rattle.rx_grammar.specs.Settings.{Settings};
-ghost use Rattle.rx_grammar.specs.Laws.{SpellsAtMostOne};
+ghost use Rattle.rx_grammar.specs.Laws.{SpellsAtMostOne, NumbersGroups};
 
 /// Under given settings a text spells at most one tree.
 pub fn spells_at_most_one()
     ensures { (text : List ℕ) (settings : Settings) → SpellsAtMostOne text settings }
+{}
+
+/// The groups of what a text spells have the numbers from 1 up, in the order in which they open.
+pub fn groups_are_numbered()
+    ensures { (text : List ℕ) (settings : Settings) → NumbersGroups text settings }
 {}

@@ -6,13 +6,13 @@ ghost use Rattle.rx_grammar.specs.Grammar.{is_literal, IsDotAllowed, Escape, Lea
 ghost use Rattle.rx_grammar.specs.Classes.{NoClass};
 ghost use Rattle.rx_grammar.specs.Leaves.{leaf_tree, ClassLeaf, NoEscape, NoLeaf};
 
-use crate::atoms::Atoms;
+use crate::atoms::{class_set, dot_set, literal_set};
 use crate::classes::{class, letter_named};
 use crate::escapes::escaped_character;
 use crate::hir::Look;
-use crate::sets::CharacterSet;
 use crate::syntax::Config;
 use crate::texts::first;
+use rx_sets::{Atoms, CharacterSet};
 use std::alloc::{AllocError, Global};
 use std::rc::Rc;
 
@@ -64,7 +64,7 @@ fn escape<'a>(
     ensures { IfOk result (λ found. MatchOption found (NoEscape config.now text.now) (λ r. Escape config.now text.now (leaf_tree r.0) r.1.now)) }
 {
     if let Some((c, rest)) = escaped_character(text) {
-        let set = atoms.literal(config, c)?;
+        let set = literal_set(atoms, config, c)?;
         return Ok(Some((LeafTree::Set(set), rest)));
     }
     let Some((letter, rest)) = first(text) else {
@@ -92,7 +92,7 @@ fn class_leaf<'a>(
     let Some(((negated, items), rest)) = class(alloc, text)? else {
         return Ok(None);
     };
-    let set = atoms.class(config, negated, &items)?;
+    let set = class_set(atoms, config, negated, &items)?;
     Ok(Some((LeafTree::Set(set), rest)))
 }
 
@@ -107,7 +107,7 @@ fn dot<'a>(
     if !is_dot_allowed(config) {
         return Ok(None);
     }
-    let set = atoms.dot(config)?;
+    let set = dot_set(atoms, config)?;
     Ok(Some((LeafTree::Set(set), rest)))
 }
 
@@ -124,7 +124,7 @@ fn literal<'a>(
     if !is_literal(c) {
         return Ok(None);
     }
-    let set = atoms.literal(config, c)?;
+    let set = literal_set(atoms, config, c)?;
     Ok(Some((LeafTree::Set(set), rest)))
 }
 

@@ -8,7 +8,6 @@ ghost use Rattle.rx_grammar.specs.Texts.{Begins};
 ghost use Rattle.rx_grammar.specs.Heads.{capture_of};
 ghost use Rattle.rx_grammar.specs.Standing.{start_of, opened_at, Stands, IsStanding, ItemRead, EndsLevel, IsLeafPlace, StepTaken, TextRead, IsFinished};
 
-use crate::atoms::Atoms;
 use crate::error::SyntaxError;
 use crate::groups::{Captures, Head, group_head};
 use crate::hir::{Hir, tree};
@@ -16,6 +15,7 @@ use crate::leaves::leaf;
 use crate::syntax::Config;
 use crate::texts::first;
 use crate::trees::{TreeStack, deeper};
+use rx_sets::Atoms;
 use std::alloc::{AllocError, Global};
 
 /// The heights at which the trees of a group begin, and those of its last branch, and how deep its items are.

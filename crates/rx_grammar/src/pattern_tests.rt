@@ -265,6 +265,20 @@ fn terminators(rt: HostRuntime) -> Result<(), Fail> {
     Ok(())
 }
 
+/// How many groups what a text spells has.
+fn groups(alloc: Global, text: &str) -> Result<usize, SyntaxError> {
+    Ok(parse(alloc, text, &Config::new())?.group_count())
+}
+
+#[test]
+fn counted_groups(rt: HostRuntime) -> Result<(), Fail> {
+    let alloc = rt.alloc();
+    assert!(rt; groups(alloc, "")? == 0);
+    assert!(rt; groups(alloc, "(?:a)(?i:b)(?i)")? == 0);
+    assert!(rt; groups(alloc, "((a)|(?<b>c)*)")? == 3);
+    Ok(())
+}
+
 #[test]
 fn memory(rt: HostRuntime) -> Result<(), Fail> {
     let alloc = rt.alloc();

@@ -26,7 +26,7 @@ fn number_of(digits: &[char]) -> Option<u32>
 }
 
 /// A number in braces, of at most 65,535. Zeros may stand before it.
-pub fn number(text: &[char]) -> Option<(u32, &[char])>
+pub(crate) fn number(text: &[char]) -> Option<(u32, &[char])>
     ensures { MatchOption result (NoNumber text.now) (λ r. Number text.now r.0 r.1.now) }
 {
     let (digits, rest) = split_front(text, CharacterTest::Digit);
@@ -40,7 +40,7 @@ pub fn number(text: &[char]) -> Option<(u32, &[char])>
 }
 
 /// How often something is taken: the least number of times, and the greatest if there is one.
-pub type Bounds = (u32, Option<u32>);
+pub(crate) type Bounds = (u32, Option<u32>);
 
 /// What stands in braces after `{`: `n}`, `n,}` or `n,m}`.
 fn count_in_braces(text: &[char]) -> Option<(Bounds, &[char])>
@@ -71,7 +71,7 @@ fn count_in_braces(text: &[char]) -> Option<(Bounds, &[char])>
 }
 
 /// `*`, `+`, `?`, `{n}`, `{n,}` or `{n,m}`, and `None` where the text begins with none of them.
-pub fn count(text: &[char]) -> Option<(Bounds, &[char])>
+pub(crate) fn count(text: &[char]) -> Option<(Bounds, &[char])>
     ensures { MatchOption result (NoCount text.now) (λ r. Count text.now r.0.0 r.0.1 r.1.now) }
 {
     let Some((sign, rest)) = first(text) else {
@@ -87,7 +87,7 @@ pub fn count(text: &[char]) -> Option<(Bounds, &[char])>
 }
 
 /// A count, and whether it is greedy: not with a `?` straight after it. `swap_greed` turns that round.
-pub fn postfix(text: &[char], swap_greed: bool) -> Option<(Repetition, &[char])>
+pub(crate) fn postfix(text: &[char], swap_greed: bool) -> Option<(Repetition, &[char])>
     ensures { MatchOption result (NoPostfix swap_greed text.now) (λ r. Postfix swap_greed text.now r.0 r.1.now) }
 {
     let Some(((min, max), rest)) = count(text) else {

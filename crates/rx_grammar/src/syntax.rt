@@ -3,7 +3,7 @@
 ghost use Rattle.std.specs.Prelude.{◌≡◌, if◌then◌else◌};
 ghost use Rattle.rx_grammar.specs.Settings.{default_settings, with_flag, with_flags};
 
-use crate::ast::Flag;
+use crate::flags::Flag;
 use crate::hir::Look;
 use std::marker::Model;
 

@@ -1,11 +1,13 @@
-//! Answers that are known from outside, each public function among them.
+//! Answers of the readers that are known from outside.
 
+use crate::atoms::dot_set;
 use crate::classes::{class, class_character, class_item, letter_class};
 use crate::escapes::{escaped_by, escaped_character};
 use crate::repetitions::{count, number, postfix};
 use crate::syntax::Config;
 use crate::texts::{CharacterTest, eat, first, split_front};
-use crate::{CharacterSet, ClassItem, ClassPerlKind, Range, ordinal};
+use crate::{ClassItem, ClassPerlKind, ordinal};
+use rx_sets::Atoms;
 use std::alloc::{AllocError, Global};
 use std::test::Fail;
 
@@ -147,44 +149,17 @@ fn parts(rt: HostRuntime) -> Result<(), Fail> {
     Ok(())
 }
 
-/// The set of these ranges of ordinals.
-fn set_of(alloc: Global, ranges: &[Range]) -> Result<CharacterSet, AllocError> {
-    CharacterSet::from_ranges(Vec::from_slice(alloc, ranges)?)
-}
-
 #[test]
-fn sets(rt: HostRuntime) -> Result<(), Fail> {
-    let alloc = rt.alloc();
-    let set = set_of(alloc, &[(5, 7), (0, 2), (3, 3), (9, 8), (6, 6)])?;
-    assert_eq!(rt; set.ranges(), [(0, 3), (5, 7)].as_slice());
-    assert_eq!(rt; set.contains(4), false);
-    assert_eq!(rt; set.contains(7), true);
-    assert_eq!(rt;
-        set.complement()?.ranges(),
-        [(4, 4), (8, 1_112_063)].as_slice()
-    );
-    assert_eq!(rt;
-        CharacterSet::empty(alloc).complement()?.ranges(),
-        [(0, 1_112_063)].as_slice()
-    );
-    assert_eq!(rt; ordinal('\u{D7FF}') + 1, ordinal('\u{E000}'));
-    Ok(())
-}
-
-// U+212A is the kelvin sign, and U+017F the long s.
-#[test]
-fn folding(rt: HostRuntime) -> Result<(), Fail> {
-    let alloc = rt.alloc();
-    let k = set_of(alloc, &[(0x6B, 0x6B)])?.closed_under_folding()?;
-    assert_eq!(rt;
-        k.ranges(),
-        [(0x4B, 0x4B), (0x6B, 0x6B), (0x212A, 0x212A)].as_slice()
-    );
-    let s = set_of(alloc, &[(0x73, 0x73)])?.closed_under_folding()?;
-    assert_eq!(rt;
-        s.ranges(),
-        [(0x53, 0x53), (0x73, 0x73), (0x17F, 0x17F)].as_slice()
-    );
+fn dots(rt: HostRuntime) -> Result<(), Fail> {
+    let atoms = Atoms::new(rt.alloc());
+    let folding = Config::new().case_insensitive(true);
+    let dot = dot_set(&atoms, &folding)?;
+    assert_eq!(rt; dot.ranges(), [(0, 9), (11, 1_112_063)].as_slice());
+    let any = dot_set(&atoms, &folding.clone()?.dot_matches_new_line(true))?;
+    assert_eq!(rt; any.ranges(), [(0, 1_112_063)].as_slice());
+    let letters = dot_set(&atoms, &folding.line_terminator(b'k'))?;
+    assert_eq!(rt; letters.contains(ordinal('K')), true);
+    assert_eq!(rt; letters.contains(ordinal('k')), false);
     Ok(())
 }
 

@@ -6,7 +6,7 @@ ghost use Rattle.rx_grammar.specs.Texts.{passes, Begins, SplitsFront};
 
 /// A test of a character.
 #[derive(Debug, Clone, Copy, PartialEq, Eq)]
-pub enum CharacterTest {
+pub(crate) enum CharacterTest {
     /// 0 to 9.
     Digit,
     /// 0 to 9, a to f and A to F.
@@ -17,7 +17,7 @@ pub enum CharacterTest {
 
 impl CharacterTest {
     /// Whether the character passes.
-    pub fn passes(self, c: char) -> bool
+    pub(crate) fn passes(self, c: char) -> bool
         ensures { result ≡ passes self c }
     {
         match self {
@@ -29,7 +29,7 @@ impl CharacterTest {
 }
 
 /// The first character and the others, and `None` of the empty text.
-pub fn first(text: &[char]) -> Option<(char, &[char])>
+pub(crate) fn first(text: &[char]) -> Option<(char, &[char])>
     ensures { MatchOption result (text.now ≡ []) (λ r. text.now ≡ r.0 ∷ r.1.now) }
 {
     let (first, rest) = text.split_first()?;
@@ -37,7 +37,7 @@ pub fn first(text: &[char]) -> Option<(char, &[char])>
 }
 
 /// What follows `c`, and `None` where the text doesn't begin with it.
-pub fn eat(text: &[char], c: char) -> Option<&[char]>
+pub(crate) fn eat(text: &[char], c: char) -> Option<&[char]>
     ensures { MatchOption result (Begins c text.now → ⊥) (λ rest. text.now ≡ c ∷ rest.now) }
 {
     let (found, rest) = first(text)?;
@@ -45,7 +45,7 @@ pub fn eat(text: &[char], c: char) -> Option<&[char]>
 }
 
 /// The longest front of the text whose characters pass the test, and the rest.
-pub fn split_front(text: &[char], test: CharacterTest) -> (&[char], &[char])
+pub(crate) fn split_front(text: &[char], test: CharacterTest) -> (&[char], &[char])
     ensures { SplitsFront test text.now result.0.now result.1.now }
 {
     for (i, c) in text.iter().enumerate() {

@@ -1,6 +1,6 @@
 use denote.Enum.Bare.{same_true, same_false}
 use Rattle.std.proofs.Common.{rules, arith}
-use Rattle.rx_grammar.specs.contracts.ast.Flag.{the_type}
+use Rattle.rx_grammar.specs.contracts.flags.Flag.{the_type}
 use Rattle.rx_grammar.proofs.HeadLaws.{ReadFlags-more, ReadFlags-end, ReadFlags-twice}
 use Rattle.rx_grammar.proofs.groups.flag_letters.Goals as goal
 

@@ -1,8 +1,7 @@
 use Rattle.std.proofs.Common.{◌∷◌, sym, ap, subst, ◌∙◌}
 use Rattle.rx_grammar.specs.Trees.{look_at}
 use Rattle.rx_grammar.specs.Grammar.{Leaf, caret, dollar, escape}
-use Rattle.rx_grammar.proofs.SetLemmas.{IfOk-map}
-use Rattle.rx_grammar.proofs.ReaderLemmas.{MatchOption-map}
+use Rattle.rx_grammar.proofs.ReaderLemmas.{IfOk-map, MatchOption-map}
 use Rattle.rx_grammar.proofs.LeafLaws.{no_escape_leaf, no_class_leaf, class_leaf}
 use Rattle.rx_grammar.proofs.leaves.leaf.Goals as goal
 

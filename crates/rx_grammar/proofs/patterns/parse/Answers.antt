@@ -3,7 +3,7 @@ use Rattle.std.proofs.lemmas.Str.{chars_from_encodes}
 use Rattle.rx_grammar.specs.Postorder.{tree_of}
 use Rattle.rx_grammar.specs.Grammar.{Spells, SpellsNothing}
 use Rattle.rx_grammar.specs.Stacks.{IsRefusal}
-use Rattle.rx_grammar.proofs.SetLemmas.{IfOk-map}
+use Rattle.rx_grammar.proofs.ReaderLemmas.{IfOk-map}
 use Rattle.rx_grammar.proofs.StandingLaws.{result_map}
 use Rattle.rx_grammar.proofs.patterns.parse.Goals as goal
 

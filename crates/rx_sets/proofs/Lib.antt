@@ -1,0 +1,6 @@
+pub mod SetLemmas
+pub mod RangeLemmas
+pub mod FoldLemmas
+pub mod UnionLemmas
+pub mod PairLemmas
+pub mod LetterLemmas
