@@ -11,7 +11,8 @@ use std::{env, io};
 
 /// `parse PATTERN` and `fold PATTERN` write the tree of a pattern, `fold` where letters match in each
 /// case, or why there is none. `build PART..` appends the parts to a builder and writes the rope: a
-/// line for each part that was refused, then each chunk's length and all of its text.
+/// line for each part that was refused, then each chunk's length and all of its text. `chunks TEXT`
+/// makes a rope of the parts of a text between its `|`, and writes it likewise.
 fn main(rt: HostRuntime) -> io::Result<()> {
     let mut args = env::args(&rt)?.skip(1);
     let Some(mode) = args.next() else {
@@ -20,6 +21,7 @@ fn main(rt: HostRuntime) -> io::Result<()> {
     match mode.as_str() {
         "build" => build(&rt, args),
         mode => match args.next() {
+            Some(text) if mode == "chunks" => gather(&rt, text.as_str()),
             Some(pattern) => tell_tree(&rt, mode == "fold", pattern.as_str()),
             None => Ok(()),
         },
@@ -49,6 +51,14 @@ fn build(rt: &HostRuntime, parts: Skip<Args>) -> io::Result<()> {
         number += 1;
     }
     match builder.finish() {
+        Ok(rope) => tell_rope(rt, &rope),
+        Err(_) => println!(rt; "no memory"),
+    }
+}
+
+/// Makes a rope of the parts of a text.
+fn gather(rt: &HostRuntime, text: &str) -> io::Result<()> {
+    match Rope::from_chunks(rt.alloc(), text.split('|')) {
         Ok(rope) => tell_rope(rt, &rope),
         Err(_) => println!(rt; "no memory"),
     }
