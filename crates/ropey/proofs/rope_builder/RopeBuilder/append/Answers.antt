@@ -1,4 +1,4 @@
-use Rattle.std.proofs.Common.{◌≡◌, ◌+◌, ◌^◌, ◌<◌, ◌++◌, length, ap, sym, ◌∙◌, refl, arith, rules}
+use Rattle.std.proofs.Common.{◌≡◌, ◌+◌, length, ap, sym, ◌∙◌, refl, arith}
 use Rattle.std.specs.Str.{chars}
 use Rattle.std.proofs.lemmas.Str.{encodes-chars}
 use Rattle.str_indices.specs.Laws.{byte_len}
@@ -14,5 +14,5 @@ pub invariant_of-self-2 : goal.invariant_of-self-2
 invariant_of-self-2 c =
     let text = c.args.text.now in
     let whole : byte_len c.append.new.self ≡ c.self.inside.len + length text =
-        ap byte_len c.in_ok-append.ensures.text ∙ byte_len-append c.self.inside.text (chars text) ∙ omega (arith, c.self.invariant.0, ap length (encodes-chars text c.utf8.text)) in
+    ap byte_len c.in_ok-append.ensures.text ∙ byte_len-append c.self.inside.text (chars text) ∙ omega (arith, c.self.invariant.0, ap length (encodes-chars text c.utf8.text)) in
     (sym whole, omega (arith, c.if-text-self.false, c.self.invariant.1))
