@@ -1,5 +1,5 @@
 -- The numbers of the groups of a tree, and how many groups there are among its nodes.
-use Rattle.std.proofs.Common.{◌≡◌, ℕ, zero, suc, Bool, ◌+◌, ◌≤◌, ◌<◌, List, [], ◌∷◌, ◌++◌, length, get_or, take, drop, map, reverse, append-nil, length-append, refl, sym, ap, subst, ◌∙◌, arith}
+use Rattle.std.proofs.Common.{◌≡◌, ℕ, zero, suc, Bool, ◌+◌, ◌<◌, List, [], ◌∷◌, ◌++◌, length, get_or, take, drop, map, reverse, append-nil, length-append, refl, sym, ap, subst, ◌∙◌, arith}
 use Rattle.std.specs.List.{flat_map}
 use Rattle.std.proofs.lemmas.List.{reverse-append, take-append-drop, map_more}
 use Rattle.rx_grammar.specs.declared.hir.Node.{Node}
@@ -8,7 +8,7 @@ use Rattle.rx_grammar.specs.Trees.{Tree, in_a_row, concat_of, alternation_of, nu
 use Rattle.rx_grammar.specs.Postorder.{Step, an_empty, a_set, a_look, a_group, a_concat, an_alternation, a_repetition, alternate, after_node, after_nodes, trees_of, tree_of, own_groups}
 use Rattle.rx_grammar.specs.Nodes.{step_of}
 use Rattle.rx_grammar.specs.Repetitions.{Postfixes, ended as no_more, further}
-use Rattle.rx_grammar.specs.Groups.{Capture, numbered, unnumbered}
+use Rattle.rx_grammar.specs.Groups.{numbered, unnumbered}
 use Rattle.rx_grammar.specs.Grammar.{Escape, character, letter_class, look, Leaf, literal, dot, caret, dollar, escape, class, Atom, leaf, group, Items, ended, setting, item, Branches, last, bar, Spells}
 
 all_numbers : (first second : Tree) (others : List Tree) → all_numbers_of (in_a_row first second others) ≡ flat_map numbers_of (first ∷ second ∷ others)
