@@ -48,7 +48,7 @@ fn build(rt: &HostRuntime, parts: Skip<Args>) -> io::Result<()> {
         if builder.append(part.as_str()).is_err() {
             println!(rt; "part {number} is refused")?;
         }
-        number += 1;
+        number = number.saturating_add(1);
     }
     match builder.finish() {
         Ok(rope) => tell_rope(rt, &rope),
@@ -66,11 +66,17 @@ fn gather(rt: &HostRuntime, text: &str) -> io::Result<()> {
 
 /// Writes a rope chunk by chunk.
 fn tell_rope(rt: &HostRuntime, rope: &Rope) -> io::Result<()> {
-    let mut at = 0;
-    while at < rope.len_bytes() {
-        let (chunk, ..) = rope.chunk_at_byte(at);
+    let len = rope.len_bytes();
+    let mut at: usize = 0;
+    for _ in 0..len {
+        let Some((chunk, ..)) = rope.get_chunk_at_byte(at) else {
+            break;
+        };
         println!(rt; "{} {}", chunk.len(), chunk)?;
-        at += chunk.len();
+        at = at.saturating_add(chunk.len());
+        if at >= len {
+            break;
+        }
     }
-    println!(rt; "{} bytes", at)
+    println!(rt; "{at} bytes")
 }
