@@ -1,5 +1,5 @@
-//! A program for tests in which memory is refused. It parses a pattern or builds a rope, as its
-//! arguments say, and tells what came of it.
+//! A program for tests, above all those in which memory is refused. It parses a pattern or builds a
+//! rope, as its arguments say, and tells what came of it.
 #![tactic(auto)]
 
 use ropey::{Rope, RopeBuilder};
