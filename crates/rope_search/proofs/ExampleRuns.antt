@@ -7,7 +7,7 @@ use Rattle.rope_search_io.specs.declared.faults.Fault.{Fault}
 use Rattle.rope_search_io.specs.declared.faults.Fault.TheVariants.{Nothing, Utf8, Pattern, Limit, Size, Memory}
 use Rattle.rope_search.specs.declared.commands.Reply.TheVariants.{Done, Print}
 use Rattle.rope_search.specs.declared.runs.Ended.TheVariants.{Input, Command, Cut}
-use Rattle.rope_search.specs.Order.{Order, SetText, PrintText, ForkBuffer, SetPattern, DropPattern, ListMatches, UseBuffer}
+use Rattle.rope_search.specs.Order.{Order, SetText, PrintText, UseBuffer}
 use Rattle.rope_search.specs.Session.{first}
 use Rattle.rope_search.specs.Step.{Refuses, Accepts}
 use Rattle.rope_search.specs.Reads.{IsNumber, IsLine, Spells, Ends, Reads}
@@ -53,13 +53,8 @@ pub Ends-cr : Ends (codes "print\r\n") Command
 Ends-cr = inl (record { line = codes "print\r"; more = []; no_lf = omega arith; short = omega arith; whole = refl; no_command = none })
   where
     none : (o : Order) → IsLine o (codes "print\r") → ⊥
-    none (SetText payload) h = omega (arith, IsLine-second (SetText payload) (codes "print\r") h)
     none PrintText h = omega (arith, ap length h)
-    none ForkBuffer h = omega (arith, IsLine-second ForkBuffer (codes "print\r") h)
-    none (SetPattern payload) h = omega (arith, IsLine-second (SetPattern payload) (codes "print\r") h)
-    none DropPattern h = omega (arith, IsLine-second DropPattern (codes "print\r") h)
-    none ListMatches h = omega (arith, IsLine-second ListMatches (codes "print\r") h)
-    none (UseBuffer k) h = omega (arith, IsLine-second (UseBuffer k) (codes "print\r") h)
+    none o h = omega (arith, IsLine-second o (codes "print\r") h)
 
 -- a command's line without its LF is cut off
 pub Ends-part : Ends (codes "print") Cut
@@ -89,10 +84,10 @@ pub Run-hi : (limit : ℕ) → 2 ≤ limit → Run limit first (SetText (codes "
 unfolding digits encode
 Run-hi limit enough =
     Run-append limit first (session_of (codes "hi")) (session_of (codes "hi")) (SetText (codes "hi") ∷ []) (PrintText ∷ []) (codes "ok\n") (codes "text 2\nhi\n") 0 0
-    (Run-one limit first (session_of (codes "hi")) (SetText (codes "hi")) (Ok Done) 0
-    (accepts, (codes "hi", record { scalars = refl; spelled = refl }, refl)) (inr (accepts, refl)))
-    (Run-one limit (session_of (codes "hi")) (session_of (codes "hi")) PrintText (Ok Print) 0
-    (accepted_print limit (session_of (codes "hi")), refl) (inr (accepted_print limit (session_of (codes "hi")), refl)))
+    (Run-one limit first (session_of (codes "hi")) (SetText (codes "hi")) (Ok Done) (codes "ok\n") 0
+    (accepts, (codes "hi", record { scalars = refl; spelled = refl }, refl)) (inr (accepts, refl)) (record { rows = []; listed = refl; shown = refl }))
+    (Run-one limit (session_of (codes "hi")) (session_of (codes "hi")) PrintText (Ok Print) (codes "text 2\nhi\n") 0
+    (accepted_print limit (session_of (codes "hi")), refl) (inr (accepted_print limit (session_of (codes "hi")), refl)) (record { rows = []; listed = refl; shown = refl }))
   where
     accepts : Accepts limit first (SetText (codes "hi"))
     accepts = accepted_text limit first (codes "hi") IsUtf8-hi (omega arith)

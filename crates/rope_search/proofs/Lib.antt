@@ -16,3 +16,4 @@ pub mod TextLemmas
 pub mod TurnLemmas
 pub mod ExampleRuns
 pub mod PrintLemmas
+pub mod ReplyLemmas

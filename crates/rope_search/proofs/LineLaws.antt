@@ -135,12 +135,9 @@ second (UseBuffer k) = 115
 
 pub IsLine-second : (o : Order) (line : List ℕ) → IsLine o line → get_or line 1 0 ≡ second o
 IsLine-second (SetText payload) line h = ap (λ l. get_or l 1 0) h.2
-IsLine-second PrintText line h = ap (λ l. get_or l 1 0) h
-IsLine-second ForkBuffer line h = ap (λ l. get_or l 1 0) h
 IsLine-second (SetPattern payload) line h = ap (λ l. get_or l 1 0) h.2
-IsLine-second DropPattern line h = ap (λ l. get_or l 1 0) h
-IsLine-second ListMatches line h = ap (λ l. get_or l 1 0) h
 IsLine-second (UseBuffer k) line h = ap (λ l. get_or l 1 0) h.2
+IsLine-second o line h = ap (λ l. get_or l 1 0) h
 
 -- behind one word one line has one number
 pub IsWorded-one : (word line : List ℕ) (m n : ℕ) → IsWorded word line m → IsWorded word line n → m ≡ n
@@ -184,18 +181,12 @@ HasNoLf-worded word line n clean h = subst HasNoLf (sym h.2) (HasNoLf-append wor
 
 pub HasNoLf-line : (o : Order) (line : List ℕ) → IsLine o line → HasNoLf line
 HasNoLf-line (SetText payload) line h = HasNoLf-worded (codes "text ") line (length payload) (omega arith) h
-HasNoLf-line PrintText line h = subst HasNoLf (sym h) (omega arith)
-HasNoLf-line ForkBuffer line h = subst HasNoLf (sym h) (omega arith)
 HasNoLf-line (SetPattern payload) line h = HasNoLf-worded (codes "pattern ") line (length payload) (omega arith) h
-HasNoLf-line DropPattern line h = subst HasNoLf (sym h) (omega arith)
-HasNoLf-line ListMatches line h = subst HasNoLf (sym h) (omega arith)
 HasNoLf-line (UseBuffer k) line h = HasNoLf-worded (codes "use ") line k (omega arith) h
+HasNoLf-line o line h = subst HasNoLf (sym h) (omega arith)
 
 pub length-line_le : (o : Order) (line : List ℕ) → IsLine o line → length line ≤ 28
 length-line_le (SetText payload) line h = omega (arith, ap length h.2, h.1.few)
-length-line_le PrintText line h = omega (arith, ap length h)
-length-line_le ForkBuffer line h = omega (arith, ap length h)
 length-line_le (SetPattern payload) line h = omega (arith, ap length h.2, h.1.few)
-length-line_le DropPattern line h = omega (arith, ap length h)
-length-line_le ListMatches line h = omega (arith, ap length h)
 length-line_le (UseBuffer k) line h = omega (arith, ap length h.2, h.1.few)
+length-line_le o line h = omega (arith, ap length h)

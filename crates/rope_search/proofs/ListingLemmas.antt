@@ -6,7 +6,7 @@ use Rattle.std.proofs.lemmas.List.Sums.{sum_by_more}
 use Rattle.rope_search_reports.specs.Report.{match_count}
 use Rattle.rope_search.specs.Shows.{shown_match, shown_rows, shown_number, shown_report}
 use Rattle.rope_search_io.specs.Sources.{SinkState}
-use Rattle.rope_search_io.specs.WriteBehind.{Writes, WritesUntil, Puts}
+use Rattle.rope_search_io.specs.WriteBuffer.{Writes, WritesUntil, Puts}
 use Rattle.rope_search_io.specs.declared.faults.Broken.{Broken}
 use Rattle.rope_search.proofs.PutLemmas.{Puts-trans, Writes-put, WritesUntil-put}
 use Rattle.std.specs.Prelude.{Result, Ok, Err, MatchResult}

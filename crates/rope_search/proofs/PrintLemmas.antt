@@ -9,7 +9,7 @@ use Rattle.ropey.specs.Chunks.{IsCutting}
 use Rattle.ropey.specs.Chunks.{text_of, ShowsChunk}
 use Rattle.ropey.specs.Laws.{NextChunkFollows, IsNextChunk}
 use Rattle.rope_search_io.specs.Sources.{SinkState}
-use Rattle.rope_search_io.specs.WriteBehind.{Writes, WritesUntil, Puts}
+use Rattle.rope_search_io.specs.WriteBuffer.{Writes, WritesUntil, Puts}
 use Rattle.rope_search_io.specs.declared.faults.Broken.{Broken}
 use Rattle.rope_search_reports.specs.Text.{bytes_of}
 use Rattle.rope_search.specs.Shows.{shown_text}

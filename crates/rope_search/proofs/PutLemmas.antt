@@ -2,7 +2,7 @@
 use Rattle.std.proofs.Common.{◌≡◌, ℕ, List, [], ◌++◌, ap, sym, subst, ◌∙◌, append_assoc, append-nil, refl, arith}
 use Rattle.std.proofs.KnownBytes.{Appends-trans, Appends-nil}
 use Rattle.rope_search_io.specs.Sources.{SinkState}
-use Rattle.rope_search_io.specs.WriteBehind.{Writes, WritesUntil, Puts}
+use Rattle.rope_search_io.specs.WriteBuffer.{Writes, WritesUntil, Puts}
 use Rattle.rope_search_io.specs.declared.faults.Broken.{Broken}
 use Rattle.rope_search_io.specs.declared.faults.Broken.TheVariants.{Read, Write, Turns, Memory}
 

@@ -5,7 +5,7 @@ use Rattle.std.proofs.lemmas.Bool.{cases_lt, cases_eq}
 use Rattle.std.proofs.lemmas.List.{length-take-le}
 use Rattle.rope_search.specs.declared.runs.Ended.{Ended}
 use Rattle.rope_search.specs.declared.runs.Ended.TheVariants.{Input, Command, Cut}
-use Rattle.rope_search.specs.Order.{Order, SetText, PrintText, ForkBuffer, SetPattern, DropPattern, ListMatches, UseBuffer}
+use Rattle.rope_search.specs.Order.{Order, SetText, SetPattern}
 use Rattle.rope_search.specs.Reads.{IsNumber, payload_of, IsLine, Spells, SpellAll, HasNoLf, Ends, Reads}
 use Rattle.rope_search.proofs.LineLaws.{line_choice, IsLine-one, IsLine-same, HasNoLf-line, length-line_le}
 
@@ -100,13 +100,9 @@ pub line_with : (o : Order) (line more : List ℕ) → IsLine o line → length 
     → (p : Order) × IsLine p line × (payload_of p ≡ take (length (payload_of o)) more)
 line_with (SetText payload) line more is_line enough =
     (SetText (take (length payload) more), (is_line.0, subst (λ n. IsNumber is_line.0 n) (sym (length-take-le (length payload) more enough)) is_line.1, is_line.2), refl)
-line_with PrintText line more is_line enough = (PrintText, is_line, refl)
-line_with ForkBuffer line more is_line enough = (ForkBuffer, is_line, refl)
 line_with (SetPattern payload) line more is_line enough =
     (SetPattern (take (length payload) more), (is_line.0, subst (λ n. IsNumber is_line.0 n) (sym (length-take-le (length payload) more enough)) is_line.1, is_line.2), refl)
-line_with DropPattern line more is_line enough = (DropPattern, is_line, refl)
-line_with ListMatches line more is_line enough = (ListMatches, is_line, refl)
-line_with (UseBuffer k) line more is_line enough = (UseBuffer k, is_line, refl)
+line_with o line more is_line enough = (o, is_line, refl)
 
 -- ---- endings
 

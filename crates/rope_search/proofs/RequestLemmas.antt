@@ -1,65 +1,63 @@
 -- A command's line and what follows it, read one after the other.
-use Rattle.std.proofs.Common.{◌≡◌, ◌↔◌, ℕ, ◌<◌, List, [], ◌∷◌, ◌++◌, length, replicate, Some, Result, Ok, Err, refl, sym, subst, inr, append_assoc, arith}
+use Rattle.std.proofs.Common.{◌≡◌, ◌↔◌, ℕ, ◌<◌, List, [], ◌∷◌, ◌++◌, length, replicate, Some, Result, Ok, Err, refl, sym, ◌∙◌, subst, inr, append_assoc, arith}
 use Rattle.std.proofs.lemmas.List.{length-replicate}
 use Rattle.rope_search_io.specs.declared.faults.Broken.{Broken}
 use Rattle.rope_search_io.specs.Sources.{SourceState}
-use Rattle.rope_search_io.specs.ReadAhead.{Ahead, Takes}
-use Rattle.rope_search.specs.declared.headers.Header.{Header}
-use Rattle.rope_search.specs.declared.headers.Header.TheVariants.{Text, Pattern, Use}
+use Rattle.rope_search_io.specs.ReadBuffer.{Ahead, Takes}
+use Rattle.rope_search.specs.declared.commands.CommandOf.{CommandOf}
 use Rattle.rope_search.specs.declared.payloads.Collected.{Collected}
-use Rattle.rope_search.specs.declared.requests.Asked.TheVariants as asked
 use Rattle.rope_search.specs.declared.requests.Request.{Request}
 use Rattle.rope_search.specs.declared.requests.Request.TheVariants.{Given, End}
 use Rattle.rope_search.specs.declared.runs.Ended.TheVariants.{Input, Command, Cut}
-use Rattle.rope_search.specs.Order.{Order, SetText, SetPattern, UseBuffer}
-use Rattle.rope_search.specs.Pattern.{pattern_limit}
+use Rattle.rope_search.specs.Order.{Order, SetText, PrintText, ForkBuffer, SetPattern, DropPattern, ListMatches, UseBuffer}
+use Rattle.rope_search.specs.Stands.{limit_on}
 use Rattle.rope_search.specs.Header.{IsHeaderOf}
 use Rattle.rope_search.specs.Reads.{IsLine, payload_of}
 use Rattle.rope_search.specs.Requests.{Collects, TakesCollected, TakesRestOf, TakesPartOf, TakesRest, TakesRequest}
-use Rattle.rope_search.proofs.TakesLemmas.{Takes-nil, Takes-trans, TakesLast-after, TakesUntil-after}
+use Rattle.rope_search.proofs.TakesLemmas.{Takes-trans, TakesLast-after, TakesUntil-after}
+
+-- this many bytes are the payload of each command with this header
+abbrev pub HasPayload : CommandOf ℕ → ℕ → Type 0
+HasPayload header len = (order : Order) → IsHeaderOf header order → length (payload_of order) ≡ len
+
+no_bytes : (bytes : List ℕ) → length bytes ≡ 0 → [] ≡ bytes
+no_bytes [] none = refl
+no_bytes (b ∷ bytes) none = absurd (omega arith)
+
+-- and of one of them, whichever bytes they are
+pub order_for : (header : CommandOf ℕ) (len : ℕ) (bytes : List ℕ) → HasPayload header len → length bytes ≡ len
+    → (order : Order) × IsHeaderOf header order × (payload_of order ≡ bytes)
+order_for (SetText n) len bytes has is = (SetText bytes, is ∙ sym (has (SetText (replicate n 0)) (length-replicate n 0)) ∙ length-replicate n 0, refl)
+order_for PrintText len bytes has is = (PrintText, tt, no_bytes bytes (is ∙ sym (has PrintText tt)))
+order_for ForkBuffer len bytes has is = (ForkBuffer, tt, no_bytes bytes (is ∙ sym (has ForkBuffer tt)))
+order_for (SetPattern n) len bytes has is = (SetPattern bytes, is ∙ sym (has (SetPattern (replicate n 0)) (length-replicate n 0)) ∙ length-replicate n 0, refl)
+order_for DropPattern len bytes has is = (DropPattern, tt, no_bytes bytes (is ∙ sym (has DropPattern tt)))
+order_for ListMatches len bytes has is = (ListMatches, tt, no_bytes bytes (is ∙ sym (has ListMatches tt)))
+order_for (UseBuffer k) len bytes has is = (UseBuffer k, refl, no_bytes bytes (is ∙ sym (has (UseBuffer k) refl)))
 
 -- a payload that was read whole
-pub TakesRest-text : (limit len : ℕ) (kept : Collected) (old new : Ahead) (s t : SourceState)
-    → TakesCollected (Ok (Some kept)) limit len old new s t → TakesRestOf limit (Text len) (asked.Text kept) old new s t
-TakesRest-text limit len kept old new s t h =
-    record { order = SetText h.0; of_header = h.1; is = subst (λ n. Collects limit n kept h.0) (sym h.1) h.2; taken = h.3 }
-
-pub TakesRest-pattern : (limit len : ℕ) (kept : Collected) (old new : Ahead) (s t : SourceState)
-    → TakesCollected (Ok (Some kept)) pattern_limit len old new s t → TakesRestOf limit (Pattern len) (asked.Pattern kept) old new s t
-TakesRest-pattern limit len kept old new s t h =
-    record { order = SetPattern h.0; of_header = h.1; is = subst (λ n. Collects pattern_limit n kept h.0) (sym h.1) h.2; taken = h.3 }
+pub TakesRest-whole : (limit len : ℕ) (header : CommandOf ℕ) (kept : Collected) (old new : Ahead) (s t : SourceState) → HasPayload header len
+    → TakesCollected (Ok (Some kept)) (limit_on header limit) len old new s t → TakesRestOf limit header header kept old new s t
+TakesRest-whole limit len header kept old new s t has h =
+    let o = order_for header len h.0 has h.1 in
+    let payload : Collects (limit_on header limit) (length (payload_of o.0)) kept (payload_of o.0) =
+    subst (λ bs. Collects (limit_on header limit) (length bs) kept bs) (sym o.2) (subst (λ n. Collects (limit_on header limit) n kept h.0) (sym h.1) h.2) in
+    record { order = o.0; of_header = o.1; is = record { of_header = o.1; payload = payload }; taken = subst (Takes old new s t) (sym o.2) h.3 }
 
 -- a payload that was read in part
-pub text_part : (len : ℕ) (Taken : List ℕ → Type 0) → (bytes : List ℕ) × (length bytes < len) × Taken bytes → TakesPartOf (Text len) Taken
-text_part len Taken h = record {
-  order = SetText (replicate len 0);
-  of_header = length-replicate {A = ℕ} len 0;
-  part = h.0;
-  short = omega (arith, h.1, length-replicate {A = ℕ} len 0);
-  taken = h.2;
-}
-
-pub pattern_part : (len : ℕ) (Taken : List ℕ → Type 0) → (bytes : List ℕ) × (length bytes < len) × Taken bytes → TakesPartOf (Pattern len) Taken
-pattern_part len Taken h = record {
-  order = SetPattern (replicate len 0);
-  of_header = length-replicate {A = ℕ} len 0;
-  part = h.0;
-  short = omega (arith, h.1, length-replicate {A = ℕ} len 0);
-  taken = h.2;
-}
-
--- a command with no payload
-pub TakesRest-use : (limit k : ℕ) (a : Ahead) (s : SourceState) → TakesRestOf limit (Use k) (asked.Use k) a a s s
-TakesRest-use limit k a s = record { order = UseBuffer k; of_header = refl; is = refl; taken = Takes-nil a s }
+pub TakesPart-of : (header : CommandOf ℕ) (len : ℕ) (Taken : List ℕ → Type 0) → HasPayload header len → (bytes : List ℕ) × (length bytes < len) × Taken bytes → TakesPartOf header Taken
+TakesPart-of header len Taken has h =
+    let o = order_for header len (replicate len 0) has (length-replicate len 0) in
+    record { order = o.0; of_header = o.1; part = h.0; short = omega (arith, h.1, has o.0 o.1); taken = h.2 }
 
 -- the bytes of a line, its LF, and what follows
 line_then : (line rest : List ℕ) → (line ++ 10 ∷ []) ++ rest ≡ line ++ 10 ∷ rest
 line_then line rest = append_assoc line (10 ∷ []) rest
 
 -- a command's line, and then what follows it
-pub TakesRequest-after : (limit : ℕ) (header : Header) (line : List ℕ) (r : Result Request Broken) (a b c : Ahead) (s t u : SourceState)
+pub TakesRequest-after : (limit : ℕ) (header : CommandOf ℕ) (line : List ℕ) (r : Result Request Broken) (a b c : Ahead) (s t u : SourceState)
     → ((o : Order) → IsLine o line ↔ IsHeaderOf header o) → Takes a b s t (line ++ 10 ∷ []) → TakesRest limit header r b c t u → TakesRequest limit r a c s u
-TakesRequest-after limit header line (Ok (Given asked)) a b c s t u told p q = record {
+TakesRequest-after limit header line (Ok (Given given kept)) a b c s t u told p q = record {
   order = q.order;
   bytes = (line ++ 10 ∷ []) ++ payload_of q.order;
   spells = record { line = line; is_line = (told q.order).1 q.of_header; whole = line_then line (payload_of q.order) };

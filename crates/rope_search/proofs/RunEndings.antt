@@ -5,13 +5,13 @@ use Rattle.std.specs.Io.KnownBytes.{Appends, Consumes, prepend_known, IsAtEnd}
 use Rattle.rope_search_io.specs.declared.faults.Broken.{Broken}
 use Rattle.rope_search_io.specs.declared.faults.Broken.TheVariants.{Read, Write, Turns, Memory}
 use Rattle.rope_search_io.specs.Sources.{SourceState, SinkState}
-use Rattle.rope_search_io.specs.ReadAhead.{to_come, most_to_come}
-use Rattle.rope_search_io.specs.WriteBehind.{Writes, WritesFront}
+use Rattle.rope_search_io.specs.ReadBuffer.{to_come, most_to_come}
+use Rattle.rope_search_io.specs.WriteBuffer.{Writes, WritesFront}
 use Rattle.rope_search.specs.declared.runs.Ended.{Ended}
 use Rattle.rope_search.specs.declared.runs.Ended.TheVariants.{Input, Command, Cut}
 use Rattle.rope_search_reports.specs.Ticks.{Ticks}
 use Rattle.rope_search.specs.Session.{first}
-use Rattle.rope_search.specs.Shows.{shows, closing}
+use Rattle.rope_search.specs.Shows.{closing}
 use Rattle.rope_search.specs.Reads.{Reads, Ends, payload_of}
 use Rattle.rope_search.specs.Answers.{Answers}
 use Rattle.rope_search.specs.Requests.{TakesEnding, IsUnfinished}
@@ -185,9 +185,9 @@ cut_short : (limit : ℕ) (source : SourceState) (sink : SinkState) (ticks : Tic
 cut_short limit source sink ticks mid new so turned =
     let bytes = so.bytes ++ turned.bytes in
     let orders = so.orders ++ turned.order ∷ [] in
-    let shown = shows new.session turned.answer in
+    let shown = turned.reply.bytes in
     let spells = SpellAll-append so.orders (turned.order ∷ []) so.bytes turned.bytes so.spells (SpellAll-one turned.order turned.bytes turned.spells) in
-    let run = Run-push limit first mid.session new.session so.orders turned.order so.out so.cost turned.cost turned.answer so.run turned.step turned.costs in
+    let run = Run-push limit first mid.session new.session so.orders turned.order so.out so.cost turned.cost turned.answer shown so.run turned.step turned.costs turned.reply.shows in
     let ahead = reads_exist new.ahead.bytes in
     let later = run_exists limit new.session ahead.0 in
     record {
@@ -198,19 +198,19 @@ cut_short limit source sink ticks mid new so turned =
       cost = (so.cost + turned.cost) + later.1;
       last = later.2;
       line = [];
-      output = so.out ++ turned.written.front;
-      lost = turned.written.lost ++ later.0;
+      output = so.out ++ turned.reply.written.front;
+      lost = turned.reply.written.lost ++ later.0;
       read = consumed_left limit source sink ticks mid new so turned.bytes turned.taken.consumed;
-      written = Appends-trans sink.held mid.sink.held new.sink.held so.out turned.written.front so.written.appended turned.written.appended;
+      written = Appends-trans sink.held mid.sink.held new.sink.held so.out turned.reply.written.front so.written.appended turned.reply.written.appended;
       reads = Reads-after orders ahead.0 ahead.1 bytes new.ahead.bytes spells ahead.2;
       run = Run-append limit first new.session later.2 orders ahead.0 (so.out ++ shown) later.0 (so.cost + turned.cost) later.1 run later.3;
       met = inl refl;
-      front = append-nil ((so.out ++ shown) ++ later.0) ∙ ap (λ l. (so.out ++ l) ++ later.0) turned.written.split
-          ∙ ap (λ l. l ++ later.0) (sym (append_assoc so.out turned.written.front turned.written.lost)) ∙ append_assoc (so.out ++ turned.written.front) turned.written.lost later.0;
+      front = append-nil ((so.out ++ shown) ++ later.0) ∙ ap (λ l. (so.out ++ l) ++ later.0) turned.reply.written.split
+          ∙ ap (λ l. l ++ later.0) (sym (append_assoc so.out turned.reply.written.front turned.reply.written.lost)) ∙ append_assoc (so.out ++ turned.reply.written.front) turned.reply.written.lost later.0;
       counted = omega (arith, so.counted, turned.counted);
       read_soundly = turned.taken.sound ∙ so.taken.sound;
-      failed = turned.written.failed ∙ ap (λ n. n + 1) so.written.sound;
-      flushed = omega (arith, turned.written.flushed, so.written.flushed);
+      failed = turned.reply.written.failed ∙ ap (λ n. n + 1) so.written.sound;
+      flushed = omega (arith, turned.reply.written.flushed, so.written.flushed);
     }
 
 pub Ran-broken : (limit : ℕ) (broken : Broken) (source : SourceState) (sink : SinkState) (ticks : Ticks) (mid new : Scene)

@@ -6,7 +6,7 @@ use Rattle.rope_search.specs.Order.{Order}
 use Rattle.rope_search.specs.Session.{State}
 use Rattle.rope_search.specs.Step.{Answer, Step}
 use Rattle.rope_search.specs.Reads.{Spells, SpellAll, IsBadLine, IsLongLine, Ends, Reads}
-use Rattle.rope_search.specs.Shows.{shows}
+use Rattle.rope_search.specs.Shows.{Shows}
 use Rattle.rope_search.specs.Cost.{Costs}
 use Rattle.rope_search.specs.Answers.{Run, Answers}
 
@@ -52,7 +52,9 @@ Run-append limit a b c (o ∷ os) ps x y m n before after = record {
   step = before.step;
   costs = before.costs;
   others = Run-append limit before.new b c os ps before.later y before.later_cost n before.others after;
-  shown = ap (λ l. l ++ y) before.shown ∙ append_assoc (shows before.new before.answer) before.later y;
+  reply = before.reply;
+  shows = before.shows;
+  shown = ap (λ l. l ++ y) before.shown ∙ append_assoc before.reply before.later y;
   added = ap (λ k. k + n) before.added ∙ add_assoc before.own_cost before.later_cost n;
 }
 
@@ -61,8 +63,8 @@ pub Run-nil : (limit : ℕ) (s : State) → Run limit s [] [] 0 s
 Run-nil limit s = (refl, refl, refl)
 
 -- one step, with what it costs, is a run of one command
-pub Run-one : (limit : ℕ) (old new : State) (o : Order) (answer : Answer) (c : ℕ) → Step limit old o answer new → Costs limit old o c → Run limit old (o ∷ []) (shows new answer) c new
-Run-one limit old new o answer c step costs = record {
+pub Run-one : (limit : ℕ) (old new : State) (o : Order) (answer : Answer) (reply : List ℕ) (c : ℕ) → Step limit old o answer new → Costs limit old o c → Shows new answer reply → Run limit old (o ∷ []) reply c new
+Run-one limit old new o answer reply c step costs shows = record {
   answer = answer;
   new = new;
   own_cost = c;
@@ -71,15 +73,17 @@ Run-one limit old new o answer c step costs = record {
   step = step;
   costs = costs;
   others = Run-nil limit new;
-  shown = sym (append-nil (shows new answer));
+  reply = reply;
+  shows = shows;
+  shown = sym (append-nil reply);
   added = omega arith;
 }
 
 -- a run and then one more step
-pub Run-push : (limit : ℕ) (old mid new : State) (os : List Order) (o : Order) (x : List ℕ) (m c : ℕ) (answer : Answer)
-    → Run limit old os x m mid → Step limit mid o answer new → Costs limit mid o c → Run limit old (os ++ o ∷ []) (x ++ shows new answer) (m + c) new
-Run-push limit old mid new os o x m c answer before step costs =
-    Run-append limit old mid new os (o ∷ []) x (shows new answer) m c before (Run-one limit mid new o answer c step costs)
+pub Run-push : (limit : ℕ) (old mid new : State) (os : List Order) (o : Order) (x : List ℕ) (m c : ℕ) (answer : Answer) (reply : List ℕ)
+    → Run limit old os x m mid → Step limit mid o answer new → Costs limit mid o c → Shows new answer reply → Run limit old (os ++ o ∷ []) (x ++ reply) (m + c) new
+Run-push limit old mid new os o x m c answer reply before step costs shows =
+    Run-append limit old mid new os (o ∷ []) x reply m c before (Run-one limit mid new o answer reply c step costs shows)
 
 -- a bad line is bad whatever follows it
 pub IsBadLine-more : (rest more : List ℕ) → IsBadLine rest → IsBadLine (rest ++ more)

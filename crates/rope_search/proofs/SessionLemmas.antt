@@ -3,8 +3,8 @@ use Rattle.std.proofs.Common.{◌≡◌, ℕ, ◌+◌, ◌<◌, ◌≤◌, List,
 use Rattle.std.proofs.lemmas.List.{map-set, get_or-map}
 use Rattle.std.proofs.Math.Seq.{map-set_same}
 use Rattle.rope_search.specs.declared.commands.Payload.{Payload}
-use Rattle.rope_search.specs.declared.commands.Command.TheVariants.{Text, Pattern as PatternCommand}
-use Rattle.rope_search.specs.Order.{Order, SetText, PrintText, ForkBuffer, SetPattern, DropPattern, ListMatches, UseBuffer}
+use Rattle.rope_search.specs.declared.commands.CommandOf.TheVariants.{Text, Pattern as PatternCommand}
+use Rattle.rope_search.specs.Order.{Order, SetText, SetPattern}
 use Rattle.rope_search.specs.Session.{State, BufferState, LimitedBuffer, LimitedSession, fresh, current_text, chosen_buffer, with_text, with_pattern, with_chosen}
 use Rattle.rope_search.specs.Pattern.{IsPattern, pattern_limit}
 use Rattle.rope_search_reports.specs.Text.{line_count}
@@ -28,23 +28,13 @@ pub rows_for_text : (limit : ℕ) (s : State) (payload : Payload) (count before 
     → ((bytes : List ℕ) (cost : ℕ) → StandsFor limit payload bytes → Costs limit s (SetText bytes) cost → count ≤ before + cost)
     → (order : Order) (cost : ℕ) → Stands limit (Text payload) order → Costs limit s order cost → count ≤ before + cost
 rows_for_text limit s payload count before each (SetText bytes) cost stands costs = each bytes cost stands costs
-rows_for_text limit s payload count before each PrintText cost stands costs = absurd stands
-rows_for_text limit s payload count before each ForkBuffer cost stands costs = absurd stands
-rows_for_text limit s payload count before each (SetPattern bytes) cost stands costs = absurd stands
-rows_for_text limit s payload count before each DropPattern cost stands costs = absurd stands
-rows_for_text limit s payload count before each ListMatches cost stands costs = absurd stands
-rows_for_text limit s payload count before each (UseBuffer k) cost stands costs = absurd stands
+rows_for_text limit s payload count before each order cost stands costs = absurd stands
 
 pub rows_for_pattern : (limit : ℕ) (s : State) (payload : Payload) (count before : ℕ)
     → ((bytes : List ℕ) (cost : ℕ) → StandsFor pattern_limit payload bytes → Costs limit s (SetPattern bytes) cost → count ≤ before + cost)
     → (order : Order) (cost : ℕ) → Stands limit (PatternCommand payload) order → Costs limit s order cost → count ≤ before + cost
-rows_for_pattern limit s payload count before each (SetText bytes) cost stands costs = absurd stands
-rows_for_pattern limit s payload count before each PrintText cost stands costs = absurd stands
-rows_for_pattern limit s payload count before each ForkBuffer cost stands costs = absurd stands
 rows_for_pattern limit s payload count before each (SetPattern bytes) cost stands costs = each bytes cost stands costs
-rows_for_pattern limit s payload count before each DropPattern cost stands costs = absurd stands
-rows_for_pattern limit s payload count before each ListMatches cost stands costs = absurd stands
-rows_for_pattern limit s payload count before each (UseBuffer k) cost stands costs = absurd stands
+rows_for_pattern limit s payload count before each order cost stands costs = absurd stands
 
 -- ---- the chosen buffer in the list of all
 

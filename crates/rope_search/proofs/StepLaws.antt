@@ -1,6 +1,6 @@
 -- Each command has one reply, one next session and one cost, apart from want of memory.
 use Rattle.std.proofs.Common.{◌≡◌, ◌≢◌, ℕ, ◌+◌, ◌<◌, ◌≤◌, ◌⊎◌, List, [], ◌∷◌, ◌++◌, true, false, length, refl, sym, ap, ◌∙◌, subst, inl, inr, IsUtf8, arith}
-use Rattle.std.specs.Prelude.{Option, None, Some, Ok, Err, chars}
+use Rattle.std.specs.Prelude.{Option, None, Some, MatchOption, Ok, Err, chars}
 use Rattle.std.specs.Str.{is_utf8}
 use Rattle.std.proofs.lemmas.Bool.{cases_Bool, cases_lt, cases_order}
 use Rattle.std.proofs.lemmas.Str.{IsUtf8-from_is_utf8, is_utf8-from_IsUtf8, chars_from_encodes}
@@ -14,7 +14,10 @@ use Rattle.rope_search.specs.Session.{State, fresh, current_text, chosen_buffer,
 use Rattle.rope_search.specs.Pattern.{IsPattern, pattern_limit}
 use Rattle.rope_search.proofs.PatternLemmas.{pattern_choice}
 use Rattle.rope_search.specs.Step.{Answer, Refuses, rank, IsFirstRefusal, Accepts, Does, Step}
-use Rattle.rope_search.specs.Shows.{shows}
+use Rattle.rope_search.specs.Shows.{IsListed, Shows, shows}
+use Rattle.rope_search_reports.specs.Report.{IsReport}
+use Rattle.rope_search_reports.specs.Computed.{report}
+use Rattle.rope_search_reports.proofs.ReportLaws.{report-is, report-one}
 use Rattle.rope_search.specs.Cost.{Costs, rows_of}
 use Rattle.rope_search.specs.Answers.{Run}
 use Rattle.rope_search.proofs.RunLaws.{Run-nil}
@@ -31,12 +34,7 @@ utf8_choice bytes = elim (cases_Bool (is_utf8 bytes)) [
 -- want of memory is no refusal
 pub Refuses-memory : (limit : ℕ) (s : State) (o : Order) → Refuses limit s o Memory → ⊥
 Refuses-memory limit s (SetText payload) h = h
-Refuses-memory limit s PrintText h = h
-Refuses-memory limit s ForkBuffer h = h
-Refuses-memory limit s (SetPattern payload) h = h
-Refuses-memory limit s DropPattern h = h
-Refuses-memory limit s ListMatches h = h
-Refuses-memory limit s (UseBuffer k) h = h
+Refuses-memory limit s o h = h
 
 -- a payload that isn't UTF-8 is refused for that first
 pub refused_utf8 : (limit : ℕ) (s : State) (payload : List ℕ) → ¬ (IsUtf8 payload) → IsFirstRefusal limit s (SetText payload) Utf8
@@ -326,14 +324,42 @@ costs_one limit s o m n (inl one) (inr other) = absurd (other.0 one.0 one.1)
 costs_one limit s o m n (inr one) (inl other) = absurd (one.0 other.0 other.1)
 costs_one limit s o m n (inr one) (inr other) = one.1 ∙ sym other.1
 
+-- without a pattern there are no rows, and with one there is a report
+report_exists : (text : List ℕ) (pattern : Option (List ℕ)) → (rows : List (List (ℕ × ℕ))) × MatchOption pattern (rows ≡ []) (λ p. IsReport text p rows)
+report_exists text None = ([], refl)
+report_exists text (Some p) = (report text p, report-is text p)
+
+rows_exist : (s : State) (answer : Answer) → (rows : List (List (ℕ × ℕ))) × IsListed s answer rows
+rows_exist s (Ok Listing) = report_exists (current_text (chosen_buffer s)) (chosen_buffer s).pattern
+rows_exist s answer = ([], refl)
+
+-- each answer can be shown
+pub shows_exist : (s : State) (answer : Answer) → (reply : List ℕ) × Shows s answer reply
+shows_exist s answer = let rows = rows_exist s answer in (shows s rows.0 answer, record { rows = rows.0; listed = rows.1; shown = refl })
+
+-- and in one way
+report_one : (text : List ℕ) (pattern : Option (List ℕ)) (rows rows' : List (List (ℕ × ℕ))) → MatchOption pattern (rows ≡ []) (λ p. IsReport text p rows)
+    → MatchOption pattern (rows' ≡ []) (λ p. IsReport text p rows') → rows ≡ rows'
+report_one text None rows rows' one other = one ∙ sym other
+report_one text (Some p) rows rows' one other = report-one text p rows rows' one other
+
+rows_one : (s : State) (answer : Answer) (rows rows' : List (List (ℕ × ℕ))) → IsListed s answer rows → IsListed s answer rows' → rows ≡ rows'
+rows_one s (Ok Listing) rows rows' one other = report_one (current_text (chosen_buffer s)) (chosen_buffer s).pattern rows rows' one other
+rows_one s answer rows rows' one other = one ∙ sym other
+
+pub shows_one : (s : State) (answer : Answer) (x y : List ℕ) → Shows s answer x → Shows s answer y → x ≡ y
+shows_one s answer x y one other =
+    one.shown ∙ ap (λ rows. shows s rows answer) (rows_one s answer one.rows other.rows one.listed other.listed) ∙ sym other.shown
+
 -- commands can be run from each session
 pub run_exists : (limit : ℕ) (s : State) (os : List Order) → (out : List ℕ) × (cost : ℕ) × (new : State) × Run limit s os out cost new
 run_exists limit s [] = ([], 0, s, Run-nil limit s)
 run_exists limit s (o ∷ os) =
     let step = step_exists limit s o in
     let costs = costs_exist limit s o in
+    let shows = shows_exist step.1 step.0 in
     let others = run_exists limit step.1 os in (
-      shows step.1 step.0 ++ others.0,
+      shows.0 ++ others.0,
       costs.0 + others.1,
       others.2,
       record {
@@ -345,6 +371,8 @@ run_exists limit s (o ∷ os) =
         step = step.3;
         costs = costs.1;
         others = others.3;
+        reply = shows.0;
+        shows = shows.1;
         shown = refl;
         added = refl;
       },

@@ -5,7 +5,7 @@ use Rattle.std.specs.Io.KnownBytes.{Consumes, prepend_known}
 use Rattle.rope_search_io.specs.declared.faults.Broken.{Broken}
 use Rattle.rope_search_io.specs.declared.faults.Broken.TheVariants.{Read, Write, Turns, Memory}
 use Rattle.rope_search_io.specs.Sources.{SourceState}
-use Rattle.rope_search_io.specs.ReadAhead.{Ahead, Takes, TakesLast, TakesUntil, to_come}
+use Rattle.rope_search_io.specs.ReadBuffer.{Ahead, Takes, TakesLast, TakesUntil, to_come}
 
 -- nothing taken
 pub Takes-nil : (a : Ahead) (s : SourceState) → Takes a a s s []

@@ -4,25 +4,26 @@ use Rattle.std.proofs.KnownBytes.{Appends-trans, Appends-nil}
 use Rattle.rope_search_io.specs.declared.faults.Broken.{Broken}
 use Rattle.rope_search_io.specs.declared.faults.Broken.TheVariants.{Read, Write, Turns, Memory}
 use Rattle.rope_search_io.specs.Sources.{SinkState}
-use Rattle.rope_search_io.specs.WriteBehind.{Writes, WritesFront, WritesUntil}
-use Rattle.rope_search.specs.declared.requests.Asked.{Asked}
+use Rattle.rope_search_io.specs.WriteBuffer.{Writes, WritesFront, WritesUntil}
+use Rattle.rope_search.specs.declared.commands.CommandOf.{CommandOf}
+use Rattle.rope_search.specs.declared.payloads.Collected.{Collected}
 use Rattle.rope_search.specs.Order.{Order}
 use Rattle.rope_search.specs.Step.{Answer, Step}
-use Rattle.rope_search.specs.Shows.{shows}
+use Rattle.rope_search.specs.Shows.{IsShown}
 use Rattle.rope_search.specs.Cost.{Costs}
-use Rattle.rope_search.specs.Requests.{IsAskedFor, TakesOrder}
+use Rattle.rope_search.specs.Requests.{IsReadAs, TakesOrder}
 use Rattle.rope_search.specs.Runs.{Scene, Turned, TakesTurn, SoFar}
 use Rattle.rope_search.proofs.StepLaws.{costs_exist}
 use Rattle.rope_search.proofs.RunLaws.{SpellAll-append, SpellAll-one, Run-nil, Run-push}
 use Rattle.rope_search.proofs.TakesLemmas.{Takes-nil, Takes-trans}
 
 -- a command that was read whole was carried out, and so much of its answer was written
-pub Turned-given : (limit : ℕ) (asked : Asked) (answer : Answer) (old new : Scene) (Written : List ℕ → Type 0)
-    → TakesOrder limit asked old.ahead new.ahead old.source new.source
-    → ((order : Order) → IsAskedFor limit asked order → Step limit old.session order answer new.session)
-    → ((order : Order) (cost : ℕ) → IsAskedFor limit asked order → Costs limit old.session order cost → new.ticks.count ≤ old.ticks.count + cost)
-    → Written (shows new.session answer) → Turned limit old new Written
-Turned-given limit asked answer old new Written read step rows written =
+pub Turned-given : (limit : ℕ) (header : CommandOf ℕ) (kept : Collected) (answer : Answer) (old new : Scene) (Written : List ℕ → Type 0)
+    → TakesOrder limit header kept old.ahead new.ahead old.source new.source
+    → ((order : Order) → IsReadAs limit header kept order → Step limit old.session order answer new.session)
+    → ((order : Order) (cost : ℕ) → IsReadAs limit header kept order → Costs limit old.session order cost → new.ticks.count ≤ old.ticks.count + cost)
+    → IsShown new.session answer Written → Turned limit old new Written
+Turned-given limit header kept answer old new Written read step rows written =
     let cost = costs_exist limit old.session read.order in
     record {
       order = read.order;
@@ -33,18 +34,18 @@ Turned-given limit asked answer old new Written read step rows written =
       taken = read.taken;
       step = step read.order read.is;
       costs = cost.1;
-      written = written;
+      reply = written;
       counted = rows read.order cost.0 read.is cost.1;
     }
 
 -- a sink that failed in the middle of an answer
 pub TakesTurn-failed : (limit : ℕ) (broken : Broken) (answer : Answer) (old new : Scene)
-    → ((Written : List ℕ → Type 0) → Written (shows new.session answer) → Turned limit old new Written)
-    → WritesUntil broken old.sink new.sink (shows new.session answer) → TakesTurn limit (Err broken) old new
+    → ((Written : List ℕ → Type 0) → IsShown new.session answer Written → Turned limit old new Written)
+    → IsShown new.session answer (WritesUntil broken old.sink new.sink) → TakesTurn limit (Err broken) old new
 TakesTurn-failed limit Write answer old new turned front = turned (WritesFront old.sink new.sink) front
-TakesTurn-failed limit Read answer old new turned front = absurd front
-TakesTurn-failed limit Turns answer old new turned front = absurd front
-TakesTurn-failed limit Memory answer old new turned front = absurd front
+TakesTurn-failed limit Read answer old new turned front = absurd front.written
+TakesTurn-failed limit Turns answer old new turned front = absurd front.written
+TakesTurn-failed limit Memory answer old new turned front = absurd front.written
 
 -- ---- the turns so far
 
@@ -77,11 +78,11 @@ pub SoFar-push : (limit : ℕ) (old mid new : Scene) → SoFar limit old mid →
 SoFar-push limit old mid new so turned = record {
   orders = so.orders ++ turned.order ∷ [];
   bytes = so.bytes ++ turned.bytes;
-  out = so.out ++ shows new.session turned.answer;
+  out = so.out ++ turned.reply.bytes;
   cost = so.cost + turned.cost;
   spells = SpellAll-append so.orders (turned.order ∷ []) so.bytes turned.bytes so.spells (SpellAll-one turned.order turned.bytes turned.spells);
   taken = Takes-trans old.ahead mid.ahead new.ahead old.source mid.source new.source so.bytes turned.bytes so.taken turned.taken;
-  run = Run-push limit old.session mid.session new.session so.orders turned.order so.out so.cost turned.cost turned.answer so.run turned.step turned.costs;
-  written = Writes-then old.sink mid.sink new.sink so.out (shows new.session turned.answer) so.written turned.written;
+  run = Run-push limit old.session mid.session new.session so.orders turned.order so.out so.cost turned.cost turned.answer turned.reply.bytes so.run turned.step turned.costs turned.reply.shows;
+  written = Writes-then old.sink mid.sink new.sink so.out turned.reply.bytes so.written turned.reply.written;
   counted = omega (arith, so.counted, turned.counted);
 }

@@ -5,7 +5,7 @@ use Rattle.rope_search.specs.Order.{Order}
 use Rattle.rope_search.specs.Session.{State, first}
 use Rattle.rope_search.specs.Step.{Answer, Step}
 use Rattle.rope_search.specs.Reads.{Reads}
-use Rattle.rope_search.specs.Shows.{shows, closing}
+use Rattle.rope_search.specs.Shows.{Shows, closing}
 use Rattle.rope_search.specs.Cost.{Costs}
 
 -- one command of a run, and what the others do from the session after it
@@ -18,7 +18,9 @@ pub record Turn (limit : ℕ) (old : State) (order : Order) (out : List ℕ) (co
   pub step : Step limit old order answer new
   pub costs : Costs limit old order own_cost
   pub others : Others new later later_cost
-  pub shown : out ≡ shows new answer ++ later
+  pub reply : List ℕ
+  pub shows : Shows new answer reply
+  pub shown : out ≡ reply ++ later
   pub added : cost ≡ own_cost + later_cost
 
 -- from an old session these commands may be shown so, at this cost, and leave a new one

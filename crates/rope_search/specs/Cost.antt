@@ -2,7 +2,7 @@
 use Rattle.std.specs.Prelude.{◌≡◌, ℕ, ◌⊎◌, List, if◌then◌else◌, is_some, chars}
 use Rattle.rope_search_io.specs.declared.faults.Fault.{Fault}
 use Rattle.rope_search_reports.specs.Text.{line_count}
-use Rattle.rope_search.specs.Order.{Order, SetText, PrintText, ForkBuffer, SetPattern, DropPattern, ListMatches, UseBuffer}
+use Rattle.rope_search.specs.Order.{Order, SetText, SetPattern}
 use Rattle.rope_search.specs.Session.{BufferState, State, current_text, chosen_buffer}
 use Rattle.rope_search.specs.Step.{Refuses, Accepts}
 
@@ -13,12 +13,8 @@ rows_anew buffer text = if is_some buffer.pattern then line_count text else 0
 -- the rows that an accepted command may make: `text` and `pattern` make the report anew
 abbrev pub rows_of : State → Order → ℕ
 rows_of session (SetText payload) = rows_anew (chosen_buffer session) (chars payload)
-rows_of session PrintText = 0
-rows_of session ForkBuffer = 0
 rows_of session (SetPattern payload) = line_count (current_text (chosen_buffer session))
-rows_of session DropPattern = 0
-rows_of session ListMatches = 0
-rows_of session (UseBuffer k) = 0
+rows_of session order = 0
 
 -- a command costs nothing where there is a reason to refuse it, whatever it is answered
 abbrev pub Costs : ℕ → State → Order → ℕ → Type 0
@@ -27,10 +23,4 @@ Costs limit session order n =
 
 -- how often a command may search a whole text
 abbrev pub whole_searches : Order → ℕ
-whole_searches (SetText payload) = 0
-whole_searches PrintText = 0
-whole_searches ForkBuffer = 0
-whole_searches (SetPattern payload) = 0
-whole_searches DropPattern = 0
-whole_searches ListMatches = 0
-whole_searches (UseBuffer k) = 0
+whole_searches order = 0

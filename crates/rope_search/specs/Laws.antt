@@ -5,6 +5,7 @@ use Rattle.rope_search.specs.declared.runs.Ended.{Ended}
 use Rattle.rope_search.specs.declared.runs.Ended.TheVariants.{Command}
 use Rattle.rope_search.specs.Order.{Order}
 use Rattle.rope_search.specs.Session.{State}
+use Rattle.rope_search.specs.Shows.{Shows}
 use Rattle.rope_search.specs.Step.{Answer, Step}
 use Rattle.rope_search.specs.Reads.{Reads}
 use Rattle.rope_search.specs.Cost.{Costs}
@@ -35,3 +36,7 @@ EndsAtBadLine limit input =
 -- these bytes end in some way, and may then be answered
 abbrev pub HasAnswer : ℕ → List ℕ → Type 0
 HasAnswer limit input = (ending : Ended) × (output : List ℕ) × (cost : ℕ) × Answers limit input ending output cost
+
+-- an answer is shown in some way, and in no other
+abbrev pub HasOneShow : State → Answer → Type 0
+HasOneShow session answer = ((bytes : List ℕ) × Shows session answer bytes) × ((bytes other : List ℕ) → Shows session answer bytes → Shows session answer other → bytes ≡ other)

@@ -1,18 +1,20 @@
 -- A command with its payload in full.
-use Rattle.std.specs.Prelude.{ℕ, List}
+use Rattle.std.specs.Prelude.{◌≡◌, ℕ, List}
+use Rattle.rope_search.specs.declared.commands.CommandOf.{CommandOf}
+use Rattle.rope_search.specs.Pattern.{pattern_limit}
+pub use Rattle.rope_search.specs.declared.commands.CommandOf.TheVariants.{Text as SetText, Print as PrintText, Fork as ForkBuffer, Pattern as SetPattern, Off as DropPattern, List as ListMatches, Use as UseBuffer}
 
-pub data Order : Type 0 where
-  -- the chosen buffer's text becomes the payload, with a new history
-  SetText : List ℕ → Order
-  -- the chosen buffer's text is shown
-  PrintText : Order
-  -- a new buffer has the chosen one's text
-  ForkBuffer : Order
-  -- the payload becomes the chosen buffer's pattern
-  SetPattern : List ℕ → Order
-  -- the chosen buffer has no pattern any more
-  DropPattern : Order
-  -- the chosen buffer's report is shown
-  ListMatches : Order
-  -- that buffer is chosen
-  UseBuffer : ℕ → Order
+abbrev pub Order : Type 0
+Order = CommandOf (List ℕ)
+
+-- the order has the command's word and its numbers, and its payload is in this relation to what there is of it, under a limit
+-- on the payload's bytes: that on texts, or that on patterns
+abbrev pub IsOf : {P : Type 0} → (ℕ → P → List ℕ → Type 0) → ℕ → CommandOf P → Order → Type 0
+IsOf R limit (SetText p) (SetText bytes) = R limit p bytes
+IsOf R limit PrintText PrintText = Unit {0}
+IsOf R limit ForkBuffer ForkBuffer = Unit {0}
+IsOf R limit (SetPattern p) (SetPattern bytes) = R pattern_limit p bytes
+IsOf R limit DropPattern DropPattern = Unit {0}
+IsOf R limit ListMatches ListMatches = Unit {0}
+IsOf R limit (UseBuffer k) (UseBuffer n) = n ≡ k
+IsOf R limit command order = ⊥

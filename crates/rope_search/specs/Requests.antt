@@ -2,21 +2,19 @@
 use Rattle.std.specs.Prelude.{◌≡◌, ℕ, ◌<◌, ◌≤◌, ◌↔◌, ◌⊎◌, List, [], ◌∷◌, ◌++◌, length, take, Bool, true, false, Option, None, Some, Result, Ok, Err, IsUtf8}
 use Rattle.rope_search_io.specs.declared.faults.Broken.{Broken}
 use Rattle.rope_search_io.specs.Sources.{SourceState}
-use Rattle.rope_search_io.specs.ReadAhead.{Ahead, Takes, TakesLast, TakesUntil}
+use Rattle.rope_search_io.specs.ReadBuffer.{Ahead, Takes, TakesLast, TakesUntil}
 use Rattle.rope_search_io.specs.Utf8Judge.{Continues}
 use Rattle.rope_search.specs.declared.lines.LineRead.{LineRead}
 use Rattle.rope_search.specs.declared.lines.LineRead.TheVariants.{Whole, Long, Part}
 use Rattle.rope_search.specs.declared.payloads.Collected.{Collected}
 use Rattle.rope_search.specs.declared.payloads.Collected.TheVariants.{Kept, Judged, Lost}
-use Rattle.rope_search.specs.declared.headers.Header.{Header}
-use Rattle.rope_search.specs.declared.requests.Asked.{Asked}
-use Rattle.rope_search.specs.declared.requests.Asked.TheVariants.{Text, Print, Fork, Pattern, Off, List as Listing, Use}
+use Rattle.rope_search.specs.declared.commands.CommandOf.{CommandOf}
 use Rattle.rope_search.specs.declared.requests.Request.{Request}
 use Rattle.rope_search.specs.declared.requests.Request.TheVariants.{Given, End}
 use Rattle.rope_search.specs.declared.runs.Ended.{Ended}
 use Rattle.rope_search.specs.declared.runs.Ended.TheVariants.{Input, Command, Cut}
-use Rattle.rope_search.specs.Order.{Order, SetText, PrintText, ForkBuffer, SetPattern, DropPattern, ListMatches, UseBuffer}
-use Rattle.rope_search.specs.Pattern.{pattern_limit}
+use Rattle.rope_search.specs.Order.{Order}
+use Rattle.rope_search.specs.Stands.{limit_on}
 use Rattle.rope_search.specs.Header.{IsHeaderOf}
 use Rattle.rope_search.specs.Reads.{HasNoLf, Spells, Ends, payload_of}
 
@@ -59,23 +57,17 @@ TakesCollected (Ok None) limit len old new source source' =
 TakesCollected (Err broken) limit len old new source source' =
     (bytes : List ℕ) × (length bytes < len) × TakesUntil broken old new source source' bytes
 
--- what was kept of a command that was read whole is of this command, under a limit on the bytes of a text
-abbrev pub IsAskedFor : ℕ → Asked → Order → Type 0
-IsAskedFor limit (Text collected) (SetText payload) = Collects limit (length payload) collected payload
-IsAskedFor limit Print PrintText = Unit {0}
-IsAskedFor limit Fork ForkBuffer = Unit {0}
-IsAskedFor limit (Pattern collected) (SetPattern payload) = Collects pattern_limit (length payload) collected payload
-IsAskedFor limit Off DropPattern = Unit {0}
-IsAskedFor limit Listing ListMatches = Unit {0}
-IsAskedFor limit (Use k) (UseBuffer n) = n ≡ k
-IsAskedFor limit asked order = ⊥
+-- a header and what was kept of a payload are of this command, under a limit on the bytes of a text
+pub record IsReadAs (limit : ℕ) (header : CommandOf ℕ) (kept : Collected) (order : Order) : Type 0 where
+  pub of_header : IsHeaderOf header order
+  pub payload : Collects (limit_on header limit) (length (payload_of order)) kept (payload_of order)
 
 -- all bytes of a command were taken
-pub record TakesOrder (limit : ℕ) (asked : Asked) (old new : Ahead) (source source' : SourceState) : Type 0 where
+pub record TakesOrder (limit : ℕ) (header : CommandOf ℕ) (kept : Collected) (old new : Ahead) (source source' : SourceState) : Type 0 where
   pub order : Order
   pub bytes : List ℕ
   pub spells : Spells order bytes
-  pub is : IsAskedFor limit asked order
+  pub is : IsReadAs limit header kept order
   pub taken : Takes old new source source' bytes
 
 -- after these bytes the source has told its end, but for a line that is no command
@@ -102,19 +94,19 @@ pub record TakesUnfinished (broken : Broken) (old new : Ahead) (source source' :
 
 -- a command was read whole, or the input ended, or no more bytes came
 abbrev pub TakesRequest : ℕ → Result Request Broken → Ahead → Ahead → SourceState → SourceState → Type 0
-TakesRequest limit (Ok (Given asked)) old new source source' = TakesOrder limit asked old new source source'
+TakesRequest limit (Ok (Given header kept)) old new source source' = TakesOrder limit header kept old new source source'
 TakesRequest limit (Ok (End ending)) old new source source' = TakesEnding ending old new source source'
 TakesRequest limit (Err broken) old new source source' = TakesUnfinished broken old new source source'
 
 -- the payload of a command with this header was taken
-pub record TakesRestOf (limit : ℕ) (header : Header) (asked : Asked) (old new : Ahead) (source source' : SourceState) : Type 0 where
+pub record TakesRestOf (limit : ℕ) (header given : CommandOf ℕ) (kept : Collected) (old new : Ahead) (source source' : SourceState) : Type 0 where
   pub order : Order
   pub of_header : IsHeaderOf header order
-  pub is : IsAskedFor limit asked order
+  pub is : IsReadAs limit given kept order
   pub taken : Takes old new source source' (payload_of order)
 
 -- fewer bytes than the payload of a command with this header were taken, so
-pub record TakesPartOf (header : Header) (Taken : List ℕ → Type 0) : Type 0 where
+pub record TakesPartOf (header : CommandOf ℕ) (Taken : List ℕ → Type 0) : Type 0 where
   pub order : Order
   pub of_header : IsHeaderOf header order
   pub part : List ℕ
@@ -122,8 +114,8 @@ pub record TakesPartOf (header : Header) (Taken : List ℕ → Type 0) : Type 0 
   pub taken : Taken part
 
 -- what follows a command's line was read
-abbrev pub TakesRest : ℕ → Header → Result Request Broken → Ahead → Ahead → SourceState → SourceState → Type 0
-TakesRest limit header (Ok (Given asked)) old new source source' = TakesRestOf limit header asked old new source source'
+abbrev pub TakesRest : ℕ → CommandOf ℕ → Result Request Broken → Ahead → Ahead → SourceState → SourceState → Type 0
+TakesRest limit header (Ok (Given given kept)) old new source source' = TakesRestOf limit header given kept old new source source'
 TakesRest limit header (Ok (End Cut)) old new source source' = TakesPartOf header (TakesLast old new source source')
 TakesRest limit header (Ok (End Input)) old new source source' = ⊥
 TakesRest limit header (Ok (End Command)) old new source source' = ⊥

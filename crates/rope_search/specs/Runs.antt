@@ -4,8 +4,8 @@ use Rattle.std.specs.Io.KnownBytes.{Appends, Consumes, IsAtEnd}
 use Rattle.rope_search_io.specs.declared.faults.Broken.{Broken}
 use Rattle.rope_search_io.specs.declared.faults.Broken.TheVariants.{Read, Write, Turns, Memory}
 use Rattle.rope_search_io.specs.Sources.{SourceState, SinkState}
-use Rattle.rope_search_io.specs.ReadAhead.{Ahead, Takes}
-use Rattle.rope_search_io.specs.WriteBehind.{Writes, WritesFront}
+use Rattle.rope_search_io.specs.ReadBuffer.{Ahead, Takes}
+use Rattle.rope_search_io.specs.WriteBuffer.{Writes, WritesFront}
 use Rattle.rope_search.specs.declared.runs.Ended.{Ended}
 use Rattle.rope_search.specs.declared.runs.Ended.TheVariants.{Input, Command, Cut}
 use Rattle.rope_search.specs.Order.{Order}
@@ -13,7 +13,7 @@ use Rattle.rope_search_reports.specs.Ticks.{Ticks}
 use Rattle.rope_search.specs.Session.{State, first}
 use Rattle.rope_search.specs.Step.{Answer, Step}
 use Rattle.rope_search.specs.Reads.{Spells, SpellAll, Reads}
-use Rattle.rope_search.specs.Shows.{shows, closing}
+use Rattle.rope_search.specs.Shows.{IsShown, closing}
 use Rattle.rope_search.specs.Cost.{Costs}
 use Rattle.rope_search.specs.Answers.{Run, Answers}
 use Rattle.rope_search.specs.Requests.{TakesEnding, TakesUnfinished}
@@ -134,7 +134,7 @@ pub record Turned (limit : ℕ) (old new : Scene) (Written : List ℕ → Type 0
   pub taken : Takes old.ahead new.ahead old.source new.source bytes
   pub step : Step limit old.session order answer new.session
   pub costs : Costs limit old.session order cost
-  pub written : Written (shows new.session answer)
+  pub reply : IsShown new.session answer Written
   pub counted : new.ticks.count ≤ old.ticks.count + cost
 
 -- the session, the sink and the counts are as before

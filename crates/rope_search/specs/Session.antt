@@ -1,6 +1,6 @@
 -- What a session is: a list of buffers, of which one is chosen.
-use Rattle.std.specs.Prelude.{ℕ, List, [], ◌∷◌, Option, None, option_map, slice_index_or, slice_set}
-use Rattle.rope_search_reports.specs.Report.{report}
+use Rattle.std.specs.Prelude.{◌≡◌, MatchOption, ℕ, List, [], ◌∷◌, Option, None, slice_index_or, slice_set}
+use Rattle.rope_search_reports.specs.Report.{IsReport}
 
 -- a history of texts with a current one, and perhaps a pattern. Texts and patterns are lists of scalar values
 pub record BufferState : Type 0 where
@@ -35,9 +35,9 @@ with_text buffer text = record buffer { texts = text ∷ []; current = 0 }
 abbrev pub with_pattern : BufferState → Option (List ℕ) → BufferState
 with_pattern buffer pattern = record buffer { pattern = pattern }
 
--- the report of the buffer's current text, where it has a pattern
-abbrev pub report_in : BufferState → Option (List (List (ℕ × ℕ)))
-report_in buffer = option_map (report (current_text buffer)) buffer.pattern
+-- these rows are the report of the buffer's current text; there are none without a pattern
+abbrev pub IsReportIn : BufferState → List (List (ℕ × ℕ)) → Type 0
+IsReportIn buffer rows = MatchOption buffer.pattern (rows ≡ []) (λ pattern. IsReport (current_text buffer) pattern rows)
 
 -- the session with another buffer in the chosen one's place
 abbrev pub with_chosen : State → BufferState → State

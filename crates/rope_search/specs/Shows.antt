@@ -1,11 +1,11 @@
 -- What is written for an answer, and at the end.
-use Rattle.std.specs.Prelude.{ℕ, ◌+◌, List, [], ◌∷◌, ◌++◌, flat_map, length, codes, decimal, unwrap_or, Ok, Err}
+use Rattle.std.specs.Prelude.{◌≡◌, ℕ, ◌+◌, List, [], ◌∷◌, ◌++◌, flat_map, length, codes, decimal, Ok, Err}
 use Rattle.rope_search_io.specs.Faults.{word_of}
 use Rattle.rope_search.specs.declared.commands.Reply.TheVariants.{Done, Number, List as Listing, Print}
 use Rattle.rope_search.specs.declared.runs.Ended.{Ended}
 use Rattle.rope_search.specs.declared.runs.Ended.TheVariants.{Input, Command, Cut}
 use Rattle.rope_search_reports.specs.Text.{bytes_of}
-use Rattle.rope_search.specs.Session.{State, current_text, chosen_buffer, report_in}
+use Rattle.rope_search.specs.Session.{State, current_text, chosen_buffer, IsReportIn}
 use Rattle.rope_search_reports.specs.Report.{match_count}
 use Rattle.rope_search.specs.Step.{Answer}
 
@@ -30,13 +30,30 @@ shown_rows line (row ∷ rows) = flat_map (shown_match line) row ++ shown_rows (
 abbrev pub shown_report : List (List (ℕ × ℕ)) → List ℕ
 shown_report rows = shown_rows 0 rows ++ shown_number (match_count rows)
 
--- the bytes of an answer, where this is the session after it
-abbrev pub shows : State → Answer → List ℕ
-shows session (Ok Done) = codes "ok\n"
-shows session (Ok (Number k)) = shown_number k
-shows session (Ok Listing) = shown_report (unwrap_or (report_in (chosen_buffer session)) [])
-shows session (Ok Print) = shown_text (bytes_of (current_text (chosen_buffer session)))
-shows session (Err fault) = codes "error " ++ word_of fault ++ codes "\n"
+-- the bytes of an answer, where this is the session after it, and these are the rows of the report that it shows
+abbrev pub shows : State → List (List (ℕ × ℕ)) → Answer → List ℕ
+shows session rows (Ok Done) = codes "ok\n"
+shows session rows (Ok (Number k)) = shown_number k
+shows session rows (Ok Listing) = shown_report rows
+shows session rows (Ok Print) = shown_text (bytes_of (current_text (chosen_buffer session)))
+shows session rows (Err fault) = codes "error " ++ word_of fault ++ codes "\n"
+
+-- these are the rows of the report that an answer shows: of the chosen buffer's, and none where it shows no report
+abbrev pub IsListed : State → Answer → List (List (ℕ × ℕ)) → Type 0
+IsListed session (Ok Listing) rows = IsReportIn (chosen_buffer session) rows
+IsListed session answer rows = rows ≡ []
+
+-- these are the bytes of an answer, where this is the session after it
+pub record Shows (session : State) (answer : Answer) (bytes : List ℕ) : Type 0 where
+  pub rows : List (List (ℕ × ℕ))
+  pub listed : IsListed session answer rows
+  pub shown : bytes ≡ shows session rows answer
+
+-- of the bytes of an answer so much was written
+pub record IsShown (session : State) (answer : Answer) (Written : List ℕ → Type 0) : Type 0 where
+  pub bytes : List ℕ
+  pub shows : Shows session answer bytes
+  pub written : Written bytes
 
 -- the line that is written last
 abbrev pub closing : Ended → List ℕ

@@ -53,10 +53,7 @@ abbrev pub TakesMemory : Order → Type 0
 TakesMemory (SetText payload) = Unit {0}
 TakesMemory ForkBuffer = Unit {0}
 TakesMemory (SetPattern payload) = Unit {0}
-TakesMemory PrintText = ⊥
-TakesMemory DropPattern = ⊥
-TakesMemory ListMatches = ⊥
-TakesMemory (UseBuffer k) = ⊥
+TakesMemory order = ⊥
 
 -- what an accepted command does: its reply, and the session after it
 abbrev pub Does : State → Order → Reply → State → Type 0

@@ -1,22 +1,74 @@
 //! What a session is asked, and what it answers.
+ghost use Rattle.std.specs.Prelude.{◌≡◌, ℕ, length};
+ghost use Rattle.rope_search.specs.Order.{Order};
+ghost use Rattle.rope_search.specs.Reads.{payload_of};
+ghost use Rattle.rope_search.specs.Header.{IsHeaderOf};
+ghost use Rattle.rope_search.specs.Stands.{Stands, StandsFor, limit_on};
 
-/// A command, with what was kept of its payload.
+use crate::limits::Limits;
+use crate::patterns::PATTERN_LEN;
+
+/// A command, with what there is of its payload: how many bytes it has, or what was kept of them.
 #[derive(Clone, Copy, Debug, PartialEq, Eq)]
-pub enum Command<'a> {
+pub enum CommandOf<P> {
     /// Sets the chosen buffer's text.
-    Text(Payload<'a>),
+    Text(P),
     /// Shows the chosen buffer's text.
     Print,
     /// Makes a new buffer of the chosen one's text.
     Fork,
     /// Sets the chosen buffer's pattern.
-    Pattern(Payload<'a>),
+    Pattern(P),
     /// Drops the chosen buffer's pattern.
     Off,
     /// Shows the chosen buffer's report.
     List,
     /// Chooses a buffer by its number.
     Use(u64),
+}
+
+/// A command, with what was kept of its payload.
+pub type Command<'a> = CommandOf<Payload<'a>>;
+
+/// A command's line: its word and its number, which for a payload is that of its bytes.
+pub type Header = CommandOf<u64>;
+
+impl CommandOf<u64> {
+    /// How many bytes the payload has.
+    pub(crate) fn payload_len(&self) -> u64
+        ensures { (order : Order) → IsHeaderOf self.now order → length (payload_of order) ≡ result }
+    {
+        match self {
+            CommandOf::Text(len) | CommandOf::Pattern(len) => *len,
+            _ => 0,
+        }
+    }
+
+    /// How many bytes of the payload are kept at most.
+    pub(crate) fn payload_limit(&self, limits: Limits) -> usize
+        ensures { result ≡ limit_on self.now limits.text }
+    {
+        match self {
+            CommandOf::Pattern(_) => PATTERN_LEN,
+            _ => limits.text,
+        }
+    }
+
+    /// The command with what was kept of its payload.
+    pub(crate) fn with(self, payload: Payload<'_>) -> Command<'_>
+        ensures { (limit : ℕ) (order : Order) → IsHeaderOf self order
+            → StandsFor (limit_on self limit) payload.entry (payload_of order) → Stands limit result order }
+    {
+        match self {
+            CommandOf::Text(_) => Command::Text(payload),
+            CommandOf::Print => Command::Print,
+            CommandOf::Fork => Command::Fork,
+            CommandOf::Pattern(_) => Command::Pattern(payload),
+            CommandOf::Off => Command::Off,
+            CommandOf::List => Command::List,
+            CommandOf::Use(number) => Command::Use(number),
+        }
+    }
 }
 
 /// What was kept of a payload.

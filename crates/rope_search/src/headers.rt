@@ -4,24 +4,7 @@ ghost use Rattle.rope_search.specs.Order.{Order};
 ghost use Rattle.rope_search.specs.Reads.{IsLine, IsNumber};
 ghost use Rattle.rope_search.specs.Header.{IsHeaderOf, IsDigit};
 
-/// The word and the number of a command, before its payload is read.
-#[derive(Clone, Copy, Debug, PartialEq, Eq)]
-pub enum Header {
-    /// `text`, and how many bytes the payload has.
-    Text(u64),
-    /// `print`
-    Print,
-    /// `fork`
-    Fork,
-    /// `pattern`, and how many bytes the payload has.
-    Pattern(u64),
-    /// `off`
-    Off,
-    /// `list`
-    List,
-    /// `use`, and the number of a buffer.
-    Use(u64),
-}
+use crate::commands::Header;
 
 /// How many digits a number has at most.
 const MOST_DIGITS: usize = 20;

@@ -4,7 +4,8 @@
 ghost use Rattle.std.specs.Prelude.{ℕ, List};
 ghost use Rattle.rope_search.specs.Order.{Order};
 ghost use Rattle.rope_search.specs.Session.{State};
-ghost use Rattle.rope_search.specs.Laws.{HasOneReading, HasOneStep, HasOneCost, EndsAtBadLine, HasAnswer};
+ghost use Rattle.rope_search.specs.Laws.{HasOneReading, HasOneStep, HasOneCost, EndsAtBadLine, HasAnswer, HasOneShow};
+ghost use Rattle.rope_search.specs.Step.{Answer};
 
 /// Each input has exactly one reading: a list of commands, and how it ends.
 pub fn one_reading()
@@ -29,4 +30,9 @@ pub fn ends_at_bad_line()
 /// Each input, whatever its bytes, may be answered.
 pub fn has_answer()
     ensures { (limit : ℕ) (input : List ℕ) → HasAnswer limit input }
+{}
+
+/// Each answer is shown in exactly one way.
+pub fn one_show()
+    ensures { (session : State) (answer : Answer) → HasOneShow session answer }
 {}

@@ -1,7 +1,7 @@
 //! A regular expression kept live over a text that is edited, undone and forked: commands in, replies out.
 #![tactic(auto)]
 
-mod buffers;
+mod buffer;
 mod commands;
 mod headers;
 pub mod laws;
@@ -13,14 +13,14 @@ mod payloads;
 mod replies;
 mod requests;
 mod runs;
-mod sessions;
+mod session;
 mod texts;
 
-pub use buffers::Buffer;
-pub use commands::{Command, Payload, Reply};
+pub use buffer::Buffer;
+pub use commands::{Command, CommandOf, Payload, Reply};
 pub use limits::Limits;
 pub use rope_search_io::{Broken, Device, Failed, Fault, MemorySink, MemorySource, Sink, Source};
 pub use rope_search_reports::{Lines, Row, search_line};
 pub use ropey::Rope;
 pub use runs::{Ended, run, run_limited};
-pub use sessions::Session;
+pub use session::Session;

@@ -1,7 +1,7 @@
 //! Reading a command's line.
 ghost use Rattle.rope_search.specs.Requests.{TakesLine};
 
-use rope_search_io::{Broken, ReadAhead, Source};
+use rope_search_io::{Broken, ReadBuffer, Source};
 
 /// A line that has this many bytes before its LF is no command's.
 pub const LINE_LEN: usize = 129;
@@ -19,7 +19,7 @@ pub enum LineRead {
 
 /// Reads a line into the front of `line`, its LF left off.
 pub fn read_line<R: Source>(
-    ahead: &mut ReadAhead,
+    ahead: &mut ReadBuffer,
     source: &mut R,
     line: &mut [u8; LINE_LEN],
 ) -> Result<LineRead, Broken>

@@ -1,11 +1,11 @@
 //! Writing a report.
 ghost use Rattle.std.specs.Prelude.{◌≡◌, ◌<◌, ◌^◌, [], ◌++◌, flat_map, OnOk, OnErr, MatchResult};
-ghost use Rattle.rope_search_io.specs.WriteBehind.{Puts, Writes, WritesUntil};
+ghost use Rattle.rope_search_io.specs.WriteBuffer.{Puts, Writes, WritesUntil};
 ghost use Rattle.rope_search_reports.specs.Report.{match_count};
 ghost use Rattle.rope_search.specs.Shows.{shown_match, shown_report};
 
 use itoa::Buffer as Digits;
-use rope_search_io::{Broken, Sink, WriteBehind};
+use rope_search_io::{Broken, Sink, WriteBuffer};
 use rope_search_reports::Row;
 
 /// Puts a match behind the bytes that wait: the number of its line, and its two columns. After an error
@@ -13,7 +13,7 @@ use rope_search_reports::Row;
 fn put_match<W: Sink>(
     line: usize,
     span: (usize, usize),
-    behind: &mut WriteBehind,
+    behind: &mut WriteBuffer,
     sink: &mut W,
 ) -> Result<(), Broken>
     ensures written { MatchResult result
@@ -36,7 +36,7 @@ fn put_match<W: Sink>(
 fn put_row<W: Sink>(
     line: usize,
     matches: &[(usize, usize)],
-    behind: &mut WriteBehind,
+    behind: &mut WriteBuffer,
     sink: &mut W,
 ) -> Result<(), Broken>
     ensures written { MatchResult result
@@ -53,7 +53,7 @@ fn put_row<W: Sink>(
 /// written.
 pub fn write_report<W: Sink>(
     rows: &[Row],
-    behind: &mut WriteBehind,
+    behind: &mut WriteBuffer,
     sink: &mut W,
 ) -> Result<(), Broken>
     requires empty { behind.old ≡ [] }

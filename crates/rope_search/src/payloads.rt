@@ -4,7 +4,7 @@ ghost use Rattle.rope_search.specs.Stands.{StandsFor};
 ghost use Rattle.rope_search.specs.Requests.{Collects, CollectsMore, TakesPayload, TakesCollected};
 
 use crate::commands::Payload;
-use rope_search_io::{Broken, ReadAhead, Source, Utf8Judge};
+use rope_search_io::{Broken, ReadBuffer, Source, Utf8Judge};
 use std::alloc::Global;
 
 /// What is kept of a payload while it is read. It takes memory for the bytes that were read alone,
@@ -77,7 +77,7 @@ fn front(bytes: &[u8], most: u64) -> &[u8]
 
 /// Reads a payload of `len` bytes. False says that the input ended before.
 pub fn read_payload<R: Source>(
-    ahead: &mut ReadAhead,
+    ahead: &mut ReadBuffer,
     source: &mut R,
     collected: &mut Collected,
     len: u64,
@@ -102,7 +102,7 @@ pub fn read_payload<R: Source>(
 /// Reads a payload of `len` bytes, which is kept where there are at most so many. None says that the
 /// input ended before.
 pub fn collect<R: Source>(
-    ahead: &mut ReadAhead,
+    ahead: &mut ReadBuffer,
     source: &mut R,
     alloc: Global,
     len: u64,

@@ -1,27 +1,27 @@
 //! Writing the answer to a command.
 ghost use Rattle.std.specs.Prelude.{◌≡◌, [], OnOk, MatchResult};
-ghost use Rattle.rope_search_io.specs.WriteBehind.{Writes, WritesUntil};
-ghost use Rattle.rope_search.specs.Shows.{shows};
+ghost use Rattle.rope_search_io.specs.WriteBuffer.{Writes, WritesUntil};
+ghost use Rattle.rope_search.specs.Shows.{IsShown};
 
 use crate::commands::Reply;
 use crate::listings::write_report;
-use crate::sessions::Session;
+use crate::session::Session;
 use crate::texts::write_text;
 use itoa::Buffer as Digits;
-use rope_search_io::{Broken, Fault, Sink, WriteBehind};
+use rope_search_io::{Broken, Fault, Sink, WriteBuffer};
 
 /// Writes an answer, where this is the session after it. After an error a front of it is written.
 pub fn write_answer<W: Sink>(
     session: &Session,
     answer: Result<Reply, Fault>,
-    behind: &mut WriteBehind,
+    behind: &mut WriteBuffer,
     sink: &mut W,
 ) -> Result<(), Broken>
     requires { behind.old ≡ [] }
     ensures empty { OnOk result (behind.new ≡ []) }
     ensures written { MatchResult result
-        (λ _. Writes (W.state sink.old) (W.state sink.new) (shows session.now.state answer))
-        (λ broken. WritesUntil broken (W.state sink.old) (W.state sink.new) (shows session.now.state answer)) }
+        (λ _. IsShown session.now.state answer (Writes (W.state sink.old) (W.state sink.new)))
+        (λ broken. IsShown session.now.state answer (WritesUntil broken (W.state sink.old) (W.state sink.new))) }
 {
     let mut digits = Digits::new();
     match answer {

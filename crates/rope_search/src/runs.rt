@@ -6,8 +6,8 @@ ghost use Rattle.rope_search.specs.Runs.{AnswersWhole, Ran, TakesTurn, Closes};
 use crate::limits::Limits;
 use crate::replies::write_answer;
 use crate::requests::{Request, read_request};
-use crate::sessions::Session;
-use rope_search_io::{Broken, Failed, ReadAhead, Sink, Source, WriteBehind};
+use crate::session::Session;
+use rope_search_io::{Broken, Failed, ReadBuffer, Sink, Source, WriteBuffer};
 use rope_search_reports::Lines;
 use std::alloc::Global;
 
@@ -80,8 +80,8 @@ fn run_turns<R: Source, W: Sink>(
     let Ok(mut session) = Session::new(alloc, limits) else {
         return Err(Broken::Memory);
     };
-    let mut ahead = ReadAhead::new();
-    let mut behind = WriteBehind::new();
+    let mut ahead = ReadBuffer::new();
+    let mut behind = WriteBuffer::new();
     loop {
         match turn(tick, &mut session, &mut ahead, reader, &mut behind, writer)? {
             None => {}
@@ -97,9 +97,9 @@ fn run_turns<R: Source, W: Sink>(
 fn turn<R: Source, W: Sink>(
     tick: &mut Lines,
     session: &mut Session,
-    ahead: &mut ReadAhead,
+    ahead: &mut ReadBuffer,
     reader: &mut R,
-    behind: &mut WriteBehind,
+    behind: &mut WriteBuffer,
     writer: &mut W,
 ) -> Result<Option<Ended>, Broken>
     requires { behind.old ≡ [] }
@@ -113,8 +113,8 @@ fn turn<R: Source, W: Sink>(
     let limits = session.limits();
     match read_request(ahead, reader, alloc, limits)? {
         Request::End(ending) => Ok(Some(ending)),
-        Request::Given(asked) => {
-            let answer = session.apply(tick, asked.command());
+        Request::Given(header, collected) => {
+            let answer = session.apply(tick, header.with(collected.payload()));
             write_answer(session, answer, behind, writer)?;
             Ok(None)
         }
@@ -133,7 +133,7 @@ fn closing_line(ending: Ended) -> &'static [u8]
 }
 
 /// Writes the line that is written last, and flushes.
-fn close<W: Sink>(ending: Ended, behind: &mut WriteBehind, writer: &mut W) -> Result<(), Broken>
+fn close<W: Sink>(ending: Ended, behind: &mut WriteBuffer, writer: &mut W) -> Result<(), Broken>
     requires { behind.old ≡ [] }
     ensures { Closes result ending (W.state writer.old) (W.state writer.new) }
 {

@@ -1,18 +1,18 @@
 //! Writing a text.
 ghost use Rattle.std.specs.Prelude.{◌≡◌, [], ◌++◌, OnOk, MatchResult};
-ghost use Rattle.rope_search_io.specs.WriteBehind.{Puts, Writes, WritesUntil};
+ghost use Rattle.rope_search_io.specs.WriteBuffer.{Puts, Writes, WritesUntil};
 ghost use Rattle.rope_search_reports.specs.Text.{bytes_of};
 ghost use Rattle.ropey.specs.Chunks.{text_of};
 ghost use Rattle.rope_search.specs.Shows.{shown_text};
 
 use itoa::Buffer as Digits;
-use rope_search_io::{Broken, Sink, WriteBehind};
+use rope_search_io::{Broken, Sink, WriteBuffer};
 use ropey::Rope;
 use ropey::laws::next_chunk_follows;
 
 /// Puts a text behind the bytes that wait, chunk by chunk. After an error the sink took a front of what
 /// waited and of this.
-fn put_text<W: Sink>(text: &Rope, behind: &mut WriteBehind, sink: &mut W) -> Result<(), Broken>
+fn put_text<W: Sink>(text: &Rope, behind: &mut WriteBuffer, sink: &mut W) -> Result<(), Broken>
     ensures written { MatchResult result
         (λ _. Puts behind.old behind.new (W.state sink.old) (W.state sink.new) (bytes_of (text_of text.now)))
         (λ broken. WritesUntil broken (W.state sink.old) (W.state sink.new) (behind.old ++ bytes_of (text_of text.now))) }
@@ -31,7 +31,7 @@ fn put_text<W: Sink>(text: &Rope, behind: &mut WriteBehind, sink: &mut W) -> Res
 /// Writes a text: how many bytes it has, and then these. After an error a front of that is written.
 pub fn write_text<W: Sink>(
     text: &Rope,
-    behind: &mut WriteBehind,
+    behind: &mut WriteBuffer,
     sink: &mut W,
 ) -> Result<(), Broken>
     requires { behind.old ≡ [] }

@@ -7,7 +7,7 @@ use Rattle.std.specs.Borrow.{Bor}
 use Rattle.std.proofs.Math.Seq.{take-add}
 use Rattle.std.specs.Io.KnownBytes.{Appends, Keeps}
 use Rattle.rope_search_io.specs.Sources.{SinkState}
-use Rattle.rope_search_io.specs.WriteBehind.{Writes, WritesFront, WritesUntil, Puts, joined}
+use Rattle.rope_search_io.specs.WriteBuffer.{Writes, WritesFront, WritesUntil, Puts, joined}
 use Rattle.rope_search_io.specs.declared.faults.Broken.{Broken}
 use Rattle.rope_search_io.specs.declared.faults.Broken.TheVariants.{Read, Write, Turns, Memory}
 

@@ -1,6 +1,6 @@
 -- What a device shows: the reader or writer under it.
 use Rattle.std.specs.Prelude.{◌≡◌}
-use Rattle.rope_search_io.specs.declared.devices.Device.{Device}
+use Rattle.rope_search_io.specs.declared.device.Device.{Device}
 
 -- the reader or the writer under a device
 abbrev pub under : {D : Type 0} → Device D → D

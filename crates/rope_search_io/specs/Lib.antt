@@ -1,7 +1,6 @@
-pub mod Counts
 pub mod Faults
 pub mod Sources
 pub mod Devices
-pub mod ReadAhead
-pub mod WriteBehind
+pub mod ReadBuffer
+pub mod WriteBuffer
 pub mod Utf8Judge

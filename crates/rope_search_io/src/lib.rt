@@ -1,20 +1,19 @@
 //! The bottom of `rope_search`: where its bytes come from and where they go.
 #![tactic(auto)]
 
-mod counts;
-mod devices;
+mod device;
 mod faults;
-mod fuses;
-mod read_aheads;
+mod fuse;
+mod read_buffer;
 mod sinks;
 mod sources;
-mod utf8_judges;
-mod write_behinds;
+mod utf8_judge;
+mod write_buffer;
 
-pub use devices::Device;
+pub use device::Device;
 pub use faults::{Broken, Failed, Fault};
-pub use read_aheads::{MOST_READS, READ_LEN, ReadAhead};
+pub use read_buffer::{MOST_READS, READ_LEN, ReadBuffer};
 pub use sinks::{MemorySink, Sink};
 pub use sources::{MemorySource, Source};
-pub use utf8_judges::Utf8Judge;
-pub use write_behinds::{WRITE_LEN, WriteBehind, write_all};
+pub use utf8_judge::Utf8Judge;
+pub use write_buffer::{WRITE_LEN, WriteBuffer, write_all};

@@ -4,9 +4,9 @@ ghost use Rattle.std.specs.Io.{WritesAtMost};
 ghost use Rattle.std.specs.Io.KnownBytes.{Keeps, WriteAppends};
 ghost use Rattle.rope_search_io.specs.Sources.{SinkState, failures_in, burnt};
 
-use crate::counts::Count;
+use counters::Counter;
 use crate::faults::{Failed, Fault};
-use crate::fuses::burns;
+use crate::fuse::burns;
 use std::alloc::Global;
 use std::marker::Model;
 
@@ -40,9 +40,9 @@ pub struct MemorySink {
     room: usize,
     step: usize,
     fuse: Option<u64>,
-    writes: Count,
-    flushes: Count,
-    failures: Count,
+    writes: Counter,
+    flushes: Counter,
+    failures: Counter,
 }
 
 impl Model for MemorySink {
@@ -96,9 +96,9 @@ impl MemorySink {
             room,
             step,
             fuse: fail,
-            writes: Count::new(),
-            flushes: Count::new(),
-            failures: Count::new(),
+            writes: Counter::new(),
+            flushes: Counter::new(),
+            failures: Counter::new(),
         })
     }
 

@@ -4,9 +4,9 @@ ghost use Rattle.std.specs.Io.{ReadsAtMost};
 ghost use Rattle.std.specs.Io.KnownBytes.{ReadConsumes};
 ghost use Rattle.rope_search_io.specs.Sources.{SourceState, failures_in, ends_in, burnt};
 
-use crate::counts::Count;
+use counters::Counter;
 use crate::faults::Failed;
-use crate::fuses::burns;
+use crate::fuse::burns;
 use std::marker::Model;
 
 /// Where bytes come from. To contracts it tells its bytes, where it knows them, and counts its calls.
@@ -30,9 +30,9 @@ pub struct MemorySource<'a> {
     bytes: &'a [u8],
     step: usize,
     fuse: Option<u64>,
-    reads: Count,
-    failures: Count,
-    ends: Count,
+    reads: Counter,
+    failures: Counter,
+    ends: Counter,
 }
 
 impl<'a> Model for MemorySource<'a> {
@@ -73,9 +73,9 @@ impl<'a> MemorySource<'a> {
             bytes,
             step,
             fuse: fail,
-            reads: Count::new(),
-            failures: Count::new(),
-            ends: Count::new(),
+            reads: Counter::new(),
+            failures: Counter::new(),
+            ends: Counter::new(),
         }
     }
 }

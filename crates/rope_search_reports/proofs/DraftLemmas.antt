@@ -1,8 +1,7 @@
 -- The report of a text in pieces, made line by line.
-use Rattle.std.proofs.Common.{◌≡◌, ℕ, ◌+◌, ◌<◌, ◌≤◌, Bool, false, ◌&&◌, List, [], ◌∷◌, ◌++◌, map, length, refl, sym, ap, subst, ◌∙◌, append-nil, append_assoc, arith, length-append}
+use Rattle.std.proofs.Common.{◌≡◌, ℕ, ◌+◌, ◌<◌, ◌≤◌, Bool, false, ◌&&◌, List, [], ◌∷◌, ◌++◌, length, refl, sym, ap, subst, ◌∙◌, append-nil, append_assoc, arith, length-append}
 use Rattle.std.specs.Str.{NonePass}
 use Rattle.std.proofs.Math.Utf8.{encode}
-use Rattle.std.proofs.lemmas.List.{length-map}
 use Rattle.std.proofs.lemmas.List.Folds.{concat-append}
 use Rattle.std.proofs.lemmas.Str.{encodes-append, length-encode, len_utf8_bounds}
 use Rattle.str_indices.specs.Text.{is_line_break, starts_with_lf, breaks}
@@ -11,7 +10,7 @@ use Rattle.ropey.specs.Chunks.{IsPiece, IsCutting}
 use Rattle.ropey.specs.Chunks.{text_of, ShowsChunk}
 use Rattle.ropey.specs.Laws.{CutsNoCrLf, NextChunkFollows, IsNextChunk}
 use Rattle.rope_search_reports.specs.Ticks.{Ticks}
-use Rattle.rope_search_reports.specs.Report.{line_texts, row_of, report}
+use Rattle.rope_search_reports.specs.Report.{line_texts, IsRow, AreRows, IsReport, AddsRow}
 use Rattle.rope_search_reports.specs.LineCuts.{BeginsWithLine}
 use Rattle.rope_search_reports.proofs.ReportLemmas.{line_texts-nil, lines-counted, line-cut, none-append}
 
@@ -71,6 +70,27 @@ rest-whole text line rest later cut whole =
 line-last : (text : List ℕ) → NonePass is_line_break text → line_texts text ≡ text ∷ []
 line-last text plain = ap line_texts (sym (append-nil text)) ∙ line-cut text [] [] plain line_texts-nil
 
+-- ---- rows
+
+AreRows-length : (needle : List ℕ) (lines : List (List ℕ)) (rows : List (List (ℕ × ℕ))) → AreRows needle lines rows → length rows ≡ length lines
+AreRows-length needle [] [] are = refl
+AreRows-length needle [] (row ∷ rows) are = absurd are
+AreRows-length needle (line ∷ lines) [] are = absurd are
+AreRows-length needle (line ∷ lines) (row ∷ rows) are = omega (arith, AreRows-length needle lines rows are.1)
+
+AreRows-more : (needle : List ℕ) (lines : List (List ℕ)) (rows : List (List (ℕ × ℕ))) (line : List ℕ) (row : List (ℕ × ℕ)) → AreRows needle lines rows → IsRow needle line row
+    → AreRows needle (lines ++ line ∷ []) (rows ++ row ∷ [])
+AreRows-more needle [] [] line row are is = (is, tt)
+AreRows-more needle [] (r ∷ rows) line row are is = absurd are
+AreRows-more needle (l ∷ lines) [] line row are is = absurd are
+AreRows-more needle (l ∷ lines) (r ∷ rows) line row are is = (are.0, AreRows-more needle lines rows line row are.1 is)
+
+-- a row more, that of this line
+AreRows-add : (needle : List ℕ) (lines : List (List ℕ)) (rows rows' : List (List (ℕ × ℕ))) (line : List ℕ) → AreRows needle lines rows → AddsRow needle line rows rows'
+    → AreRows needle (lines ++ line ∷ []) rows'
+AreRows-add needle lines rows rows' line are adds =
+    subst (AreRows needle (lines ++ line ∷ [])) (sym adds.added) (AreRows-more needle lines rows line adds.row are adds.is)
+
 -- ---- the report so far
 
 -- Of a text in pieces the rows so far are of the lines up to a place. From there `front`, without a break, lies before `rest`, which is left of the last piece that was taken. The next piece starts at byte `at`.
@@ -81,7 +101,9 @@ pub record Reported (needle : List ℕ) (pieces : List (List ℕ)) (rest : List 
   pub place : at ≡ byte_len (text_of before)
   pub whole : (ends_with_cr rest && starts_with_lf (text_of after)) ≡ false
   pub plain : NonePass is_line_break front
-  pub same : report (text_of pieces) needle ≡ rows ++ report (front ++ (rest ++ text_of after)) needle
+  pub done : List (List ℕ)
+  pub lines : line_texts (text_of pieces) ≡ done ++ line_texts (front ++ (rest ++ text_of after))
+  pub are : AreRows needle done rows
   pub counted : new.count ≤ old.count + length rows
   pub wholes : new.wholes ≡ old.wholes
 
@@ -95,7 +117,9 @@ Reported-start needle pieces front rows ticks front-is rows-is =
       place = refl;
       whole = refl;
       plain = tt;
-      same = refl;
+      done = [];
+      lines = refl;
+      are = tt;
       counted = omega arith;
       wholes = refl;
     } in
@@ -104,13 +128,12 @@ Reported-start needle pieces front rows ticks front-is rows-is =
 
 -- a line more
 pub Reported-line : (needle : List ℕ) (pieces : List (List ℕ)) (rest : List ℕ) (at : ℕ) (front : List ℕ) (rows : List (List (ℕ × ℕ))) (line next front' : List ℕ) (rows' : List (List (ℕ × ℕ)))
-    (old mid new : Ticks) → Reported needle pieces rest at front rows old mid → BeginsWithLine rest line next → rows' ≡ rows ++ row_of needle (front ++ line) ∷ []
+    (old mid new : Ticks) → Reported needle pieces rest at front rows old mid → BeginsWithLine rest line next → AddsRow needle (front ++ line) rows rows'
     → front' ≡ [] → new.count ≤ mid.count + 1 → new.wholes ≡ mid.wholes → Reported needle pieces next at front' rows' old new
-Reported-line needle pieces rest at front rows line next front' rows' old mid new sofar cut rows-is front-is count wholes =
+Reported-line needle pieces rest at front rows line next front' rows' old mid new sofar cut adds front-is count wholes =
     let later = text_of sofar.after in
-    let row = row_of needle (front ++ line) in
+    let done = sofar.done ++ (front ++ line) ∷ [] in
     let lines = line-past front rest line next later sofar.plain cut sofar.whole in
-    let emptied : report (next ++ later) needle ≡ report (front' ++ (next ++ later)) needle = ap (λ f. report (f ++ (next ++ later)) needle) (sym front-is) in
     record {
       before = sofar.before;
       after = sofar.after;
@@ -118,10 +141,12 @@ Reported-line needle pieces rest at front rows line next front' rows' old mid ne
       place = sofar.place;
       whole = rest-whole rest line next later cut sofar.whole;
       plain = subst (NonePass is_line_break) (sym front-is) tt;
-      same =
-          sofar.same ∙ ap (λ ls. rows ++ map (row_of needle) ls) lines ∙ sym (append_assoc rows (row ∷ []) (report (next ++ later) needle))
-          ∙ ap (λ rs. rs ++ report (next ++ later) needle) (sym rows-is) ∙ ap (λ rs. rows' ++ rs) emptied;
-      counted = omega (arith, sofar.counted, count, ap length rows-is, length-append rows (row ∷ []));
+      done = done;
+      lines =
+          sofar.lines ∙ ap (λ ls. sofar.done ++ ls) lines ∙ sym (append_assoc sofar.done ((front ++ line) ∷ []) (line_texts (next ++ later)))
+          ∙ ap (λ f. done ++ line_texts (f ++ (next ++ later))) (sym front-is);
+      are = AreRows-add needle sofar.done rows rows' (front ++ line) sofar.are adds;
+      counted = omega (arith, sofar.counted, count, ap length adds.added, length-append rows (adds.row ∷ []));
       wholes = wholes ∙ sofar.wholes;
     }
 
@@ -176,7 +201,9 @@ Reported-carry needle pieces rest at front rows line front' rows' at' old new ch
       place = omega (arith, at-is, sofar.place, ap byte_len taken, byte_len-append (text_of sofar.before) chunk);
       whole = ap (λ t. ends_with_cr t && starts_with_lf later) (sym (append-nil chunk)) ∙ uncut (chunk ∷ []) found.after here;
       plain = subst (NonePass is_line_break) (sym carried) (none-append is_line_break front rest sofar.plain plain);
-      same = sofar.same ∙ ap (λ t. rows ++ report t needle) moved ∙ ap (λ rs. rs ++ report (front' ++ (chunk ++ later)) needle) (sym rows-is);
+      done = sofar.done;
+      lines = sofar.lines ∙ ap (λ t. sofar.done ++ line_texts t) moved;
+      are = subst (AreRows needle sofar.done) (sym rows-is) sofar.are;
       counted = omega (arith, sofar.counted, ap length rows-is);
       wholes = sofar.wholes;
     }
@@ -184,8 +211,8 @@ Reported-carry needle pieces rest at front rows line front' rows' at' old new ch
 -- the last line
 pub Reported-end : (needle : List ℕ) (pieces : List (List ℕ)) (rest : List ℕ) (at : ℕ) (front : List ℕ) (rows : List (List (ℕ × ℕ))) (line : List ℕ) (rows' : List (List (ℕ × ℕ))) (old new : Ticks)
     → Reported needle pieces rest at front rows old new → at ≡ byte_len (text_of pieces) → line ≡ rest → NonePass is_line_break rest
-    → rows' ≡ rows ++ row_of needle (front ++ line) ∷ [] → rows' ≡ report (text_of pieces) needle
-Reported-end needle pieces rest at front rows line rows' old new sofar all line-is plain rows-is =
+    → AddsRow needle (front ++ line) rows rows' → IsReport (text_of pieces) needle rows'
+Reported-end needle pieces rest at front rows line rows' old new sofar all line-is plain adds =
     let text : byte_len (text_of pieces) ≡ byte_len (text_of sofar.before) + byte_len (text_of sofar.after) =
     ap (λ ps. byte_len (text_of ps)) sofar.parts ∙ ap byte_len (concat-append sofar.before sofar.after) ∙ byte_len-append (text_of sofar.before) (text_of sofar.after) in
     let none : text_of sofar.after ≡ [] = no_bytes (text_of sofar.after) (omega (arith, text, all, sofar.place)) in
@@ -193,7 +220,9 @@ Reported-end needle pieces rest at front rows line rows' old new sofar all line-
     ap (λ t. front ++ (rest ++ t)) none ∙ ap (λ t. front ++ t) (append-nil rest) ∙ ap (λ l. front ++ l) (sym line-is) in
     let plain' : NonePass is_line_break (front ++ line) =
     subst (λ l. NonePass is_line_break (front ++ l)) (sym line-is) (none-append is_line_break front rest sofar.plain plain) in
-    rows-is ∙ sym (sofar.same ∙ ap (λ t. rows ++ report t needle) left ∙ ap (λ ls. rows ++ map (row_of needle) ls) (line-last (front ++ line) plain'))
+    subst (λ ls. AreRows needle ls rows')
+    (sym (sofar.lines ∙ ap (λ t. sofar.done ++ line_texts t) left ∙ ap (λ ls. sofar.done ++ ls) (line-last (front ++ line) plain')))
+    (AreRows-add needle sofar.done rows rows' (front ++ line) sofar.are adds)
 
 -- one row more is still within the count
 pub Reported-room : (needle : List ℕ) (pieces : List (List ℕ)) (rest : List ℕ) (at : ℕ) (front : List ℕ) (rows : List (List (ℕ × ℕ))) (old new : Ticks)
@@ -203,10 +232,9 @@ Reported-room needle pieces rest at front rows old new sofar =
     omega (
       arith,
       sofar.counted,
-      ap length sofar.same,
-      length-append rows (report left needle),
-      length-map (line_texts (text_of pieces)) (row_of needle),
-      length-map (line_texts left) (row_of needle),
+      AreRows-length needle sofar.done rows sofar.are,
+      ap length sofar.lines,
+      length-append sofar.done (line_texts left),
       lines-counted (text_of pieces),
       lines-counted left,
     )

@@ -1,5 +1,5 @@
 -- How many matches a report has at most.
-use Rattle.std.proofs.Common.{◌≡◌, ℕ, zero, suc, ◌+◌, ◌≤◌, List, [], ◌∷◌, Option, None, Some, length, map, sum_by, ap, ⊎_elim, length-append, arith}
+use Rattle.std.proofs.Common.{◌≡◌, ℕ, ◌+◌, ◌≤◌, List, [], ◌∷◌, length, sum_by, ap, ⊎_elim, length-append, arith}
 use Rattle.std.proofs.lemmas.Bool.{cases_Bool}
 use Rattle.std.proofs.lemmas.List.{length-map}
 use Rattle.std.proofs.lemmas.List.Sums.{sum_by-cons}
@@ -7,24 +7,26 @@ use Rattle.std.proofs.lemmas.Str.{length-encode, len_utf8_bounds}
 use Rattle.std.proofs.Math.Utf8.{encode}
 use Rattle.str_indices.specs.Text.{is_line_break, ends_break}
 use Rattle.rope_search_reports.specs.Text.{bytes_of}
-use Rattle.rope_search_reports.specs.Report.{with_first, line_texts, and_after, matches_from, find, matches, columns, row_of, report, match_count}
+use Rattle.rope_search_reports.specs.Report.{with_first, line_texts, IsSpanOf, past, AreNext, columns, IsRow, AreRows, IsReport, match_count}
 use Rattle.rope_search_reports.proofs.ReportLemmas.{line_texts-nil, line_texts-break, line_texts-cr, line_texts-more}
 
-and_after-few : (found : Option (ℕ × ℕ)) (later : ℕ → List (ℕ × ℕ)) (n : ℕ) → ((end : ℕ) → length (later end) ≤ n) → length (and_after found later) ≤ suc n
-and_after-few None later n few = omega arith
-and_after-few (Some span) later n few = omega (arith, few span.1)
+-- matches are no more than places
+AreNext-few : (needle content : List ℕ) (from : ℕ) (spans : List (ℕ × ℕ)) → from ≤ length content + 1 → AreNext (IsSpanOf needle content) from spans
+    → length spans + from ≤ length content + 1
+AreNext-few needle content from [] within are = omega arith
+AreNext-few needle content from (span ∷ spans) within are =
+    let fits = are.0.is.occurs.fits in
+    let ends = are.0.is.ends in
+    let behind = are.0.behind in
+    omega (arith, AreNext-few needle content (past span) spans (omega arith) are.1)
 
--- a search that is asked n times finds n matches at most
-pub matches_from-few : (search_from : ℕ → Option (ℕ × ℕ)) (place n : ℕ) → length (matches_from search_from place n) ≤ n
-unfolding matches_from
-matches_from-few search_from place zero = omega arith
-matches_from-few search_from place (suc n) = and_after-few (search_from place) (λ end. matches_from search_from end n) n (λ end. matches_from-few search_from end n)
+encode-some : (c : ℕ) → 1 ≤ length (encode c)
+encode-some c = omega (arith, length-encode c, len_utf8_bounds c)
 
 -- a line has at most one match more than bytes
-row_of-few : (pattern line : List ℕ) → length (row_of pattern line) ≤ length (bytes_of line) + 1
-unfolding row_of
-row_of-few pattern line =
-    omega (arith, length-map (matches (bytes_of pattern) (bytes_of line)) (columns (bytes_of line)), matches_from-few (find (bytes_of pattern) (bytes_of line)) 0 (length (bytes_of line) + 1))
+IsRow-few : (pattern line : List ℕ) (row : List (ℕ × ℕ)) → IsRow pattern line row → length row ≤ length (bytes_of line) + 1
+IsRow-few pattern line row is =
+    omega (arith, ap length is.shown, length-map is.spans (columns (bytes_of line)), AreNext-few (bytes_of pattern) (bytes_of line) 0 is.spans (omega arith) is.are)
 
 -- the bytes of all lines, and one for each
 abbrev room : List (List ℕ) → ℕ
@@ -33,15 +35,12 @@ room lines = sum_by (λ line. length (bytes_of line) + 1) lines
 room-cons : (line : List ℕ) (lines : List (List ℕ)) → room (line ∷ lines) ≡ length (bytes_of line) + 1 + room lines
 room-cons line lines = sum_by-cons (λ l. length (bytes_of l) + 1) line lines
 
-rows-few : (pattern : List ℕ) (lines : List (List ℕ)) → match_count (map (row_of pattern) lines) ≤ room lines
-rows-few pattern [] = omega arith
-rows-few pattern (line ∷ lines) =
-    let counted : match_count (map (row_of pattern) (line ∷ lines)) ≡ length (row_of pattern line) + match_count (map (row_of pattern) lines) =
-    sum_by-cons length (row_of pattern line) (map (row_of pattern) lines) in
-    omega (arith, rows-few pattern lines, row_of-few pattern line, counted, room-cons line lines)
-
-encode-some : (c : ℕ) → 1 ≤ length (encode c)
-encode-some c = omega (arith, length-encode c, len_utf8_bounds c)
+rows-few : (pattern : List ℕ) (lines : List (List ℕ)) (rows : List (List (ℕ × ℕ))) → AreRows pattern lines rows → match_count rows ≤ room lines
+rows-few pattern [] [] are = omega arith
+rows-few pattern [] (row ∷ rows) are = absurd are
+rows-few pattern (line ∷ lines) [] are = absurd are
+rows-few pattern (line ∷ lines) (row ∷ rows) are =
+    omega (arith, rows-few pattern lines rows are.1, IsRow-few pattern line row are.0, sum_by-cons length row rows, room-cons line lines)
 
 -- a line has one character more
 lines-first : (c : ℕ) (cs : List ℕ) → room (line_texts cs) ≤ length (bytes_of cs) + 1 → line_texts (c ∷ cs) ≡ with_first c (line_texts cs)
@@ -70,5 +69,5 @@ lines-room (c ∷ cs) =
     (cases_Bool (ends_break is_line_break c cs))
 
 -- a report has at most one match more than its text has bytes
-pub report-few : (text pattern : List ℕ) → match_count (report text pattern) ≤ length (bytes_of text) + 1
-report-few text pattern = omega (arith, rows-few pattern (line_texts text), lines-room text)
+pub report-few : (text pattern : List ℕ) (rows : List (List (ℕ × ℕ))) → IsReport text pattern rows → match_count rows ≤ length (bytes_of text) + 1
+report-few text pattern rows is = omega (arith, rows-few pattern (line_texts text) rows is, lines-room text)

@@ -2,3 +2,4 @@ pub mod RowLemmas
 pub mod ReportLemmas
 pub mod FewLemmas
 pub mod DraftLemmas
+pub mod ReportLaws

@@ -1,19 +1,19 @@
 -- The search of a line, match by match: what follows the last match, and the rows so far.
-use Rattle.std.proofs.Common.{◌≡◌, ℕ, zero, suc, ◌+◌, ◌-◌, ◌<◌, ◌≤◌, List, [], ◌∷◌, ◌++◌, Option, None, Some, IsUtf8, map, length, take, drop, slice_index, refl, sym, ap, subst, ◌∙◌, ◌⊎◌, ⊎_elim, append-nil, arith, chars, append_assoc, length-append, length-drop, get_or-drop, take-append-drop}
+use Rattle.std.proofs.Common.{◌≡◌, ℕ, ◌+◌, ◌-◌, ◌<◌, ◌≤◌, List, [], ◌∷◌, ◌++◌, Option, None, Some, IsUtf8, map, length, take, drop, slice_index, refl, sym, ap, subst, ◌∙◌, append-nil, arith, chars, append_assoc, length-append, length-drop, get_or-drop, take-append-drop}
 use Rattle.std.proofs.Math.Seq.{take-append_seam, drop-append_seam}
 use Rattle.std.proofs.Math.Utf8.{encode}
-use Rattle.std.proofs.lemmas.Bool.{cases_Bool, cond-true, cond-false, false≢true}
 use Rattle.std.proofs.lemmas.Bool.Decides.{nat_tests}
+use Rattle.std.proofs.lemmas.List.{map-append}
 use Rattle.std.proofs.lemmas.List.Sums.{sum_by-cons}
 use Rattle.std.proofs.lemmas.Str.{IsUtf8-append, IsUtf8-take, IsUtf8-drop, IsUtf8-past_char, IsUtf8-nil, IsCharBoundary-start, IsCharBoundary-at_seam, chars-append, chars-nil, encodes-chars, length-encode}
 use Rattle.std.specs.Str.{IsCharBoundary}
 use Rattle.std.specs.Char.{len_utf8}
-use Rattle.memchr.specs.Find.{OccursAt, FindsNeedle, occurs_at}
-use Rattle.memchr.proofs.lemmas.MatchLemmas.{OccursAt-split, OccursAt-true, occurs_at-true}
+use Rattle.memchr.specs.Find.{OccursAt, FindsNeedle}
+use Rattle.memchr.proofs.lemmas.MatchLemmas.{OccursAt-split}
 use Rattle.str_indices.specs.Text.{units, units_of}
 use Rattle.str_indices.proofs.Joined.{units-add}
 use Rattle.rope_search_reports.specs.Text.{bytes_of}
-use Rattle.rope_search_reports.specs.Report.{find_among, find, and_after, matches_from, matches, column, columns, row_of}
+use Rattle.rope_search_reports.specs.Report.{IsSpanOf, IsNext, past, AreNext, IsMatches, IsRow, column, columns}
 
 -- ---- where a text may be cut round another
 
@@ -89,59 +89,6 @@ occurs-out content needle p k within occurs =
           get_or-drop p content (k + j) 0 ∙ ap (slice_index content) same ∙ occurs.reads j l;
     }
 
-find_among-some : (needle content : List ℕ) (start n k : ℕ) → start ≤ k → k < start + n → ((j : ℕ) → start ≤ j → j < k → ¬ (OccursAt content needle j))
-    → OccursAt content needle k → find_among needle content start n ≡ Some (k, k + length needle)
-unfolding find_among
-find_among-some needle content start zero k low high before occurs = absurd (omega arith)
-find_among-some needle content start (suc n) k low high before occurs =
-    ⊎_elim
-    (λ yes.
-    let here = OccursAt-true content needle start yes in
-    let same : start ≡ k = ⊎_elim (λ e. e) (λ less. absurd (before start (omega arith) less here)) (start-or start k low) in
-    cond-true _ _ _ yes ∙ ap (λ i. Some (i, i + length needle)) same)
-    (λ no.
-    let other : start < k = ⊎_elim
-    (λ e. absurd (false≢true (sym no ∙ ap (occurs_at content needle) e ∙ occurs_at-true content needle k occurs)))
-    (λ less. less) (start-or start k low) in
-    cond-false _ _ _ no
-    ∙ find_among-some needle content (start + 1) n k (omega arith) (omega arith) (λ j a b. before j (omega arith) b) occurs)
-    (cases_Bool (occurs_at content needle start))
-  where
-    start-or : (a b : ℕ) → a ≤ b → (a ≡ b) ⊎ (a < b)
-    start-or a b h = grind arith
-
-find_among-none : (needle content : List ℕ) (start n : ℕ) → ((j : ℕ) → start ≤ j → ¬ (OccursAt content needle j))
-    → find_among needle content start n ≡ None
-unfolding find_among
-find_among-none needle content start zero nowhere = refl
-find_among-none needle content start (suc n) nowhere =
-    ⊎_elim
-    (λ yes. absurd (nowhere start (omega arith) (OccursAt-true content needle start yes)))
-    (λ no. cond-false _ _ _ no ∙ find_among-none needle content (start + 1) n (λ j a. nowhere j (omega arith)))
-    (cases_Bool (occurs_at content needle start))
-
-find-some : (needle content : List ℕ) (p at : ℕ) → p ≤ length content → FindsNeedle (drop p content) needle 0 (Some at)
-    → find needle content p ≡ Some (p + at, p + at + length needle)
-find-some needle content p at within found =
-    let occurs = occurs-in content needle p at within found.1 in
-    let fits = occurs.fits in
-    find_among-some needle content p (length content + 1 - p) (p + at) (omega arith) (omega arith)
-    (λ j low high here.
-    let same : j ≡ p + (j - p) = omega arith in
-    let P : ℕ → Type 0 = λ i. OccursAt content needle i in
-    found.0.before (j - p) (omega arith) (omega arith) (occurs-out content needle p (j - p) within (subst P same here)))
-    occurs
-
-find-none : (needle content : List ℕ) (p : ℕ) → p ≤ length content → FindsNeedle (drop p content) needle 0 None → find needle content p ≡ None
-find-none needle content p within nowhere =
-    find_among-none needle content p (length content + 1 - p)
-    (λ j low here.
-    let same : j ≡ p + (j - p) = omega arith in
-    let P : ℕ → Type 0 = λ i. OccursAt content needle i in
-    let occurs = occurs-out content needle p (j - p) within (subst P same here) in
-    let fits = occurs.fits in
-    nowhere (j - p) (omega arith) (omega arith) occurs)
-
 pub found-same : (hay hay' needle needle' : List ℕ) (r r' : Option ℕ) → hay ≡ hay' → needle ≡ needle' → r ≡ r' → FindsNeedle hay needle 0 r → FindsNeedle hay' needle' 0 r'
 found-same hay hay' needle needle' r r' p q e found =
     let P : List ℕ → Type 0 = λ bs. FindsNeedle bs needle 0 r in
@@ -151,37 +98,18 @@ found-same hay hay' needle needle' r r' p q e found =
 
 -- ---- all searches of a line
 
-matches_from-one : (search_from : ℕ → Option (ℕ × ℕ)) (p n : ℕ) (span : ℕ × ℕ) → search_from p ≡ Some span
-    → matches_from search_from p (suc n) ≡ span ∷ matches_from search_from span.1 n
-unfolding matches_from
-matches_from-one search_from p n span found = ap (λ r. and_after r (λ end. matches_from search_from end n)) found
-
-matches_from-none : (search_from : ℕ → Option (ℕ × ℕ)) (p n : ℕ) → search_from p ≡ None → matches_from search_from p n ≡ []
-unfolding matches_from
-matches_from-none search_from p zero found = refl
-matches_from-none search_from p (suc n) found = ap (λ r. and_after r (λ end. matches_from search_from end n)) found
-
 -- the line was searched up to the end of a match; what follows is left, and starts at this column
 pub record Searched (needle content rest : List ℕ) (col : ℕ) (items : List (ℕ × ℕ)) : Type 0 where
   pub front : List ℕ
-  pub left : ℕ
+  pub spans : List (ℕ × ℕ)
   pub split : content ≡ front ++ rest
   pub utf8 : IsUtf8 front
   pub at_column : col ≡ units (chars front)
-  pub enough : length rest < left
-  pub rows : map (columns content) (matches needle content) ≡ items ++ map (columns content) (matches_from (find needle content) (length front) left)
+  pub shown : items ≡ map (columns content) spans
+  pub all : (more : List (ℕ × ℕ)) → AreNext (IsSpanOf needle content) (length front) more → IsMatches needle content (spans ++ more)
 
 pub Searched-start : (needle content : List ℕ) → Searched needle content content 0 []
-Searched-start needle content =
-    record {
-      front = [];
-      left = length content + 1;
-      split = refl;
-      utf8 = IsUtf8-nil;
-      at_column = ap units (sym chars-nil);
-      enough = omega arith;
-      rows = refl;
-    }
+Searched-start needle content = record { front = []; spans = []; split = refl; utf8 = IsUtf8-nil; at_column = ap units (sym chars-nil); shown = refl; all = λ more are. are }
 
 pub Searched-column : (needle content rest : List ℕ) (col : ℕ) (items : List (ℕ × ℕ)) → Searched needle content rest col items → col + length rest ≤ length content
 Searched-column needle content rest col items sofar =
@@ -193,79 +121,88 @@ pair-is a b x y p q =
     let second : ℕ → ℕ × ℕ = λ n. (x, n) in
     ap first p ∙ ap second q
 
+-- a search from a place on found the next match
+next-found : (needle content : List ℕ) (p at : ℕ) → p ≤ length content → FindsNeedle (drop p content) needle 0 (Some at)
+    → IsNext (IsSpanOf needle content) p (p + at, p + at + length needle)
+next-found needle content p at within found = record {
+  is = record { occurs = occurs-in content needle p at within found.1; ends = refl };
+  behind = omega arith;
+  none_before = λ other is low high.
+      let same : other.0 ≡ p + (other.0 - p) = omega arith in
+      let P : ℕ → Type 0 = λ i. OccursAt content needle i in
+      found.0.before (other.0 - p) (omega arith) (omega arith) (occurs-out content needle p (other.0 - p) within (subst P same is.occurs));
+}
+
+-- or that there is none
+none-found : (needle content : List ℕ) (p : ℕ) → p ≤ length content → FindsNeedle (drop p content) needle 0 None → AreNext (IsSpanOf needle content) p []
+none-found needle content p within nowhere span is low =
+    let same : span.0 ≡ p + (span.0 - p) = omega arith in
+    let P : ℕ → Type 0 = λ i. OccursAt content needle i in
+    let occurs = occurs-out content needle p (span.0 - p) within (subst P same is.occurs) in
+    let fits = occurs.fits in
+    nowhere (span.0 - p) (omega arith) (omega arith) occurs
+
 -- one match more
 pub Searched-step : (needle content rest gap after : List ℕ) (col at w v : ℕ) (items : List (ℕ × ℕ)) → IsUtf8 needle → IsUtf8 rest → 0 < length needle
     → Searched needle content rest col items → FindsNeedle rest needle 0 (Some at) → gap ≡ take at rest → after ≡ drop (at + length needle) rest
     → w ≡ units (chars gap) → v ≡ units (chars needle)
     → Searched needle content after (col + w + v) (items ++ (col + w, col + w + v) ∷ [])
 Searched-step needle content rest gap after col at w v items utf8 utf8' some sofar found gap-is after-is w-is v-is =
-    Searched-step-by needle content rest gap after col at w v items sofar.left utf8 utf8' some sofar refl found gap-is after-is w-is v-is
-  where
-    Searched-step-by : (needle content rest gap after : List ℕ) (col at w v : ℕ) (items : List (ℕ × ℕ)) (n : ℕ) → IsUtf8 needle → IsUtf8 rest → 0 < length needle
-        → (sofar : Searched needle content rest col items) → sofar.left ≡ n → FindsNeedle rest needle 0 (Some at) → gap ≡ take at rest → after ≡ drop (at + length needle) rest
-        → w ≡ units (chars gap) → v ≡ units (chars needle)
-        → Searched needle content after (col + w + v) (items ++ (col + w, col + w + v) ∷ [])
-    Searched-step-by needle content rest gap after col at w v items zero utf8 utf8' some sofar n-is found gap-is after-is w-is v-is =
-        absurd (omega (arith, sofar.enough, n-is))
-    Searched-step-by needle content rest gap after col at w v items (suc n) utf8 utf8' some sofar n-is found gap-is after-is w-is v-is =
-        let front = sofar.front in
-        let place = length front in
-        let within : place ≤ length content = omega (arith, ap length sofar.split, length-append front rest) in
-        let left : drop place content ≡ rest = ap (drop place) sofar.split ∙ drop-append_seam front rest in
-        let P : List ℕ → Type 0 = λ bs. FindsNeedle bs needle 0 (Some at) in
-        let spans = find-some needle content place at within (subst P (sym left) found) in
-        let fits = found.1.fits in
-        let gap-utf8 : IsUtf8 gap = subst IsUtf8 (sym gap-is) (IsUtf8-take rest at utf8' (occurs-start rest needle at utf8 some found.1)) in
-        let parts : rest ≡ gap ++ (needle ++ after) =
-        sym (take-append-drop at rest) ∙ ap (λ bs. bs ++ drop at rest) (sym gap-is)
-        ∙ ap (λ bs. gap ++ bs) (OccursAt-split rest needle at found.1) ∙ ap (λ bs. gap ++ (needle ++ bs)) (sym after-is) in
-        let gap-length : length gap ≡ at =
-        omega (arith, ap length parts, length-append gap (needle ++ after), length-append needle after, ap length after-is, length-drop (at + length needle) rest) in
-        let until : content ≡ (front ++ gap) ++ (needle ++ after) =
-        sofar.split ∙ ap (λ bs. front ++ bs) parts ∙ sym (append_assoc front gap (needle ++ after)) in
-        let through : content ≡ ((front ++ gap) ++ needle) ++ after = until ∙ sym (append_assoc (front ++ gap) needle after) in
-        let until-utf8 : IsUtf8 (front ++ gap) = IsUtf8-append front gap sofar.utf8 gap-utf8 in
-        let until-length : length (front ++ gap) ≡ place + at = length-append front gap ∙ ap (λ n. place + n) gap-length in
-        let through-length : length ((front ++ gap) ++ needle) ≡ place + at + length needle =
-        length-append (front ++ gap) needle ∙ ap (λ n. n + length needle) until-length in
-        let until-units : col + w ≡ units (chars (front ++ gap)) = omega (arith, units-joined front gap sofar.utf8, sofar.at_column, w-is) in
-        let through-units : col + w + v ≡ units (chars ((front ++ gap) ++ needle)) = omega (arith, units-joined (front ++ gap) needle until-utf8, until-units, v-is) in
-        let start-column : column content (place + at) ≡ col + w =
-        ap (column content) (sym until-length) ∙ column-front content (front ++ gap) (needle ++ after) until ∙ sym until-units in
-        let end-column : column content (place + at + length needle) ≡ col + w + v =
-        ap (column content) (sym through-length) ∙ column-front content ((front ++ gap) ++ needle) after through ∙ sym through-units in
-        let search_from = find needle content in
-        let one : matches_from search_from place sofar.left ≡ (place + at, place + at + length needle) ∷ matches_from search_from (place + at + length needle) n =
-        ap (matches_from search_from place) n-is ∙ matches_from-one search_from place n _ spans in
-        let later = map (columns content) (matches_from search_from (length ((front ++ gap) ++ needle)) n) in
-        let moved : map (columns content) (matches_from search_from (place + at + length needle) n) ≡ later =
-        ap (λ p. map (columns content) (matches_from search_from p n)) (sym through-length) in
-        let pair : ◌≡◌ {A = ℕ × ℕ} (columns content (place + at, place + at + length needle)) (col + w, col + w + v) = pair-is _ _ _ _ start-column end-column in
-        record {
-          front = (front ++ gap) ++ needle;
-          left = n;
-          split = through;
-          utf8 = IsUtf8-append (front ++ gap) needle until-utf8 utf8;
-          at_column = through-units;
-          enough = omega (arith, sofar.enough, n-is, ap length parts, length-append gap (needle ++ after), length-append needle after);
-          rows =
-              sofar.rows ∙ ap (λ xs. items ++ map (columns content) xs) one
-              ∙ ap (λ xs. items ++ (columns content (place + at, place + at + length needle) ∷ xs)) moved
-              ∙ ap (λ x. items ++ (x ∷ later)) pair
-              ∙ sym (append_assoc items ((col + w, col + w + v) ∷ []) later);
-        }
+    let front = sofar.front in
+    let place = length front in
+    let within : place ≤ length content = omega (arith, ap length sofar.split, length-append front rest) in
+    let left : drop place content ≡ rest = ap (drop place) sofar.split ∙ drop-append_seam front rest in
+    let P : List ℕ → Type 0 = λ bs. FindsNeedle bs needle 0 (Some at) in
+    let span : ℕ × ℕ = (place + at, place + at + length needle) in
+    let next = next-found needle content place at within (subst P (sym left) found) in
+    let fits = found.1.fits in
+    let gap-utf8 : IsUtf8 gap = subst IsUtf8 (sym gap-is) (IsUtf8-take rest at utf8' (occurs-start rest needle at utf8 some found.1)) in
+    let parts : rest ≡ gap ++ (needle ++ after) =
+    sym (take-append-drop at rest) ∙ ap (λ bs. bs ++ drop at rest) (sym gap-is)
+    ∙ ap (λ bs. gap ++ bs) (OccursAt-split rest needle at found.1) ∙ ap (λ bs. gap ++ (needle ++ bs)) (sym after-is) in
+    let gap-length : length gap ≡ at =
+    omega (arith, ap length parts, length-append gap (needle ++ after), length-append needle after, ap length after-is, length-drop (at + length needle) rest) in
+    let until : content ≡ (front ++ gap) ++ (needle ++ after) =
+    sofar.split ∙ ap (λ bs. front ++ bs) parts ∙ sym (append_assoc front gap (needle ++ after)) in
+    let through : content ≡ ((front ++ gap) ++ needle) ++ after = until ∙ sym (append_assoc (front ++ gap) needle after) in
+    let until-utf8 : IsUtf8 (front ++ gap) = IsUtf8-append front gap sofar.utf8 gap-utf8 in
+    let until-length : length (front ++ gap) ≡ place + at = length-append front gap ∙ ap (λ n. place + n) gap-length in
+    let through-length : length ((front ++ gap) ++ needle) ≡ place + at + length needle =
+    length-append (front ++ gap) needle ∙ ap (λ n. n + length needle) until-length in
+    let until-units : col + w ≡ units (chars (front ++ gap)) = omega (arith, units-joined front gap sofar.utf8, sofar.at_column, w-is) in
+    let through-units : col + w + v ≡ units (chars ((front ++ gap) ++ needle)) = omega (arith, units-joined (front ++ gap) needle until-utf8, until-units, v-is) in
+    let start-column : column content (place + at) ≡ col + w =
+    ap (column content) (sym until-length) ∙ column-front content (front ++ gap) (needle ++ after) until ∙ sym until-units in
+    let end-column : column content (place + at + length needle) ≡ col + w + v =
+    ap (column content) (sym through-length) ∙ column-front content ((front ++ gap) ++ needle) after through ∙ sym through-units in
+    let end : place + at + length needle ≡ past span = omega arith in
+    let pair : ◌≡◌ {A = ℕ × ℕ} (columns content span) (col + w, col + w + v) = pair-is _ _ _ _ start-column end-column in
+    record {
+      front = (front ++ gap) ++ needle;
+      spans = sofar.spans ++ span ∷ [];
+      split = through;
+      utf8 = IsUtf8-append (front ++ gap) needle until-utf8 utf8;
+      at_column = through-units;
+      shown = ap (λ xs. xs ++ (col + w, col + w + v) ∷ []) sofar.shown ∙ ap (λ x. map (columns content) sofar.spans ++ x ∷ []) (sym pair) ∙ sym (map-append (columns content) sofar.spans (span ∷ []));
+      all = λ more are.
+          subst (IsMatches needle content) (sym (append_assoc sofar.spans (span ∷ []) more))
+          (sofar.all (span ∷ more) (next, subst (λ p. AreNext (IsSpanOf needle content) p more) (through-length ∙ end) are));
+    }
 
 -- nothing more is found, and the row is whole
 pub Searched-end : (needle content rest : List ℕ) (col : ℕ) (items : List (ℕ × ℕ)) → IsUtf8 needle → IsUtf8 content → Searched needle content rest col items
-    → FindsNeedle rest needle 0 None → items ≡ row_of (chars needle) (chars content)
-unfolding row_of
+    → FindsNeedle rest needle 0 None → IsRow (chars needle) (chars content) items
 Searched-end needle content rest col items utf8 utf8' sofar nowhere =
     let front = sofar.front in
     let within : length front ≤ length content = omega (arith, ap length sofar.split, length-append front rest) in
     let left : drop (length front) content ≡ rest = ap (drop (length front)) sofar.split ∙ drop-append_seam front rest in
     let P : List ℕ → Type 0 = λ bs. FindsNeedle bs needle 0 None in
-    let none = matches_from-none (find needle content) (length front) sofar.left (find-none needle content (length front) within (subst P (sym left) nowhere)) in
-    let whole = sofar.rows ∙ ap (λ spans. items ++ map (columns content) spans) none in
-    let texts = ap (λ bs. map (columns content) (matches bs content)) (encodes-chars needle utf8) in
-    let lines = ap (λ bs. map (columns bs) (matches (bytes_of (chars needle)) bs)) (encodes-chars content utf8') in
-    sym (lines ∙ texts ∙ whole ∙ append-nil items)
+    let all = sofar.all [] (none-found needle content (length front) within (subst P (sym left) nowhere)) in
+    let are : IsMatches needle content sofar.spans = subst (IsMatches needle content) (append-nil sofar.spans) all in
+    record {
+      spans = sofar.spans;
+      are =
+          subst (λ n. IsMatches n (bytes_of (chars content)) sofar.spans) (sym (encodes-chars needle utf8))
+          (subst (λ c. IsMatches needle c sofar.spans) (sym (encodes-chars content utf8')) are);
+      shown = sofar.shown ∙ ap (λ c. map (columns c) sofar.spans) (sym (encodes-chars content utf8'));
+    }

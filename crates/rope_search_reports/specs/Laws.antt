@@ -1,8 +1,17 @@
 -- Laws of the definitions themselves.
-use Rattle.std.specs.Prelude.{ℕ, ◌+◌, ◌≤◌, List, length}
+use Rattle.std.specs.Prelude.{◌≡◌, ℕ, ◌+◌, ◌≤◌, List, length}
 use Rattle.rope_search_reports.specs.Text.{bytes_of}
-use Rattle.rope_search_reports.specs.Report.{report, match_count}
+use Rattle.rope_search_reports.specs.Report.{IsReport, match_count}
+use Rattle.rope_search_reports.specs.Computed.{report}
 
 -- a report has at most one match more than its text has bytes
 abbrev pub HasFewMatches : Type 0
-HasFewMatches = (text pattern : List ℕ) → match_count (report text pattern) ≤ length (bytes_of text) + 1
+HasFewMatches = (text pattern : List ℕ) (rows : List (List (ℕ × ℕ))) → IsReport text pattern rows → match_count rows ≤ length (bytes_of text) + 1
+
+-- a text and a pattern have at most one report
+abbrev pub HasOneReport : Type 0
+HasOneReport = (text pattern : List ℕ) (rows rows' : List (List (ℕ × ℕ))) → IsReport text pattern rows → IsReport text pattern rows' → rows ≡ rows'
+
+-- and one
+abbrev pub HasReport : Type 0
+HasReport = (text pattern : List ℕ) → IsReport text pattern (report text pattern)

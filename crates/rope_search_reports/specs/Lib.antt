@@ -1,6 +1,7 @@
 pub mod Text
 pub mod TextExamples
 pub mod Report
+pub mod Computed
 pub mod ReportExamples
 pub mod Position
 pub mod PositionExamples

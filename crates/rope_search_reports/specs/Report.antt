@@ -1,6 +1,6 @@
 -- The report of a text and a pattern: for each line, where the pattern matches in it.
-use Rattle.std.specs.Prelude.{ℕ, zero, suc, ◌+◌, ◌-◌, List, [], ◌∷◌, Option, None, Some, if◌then◌else◌, length, take, map, sum_by, chars}
-use Rattle.memchr.specs.Find.{occurs_at}
+use Rattle.std.specs.Prelude.{◌≡◌, ℕ, ◌+◌, ◌<◌, ◌≤◌, List, [], ◌∷◌, ◌++◌, if◌then◌else◌, length, max, take, map, sum_by, chars}
+use Rattle.memchr.specs.Find.{OccursAt}
 use Rattle.str_indices.specs.Text.{is_line_break, ends_break, units}
 use Rattle.rope_search_reports.specs.Text.{bytes_of}
 
@@ -21,32 +21,31 @@ line_texts (c ∷ rest) =
     else with_first c (line_texts rest)
 
 -- ---- matches
--- A match is two places in a content, where it starts and where it ends.
+-- A span is two places in a content: where it starts and where it ends.
 
--- the first of n starts, from a place on, at which the needle lies whole in the content
-unfoldable pub find_among : List ℕ → List ℕ → ℕ → ℕ → Option (ℕ × ℕ)
-find_among needle content start zero = None
-find_among needle content start (suc n) =
-    if occurs_at content needle start then Some (start, start + length needle)
-    else find_among needle content (start + 1) n
+-- the needle lies there in the content
+pub record IsSpanOf (needle content : List ℕ) (span : ℕ × ℕ) : Type 0 where
+  pub occurs : OccursAt content needle span.0
+  pub ends : span.1 ≡ span.0 + length needle
 
--- the first match of the needle that starts at a place or after it
-abbrev pub find : List ℕ → List ℕ → ℕ → Option (ℕ × ℕ)
-find needle content from = find_among needle content from (length content + 1 - from)
+-- of all matches that start at a place or after it, this one starts first
+pub record IsNext (IsMatch : ℕ × ℕ → Type 0) (from : ℕ) (span : ℕ × ℕ) : Type 0 where
+  pub is : IsMatch span
+  pub behind : from ≤ span.0
+  pub none_before : (other : ℕ × ℕ) → IsMatch other → from ≤ other.0 → other.0 < span.0 → ⊥
 
--- a match, and those after its end; none if there is none
-abbrev pub and_after : Option (ℕ × ℕ) → (ℕ → List (ℕ × ℕ)) → List (ℕ × ℕ)
-and_after None after = []
-and_after (Some span) after = span ∷ after span.1
+-- where the next match may start: at the end of this one, or one place on where this one is empty
+abbrev pub past : ℕ × ℕ → ℕ
+past span = max (span.0 + 1) span.1
 
--- the first n matches that a search finds: one from a place on, and each further one from the end of the one before
-unfoldable pub matches_from : (ℕ → Option (ℕ × ℕ)) → ℕ → ℕ → List (ℕ × ℕ)
-matches_from search_from place zero = []
-matches_from search_from place (suc n) = and_after (search_from place) (λ end. matches_from search_from end n)
+-- these are all matches from a place on: each is the first past the one before
+abbrev pub AreNext : (ℕ × ℕ → Type 0) → ℕ → List (ℕ × ℕ) → Type 0
+AreNext IsMatch from [] = (span : ℕ × ℕ) → IsMatch span → from ≤ span.0 → ⊥
+AreNext IsMatch from (span ∷ spans) = IsNext IsMatch from span × AreNext IsMatch (past span) spans
 
--- all matches of a needle that isn't empty: there are no more than places in the content
-abbrev pub matches : List ℕ → List ℕ → List (ℕ × ℕ)
-matches needle content = matches_from (find needle content) 0 (length content + 1)
+-- all matches of a needle in a content
+abbrev pub IsMatches : List ℕ → List ℕ → List (ℕ × ℕ) → Type 0
+IsMatches needle content spans = AreNext (IsSpanOf needle content) 0 spans
 
 -- ---- rows
 -- A row is the matches in one line, each as two columns: UTF-16 code units from the line's start.
@@ -59,12 +58,26 @@ abbrev pub columns : List ℕ → ℕ × ℕ → ℕ × ℕ
 columns content span = (column content span.0, column content span.1)
 
 -- the row of a pattern in a line: its matches in that line's text as the whole content
-unfoldable pub row_of : List ℕ → List ℕ → List (ℕ × ℕ)
-row_of pattern line = map (columns (bytes_of line)) (matches (bytes_of pattern) (bytes_of line))
+pub record IsRow (pattern line : List ℕ) (row : List (ℕ × ℕ)) : Type 0 where
+  pub spans : List (ℕ × ℕ)
+  pub are : IsMatches (bytes_of pattern) (bytes_of line) spans
+  pub shown : row ≡ map (columns (bytes_of line)) spans
 
--- the report: a row for each line of the text
-abbrev pub report : List ℕ → List ℕ → List (List (ℕ × ℕ))
-report text pattern = map (row_of pattern) (line_texts text)
+-- a row for each line
+abbrev pub AreRows : List ℕ → List (List ℕ) → List (List (ℕ × ℕ)) → Type 0
+AreRows pattern [] [] = Unit {0}
+AreRows pattern (line ∷ lines) (row ∷ rows) = IsRow pattern line row × AreRows pattern lines rows
+AreRows pattern lines rows = ⊥
+
+-- the report of a text and a pattern: the row of each line, from the first
+abbrev pub IsReport : List ℕ → List ℕ → List (List (ℕ × ℕ)) → Type 0
+IsReport text pattern rows = AreRows pattern (line_texts text) rows
+
+-- one row more, that of this line
+pub record AddsRow (pattern line : List ℕ) (old new : List (List (ℕ × ℕ))) : Type 0 where
+  pub row : List (ℕ × ℕ)
+  pub is : IsRow pattern line row
+  pub added : new ≡ old ++ row ∷ []
 
 -- how many matches there are in all rows
 abbrev pub match_count : List (List (ℕ × ℕ)) → ℕ

@@ -2,7 +2,8 @@
 use Rattle.std.specs.Prelude.{◌≡◌, [], ◌∷◌, codes, refl}
 use Rattle.std.specs.Str.{chars}
 use Rattle.std.proofs.Math.Utf8.{encode}
-use Rattle.rope_search_reports.specs.Report.{line_texts, find_among, matches_from, matches, row_of, report}
+use Rattle.rope_search_reports.specs.Report.{line_texts}
+use Rattle.rope_search_reports.specs.Computed.{find_among, matches_from, matches, row_of, report}
 
 -- the empty text has one line
 pub lines_of_nothing : line_texts [] ≡ [] ∷ []

@@ -1,9 +1,19 @@
 //! Laws of the definitions that the contracts of this crate cite. Each function does nothing: its
 //! contract is the law.
 
-ghost use Rattle.rope_search_reports.specs.Laws.{HasFewMatches};
+ghost use Rattle.rope_search_reports.specs.Laws.{HasFewMatches, HasOneReport, HasReport};
 
 /// A report has at most one match more than its text has bytes.
 pub fn few_matches()
     ensures { HasFewMatches }
+{}
+
+/// A text and a pattern have at most one report.
+pub fn one_report()
+    ensures { HasOneReport }
+{}
+
+/// A text and a pattern have a report, which may be computed so.
+pub fn has_report()
+    ensures { HasReport }
 {}

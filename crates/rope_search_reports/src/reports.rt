@@ -3,7 +3,7 @@ ghost use Rattle.std.specs.Prelude.{◌≡◌, ◌+◌, ◌<◌, ◌≤◌, [], 
 ghost use Rattle.str_indices.specs.Text.{is_line_break, breaks};
 ghost use Rattle.std.specs.Str.{NonePass};
 ghost use Rattle.ropey.specs.Chunks.{text_of};
-ghost use Rattle.rope_search_reports.specs.Report.{row_of, report};
+ghost use Rattle.rope_search_reports.specs.Report.{IsRow, IsReport, AddsRow};
 ghost use Rattle.rope_search_reports.specs.LineCuts.{is_stop, BeginsWithBreak, CutsLine};
 
 use crate::rows::{Lines, Row, search_line};
@@ -107,7 +107,7 @@ impl Draft {
     fn search(&mut self, tick: &mut Lines, needle: &str, end: &str) -> Result<Row, Fault>
         requires { 0 < length needle.now }
         ensures row { IfOk result (λ row.
-            row ≡ row_of (chars needle.now) (chars (string_bytes self.old.front) ++ chars end.now)) }
+            IsRow (chars needle.now) (chars (string_bytes self.old.front) ++ chars end.now) row) }
         ensures rows { OnOk result (self.new.rows.items ≡ self.old.rows.items) }
         ensures front { OnOk result (string_bytes self.new.front ≡ []) }
         ensures fault { IfErr result (λ fault. fault ≡ Fault.Memory) }
@@ -128,8 +128,8 @@ impl Draft {
     /// Adds the row of the line that ends with these characters.
     fn end_line(&mut self, tick: &mut Lines, needle: &str, end: &str) -> Result<(), Fault>
         requires { 0 < length needle.now }
-        ensures rows { OnOk result (self.new.rows.items ≡ self.old.rows.items
-            ++ row_of (chars needle.now) (chars (string_bytes self.old.front) ++ chars end.now) ∷ []) }
+        ensures rows { OnOk result (AddsRow (chars needle.now)
+            (chars (string_bytes self.old.front) ++ chars end.now) self.old.rows.items self.new.rows.items) }
         ensures front { OnOk result (string_bytes self.new.front ≡ []) }
         ensures fault { IfErr result (λ fault. fault ≡ Fault.Memory) }
         ensures count { tick.new.count ≤ tick.old.count + 1 }
@@ -145,8 +145,8 @@ impl Draft {
     /// Adds the row of the last line, which ends with these characters, and answers all rows.
     fn finish(mut self, tick: &mut Lines, needle: &str, end: &str) -> Result<Vec<Row>, Fault>
         requires { 0 < length needle.now }
-        ensures rows { IfOk result (λ rows. rows.items ≡ self.rows.items
-            ++ row_of (chars needle.now) (chars (string_bytes self.front) ++ chars end.now) ∷ []) }
+        ensures rows { IfOk result (λ rows. AddsRow (chars needle.now)
+            (chars (string_bytes self.front) ++ chars end.now) self.rows.items rows.items) }
         ensures fault { IfErr result (λ fault. fault ≡ Fault.Memory) }
         ensures count { tick.new.count ≤ tick.old.count + 1 }
         ensures wholes { tick.new.wholes ≡ tick.old.wholes }
@@ -180,7 +180,7 @@ pub fn report_of(
     text: &Rope,
 ) -> Result<Vec<Row>, Fault>
     requires { 0 < length needle.now }
-    ensures rows { IfOk result (λ rows. rows.items ≡ report (text_of text.now) (chars needle.now)) }
+    ensures rows { IfOk result (λ rows. IsReport (text_of text.now) (chars needle.now) rows.items) }
     ensures fault { IfErr result (λ fault. fault ≡ Fault.Memory) }
     ensures count { tick.new.count ≤ tick.old.count + breaks is_line_break (text_of text.now) + 1 }
     ensures wholes { tick.new.wholes ≡ tick.old.wholes }

@@ -1,6 +1,6 @@
 //! The rows of a report, and the count of those that were made.
 ghost use Rattle.std.specs.Prelude.{◌≡◌, ◌+◌, ◌-◌, ◌^◌, ◌<◌, length, min, chars, IfOk, IfErr};
-ghost use Rattle.rope_search_reports.specs.Report.{row_of};
+ghost use Rattle.rope_search_reports.specs.Report.{IsRow};
 
 use memchr::memmem::Finder;
 use rope_search_io::Fault;
@@ -89,7 +89,7 @@ impl Row {
 /// one before. It counts one row, refused or not, and may be refused with `Fault::Memory` alone.
 pub fn search_line(tick: &mut Lines, alloc: Global, needle: &str, line: &str) -> Result<Row, Fault>
     requires { 0 < length needle.now }
-    ensures row { IfOk result (λ row. row ≡ row_of (chars needle.now) (chars line.now)) }
+    ensures row { IfOk result (λ row. IsRow (chars needle.now) (chars line.now) row) }
     ensures fault { IfErr result (λ fault. fault ≡ Fault.Memory) }
     ensures count { tick.new.count ≡ min (tick.old.count + 1) (2 ^ 64 - 1) }
     ensures wholes { tick.new.wholes ≡ tick.old.wholes }

@@ -1,6 +1,6 @@
 -- The bytes so far are the front of the line, and no LF is among them.
 use Rattle.std.proofs.Common.{◌≡◌, length, take}
-use Rattle.rope_search_io.specs.ReadAhead.{Takes}
+use Rattle.rope_search_io.specs.ReadBuffer.{Takes}
 use Rattle.rope_search.specs.Reads.{HasNoLf}
 use Rattle.rope_search.proofs.lines.read_line.Given as goal
 

@@ -1,6 +1,6 @@
 -- The matches so far went behind what waited.
 use Rattle.std.proofs.Common.{take, flat_map}
-use Rattle.rope_search_io.specs.WriteBehind.{Puts}
+use Rattle.rope_search_io.specs.WriteBuffer.{Puts}
 use Rattle.rope_search.specs.Shows.{shown_match}
 use Rattle.rope_search.proofs.listings.put_row.Given as goal
 

@@ -1,6 +1,6 @@
 -- The rows so far went on their way, and their matches are counted.
 use Rattle.std.proofs.Common.{◌≡◌, [], take}
-use Rattle.rope_search_io.specs.WriteBehind.{Puts}
+use Rattle.rope_search_io.specs.WriteBuffer.{Puts}
 use Rattle.rope_search_reports.specs.Report.{match_count}
 use Rattle.rope_search.specs.Shows.{shown_rows}
 use Rattle.rope_search.proofs.listings.write_report.Given as goal

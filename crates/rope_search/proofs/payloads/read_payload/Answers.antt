@@ -1,5 +1,5 @@
 use Rattle.std.proofs.Common.{◌≡◌, [], ◌++◌, ◌+◌, ◌-◌, ◌≤◌, List, ℕ, length, take, sym, ap, ◌∙◌, subst, arith, length-append}
-use Rattle.rope_search_io.specs.ReadAhead.{Takes}
+use Rattle.rope_search_io.specs.ReadBuffer.{Takes}
 use Rattle.rope_search.proofs.PayloadLemmas.{CollectsMore-trans}
 use Rattle.rope_search.proofs.TakesLemmas.{Takes-trans, Takes-front}
 use Rattle.rope_search.proofs.payloads.read_payload.Goals as goal

@@ -1,6 +1,6 @@
 -- Some bytes of the payload were taken, and what is kept of them is known.
 use Rattle.std.proofs.Common.{◌≡◌, ◌+◌, List, ℕ, length}
-use Rattle.rope_search_io.specs.ReadAhead.{Takes}
+use Rattle.rope_search_io.specs.ReadBuffer.{Takes}
 use Rattle.rope_search.specs.Requests.{CollectsMore}
 use Rattle.rope_search.proofs.payloads.read_payload.Given as goal
 

@@ -1,6 +1,6 @@
 -- The turns so far, from the first session; nothing waits to be written.
 use Rattle.std.proofs.Common.{◌≡◌, []}
-use Rattle.rope_search_io.specs.ReadAhead.{most_to_come}
+use Rattle.rope_search_io.specs.ReadBuffer.{most_to_come}
 use Rattle.rope_search.specs.Runs.{start, SoFar}
 use Rattle.rope_search.proofs.runs.run_turns.Given as goal
 

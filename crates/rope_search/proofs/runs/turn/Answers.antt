@@ -1,18 +1,26 @@
 use Rattle.std.proofs.lemmas.Result.{err_from_is_err_and}
 use Rattle.rope_search.proofs.TurnLemmas.{Turned-given, TakesTurn-failed}
+use Rattle.rope_search.specs.Order.{Order}
+use Rattle.rope_search.specs.Stands.{Stands}
+use Rattle.rope_search.specs.Reads.{payload_of}
+use Rattle.rope_search.specs.Requests.{IsReadAs}
 use Rattle.rope_search.proofs.runs.turn.Goals as goal
 
 pub returns-in_err-write_answer-in-Given-clause-taken : goal.returns-in_err-write_answer-in-Given-clause-taken
 returns-in_err-write_answer-in-Given-clause-taken g c =
     let p = err_from_is_err_and c.from_residual-in_err-write_answer-in-Given.result c.from_residual-in_err-write_answer-in-Given.ensures.1 in
     let read = rw (c.in-Given.is, c.limits-limits.ensures) at c.in_ok-ending.ensures in
+    let stands : (order : Order) → IsReadAs c.args.session.now.limit c.in-Given.header c.in-Given.collected order → Stands c.args.session.now.limit c.with.result order =
+    λ order is. c.with.ensures _ order is.of_header (c.payload.ensures.stands _ (payload_of order) is.payload) in
     rw (p.1, p.2) (TakesTurn-failed _ _ c.apply-answer.result _ _
-    (λ Written written. Turned-given _ _ c.apply-answer.result _ _ Written read (λ order is. c.apply-answer.ensures.step order (c.command.ensures _ order is))
-    (λ order cost is costs. c.apply-answer.ensures.rows order cost (c.command.ensures _ order is) costs) written)
+    (λ Written written. Turned-given _ _ _ c.apply-answer.result _ _ Written read (λ order is. c.apply-answer.ensures.step order (stands order is))
+    (λ order cost is costs. c.apply-answer.ensures.rows order cost (stands order is) costs) written)
     c.in_err-write_answer-in-Given.ensures.written)
 
 pub returns-in_ok-write_answer-in-Given-clause-taken : goal.returns-in_ok-write_answer-in-Given-clause-taken
 returns-in_ok-write_answer-in-Given-clause-taken g c =
     let read = rw (c.in-Given.is, c.limits-limits.ensures) at c.in_ok-ending.ensures in
-    Turned-given _ _ c.apply-answer.result _ _ _ read (λ order is. c.apply-answer.ensures.step order (c.command.ensures _ order is))
-    (λ order cost is costs. c.apply-answer.ensures.rows order cost (c.command.ensures _ order is) costs) c.in_ok-write_answer-in-Given.ensures.written
+    let stands : (order : Order) → IsReadAs c.args.session.now.limit c.in-Given.header c.in-Given.collected order → Stands c.args.session.now.limit c.with.result order =
+    λ order is. c.with.ensures _ order is.of_header (c.payload.ensures.stands _ (payload_of order) is.payload) in
+    Turned-given _ _ _ c.apply-answer.result _ _ _ read (λ order is. c.apply-answer.ensures.step order (stands order is))
+    (λ order cost is costs. c.apply-answer.ensures.rows order cost (stands order is) costs) c.in_ok-write_answer-in-Given.ensures.written

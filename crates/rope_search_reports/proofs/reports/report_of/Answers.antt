@@ -1,9 +1,9 @@
-use Rattle.std.proofs.Common.{rules, ◌≡◌, ◌+◌, ◌-◌, ◌*◌, ◌<◌, [], ◌∷◌, ◌++◌, List, ℕ, chars, string_bytes, length, ap, sym, subst, ◌∙◌, arith}
+use Rattle.std.proofs.Common.{rules, ◌≡◌, ◌+◌, ◌-◌, ◌*◌, ◌<◌, ◌++◌, List, ℕ, chars, string_bytes, length, ap, sym, subst, ◌∙◌, arith}
 use Rattle.std.proofs.lemmas.Result.{IfOk-weaker}
 use Rattle.std.proofs.lemmas.Str.{IsUtf8-nil, chars-nil, encodes-chars}
 use Rattle.str_indices.specs.Laws.{byte_len}
 use Rattle.ropey.specs.Chunks.{text_of}
-use Rattle.rope_search_reports.specs.Report.{row_of}
+use Rattle.rope_search_reports.specs.Report.{AddsRow}
 use Rattle.rope_search_reports.proofs.DraftLemmas.{Reported, Reported-start, Reported-line, Reported-within, Reported-carry, Reported-end, Reported-room, chunk-within}
 use Rattle.rope_search_reports.proofs.reports.report_of.Goals as goal
 
@@ -36,8 +36,7 @@ returns-then-at-len-clause-rows c =
     let cut = rw c.in_default.is at c.cut_line.ensures.lines in
     let all : c.loop-next.at ≡ byte_len (text_of c.args.text.now) = omega (arith, c.if-at-len.true, c.len_bytes-len.ensures.bytes) in
     let line = chars c.cut_line.result.0.now in
-    let row = row_of (chars c.args.needle.now) (chars (string_bytes c.loop-next.draft.front) ++ line) in
-    IfOk-weaker c.finish.result (λ rows. rows.items ≡ c.loop-next.draft.rows.items ++ row ∷ []) _
+    IfOk-weaker c.finish.result (λ rows. AddsRow (chars c.args.needle.now) (chars (string_bytes c.loop-next.draft.front) ++ line) c.loop-next.draft.rows.items rows.items) _
     (λ rows same. Reported-end _ _ _ _ _ _ line _ _ _ c.loop-next.invariant.1 all cut.0 cut.1 same) c.finish.ensures.rows
 
 pub returns-then-at-len-clause-count : goal.returns-then-at-len-clause-count

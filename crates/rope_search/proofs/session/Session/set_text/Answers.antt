@@ -1,0 +1,19 @@
+use Rattle.std.proofs.Common.{◌≡◌, ◌<◌, IsUtf8, length, sym, ap, ◌∙◌, subst, arith}
+use Rattle.std.specs.Str.{chars}
+use Rattle.rope_search.specs.Session.{with_text}
+use Rattle.rope_search.proofs.SessionLemmas.{Step-take_text}
+use Rattle.rope_search.proofs.session.Session.set_text.Goals as goal
+
+pub returns-in_ok-set_text-in-Ok-clause-step : goal.returns-in_ok-set_text-in-Ok-clause-step
+returns-in_ok-set_text-in-Ok-clause-step c = λ bytes stands.
+    let inside = c.self.inside in
+    let old = c.index_mut.result.now in
+    let given : bytes ≡ c.in-Kept.bytes.now = rw c.in-Kept.is at stands in
+    let same : c.in-Ok.text.now ≡ bytes = c.in-Ok.ensures.cases.0 ∙ sym given in
+    let utf8 : IsUtf8 bytes = subst IsUtf8 (sym given) c.in-Ok.ensures.cases.1 in
+    let told = c.in_ok-set_text-in-Ok.ensures in
+    let fits : old.limit < length c.in-Ok.text.now → ⊥ = λ long. absurd (let size = told.size.1 long in cc) in
+    let text : c.set_text.new.self.state ≡ with_text old.state (chars bytes) = told.ok ∙ ap (λ t. with_text old.state (chars t)) same in
+    Step-take_text inside.buffers.items inside.chosen inside.limits.text old c.set_text.new.self bytes c.args.self.now
+    (record { inside = omega (arith, inside.buffers.ok.0); is = c.index_mut.ensures.value; all = c.self.invariant.1; seen = c.self.view_is })
+    utf8 (omega (arith, ap length same)) text

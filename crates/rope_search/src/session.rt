@@ -1,0 +1,212 @@
+//! A session: buffers, of which one is chosen.
+ghost use Rattle.std.specs.Prelude.{◌≡◌, ◌+◌, ◌<◌, ◌≤◌, ◌↔◌, [], ◌∷◌, ◌++◌, List, ℕ, length, OnOk, OnErr, IfOk, IfErr, IsOk, None};
+ghost use Rattle.rope_search.specs.Order.{Order, SetText, SetPattern, ListMatches};
+ghost use Rattle.rope_search.specs.Session.{first, fresh, current_text, chosen_buffer, with_pattern, with_chosen};
+ghost use Rattle.rope_search.specs.Pattern.{pattern_limit};
+ghost use Rattle.rope_search.specs.Step.{Step};
+ghost use Rattle.rope_search.specs.Stands.{Stands, StandsFor};
+ghost use Rattle.rope_search.specs.Cost.{Costs, whole_searches};
+
+use crate::buffer::Buffer;
+use crate::commands::{Command, Payload, Reply};
+use crate::limits::Limits;
+use rope_search_io::Fault;
+use rope_search_reports::Lines;
+use std::alloc::Global;
+use std::marker::Model;
+
+/// Buffers by number, from 0, and the chosen one.
+#[derive(Drop)]
+pub struct Session {
+    alloc: Global,
+    limits: Limits,
+    buffers: Vec<Buffer>,
+    chosen: usize,
+}
+
+impl Model for Session {
+    ghost use Rattle.std.specs.Prelude.{◌≡◌, ◌<◌, All, map, vec_len};
+    ghost use Rattle.rope_search.specs.Session.{LimitedSession, LimitedBuffer};
+
+    ghost Value = { LimitedSession };
+
+    ghost view = { λ s. record {
+      limit = s.limits.text;
+      state = record { buffers = map (λ (b : LimitedBuffer). b.state) s.buffers.items; chosen = s.chosen };
+    } };
+
+    ghost invariant = { λ s. (s.chosen < vec_len s.buffers) × All (λ (b : LimitedBuffer). b.limit ≡ s.limits.text) s.buffers.items };
+}
+
+impl Session {
+    /// One buffer, chosen, with the empty text. It may be refused with `Fault::Memory` alone.
+    pub fn new(alloc: Global, limits: Limits) -> Result<Session, Fault>
+        ensures ok { IfOk result (λ session. session ≡ record { limit = limits.text; state = first }) }
+        ensures err { IfErr result (λ fault. fault ≡ Fault.Memory) }
+    {
+        let buffer = Buffer::new(alloc, limits)?;
+        let mut buffers = Vec::new(alloc);
+        if buffers.push(buffer).is_err() {
+            return Err(Fault::Memory);
+        }
+        Ok(Session {
+            alloc,
+            limits,
+            buffers,
+            chosen: 0,
+        })
+    }
+
+    /// The chosen buffer.
+    pub fn buffer(&self) -> &Buffer
+        ensures { result.now ≡ record { limit = self.now.limit; state = chosen_buffer self.now.state } }
+    {
+        &self.buffers[self.chosen]
+    }
+
+    /// The allocator that the session was made with.
+    pub(crate) fn alloc(&self) -> Global {
+        self.alloc
+    }
+
+    /// The limits that the session was made with.
+    pub(crate) fn limits(&self) -> Limits
+        ensures { result.text ≡ self.now.limit }
+    {
+        self.limits
+    }
+
+    /// Chooses a buffer by its number. It is refused with `Fault::Nothing` where there is no such buffer.
+    pub fn choose(&mut self, number: u64) -> Result<(), Fault>
+        ensures found { IsOk result ↔ (number < length self.old.state.buffers) }
+        ensures ok { OnOk result (self.new ≡ record {
+          limit = self.old.limit;
+          state = record self.old.state { chosen = number };
+        }) }
+        ensures fault { IfErr result (λ fault. fault ≡ Fault.Nothing) }
+        ensures err { OnErr result (self.new ≡ self.old) }
+    {
+        if number >= self.buffers.len() as u64 {
+            return Err(Fault::Nothing);
+        }
+        self.chosen = number as usize;
+        Ok(())
+    }
+
+    /// Makes a new buffer of the chosen one's text, which stays chosen, and answers the new one's
+    /// number. It may be refused with `Fault::Memory` alone; the session is then as before.
+    pub fn fork(&mut self) -> Result<usize, Fault>
+        ensures number { IfOk result (λ number. number ≡ length self.old.state.buffers) }
+        ensures ok { OnOk result (self.new ≡ record {
+          limit = self.old.limit;
+          state = record self.old.state {
+            buffers = self.old.state.buffers ++ fresh (current_text (chosen_buffer self.old.state)) ∷ [];
+          };
+        }) }
+        ensures fault { IfErr result (λ fault. fault ≡ Fault.Memory) }
+        ensures err { OnErr result (self.new ≡ self.old) }
+    {
+        let buffer = self.buffers[self.chosen].fork()?;
+        let number = self.buffers.len();
+        if self.buffers.push(buffer).is_err() {
+            return Err(Fault::Memory);
+        }
+        Ok(number)
+    }
+
+    /// Carries out a command. After a refusal the session is as before.
+    pub fn apply(&mut self, tick: &mut Lines, command: Command<'_>) -> Result<Reply, Fault>
+        // What it answers and leaves is a step, for each command that this one stands for.
+        ensures step { (order : Order) → Stands self.old.limit command.entry order
+            → Step self.old.limit self.old.state order result self.new.state }
+        ensures limit { self.new.limit ≡ self.old.limit }
+
+        // It makes at most the rows that the command costs.
+        ensures rows { (order : Order) (cost : ℕ) → Stands self.old.limit command.entry order
+            → Costs self.old.limit self.old.state order cost → tick.new.count ≤ tick.old.count + cost }
+        ensures wholes { (order : Order) → Stands self.old.limit command.entry order
+            → tick.new.wholes ≤ tick.old.wholes + whole_searches order }
+    {
+        match command {
+            Command::Text(payload) => self.set_text(tick, payload),
+            Command::Print => Ok(Reply::Print),
+            Command::Fork => {
+                let number = self.fork()?;
+                Ok(Reply::Number(number))
+            }
+            Command::Pattern(payload) => self.set_pattern(tick, payload),
+            Command::Off => Ok(self.drop_pattern()),
+            Command::List => self.list(),
+            Command::Use(number) => {
+                self.choose(number)?;
+                Ok(Reply::Done)
+            }
+        }
+    }
+
+    // Makes the payload the chosen buffer's text.
+    fn set_text(&mut self, tick: &mut Lines, payload: Payload<'_>) -> Result<Reply, Fault>
+        ensures step { (bytes : List ℕ) → StandsFor self.old.limit payload.entry bytes
+            → Step self.old.limit self.old.state (SetText bytes) result self.new.state }
+        ensures limit { self.new.limit ≡ self.old.limit }
+        ensures rows { (bytes : List ℕ) (cost : ℕ) → StandsFor self.old.limit payload.entry bytes
+            → Costs self.old.limit self.old.state (SetText bytes) cost → tick.new.count ≤ tick.old.count + cost }
+        ensures wholes { tick.new.wholes ≡ tick.old.wholes }
+    {
+        match payload {
+            Payload::Kept(bytes) => match str::from_utf8(bytes) {
+                Ok(text) => {
+                    self.buffers[self.chosen].set_text(tick, text)?;
+                    Ok(Reply::Done)
+                }
+                Err(_) => Err(Fault::Utf8),
+            },
+            Payload::Long { utf8: true } => Err(Fault::Size),
+            Payload::Long { utf8: false } => Err(Fault::Utf8),
+            Payload::Lost => Err(Fault::Memory),
+        }
+    }
+
+    // Makes the payload the chosen buffer's pattern.
+    fn set_pattern(&mut self, tick: &mut Lines, payload: Payload<'_>) -> Result<Reply, Fault>
+        ensures step { (bytes : List ℕ) → StandsFor pattern_limit payload.entry bytes
+            → Step self.old.limit self.old.state (SetPattern bytes) result self.new.state }
+        ensures limit { self.new.limit ≡ self.old.limit }
+        ensures rows { (bytes : List ℕ) (cost : ℕ) → StandsFor pattern_limit payload.entry bytes
+            → Costs self.old.limit self.old.state (SetPattern bytes) cost → tick.new.count ≤ tick.old.count + cost }
+        ensures wholes { tick.new.wholes ≡ tick.old.wholes }
+    {
+        match payload {
+            Payload::Kept(bytes) => match str::from_utf8(bytes) {
+                Ok(pattern) => {
+                    self.buffers[self.chosen].set_pattern(tick, pattern)?;
+                    Ok(Reply::Done)
+                }
+                Err(_) => Err(Fault::Utf8),
+            },
+            Payload::Long { utf8: true } => Err(Fault::Limit),
+            Payload::Long { utf8: false } => Err(Fault::Utf8),
+            Payload::Lost => Err(Fault::Memory),
+        }
+    }
+
+    // Drops the chosen buffer's pattern.
+    fn drop_pattern(&mut self) -> Reply
+        ensures reply { result ≡ Reply.Done }
+        ensures state { self.new.state ≡ with_chosen self.old.state (with_pattern (chosen_buffer self.old.state) None) }
+        ensures limit { self.new.limit ≡ self.old.limit }
+    {
+        self.buffers[self.chosen].off();
+        Reply::Done
+    }
+
+    // Tells that the chosen buffer's report is to be shown, where it has one.
+    fn list(&self) -> Result<Reply, Fault>
+        ensures { Step self.now.limit self.now.state ListMatches result self.now.state }
+    {
+        match self.buffer().report() {
+            None => Err(Fault::Nothing),
+            Some(_) => Ok(Reply::List),
+        }
+    }
+}

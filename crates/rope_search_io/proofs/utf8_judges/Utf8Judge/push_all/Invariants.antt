@@ -1,8 +1,0 @@
--- What the bytes so far ask of those that follow.
-use Rattle.std.proofs.Common.{◌↔◌, ◌++◌, List, ℕ, drop}
-use Rattle.rope_search_io.specs.Utf8Judge.{Continues}
-use Rattle.rope_search_io.proofs.utf8_judges.Utf8Judge.push_all.Given as goal
-
-abbrev pub invariant-loop-byte : goal.invariant-loop-byte
-invariant-loop-byte l =
-    (more : List ℕ) → Continues l.fn.self (l.bytes ++ more) ↔ Continues l.self (drop l.byte-index l.bytes ++ more)

@@ -1,8 +1,0 @@
--- A count that takes no bytes: its links.
-use Rattle.std.specs.Prelude.{ℕ, ◌+◌}
-use Rattle.rope_search_io.specs.declared.counts.Chain.{Chain, Start, OneMore'}
-
--- how many links a chain has
-abbrev pub links_of : Chain → ℕ
-links_of Start = 0
-links_of (OneMore' shape before) = links_of before + 1

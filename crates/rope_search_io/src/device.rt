@@ -1,0 +1,90 @@
+//! The readers and writers of std as sources and sinks.
+ghost use Rattle.std.specs.Prelude.{◌≡◌, ◌+◌, ◌<◌, IfOk, length};
+ghost use Rattle.std.specs.Io.{ReadsAtMost, WritesAtMost};
+ghost use Rattle.std.specs.Io.KnownBytes.{ReadConsumes, Keeps, WriteAppends};
+ghost use Rattle.rope_search_io.specs.Sources.{failures_in, ends_in};
+
+use counters::Counter;
+use crate::faults::Failed;
+use crate::sinks::Sink;
+use crate::sources::Source;
+use std::io::{Read, Write};
+
+/// A reader or a writer of std. Each of its errors is a failure, an interrupted call too: it is
+/// handed back and not retried. It tells its bytes where the reader or writer under it does.
+#[derive(Drop)]
+pub struct Device<D> {
+    inner: D,
+    reads: Counter,
+    writes: Counter,
+    flushes: Counter,
+    failures: Counter,
+    ends: Counter,
+}
+
+impl<D> Device<D> {
+    ghost use Rattle.std.specs.Prelude.{◌≡◌};
+    ghost use Rattle.rope_search_io.specs.Devices.{under, uncounted};
+
+    /// The device over this reader or writer, with nothing counted yet.
+    pub fn new(inner: D) -> Device<D>
+        ensures inner { under result ≡ inner }
+        ensures counts { uncounted result }
+    {
+        Device {
+            inner,
+            reads: Counter::new(),
+            writes: Counter::new(),
+            flushes: Counter::new(),
+            failures: Counter::new(),
+            ends: Counter::new(),
+        }
+    }
+}
+
+impl<D: Read> Source for Device<D> {
+    ghost state = { λ d. record { left = D.remaining d.inner; reads = d.reads; failures = d.failures; ends = d.ends } };
+
+    fn read(&mut self, buf: &mut [u8]) -> Result<usize, Failed> {
+        self.reads.add();
+        match self.inner.read(buf) {
+            Ok(count) => {
+                if count == 0 && !buf.is_empty() {
+                    self.ends.add();
+                }
+                Ok(count)
+            }
+            Err(_) => {
+                self.failures.add();
+                Err(Failed)
+            }
+        }
+    }
+}
+
+impl<D: Write> Sink for Device<D> {
+    ghost state = { λ d. record { held = D.contents d.inner; writes = d.writes; flushes = d.flushes; failures = d.failures } };
+
+    fn write(&mut self, bytes: &[u8]) -> Result<usize, Failed> {
+        self.writes.add();
+        match self.inner.write(bytes) {
+            Ok(count) if count > 0 || bytes.is_empty() => Ok(count),
+            // A writer that takes nothing of some bytes would never take them, so it failed too.
+            _ => {
+                self.failures.add();
+                Err(Failed)
+            }
+        }
+    }
+
+    fn flush(&mut self) -> Result<(), Failed> {
+        self.flushes.add();
+        match self.inner.flush() {
+            Ok(()) => Ok(()),
+            Err(_) => {
+                self.failures.add();
+                Err(Failed)
+            }
+        }
+    }
+}

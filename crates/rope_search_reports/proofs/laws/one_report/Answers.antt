@@ -1,0 +1,5 @@
+use Rattle.rope_search_reports.proofs.ReportLaws.{report-one}
+use Rattle.rope_search_reports.proofs.laws.one_report.Goals as goal
+
+pub returns : goal.returns
+returns c = report-one
