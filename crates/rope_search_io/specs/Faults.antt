@@ -1,4 +1,4 @@
--- The words that the replies have for refusals.
+-- What refusals are called in replies, and in which order they are told.
 use Rattle.std.specs.Prelude.{ℕ, List, codes}
 use Rattle.rope_search_io.specs.declared.faults.Fault.{Fault}
 use Rattle.rope_search_io.specs.declared.faults.Fault.TheVariants.{Nothing, Utf8, Pattern, Limit, Size, Memory}
@@ -11,3 +11,12 @@ word_of Pattern = codes "pattern"
 word_of Limit = codes "limit"
 word_of Size = codes "size"
 word_of Memory = codes "memory"
+
+-- the order in which refusals are told: of all that apply to a command, the one of the least rank
+abbrev pub rank_of : Fault → ℕ
+rank_of Nothing = 1
+rank_of Utf8 = 3
+rank_of Pattern = 4
+rank_of Limit = 5
+rank_of Size = 6
+rank_of Memory = 7

@@ -4,10 +4,10 @@ ghost use Rattle.std.specs.Io.{ReadsAtMost, WritesAtMost};
 ghost use Rattle.std.specs.Io.KnownBytes.{ReadConsumes, Keeps, WriteAppends};
 ghost use Rattle.rope_search_io.specs.Sources.{failures_in, ends_in};
 
-use counters::Counter;
 use crate::faults::Failed;
 use crate::sinks::Sink;
 use crate::sources::Source;
+use counters::Counter;
 use std::io::{Read, Write};
 
 /// A reader or a writer of std. Each of its errors is a failure, an interrupted call too: it is

@@ -1,4 +1,5 @@
 //! Why a command is refused, and what a source or a sink answers in place of bytes.
+use std::alloc::{AllocError, AllocFailed};
 use std::fmt;
 
 /// Why a command is refused. After each the session, its buffers and their reports are as before.
@@ -21,7 +22,14 @@ pub enum Fault {
 
 impl Fault {
     ghost use Rattle.std.specs.Prelude.{◌≡◌};
-    ghost use Rattle.rope_search_io.specs.Faults.{word_of};
+    ghost use Rattle.rope_search_io.specs.Faults.{word_of, rank_of};
+
+    /// Its number: where several faults apply to a command, the one with the least is told.
+    pub fn rank(self) -> u8
+        ensures { result ≡ rank_of self }
+    {
+        self as u8
+    }
 
     /// The word that a reply has for it.
     pub fn word(self) -> &'static str
@@ -46,6 +54,30 @@ impl fmt::Display for Fault {
 
     fn fmt<W: fmt::Write>(&self, f: &mut fmt::Formatter<W>) -> fmt::Result {
         f.write_str(self.word())
+    }
+}
+
+/// Memory that was refused, so that `?` tells it.
+impl From<AllocError> for Fault {
+    ghost use Rattle.std.specs.Prelude.{◌≡◌};
+    ghost use Rattle.rope_search_io.specs.declared.faults.Fault.TheVariants.{Memory};
+
+    ghost from_gives = { λ _ fault. fault ≡ Memory };
+
+    fn from(_: AllocError) -> Fault {
+        Fault::Memory
+    }
+}
+
+/// The same where the call hands back the value that it had no room for: the value is let go.
+impl<T: Drop> From<AllocFailed<T>> for Fault {
+    ghost use Rattle.std.specs.Prelude.{◌≡◌};
+    ghost use Rattle.rope_search_io.specs.declared.faults.Fault.TheVariants.{Memory};
+
+    ghost from_gives = { λ _ fault. fault ≡ Memory };
+
+    fn from(_: AllocFailed<T>) -> Fault {
+        Fault::Memory
     }
 }
 

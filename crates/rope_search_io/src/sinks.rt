@@ -4,9 +4,9 @@ ghost use Rattle.std.specs.Io.{WritesAtMost};
 ghost use Rattle.std.specs.Io.KnownBytes.{Keeps, WriteAppends};
 ghost use Rattle.rope_search_io.specs.Sources.{SinkState, failures_in, burnt};
 
-use counters::Counter;
 use crate::faults::{Failed, Fault};
 use crate::fuse::burns;
+use counters::Counter;
 use std::alloc::Global;
 use std::marker::Model;
 
@@ -88,9 +88,7 @@ impl MemorySink {
         }) }
         ensures err { IfErr result (λ fault. fault ≡ Fault.Memory) }
     {
-        let Ok(bytes) = Vec::with_capacity(alloc, room) else {
-            return Err(Fault::Memory);
-        };
+        let bytes = Vec::with_capacity(alloc, room)?;
         Ok(MemorySink {
             bytes,
             room,

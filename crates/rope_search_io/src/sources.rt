@@ -4,9 +4,9 @@ ghost use Rattle.std.specs.Io.{ReadsAtMost};
 ghost use Rattle.std.specs.Io.KnownBytes.{ReadConsumes};
 ghost use Rattle.rope_search_io.specs.Sources.{SourceState, failures_in, ends_in, burnt};
 
-use counters::Counter;
 use crate::faults::Failed;
 use crate::fuse::burns;
+use counters::Counter;
 use std::marker::Model;
 
 /// Where bytes come from. To contracts it tells its bytes, where it knows them, and counts its calls.
