@@ -11,7 +11,7 @@ use Rattle.rope_search.specs.declared.commands.Reply.TheVariants.{Done, Number, 
 use Rattle.rope_search_reports.specs.Text.{Encodes}
 use Rattle.rope_search.specs.Order.{Order, SetText, PrintText, ForkBuffer, SetPattern, DropPattern, ListMatches, UseBuffer}
 use Rattle.rope_search.specs.Session.{State, fresh, current_text, chosen_buffer, with_text, with_pattern, with_chosen}
-use Rattle.rope_search.specs.Pattern.{IsPattern, pattern_limit}
+use Rattle.rope_search_reports.specs.Pattern.{IsPattern, pattern_limit}
 use Rattle.rope_search.proofs.PatternLemmas.{pattern_choice}
 use Rattle.rope_search.specs.Step.{Answer, Refuses, rank, IsFirstRefusal, Accepts, Does, Step}
 use Rattle.rope_search.specs.Shows.{IsListed, Shows, shows}

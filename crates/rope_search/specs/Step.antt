@@ -7,7 +7,7 @@ use Rattle.rope_search.specs.declared.commands.Reply.TheVariants.{Done, Number, 
 use Rattle.rope_search_reports.specs.Text.{Encodes}
 use Rattle.rope_search.specs.Order.{Order, SetText, PrintText, ForkBuffer, SetPattern, DropPattern, ListMatches, UseBuffer}
 use Rattle.rope_search.specs.Session.{State, fresh, current_text, chosen_buffer, with_text, with_pattern, with_chosen}
-use Rattle.rope_search.specs.Pattern.{IsPattern, pattern_limit}
+use Rattle.rope_search_reports.specs.Pattern.{IsPattern, pattern_limit}
 
 -- what a command is answered: a reply, or why it is refused
 abbrev pub Answer : Type 0
