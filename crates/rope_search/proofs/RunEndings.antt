@@ -15,8 +15,9 @@ use Rattle.rope_search.specs.Shows.{closing}
 use Rattle.rope_search.specs.Reads.{Reads, Ends, payload_of}
 use Rattle.rope_search.specs.Answers.{Answers}
 use Rattle.rope_search.specs.Requests.{TakesEnding, IsUnfinished}
-use Rattle.rope_search.specs.Runs.{Scene, start, SoFar, Turned, TakesTurn, OnlyReads, TellsEnd, IsAnswered, IsAnswerTo, AnswersWhole, StopsFor, StopsReading, StopsWriting, Ran, Closes, ClosesWhole, ClosesFront}
-use Rattle.rope_search.proofs.RunLaws.{Answers-more, Ends-more, Reads-after, Run-append, Run-push, SpellAll-append, SpellAll-one}
+use Rattle.rope_search.specs.Runs.{Scene, start, SoFar, Turned, TakesTurn, OnlyReads, TellsEnd, SearchesWithin, FlushesAll, FlushesLast, IsAnswered, IsAnswerTo, AnswersWhole, StopsFor, StopsReading, StopsWriting, Ran, Closes, ClosesWhole, ClosesFront}
+use Rattle.rope_search.proofs.RunLaws.{Ends-more, Reads-more, Reads-after, Run-append, Run-push, SpellAll-append, SpellAll-one}
+use Rattle.rope_search.proofs.TurnLemmas.{SearchesWithin-more, SearchesWithin-trans}
 use Rattle.rope_search.proofs.StepLaws.{run_exists}
 use Rattle.rope_search.proofs.ReadLaws.{reads_exist}
 
@@ -34,6 +35,7 @@ record Left (ending : Ended) (source : SourceState) (mid new : Scene) : Type 0 w
   ends : Ends (rest ++ new.ahead.bytes) ending
   consumed : Consumes (to_come mid.ahead mid.source) (to_come new.ahead new.source) rest
   sound : new.source.failures ≡ mid.source.failures
+  wide : new.source.narrow ≡ mid.source.narrow
   told : TellsEnd ending source new.source
 
 nothing_ahead : (rest back : List ℕ) → back ≡ [] → rest ≡ rest ++ back
@@ -46,21 +48,24 @@ left_by limit Command source sink ticks mid new so end = record {
   ends = Ends-more end.rest new.ahead.bytes end.ends;
   consumed = end.taken.consumed;
   sound = end.taken.sound;
-  told = tt;
+  wide = end.taken.wide;
+  told = end.taken.open_end ∙ so.taken.open_end;
 }
 left_by limit Input source sink ticks mid new so end = record {
   rest = end.rest;
   ends = subst (λ l. Ends l Input) (nothing_ahead end.rest new.ahead.bytes end.taken.empty) end.ends;
   consumed = end.taken.consumed;
   sound = end.taken.sound;
-  told = (omega (arith, end.taken.told, so.taken.open_end), end.taken.at_end);
+  wide = end.taken.wide;
+  told = (end.taken.told ∙ ap (λ n. n + 1) so.taken.open_end, end.taken.at_end);
 }
 left_by limit Cut source sink ticks mid new so end = record {
   rest = end.rest;
   ends = subst (λ l. Ends l Cut) (nothing_ahead end.rest new.ahead.bytes end.taken.empty) end.ends;
   consumed = end.taken.consumed;
   sound = end.taken.sound;
-  told = (omega (arith, end.taken.told, so.taken.open_end), end.taken.at_end);
+  wide = end.taken.wide;
+  told = (end.taken.told ∙ ap (λ n. n + 1) so.taken.open_end, end.taken.at_end);
 }
 
 -- all bytes that were read are the commands so far and what is left
@@ -94,11 +99,19 @@ Ran-answered limit ending source sink sink' ticks mid new so end only closed =
           (subst (λ (s : SinkState). Appends s.held sink'.held (closing ending)) only.sink closed.appended);
       answers = record { orders = so.orders; replies = so.out; last = mid.session; reads = reads_left limit ending source sink ticks mid new so left; run = so.run; shown = refl };
       told = left.told;
-      counted = omega (arith, so.counted, ap (λ (t : Ticks). t.count) only.ticks);
+      searches = subst (SearchesWithin so.orders so.cost ticks) (sym only.ticks) so.searches;
+      wide = left.wide ∙ so.taken.wide;
       read_soundly = left.sound ∙ so.taken.sound;
       wrote_soundly = closed.sound ∙ ap (λ (s : SinkState). s.failures) only.sink ∙ so.written.sound;
-      flushed = closed.flushed ∙ ap (λ (s : SinkState). s.flushes + 1) only.sink ∙ ap (λ n. n + 1) so.written.flushed;
+      flushed = record {
+        once = closed.flushed.once ∙ ap (λ (s : SinkState). s.flushes + 1) only.sink ∙ ap (λ n. n + 1) so.written.flushed;
+        nothing_left = closed.flushed.nothing_left;
+      };
     }
+
+-- what was written before wasn't flushed
+FlushesLast-after : (a b c : SinkState) (lost : List ℕ) → b.flushes ≡ a.flushes → FlushesLast b c lost → FlushesLast a c lost
+FlushesLast-after a b c lost same last = elim last [ inl none ↦ inl (none ∙ same) | inr once ↦ inr (once.0 ∙ ap (λ n. n + 1) same, once.1) ]
 
 -- the ending's line wasn't written whole, or the flush failed
 unclosed : (limit : ℕ) (ending : Ended) (source : SourceState) (sink sink' : SinkState) (ticks : Ticks) (mid new : Scene)
@@ -123,10 +136,11 @@ unclosed limit ending source sink sink' ticks mid new so end only closed =
       run = so.run;
       met = inr (refl, left.told);
       front = ap (λ l. so.out ++ l) closed.split ∙ sym (append_assoc so.out closed.front closed.lost);
-      counted = omega (arith, so.counted, ap (λ (t : Ticks). t.count) only.ticks);
+      searches = subst (SearchesWithin so.orders so.cost ticks) (sym only.ticks) so.searches;
+      wide = left.wide ∙ so.taken.wide;
       read_soundly = left.sound ∙ so.taken.sound;
       failed = closed.failed ∙ ap (λ (s : SinkState). s.failures + 1) only.sink ∙ ap (λ n. n + 1) so.written.sound;
-      flushed = omega (arith, closed.flushed, ap (λ (s : SinkState). s.flushes) only.sink, so.written.flushed);
+      flushed = FlushesLast-after sink new.sink sink' closed.lost (ap (λ (s : SinkState). s.flushes) only.sink ∙ so.written.flushed) closed.flushed;
     }
 
 pub Ran-unclosed : (limit : ℕ) (broken : Broken) (ending : Ended) (source : SourceState) (sink sink' : SinkState) (ticks : Ticks) (mid new : Scene)
@@ -151,8 +165,8 @@ unfinished_by rest h = elim h [ inl empty ↦ record { ending = Input; ends = em
 stopped : (limit : ℕ) (broken : Broken) (source : SourceState) (sink : SinkState) (ticks : Ticks) (mid new : Scene)
     → SoFar limit (start source sink ticks) mid → OnlyReads mid new → (rest : List ℕ) → IsUnfinished rest
     → Consumes (to_come mid.ahead mid.source) (to_come new.ahead new.source) rest → new.ahead.bytes ≡ []
-    → StopsFor broken source new.source → StopsReading limit broken source new.source sink new.sink ticks new.ticks
-stopped limit broken source sink ticks mid new so only rest unfinished consumed none why =
+    → StopsFor broken source new.source → new.source.ends ≡ mid.source.ends → new.source.narrow ≡ mid.source.narrow → StopsReading limit broken source new.source sink new.sink ticks new.ticks
+stopped limit broken source sink ticks mid new so only rest unfinished consumed none why open_end wide =
     let how = unfinished_by rest unfinished in
     record {
       input = (so.bytes ++ rest) ++ new.ahead.bytes;
@@ -172,8 +186,10 @@ stopped limit broken source sink ticks mid new so only rest unfinished consumed 
       };
       unfinished = how.unmet;
       run = so.run;
-      counted = omega (arith, so.counted, ap (λ (t : Ticks). t.count) only.ticks);
+      searches = subst (SearchesWithin so.orders so.cost ticks) (sym only.ticks) so.searches;
       why = why;
+      open_end = open_end ∙ so.taken.open_end;
+      wide = wide ∙ so.taken.wide;
       wrote_soundly = ap (λ (s : SinkState). s.failures) only.sink ∙ so.written.sound;
       flushed = ap (λ (s : SinkState). s.flushes) only.sink ∙ so.written.flushed;
     }
@@ -204,13 +220,15 @@ cut_short limit source sink ticks mid new so turned =
       written = Appends-trans sink.held mid.sink.held new.sink.held so.out turned.reply.written.front so.written.appended turned.reply.written.appended;
       reads = Reads-after orders ahead.0 ahead.1 bytes new.ahead.bytes spells ahead.2;
       run = Run-append limit first new.session later.2 orders ahead.0 (so.out ++ shown) later.0 (so.cost + turned.cost) later.1 run later.3;
-      met = inl refl;
+      met = inl (refl, turned.taken.open_end ∙ so.taken.open_end);
       front = append-nil ((so.out ++ shown) ++ later.0) ∙ ap (λ l. (so.out ++ l) ++ later.0) turned.reply.written.split
           ∙ ap (λ l. l ++ later.0) (sym (append_assoc so.out turned.reply.written.front turned.reply.written.lost)) ∙ append_assoc (so.out ++ turned.reply.written.front) turned.reply.written.lost later.0;
-      counted = omega (arith, so.counted, turned.counted);
+      searches = SearchesWithin-more orders ahead.0 (so.cost + turned.cost) later.1 ticks new.ticks
+          (SearchesWithin-trans so.orders (turned.order ∷ []) so.cost turned.cost ticks mid.ticks new.ticks so.searches turned.searches);
+      wide = turned.taken.wide ∙ so.taken.wide;
       read_soundly = turned.taken.sound ∙ so.taken.sound;
       failed = turned.reply.written.failed ∙ ap (λ n. n + 1) so.written.sound;
-      flushed = omega (arith, turned.reply.written.flushed, so.written.flushed);
+      flushed = inl (turned.reply.written.flushed ∙ so.written.flushed);
     }
 
 pub Ran-broken : (limit : ℕ) (broken : Broken) (source : SourceState) (sink : SinkState) (ticks : Ticks) (mid new : Scene)
@@ -219,11 +237,11 @@ Ran-broken limit Write source sink ticks mid new so turn = cut_short limit sourc
 Ran-broken limit Read source sink ticks mid new so turn =
     let taken = turn.0.taken in
     stopped limit Read source sink ticks mid new so turn.1 turn.0.rest turn.0.unfinished taken.consumed taken.empty
-    (taken.failed ∙ ap (λ n. n + 1) so.taken.sound)
+    (taken.failed ∙ ap (λ n. n + 1) so.taken.sound) taken.open_end taken.wide
 Ran-broken limit Turns source sink ticks mid new so turn =
     let taken = turn.0.taken in
     stopped limit Turns source sink ticks mid new so turn.1 turn.0.rest turn.0.unfinished taken.consumed taken.empty
-    (taken.sound ∙ so.taken.sound, omega (arith, taken.many, taken.counted, so.taken.counted))
+    (taken.sound ∙ so.taken.sound, omega (arith, taken.many, taken.counted, so.taken.counted)) taken.open_end taken.wide
 Ran-broken limit Memory source sink ticks mid new so turn = absurd turn.0.taken
 
 -- ---- a turn takes at least one byte
@@ -236,15 +254,30 @@ most_to_come-turn limit mid new Written turned =
 
 -- ---- the whole input
 
+-- an answer, and that no more was searched than its commands may
+record AnswersWithin (limit : ℕ) (input : List ℕ) (ending : Ended) (output : List ℕ) (cost : ℕ) (ticks ticks' : Ticks) : Type 0 where
+  answers : Answers limit input ending output cost
+  searches : SearchesWithin answers.orders cost ticks ticks'
+
 -- an answer to what was read is one to the whole input: the rest is empty, or follows a line that is no command
-whole_input : (limit : ℕ) (whole input rest output : List ℕ) (ending : Ended) (cost : ℕ) → (ending ≢ Command → rest ≡ []) → whole ≡ input ++ rest
-    → Answers limit input ending output cost → Answers limit whole ending output cost
-whole_input limit whole input rest output Command cost end split answers =
-    subst (λ l. Answers limit l Command output cost) (sym split) (Answers-more limit input rest output cost answers)
-whole_input limit whole input rest output Input cost end split answers =
-    subst (λ l. Answers limit l Input output cost) (sym (split ∙ ap (λ l. input ++ l) (end (λ e. cc)) ∙ append-nil input)) answers
-whole_input limit whole input rest output Cut cost end split answers =
-    subst (λ l. Answers limit l Cut output cost) (sym (split ∙ ap (λ l. input ++ l) (end (λ e. cc)) ∙ append-nil input)) answers
+whole_input : (limit : ℕ) (whole input rest output : List ℕ) (ending : Ended) (cost : ℕ) (ticks ticks' : Ticks) → (ending ≢ Command → rest ≡ [])
+    → whole ≡ input ++ rest → AnswersWithin limit input ending output cost ticks ticks' → AnswersWithin limit whole ending output cost ticks ticks'
+whole_input limit whole input rest output Command cost ticks ticks' end split h =
+    subst (λ l. AnswersWithin limit l Command output cost ticks ticks') (sym split) (record {
+      answers = record {
+        orders = h.answers.orders;
+        replies = h.answers.replies;
+        last = h.answers.last;
+        reads = Reads-more input rest h.answers.orders h.answers.reads;
+        run = h.answers.run;
+        shown = h.answers.shown;
+      };
+      searches = h.searches;
+    })
+whole_input limit whole input rest output Input cost ticks ticks' end split h =
+    subst (λ l. AnswersWithin limit l Input output cost ticks ticks') (sym (split ∙ ap (λ l. input ++ l) (end (λ e. cc)) ∙ append-nil input)) h
+whole_input limit whole input rest output Cut cost ticks ticks' end split h =
+    subst (λ l. AnswersWithin limit l Cut output cost ticks ticks') (sym (split ∙ ap (λ l. input ++ l) (end (λ e. cc)) ∙ append-nil input)) h
 
 -- where a read told the end, nothing is left
 none_left : (ending : Ended) (source source' : SourceState) → TellsEnd ending source source' → ending ≢ Command → IsAtEnd source'.left
@@ -252,25 +285,27 @@ none_left Command source source' told other = absurd (other refl)
 none_left Input source source' told other = told.1
 none_left Cut source source' told other = told.1
 
-whole_answer : (limit : ℕ) (ending : Ended) (left left' : Option (List ℕ)) (input output : List ℕ) (cost : ℕ)
-    → Consumes left left' input → (ending ≢ Command → IsAtEnd left') → Answers limit input ending output cost
-    → IfSome left (λ whole. Answers limit whole ending output cost)
-whole_answer limit ending None left' input output cost read end answers = tt
-whole_answer limit ending (Some whole) None input output cost read end answers = absurd read
-whole_answer limit ending (Some whole) (Some rest) input output cost read end answers = whole_input limit whole input rest output ending cost end read answers
+whole_answer : (limit : ℕ) (ending : Ended) (left left' : Option (List ℕ)) (input output : List ℕ) (cost : ℕ) (ticks ticks' : Ticks)
+    → Consumes left left' input → (ending ≢ Command → IsAtEnd left') → AnswersWithin limit input ending output cost ticks ticks'
+    → IfSome left (λ whole. AnswersWithin limit whole ending output cost ticks ticks')
+whole_answer limit ending None left' input output cost ticks ticks' read end h = tt
+whole_answer limit ending (Some whole) None input output cost ticks ticks' read end h = absurd read
+whole_answer limit ending (Some whole) (Some rest) input output cost ticks ticks' read end h =
+    whole_input limit whole input rest output ending cost ticks ticks' end read h
 
 answer_to : (limit : ℕ) (ending : Ended) (left : Option (List ℕ)) (output : List ℕ) (cost : ℕ) (sink sink' : SinkState) (ticks ticks' : Ticks)
-    → IfSome left (λ whole. Answers limit whole ending output cost) → Appends sink.held sink'.held output → ticks'.count ≤ ticks.count + cost
+    → IfSome left (λ whole. AnswersWithin limit whole ending output cost ticks ticks') → Appends sink.held sink'.held output → FlushesAll sink sink'
     → IfSome left (λ whole. IsAnswerTo limit ending whole sink sink' ticks ticks')
-answer_to limit ending None output cost sink sink' ticks ticks' answers written counted = tt
-answer_to limit ending (Some whole) output cost sink sink' ticks ticks' answers written counted =
-    record { output = output; cost = cost; written = written; answers = answers; counted = counted }
+answer_to limit ending None output cost sink sink' ticks ticks' h written flushed = tt
+answer_to limit ending (Some whole) output cost sink sink' ticks ticks' h written flushed =
+    record { output = output; cost = cost; written = written; answers = h.answers; searches = h.searches; flushed = flushed }
 
 AnswersWhole-answered : (limit : ℕ) (ending : Ended) (source source' : SourceState) (sink sink' : SinkState) (ticks ticks' : Ticks)
     → IsAnswered limit ending source source' sink sink' ticks ticks' → AnswersWhole limit (Ok ending) source sink sink' ticks ticks'
 AnswersWhole-answered limit ending source source' sink sink' ticks ticks' h =
     answer_to limit ending source.left h.output h.cost sink sink' ticks ticks'
-    (whole_answer limit ending source.left source'.left h.input h.output h.cost h.read (none_left ending source source' h.told) h.answers) h.written h.counted
+    (whole_answer limit ending source.left source'.left h.input h.output h.cost ticks ticks' h.read (none_left ending source source' h.told)
+    (record { answers = h.answers; searches = h.searches })) h.written h.flushed
 
 pub AnswersWhole-ran : (limit : ℕ) (r : Result Ended Broken) (source source' : SourceState) (sink sink' : SinkState) (ticks ticks' : Ticks)
     → Ran limit r source source' sink sink' ticks ticks' → AnswersWhole limit r source sink sink' ticks ticks'

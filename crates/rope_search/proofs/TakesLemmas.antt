@@ -9,7 +9,7 @@ use Rattle.rope_search_io.specs.ReadBuffer.{Ahead, Takes, TakesLast, TakesUntil,
 
 -- nothing taken
 pub Takes-nil : (a : Ahead) (s : SourceState) → Takes a a s s []
-Takes-nil a s = record { consumed = Consumes-nil (to_come a s); fewer = omega arith; counted = refl; sound = refl; open_end = refl }
+Takes-nil a s = record { consumed = Consumes-nil (to_come a s); fewer = omega arith; counted = refl; sound = refl; open_end = refl; wide = refl }
 
 pub Takes-trans : (a b c : Ahead) (s t u : SourceState) (xs ys : List ℕ) → Takes a b s t xs → Takes b c t u ys → Takes a c s u (xs ++ ys)
 Takes-trans a b c s t u xs ys p q = record {
@@ -18,6 +18,7 @@ Takes-trans a b c s t u xs ys p q = record {
   counted = omega (arith, p.counted, q.counted);
   sound = q.sound ∙ p.sound;
   open_end = q.open_end ∙ p.open_end;
+  wide = q.wide ∙ p.wide;
 }
 
 -- bytes taken, and then the last ones
@@ -29,6 +30,7 @@ TakesLast-after a b c s t u xs ys p q = record {
   told = q.told ∙ ap (λ n. n + 1) p.open_end;
   empty = q.empty;
   at_end = q.at_end;
+  wide = q.wide ∙ p.wide;
 }
 
 -- bytes taken, and then some more before no others came
@@ -39,6 +41,7 @@ TakesUntil-after Read a b c s t u xs ys p q = record {
   counted = omega (arith, p.counted, q.counted);
   failed = q.failed ∙ ap (λ n. n + 1) p.sound;
   open_end = q.open_end ∙ p.open_end;
+  wide = q.wide ∙ p.wide;
   empty = q.empty;
 }
 TakesUntil-after Turns a b c s t u xs ys p q = record {
@@ -46,6 +49,7 @@ TakesUntil-after Turns a b c s t u xs ys p q = record {
   counted = omega (arith, p.counted, q.counted);
   sound = q.sound ∙ p.sound;
   open_end = q.open_end ∙ p.open_end;
+  wide = q.wide ∙ p.wide;
   empty = q.empty;
   many = q.many;
 }
@@ -66,4 +70,5 @@ Takes-front old new s count enough rest same = record {
   counted = omega arith;
   sound = refl;
   open_end = refl;
+  wide = refl;
 }

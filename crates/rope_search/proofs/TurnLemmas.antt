@@ -1,29 +1,59 @@
 -- One turn of a run, and the turns so far.
-use Rattle.std.proofs.Common.{ℕ, ◌+◌, ◌≤◌, List, [], ◌∷◌, ◌++◌, Err, refl, arith}
+use Rattle.std.proofs.Common.{ℕ, ◌+◌, ◌≤◌, List, [], ◌∷◌, ◌++◌, sum_by, Err, refl, arith}
 use Rattle.std.proofs.KnownBytes.{Appends-trans, Appends-nil}
+use Rattle.std.proofs.lemmas.List.Sums.{sum_by-append}
 use Rattle.rope_search_io.specs.declared.faults.Broken.{Broken}
 use Rattle.rope_search_io.specs.declared.faults.Broken.TheVariants.{Read, Write, Turns, Memory}
 use Rattle.rope_search_io.specs.Sources.{SinkState}
 use Rattle.rope_search_io.specs.WriteBuffer.{Writes, WritesFront, WritesUntil}
+use Rattle.rope_search_reports.specs.Ticks.{Ticks}
 use Rattle.rope_search.specs.declared.commands.CommandOf.{CommandOf}
 use Rattle.rope_search.specs.declared.payloads.Collected.{Collected}
 use Rattle.rope_search.specs.Order.{Order}
 use Rattle.rope_search.specs.Step.{Answer, Step}
 use Rattle.rope_search.specs.Shows.{IsShown}
-use Rattle.rope_search.specs.Cost.{Costs}
+use Rattle.rope_search.specs.Cost.{Costs, whole_searches}
 use Rattle.rope_search.specs.Requests.{IsReadAs, TakesOrder}
-use Rattle.rope_search.specs.Runs.{Scene, Turned, TakesTurn, SoFar}
+use Rattle.rope_search.specs.Runs.{SearchesWithin, Scene, Turned, TakesTurn, SoFar}
 use Rattle.rope_search.proofs.StepLaws.{costs_exist}
 use Rattle.rope_search.proofs.RunLaws.{SpellAll-append, SpellAll-one, Run-nil, Run-push}
 use Rattle.rope_search.proofs.TakesLemmas.{Takes-nil, Takes-trans}
+
+-- ---- what is searched
+
+-- by no command
+pub SearchesWithin-none : (t : Ticks) → SearchesWithin [] 0 t t
+SearchesWithin-none t = record { rows = omega arith; wholes = omega arith }
+
+-- by one command
+pub SearchesWithin-one : (o : Order) (cost : ℕ) (t u : Ticks) → u.count ≤ t.count + cost → u.wholes ≤ t.wholes + whole_searches o
+    → SearchesWithin (o ∷ []) cost t u
+SearchesWithin-one o cost t u rows wholes = record { rows = rows; wholes = omega (arith, wholes) }
+
+-- by commands and then by others
+pub SearchesWithin-trans : (os ps : List Order) (m n : ℕ) (t u v : Ticks) → SearchesWithin os m t u → SearchesWithin ps n u v → SearchesWithin (os ++ ps) (m + n) t v
+SearchesWithin-trans os ps m n t u v before after = record {
+  rows = omega (arith, before.rows, after.rows);
+  wholes = omega (arith, before.wholes, after.wholes, sum_by-append whole_searches os ps);
+}
+
+-- other commands behind them allow more
+pub SearchesWithin-more : (os ps : List Order) (m n : ℕ) (t u : Ticks) → SearchesWithin os m t u → SearchesWithin (os ++ ps) (m + n) t u
+SearchesWithin-more os ps m n t u before = record {
+  rows = omega (arith, before.rows);
+  wholes = omega (arith, before.wholes, sum_by-append whole_searches os ps);
+}
+
+-- ---- one turn
 
 -- a command that was read whole was carried out, and so much of its answer was written
 pub Turned-given : (limit : ℕ) (header : CommandOf ℕ) (kept : Collected) (answer : Answer) (old new : Scene) (Written : List ℕ → Type 0)
     → TakesOrder limit header kept old.ahead new.ahead old.source new.source
     → ((order : Order) → IsReadAs limit header kept order → Step limit old.session order answer new.session)
     → ((order : Order) (cost : ℕ) → IsReadAs limit header kept order → Costs limit old.session order cost → new.ticks.count ≤ old.ticks.count + cost)
+    → ((order : Order) → IsReadAs limit header kept order → new.ticks.wholes ≤ old.ticks.wholes + whole_searches order)
     → IsShown new.session answer Written → Turned limit old new Written
-Turned-given limit header kept answer old new Written read step rows written =
+Turned-given limit header kept answer old new Written read step rows wholes written =
     let cost = costs_exist limit old.session read.order in
     record {
       order = read.order;
@@ -35,7 +65,7 @@ Turned-given limit header kept answer old new Written read step rows written =
       step = step read.order read.is;
       costs = cost.1;
       reply = written;
-      counted = rows read.order cost.0 read.is cost.1;
+      searches = SearchesWithin-one read.order cost.0 old.ticks new.ticks (rows read.order cost.0 read.is cost.1) (wholes read.order read.is);
     }
 
 -- a sink that failed in the middle of an answer
@@ -70,7 +100,7 @@ SoFar-none limit scene = record {
   taken = Takes-nil scene.ahead scene.source;
   run = Run-nil limit scene.session;
   written = Writes-nil scene.sink;
-  counted = omega arith;
+  searches = SearchesWithin-none scene.ticks;
 }
 
 -- one more turn
@@ -84,5 +114,5 @@ SoFar-push limit old mid new so turned = record {
   taken = Takes-trans old.ahead mid.ahead new.ahead old.source mid.source new.source so.bytes turned.bytes so.taken turned.taken;
   run = Run-push limit old.session mid.session new.session so.orders turned.order so.out so.cost turned.cost turned.answer turned.reply.bytes so.run turned.step turned.costs turned.reply.shows;
   written = Writes-then old.sink mid.sink new.sink so.out turned.reply.bytes so.written turned.reply.written;
-  counted = omega (arith, so.counted, turned.counted);
+  searches = SearchesWithin-trans so.orders (turned.order ∷ []) so.cost turned.cost old.ticks mid.ticks new.ticks so.searches turned.searches;
 }

@@ -1,5 +1,5 @@
 -- What a whole run did, by what its source and its sink tell.
-use Rattle.std.specs.Prelude.{◌≡◌, ◌≢◌, ℕ, ◌+◌, ◌^◌, ◌<◌, ◌≤◌, ◌⊎◌, List, [], ◌++◌, Option, None, Some, IfSome, Result, Ok, Err}
+use Rattle.std.specs.Prelude.{◌≡◌, ◌≢◌, ℕ, ◌+◌, ◌^◌, ◌<◌, ◌≤◌, ◌⊎◌, List, [], ◌∷◌, ◌++◌, sum_by, Option, None, Some, IfSome, Result, Ok, Err}
 use Rattle.std.specs.Io.KnownBytes.{Appends, Consumes, IsAtEnd}
 use Rattle.rope_search_io.specs.declared.faults.Broken.{Broken}
 use Rattle.rope_search_io.specs.declared.faults.Broken.TheVariants.{Read, Write, Turns, Memory}
@@ -14,15 +14,29 @@ use Rattle.rope_search.specs.Session.{State, first}
 use Rattle.rope_search.specs.Step.{Answer, Step}
 use Rattle.rope_search.specs.Reads.{Spells, SpellAll, Reads}
 use Rattle.rope_search.specs.Shows.{IsShown, closing}
-use Rattle.rope_search.specs.Cost.{Costs}
+use Rattle.rope_search.specs.Cost.{Costs, whole_searches}
 use Rattle.rope_search.specs.Answers.{Run, Answers}
 use Rattle.rope_search.specs.Requests.{TakesEnding, TakesUnfinished}
 
--- a read told the end, and all bytes were read; a line that is no command needs none
+-- exactly one read told the end, and all bytes were read; a line that is no command needs none, and none told it
 abbrev pub TellsEnd : Ended → SourceState → SourceState → Type 0
-TellsEnd Command source source' = Unit {0}
-TellsEnd Input source source' = (source.ends < source'.ends) × IsAtEnd source'.left
-TellsEnd Cut source source' = (source.ends < source'.ends) × IsAtEnd source'.left
+TellsEnd Command source source' = source'.ends ≡ source.ends
+TellsEnd Input source source' = (source'.ends ≡ source.ends + 1) × IsAtEnd source'.left
+TellsEnd Cut source source' = (source'.ends ≡ source.ends + 1) × IsAtEnd source'.left
+
+-- no more rows were made than this cost, and whole texts were searched no more often than these commands may
+pub record SearchesWithin (orders : List Order) (cost : ℕ) (ticks ticks' : Ticks) : Type 0 where
+  pub rows : ticks'.count ≤ ticks.count + cost
+  pub wholes : ticks'.wholes ≤ ticks.wholes + sum_by whole_searches orders
+
+-- the sink was flushed once, and after all that was written
+pub record FlushesAll (sink sink' : SinkState) : Type 0 where
+  pub once : sink'.flushes ≡ sink.flushes + 1
+  pub nothing_left : sink'.unflushed ≡ 0
+
+-- the sink was not flushed; or once, where none of these bytes are lost
+abbrev pub FlushesLast : SinkState → SinkState → List ℕ → Type 0
+FlushesLast sink sink' lost = (sink'.flushes ≡ sink.flushes) ⊎ ((sink'.flushes ≡ sink.flushes + 1) × (lost ≡ []))
 
 -- what was written is an answer to what was read
 pub record IsAnswered (limit : ℕ) (ending : Ended) (source source' : SourceState) (sink sink' : SinkState) (ticks ticks' : Ticks) : Type 0 where
@@ -33,10 +47,11 @@ pub record IsAnswered (limit : ℕ) (ending : Ended) (source source' : SourceSta
   pub written : Appends sink.held sink'.held output
   pub answers : Answers limit input ending output cost
   pub told : TellsEnd ending source source'
-  pub counted : ticks'.count ≤ ticks.count + cost
+  pub searches : SearchesWithin answers.orders cost ticks ticks'
+  pub wide : source'.narrow ≡ source.narrow
   pub read_soundly : source'.failures ≡ source.failures
   pub wrote_soundly : sink'.failures ≡ sink.failures
-  pub flushed : sink'.flushes ≡ sink.flushes + 1
+  pub flushed : FlushesAll sink sink'
 
 -- why no more bytes came: a read failed, or there were 2^62 of them
 abbrev pub StopsFor : Broken → SourceState → SourceState → Type 0
@@ -58,14 +73,17 @@ pub record StopsReading (limit : ℕ) (broken : Broken) (source source' : Source
   pub reads : Reads input orders ending
   pub unfinished : ending ≢ Command
   pub run : Run limit first orders output cost last
-  pub counted : ticks'.count ≤ ticks.count + cost
+  pub searches : SearchesWithin orders cost ticks ticks'
   pub why : StopsFor broken source source'
+  pub open_end : source'.ends ≡ source.ends
+  pub wide : source'.narrow ≡ source.narrow
   pub wrote_soundly : sink'.failures ≡ sink.failures
   pub flushed : sink'.flushes ≡ sink.flushes
 
 -- the ending's line, where the ending was met: by a line that is no command, or by a read that told the end
 abbrev pub IsMet : Ended → SourceState → SourceState → List ℕ → Type 0
-IsMet ending source source' line = (line ≡ []) ⊎ ((line ≡ closing ending) × TellsEnd ending source source')
+IsMet ending source source' line =
+    ((line ≡ []) × (source'.ends ≡ source.ends)) ⊎ ((line ≡ closing ending) × TellsEnd ending source source')
 
 -- of the replies to the commands that were read whole, and the ending's line where that was met, a front was written, and then the sink failed
 pub record StopsWriting (limit : ℕ) (source source' : SourceState) (sink sink' : SinkState) (ticks ticks' : Ticks) : Type 0 where
@@ -84,10 +102,11 @@ pub record StopsWriting (limit : ℕ) (source source' : SourceState) (sink sink'
   pub run : Run limit first orders replies cost last
   pub met : IsMet ending source source' line
   pub front : replies ++ line ≡ output ++ lost
-  pub counted : ticks'.count ≤ ticks.count + cost
+  pub searches : SearchesWithin orders cost ticks ticks'
+  pub wide : source'.narrow ≡ source.narrow
   pub read_soundly : source'.failures ≡ source.failures
   pub failed : sink'.failures ≡ sink.failures + 1
-  pub flushed : sink'.flushes ≤ sink.flushes + 1
+  pub flushed : FlushesLast sink sink' lost
 
 -- what a run did that answers so
 abbrev pub Ran : ℕ → Result Ended Broken → SourceState → SourceState → SinkState → SinkState → Ticks → Ticks → Type 0
@@ -103,7 +122,8 @@ pub record IsAnswerTo (limit : ℕ) (ending : Ended) (input : List ℕ) (sink si
   pub cost : ℕ
   pub written : Appends sink.held sink'.held output
   pub answers : Answers limit input ending output cost
-  pub counted : ticks'.count ≤ ticks.count + cost
+  pub searches : SearchesWithin answers.orders cost ticks ticks'
+  pub flushed : FlushesAll sink sink'
 
 -- a run that ends has answered all that its source had to give, where that is known
 abbrev pub AnswersWhole : ℕ → Result Ended Broken → SourceState → SinkState → SinkState → Ticks → Ticks → Type 0
@@ -135,7 +155,7 @@ pub record Turned (limit : ℕ) (old new : Scene) (Written : List ℕ → Type 0
   pub step : Step limit old.session order answer new.session
   pub costs : Costs limit old.session order cost
   pub reply : IsShown new.session answer Written
-  pub counted : new.ticks.count ≤ old.ticks.count + cost
+  pub searches : SearchesWithin (order ∷ []) cost old.ticks new.ticks
 
 -- the session, the sink and the counts are as before
 pub record OnlyReads (old new : Scene) : Type 0 where
@@ -160,13 +180,13 @@ pub record SoFar (limit : ℕ) (old now : Scene) : Type 0 where
   pub taken : Takes old.ahead now.ahead old.source now.source bytes
   pub run : Run limit old.session orders out cost now.session
   pub written : Writes old.sink now.sink out
-  pub counted : now.ticks.count ≤ old.ticks.count + cost
+  pub searches : SearchesWithin orders cost old.ticks now.ticks
 
--- the ending's line was written, and the sink flushed
+-- the ending's line was written, and then the sink flushed
 pub record ClosesWhole (ending : Ended) (sink sink' : SinkState) : Type 0 where
   pub appended : Appends sink.held sink'.held (closing ending)
   pub sound : sink'.failures ≡ sink.failures
-  pub flushed : sink'.flushes ≡ sink.flushes + 1
+  pub flushed : FlushesAll sink sink'
 
 -- a front of the ending's line was written, or all of it, and then the sink failed
 pub record ClosesFront (ending : Ended) (sink sink' : SinkState) : Type 0 where
@@ -175,8 +195,9 @@ pub record ClosesFront (ending : Ended) (sink sink' : SinkState) : Type 0 where
   pub split : closing ending ≡ front ++ lost
   pub appended : Appends sink.held sink'.held front
   pub failed : sink'.failures ≡ sink.failures + 1
-  pub flushed : sink'.flushes ≤ sink.flushes + 1
+  pub flushed : FlushesLast sink sink' lost
 
+-- the ending's line was written and flushed, or a front of it was written
 abbrev pub Closes : {T : Type 0} → Result T Broken → Ended → SinkState → SinkState → Type 0
 Closes (Ok done) ending sink sink' = ClosesWhole ending sink sink'
 Closes (Err Write) ending sink sink' = ClosesFront ending sink sink'

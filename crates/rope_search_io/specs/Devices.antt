@@ -7,5 +7,11 @@ abbrev pub under : {D : Type 0} → Device D → D
 under d = d.inner
 
 -- none of its calls is counted yet
-abbrev pub uncounted : {D : Type 0} → Device D → Type 0
-uncounted d = (d.reads ≡ 0) × (d.writes ≡ 0) × (d.flushes ≡ 0) × (d.failures ≡ 0) × (d.ends ≡ 0)
+pub record IsUncounted {D : Type 0} (device : Device D) : Type 0 where
+  pub reads : device.reads ≡ 0
+  pub narrow : device.narrow ≡ 0
+  pub ends : device.ends ≡ 0
+  pub writes : device.writes ≡ 0
+  pub flushes : device.flushes ≡ 0
+  pub unflushed : device.unflushed ≡ 0
+  pub failures : device.failures ≡ 0

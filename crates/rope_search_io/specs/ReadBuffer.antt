@@ -25,6 +25,7 @@ pub record Takes (old new : Ahead) (source source' : SourceState) (bytes : List 
   pub counted : new.reads + source.reads ≡ old.reads + source'.reads
   pub sound : source'.failures ≡ source.failures
   pub open_end : source'.ends ≡ source.ends
+  pub wide : source'.narrow ≡ source.narrow
 
 -- these bytes were taken, then the source told its end, and nothing is left
 pub record TakesLast (old new : Ahead) (source source' : SourceState) (bytes : List ℕ) : Type 0 where
@@ -34,6 +35,7 @@ pub record TakesLast (old new : Ahead) (source source' : SourceState) (bytes : L
   pub told : source'.ends ≡ source.ends + 1
   pub empty : new.bytes ≡ []
   pub at_end : IsAtEnd source'.left
+  pub wide : source'.narrow ≡ source.narrow
 
 -- these bytes were taken, and then the source failed once
 pub record TakesUntilFailure (old new : Ahead) (source source' : SourceState) (bytes : List ℕ) : Type 0 where
@@ -41,6 +43,7 @@ pub record TakesUntilFailure (old new : Ahead) (source source' : SourceState) (b
   pub counted : new.reads + source.reads ≡ old.reads + source'.reads
   pub failed : source'.failures ≡ source.failures + 1
   pub open_end : source'.ends ≡ source.ends
+  pub wide : source'.narrow ≡ source.narrow
   pub empty : new.bytes ≡ []
 
 -- these bytes were taken, and then there were too many reads
@@ -49,6 +52,7 @@ pub record TakesUntilLimit (old new : Ahead) (source source' : SourceState) (byt
   pub counted : new.reads + source.reads ≡ old.reads + source'.reads
   pub sound : source'.failures ≡ source.failures
   pub open_end : source'.ends ≡ source.ends
+  pub wide : source'.narrow ≡ source.narrow
   pub empty : new.bytes ≡ []
   pub many : 2 ^ 62 ≤ new.reads
 

@@ -5,6 +5,7 @@ ghost use Rattle.std.specs.Io.KnownBytes.{ReadConsumes, Keeps, WriteAppends};
 ghost use Rattle.rope_search_io.specs.Sources.{failures_in, ends_in};
 
 use crate::faults::Failed;
+use crate::read_buffer::READ_LEN;
 use crate::sinks::Sink;
 use crate::sources::Source;
 use counters::Counter;
@@ -16,37 +17,50 @@ use std::io::{Read, Write};
 pub struct Device<D> {
     inner: D,
     reads: Counter,
+    narrow: Counter,
+    ends: Counter,
     writes: Counter,
     flushes: Counter,
+    unflushed: Counter,
     failures: Counter,
-    ends: Counter,
 }
 
 impl<D> Device<D> {
     ghost use Rattle.std.specs.Prelude.{◌≡◌};
-    ghost use Rattle.rope_search_io.specs.Devices.{under, uncounted};
+    ghost use Rattle.rope_search_io.specs.Devices.{under, IsUncounted};
 
     /// The device over this reader or writer, with nothing counted yet.
     pub fn new(inner: D) -> Device<D>
         ensures inner { under result ≡ inner }
-        ensures counts { uncounted result }
+        ensures counts { IsUncounted result }
     {
         Device {
             inner,
             reads: Counter::new(),
+            narrow: Counter::new(),
+            ends: Counter::new(),
             writes: Counter::new(),
             flushes: Counter::new(),
+            unflushed: Counter::new(),
             failures: Counter::new(),
-            ends: Counter::new(),
         }
     }
 }
 
 impl<D: Read> Source for Device<D> {
-    ghost state = { λ d. record { left = D.remaining d.inner; reads = d.reads; failures = d.failures; ends = d.ends } };
+    ghost state = { λ d. record {
+      left = D.remaining d.inner;
+      reads = d.reads;
+      narrow = d.narrow;
+      failures = d.failures;
+      ends = d.ends;
+    } };
 
     fn read(&mut self, buf: &mut [u8]) -> Result<usize, Failed> {
         self.reads.add();
+        if buf.len() < READ_LEN {
+            self.narrow.add();
+        }
         match self.inner.read(buf) {
             Ok(count) => {
                 if count == 0 && !buf.is_empty() {
@@ -63,12 +77,21 @@ impl<D: Read> Source for Device<D> {
 }
 
 impl<D: Write> Sink for Device<D> {
-    ghost state = { λ d. record { held = D.contents d.inner; writes = d.writes; flushes = d.flushes; failures = d.failures } };
+    ghost state = { λ d. record {
+      held = D.contents d.inner;
+      writes = d.writes;
+      flushes = d.flushes;
+      failures = d.failures;
+      unflushed = d.unflushed;
+    } };
 
     fn write(&mut self, bytes: &[u8]) -> Result<usize, Failed> {
         self.writes.add();
         match self.inner.write(bytes) {
-            Ok(count) if count > 0 || bytes.is_empty() => Ok(count),
+            Ok(count) if count > 0 || bytes.is_empty() => {
+                self.unflushed.add();
+                Ok(count)
+            }
             // A writer that takes nothing of some bytes would never take them, so it failed too.
             _ => {
                 self.failures.add();
@@ -80,7 +103,10 @@ impl<D: Write> Sink for Device<D> {
     fn flush(&mut self) -> Result<(), Failed> {
         self.flushes.add();
         match self.inner.flush() {
-            Ok(()) => Ok(()),
+            Ok(()) => {
+                self.unflushed = Counter::new();
+                Ok(())
+            }
             Err(_) => {
                 self.failures.add();
                 Err(Failed)

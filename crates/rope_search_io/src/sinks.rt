@@ -2,7 +2,7 @@
 ghost use Rattle.std.specs.Prelude.{◌≡◌, ◌+◌, ◌-◌, ◌<◌, ◌≤◌, ◌↔◌, ◌⊎◌, Option, Some, IsErr, IfOk, length, min};
 ghost use Rattle.std.specs.Io.{WritesAtMost};
 ghost use Rattle.std.specs.Io.KnownBytes.{Keeps, WriteAppends};
-ghost use Rattle.rope_search_io.specs.Sources.{SinkState, failures_in, burnt};
+ghost use Rattle.rope_search_io.specs.Sources.{SinkState, failures_in, successes_in, left_unflushed, burnt};
 
 use crate::faults::{Failed, Fault};
 use crate::fuse::burns;
@@ -23,14 +23,16 @@ pub trait Sink {
         ensures bytes { WriteAppends (state self.old).held (state self.new).held result bytes.now }
         ensures writes { (state self.new).writes ≡ (state self.old).writes + 1 }
         ensures flushes { (state self.new).flushes ≡ (state self.old).flushes }
-        ensures failures { (state self.new).failures ≡ (state self.old).failures + failures_in result };
+        ensures failures { (state self.new).failures ≡ (state self.old).failures + failures_in result }
+        ensures unflushed { (state self.new).unflushed ≡ (state self.old).unflushed + successes_in result };
 
     /// Hands on what it may have kept back.
     fn flush(&mut self) -> Result<(), Failed>
         ensures bytes { Keeps (state self.old).held (state self.new).held }
         ensures writes { (state self.new).writes ≡ (state self.old).writes }
         ensures flushes { (state self.new).flushes ≡ (state self.old).flushes + 1 }
-        ensures failures { (state self.new).failures ≡ (state self.old).failures + failures_in result };
+        ensures failures { (state self.new).failures ≡ (state self.old).failures + failures_in result }
+        ensures unflushed { (state self.new).unflushed ≡ left_unflushed result (state self.old).unflushed };
 }
 
 /// A sink over memory, with room for a number of bytes that it reserves when it is made.
@@ -43,6 +45,7 @@ pub struct MemorySink {
     writes: Counter,
     flushes: Counter,
     failures: Counter,
+    unflushed: Counter,
 }
 
 impl Model for MemorySink {
@@ -59,6 +62,7 @@ impl Model for MemorySink {
       writes = s.writes;
       flushes = s.flushes;
       failures = s.failures;
+      unflushed = s.unflushed;
     } };
 
     ghost invariant = { λ s. (1 ≤ s.step) × (vec_len s.bytes ≤ s.room) × (s.room ≤ vec_capacity s.bytes) };
@@ -85,6 +89,7 @@ impl MemorySink {
           writes = 0;
           flushes = 0;
           failures = 0;
+          unflushed = 0;
         }) }
         ensures err { IfErr result (λ fault. fault ≡ Fault.Memory) }
     {
@@ -97,6 +102,7 @@ impl MemorySink {
             writes: Counter::new(),
             flushes: Counter::new(),
             failures: Counter::new(),
+            unflushed: Counter::new(),
         })
     }
 
@@ -109,7 +115,13 @@ impl MemorySink {
 }
 
 impl Sink for MemorySink {
-    ghost state = { λ s. record { held = Some s.held; writes = s.writes; flushes = s.flushes; failures = s.failures } };
+    ghost state = { λ s. record {
+      held = Some s.held;
+      writes = s.writes;
+      flushes = s.flushes;
+      failures = s.failures;
+      unflushed = s.unflushed;
+    } };
 
     fn write(&mut self, bytes: &[u8]) -> Result<usize, Failed>
         ensures bound { WritesAtMost result bytes.now }
@@ -118,6 +130,7 @@ impl Sink for MemorySink {
         ensures writes { self.new.writes ≡ self.old.writes + 1 }
         ensures flushes { self.new.flushes ≡ self.old.flushes }
         ensures failures { self.new.failures ≡ self.old.failures + failures_in result }
+        ensures unflushed { self.new.unflushed ≡ self.old.unflushed + successes_in result }
 
         // It fails at that call, or where there are bytes and no room, and takes as much as it may.
         ensures fails { IsErr result ↔ ((self.old.fuse ≡ Some 1)
@@ -143,6 +156,7 @@ impl Sink for MemorySink {
             self.failures.add();
             return Err(Failed);
         }
+        self.unflushed.add();
         Ok(count)
     }
 
@@ -151,6 +165,7 @@ impl Sink for MemorySink {
         ensures writes { self.new.writes ≡ self.old.writes }
         ensures flushes { self.new.flushes ≡ self.old.flushes + 1 }
         ensures failures { self.new.failures ≡ self.old.failures + failures_in result }
+        ensures unflushed { self.new.unflushed ≡ left_unflushed result self.old.unflushed }
 
         // It fails at that call alone.
         ensures fails { IsErr result ↔ (self.old.fuse ≡ Some 1) }
@@ -163,6 +178,7 @@ impl Sink for MemorySink {
             self.failures.add();
             return Err(Failed);
         }
+        self.unflushed = Counter::new();
         Ok(())
     }
 }

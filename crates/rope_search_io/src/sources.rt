@@ -2,10 +2,11 @@
 ghost use Rattle.std.specs.Prelude.{◌≡◌, ◌+◌, ◌<◌, ◌↔◌, Option, Some, IsErr, IfOk, length, min};
 ghost use Rattle.std.specs.Io.{ReadsAtMost};
 ghost use Rattle.std.specs.Io.KnownBytes.{ReadConsumes};
-ghost use Rattle.rope_search_io.specs.Sources.{SourceState, failures_in, ends_in, burnt};
+ghost use Rattle.rope_search_io.specs.Sources.{SourceState, failures_in, narrow_in, ends_in, burnt};
 
 use crate::faults::Failed;
 use crate::fuse::burns;
+use crate::read_buffer::READ_LEN;
 use counters::Counter;
 use std::marker::Model;
 
@@ -20,6 +21,7 @@ pub trait Source {
         ensures bound { ReadsAtMost result buf.new }
         ensures bytes { ReadConsumes (state self.old).left (state self.new).left result buf.new }
         ensures reads { (state self.new).reads ≡ (state self.old).reads + 1 }
+        ensures narrow { (state self.new).narrow ≡ (state self.old).narrow + narrow_in buf.new }
         ensures failures { (state self.new).failures ≡ (state self.old).failures + failures_in result }
         ensures ends { (state self.new).ends ≡ (state self.old).ends + ends_in result buf.new };
 }
@@ -31,6 +33,7 @@ pub struct MemorySource<'a> {
     step: usize,
     fuse: Option<u64>,
     reads: Counter,
+    narrow: Counter,
     failures: Counter,
     ends: Counter,
 }
@@ -46,6 +49,7 @@ impl<'a> Model for MemorySource<'a> {
       step = s.step;
       fuse = s.fuse;
       reads = s.reads;
+      narrow = s.narrow;
       failures = s.failures;
       ends = s.ends;
     } };
@@ -65,6 +69,7 @@ impl<'a> MemorySource<'a> {
           step = step;
           fuse = fail;
           reads = 0;
+          narrow = 0;
           failures = 0;
           ends = 0;
         } }
@@ -74,6 +79,7 @@ impl<'a> MemorySource<'a> {
             step,
             fuse: fail,
             reads: Counter::new(),
+            narrow: Counter::new(),
             failures: Counter::new(),
             ends: Counter::new(),
         }
@@ -81,12 +87,19 @@ impl<'a> MemorySource<'a> {
 }
 
 impl<'a> Source for MemorySource<'a> {
-    ghost state = { λ s. record { left = Some s.left; reads = s.reads; failures = s.failures; ends = s.ends } };
+    ghost state = { λ s. record {
+      left = Some s.left;
+      reads = s.reads;
+      narrow = s.narrow;
+      failures = s.failures;
+      ends = s.ends;
+    } };
 
     fn read(&mut self, buf: &mut [u8]) -> Result<usize, Failed>
         ensures bound { ReadsAtMost result buf.new }
         ensures bytes { ReadConsumes (Some self.old.left) (Some self.new.left) result buf.new }
         ensures reads { self.new.reads ≡ self.old.reads + 1 }
+        ensures narrow { self.new.narrow ≡ self.old.narrow + narrow_in buf.new }
         ensures failures { self.new.failures ≡ self.old.failures + failures_in result }
         ensures ends { self.new.ends ≡ self.old.ends + ends_in result buf.new }
 
@@ -97,6 +110,9 @@ impl<'a> Source for MemorySource<'a> {
         ensures step { self.new.step ≡ self.old.step }
     {
         self.reads.add();
+        if buf.len() < READ_LEN {
+            self.narrow.add();
+        }
         if burns(&mut self.fuse) {
             self.failures.add();
             return Err(Failed);
