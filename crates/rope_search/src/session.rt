@@ -46,9 +46,7 @@ impl Session {
     {
         let buffer = Buffer::new(alloc, limits)?;
         let mut buffers = Vec::new(alloc);
-        if buffers.push(buffer).is_err() {
-            return Err(Fault::Memory);
-        }
+        buffers.push(buffer)?;
         Ok(Session {
             alloc,
             limits,
@@ -108,9 +106,7 @@ impl Session {
     {
         let buffer = self.buffers[self.chosen].fork()?;
         let number = self.buffers.len();
-        if self.buffers.push(buffer).is_err() {
-            return Err(Fault::Memory);
-        }
+        self.buffers.push(buffer)?;
         Ok(number)
     }
 
