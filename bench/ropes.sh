@@ -23,7 +23,7 @@ for name in ascii japanese; do
 done
 
 mkdir -p "$work/repository/crates"
-for crate in str_indices ropey_tree ropey; do
+for crate in counters str_indices ropey_tree ropey; do
     cp -r "$here/../crates/$crate" "$work/repository/crates/"
     rm -rf "$work/repository/crates/$crate/out"
 done
@@ -33,7 +33,7 @@ find "$work/repository/crates/bench_ropes" -name '*.txt' | while read -r source;
     mv "$source" "${source%.txt}"
 done
 cp "$here/../HANDLES" "$work/repository/"
-grep -E '^(str_indices|ropey_tree|ropey):' "$here/../crates.txt" > "$work/repository/crates.txt"
+grep -E '^(counters|str_indices|ropey_tree|ropey):' "$here/../crates.txt" > "$work/repository/crates.txt"
 echo 'bench_ropes: ropey' >> "$work/repository/crates.txt"
 cd "$work/repository/crates/bench_ropes"
 "$rt" run < /dev/null

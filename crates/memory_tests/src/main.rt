@@ -66,17 +66,8 @@ fn gather(rt: &HostRuntime, text: &str) -> io::Result<()> {
 
 /// Writes a rope chunk by chunk.
 fn tell_rope(rt: &HostRuntime, rope: &Rope) -> io::Result<()> {
-    let len = rope.len_bytes();
-    let mut at: usize = 0;
-    for _ in 0..len {
-        let Some((chunk, ..)) = rope.get_chunk_at_byte(at) else {
-            break;
-        };
+    for chunk in rope.chunks() {
         println!(rt; "{} {}", chunk.len(), chunk)?;
-        at = at.saturating_add(chunk.len());
-        if at >= len {
-            break;
-        }
     }
-    println!(rt; "{at} bytes")
+    println!(rt; "{} bytes", rope.len_bytes())
 }

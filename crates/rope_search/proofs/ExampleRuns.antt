@@ -9,7 +9,7 @@ use Rattle.rope_search.specs.declared.commands.Reply.TheVariants.{Done, Print}
 use Rattle.rope_search.specs.declared.runs.Ended.TheVariants.{Input, Command, Cut}
 use Rattle.rope_search.specs.Order.{Order, SetText, PrintText, UseBuffer}
 use Rattle.rope_search.specs.Session.{first}
-use Rattle.rope_search.specs.Step.{Refuses, Accepts}
+use Rattle.rope_search.specs.Step.{Refuses, Accepts, Step}
 use Rattle.rope_search.specs.Reads.{IsNumber, IsLine, Spells, Ends, Reads}
 use Rattle.rope_search.specs.Answers.{Run, Answers}
 use Rattle.rope_search.specs.Examples.{session_of}
@@ -85,12 +85,18 @@ unfolding digits encode
 Run-hi limit enough =
     Run-append limit first (session_of (codes "hi")) (session_of (codes "hi")) (SetText (codes "hi") ∷ []) (PrintText ∷ []) (codes "ok\n") (codes "text 2\nhi\n") 0 0
     (Run-one limit first (session_of (codes "hi")) (SetText (codes "hi")) (Ok Done) (codes "ok\n") 0
-    (accepts, (codes "hi", record { scalars = refl; spelled = refl }, refl)) (inr (accepts, refl)) (record { rows = []; listed = refl; shown = refl }))
+    set (inr (record { reply = Done; new = session_of (codes "hi"); step = set; rows = refl })) (record { rows = []; listed = refl; shown = refl }))
     (Run-one limit (session_of (codes "hi")) (session_of (codes "hi")) PrintText (Ok Print) (codes "text 2\nhi\n") 0
-    (accepted_print limit (session_of (codes "hi")), refl) (inr (accepted_print limit (session_of (codes "hi")), refl)) (record { rows = []; listed = refl; shown = refl }))
+    shown (inr (record { reply = Print; new = session_of (codes "hi"); step = shown; rows = refl })) (record { rows = []; listed = refl; shown = refl }))
   where
     accepts : Accepts limit first (SetText (codes "hi"))
     accepts = accepted_text limit first (codes "hi") IsUtf8-hi (omega arith)
+
+    set : Step limit first (SetText (codes "hi")) (Ok Done) (session_of (codes "hi"))
+    set = (accepts, (codes "hi", record { scalars = refl; spelled = refl }, refl))
+
+    shown : Step limit (session_of (codes "hi")) PrintText (Ok Print) (session_of (codes "hi"))
+    shown = (accepted_print limit (session_of (codes "hi")), refl)
 
 -- what is written for the whole input
 pub Answers-hi : (limit : ℕ) → 2 ≤ limit → Answers limit (codes "text 2\nhiprint\n") Input (codes "ok\ntext 2\nhi\n") 0

@@ -10,6 +10,7 @@ pub mod RequestLemmas
 pub mod RunEndings
 pub mod RunLaws
 pub mod SessionLemmas
+pub mod StandLaws
 pub mod StepLaws
 pub mod TakesLemmas
 pub mod TextLemmas

@@ -1,23 +1,19 @@
 -- Steps of a session on the list of its buffers.
-use Rattle.std.proofs.Common.{◌≡◌, ℕ, ◌+◌, ◌<◌, ◌≤◌, List, [], length, map, sym, ap, ◌∙◌, subst, inl, inr, IsUtf8, Ok, Err, arith, slice_index_or, slice_set}
-use Rattle.std.proofs.lemmas.List.{map-set, get_or-map}
+use Rattle.std.proofs.Common.{◌≡◌, ℕ, ◌+◌, ◌<◌, ◌≤◌, List, [], length, map, sym, ap, ◌∙◌, subst, inl, inr, IsUtf8, Ok, arith, slice_index_or, slice_set}
+use Rattle.std.proofs.lemmas.List.{map-set, get_or-map, get_or-set_same, length-map}
 use Rattle.std.proofs.Math.Seq.{map-set_same}
 use Rattle.rope_search.specs.declared.commands.Payload.{Payload}
 use Rattle.rope_search.specs.declared.commands.CommandOf.TheVariants.{Text, Pattern as PatternCommand}
 use Rattle.rope_search.specs.Order.{Order, SetText, SetPattern}
 use Rattle.rope_search.specs.Session.{State, BufferState, LimitedBuffer, LimitedSession, fresh, current_text, chosen_buffer, with_text, with_pattern, with_chosen}
-use Rattle.rope_search.specs.Pattern.{IsPattern, pattern_limit}
-use Rattle.rope_search_reports.specs.Text.{line_count}
+use Rattle.rope_search_reports.specs.Pattern.{IsPattern, pattern_limit}
 use Rattle.rope_search.specs.Stands.{Stands, StandsFor}
 use Rattle.rope_search.specs.Step.{Step}
 use Rattle.rope_search.specs.Cost.{Costs, rows_anew}
-use Rattle.rope_search.proofs.StepLaws.{accepted_text, refused_size, accepted_pattern, refused_pattern, refused_limit}
-use Rattle.rope_search.proofs.PatternLemmas.{pattern_choice}
+use Rattle.rope_search.proofs.StepLaws.{accepted_text, accepted_pattern, Costs-accepted}
 use Rattle.std.proofs.lemmas.Bool.{cases_lt}
-use Rattle.std.specs.Prelude.{Some, ◌⊎◌}
+use Rattle.std.specs.Prelude.{Some}
 use Rattle.rope_search.proofs.TextLemmas.{Encodes-chars}
-use Rattle.rope_search_io.specs.declared.faults.Fault.{Fault}
-use Rattle.rope_search_io.specs.declared.faults.Fault.TheVariants.{Pattern, Limit, Size, Memory}
 use Rattle.rope_search.specs.declared.commands.Reply.TheVariants.{Done}
 use Rattle.std.specs.Str.{chars}
 use Rattle.std.specs.List.{All}
@@ -63,6 +59,14 @@ found items k limit old s c =
 pub Chosen-state : (items : List LimitedBuffer) (k limit : ℕ) (old : LimitedBuffer) (s : LimitedSession) → Chosen items k limit old s → chosen_buffer s.state ≡ old.state
 Chosen-state items k limit old s c = sym (ap (λ (t : LimitedSession). chosen_buffer t.state) c.seen) ∙ found items k limit old s c
 
+-- another buffer in its place is the chosen one then
+pub Chosen-with : (items : List LimitedBuffer) (k limit : ℕ) (old : LimitedBuffer) (s : LimitedSession) → Chosen items k limit old s
+    → (new : BufferState) → chosen_buffer (with_chosen s.state new) ≡ new
+Chosen-with items k limit old s c new =
+    let state : LimitedBuffer → BufferState = λ b. b.state in
+    subst (λ (t : LimitedSession). chosen_buffer (with_chosen t.state new) ≡ new) c.seen
+    (get_or-set_same (map state items) k new (fresh []) (omega (arith, c.inside, length-map items state)))
+
 -- a change of it is a change of the session
 pub Chosen-set : (items : List LimitedBuffer) (k limit : ℕ) (old new : LimitedBuffer) (s : LimitedSession) (change : BufferState → BufferState)
     → Chosen items k limit old s → new.state ≡ change old.state → state_with items k new ≡ with_chosen s.state (change (chosen_buffer s.state))
@@ -92,15 +96,6 @@ Step-take_text items k limit old new bytes s c utf8 short set = (
   (chars bytes, Encodes-chars bytes utf8, Chosen-set items k limit old new s (λ b. with_text b (chars bytes)) c set),
 )
 
--- the text is too long, or there is no memory: the session stays
-pub Step-refuse_text : (items : List LimitedBuffer) (k limit : ℕ) (old new : LimitedBuffer) (bytes : List ℕ) (s : LimitedSession) (fault : Fault) → Chosen items k limit old s
-    → IsUtf8 bytes → (fault ≡ Size → old.limit < length bytes) → (fault ≡ Size) ⊎ (fault ≡ Memory) → new ≡ old → Step s.limit s.state (SetText bytes) (Err fault) (state_with items k new)
-Step-refuse_text items k limit old new bytes s fault c utf8 long (inl size) stays =
-    subst (λ f. Step s.limit s.state (SetText bytes) (Err f) (state_with items k new)) (sym size)
-    (refused_size s.limit s.state bytes utf8 (omega (arith, long size, Chosen-limit items k limit old s c)), Chosen-stays items k limit old new s c stays)
-Step-refuse_text items k limit old new bytes s fault c utf8 long (inr memory) stays =
-    subst (λ f. Step s.limit s.state (SetText bytes) (Err f) (state_with items k new)) (sym memory) (tt, Chosen-stays items k limit old new s c stays)
-
 -- the rows that a text may make are those of the command's cost
 pub rows_taken : (items : List LimitedBuffer) (k limit : ℕ) (old : LimitedBuffer) (bytes : List ℕ) (s : LimitedSession) (count before : ℕ) → Chosen items k limit old s
     → IsUtf8 bytes → (old.limit < length bytes → count ≤ before) → count ≤ before + rows_anew old.state (chars bytes)
@@ -109,10 +104,13 @@ rows_taken items k limit old bytes s count before c utf8 long rows cost costs =
     let same = Chosen-limit items k limit old s c in
     elim (cases_lt old.limit (length bytes)) [
       | inl over ↦ omega (arith, long over)
-      | inr short ↦ elim costs [
-        | inl refused ↦ absurd (accepted_text s.limit s.state bytes utf8 (omega (arith, same)) refused.0 refused.1)
-        | inr accepted ↦ omega (arith, accepted.1, ap (λ (b : BufferState). rows_anew b (chars bytes)) (Chosen-state items k limit old s c), rows)
-      ]
+      | inr short ↦
+          let accepts = accepted_text s.limit s.state bytes utf8 (omega (arith, same)) in
+          let known : cost ≡ rows_anew old.state (chars bytes) =
+          Costs-accepted s.limit s.state (SetText bytes) cost accepts costs
+          ∙ ap (λ (b : BufferState). rows_anew b (current_text b)) (Chosen-with items k limit old s c (with_text (chosen_buffer s.state) (chars bytes)))
+          ∙ ap (λ (b : BufferState). rows_anew b (chars bytes)) (Chosen-state items k limit old s c) in
+          omega (arith, known, rows)
     ]
 
 -- ---- a pattern
@@ -125,32 +123,3 @@ Step-take_pattern items k limit old new bytes s c utf8 short is set = (
   accepted_pattern s.limit s.state bytes utf8 short is,
   (chars bytes, Encodes-chars bytes utf8, Chosen-set items k limit old new s (λ b. with_pattern b (Some (chars bytes))) c set),
 )
-
--- it is no pattern, or too long, or there is no memory: the session stays
-pub Step-refuse_pattern : (items : List LimitedBuffer) (k limit : ℕ) (old new : LimitedBuffer) (bytes : List ℕ) (s : LimitedSession) (fault : Fault) → Chosen items k limit old s
-    → IsUtf8 bytes → (fault ≡ Limit → pattern_limit < length bytes) → (fault ≡ Pattern → (length bytes ≤ pattern_limit) × ¬ (IsPattern (chars bytes)))
-    → (fault ≡ Limit) ⊎ ((fault ≡ Pattern) ⊎ (fault ≡ Memory)) → new ≡ old → Step s.limit s.state (SetPattern bytes) (Err fault) (state_with items k new)
-Step-refuse_pattern items k limit old new bytes s fault c utf8 long other (inl is) stays =
-    subst (λ f. Step s.limit s.state (SetPattern bytes) (Err f) (state_with items k new)) (sym is)
-    (refused_limit s.limit s.state bytes utf8 (long is), Chosen-stays items k limit old new s c stays)
-Step-refuse_pattern items k limit old new bytes s fault c utf8 long other (inr (inl is)) stays =
-    subst (λ f. Step s.limit s.state (SetPattern bytes) (Err f) (state_with items k new)) (sym is)
-    (refused_pattern s.limit s.state bytes utf8 (other is).0 (other is).1, Chosen-stays items k limit old new s c stays)
-Step-refuse_pattern items k limit old new bytes s fault c utf8 long other (inr (inr is)) stays =
-    subst (λ f. Step s.limit s.state (SetPattern bytes) (Err f) (state_with items k new)) (sym is) (tt, Chosen-stays items k limit old new s c stays)
-
--- the rows that a pattern may make are those of the command's cost
-pub rows_searched : (items : List LimitedBuffer) (k limit : ℕ) (old : LimitedBuffer) (bytes : List ℕ) (s : LimitedSession) (count before : ℕ) → Chosen items k limit old s
-    → IsUtf8 bytes → (pattern_limit < length bytes → count ≤ before) → ((length bytes ≤ pattern_limit) × ¬ (IsPattern (chars bytes)) → count ≤ before)
-    → count ≤ before + line_count (current_text old.state) → (cost : ℕ) → Costs s.limit s.state (SetPattern bytes) cost → count ≤ before + cost
-rows_searched items k limit old bytes s count before c utf8 long other rows cost costs =
-    elim (cases_lt pattern_limit (length bytes)) [
-      | inl over ↦ omega (arith, long over)
-      | inr short ↦ elim (pattern_choice (chars bytes)) [
-        | inr is_not ↦ omega (arith, other (short, is_not))
-        | inl is ↦ elim costs [
-          | inl refused ↦ absurd (accepted_pattern s.limit s.state bytes utf8 short is refused.0 refused.1)
-          | inr accepted ↦ omega (arith, accepted.1, ap (λ (b : BufferState). line_count (current_text b)) (Chosen-state items k limit old s c), rows)
-        ]
-      ]
-    ]

@@ -11,14 +11,15 @@ use Rattle.rope_search.specs.declared.commands.Reply.TheVariants.{Done, Number, 
 use Rattle.rope_search_reports.specs.Text.{Encodes}
 use Rattle.rope_search.specs.Order.{Order, SetText, PrintText, ForkBuffer, SetPattern, DropPattern, ListMatches, UseBuffer}
 use Rattle.rope_search.specs.Session.{State, fresh, current_text, chosen_buffer, with_text, with_pattern, with_chosen}
-use Rattle.rope_search.specs.Pattern.{IsPattern, pattern_limit}
+use Rattle.rope_search_reports.specs.Pattern.{IsPattern, pattern_limit}
 use Rattle.rope_search.proofs.PatternLemmas.{pattern_choice}
-use Rattle.rope_search.specs.Step.{Answer, Refuses, rank, IsFirstRefusal, Accepts, Does, Step}
+use Rattle.rope_search_io.specs.Faults.{rank_of}
+use Rattle.rope_search.specs.Step.{Answer, Refuses, IsFirstRefusal, Accepts, Does, Step}
 use Rattle.rope_search.specs.Shows.{IsListed, Shows, shows}
 use Rattle.rope_search_reports.specs.Report.{IsReport}
 use Rattle.rope_search_reports.specs.Computed.{report}
 use Rattle.rope_search_reports.proofs.ReportLaws.{report-is, report-one}
-use Rattle.rope_search.specs.Cost.{Costs, rows_of}
+use Rattle.rope_search.specs.Cost.{Costs, CostsAccepted, rows_of}
 use Rattle.rope_search.specs.Answers.{Run}
 use Rattle.rope_search.proofs.RunLaws.{Run-nil}
 
@@ -34,13 +35,18 @@ utf8_choice bytes = elim (cases_Bool (is_utf8 bytes)) [
 -- want of memory is no refusal
 pub Refuses-memory : (limit : ℕ) (s : State) (o : Order) → Refuses limit s o Memory → ⊥
 Refuses-memory limit s (SetText payload) h = h
-Refuses-memory limit s o h = h
+Refuses-memory limit s PrintText h = h
+Refuses-memory limit s ForkBuffer h = h
+Refuses-memory limit s (SetPattern payload) h = h
+Refuses-memory limit s DropPattern h = h
+Refuses-memory limit s ListMatches h = h
+Refuses-memory limit s (UseBuffer k) h = h
 
 -- a payload that isn't UTF-8 is refused for that first
 pub refused_utf8 : (limit : ℕ) (s : State) (payload : List ℕ) → ¬ (IsUtf8 payload) → IsFirstRefusal limit s (SetText payload) Utf8
 refused_utf8 limit s payload broken = record { refuses = broken; none_before = before }
   where
-    before : (other : Fault) → rank other < 3 → Refuses limit s (SetText payload) other → ⊥
+    before : (other : Fault) → rank_of other < 3 → Refuses limit s (SetText payload) other → ⊥
     before Nothing lower h = h
     before other lower h = omega arith
 
@@ -48,7 +54,7 @@ refused_utf8 limit s payload broken = record { refuses = broken; none_before = b
 pub refused_size : (limit : ℕ) (s : State) (payload : List ℕ) → IsUtf8 payload → limit < length payload → IsFirstRefusal limit s (SetText payload) Size
 refused_size limit s payload text long = record { refuses = long; none_before = before }
   where
-    before : (other : Fault) → rank other < 6 → Refuses limit s (SetText payload) other → ⊥
+    before : (other : Fault) → rank_of other < 6 → Refuses limit s (SetText payload) other → ⊥
     before Nothing lower h = h
     before Utf8 lower h = h text
     before Pattern lower h = h
@@ -56,7 +62,7 @@ refused_size limit s payload text long = record { refuses = long; none_before = 
     before other lower h = omega arith
 
 -- no refusal is told before that there is nothing
-rank_some : (fault : Fault) → rank fault < 1 → ⊥
+rank_some : (fault : Fault) → rank_of fault < 1 → ⊥
 rank_some Nothing lower = omega arith
 rank_some Utf8 lower = omega arith
 rank_some Pattern lower = omega arith
@@ -68,21 +74,21 @@ rank_some Memory lower = omega arith
 pub refused_nothing : (limit : ℕ) (s : State) (k : ℕ) → length s.buffers ≤ k → IsFirstRefusal limit s (UseBuffer k) Nothing
 refused_nothing limit s k past = record { refuses = past; none_before = before }
   where
-    before : (other : Fault) → rank other < 1 → Refuses limit s (UseBuffer k) other → ⊥
+    before : (other : Fault) → rank_of other < 1 → Refuses limit s (UseBuffer k) other → ⊥
     before other lower h = rank_some other lower
 
 -- without a pattern there is nothing to list
 pub refused_list : (limit : ℕ) (s : State) → (chosen_buffer s).pattern ≡ None → IsFirstRefusal limit s ListMatches Nothing
 refused_list limit s none = record { refuses = none; none_before = before }
   where
-    before : (other : Fault) → rank other < 1 → Refuses limit s ListMatches other → ⊥
+    before : (other : Fault) → rank_of other < 1 → Refuses limit s ListMatches other → ⊥
     before other lower h = rank_some other lower
 
 -- a pattern's payload that isn't UTF-8 is refused for that first
 pub refused_pattern_utf8 : (limit : ℕ) (s : State) (payload : List ℕ) → ¬ (IsUtf8 payload) → IsFirstRefusal limit s (SetPattern payload) Utf8
 refused_pattern_utf8 limit s payload broken = record { refuses = broken; none_before = before }
   where
-    before : (other : Fault) → rank other < 3 → Refuses limit s (SetPattern payload) other → ⊥
+    before : (other : Fault) → rank_of other < 3 → Refuses limit s (SetPattern payload) other → ⊥
     before Nothing lower h = h
     before other lower h = omega arith
 
@@ -91,7 +97,7 @@ pub refused_pattern : (limit : ℕ) (s : State) (payload : List ℕ) → IsUtf8 
     → IsFirstRefusal limit s (SetPattern payload) Pattern
 refused_pattern limit s payload text short other_text = record { refuses = (short, other_text); none_before = before }
   where
-    before : (other : Fault) → rank other < 4 → Refuses limit s (SetPattern payload) other → ⊥
+    before : (other : Fault) → rank_of other < 4 → Refuses limit s (SetPattern payload) other → ⊥
     before Nothing lower h = h
     before Utf8 lower h = h text
     before other lower h = omega arith
@@ -100,7 +106,7 @@ refused_pattern limit s payload text short other_text = record { refuses = (shor
 pub refused_limit : (limit : ℕ) (s : State) (payload : List ℕ) → IsUtf8 payload → pattern_limit < length payload → IsFirstRefusal limit s (SetPattern payload) Limit
 refused_limit limit s payload text long = record { refuses = long; none_before = before }
   where
-    before : (other : Fault) → rank other < 5 → Refuses limit s (SetPattern payload) other → ⊥
+    before : (other : Fault) → rank_of other < 5 → Refuses limit s (SetPattern payload) other → ⊥
     before Nothing lower h = h
     before Utf8 lower h = h text
     before Pattern lower h = omega (arith, h.0)
@@ -189,7 +195,7 @@ refusal_choice limit s (UseBuffer k) = elim (cases_lt k (length s.buffers)) [
 ]
 
 -- faults of one rank are the same
-pub rank_one : (f g : Fault) → rank f ≡ rank g → f ≡ g
+pub rank_one : (f g : Fault) → rank_of f ≡ rank_of g → f ≡ g
 rank_one Nothing Nothing e = refl
 rank_one Utf8 Utf8 e = refl
 rank_one Pattern Pattern e = refl
@@ -200,7 +206,7 @@ rank_one f g e = absurd (omega arith)
 
 -- a command has at most one first refusal
 pub IsFirstRefusal-one : (limit : ℕ) (s : State) (o : Order) (f g : Fault) → IsFirstRefusal limit s o f → IsFirstRefusal limit s o g → f ≡ g
-IsFirstRefusal-one limit s o f g one other = elim (cases_order (rank f) (rank g)) [
+IsFirstRefusal-one limit s o f g one other = elim (cases_order (rank_of f) (rank_of g)) [
   | inl same ↦ rank_one f g same
   | inr (inl below) ↦ absurd (other.none_before f below one.refuses)
   | inr (inr above) ↦ absurd (one.none_before g above other.refuses)
@@ -310,19 +316,32 @@ step_one limit s o (Err f) (Err g) x y one other memory memory' =
 
 -- ---- costs and runs
 
+-- a command that is accepted costs so much
+pub accepted_cost : (limit : ℕ) (s : State) (o : Order) → Accepts limit s o → CostsAccepted limit s o (rows_of o (after s o))
+accepted_cost limit s o accepts = record { reply = reply_to s o; new = after s o; step = (accepts, Does-after limit s o accepts); rows = refl }
+
+-- and no more
+pub accepted_rows : (limit : ℕ) (s : State) (o : Order) (n : ℕ) → CostsAccepted limit s o n → n ≡ rows_of o (after s o)
+accepted_rows limit s o n costs = costs.rows ∙ ap (rows_of o) (Does-known s o costs.reply costs.new costs.step.1).1
+
+-- where there is no reason to refuse a command it costs that
+pub Costs-accepted : (limit : ℕ) (s : State) (o : Order) (n : ℕ) → Accepts limit s o → Costs limit s o n → n ≡ rows_of o (after s o)
+Costs-accepted limit s o n accepts (inl refused) = absurd (accepts refused.0 refused.1)
+Costs-accepted limit s o n accepts (inr costs) = accepted_rows limit s o n costs
+
 -- each command has a cost
 pub costs_exist : (limit : ℕ) (s : State) (o : Order) → (n : ℕ) × Costs limit s o n
 costs_exist limit s o = elim (refusal_choice limit s o) [
   | inl refused ↦ (0, inl (refused.0, refused.1.refuses, refl))
-  | inr accepts ↦ (rows_of s o, inr (accepts, refl))
+  | inr accepts ↦ (rows_of o (after s o), inr (accepted_cost limit s o accepts))
 ]
 
 -- and no other
 pub costs_one : (limit : ℕ) (s : State) (o : Order) (m n : ℕ) → Costs limit s o m → Costs limit s o n → m ≡ n
 costs_one limit s o m n (inl one) (inl other) = one.2 ∙ sym other.2
-costs_one limit s o m n (inl one) (inr other) = absurd (other.0 one.0 one.1)
-costs_one limit s o m n (inr one) (inl other) = absurd (one.0 other.0 other.1)
-costs_one limit s o m n (inr one) (inr other) = one.1 ∙ sym other.1
+costs_one limit s o m n (inl one) (inr other) = absurd (other.step.0 one.0 one.1)
+costs_one limit s o m n (inr one) (inl other) = absurd (one.step.0 other.0 other.1)
+costs_one limit s o m n (inr one) (inr other) = accepted_rows limit s o m one ∙ sym (accepted_rows limit s o n other)
 
 -- without a pattern there are no rows, and with one there is a report
 report_exists : (text : List ℕ) (pattern : Option (List ℕ)) → (rows : List (List (ℕ × ℕ))) × MatchOption pattern (rows ≡ []) (λ p. IsReport text p rows)

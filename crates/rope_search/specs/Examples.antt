@@ -5,7 +5,7 @@ use Rattle.std.proofs.Math.Utf8.{encode}
 use Rattle.rope_search_io.specs.declared.faults.Fault.TheVariants.{Nothing, Utf8, Pattern, Limit, Size, Memory}
 use Rattle.rope_search.specs.declared.commands.Reply.TheVariants.{Done, Number, List as Listing, Print}
 use Rattle.rope_search.specs.declared.runs.Ended.TheVariants.{Input, Command, Cut}
-use Rattle.rope_search.specs.Pattern.{is_meta}
+use Rattle.rope_search_reports.specs.Pattern.{is_meta}
 use Rattle.rope_search.specs.Session.{State, fresh, first}
 use Rattle.rope_search.specs.Reads.{digits_after}
 use Rattle.rope_search.specs.Shows.{shows, closing}

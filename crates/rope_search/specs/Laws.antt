@@ -1,11 +1,14 @@
--- Laws of the definitions themselves: that they leave one reading, one step and one cost.
+-- Laws of the definitions themselves: that they leave one reading, one step and one cost, and that no command is left out.
 use Rattle.std.specs.Prelude.{◌≡◌, ◌≢◌, ℕ, ◌↔◌, List, ◌++◌, Err}
 use Rattle.rope_search_io.specs.declared.faults.Fault.TheVariants.{Memory}
 use Rattle.rope_search.specs.declared.runs.Ended.{Ended}
 use Rattle.rope_search.specs.declared.runs.Ended.TheVariants.{Command}
+use Rattle.rope_search.specs.declared.commands.CommandOf.{CommandOf}
+use Rattle.rope_search.specs.declared.commands.Payload.{Payload}
 use Rattle.rope_search.specs.Order.{Order}
 use Rattle.rope_search.specs.Session.{State}
 use Rattle.rope_search.specs.Shows.{Shows}
+use Rattle.rope_search.specs.Stands.{Stands}
 use Rattle.rope_search.specs.Step.{Answer, Step}
 use Rattle.rope_search.specs.Reads.{Reads}
 use Rattle.rope_search.specs.Cost.{Costs}
@@ -40,3 +43,7 @@ HasAnswer limit input = (ending : Ended) × (output : List ℕ) × (cost : ℕ) 
 -- an answer is shown in some way, and in no other
 abbrev pub HasOneShow : State → Answer → Type 0
 HasOneShow session answer = ((bytes : List ℕ) × Shows session answer bytes) × ((bytes other : List ℕ) → Shows session answer bytes → Shows session answer other → bytes ≡ other)
+
+-- this command, with what was kept of its payload, stands for some command of the definition
+abbrev pub StandsForSome : ℕ → CommandOf Payload → Type 0
+StandsForSome limit command = (order : Order) × Stands limit command order

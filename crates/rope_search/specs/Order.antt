@@ -1,7 +1,7 @@
 -- A command with its payload in full.
 use Rattle.std.specs.Prelude.{◌≡◌, ℕ, List}
 use Rattle.rope_search.specs.declared.commands.CommandOf.{CommandOf}
-use Rattle.rope_search.specs.Pattern.{pattern_limit}
+use Rattle.rope_search_reports.specs.Pattern.{pattern_limit}
 pub use Rattle.rope_search.specs.declared.commands.CommandOf.TheVariants.{Text as SetText, Print as PrintText, Fork as ForkBuffer, Pattern as SetPattern, Off as DropPattern, List as ListMatches, Use as UseBuffer}
 
 abbrev pub Order : Type 0

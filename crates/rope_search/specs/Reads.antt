@@ -21,8 +21,12 @@ pub record IsNumber (digits : List ℕ) (n : ℕ) : Type 0 where
 -- the bytes that follow a command's line
 abbrev pub payload_of : Order → List ℕ
 payload_of (SetText payload) = payload
+payload_of PrintText = []
+payload_of ForkBuffer = []
 payload_of (SetPattern payload) = payload
-payload_of order = []
+payload_of DropPattern = []
+payload_of ListMatches = []
+payload_of (UseBuffer k) = []
 
 -- a command's line, without its LF: a word, then its numbers, each after one space
 abbrev pub IsLine : Order → List ℕ → Type 0

@@ -4,7 +4,7 @@ use Rattle.rope_search.specs.declared.commands.CommandOf.{CommandOf}
 use Rattle.rope_search.specs.declared.commands.Payload.{Payload}
 use Rattle.rope_search.specs.declared.commands.Payload.TheVariants.{Kept, Long, Lost}
 use Rattle.rope_search.specs.Order.{Order, SetPattern, IsOf}
-use Rattle.rope_search.specs.Pattern.{pattern_limit}
+use Rattle.rope_search_reports.specs.Pattern.{pattern_limit}
 
 -- what was kept of a payload stands for each payload of its kind, under a limit on its bytes
 abbrev pub StandsFor : ℕ → Payload → List ℕ → Type 0

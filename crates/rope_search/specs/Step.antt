@@ -2,12 +2,13 @@
 use Rattle.std.specs.Prelude.{◌≡◌, ℕ, ◌<◌, ◌≤◌, List, [], ◌∷◌, ◌++◌, length, None, Some, Result, Ok, Err, IsUtf8, chars}
 use Rattle.rope_search_io.specs.declared.faults.Fault.{Fault}
 use Rattle.rope_search_io.specs.declared.faults.Fault.TheVariants.{Nothing, Utf8, Pattern, Limit, Size, Memory}
+use Rattle.rope_search_io.specs.Faults.{rank_of}
 use Rattle.rope_search.specs.declared.commands.Reply.{Reply}
 use Rattle.rope_search.specs.declared.commands.Reply.TheVariants.{Done, Number, List as Listing, Print}
 use Rattle.rope_search_reports.specs.Text.{Encodes}
 use Rattle.rope_search.specs.Order.{Order, SetText, PrintText, ForkBuffer, SetPattern, DropPattern, ListMatches, UseBuffer}
 use Rattle.rope_search.specs.Session.{State, fresh, current_text, chosen_buffer, with_text, with_pattern, with_chosen}
-use Rattle.rope_search.specs.Pattern.{IsPattern, pattern_limit}
+use Rattle.rope_search_reports.specs.Pattern.{IsPattern, pattern_limit}
 
 -- what a command is answered: a reply, or why it is refused
 abbrev pub Answer : Type 0
@@ -15,45 +16,43 @@ Answer = Result Reply Fault
 
 -- why a command is refused, under a limit on the bytes of a text. Want of memory refuses none
 abbrev pub Refuses : ℕ → State → Order → Fault → Type 0
--- there is no such buffer
-Refuses limit session (UseBuffer k) Nothing = length session.buffers ≤ k
+-- the payload isn't UTF-8, or the new text would have too many bytes
+Refuses limit session (SetText payload) Utf8 = ¬ (IsUtf8 payload)
+Refuses limit session (SetText payload) Size = limit < length payload
+Refuses limit session (SetText payload) fault = ⊥
+Refuses limit session PrintText fault = ⊥
+Refuses limit session ForkBuffer fault = ⊥
+-- the payload isn't UTF-8, or has too many bytes, or is no pattern; one that is too long isn't judged
+Refuses limit session (SetPattern payload) Utf8 = ¬ (IsUtf8 payload)
+Refuses limit session (SetPattern payload) Pattern = (length payload ≤ pattern_limit) × ¬ (IsPattern (chars payload))
+Refuses limit session (SetPattern payload) Limit = pattern_limit < length payload
+Refuses limit session (SetPattern payload) fault = ⊥
+Refuses limit session DropPattern fault = ⊥
 -- there is no pattern
 Refuses limit session ListMatches Nothing = (chosen_buffer session).pattern ≡ None
--- the payload isn't UTF-8
-Refuses limit session (SetText payload) Utf8 = ¬ (IsUtf8 payload)
-Refuses limit session (SetPattern payload) Utf8 = ¬ (IsUtf8 payload)
--- the payload is no pattern; one that is too long isn't judged
-Refuses limit session (SetPattern payload) Pattern = (length payload ≤ pattern_limit) × ¬ (IsPattern (chars payload))
--- the pattern has too many bytes
-Refuses limit session (SetPattern payload) Limit = pattern_limit < length payload
--- the new text would have too many bytes
-Refuses limit session (SetText payload) Size = limit < length payload
-Refuses limit session order fault = ⊥
-
--- the order in which refusals are told
-abbrev pub rank : Fault → ℕ
-rank Nothing = 1
-rank Utf8 = 3
-rank Pattern = 4
-rank Limit = 5
-rank Size = 6
-rank Memory = 7
+Refuses limit session ListMatches fault = ⊥
+-- there is no such buffer
+Refuses limit session (UseBuffer k) Nothing = length session.buffers ≤ k
+Refuses limit session (UseBuffer k) fault = ⊥
 
 -- of all reasons to refuse the command, this comes first
 pub record IsFirstRefusal (limit : ℕ) (session : State) (order : Order) (fault : Fault) : Type 0 where
   pub refuses : Refuses limit session order fault
-  pub none_before : (other : Fault) → rank other < rank fault → Refuses limit session order other → ⊥
+  pub none_before : (other : Fault) → rank_of other < rank_of fault → Refuses limit session order other → ⊥
 
 -- there is no reason to refuse the command
 abbrev pub Accepts : ℕ → State → Order → Type 0
 Accepts limit session order = (fault : Fault) → Refuses limit session order fault → ⊥
 
--- these commands take memory, and may be answered that there is none
-abbrev pub TakesMemory : Order → Type 0
-TakesMemory (SetText payload) = Unit {0}
-TakesMemory ForkBuffer = Unit {0}
-TakesMemory (SetPattern payload) = Unit {0}
-TakesMemory order = ⊥
+-- whether a command takes memory in this session, and may be answered that there is none
+abbrev pub TakesMemory : State → Order → Type 0
+TakesMemory session (SetText payload) = Unit {0}
+TakesMemory session PrintText = ⊥
+TakesMemory session ForkBuffer = Unit {0}
+TakesMemory session (SetPattern payload) = Unit {0}
+TakesMemory session DropPattern = ⊥
+TakesMemory session ListMatches = ⊥
+TakesMemory session (UseBuffer k) = ⊥
 
 -- what an accepted command does: its reply, and the session after it
 abbrev pub Does : State → Order → Reply → State → Type 0
@@ -73,5 +72,5 @@ Does old order reply new = ⊥
 -- under this limit the command may be answered so, and leave this session
 abbrev pub Step : ℕ → State → Order → Answer → State → Type 0
 Step limit old order (Ok reply) new = Accepts limit old order × Does old order reply new
-Step limit old order (Err Memory) new = TakesMemory order × (new ≡ old)
+Step limit old order (Err Memory) new = TakesMemory old order × (new ≡ old)
 Step limit old order (Err fault) new = IsFirstRefusal limit old order fault × (new ≡ old)

@@ -2,19 +2,24 @@
 ghost use Rattle.std.specs.Prelude.{◌≡◌, ◌+◌, ◌^◌, ◌<◌, ◌≤◌, ◌↔◌, ◌⊎◌, [], length, chars, None, Some, Err, OnOk, OnErr, IfOk, IfErr, IfSome};
 ghost use Rattle.ropey.specs.Chunks.{text_of};
 ghost use Rattle.rope_search_reports.specs.Text.{line_count};
-ghost use Rattle.rope_search_reports.specs.Report.{IsReport, match_count};
+ghost use Rattle.rope_search_reports.specs.Report.{match_count};
 ghost use Rattle.rope_search.specs.Session.{current_text, fresh, with_text, with_pattern, IsReportIn};
-ghost use Rattle.rope_search.specs.Pattern.{IsPattern, pattern_limit};
+ghost use Rattle.rope_search_reports.specs.Pattern.{IsPattern, pattern_limit};
 ghost use Rattle.rope_search.specs.Cost.{rows_anew};
 
 use crate::limits::Limits;
-use crate::patterns::{PATTERN_LEN, is_pattern};
 use rope_search_io::Fault;
-use rope_search_reports::laws::few_matches;
-use rope_search_reports::{Lines, Row, report_of};
+use rope_search_reports::{Finder, Lines, Row, report_of};
 use ropey::Rope;
 use std::alloc::Global;
 use std::marker::Model;
+
+/// A pattern that is set, and the report of its matches: a row for each line of the text.
+#[derive(Drop)]
+struct Search {
+    finder: Finder,
+    rows: Vec<Row>,
+}
 
 /// A text within a limit on its bytes; and where a pattern is set, the report of its matches. A fork
 /// shares the memory of the text.
@@ -23,26 +28,24 @@ pub struct Buffer {
     alloc: Global,
     limits: Limits,
     text: Rope,
-    pattern: Option<String>,
-    // A row for each line of the text. There is none without a pattern.
-    rows: Vec<Row>,
+    search: Option<Search>,
 }
 
 impl Model for Buffer {
-    ghost use Rattle.std.specs.Prelude.{◌≡◌, ◌<◌, length, chars, string_bytes, option_map, IfSome};
+    ghost use Rattle.std.specs.Prelude.{◌+◌, ◌^◌, ◌<◌, option_map, IfSome};
     ghost use Rattle.ropey.specs.Chunks.{text_of};
     ghost use Rattle.rope_search.specs.Session.{LimitedBuffer, fresh, with_pattern};
-    ghost use Rattle.rope_search_reports.specs.Report.{IsReport};
+    ghost use Rattle.rope_search_reports.specs.Report.{IsReport, match_count};
 
     ghost Value = { LimitedBuffer };
 
     ghost view = { λ b. record {
       limit = b.limits.text;
-      state = with_pattern (fresh (text_of b.text)) (option_map (λ p. chars (string_bytes p)) b.pattern);
+      state = with_pattern (fresh (text_of b.text)) (option_map (λ s. s.finder) b.search);
     } };
 
-    ghost invariant = { λ b. IfSome b.pattern (λ p.
-        (0 < length (string_bytes p)) × IsReport (text_of b.text) (chars (string_bytes p)) b.rows.items) };
+    ghost invariant = { λ b. IfSome b.search (λ s.
+        IsReport (text_of b.text) s.finder s.rows.items × (match_count s.rows.items < 2 ^ 64)) };
 }
 
 impl Buffer {
@@ -55,8 +58,7 @@ impl Buffer {
             alloc,
             limits,
             text: Rope::new(),
-            pattern: None,
-            rows: Vec::new(alloc),
+            search: None,
         })
     }
 
@@ -89,23 +91,11 @@ impl Buffer {
         let Ok(text) = Rope::from_str(self.alloc, text) else {
             return Err(Fault::Memory);
         };
-        let rows = self.rows_in(tick, &text)?;
-        self.text = text;
-        self.rows = rows;
-        Ok(())
-    }
-
-    // The rows of a text: those of its report where there is a pattern.
-    fn rows_in(&self, tick: &mut Lines, text: &Rope) -> Result<Vec<Row>, Fault>
-        ensures ok { IfOk result (λ rows. IfSome self.now.state.pattern (λ pattern. IsReport (text_of text.now) pattern rows.items)) }
-        ensures fault { IfErr result (λ fault. fault ≡ Fault.Memory) }
-        ensures rows { tick.new.count ≤ tick.old.count + rows_anew self.now.state (text_of text.now) }
-        ensures wholes { tick.new.wholes ≡ tick.old.wholes }
-    {
-        match &self.pattern {
-            None => Ok(Vec::new(self.alloc)),
-            Some(pattern) => report_of(tick, self.alloc, pattern.as_str(), text),
+        if let Some(search) = &mut self.search {
+            search.rows = report_of(tick, self.alloc, &mut search.finder, &text)?;
         }
+        self.text = text;
+        Ok(())
     }
 
     /// Makes this the pattern, in place of any other, and makes the report. It is refused with
@@ -116,8 +106,11 @@ impl Buffer {
         ensures ok { OnOk result (self.new.state ≡ with_pattern self.old.state (Some (chars pattern.now))) }
         ensures limit { self.new.limit ≡ self.old.limit }
         ensures too_long { (result ≡ Err Fault.Limit) ↔ (pattern_limit < length pattern.now) }
-        ensures no_pattern { (result ≡ Err Fault.Pattern) ↔ ((length pattern.now ≤ pattern_limit) × ¬ (IsPattern (chars pattern.now))) }
-        ensures fault { IfErr result (λ fault. (fault ≡ Fault.Limit) ⊎ ((fault ≡ Fault.Pattern) ⊎ (fault ≡ Fault.Memory))) }
+        ensures is_pattern { OnOk result (IsPattern (chars pattern.now)) }
+        ensures no_pattern { (result ≡ Err Fault.Pattern)
+            ↔ ((length pattern.now ≤ pattern_limit) × ¬ (IsPattern (chars pattern.now))) }
+        ensures fault { IfErr result (λ fault.
+            (fault ≡ Fault.Limit) ⊎ ((fault ≡ Fault.Pattern) ⊎ (fault ≡ Fault.Memory))) }
         ensures err { OnErr result (self.new ≡ self.old) }
 
         // The report has a row for each line; for what is no pattern nothing is searched.
@@ -126,18 +119,9 @@ impl Buffer {
         ensures rows { tick.new.count ≤ tick.old.count + line_count (current_text self.old.state) }
         ensures wholes { tick.new.wholes ≡ tick.old.wholes }
     {
-        if pattern.len() > PATTERN_LEN {
-            return Err(Fault::Limit);
-        }
-        if !is_pattern(pattern) {
-            return Err(Fault::Pattern);
-        }
-        let Ok(kept) = String::from_str(self.alloc, pattern) else {
-            return Err(Fault::Memory);
-        };
-        let rows = report_of(tick, self.alloc, pattern, &self.text)?;
-        self.pattern = Some(kept);
-        self.rows = rows;
+        let mut finder = Finder::new(self.alloc, pattern)?;
+        let rows = report_of(tick, self.alloc, &mut finder, &self.text)?;
+        self.search = Some(Search { finder, rows });
         Ok(())
     }
 
@@ -146,8 +130,7 @@ impl Buffer {
         ensures off { self.new.state ≡ with_pattern self.old.state None }
         ensures limit { self.new.limit ≡ self.old.limit }
     {
-        self.pattern = None;
-        self.rows = Vec::new(self.alloc);
+        self.search = None;
     }
 
     /// The report of the current text: a row for each line, from the first, with the matches of the
@@ -157,14 +140,9 @@ impl Buffer {
         ensures none { (result ≡ None) ↔ (self.now.state.pattern ≡ None) }
         ensures few { IfSome result (λ rows. match_count rows.now < 2 ^ 64) }
     {
-        match &self.pattern {
+        match &self.search {
             None => None,
-            Some(_) => {
-                // A text has fewer than 2^63 bytes, which bounds the matches.
-                let _ = self.text.len_bytes();
-                few_matches();
-                Some(self.rows.as_slice())
-            }
+            Some(search) => Some(search.rows.as_slice()),
         }
     }
 
@@ -175,15 +153,12 @@ impl Buffer {
             buffer ≡ record { limit = self.now.limit; state = fresh (current_text self.now.state) }) }
         ensures err { IfErr result (λ fault. fault ≡ Fault.Memory) }
     {
-        let Ok(text) = self.text.clone() else {
-            return Err(Fault::Memory);
-        };
+        let text = self.text.clone()?;
         Ok(Buffer {
             alloc: self.alloc,
             limits: self.limits,
             text,
-            pattern: None, // It stays with this buffer.
-            rows: Vec::new(self.alloc),
+            search: None, // The pattern stays with this buffer.
         })
     }
 }

@@ -6,7 +6,7 @@ ghost use Rattle.rope_search.specs.Header.{IsHeaderOf};
 ghost use Rattle.rope_search.specs.Stands.{Stands, StandsFor, limit_on};
 
 use crate::limits::Limits;
-use crate::patterns::PATTERN_LEN;
+use rope_search_reports::PATTERN_LEN;
 
 /// A command, with what there is of its payload: how many bytes it has, or what was kept of them.
 #[derive(Clone, Copy, Debug, PartialEq, Eq)]

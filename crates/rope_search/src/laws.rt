@@ -4,7 +4,9 @@
 ghost use Rattle.std.specs.Prelude.{ℕ, List};
 ghost use Rattle.rope_search.specs.Order.{Order};
 ghost use Rattle.rope_search.specs.Session.{State};
-ghost use Rattle.rope_search.specs.Laws.{HasOneReading, HasOneStep, HasOneCost, EndsAtBadLine, HasAnswer, HasOneShow};
+ghost use Rattle.rope_search.specs.declared.commands.CommandOf.{CommandOf};
+ghost use Rattle.rope_search.specs.declared.commands.Payload.{Payload};
+ghost use Rattle.rope_search.specs.Laws.{HasOneReading, HasOneStep, HasOneCost, EndsAtBadLine, HasAnswer, HasOneShow, StandsForSome};
 ghost use Rattle.rope_search.specs.Step.{Answer};
 
 /// Each input has exactly one reading: a list of commands, and how it ends.
@@ -35,4 +37,10 @@ pub fn has_answer()
 /// Each answer is shown in exactly one way.
 pub fn one_show()
     ensures { (session : State) (answer : Answer) → HasOneShow session answer }
+{}
+
+/// Every command stands for some command of the definition, under every limit and whatever was kept of
+/// its payload. So what `Session::apply` promises of the commands that one stands for is said of each.
+pub fn stands_for_some()
+    ensures { (limit : ℕ) (command : CommandOf Payload) → StandsForSome limit command }
 {}

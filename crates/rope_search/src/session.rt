@@ -2,7 +2,7 @@
 ghost use Rattle.std.specs.Prelude.{◌≡◌, ◌+◌, ◌<◌, ◌≤◌, ◌↔◌, [], ◌∷◌, ◌++◌, List, ℕ, length, OnOk, OnErr, IfOk, IfErr, IsOk, None};
 ghost use Rattle.rope_search.specs.Order.{Order, SetText, SetPattern, ListMatches};
 ghost use Rattle.rope_search.specs.Session.{first, fresh, current_text, chosen_buffer, with_pattern, with_chosen};
-ghost use Rattle.rope_search.specs.Pattern.{pattern_limit};
+ghost use Rattle.rope_search_reports.specs.Pattern.{pattern_limit};
 ghost use Rattle.rope_search.specs.Step.{Step};
 ghost use Rattle.rope_search.specs.Stands.{Stands, StandsFor};
 ghost use Rattle.rope_search.specs.Cost.{Costs, whole_searches};
@@ -46,9 +46,7 @@ impl Session {
     {
         let buffer = Buffer::new(alloc, limits)?;
         let mut buffers = Vec::new(alloc);
-        if buffers.push(buffer).is_err() {
-            return Err(Fault::Memory);
-        }
+        buffers.push(buffer)?;
         Ok(Session {
             alloc,
             limits,
@@ -108,9 +106,7 @@ impl Session {
     {
         let buffer = self.buffers[self.chosen].fork()?;
         let number = self.buffers.len();
-        if self.buffers.push(buffer).is_err() {
-            return Err(Fault::Memory);
-        }
+        self.buffers.push(buffer)?;
         Ok(number)
     }
 

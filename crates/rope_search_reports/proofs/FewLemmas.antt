@@ -7,18 +7,9 @@ use Rattle.std.proofs.lemmas.Str.{length-encode, len_utf8_bounds}
 use Rattle.std.proofs.Math.Utf8.{encode}
 use Rattle.str_indices.specs.Text.{is_line_break, ends_break}
 use Rattle.rope_search_reports.specs.Text.{bytes_of}
-use Rattle.rope_search_reports.specs.Report.{with_first, line_texts, IsSpanOf, past, AreNext, columns, IsRow, AreRows, IsReport, match_count}
+use Rattle.rope_search_reports.specs.Report.{with_first, line_texts, columns, IsRow, AreRows, IsReport, match_count}
+use Rattle.rope_search_reports.proofs.MatchLemmas.{matches-few}
 use Rattle.rope_search_reports.proofs.ReportLemmas.{line_texts-nil, line_texts-break, line_texts-cr, line_texts-more}
-
--- matches are no more than places
-AreNext-few : (needle content : List ℕ) (from : ℕ) (spans : List (ℕ × ℕ)) → from ≤ length content + 1 → AreNext (IsSpanOf needle content) from spans
-    → length spans + from ≤ length content + 1
-AreNext-few needle content from [] within are = omega arith
-AreNext-few needle content from (span ∷ spans) within are =
-    let fits = are.0.is.occurs.fits in
-    let ends = are.0.is.ends in
-    let behind = are.0.behind in
-    omega (arith, AreNext-few needle content (past span) spans (omega arith) are.1)
 
 encode-some : (c : ℕ) → 1 ≤ length (encode c)
 encode-some c = omega (arith, length-encode c, len_utf8_bounds c)
@@ -26,7 +17,7 @@ encode-some c = omega (arith, length-encode c, len_utf8_bounds c)
 -- a line has at most one match more than bytes
 IsRow-few : (pattern line : List ℕ) (row : List (ℕ × ℕ)) → IsRow pattern line row → length row ≤ length (bytes_of line) + 1
 IsRow-few pattern line row is =
-    omega (arith, ap length is.shown, length-map is.spans (columns (bytes_of line)), AreNext-few (bytes_of pattern) (bytes_of line) 0 is.spans (omega arith) is.are)
+    omega (arith, ap length is.shown, length-map is.spans (columns (bytes_of line)), matches-few (bytes_of pattern) (bytes_of line) is.spans is.are)
 
 -- the bytes of all lines, and one for each
 abbrev room : List (List ℕ) → ℕ

@@ -1,3 +1,5 @@
+pub mod PatternLemmas
+pub mod MatchLemmas
 pub mod RowLemmas
 pub mod ReportLemmas
 pub mod FewLemmas

@@ -8,12 +8,15 @@ use Rattle.std.proofs.lemmas.List.Sums.{sum_by-cons}
 use Rattle.std.proofs.lemmas.Str.{IsUtf8-append, IsUtf8-take, IsUtf8-drop, IsUtf8-past_char, IsUtf8-nil, IsCharBoundary-start, IsCharBoundary-at_seam, chars-append, chars-nil, encodes-chars, length-encode}
 use Rattle.std.specs.Str.{IsCharBoundary}
 use Rattle.std.specs.Char.{len_utf8}
-use Rattle.memchr.specs.Find.{OccursAt, FindsNeedle}
+use Rattle.memchr.specs.Find.{OccursAt, FindsNeedle as FindsFirst}
 use Rattle.memchr.proofs.lemmas.MatchLemmas.{OccursAt-split}
 use Rattle.str_indices.specs.Text.{units, units_of}
 use Rattle.str_indices.proofs.Joined.{units-add}
 use Rattle.rope_search_reports.specs.Text.{bytes_of}
-use Rattle.rope_search_reports.specs.Report.{IsSpanOf, IsNext, past, AreNext, IsMatches, IsRow, column, columns}
+use Rattle.rope_search_reports.specs.Matches.{AreMatches}
+use Rattle.rope_search_reports.specs.Pattern.{IsSpanOf, IsFirstSpan, FindsNeedle}
+use Rattle.rope_search_reports.specs.Report.{IsRow, column, columns}
+use Rattle.rope_search_reports.proofs.MatchLemmas.{further-are}
 
 -- ---- where a text may be cut round another
 
@@ -89,11 +92,11 @@ occurs-out content needle p k within occurs =
           get_or-drop p content (k + j) 0 ∙ ap (slice_index content) same ∙ occurs.reads j l;
     }
 
-pub found-same : (hay hay' needle needle' : List ℕ) (r r' : Option ℕ) → hay ≡ hay' → needle ≡ needle' → r ≡ r' → FindsNeedle hay needle 0 r → FindsNeedle hay' needle' 0 r'
+pub found-same : (hay hay' needle needle' : List ℕ) (r r' : Option ℕ) → hay ≡ hay' → needle ≡ needle' → r ≡ r' → FindsFirst hay needle 0 r → FindsFirst hay' needle' 0 r'
 found-same hay hay' needle needle' r r' p q e found =
-    let P : List ℕ → Type 0 = λ bs. FindsNeedle bs needle 0 r in
-    let Q : List ℕ → Type 0 = λ bs. FindsNeedle hay' bs 0 r in
-    let R : Option ℕ → Type 0 = λ o. FindsNeedle hay' needle' 0 o in
+    let P : List ℕ → Type 0 = λ bs. FindsFirst bs needle 0 r in
+    let Q : List ℕ → Type 0 = λ bs. FindsFirst hay' bs 0 r in
+    let R : Option ℕ → Type 0 = λ o. FindsFirst hay' needle' 0 o in
     subst R e (subst Q q (subst P p found))
 
 -- ---- all searches of a line
@@ -106,7 +109,7 @@ pub record Searched (needle content rest : List ℕ) (col : ℕ) (items : List (
   pub utf8 : IsUtf8 front
   pub at_column : col ≡ units (chars front)
   pub shown : items ≡ map (columns content) spans
-  pub all : (more : List (ℕ × ℕ)) → AreNext (IsSpanOf needle content) (length front) more → IsMatches needle content (spans ++ more)
+  pub all : (more : List (ℕ × ℕ)) → AreMatches (FindsNeedle needle content) (λ s. s) (length front) more → AreMatches (FindsNeedle needle content) (λ s. s) 0 (spans ++ more)
 
 pub Searched-start : (needle content : List ℕ) → Searched needle content content 0 []
 Searched-start needle content = record { front = []; spans = []; split = refl; utf8 = IsUtf8-nil; at_column = ap units (sym chars-nil); shown = refl; all = λ more are. are }
@@ -122,8 +125,8 @@ pair-is a b x y p q =
     ap first p ∙ ap second q
 
 -- a search from a place on found the next match
-next-found : (needle content : List ℕ) (p at : ℕ) → p ≤ length content → FindsNeedle (drop p content) needle 0 (Some at)
-    → IsNext (IsSpanOf needle content) p (p + at, p + at + length needle)
+next-found : (needle content : List ℕ) (p at : ℕ) → p ≤ length content → FindsFirst (drop p content) needle 0 (Some at)
+    → IsFirstSpan needle content p (p + at, p + at + length needle)
 next-found needle content p at within found = record {
   is = record { occurs = occurs-in content needle p at within found.1; ends = refl };
   behind = omega arith;
@@ -134,7 +137,7 @@ next-found needle content p at within found = record {
 }
 
 -- or that there is none
-none-found : (needle content : List ℕ) (p : ℕ) → p ≤ length content → FindsNeedle (drop p content) needle 0 None → AreNext (IsSpanOf needle content) p []
+none-found : (needle content : List ℕ) (p : ℕ) → p ≤ length content → FindsFirst (drop p content) needle 0 None → FindsNeedle needle content p None
 none-found needle content p within nowhere span is low =
     let same : span.0 ≡ p + (span.0 - p) = omega arith in
     let P : ℕ → Type 0 = λ i. OccursAt content needle i in
@@ -144,7 +147,7 @@ none-found needle content p within nowhere span is low =
 
 -- one match more
 pub Searched-step : (needle content rest gap after : List ℕ) (col at w v : ℕ) (items : List (ℕ × ℕ)) → IsUtf8 needle → IsUtf8 rest → 0 < length needle
-    → Searched needle content rest col items → FindsNeedle rest needle 0 (Some at) → gap ≡ take at rest → after ≡ drop (at + length needle) rest
+    → Searched needle content rest col items → FindsFirst rest needle 0 (Some at) → gap ≡ take at rest → after ≡ drop (at + length needle) rest
     → w ≡ units (chars gap) → v ≡ units (chars needle)
     → Searched needle content after (col + w + v) (items ++ (col + w, col + w + v) ∷ [])
 Searched-step needle content rest gap after col at w v items utf8 utf8' some sofar found gap-is after-is w-is v-is =
@@ -152,7 +155,7 @@ Searched-step needle content rest gap after col at w v items utf8 utf8' some sof
     let place = length front in
     let within : place ≤ length content = omega (arith, ap length sofar.split, length-append front rest) in
     let left : drop place content ≡ rest = ap (drop place) sofar.split ∙ drop-append_seam front rest in
-    let P : List ℕ → Type 0 = λ bs. FindsNeedle bs needle 0 (Some at) in
+    let P : List ℕ → Type 0 = λ bs. FindsFirst bs needle 0 (Some at) in
     let span : ℕ × ℕ = (place + at, place + at + length needle) in
     let next = next-found needle content place at within (subst P (sym left) found) in
     let fits = found.1.fits in
@@ -175,7 +178,6 @@ Searched-step needle content rest gap after col at w v items utf8 utf8' some sof
     ap (column content) (sym until-length) ∙ column-front content (front ++ gap) (needle ++ after) until ∙ sym until-units in
     let end-column : column content (place + at + length needle) ≡ col + w + v =
     ap (column content) (sym through-length) ∙ column-front content ((front ++ gap) ++ needle) after through ∙ sym through-units in
-    let end : place + at + length needle ≡ past span = omega arith in
     let pair : ◌≡◌ {A = ℕ × ℕ} (columns content span) (col + w, col + w + v) = pair-is _ _ _ _ start-column end-column in
     record {
       front = (front ++ gap) ++ needle;
@@ -185,24 +187,24 @@ Searched-step needle content rest gap after col at w v items utf8 utf8' some sof
       at_column = through-units;
       shown = ap (λ xs. xs ++ (col + w, col + w + v) ∷ []) sofar.shown ∙ ap (λ x. map (columns content) sofar.spans ++ x ∷ []) (sym pair) ∙ sym (map-append (columns content) sofar.spans (span ∷ []));
       all = λ more are.
-          subst (IsMatches needle content) (sym (append_assoc sofar.spans (span ∷ []) more))
-          (sofar.all (span ∷ more) (next, subst (λ p. AreNext (IsSpanOf needle content) p more) (through-length ∙ end) are));
+          subst (AreMatches (FindsNeedle needle content) (λ s. s) 0) (sym (append_assoc sofar.spans (span ∷ []) more))
+          (sofar.all (span ∷ more) (next, further-are needle content span.1 more some (subst (λ p. AreMatches (FindsNeedle needle content) (λ s. s) p more) through-length are)));
     }
 
 -- nothing more is found, and the row is whole
 pub Searched-end : (needle content rest : List ℕ) (col : ℕ) (items : List (ℕ × ℕ)) → IsUtf8 needle → IsUtf8 content → Searched needle content rest col items
-    → FindsNeedle rest needle 0 None → IsRow (chars needle) (chars content) items
+    → FindsFirst rest needle 0 None → IsRow (chars needle) (chars content) items
 Searched-end needle content rest col items utf8 utf8' sofar nowhere =
     let front = sofar.front in
     let within : length front ≤ length content = omega (arith, ap length sofar.split, length-append front rest) in
     let left : drop (length front) content ≡ rest = ap (drop (length front)) sofar.split ∙ drop-append_seam front rest in
-    let P : List ℕ → Type 0 = λ bs. FindsNeedle bs needle 0 None in
+    let P : List ℕ → Type 0 = λ bs. FindsFirst bs needle 0 None in
     let all = sofar.all [] (none-found needle content (length front) within (subst P (sym left) nowhere)) in
-    let are : IsMatches needle content sofar.spans = subst (IsMatches needle content) (append-nil sofar.spans) all in
+    let are : AreMatches (FindsNeedle needle content) (λ s. s) 0 sofar.spans = subst (AreMatches (FindsNeedle needle content) (λ s. s) 0) (append-nil sofar.spans) all in
     record {
       spans = sofar.spans;
       are =
-          subst (λ n. IsMatches n (bytes_of (chars content)) sofar.spans) (sym (encodes-chars needle utf8))
-          (subst (λ c. IsMatches needle c sofar.spans) (sym (encodes-chars content utf8')) are);
+          subst (λ n. AreMatches (FindsNeedle n (bytes_of (chars content))) (λ s. s) 0 sofar.spans) (sym (encodes-chars needle utf8))
+          (subst (λ c. AreMatches (FindsNeedle needle c) (λ s. s) 0 sofar.spans) (sym (encodes-chars content utf8')) are);
       shown = sofar.shown ∙ ap (λ c. map (columns c) sofar.spans) (sym (encodes-chars content utf8'));
     }

@@ -1,5 +1,7 @@
 pub mod Text
 pub mod TextExamples
+pub mod Matches
+pub mod Pattern
 pub mod Report
 pub mod Computed
 pub mod ReportExamples

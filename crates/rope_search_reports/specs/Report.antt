@@ -1,8 +1,9 @@
 -- The report of a text and a pattern: for each line, where the pattern matches in it.
-use Rattle.std.specs.Prelude.{◌≡◌, ℕ, ◌+◌, ◌<◌, ◌≤◌, List, [], ◌∷◌, ◌++◌, if◌then◌else◌, length, max, take, map, sum_by, chars}
-use Rattle.memchr.specs.Find.{OccursAt}
+use Rattle.std.specs.Prelude.{◌≡◌, ℕ, List, [], ◌∷◌, ◌++◌, if◌then◌else◌, length, take, map, sum_by, chars}
 use Rattle.str_indices.specs.Text.{is_line_break, ends_break, units}
 use Rattle.rope_search_reports.specs.Text.{bytes_of}
+use Rattle.rope_search_reports.specs.Matches.{AreMatches}
+use Rattle.rope_search_reports.specs.Pattern.{Finds}
 
 -- ---- lines
 
@@ -21,31 +22,10 @@ line_texts (c ∷ rest) =
     else with_first c (line_texts rest)
 
 -- ---- matches
--- A span is two places in a content: where it starts and where it ends.
 
--- the needle lies there in the content
-pub record IsSpanOf (needle content : List ℕ) (span : ℕ × ℕ) : Type 0 where
-  pub occurs : OccursAt content needle span.0
-  pub ends : span.1 ≡ span.0 + length needle
-
--- of all matches that start at a place or after it, this one starts first
-pub record IsNext (IsMatch : ℕ × ℕ → Type 0) (from : ℕ) (span : ℕ × ℕ) : Type 0 where
-  pub is : IsMatch span
-  pub behind : from ≤ span.0
-  pub none_before : (other : ℕ × ℕ) → IsMatch other → from ≤ other.0 → other.0 < span.0 → ⊥
-
--- where the next match may start: at the end of this one, or one place on where this one is empty
-abbrev pub past : ℕ × ℕ → ℕ
-past span = max (span.0 + 1) span.1
-
--- these are all matches from a place on: each is the first past the one before
-abbrev pub AreNext : (ℕ × ℕ → Type 0) → ℕ → List (ℕ × ℕ) → Type 0
-AreNext IsMatch from [] = (span : ℕ × ℕ) → IsMatch span → from ≤ span.0 → ⊥
-AreNext IsMatch from (span ∷ spans) = IsNext IsMatch from span × AreNext IsMatch (past span) spans
-
--- all matches of a needle in a content
+-- the matches of a pattern in a content, one after the other
 abbrev pub IsMatches : List ℕ → List ℕ → List (ℕ × ℕ) → Type 0
-IsMatches needle content spans = AreNext (IsSpanOf needle content) 0 spans
+IsMatches pattern content spans = AreMatches (Finds pattern content) (λ span. span) 0 spans
 
 -- ---- rows
 -- A row is the matches in one line, each as two columns: UTF-16 code units from the line's start.
@@ -60,7 +40,7 @@ columns content span = (column content span.0, column content span.1)
 -- the row of a pattern in a line: its matches in that line's text as the whole content
 pub record IsRow (pattern line : List ℕ) (row : List (ℕ × ℕ)) : Type 0 where
   pub spans : List (ℕ × ℕ)
-  pub are : IsMatches (bytes_of pattern) (bytes_of line) spans
+  pub are : IsMatches pattern (bytes_of line) spans
   pub shown : row ≡ map (columns (bytes_of line)) spans
 
 -- a row for each line

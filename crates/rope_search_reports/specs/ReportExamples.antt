@@ -3,7 +3,7 @@ use Rattle.std.specs.Prelude.{◌≡◌, [], ◌∷◌, codes, refl}
 use Rattle.std.specs.Str.{chars}
 use Rattle.std.proofs.Math.Utf8.{encode}
 use Rattle.rope_search_reports.specs.Report.{line_texts}
-use Rattle.rope_search_reports.specs.Computed.{find_among, matches_from, matches, row_of, report}
+use Rattle.rope_search_reports.specs.Computed.{find_among, further, matches, row_of, report}
 
 -- the empty text has one line
 pub lines_of_nothing : line_texts [] ≡ [] ∷ []
@@ -27,28 +27,33 @@ lines_mixed = refl
 
 -- matches don't overlap: each is looked for from the end of the one before
 pub matches_in_a_row : matches (codes "aa") (codes "aaaaa") ≡ (0, 2) ∷ (2, 4) ∷ []
-unfolding matches_from find_among
+unfolding further find_among
 matches_in_a_row = refl
+
+-- a needle without bytes lies at each place, and is found once at each
+pub matches_of_nothing : matches [] (codes "ab") ≡ (0, 0) ∷ (1, 1) ∷ (2, 2) ∷ []
+unfolding further find_among
+matches_of_nothing = refl
 
 -- of the letter a, U+1F438 (a frog), the letter b and LF: the frog has two code units
 pub report_columns : report (97 ∷ 0x1f438 ∷ 98 ∷ 10 ∷ []) (codes "b") ≡ ((3, 4) ∷ []) ∷ [] ∷ []
-unfolding line_texts matches_from find_among row_of encode chars
+unfolding line_texts further find_among row_of encode chars
 report_columns = refl
 
 pub report_crlf : report (codes "q\r\nq") (codes "q") ≡ ((0, 1) ∷ []) ∷ ((0, 1) ∷ []) ∷ []
-unfolding line_texts matches_from find_among row_of encode chars
+unfolding line_texts further find_among row_of encode chars
 report_crlf = refl
 
 pub report_overlap : report (codes "aaa") (codes "aa") ≡ ((0, 2) ∷ []) ∷ []
-unfolding line_texts matches_from find_among row_of encode chars
+unfolding line_texts further find_among row_of encode chars
 report_overlap = refl
 
 -- U+2028 is a break
 pub report_separator : report (97 ∷ 0x2028 ∷ 98 ∷ []) (codes "b") ≡ [] ∷ ((0, 1) ∷ []) ∷ []
-unfolding line_texts matches_from find_among row_of encode chars
+unfolding line_texts further find_among row_of encode chars
 report_separator = refl
 
 -- the empty text has one line, with no match
 pub report_of_nothing : report [] (codes "a") ≡ [] ∷ []
-unfolding line_texts matches_from find_among row_of encode chars
+unfolding line_texts further find_among row_of encode chars
 report_of_nothing = refl

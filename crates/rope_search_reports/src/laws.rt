@@ -1,7 +1,17 @@
 //! Laws of the definitions that the contracts of this crate cite. Each function does nothing: its
 //! contract is the law.
 
-ghost use Rattle.rope_search_reports.specs.Laws.{HasFewMatches, HasOneReport, HasReport};
+ghost use Rattle.rope_search_reports.specs.Laws.{HasOneListOfMatches, HasMatches, HasFewMatches, HasOneReport, HasReport};
+
+/// A pattern has at most one list of matches in a content.
+pub fn one_list_of_matches()
+    ensures { HasOneListOfMatches }
+{}
+
+/// A pattern has a list of matches in a content, which may be computed so.
+pub fn has_matches()
+    ensures { HasMatches }
+{}
 
 /// A report has at most one match more than its text has bytes.
 pub fn few_matches()

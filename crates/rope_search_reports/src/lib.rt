@@ -3,8 +3,10 @@
 #![tactic(auto)]
 
 pub mod laws;
+mod patterns;
 mod reports;
 mod rows;
 
+pub use patterns::PATTERN_LEN;
 pub use reports::report_of;
-pub use rows::{Lines, Row, search_line};
+pub use rows::{Finder, Lines, Row, search_line};

@@ -1,12 +1,12 @@
 //! The report of a text: its lines, each searched by itself.
-ghost use Rattle.std.specs.Prelude.{◌≡◌, ◌+◌, ◌<◌, ◌≤◌, [], ◌∷◌, ◌++◌, true, length, take, chars, string_bytes, option_copied, IfOk, IfErr, IfSome, OnOk};
+ghost use Rattle.std.specs.Prelude.{◌≡◌, ◌+◌, ◌^◌, ◌<◌, ◌≤◌, [], ◌∷◌, ◌++◌, true, length, take, chars, string_bytes, option_copied, IfOk, IfErr, IfSome, OnOk};
 ghost use Rattle.str_indices.specs.Text.{is_line_break, breaks};
 ghost use Rattle.std.specs.Str.{NonePass};
 ghost use Rattle.ropey.specs.Chunks.{text_of};
-ghost use Rattle.rope_search_reports.specs.Report.{IsRow, IsReport, AddsRow};
+ghost use Rattle.rope_search_reports.specs.Report.{IsRow, IsReport, AddsRow, match_count};
 ghost use Rattle.rope_search_reports.specs.LineCuts.{is_stop, BeginsWithBreak, CutsLine};
 
-use crate::rows::{Lines, Row, search_line};
+use crate::rows::{Finder, Lines, Row, search_line};
 use rope_search_io::Fault;
 use ropey::Rope;
 use ropey::laws::{chunks_cut_no_cr_lf, next_chunk_follows};
@@ -82,7 +82,6 @@ fn cut_line(text: &str) -> (&str, Option<&str>)
 /// A report that is being made.
 #[derive(Drop)]
 struct Draft {
-    alloc: Global,
     // The rows of the lines so far.
     rows: Vec<Row>,
     // The front of the next line, where that goes on in another chunk.
@@ -96,7 +95,6 @@ impl Draft {
         ensures front { string_bytes result.front ≡ [] }
     {
         Draft {
-            alloc,
             rows: Vec::new(alloc),
             front: String::new(alloc),
         }
@@ -104,54 +102,50 @@ impl Draft {
 
     /// The row of the line that ends with these characters. They are searched in place where they are
     /// the whole line. It may be refused with `Fault::Memory` alone.
-    fn search(&mut self, tick: &mut Lines, needle: &str, end: &str) -> Result<Row, Fault>
-        requires { 0 < length needle.now }
+    fn search(&mut self, tick: &mut Lines, finder: &mut Finder, end: &str) -> Result<Row, Fault>
         ensures row { IfOk result (λ row.
-            IsRow (chars needle.now) (chars (string_bytes self.old.front) ++ chars end.now) row) }
+            IsRow finder.old (chars (string_bytes self.old.front) ++ chars end.now) row) }
         ensures rows { OnOk result (self.new.rows.items ≡ self.old.rows.items) }
         ensures front { OnOk result (string_bytes self.new.front ≡ []) }
         ensures fault { IfErr result (λ fault. fault ≡ Fault.Memory) }
+        ensures finder { finder.new ≡ finder.old }
         ensures count { tick.new.count ≤ tick.old.count + 1 }
         ensures wholes { tick.new.wholes ≡ tick.old.wholes }
     {
         if self.front.is_empty() {
-            return search_line(tick, self.alloc, needle, end);
+            return search_line(tick, finder, end);
         }
-        if self.front.push_str(end).is_err() {
-            return Err(Fault::Memory);
-        }
-        let row = search_line(tick, self.alloc, needle, self.front.as_str())?;
+        self.front.push_str(end)?;
+        let row = search_line(tick, finder, self.front.as_str())?;
         self.front.clear();
         Ok(row)
     }
 
     /// Adds the row of the line that ends with these characters.
-    fn end_line(&mut self, tick: &mut Lines, needle: &str, end: &str) -> Result<(), Fault>
-        requires { 0 < length needle.now }
-        ensures rows { OnOk result (AddsRow (chars needle.now)
+    fn end_line(&mut self, tick: &mut Lines, finder: &mut Finder, end: &str) -> Result<(), Fault>
+        ensures rows { OnOk result (AddsRow finder.old
             (chars (string_bytes self.old.front) ++ chars end.now) self.old.rows.items self.new.rows.items) }
         ensures front { OnOk result (string_bytes self.new.front ≡ []) }
         ensures fault { IfErr result (λ fault. fault ≡ Fault.Memory) }
+        ensures finder { finder.new ≡ finder.old }
         ensures count { tick.new.count ≤ tick.old.count + 1 }
         ensures wholes { tick.new.wholes ≡ tick.old.wholes }
     {
-        let row = self.search(tick, needle, end)?;
-        if self.rows.push(row).is_err() {
-            return Err(Fault::Memory);
-        }
+        let row = self.search(tick, finder, end)?;
+        self.rows.push(row)?;
         Ok(())
     }
 
     /// Adds the row of the last line, which ends with these characters, and answers all rows.
-    fn finish(mut self, tick: &mut Lines, needle: &str, end: &str) -> Result<Vec<Row>, Fault>
-        requires { 0 < length needle.now }
-        ensures rows { IfOk result (λ rows. AddsRow (chars needle.now)
+    fn finish(mut self, tick: &mut Lines, finder: &mut Finder, end: &str) -> Result<Vec<Row>, Fault>
+        ensures rows { IfOk result (λ rows. AddsRow finder.old
             (chars (string_bytes self.front) ++ chars end.now) self.rows.items rows.items) }
         ensures fault { IfErr result (λ fault. fault ≡ Fault.Memory) }
+        ensures finder { finder.new ≡ finder.old }
         ensures count { tick.new.count ≤ tick.old.count + 1 }
         ensures wholes { tick.new.wholes ≡ tick.old.wholes }
     {
-        self.end_line(tick, needle, end)?;
+        self.end_line(tick, finder, end)?;
         let Draft { rows, .. } = self;
         Ok(rows)
     }
@@ -163,25 +157,24 @@ impl Draft {
             ≡ chars (string_bytes self.old.front) ++ chars part.now) }
         ensures fault { IfErr result (λ fault. fault ≡ Fault.Memory) }
     {
-        if self.front.push_str(part).is_err() {
-            return Err(Fault::Memory);
-        }
+        self.front.push_str(part)?;
         Ok(())
     }
 }
 
-/// The report of a text and a needle that isn't empty: a row for each line, from the first. A line is
+/// The report of a text and a finder's pattern: a row for each line, from the first. A line is
 /// copied for its search where it lies in more than one chunk. It counts at most a row a line, and may
 /// be refused with `Fault::Memory` alone.
 pub fn report_of(
     tick: &mut Lines,
     alloc: Global,
-    needle: &str,
+    finder: &mut Finder,
     text: &Rope,
 ) -> Result<Vec<Row>, Fault>
-    requires { 0 < length needle.now }
-    ensures rows { IfOk result (λ rows. IsReport (text_of text.now) (chars needle.now) rows.items) }
+    ensures rows { IfOk result (λ rows. IsReport (text_of text.now) finder.old rows.items) }
+    ensures few { IfOk result (λ rows. match_count rows.items < 2 ^ 64) }
     ensures fault { IfErr result (λ fault. fault ≡ Fault.Memory) }
+    ensures finder { finder.new ≡ finder.old }
     ensures count { tick.new.count ≤ tick.old.count + breaks is_line_break (text_of text.now) + 1 }
     ensures wholes { tick.new.wholes ≡ tick.old.wholes }
 {
@@ -195,12 +188,12 @@ pub fn report_of(
     loop {
         let (line, after) = cut_line(rest);
         if let Some(next) = after {
-            draft.end_line(tick, needle, line)?;
+            draft.end_line(tick, finder, line)?;
             rest = next;
             continue;
         }
         if at == len {
-            return draft.finish(tick, needle, line);
+            return draft.finish(tick, finder, line);
         }
         draft.carry(line)?;
         let (chunk, ..) = text.chunk_at_byte(at);

@@ -1,8 +1,10 @@
-//! The rows of a report, and the count of those that were made.
-ghost use Rattle.std.specs.Prelude.{◌≡◌, ◌+◌, ◌-◌, ◌^◌, ◌<◌, length, min, chars, IfOk, IfErr};
+//! Patterns made ready to search, the rows of a report, and the count of the searches.
+ghost use Rattle.std.specs.Prelude.{◌≡◌, ◌+◌, ◌-◌, ◌^◌, ◌<◌, ◌≤◌, ◌↔◌, ◌⊎◌, length, min, chars, IfOk, IfErr, Err};
+ghost use Rattle.rope_search_reports.specs.Pattern.{IsPattern, pattern_limit};
 ghost use Rattle.rope_search_reports.specs.Report.{IsRow};
 
-use memchr::memmem::Finder;
+use crate::patterns::{PATTERN_LEN, is_pattern};
+use memchr::memmem;
 use rope_search_io::Fault;
 use std::alloc::Global;
 use std::marker::Model;
@@ -60,6 +62,57 @@ impl Lines {
     }
 }
 
+/// A pattern that is ready to search lines, with what its searches need: all of it is made once. It
+/// can't be copied.
+#[derive(Drop)]
+pub struct Finder {
+    alloc: Global,
+    // The text that the pattern stands for.
+    needle: memmem::Finder<'static>,
+    // How many UTF-16 code units a match has.
+    width: usize,
+}
+
+impl Model for Finder {
+    ghost use Rattle.std.specs.Prelude.{◌≡◌, ℕ, List, IsUtf8, chars};
+    ghost use Rattle.str_indices.specs.Text.{units};
+    ghost use Rattle.rope_search_reports.specs.Pattern.{IsPattern};
+
+    ghost Value = { List ℕ };
+
+    ghost view = { λ f. chars f.needle };
+
+    ghost invariant = { λ f. IsUtf8 f.needle × (IsPattern (chars f.needle) × (f.width ≡ units (chars f.needle))) };
+}
+
+impl Finder {
+    /// A finder of this pattern's matches. It is refused with `Fault::Limit` where the pattern has more
+    /// than 65,536 bytes, else with `Fault::Pattern` where it isn't one or more characters that stand
+    /// for themselves, which are all but `\ . + * ? ( ) | [ { ^ $`; and perhaps with `Fault::Memory`.
+    pub fn new(alloc: Global, pattern: &str) -> Result<Finder, Fault>
+        ensures ok { IfOk result (λ finder. finder ≡ chars pattern.now) }
+        ensures is_pattern { IfOk result (λ finder. IsPattern finder) }
+        ensures too_long { (result ≡ Err Fault.Limit) ↔ (pattern_limit < length pattern.now) }
+        ensures no_pattern { (result ≡ Err Fault.Pattern)
+            ↔ ((length pattern.now ≤ pattern_limit) × ¬ (IsPattern (chars pattern.now))) }
+        ensures fault { IfErr result (λ fault.
+            (fault ≡ Fault.Limit) ⊎ ((fault ≡ Fault.Pattern) ⊎ (fault ≡ Fault.Memory))) }
+    {
+        if pattern.len() > PATTERN_LEN {
+            return Err(Fault::Limit);
+        }
+        if !is_pattern(pattern) {
+            return Err(Fault::Pattern);
+        }
+        let needle = memmem::Finder::new(pattern.as_bytes()).into_owned(alloc)?;
+        Ok(Finder {
+            alloc,
+            needle,
+            width: utf16::count(pattern),
+        })
+    }
+}
+
 /// The matches of a pattern in one line, from the left: where each starts and where it ends, in UTF-16
 /// code units from the line's start. Only `search_line` makes one, and it can't be copied, so each one
 /// was counted.
@@ -85,29 +138,29 @@ impl Row {
     }
 }
 
-/// Searches one line's text for a needle that isn't empty: each match is looked for from the end of the
-/// one before. It counts one row, refused or not, and may be refused with `Fault::Memory` alone.
-pub fn search_line(tick: &mut Lines, alloc: Global, needle: &str, line: &str) -> Result<Row, Fault>
-    requires { 0 < length needle.now }
-    ensures row { IfOk result (λ row. IsRow (chars needle.now) (chars line.now) row) }
+/// Searches one line's text for a pattern: the first match from the line's start, and each further one
+/// from the end of the one before. It counts one row, refused or not, and may be refused with
+/// `Fault::Memory` alone; the finder is then as before. Time is linear in the line.
+pub fn search_line(tick: &mut Lines, finder: &mut Finder, line: &str) -> Result<Row, Fault>
+    ensures row { IfOk result (λ row. IsRow finder.old (chars line.now) row) }
     ensures fault { IfErr result (λ fault. fault ≡ Fault.Memory) }
+    ensures finder { finder.new ≡ finder.old }
     ensures count { tick.new.count ≡ min (tick.old.count + 1) (2 ^ 64 - 1) }
     ensures wholes { tick.new.wholes ≡ tick.old.wholes }
 {
     tick.add_row();
-    let finder = Finder::new(needle.as_bytes());
-    let width = utf16::count(needle);
-    let mut matches = Vec::new(alloc);
+    let mut matches = Vec::new(finder.alloc);
+    let needle = &finder.needle;
+    let needle_len = needle.needle().len();
+    let width = finder.width;
     // What follows the last match, and the column at which it starts.
     let mut rest = line;
     let mut column = 0;
-    while let Some(at) = finder.find(rest.as_bytes()) {
+    while let Some(at) = needle.find(rest.as_bytes()) {
         let start = column + utf16::count(&rest[..at]);
         let end = start + width;
-        if matches.push((start, end)).is_err() {
-            return Err(Fault::Memory);
-        }
-        rest = &rest[at + needle.len()..];
+        matches.push((start, end))?;
+        rest = &rest[at + needle_len..];
         column = end;
     }
     Ok(Row { matches })

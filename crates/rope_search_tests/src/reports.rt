@@ -1,5 +1,5 @@
 //! Searches of one line, with ample memory.
-use rope_search::{Lines, search_line};
+use rope_search::{Finder, Lines, search_line};
 use std::test::Fail;
 
 #[test]
@@ -16,8 +16,9 @@ fn the_matches_in_a_line(rt: HostRuntime) -> Result<(), Fail> {
         ("abab", "abacababab", &[(4, 8)]),
         ("こん", "🐸こんに", &[(2, 4)]),
     ];
-    for (needle, line, matches) in cases {
-        let row = search_line(&mut tick, rt.alloc(), needle, line)?;
+    for (pattern, line, matches) in cases {
+        let mut finder = Finder::new(rt.alloc(), pattern)?;
+        let row = search_line(&mut tick, &mut finder, line)?;
         assert!(rt; row.matches() == matches);
     }
     assert!(rt; (tick.count(), tick.wholes()) == (9, 0));

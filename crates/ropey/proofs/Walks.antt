@@ -1,16 +1,25 @@
 -- Going through a rope chunk by chunk.
-use Rattle.std.proofs.Common.{◌≡◌, ℕ, ◌+◌, ◌<◌, ◌≤◌, inl, inr, List, [], ◌∷◌, ◌++◌, length, refl, ap, arith, sym, ◌∙◌, subst, append_assoc, length-append}
-use Rattle.std.specs.Prelude.{encode_utf8_all}
+use Rattle.std.proofs.Common.{◌≡◌, ℕ, ◌+◌, ◌-◌, ◌^◌, ◌<◌, ◌≤◌, ◌≢◌, inl, inr, List, [], ◌∷◌, ◌++◌, length, refl, ap, arith, sym, ◌∙◌, subst, append_assoc}
+use Rattle.std.specs.Prelude.{encode_utf8_all, if◌then◌else◌}
 use Rattle.std.specs.List.{concat}
 use Rattle.std.specs.Str.{IsUtf8, chars}
 use Rattle.std.proofs.lemmas.List.{append-nil, append_cancel_left}
 use Rattle.std.proofs.lemmas.List.Folds.{concat-append}
-use Rattle.std.proofs.lemmas.Str.{encodes-append, encodes-chars, length-le-encodes}
+use Rattle.std.proofs.lemmas.Str.{encodes-append, encodes-chars}
+use Rattle.std.proofs.lemmas.Bool.{ne_eqb}
+use Rattle.std.proofs.lemmas.Iterator.{YieldsList}
+use Rattle.std.proofs.lemmas.Iterator.Consumers.{YieldsList-from_shown}
+use Rattle.std.specs.Borrow.{Bor}
 use Rattle.str_indices.specs.Laws.{byte_len}
-use Rattle.ropey_tree.specs.Cutting.{IsCutting}
+use Rattle.ropey_tree.specs.declared.counts.Counts.{Counts}
+use Rattle.ropey_tree.specs.declared.counts.By.TheVariants.{Bytes}
+use Rattle.ropey_tree.specs.Cutting.{IsCutting, IsText}
 use Rattle.ropey.specs.Chunks.{text_of, piece_of, ShowsChunk}
+use Rattle.ropey.specs.Iter.{GivesChunk, CutsNoCrLf, pieces_from, IsWalk}
 use Rattle.ropey.specs.Laws.{NextChunkFollows}
-use Rattle.ropey.proofs.Cuts.{byte_len-append, first_piece, rest_cut, cut-left}
+use Rattle.ropey.specs.Standing.{StandsAt}
+use Rattle.ropey.proofs.Cuts.{byte_len-append, first_piece, rest_cut, text_fits, whole_seams}
+use Rattle.ropey.proofs.Shows.{shown}
 
 -- of two ways to part pieces, those are equal of which the one's front ends inside the other's first piece
 same_front : (front rest before : List (List ℕ)) (chunk : List ℕ) (after : List (List ℕ)) → IsCutting (front ++ rest) → front ++ rest ≡ before ++ chunk ∷ after
@@ -54,117 +63,97 @@ next_chunk front rest chunk byte char line cut more h =
       starts = h.byte_is ∙ ap (λ ps. byte_len (concat ps)) (sym same);
     }
 
--- ---- a walk from the start: the pieces behind it and before it
-pub record IsAt (pieces : List (List ℕ)) (at : ℕ) : Type 0 where
-  pub front : List (List ℕ)
-  pub rest : List (List ℕ)
-  pub parts : pieces ≡ front ++ rest
-  pub place : at ≡ byte_len (text_of front)
+-- ---- a walk from the first piece on
+pub at_start : (pieces : List (List ℕ)) (len : ℕ) → len ≡ byte_len (text_of pieces) → IsText pieces → IsWalk pieces 0 len
+at_start pieces len end text = record { front = []; rest = pieces; parts = refl; place = refl; end = end; text = text }
 
-pub at_start : (pieces : List (List ℕ)) → IsAt pieces 0
-at_start pieces = record { front = []; rest = pieces; parts = refl; place = refl }
+pub from_start : (pieces : List (List ℕ)) → pieces_from 0 pieces ≡ pieces
+from_start [] = refl
+from_start (p ∷ ps) = refl
 
--- the piece that comes next
-pub record Step (pieces front : List (List ℕ)) (chunk : List ℕ) (at : ℕ) : Type 0 where
-  pub after : List (List ℕ)
-  pub parts : pieces ≡ (front ++ chunk ∷ []) ++ after
-  pub text : text_of (front ++ chunk ∷ []) ≡ text_of front ++ chunk
-  pub place : at + byte_len chunk ≡ byte_len (text_of (front ++ chunk ∷ []))
+-- pieces that are no empty ones are dropped by their bytes
+past_piece : (n : ℕ) (p : List ℕ) (ps : List (List ℕ)) → 1 ≤ n → pieces_from n (p ∷ ps) ≡ pieces_from (n - byte_len p) ps
+past_piece n p ps h = ap (λ b. if b then p ∷ ps else pieces_from (n - byte_len p) ps) (ne_eqb n 0 (λ e. omega (arith, e, h)))
 
-pub step : (pieces : List (List ℕ)) (at : ℕ) (chunk : List ℕ) (byte char line : ℕ) → (h : IsAt pieces at) → IsCutting pieces → at < byte_len (text_of pieces) → ShowsChunk pieces byte_len at chunk byte char line
-    → Step pieces h.front chunk at
-step pieces at chunk byte char line h cut more shows =
-    let cut_parts : IsCutting (h.front ++ h.rest) = subst IsCutting h.parts cut in
-    let more_parts : byte_len (text_of h.front) < byte_len (text_of (h.front ++ h.rest)) = omega (arith, more, h.place, ap (λ ps. byte_len (text_of ps)) h.parts) in
-    let shows_parts : ShowsChunk (h.front ++ h.rest) byte_len (byte_len (text_of h.front)) chunk byte char line =
-    subst (λ (n : ℕ). ShowsChunk (h.front ++ h.rest) byte_len n chunk byte char line) h.place (subst (λ (ps : List (List ℕ)). ShowsChunk ps byte_len at chunk byte char line) h.parts shows) in
-    let next = next_chunk h.front h.rest chunk byte char line cut_parts more_parts shows_parts in
-    let text = concat-append h.front (chunk ∷ []) ∙ ap (λ t. concat h.front ++ t) (append-nil chunk) in
-    record {
-      after = next.after;
+past_front : (front rest : List (List ℕ)) → IsCutting (front ++ rest) → pieces_from (byte_len (text_of front)) (front ++ rest) ≡ rest
+past_front [] rest cut = from_start rest
+past_front (f ∷ front) rest cut =
+    let sum = byte_len-append f (concat front) in
+    let some = (first_piece f (front ++ rest) cut).not_empty in
+    let left : byte_len (concat (f ∷ front)) - byte_len f ≡ byte_len (concat front) = omega (arith, sum) in
+    past_piece (byte_len (concat (f ∷ front))) f (front ++ rest) (omega (arith, sum, some))
+    ∙ ap (λ n. pieces_from n (front ++ rest)) left ∙ past_front front rest (rest_cut f (front ++ rest) cut)
+
+pub left_of : (pieces : List (List ℕ)) (byte len : ℕ) → (h : IsWalk pieces byte len) → pieces_from byte pieces ≡ h.rest
+left_of pieces byte len h =
+    ap (λ n. pieces_from n pieces) h.place ∙ ap (λ ps. pieces_from (byte_len (text_of h.front)) ps) h.parts ∙ past_front h.front h.rest (subst IsCutting h.parts h.text.cut)
+
+cut-right : (ps qs : List (List ℕ)) → IsCutting (ps ++ qs) → IsCutting qs
+cut-right [] qs h = h
+cut-right (p ∷ ps) qs h = cut-right ps qs (rest_cut p (ps ++ qs) h)
+
+-- nothing is left at the end
+no_piece : (rest : List (List ℕ)) → IsCutting rest → byte_len (concat rest) ≤ 0 → rest ≡ []
+no_piece [] cut h = refl
+no_piece (p ∷ ps) cut h = absurd (omega (arith, h, (first_piece p ps cut).not_empty, byte_len-append p (concat ps)))
+
+bytes_in_parts : (pieces : List (List ℕ)) (byte len : ℕ) → (h : IsWalk pieces byte len) → len ≡ byte + byte_len (concat h.rest)
+bytes_in_parts pieces byte len h =
+    omega (arith, h.end, h.place, ap (λ ps. byte_len (text_of ps)) h.parts ∙ ap byte_len (concat-append h.front h.rest) ∙ byte_len-append (concat h.front) (concat h.rest))
+
+pub none_left : (pieces : List (List ℕ)) (byte len : ℕ) → IsWalk pieces byte len → byte ≡ len → pieces_from byte pieces ≡ []
+none_left pieces byte len h e =
+    left_of pieces byte len h ∙ no_piece h.rest (cut-right h.front h.rest (subst IsCutting h.parts h.text.cut)) (omega (arith, bytes_in_parts pieces byte len h, e))
+
+-- the walk past the chunk at which it stands
+pub record PassesChunk (pieces : List (List ℕ)) (byte len : ℕ) (chunk : List ℕ) : Type 0 where
+  pub walk : IsWalk pieces (byte + byte_len chunk) len
+  pub left : pieces_from byte pieces ≡ chunk ∷ pieces_from (byte + byte_len chunk) pieces
+  pub within : byte + byte_len chunk ≤ len
+  pub fits : len < 2 ^ 63
+
+pub passes : (pieces : List (List ℕ)) (byte len : ℕ) (chunk : List ℕ) (start : Counts) → IsWalk pieces byte len → byte ≢ len → StandsAt pieces Bytes byte chunk start → PassesChunk pieces byte len chunk
+passes pieces byte len chunk start h apart stands =
+    let shows = shown pieces Bytes byte chunk start stands in
+    let cut : IsCutting (h.front ++ h.rest) = subst IsCutting h.parts h.text.cut in
+    let more : byte_len (text_of h.front) < byte_len (text_of (h.front ++ h.rest)) = omega (arith, h.place, h.end, apart, bytes_in_parts pieces byte len h, ap (λ ps. byte_len (text_of ps)) h.parts) in
+    let shows_there : ShowsChunk (h.front ++ h.rest) byte_len (byte_len (text_of h.front)) chunk start.bytes start.chars start.breaks =
+    subst (λ (n : ℕ). ShowsChunk (h.front ++ h.rest) byte_len n chunk start.bytes start.chars start.breaks) h.place
+    (subst (λ (ps : List (List ℕ)). ShowsChunk ps byte_len byte chunk start.bytes start.chars start.breaks) h.parts shows) in
+    let next = next_chunk h.front h.rest chunk start.bytes start.chars start.breaks cut more shows_there in
+    let text : text_of (h.front ++ chunk ∷ []) ≡ text_of h.front ++ chunk = concat-append h.front (chunk ∷ []) ∙ ap (λ t. concat h.front ++ t) (append-nil chunk) in
+    let walk : IsWalk pieces (byte + byte_len chunk) len = record {
+      front = h.front ++ chunk ∷ [];
+      rest = next.after;
       parts = h.parts ∙ ap (λ ps. h.front ++ ps) next.first ∙ sym (append_assoc h.front (chunk ∷ []) next.after);
-      text = text;
       place = omega (arith, h.place, ap byte_len text, byte_len-append (concat h.front) chunk);
+      end = h.end;
+      text = h.text;
+    } in
+    record {
+      walk = walk;
+      left = left_of pieces byte len h ∙ next.first ∙ ap (λ ps. chunk ∷ ps) (sym (left_of pieces (byte + byte_len chunk) len walk));
+      within = omega (arith, bytes_in_parts pieces (byte + byte_len chunk) len walk);
+      fits = omega (arith, h.end, text_fits pieces h.text);
     }
+
+pub parts_whole : (pieces : List (List ℕ)) → IsCutting pieces → CutsNoCrLf pieces
+parts_whole pieces cut front rest e = whole_seams front rest (subst IsCutting e cut)
+
+-- ---- what a loop over the chunks gets
+pub chunks_given : (pieces : List (List ℕ)) → YieldsList GivesChunk (λ (chunk : Bor (List ℕ)). chars chunk.now) pieces pieces
+chunks_given pieces = YieldsList-from_shown GivesChunk (λ (chunk : Bor (List ℕ)). chars chunk.now) (λ left. left) (λ s t h. ap length h.0) (λ s chunk t h. h.0) pieces
 
 -- each piece has a byte
 pub pieces-le-bytes : (pieces : List (List ℕ)) → IsCutting pieces → length pieces ≤ byte_len (text_of pieces)
 pieces-le-bytes [] cut = omega arith
 pieces-le-bytes (p ∷ ps) cut = omega (arith, (first_piece p ps cut).not_empty, byte_len-append p (concat ps), pieces-le-bytes ps (rest_cut p ps cut))
 
--- the text behind a walk, as bytes
-pub record IsWritten (pieces : List (List ℕ)) (bytes : List ℕ) : Type 0 where
-  pub at : IsAt pieces (length bytes)
-  pub bytes_are : bytes ≡ encode_utf8_all (text_of at.front)
-
-pub none_written : (pieces : List (List ℕ)) → IsWritten pieces []
-unfolding at_start
-none_written pieces = record { at = at_start pieces; bytes_are = refl }
-
-pub write_chunk : (pieces : List (List ℕ)) (bytes chunk : List ℕ) (byte char line : ℕ) → IsWritten pieces bytes → IsCutting pieces → length bytes < byte_len (text_of pieces) → IsUtf8 chunk
-    → ShowsChunk pieces byte_len (length bytes) (chars chunk) byte char line → IsWritten pieces (bytes ++ chunk)
-write_chunk pieces bytes chunk byte char line h cut more utf8 shows =
-    let next = step pieces (length bytes) (chars chunk) byte char line h.at cut more shows in
-    let encoded = encodes-chars chunk utf8 in
-    record {
-      at = record {
-        front = h.at.front ++ chars chunk ∷ [];
-        rest = next.after;
-        parts = next.parts;
-        place = length-append bytes chunk ∙ omega (arith, next.place, ap length encoded);
-      };
-      bytes_are = ap (λ bs. bs ++ chunk) h.bytes_are ∙ ap (λ bs. encode_utf8_all (text_of h.at.front) ++ bs) (sym encoded) ∙ sym (encodes-append (text_of h.at.front) (chars chunk)) ∙ ap encode_utf8_all (sym next.text);
-    }
-
--- nothing is left where the walk has come to the end
-nothing_left : (rest : List (List ℕ)) → IsCutting rest → byte_len (concat rest) ≤ 0 → rest ≡ []
-nothing_left [] cut h = refl
-nothing_left (p ∷ ps) cut h = absurd (omega (arith, h, (first_piece p ps cut).not_empty, byte_len-append p (concat ps)))
-
-cut-right : (ps qs : List (List ℕ)) → IsCutting (ps ++ qs) → IsCutting qs
-cut-right [] qs h = h
-cut-right (p ∷ ps) qs h = cut-right ps qs (rest_cut p (ps ++ qs) h)
-
-pub walked : (pieces : List (List ℕ)) (at : ℕ) → (h : IsAt pieces at) → IsCutting pieces → byte_len (text_of pieces) ≤ at → h.front ≡ pieces
-walked pieces at h cut past =
-    let sums = ap (λ ps. byte_len (text_of ps)) h.parts ∙ ap byte_len (concat-append h.front h.rest) ∙ byte_len-append (concat h.front) (concat h.rest) in
-    let none = nothing_left h.rest (cut-right h.front h.rest (subst IsCutting h.parts cut)) (omega (arith, sums, past, h.place)) in
-    sym (h.parts ∙ ap (λ ps. h.front ++ ps) none ∙ append-nil h.front)
-
-pub all_written : (pieces : List (List ℕ)) (bytes : List ℕ) → IsWritten pieces bytes → IsCutting pieces → byte_len (text_of pieces) ≤ length bytes → bytes ≡ encode_utf8_all (text_of pieces)
-all_written pieces bytes h cut past = h.bytes_are ∙ ap (λ ps. encode_utf8_all (text_of ps)) (walked pieces (length bytes) h.at cut past)
-
--- the pieces behind a walk, counted
-pub record IsCounted (pieces : List (List ℕ)) (at chunks : ℕ) : Type 0 where
-  pub at_place : IsAt pieces at
-  pub chunks_are : chunks ≡ length at_place.front
-  pub few : chunks ≤ at
-  pub within : at ≤ byte_len (text_of pieces)
-
-pub none_counted : (pieces : List (List ℕ)) → IsCounted pieces 0 0
-unfolding at_start
-none_counted pieces = record { at_place = at_start pieces; chunks_are = refl; few = omega arith; within = omega arith }
-
-pub count_chunk : (pieces : List (List ℕ)) (at chunks : ℕ) (chunk : List ℕ) (byte char line : ℕ) → IsCounted pieces at chunks → IsCutting pieces → at < byte_len (text_of pieces) → IsUtf8 chunk
-    → ShowsChunk pieces byte_len at (chars chunk) byte char line → IsCounted pieces (at + length chunk) (chunks + 1)
-count_chunk pieces at chunks chunk byte char line h cut more utf8 shows =
-    let next = step pieces at (chars chunk) byte char line h.at_place cut more shows in
-    let len = ap length (encodes-chars chunk utf8) in
-    let front_cut = cut-left (h.at_place.front ++ chars chunk ∷ []) next.after (subst IsCutting next.parts cut) in
-    let place : at + length chunk ≡ byte_len (text_of (h.at_place.front ++ chars chunk ∷ [])) = omega (arith, next.place, len) in
-    let count : chunks + 1 ≡ length (h.at_place.front ++ chars chunk ∷ []) = ap (λ n. n + 1) h.chunks_are ∙ sym (length-append h.at_place.front (chars chunk ∷ [])) in
-    let sums = ap (λ ps. byte_len (text_of ps)) next.parts ∙ ap byte_len (concat-append (h.at_place.front ++ chars chunk ∷ []) next.after) ∙ byte_len-append (concat (h.at_place.front ++ chars chunk ∷ [])) (concat next.after) in
-    record {
-      at_place = record { front = h.at_place.front ++ chars chunk ∷ []; rest = next.after; parts = next.parts; place = place };
-      chunks_are = count;
-      few = omega (arith, count, place, pieces-le-bytes (h.at_place.front ++ chars chunk ∷ []) front_cut);
-      within = omega (arith, place, sums);
-    }
-
--- a chunk of a text that is not empty has a byte
-pub some_shown : (pieces : List (List ℕ)) (chunk : List ℕ) → IsUtf8 chunk → (chars chunk ≡ [] → pieces ≡ []) → 0 < byte_len (text_of pieces) → 1 ≤ length chunk
-some_shown pieces chunk utf8 some there = omega (arith, ap length (encodes-chars chunk utf8), at_least (chars chunk) some)
-  where
-    at_least : (cs : List ℕ) → (cs ≡ [] → pieces ≡ []) → 1 ≤ byte_len cs
-    at_least [] h = absurd (omega (arith, there, ap (λ ps. byte_len (text_of ps)) (h refl)))
-    at_least (c ∷ cs) h = omega (arith, length-le-encodes (c ∷ cs))
+-- what is written and what is left are the text
+pub written : (bytes chunk : List ℕ) (left after : List (List ℕ)) (text : List ℕ) → bytes ++ encode_utf8_all (text_of left) ≡ text → left ≡ chars chunk ∷ after → IsUtf8 chunk
+    → (bytes ++ chunk) ++ encode_utf8_all (text_of after) ≡ text
+written bytes chunk left after text sofar e utf8 =
+    let rest = encode_utf8_all (text_of after) in
+    let next : chunk ++ rest ≡ encode_utf8_all (text_of left) =
+    ap (λ bs. bs ++ rest) (sym (encodes-chars chunk utf8)) ∙ sym (encodes-append (chars chunk) (text_of after)) ∙ ap (λ ps. encode_utf8_all (text_of ps)) (sym e) in
+    append_assoc bytes chunk rest ∙ ap (λ bs. bytes ++ bs) next ∙ sofar

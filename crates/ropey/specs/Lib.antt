@@ -1,4 +1,5 @@
 pub mod Chunks
 pub mod Conversions
 pub mod Standing
+pub mod Iter
 pub mod Laws

@@ -11,8 +11,10 @@ ghost use Rattle.ropey_tree.specs.Cutting.{IsText};
 ghost use Rattle.ropey_tree.specs.Nodes.{AreNodes, all_pieces};
 ghost use Rattle.ropey_tree.specs.Rows.{views};
 ghost use Rattle.ropey.specs.Chunks.{text_of, joined, line_breaks, ShowsChunk};
+ghost use Rattle.ropey.specs.Iter.{CutsNoCrLf};
 ghost use Rattle.ropey.specs.Standing.{StandsAt};
 
+use crate::iter::Chunks;
 use crate::rope_builder::RopeBuilder;
 use ropey_tree::MAX_BYTES;
 use ropey_tree::builds::build;
@@ -32,6 +34,7 @@ pub(crate) const MAX_TEXT_BYTES: usize = 0x7FFF_FFFF_FFFF_FFFF;
 /// A clone shares all of its source, and neither changes the other.
 #[derive(Drop)]
 pub struct Rope {
+    alloc: Global,
     // A text with no character has no tree.
     root: Option<Rc<Node>>,
 }
@@ -53,10 +56,13 @@ impl Clone for Rope {
 
     fn clone(&self) -> Result<Rope, AllocError> {
         match &self.root {
-            None => Ok(Rope { root: None }),
+            None => Ok(Rope::new(self.alloc)),
             Some(node) => {
                 let node = node.clone()?;
-                Ok(Rope { root: Some(node) })
+                Ok(Rope {
+                    alloc: self.alloc,
+                    root: Some(node),
+                })
             }
         }
     }
@@ -73,10 +79,10 @@ pub(crate) struct Chunk<'a> {
 
 impl Rope {
     /// The empty text.
-    pub fn new() -> Self
+    pub fn new(alloc: Global) -> Self
         ensures { result ≡ [] }
     {
-        Rope { root: None }
+        Rope { alloc, root: None }
     }
 
     /// A rope of a text.
@@ -124,10 +130,13 @@ impl Rope {
         ensures { IfOk result (λ rope. rope ≡ all_pieces (views leaves.items)) }
     {
         if leaves.is_empty() {
-            return Ok(Rope { root: None });
+            return Ok(Rope::new(alloc));
         }
         let root = build(alloc, leaves)?;
-        Ok(Rope { root: Some(root) })
+        Ok(Rope {
+            alloc,
+            root: Some(root),
+        })
     }
 
     /// What the text counts.
@@ -225,15 +234,22 @@ impl Rope {
         }
     }
 
+    /// The chunks, from the first on. It takes no memory.
+    pub fn chunks(&self) -> Chunks<'_>
+        ensures pieces { result ≡ self.now }
+        ensures cut { IsText self.now }
+        ensures whole { CutsNoCrLf self.now }
+    {
+        Chunks::new(self)
+    }
+
     /// The whole text. The one refusal is `Memory`.
-    pub fn to_text(&self, alloc: Global) -> Result<String, Error>
+    pub fn to_text(&self) -> Result<String, Error>
         ensures text { IfOk result (λ text. string_bytes text ≡ encode_utf8_all (text_of self.now)) }
         ensures refused { IfErr result (λ error. error ≡ Error.Memory) }
     {
-        let len = self.len_bytes();
-        let mut text = String::with_capacity(alloc, len)?;
-        while text.len() < len {
-            let (chunk, ..) = self.chunk_at_byte(text.len());
+        let mut text = String::with_capacity(self.alloc, self.len_bytes())?;
+        for chunk in self.chunks() {
             text.push_str(chunk)?;
         }
         Ok(text)
@@ -244,14 +260,6 @@ impl Rope {
     pub fn capacity(&self) -> usize
         ensures { result ≡ min (984 * length self.now) (2 ^ 64 - 1) }
     {
-        let len = self.len_bytes();
-        let mut at = 0;
-        let mut chunks: usize = 0;
-        while at < len {
-            let (chunk, ..) = self.chunk_at_byte(at);
-            at += chunk.len();
-            chunks += 1;
-        }
-        chunks.saturating_mul(MAX_BYTES)
+        self.chunks().count().saturating_mul(MAX_BYTES)
     }
 }

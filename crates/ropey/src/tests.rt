@@ -55,7 +55,7 @@ fn units_of_a_pair(rt: HostRuntime) -> Result<(), Fail> {
 
 #[test]
 fn an_empty_rope(rt: HostRuntime) {
-    let rope = Rope::new();
+    let rope = Rope::new(rt.alloc());
     assert_eq!(rt; rope.capacity(), 0);
     assert_eq!(rt; rope.len_lines(), 1);
     assert!(rt; rope.try_line_to_byte(1) == Ok(0));
@@ -179,7 +179,7 @@ fn ropes_of_many_lengths(rt: HostRuntime) -> Result<(), Fail> {
             let rope = Rope::from_str(rt.alloc(), &text)?;
             check_chunks(&rt, &rope, &text);
             check_places(&rt, &rope, &text, if bytes < 1000 { 1 } else { 97 });
-            let same = rope.to_text(rt.alloc())?;
+            let same = rope.to_text()?;
             assert!(rt; same == text, "{bytes} bytes of {unit:?}");
             let copy = rope.clone()?;
             assert_eq!(rt; copy.len_bytes(), bytes);

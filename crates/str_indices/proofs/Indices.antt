@@ -79,7 +79,7 @@ first_bytes-place weights count k bytes text j r found =
     omega (arith, first_past-starts count 0 j r (chars bytes) moved, ap (λ n. get_or (starts_from count 0 (chars bytes)) j n) e)
 
 -- a byte that doesn't start a character
-continues : (c i : ℕ) → 0 < i → i < len_utf8 c → (128 ≤ get_or (encode_utf8 c) i 0) × (get_or (encode_utf8 c) i 0 < 192)
+pub continues : (c i : ℕ) → 0 < i → i < len_utf8 c → (128 ≤ get_or (encode_utf8 c) i 0) × (get_or (encode_utf8 c) i 0 < 192)
 continues c zero some high = absurd (omega arith)
 continues c (suc zero) some high =
     elim (cases_lt c 128) [

@@ -10,3 +10,4 @@ pub mod Places
 pub mod Units
 pub mod Order
 pub mod Parts
+pub mod FirstBreaks

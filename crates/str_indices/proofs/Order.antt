@@ -3,8 +3,8 @@ use Rattle.std.proofs.Common.{◌≡◌, ℕ, zero, suc, ◌+◌, ◌-◌, ◌<�
 use Rattle.std.specs.Char.{len_utf8}
 use Rattle.std.proofs.lemmas.Bool.{cases_lt}
 use Rattle.std.proofs.lemmas.List.Sums.{count_by-le-length}
-use Rattle.str_indices.specs.Text.{ends_from, starts_from, ends_up_to, end_place, char_ends, unit_ends, unit_starts, units_of}
-use Rattle.str_indices.specs.Laws.{byte_len, CharsAndBoundariesAgree, UnitsAndBoundariesAgree, CharsGoToLastBoundary, UnitsGoToLastBoundary, LastUnitStartIsBefore}
+use Rattle.str_indices.specs.Text.{byte_len, ends_from, starts_from, ends_up_to, end_place, char_ends, unit_ends, unit_starts, units_of}
+use Rattle.str_indices.specs.Laws.{CharsAndBoundariesAgree, UnitsAndBoundariesAgree, CharsGoToLastBoundary, UnitsGoToLastBoundary, LastUnitStartIsBefore}
 use Rattle.str_indices.proofs.Spread.{long, among-equal, past-equal, up_to-start, up_to-append, up_to-replicate_past}
 use Rattle.str_indices.proofs.Places.{bytes-cons, starts-low, ends-back, up_to-cons, rises_with_place, unit_starts-rise}
 use Rattle.str_indices.proofs.Indices.{starts_are_ends}

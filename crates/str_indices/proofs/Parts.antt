@@ -1,17 +1,17 @@
 -- Ends and starts in a part of a text.
-use Rattle.std.proofs.Common.{◌≡◌, ℕ, zero, suc, ◌+◌, ◌-◌, ◌<◌, ◌≤◌, ◌⊎◌, inl, inr, Bool, true, false, cond, List, [], ◌∷◌, ◌++◌, length, replicate, get_or, refl, ap, subst, sym, ◌∙◌, arith, length-append, append_assoc}
-use Rattle.std.specs.Prelude.{◌&&◌, not, ◌==◌, encode_utf8_all}
+use Rattle.std.proofs.Common.{◌≡◌, ℕ, zero, suc, ◌+◌, ◌-◌, ◌<◌, ◌≤◌, ◌⊎◌, inl, inr, Bool, true, false, cond, List, [], ◌∷◌, ◌++◌, length, replicate, get_or, refl, ap, sym, ◌∙◌, arith, length-append, append_assoc}
+use Rattle.std.specs.Prelude.{◌&&◌, not, ◌==◌}
 use Rattle.std.specs.Char.{len_utf8}
 use Rattle.std.proofs.lemmas.Bool.{cases_lt}
 use Rattle.std.proofs.lemmas.List.{append-nil, length-replicate, get_or_append_left, get_or-append_right, get_or_default}
 use Rattle.std.proofs.lemmas.List.Sums.{sum_by-cons}
 use Rattle.std.proofs.lemmas.Str.{encodes-append}
-use Rattle.str_indices.specs.Text.{ends_from, starts_from, starts_with_lf, ends_break, ends_up_to, end_place, breaks, break_ends, char_ends, unit_ends, unit_starts, units_of, units}
-use Rattle.str_indices.specs.Laws.{byte_len, ends_with_cr, NoCrLfBetween, AnyTexts, EndsAddUp, PlacesAddUp, UnitStartsAddUp}
+use Rattle.str_indices.specs.Text.{byte_len, NoCrLfBetween, ends_from, starts_from, ends_break, ends_up_to, end_place, breaks, break_ends, char_ends, unit_ends, units_of, units}
+use Rattle.str_indices.specs.Laws.{AnyTexts, EndsAddUp, PlacesAddUp, UnitStartsAddUp}
 use Rattle.str_indices.proofs.Spread.{among-equal, past-equal, up_to-append, up_to-start, up_to-replicate_past, up_to-replicate_within}
 use Rattle.str_indices.proofs.Places.{bytes-cons, up_to-cons}
 
-byte_len-append : (s t : List ℕ) → byte_len (s ++ t) ≡ byte_len s + byte_len t
+pub byte_len-append : (s t : List ℕ) → byte_len (s ++ t) ≡ byte_len s + byte_len t
 byte_len-append s t = ap length (encodes-append s t) ∙ length-append _ _
 
 -- ---- a character counts the same with the second text behind it
@@ -26,7 +26,7 @@ alone count (c ∷ cs) second = (refl, alone count cs second)
 abbrev break_count : (ℕ → Bool) → ℕ → List ℕ → ℕ
 break_count is_break c rest = cond (ends_break is_break c rest) 1 0
 
-breaks-alone : (is_break : ℕ → Bool) (first second : List ℕ) → NoCrLfBetween first second → CountsAlone (break_count is_break) first second
+pub breaks-alone : (is_break : ℕ → Bool) (first second : List ℕ) → NoCrLfBetween first second → CountsAlone (break_count is_break) first second
 breaks-alone is_break [] second h = tt
 breaks-alone is_break (c ∷ []) second h = (ap (λ b. cond {A = ℕ} (is_break c && not b) 1 0) (h ∙ sym (none (c == 13))), tt)
   where
@@ -36,7 +36,7 @@ breaks-alone is_break (c ∷ []) second h = (ap (λ b. cond {A = ℕ} (is_break 
 breaks-alone is_break (c ∷ d ∷ ds) second h = (refl, breaks-alone is_break (d ∷ ds) second h)
 
 -- ---- joined texts
-ends-joined : (count : ℕ → List ℕ → ℕ) (at next : ℕ) (first second : List ℕ) → CountsAlone count first second → next ≡ at + byte_len first
+pub ends-joined : (count : ℕ → List ℕ → ℕ) (at next : ℕ) (first second : List ℕ) → CountsAlone count first second → next ≡ at + byte_len first
     → ends_from count at (first ++ second) ≡ ends_from count at first ++ ends_from count next second
 ends-joined count at next [] second h e =
     let same : at ≡ next = omega (arith, e) in

@@ -8,8 +8,8 @@ use Rattle.std.proofs.lemmas.Bool.Decides.{nat_tests}
 use Rattle.std.proofs.lemmas.List.{length-replicate}
 use Rattle.std.proofs.lemmas.List.Sums.{sum_by-le-sum_by}
 use Rattle.std.proofs.lemmas.Str.{length-encode, IsCharBoundary-end, IsCharBoundary-start, IsCharBoundary-at_seam}
-use Rattle.str_indices.specs.Text.{ends_from, starts_from, ends_up_to, end_place, units_of}
-use Rattle.str_indices.specs.Laws.{byte_len, UnitStartsRise, UnitStartsAreBoundaries}
+use Rattle.str_indices.specs.Text.{byte_len, ends_from, starts_from, ends_up_to, end_place, units_of}
+use Rattle.str_indices.specs.Laws.{UnitStartsRise, UnitStartsAreBoundaries}
 use Rattle.str_indices.proofs.Spread.{among-equal, past-equal, up_to-start, up_to-append, up_to-replicate_within}
 
 -- ---- the bytes of a character and of what follows it

@@ -4,8 +4,8 @@ use Rattle.std.specs.Char.{len_utf8}
 use Rattle.std.proofs.lemmas.Bool.{cases_lt}
 use Rattle.std.proofs.lemmas.List.{length-replicate, get_or_default}
 use Rattle.std.proofs.lemmas.List.Sums.{sum_by-cons}
-use Rattle.str_indices.specs.Text.{ends_from, starts_from, ends_up_to, units_of, units}
-use Rattle.str_indices.specs.Laws.{byte_len, SecondUnitComesBackToFirst, OtherUnitsComeBack}
+use Rattle.str_indices.specs.Text.{byte_len, ends_from, starts_from, ends_up_to, units_of, units}
+use Rattle.str_indices.specs.Laws.{SecondUnitComesBackToFirst, OtherUnitsComeBack}
 use Rattle.str_indices.proofs.Spread.{long, among-equal, past-equal, up_to-start}
 use Rattle.str_indices.proofs.Places.{bytes-cons, starts-low, up_to-cons}
 

@@ -12,7 +12,7 @@ use Rattle.str_indices.specs.Weights.{tested_len}
 use Rattle.str_indices.specs.Counts.{CountsLastBytes, at_last_bytes}
 
 -- a text begins with an LF exactly if its bytes do
-starts_with_lf-encodes : (text : List ℕ) → starts_with_lf (encode_utf8_all text) ≡ starts_with_lf text
+pub starts_with_lf-encodes : (text : List ℕ) → starts_with_lf (encode_utf8_all text) ≡ starts_with_lf text
 starts_with_lf-encodes [] = refl
 starts_with_lf-encodes (c ∷ cs) =
     elim (cases_lt c 128) [

@@ -1,5 +1,5 @@
 -- What the bytes of a text count for: one number for each byte. The loops over bytes are stated by these, and the public functions by the words of Text.
-use Rattle.std.specs.Prelude.{ℕ, ◌+◌, ◌<◌, ◌≤◌, Bool, not, ◌&&◌, ◌||◌, if◌then◌else◌, List, [], ◌∷◌, length, map, sum, take, nat_le, nat_lt, ◌==◌}
+use Rattle.std.specs.Prelude.{ℕ, ◌+◌, ◌<◌, ◌≤◌, Bool, not, ◌&&◌, ◌||◌, if◌then◌else◌, List, [], ◌∷◌, length, map, sum, take, slice_index, nat_le, nat_lt, ◌==◌}
 use Rattle.str_indices.specs.Text.{starts_with_lf}
 
 -- the first byte of a character: no continuation byte
@@ -45,6 +45,10 @@ ends_crlf_line b2 b1 b rest = (b == 10) || ((b == 13) && not (starts_with_lf res
 
 abbrev pub ends_lf_line : ℕ → ℕ → ℕ → List ℕ → Bool
 ends_lf_line b2 b1 b rest = b == 10
+
+-- the LF of a CR LF
+abbrev pub is_cr_lf_end : List ℕ → ℕ → Bool
+is_cr_lf_end bytes at = (slice_index bytes at == 10) && (slice_index (0 ∷ bytes) at == 13)
 
 -- each break counts at its last byte
 abbrev pub line_weights : List ℕ → List ℕ

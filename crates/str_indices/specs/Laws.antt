@@ -1,26 +1,19 @@
 -- Laws of the definitions, for every text.
-use Rattle.std.specs.Prelude.{◌≡◌, ℕ, ◌+◌, ◌-◌, ◌<◌, ◌≤◌, ◌↔◌, ◌⊎◌, Bool, false, ◌&&◌, if◌then◌else◌, min, List, [], ◌∷◌, ◌++◌, length, slice_index, slice_index_or, true, encode_utf8_all, ◌==◌}
+use Rattle.std.specs.Prelude.{◌≡◌, ℕ, ◌+◌, ◌-◌, ◌<◌, ◌≤◌, ◌↔◌, ◌⊎◌, Bool, ◌&&◌, if◌then◌else◌, min, List, [], ◌++◌, length, slice_index, slice_index_or, true, encode_utf8_all, map}
 use Rattle.std.specs.Str.{IsCharBoundary, all_scalars}
-use Rattle.str_indices.specs.Text.{starts_with_lf, breaks, char_ends, units, surrogate_pairs, unit_ends, unit_starts, ends_up_to, end_place}
-
--- how many bytes a text takes
-abbrev pub byte_len : List ℕ → ℕ
-byte_len text = length (encode_utf8_all text)
-
-abbrev pub ends_with_cr : List ℕ → Bool
-ends_with_cr [] = false
-ends_with_cr (c ∷ []) = c == 13
-ends_with_cr (c ∷ d ∷ cs) = ends_with_cr (d ∷ cs)
+use Rattle.str_indices.specs.Text.{cuts_cr_lf, breaks, break_ends, char_ends, units, surrogate_pairs, unit_ends, unit_starts, ends_up_to, end_place}
+-- these stand in Text, and are named here for crates that still look for them here
+pub use Rattle.str_indices.specs.Text.{byte_len, ends_with_cr, NoCrLfBetween}
 
 -- ---- joined texts
 -- where CR is a break, one break is lost exactly if the first text ends in CR and the second starts with LF
 abbrev pub JoinsBreaks : (ℕ → Bool) → Type 0
 JoinsBreaks is_break = (first second : List ℕ)
-    → breaks is_break (first ++ second) + (if is_break 13 && (ends_with_cr first && starts_with_lf second) then 1 else 0) ≡ breaks is_break first + breaks is_break second
+    → breaks is_break (first ++ second) + (if is_break 13 && cuts_cr_lf first second then 1 else 0) ≡ breaks is_break first + breaks is_break second
 
 abbrev pub LosesBreakInCrLf : (ℕ → Bool) → Type 0
 LosesBreakInCrLf is_break = (first second : List ℕ)
-    → breaks is_break (first ++ second) + (if ends_with_cr first && starts_with_lf second then 1 else 0) ≡ breaks is_break first + breaks is_break second
+    → breaks is_break (first ++ second) + (if cuts_cr_lf first second then 1 else 0) ≡ breaks is_break first + breaks is_break second
 
 abbrev pub LosesNoBreak : (ℕ → Bool) → Type 0
 LosesNoBreak is_break = (first second : List ℕ) → breaks is_break (first ++ second) ≡ breaks is_break first + breaks is_break second
@@ -28,6 +21,11 @@ LosesNoBreak is_break = (first second : List ℕ) → breaks is_break (first ++ 
 -- what a count says of joined texts where it is a sum
 abbrev pub AddsUp : (List ℕ → ℕ) → Type 0
 AddsUp count = (first second : List ℕ) → count (first ++ second) ≡ count first + count second
+
+-- where no CR LF is cut between two texts, the ends are those of the first and, further on, those of the second
+abbrev pub JoinsEnds : (ℕ → Bool) → Type 0
+JoinsEnds is_break = (first second : List ℕ) → NoCrLfBetween first second
+    → break_ends is_break (first ++ second) ≡ break_ends is_break first ++ map (λ place. byte_len first + place) (break_ends is_break second)
 
 -- ---- counts beside each other
 abbrev pub UnitsAreCharsAndPairs : Type 0
@@ -104,10 +102,6 @@ UnitsGoToLastBoundary = (before after : List ℕ) (place : ℕ) → byte_len bef
     → byte_len before ≤ slice_index_or (unit_starts (before ++ after)) (ends_up_to place (unit_ends (before ++ after))) (byte_len (before ++ after))
 
 -- ---- a part of a text
--- no CR ends the first text where an LF starts the second
-abbrev pub NoCrLfBetween : List ℕ → List ℕ → Type 0
-NoCrLfBetween first second = (ends_with_cr first && starts_with_lf second) ≡ false
-
 abbrev pub AnyTexts : List ℕ → List ℕ → Type 0
 AnyTexts first second = Unit {0}
 

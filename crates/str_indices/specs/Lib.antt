@@ -1,4 +1,5 @@
 pub mod Text
+pub mod FirstBreak
 pub mod Bytes
 pub mod Counts
 pub mod Weights

@@ -1,7 +1,30 @@
 -- Texts: where their characters and their line breaks end, and their UTF-16 code units.
 -- A text is a list of Unicode scalar values. A place in it is a number of bytes of its UTF-8.
-use Rattle.std.specs.Prelude.{ℕ, zero, suc, ◌+◌, Bool, false, not, ◌&&◌, ◌||◌, if◌then◌else◌, List, [], ◌∷◌, ◌++◌, length, replicate, sum_by, count_by, slice_index_or, nat_le, ◌==◌}
+use Rattle.std.specs.Prelude.{◌≡◌, ℕ, zero, suc, ◌+◌, Bool, false, not, ◌&&◌, ◌||◌, if◌then◌else◌, List, [], ◌∷◌, ◌++◌, length, replicate, sum_by, count_by, slice_index_or, encode_utf8_all, nat_le, ◌==◌}
 use Rattle.std.specs.Char.{len_utf8}
+
+-- how many bytes a text takes
+abbrev pub byte_len : List ℕ → ℕ
+byte_len text = length (encode_utf8_all text)
+
+-- ---- the CR and the LF of a CR LF
+-- CR is 13, and LF is 10
+abbrev pub ends_with_cr : List ℕ → Bool
+ends_with_cr [] = false
+ends_with_cr (c ∷ []) = c == 13
+ends_with_cr (c ∷ d ∷ cs) = ends_with_cr (d ∷ cs)
+
+abbrev pub starts_with_lf : List ℕ → Bool
+starts_with_lf [] = false
+starts_with_lf (c ∷ cs) = c == 10
+
+-- a CR ends the first text where an LF starts the second
+abbrev pub cuts_cr_lf : List ℕ → List ℕ → Bool
+cuts_cr_lf first second = ends_with_cr first && starts_with_lf second
+
+-- no CR LF is cut between two texts
+abbrev pub NoCrLfBetween : List ℕ → List ℕ → Type 0
+NoCrLfBetween first second = cuts_cr_lf first second ≡ false
 
 -- ---- the three sets of break characters
 -- LF, VT, FF and CR, which are 10 to 13, U+0085, U+2028 and U+2029
@@ -25,10 +48,6 @@ ends_from count at (c ∷ cs) = replicate (count c cs) (at + len_utf8 c) ++ ends
 -- each character counts once
 abbrev pub char_ends : List ℕ → List ℕ
 char_ends text = ends_from (λ _ _. 1) 0 text
-
-abbrev pub starts_with_lf : List ℕ → Bool
-starts_with_lf [] = false
-starts_with_lf (c ∷ cs) = c == 10
 
 -- c is of the set, and no CR before an LF
 abbrev pub ends_break : (ℕ → Bool) → ℕ → List ℕ → Bool

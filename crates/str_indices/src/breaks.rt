@@ -1,10 +1,11 @@
 //! Line breaks, which count at their last byte.
 
-ghost use Rattle.std.specs.Prelude.{◌≡◌, ◌+◌, ◌<◌, ◌≤◌, ◌&&◌, ◌||◌, not, ◌==◌, if◌then◌else◌, ◌∷◌, length, drop, slice_index};
+ghost use Rattle.std.specs.Prelude.{refl, ◌≡◌, ◌+◌, ◌<◌, ◌≤◌, ◌&&◌, ◌||◌, not, ◌==◌, if◌then◌else◌, ◌∷◌, length, drop, slice_index};
 ghost use Rattle.str_indices.specs.Text.{starts_with_lf, is_line_break, is_crlf_break, is_lf_break};
-ghost use Rattle.str_indices.specs.Bytes.{ends_ascii_line, ends_two_byte_line, ends_three_byte_line, ends_line, ends_crlf_line, line_weights, crlf_line_weights, lf_line_weights};
+ghost use Rattle.str_indices.specs.Bytes.{is_cr_lf_end, ends_ascii_line, ends_two_byte_line, ends_three_byte_line, ends_line, ends_crlf_line, line_weights, crlf_line_weights, lf_line_weights};
 ghost use Rattle.str_indices.specs.Weights.{tested_len, tested_small, tested_sum};
 ghost use Rattle.str_indices.specs.BreakBytes.{lines_at_last_bytes, crlf_lines_at_last_bytes, lf_lines_at_last_bytes};
+ghost use Rattle.std.proofs.lemmas.Bool.{false≢true};
 ghost use Rattle.str_indices.specs.Lanes.{MarksLanes};
 
 use crate::byte_chunk::ByteChunk;
@@ -35,6 +36,14 @@ fn is_before_lf(bytes: &[u8], at: usize) -> bool
     ensures { result ≡ starts_with_lf (drop (at + 1) bytes.now) }
 {
     at + 1 < bytes.len() && bytes[at + 1] == LF
+}
+
+/// Whether a byte is the LF of a CR LF.
+pub(crate) fn ends_cr_lf(bytes: &[u8], at: usize) -> bool
+    requires { at < length bytes.now }
+    ensures { result ≡ is_cr_lf_end bytes.now at }
+{
+    bytes[at] == LF && byte_before(bytes, at) == CR
 }
 
 /// Whether a byte is the last of a line break.
@@ -112,6 +121,12 @@ impl BreakMeasure for LineBreaks {
     ghost is_break = { is_line_break };
 
     ghost at_last_bytes = { lines_at_last_bytes };
+
+    fn has_cr() -> bool {
+        true
+    }
+
+    ghost lf_beside_cr = { λ _. refl };
 }
 
 #[inline(always)]
@@ -159,6 +174,12 @@ impl BreakMeasure for CrlfBreaks {
     ghost is_break = { is_crlf_break };
 
     ghost at_last_bytes = { crlf_lines_at_last_bytes };
+
+    fn has_cr() -> bool {
+        true
+    }
+
+    ghost lf_beside_cr = { λ _. refl };
 }
 
 /// Each LF counts once.
@@ -187,4 +208,10 @@ impl BreakMeasure for LfBreaks {
     ghost is_break = { is_lf_break };
 
     ghost at_last_bytes = { lf_lines_at_last_bytes };
+
+    fn has_cr() -> bool {
+        false
+    }
+
+    ghost lf_beside_cr = { λ has. absurd (false≢true has) };
 }

@@ -2,8 +2,9 @@
 //! contract is the law, which holds of every text.
 
 ghost use Rattle.std.specs.Prelude.{ℕ, Bool, length};
-ghost use Rattle.str_indices.specs.Text.{is_line_break, is_crlf_break, is_lf_break, breaks, break_ends, char_ends, unit_ends, units, surrogate_pairs};
-ghost use Rattle.str_indices.specs.Laws.{JoinsBreaks, LosesBreakInCrLf, LosesNoBreak, AddsUp, UnitsAreCharsAndPairs, FewerBreaks, NoMoreThanBytes, RisesWithPlace, RisesWithIndex, UnitStartsRise, EndsAreBoundaries, UnitStartsAreBoundaries, ComesBack, SecondUnitComesBackToFirst, OtherUnitsComeBack, EndsAndPlacesAgree, LastEndIsBefore, LastUnitStartIsBefore, CharsAndBoundariesAgree, UnitsAndBoundariesAgree, CharsGoToLastBoundary, UnitsGoToLastBoundary, NoCrLfBetween, AnyTexts, EndsAddUp, PlacesAddUp, UnitStartsAddUp};
+ghost use Rattle.str_indices.specs.Text.{NoCrLfBetween, is_line_break, is_crlf_break, is_lf_break, breaks, break_ends, char_ends, unit_ends, units, surrogate_pairs};
+ghost use Rattle.str_indices.specs.FirstBreak.{GoesOnBehindFirstBreak};
+ghost use Rattle.str_indices.specs.Laws.{JoinsEnds, JoinsBreaks, LosesBreakInCrLf, LosesNoBreak, AddsUp, UnitsAreCharsAndPairs, FewerBreaks, NoMoreThanBytes, RisesWithPlace, RisesWithIndex, UnitStartsRise, EndsAreBoundaries, UnitStartsAreBoundaries, ComesBack, SecondUnitComesBackToFirst, OtherUnitsComeBack, EndsAndPlacesAgree, LastEndIsBefore, LastUnitStartIsBefore, CharsAndBoundariesAgree, UnitsAndBoundariesAgree, CharsGoToLastBoundary, UnitsGoToLastBoundary, AnyTexts, EndsAddUp, PlacesAddUp, UnitStartsAddUp};
 
 /// Breaks of two texts joined are the sum, less one exactly if the first ends in CR and the second
 /// starts with LF, in a scheme where CR is a break.
@@ -12,6 +13,17 @@ pub fn breaks_of_joined_texts()
     ensures lines { LosesBreakInCrLf is_line_break }
     ensures lines_crlf { LosesBreakInCrLf is_crlf_break }
     ensures lines_lf { LosesNoBreak is_lf_break }
+{}
+
+/// Where no CR LF is cut between two texts, the break ends of both joined are those of the first, and
+/// those of the second past the first one's bytes.
+pub fn break_ends_of_joined_texts()
+    ensures { (is_break : ℕ → Bool) → JoinsEnds is_break }
+{}
+
+/// Behind the first break of a text, its breaks are those of the rest.
+pub fn breaks_behind_the_first()
+    ensures { (is_break : ℕ → Bool) → GoesOnBehindFirstBreak is_break }
 {}
 
 /// Characters, code units and surrogate pairs of two texts joined are the sums.

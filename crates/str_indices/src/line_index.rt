@@ -1,13 +1,17 @@
 //! Breaks and lines of a text, for any set of breaks.
 
-ghost use Rattle.std.specs.Prelude.{◌≡◌, ◌+◌, ◌≤◌, min, length};
+ghost use Rattle.std.specs.Prelude.{◌≡◌, ◌+◌, ◌-◌, ◌<◌, ◌&&◌, if◌then◌else◌, ◌≤◌, ◌↔◌, min, length, IsNone, IfSome};
 ghost use Rattle.std.specs.Str.{chars};
 ghost use Rattle.str_indices.specs.Text.{breaks, break_ends, ends_up_to, end_place};
+ghost use Rattle.str_indices.specs.Bytes.{is_cr_lf_end};
+ghost use Rattle.str_indices.specs.FirstBreak.{IsFirstBreak};
 
+use crate::breaks::ends_cr_lf;
 use crate::byte_chunk::ByteChunk;
 use crate::measure::BreakMeasure;
 use crate::steps::Steps;
 use crate::{scan, uncounted};
+use std::ops::Range;
 use std::sync::ledger::Ledger;
 
 pub(crate) fn count_breaks<M: BreakMeasure>(text: &str) -> usize
@@ -31,6 +35,31 @@ pub(crate) fn to_byte_idx<M: BreakMeasure>(text: &str, line_idx: usize) -> usize
     }
     let last = uncounted::find_past::<M>(text.as_bytes(), line_idx - 1);
     if last < text.len() { last + 1 } else { last }
+}
+
+/// Where the break starts whose last character starts at a byte.
+fn break_start<M: BreakMeasure>(bytes: &[u8], at: usize) -> usize
+    requires { at < length bytes.now }
+    ensures { result ≡ if M.is_break 13 && is_cr_lf_end bytes.now at then at - 1 else at }
+{
+    if M::has_cr() && ends_cr_lf(bytes, at) {
+        at - 1
+    } else {
+        at
+    }
+}
+
+pub(crate) fn first_break<M: BreakMeasure>(text: &str) -> Option<Range<usize>>
+    ensures none { IsNone result ↔ (breaks M.is_break (chars text.now) ≡ 0) }
+    ensures first { IfSome result (λ at. IsFirstBreak M.is_break text.now at.start at.end) }
+{
+    let bytes = text.as_bytes();
+    let last = uncounted::find_past::<M>(bytes, 0);
+    if last >= bytes.len() {
+        return None;
+    }
+    let start = break_start::<M>(bytes, text.floor_char_boundary(last));
+    Some(start..last + 1)
 }
 
 pub(crate) fn count_breaks_impl<M: BreakMeasure, C: ByteChunk, L: Ledger>(

@@ -1,14 +1,16 @@
 //! Lines by LF alone, as the Rust crate `str_indices` counts them. A CR before an LF is part of the
 //! line.
 
-ghost use Rattle.std.specs.Prelude.{◌≡◌, ◌+◌, ◌≤◌, min, length};
+ghost use Rattle.std.specs.Prelude.{◌≡◌, ◌+◌, ◌≤◌, ◌↔◌, min, length, IsNone, IfSome};
 ghost use Rattle.std.specs.Str.{chars};
 ghost use Rattle.str_indices.specs.Text.{is_lf_break, breaks, break_ends, ends_up_to, end_place};
+ghost use Rattle.str_indices.specs.FirstBreak.{IsFirstBreak};
 
 use crate::breaks::LfBreaks;
 use crate::byte_chunk::ByteChunk;
 use crate::line_index;
 use crate::steps::Steps;
+use std::ops::Range;
 use std::sync::ledger::Ledger;
 
 /// How many line breaks a text has: one less than its lines.
@@ -35,6 +37,15 @@ pub fn to_byte_idx(text: &str, line_idx: usize) -> usize
         (length text.now) }
 {
     line_index::to_byte_idx::<LfBreaks>(text, line_idx)
+}
+
+/// The bytes of the first break, from the end of the first line to the start of the second; `None`
+/// exactly where there is no break. This call is this crate's own.
+pub fn first_break(text: &str) -> Option<Range<usize>>
+    ensures none { IsNone result ↔ (breaks is_lf_break (chars text.now) ≡ 0) }
+    ensures first { IfSome result (λ at. IsFirstBreak is_lf_break text.now at.start at.end) }
+{
+    line_index::first_break::<LfBreaks>(text)
 }
 
 /// `count_breaks` by chunks of any type, with at least the first `leading` bytes one by one. A step

@@ -1,6 +1,6 @@
 //! How often each byte of a text counts.
 
-ghost use Rattle.std.specs.Prelude.{◌≡◌, ℕ, Bool, ◌+◌, ◌*◌, ◌<◌, ◌≤◌, if◌then◌else◌, List, length, take, sum, slice_index};
+ghost use Rattle.std.specs.Prelude.{◌≡◌, ℕ, Bool, ◌+◌, ◌*◌, ◌<◌, ◌≤◌, if◌then◌else◌, true, List, length, take, sum, slice_index};
 ghost use Rattle.str_indices.specs.Text.{ends_break};
 ghost use Rattle.str_indices.specs.Counts.{CountsFirstBytes, CountsLastBytes};
 ghost use Rattle.str_indices.specs.Lanes.{HasLanes};
@@ -42,6 +42,12 @@ pub(crate) trait BreakMeasure: Measure {
     /// The set of break characters.
     ghost is_break: { ℕ → Bool };
 
-    ghost at_last_bytes: { CountsLastBytes Self.weights
+    /// Whether CR is of the set, so that CR LF is one break.
+    fn has_cr() -> bool
+        ensures { result ≡ is_break 13 };
+
+    ghost at_last_bytes: { CountsLastBytes Self.Measure.weights
         (λ c rest. if ends_break is_break c rest then 1 else 0) };
+
+    ghost lf_beside_cr: { is_break 13 ≡ true → is_break 10 ≡ true };
 }

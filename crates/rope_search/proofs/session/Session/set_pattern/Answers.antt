@@ -1,7 +1,7 @@
 use Rattle.std.proofs.Common.{◌≡◌, ◌<◌, ◌≤◌, Some, IsUtf8, length, sym, ap, ◌∙◌, subst, arith}
 use Rattle.std.specs.Str.{chars}
 use Rattle.rope_search.specs.Session.{with_pattern}
-use Rattle.rope_search.specs.Pattern.{IsPattern, pattern_limit}
+use Rattle.rope_search_reports.specs.Pattern.{IsPattern, pattern_limit}
 use Rattle.rope_search.proofs.PatternLemmas.{known_pattern}
 use Rattle.rope_search.proofs.SessionLemmas.{Step-take_pattern}
 use Rattle.rope_search.proofs.session.Session.set_pattern.Goals as goal

@@ -1,7 +1,9 @@
-use Rattle.std.proofs.Common.{◌≡◌, ◌<◌, IsUtf8, length, sym, ap, ◌∙◌, subst, arith}
+use Rattle.std.proofs.Common.{◌≡◌, ◌+◌, ◌<◌, ◌≤◌, IsUtf8, length, sym, ap, ◌∙◌, subst, arith}
 use Rattle.std.specs.Str.{chars}
+use Rattle.rope_search_reports.specs.Ticks.{Ticks}
 use Rattle.rope_search.specs.Session.{with_text}
-use Rattle.rope_search.proofs.SessionLemmas.{Step-take_text}
+use Rattle.rope_search.specs.Cost.{rows_anew}
+use Rattle.rope_search.proofs.SessionLemmas.{Step-take_text, rows_taken}
 use Rattle.rope_search.proofs.session.Session.set_text.Goals as goal
 
 pub returns-in_ok-set_text-in-Ok-clause-step : goal.returns-in_ok-set_text-in-Ok-clause-step
@@ -17,3 +19,35 @@ returns-in_ok-set_text-in-Ok-clause-step c = λ bytes stands.
     Step-take_text inside.buffers.items inside.chosen inside.limits.text old c.set_text.new.self bytes c.args.self.now
     (record { inside = omega (arith, inside.buffers.ok.0); is = c.index_mut.ensures.value; all = c.self.invariant.1; seen = c.self.view_is })
     utf8 (omega (arith, ap length same)) text
+
+pub returns-in_err-set_text-in-Ok-clause-rows : goal.returns-in_err-set_text-in-Ok-clause-rows
+returns-in_err-set_text-in-Ok-clause-rows c = λ bytes cost stands costs.
+    let inside = c.self.inside in
+    let old = c.index_mut.result.now in
+    let told = c.set_text.ensures in
+    let given : bytes ≡ c.in-Kept.bytes.now = rw c.in-Kept.is at stands in
+    let same : c.in-Ok.text.now ≡ bytes = c.in-Ok.ensures.cases.0 ∙ sym given in
+    let utf8 : IsUtf8 bytes = subst IsUtf8 (sym given) c.in-Ok.ensures.cases.1 in
+    let long : old.limit < length bytes → c.set_text.new.tick.count ≤ c.args.tick.now.count =
+    λ over. omega (arith, ap (λ (t : Ticks). t.count) (told.refused (told.size.1 (omega (arith, over, ap length same))))) in
+    let rows : c.set_text.new.tick.count ≤ c.args.tick.now.count + rows_anew old.state (chars bytes) =
+    omega (arith, told.rows, ap (λ t. rows_anew old.state (chars t)) same) in
+    rows_taken inside.buffers.items inside.chosen inside.limits.text old bytes c.args.self.now c.set_text.new.tick.count c.args.tick.now.count
+    (record { inside = omega (arith, inside.buffers.ok.0); is = c.index_mut.ensures.value; all = c.self.invariant.1; seen = c.self.view_is })
+    utf8 long rows cost costs
+
+pub returns-in_ok-set_text-in-Ok-clause-rows : goal.returns-in_ok-set_text-in-Ok-clause-rows
+returns-in_ok-set_text-in-Ok-clause-rows c = λ bytes cost stands costs.
+    let inside = c.self.inside in
+    let old = c.index_mut.result.now in
+    let told = c.set_text.ensures in
+    let given : bytes ≡ c.in-Kept.bytes.now = rw c.in-Kept.is at stands in
+    let same : c.in-Ok.text.now ≡ bytes = c.in-Ok.ensures.cases.0 ∙ sym given in
+    let utf8 : IsUtf8 bytes = subst IsUtf8 (sym given) c.in-Ok.ensures.cases.1 in
+    let long : old.limit < length bytes → c.set_text.new.tick.count ≤ c.args.tick.now.count =
+    λ over. omega (arith, ap (λ (t : Ticks). t.count) (told.refused (told.size.1 (omega (arith, over, ap length same))))) in
+    let rows : c.set_text.new.tick.count ≤ c.args.tick.now.count + rows_anew old.state (chars bytes) =
+    omega (arith, told.rows, ap (λ t. rows_anew old.state (chars t)) same) in
+    rows_taken inside.buffers.items inside.chosen inside.limits.text old bytes c.args.self.now c.set_text.new.tick.count c.args.tick.now.count
+    (record { inside = omega (arith, inside.buffers.ok.0); is = c.index_mut.ensures.value; all = c.self.invariant.1; seen = c.self.view_is })
+    utf8 long rows cost costs

@@ -1,9 +1,7 @@
-use Rattle.std.proofs.Common.{◌-◌, string_bytes, length}
-use Rattle.ropey.proofs.Walks.{IsWritten}
+use Rattle.std.proofs.Common.{◌≡◌, ◌++◌, string_bytes}
+use Rattle.std.specs.Prelude.{encode_utf8_all}
+use Rattle.ropey.specs.Chunks.{text_of}
 use Rattle.ropey.proofs.rope.Rope.to_text.Given as goal
 
-abbrev pub invariant-loop-text : goal.invariant-loop-text
-invariant-loop-text l = IsWritten l.self (string_bytes l.text)
-
-abbrev pub decreases-loop-text : goal.decreases-loop-text
-decreases-loop-text l = l.len - length (string_bytes l.text)
+abbrev pub invariant-loop-chunk : goal.invariant-loop-chunk
+invariant-loop-chunk l = string_bytes l.text ++ encode_utf8_all (text_of l.chunk-iterator) ≡ encode_utf8_all (text_of l.self)

@@ -1,7 +1,7 @@
 use Rattle.std.proofs.Common.{◌≡◌, ◌<◌, true, false, not, length, sym, ap, ◌∙◌, arith}
 use Rattle.std.proofs.lemmas.Bool.Decides.{nat_tests}
-use Rattle.rope_search.proofs.PatternLemmas.{chars_some, bytes_some}
-use Rattle.rope_search.proofs.patterns.is_pattern.Goals as goal
+use Rattle.rope_search_reports.proofs.PatternLemmas.{chars_some, bytes_some}
+use Rattle.rope_search_reports.proofs.patterns.is_pattern.Goals as goal
 
 pub returns-then-not-is_empty-clause-is : goal.returns-then-not-is_empty-clause-is
 returns-then-not-is_empty-clause-is c =

@@ -1,7 +1,7 @@
 //! What a text has to be to be a pattern.
 ghost use Rattle.std.specs.Prelude.{◌≡◌, ◌↔◌, ◌<◌, length, chars, IsTrue};
 ghost use Rattle.std.specs.Str.{NonePass};
-ghost use Rattle.rope_search.specs.Pattern.{is_meta, IsPattern, pattern_limit};
+ghost use Rattle.rope_search_reports.specs.Pattern.{is_meta, IsPattern, pattern_limit};
 
 /// How many bytes a pattern has at most.
 pub const PATTERN_LEN: usize = 65_536;

@@ -3,9 +3,9 @@ use Rattle.std.proofs.lemmas.Iterator.{YieldsList-from_chars}
 use Rattle.std.proofs.lemmas.Iterator.Consumers.{YieldsList-turn, YieldsList-end}
 use Rattle.std.proofs.lemmas.List.{map-id}
 use Rattle.std.specs.Str.{chars, NonePass}
-use Rattle.rope_search.specs.Pattern.{is_meta}
-use Rattle.rope_search.proofs.PatternLemmas.{none_at, none_more}
-use Rattle.rope_search.proofs.patterns.is_plain.Goals as goal
+use Rattle.rope_search_reports.specs.Pattern.{is_meta}
+use Rattle.rope_search_reports.proofs.PatternLemmas.{none_at, none_more}
+use Rattle.rope_search_reports.proofs.patterns.is_plain.Goals as goal
 
 pub returns-then-is_meta_character : goal.returns-then-is_meta_character
 returns-then-is_meta_character c =
