@@ -1,11 +1,12 @@
 -- The greatest end by bytes is that by characters.
 use Rattle.std.proofs.Common.{◌≡◌, ℕ, ◌⊎◌, ◌↔◌, List, [], Option, refl, inl, inr}
 use Rattle.std.specs.Str.{IsCharBoundary}
-use Rattle.rx_walks.specs.Walks.{Machine, reads}
+use Rattle.rx_walks.specs.Machines.{Machine, reads}
 use Rattle.rx_walks.specs.Paths.{Path, at_end, by_edge, by_read}
+use Rattle.rx_walks.specs.Finds.{Span, Search, CountsAmongAll, IsFindAll, none_at_all, greatest}
+use Rattle.rx_walks.specs.StepsAll.{FindsAll, nowhere, found}
 use Rattle.rx_walks.specs.Refinements.{Refines}
-use Rattle.rx_walks.specs.Alls.{Span, FindsAll, nowhere, found}
-use Rattle.rx_walks.specs.Finds.{Search, Begins, CountsAll, IsFindAll, none_at_all, greatest}
+use Rattle.rx_walks.specs.Laws.{Begins}
 use Rattle.rx_walks.proofs.PathLaws.{path_has_walk, walk_reaches, reaches}
 use Rattle.rx_walks.proofs.RefinementLaws.{refined, unrefined}
 
@@ -14,21 +15,22 @@ path_read content at_whole (at_end is) = inl refl
 path_read content at_whole (by_edge rs r k is at path) = path_read content at_whole path
 path_read content at_whole (by_read {q = q} {i = i} r j is path) = inr (at_whole i j q r is)
 
-begins_all : {Q N : Type 0} {m : Machine Q N} {s : Search} {q : Q} {a : Span} → ((i j : ℕ) (q r : Q) → m.move i q ≡ reads r j → IsCharBoundary s.content i) → CountsAll m s q a → Begins s a.start
+begins_all : {Q N : Type 0} {m : Machine Q N} {fresh : ℕ → N} {s : Search} {q : Q} {a : Span} → ((i j : ℕ) (q r : Q) → m.move i q ≡ reads r j → IsCharBoundary s.content i) → CountsAmongAll m fresh s q a
+    → Begins s a.start
 begins_all {s = s} at_whole counts = (
   counts.possible,
   λ on. elim counts.may_end [
-    | inl elsewhere ↦ elim (path_read s.content at_whole counts.path) [ inl e ↦ absurd (elsewhere e) | inr whole ↦ whole ]
+    | inl elsewhere ↦ elim (path_read s.content at_whole (walk_reaches counts.reaches)) [ inl e ↦ absurd (elsewhere e) | inr whole ↦ whole ]
     | inr whole ↦ whole on
   ],
 )
 
-pub find_all_from_finds : {Q N : Type 0} {m : Machine Q N} {s : Search} {q : Q} {out : Option Span} → ((i j : ℕ) (q r : Q) → m.move i q ≡ reads r j → IsCharBoundary s.content i)
-    → FindsAll m (Begins s) q s.start out → IsFindAll m s q out
-find_all_from_finds at_whole (nowhere never) = none_at_all (λ a counts. never a counts.possible.0.2 (begins_all at_whole counts) counts.path)
-find_all_from_finds at_whole (found from b path best) = greatest
-    (record { possible = b.0; path = path; may_end = inr b.1 })
-    (λ a counts. best a counts.possible.0.2 (begins_all at_whole counts) counts.path)
+pub find_all_from_finds : {Q N : Type 0} {m : Machine Q N} {s : Search} {q : Q} {out : Option Span} (fresh : ℕ → N) → ((a b : Q) → (a ≡ b) ⊎ (a ≡ b → ⊥))
+    → ((i j : ℕ) (q r : Q) → m.move i q ≡ reads r j → IsCharBoundary s.content i) → FindsAll m (Begins s) q s.start out → IsFindAll m fresh s q out
+find_all_from_finds fresh told at_whole (nowhere never) = none_at_all (λ a counts. never a counts.possible.0.2 (begins_all at_whole counts) (walk_reaches counts.reaches))
+find_all_from_finds fresh told at_whole (found {a = a} from b path best) = greatest
+    (record { possible = b.0; reaches = path_has_walk told path (fresh a.start); may_end = inr b.1 })
+    (λ a counts. best a counts.possible.0.2 (begins_all at_whole counts) (walk_reaches counts.reaches))
 
 -- equal paths in both machines
 pub paths_agree : {C B N : Type 0} {c : Machine C N} {b : Machine B N} {f : C → B} (q : C) (i p e : ℕ) → Refines c b f → ((x y : C) → (x ≡ y) ⊎ (x ≡ y → ⊥)) → ((x y : B) → (x ≡ y) ⊎ (x ≡ y → ⊥)) → N

@@ -1,27 +1,28 @@
 -- One step without a cut keeps every end, with the least start.
 use Rattle.std.proofs.Common.{◌≡◌, ℕ, zero, suc, ◌+◌, ◌≤◌, ◌⊎◌, List, [], ◌∷◌, ◌++◌, map, Some, slice_get, refl, subst, ◌∙◌, arith, inl, inr}
-use Rattle.rx_walks.specs.Walks.{ends, goes, reads, Machine, Trace, Walk, ended, went, took}
-use Rattle.rx_walks.specs.Paths.{Path, at_end, by_edge, by_read, Reaches}
-use Rattle.rx_walks.specs.Alls.{StepsAll, done, passed, met, opened, read, RiseFrom, no_more, one_more, Met, met_first, met_other}
+use Rattle.rx_walks.specs.Machines.{ends, goes, reads, Machine, Outcome}
+use Rattle.rx_walks.specs.Walks.{Walk, ended, went, took, Reaches}
+use Rattle.rx_walks.specs.Paths.{Path, at_end, by_edge, by_read}
+use Rattle.rx_walks.specs.StepsAll.{StepsAll, done, passed, met, opened, read, RiseFrom, no_more, one_more, Met, met_first, met_other}
 use Rattle.rx_walks.proofs.WalkLaws.{ends_not_goes, ends_not_reads, goes_not_reads, same_end, same_open, same_read, same_some, from_node, from_place, none_when_seen}
 use Rattle.rx_walks.proofs.PathLaws.{passes_or}
 
 -- what a node's move says of what it reaches
-walk_to_end : {Q N : Type 0} {m : Machine Q N} {seen : List Q} {n : N} {q : Q} {i p : ℕ} {cs : List ℕ} {t : Trace N} → m.move i q ≡ ends p → Walk m seen n q i cs t → (p ≡ t.pattern) × (i ≡ t.end)
+walk_to_end : {Q N : Type 0} {m : Machine Q N} {seen : List Q} {n : N} {q : Q} {i p : ℕ} {cs : List ℕ} {t : Outcome N} → m.move i q ≡ ends p → Walk m seen n q i cs t → (p ≡ t.pattern) × (i ≡ t.end)
 walk_to_end is (ended new is') = (same_end is is', refl)
 walk_to_end is (went rs r new is' at w) = absurd (ends_not_goes is is')
 walk_to_end is (took r j new is' w) = absurd (ends_not_reads is is')
 
-walk_open : {Q N : Type 0} {m : Machine Q N} {seen : List Q} {n : N} {q : Q} {i : ℕ} {cs : List ℕ} {t : Trace N} (rs : List Q) → m.move i q ≡ goes rs → Walk m seen n q i cs t
+walk_open : {Q N : Type 0} {m : Machine Q N} {seen : List Q} {n : N} {q : Q} {i : ℕ} {cs : List ℕ} {t : Outcome N} (rs : List Q) → m.move i q ≡ goes rs → Walk m seen n q i cs t
     → (k : ℕ) × (r : Q) × (slice_get rs k ≡ Some r) × Reaches m (q ∷ seen) (m.note i q n) r i t.pattern t.end
 walk_open rs is (ended new is') = absurd (ends_not_goes is' is)
-walk_open rs is (went {k = k} rs' r new is' at w) = (k, r, subst (λ x. slice_get x k ≡ Some r) (same_open is' is) at, record { choices = _; trace = _; walk = w; pattern_is = refl; end_is = refl })
+walk_open rs is (went {k = k} rs' r new is' at w) = (k, r, subst (λ x. slice_get x k ≡ Some r) (same_open is' is) at, record { choices = _; outcome = _; walk = w; pattern_is = refl; end_is = refl })
 walk_open rs is (took r j new is' w) = absurd (goes_not_reads is is')
 
-walk_read : {Q N : Type 0} {m : Machine Q N} {seen : List Q} {n : N} {q r : Q} {i j : ℕ} {cs : List ℕ} {t : Trace N} → m.move i q ≡ reads r j → Walk m seen n q i cs t → Reaches m [] n r j t.pattern t.end
+walk_read : {Q N : Type 0} {m : Machine Q N} {seen : List Q} {n : N} {q r : Q} {i j : ℕ} {cs : List ℕ} {t : Outcome N} → m.move i q ≡ reads r j → Walk m seen n q i cs t → Reaches m [] n r j t.pattern t.end
 walk_read is (ended new is') = absurd (ends_not_reads is' is)
 walk_read is (went rs r new is' at w) = absurd (goes_not_reads is' is)
-walk_read is (took r' j' new is' w) = let same = same_read is' is in record { choices = _; trace = _; walk = from_node same.0 (from_place same.1 w); pattern_is = refl; end_is = refl }
+walk_read is (took r' j' new is' w) = let same = same_read is' is in record { choices = _; outcome = _; walk = from_node same.0 (from_place same.1 w); pattern_is = refl; end_is = refl }
 
 -- a thread with this start reaches this end, past nodes seen
 pub data From {Q N : Type 0} (m : Machine Q N) (seen : List Q) (i p e : ℕ) : ℕ → List (ℕ × Q) → Type 0 where
@@ -66,13 +67,13 @@ from_others s' [] others from = from
 from_others s' (x ∷ rs) others from = by_other (from_others s' rs others from)
 
 reaches_as : {Q N : Type 0} {m : Machine Q N} {seen : List Q} {n : N} {q : Q} {i p p' e e' : ℕ} → p ≡ p' → e ≡ e' → Reaches m seen n q i p e → Reaches m seen n q i p' e'
-reaches_as is is' reached = record { choices = reached.choices; trace = reached.trace; walk = reached.walk; pattern_is = reached.pattern_is ∙ is; end_is = reached.end_is ∙ is' }
+reaches_as is is' reached = record { choices = reached.choices; outcome = reached.outcome; walk = reached.walk; pattern_is = reached.pattern_is ∙ is; end_is = reached.end_is ∙ is' }
 
 -- a thread goes by a node more, or passes it
 from_past : {Q N : Type 0} {m : Machine Q N} {seen : List Q} {i p e s : ℕ} {threads : List (ℕ × Q)} (same : (a b : Q) → (a ≡ b) ⊎ (a ≡ b → ⊥)) (q : Q) → From m seen i p e s threads
     → From m (q ∷ seen) i p e s threads ⊎ ((n : N) × Reaches m seen n q i p e)
 from_past same q (by_first n reached) = elim (passes_or same q reached.walk) [
-  | inl w ↦ inl (by_first n (record { choices = reached.choices; trace = reached.trace; walk = w; pattern_is = reached.pattern_is; end_is = reached.end_is }))
+  | inl w ↦ inl (by_first n (record { choices = reached.choices; outcome = reached.outcome; walk = w; pattern_is = reached.pattern_is; end_is = reached.end_is }))
   | inr back ↦ inr (n, reaches_as reached.pattern_is reached.end_is (back n))
 ]
 from_past same q (by_other from) = elim (from_past same q from) [ inl f ↦ inl (by_other f) | inr back ↦ inr back ]
@@ -88,7 +89,7 @@ step_covered {s = s} {q = q} same rise first rest (by_other from) = elim (from_p
 pub all_covered : {Q N : Type 0} {m : Machine Q N} {i : ℕ} {seen : List Q} {high low : ℕ} {threads next : List (ℕ × Q)} {ms : List (ℕ × ℕ)} → ((a b : Q) → (a ≡ b) ⊎ (a ≡ b → ⊥)) → StepsAll m i seen threads next ms
     → RiseFrom high low threads → (p e s : ℕ) → From m seen i p e s threads → Covered m i p e s next ms
 all_covered same done rise p e s from = elim from [ ]
-all_covered same (passed c steps) (one_more within to rise) p e s (by_first n reached) = absurd (none_when_seen c reached.choices reached.trace reached.walk)
+all_covered same (passed c steps) (one_more within to rise) p e s (by_first n reached) = absurd (none_when_seen c reached.choices reached.outcome reached.walk)
 all_covered same (passed c steps) (one_more within to rise) p e s (by_other from) = all_covered same steps rise p e s from
 all_covered same (met {s = s'} new is steps) (one_more within to rise) p e s from = step_covered same rise
     (λ n reached. let at = walk_to_end is reached.walk in is_met s' (omega arith) (at.1 ∙ reached.end_is) (met_first refl (at.0 ∙ reached.pattern_is)))

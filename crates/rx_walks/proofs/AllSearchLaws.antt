@@ -1,9 +1,10 @@
 -- The loop over places without a cut finds the greatest end.
 use Rattle.std.proofs.Common.{◌≡◌, ℕ, ◌+◌, ◌≤◌, ◌⊎◌, List, [], ◌∷◌, ◌++◌, Option, Some, None, refl, sym, subst, arith, inl, inr}
 use Rattle.std.proofs.lemmas.Bool.{cases_order}
-use Rattle.rx_walks.specs.Walks.{Machine}
+use Rattle.rx_walks.specs.Machines.{Machine, IsForward}
 use Rattle.rx_walks.specs.Paths.{Path, at_end, by_edge, by_read}
-use Rattle.rx_walks.specs.Alls.{Span, IsAtLeast, FindsAll, nowhere, found, StepsAll, done, passed, met, opened, read, RiseFrom, no_more, one_more, Met, Latest, none_met, some_met, SearchesAll, over, started, stepped, IsForward}
+use Rattle.rx_walks.specs.Finds.{Span, IsAtLeast}
+use Rattle.rx_walks.specs.StepsAll.{FindsAll, nowhere, found, StepsAll, done, passed, met, opened, read, RiseFrom, no_more, one_more, Met, Latest, none_met, some_met, SearchesAll, over, started, stepped}
 use Rattle.rx_walks.proofs.PathLaws.{path_has_walk, walk_reaches}
 use Rattle.rx_walks.proofs.AllLaws.{From, by_first, by_other, Covered, goes_on, is_met, Has, has_first, has_other, all_covered, next_has, met_has, rise_open}
 

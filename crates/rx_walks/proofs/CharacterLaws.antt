@@ -1,22 +1,13 @@
--- The member that stands first in a list of bytes.
-use Rattle.std.proofs.Common.{◌≡◌, ℕ, zero, suc, ◌+◌, ◌<◌, ◌≤◌, ◌⊎◌, Bool, true, false, ◌&&◌, cond, nat_lt, ◌/◌, List, [], ◌∷◌, ◌++◌, take, drop, length, Option, Some, Contains, refl, sym, ap, ap₂, ◌∙◌, arith, inl, inr}
+-- The character that stands first in a list of bytes.
+use Rattle.std.proofs.Common.{◌≡◌, ℕ, zero, suc, ◌+◌, ◌<◌, ◌≤◌, ◌⊎◌, ◌↔◌, Bool, true, false, ◌&&◌, cond, nat_lt, ◌/◌, List, [], ◌∷◌, ◌++◌, take, drop, Option, Some, None, refl, sym, ap, ap₂, subst, ◌∙◌, arith, inl, inr}
 use Rattle.std.proofs.lemmas.Bool.Decides.{nat_tests}
 use Rattle.std.proofs.lemmas.List.{take_at, append-nil}
 use Rattle.std.proofs.lemmas.Str.{IsUtf8-from_is_utf8, is_utf8-from_IsUtf8, IsUtf8-encode, encodes-chars, scalars-chars, chars-encodes, encode_same, length-encode, len_utf8_bounds}
 use Rattle.std.proofs.Math.Utf8.{encode, encodes, scalars}
 use Rattle.std.specs.Str.{is_utf8, chars}
 use Rattle.std.specs.Char.{IsScalar, len_utf8}
-use Rattle.rx_walks.specs.Characters.{is_one, is_member, member_within, member_len}
-use Rattle.rx_walks.proofs.WalkLaws.{same_some, none_seen, Contains-cases}
-
--- what stands first is a member
-pub record StandsFirst (member : ℕ → Bool) (bs : List ℕ) (k : ℕ) : Type 0 where
-  pub c : ℕ
-  pub scalar : IsScalar c
-  pub is_in : member c ≡ true
-  pub rest : List ℕ
-  pub bytes : bs ≡ encode c ++ rest
-  pub counted : k ≡ len_utf8 c
+use Rattle.rx_walks.specs.Characters.{only_one, character_of, first_some, first_character, len_if, member_len, StandsFirst}
+use Rattle.rx_walks.proofs.WalkLaws.{same_some}
 
 take_drop : (k : ℕ) (bs : List ℕ) → bs ≡ take k bs ++ drop k bs
 take_drop zero bs = refl
@@ -27,69 +18,86 @@ both : (a b : Bool) → (a && b) ≡ true → (a ≡ true) × (b ≡ true)
 both true b e = (refl, e)
 both false b e = absurd (cc e)
 
-one_in : (member : ℕ → Bool) (cs : List ℕ) → is_one member cs ≡ true → (c : ℕ) × (cs ≡ c ∷ []) × (member c ≡ true)
-one_in member [] e = absurd (cc e)
-one_in member (c ∷ []) e = (c, refl, e)
-one_in member (c ∷ d ∷ cs) e = absurd (cc e)
+one_in : (cs : List ℕ) (c : ℕ) → only_one cs ≡ Some c → cs ≡ c ∷ []
+one_in [] c e = absurd (cc e)
+one_in (d ∷ []) c e = ap (λ x. x ∷ []) (same_some refl e)
+one_in (d ∷ d' ∷ cs) c e = absurd (cc e)
 
-member_is : (member : ℕ → Bool) (w : List ℕ) → is_member member w ≡ true → (c : ℕ) × IsScalar c × (member c ≡ true) × (w ≡ encode c)
-member_is member w e =
-    let halves = both (is_utf8 w) (is_one member (chars w)) e in
-    let text = IsUtf8-from_is_utf8 w halves.0 in
-    let one = one_in member (chars w) halves.1 in
-    (one.0, (both _ _ (ap scalars (sym one.1) ∙ scalars-chars w text)).0, one.2, sym (encodes-chars w text) ∙ ap encodes one.1 ∙ append-nil (encode one.0))
+-- the bytes are the UTF-8 of the character that they are
+pub character_is : (bs : List ℕ) (c : ℕ) → character_of bs ≡ Some c → IsScalar c × (bs ≡ encode c)
+character_is bs c e = tested (is_utf8 bs) refl e
+  where
+    tested : (b : Bool) → is_utf8 bs ≡ b → cond b (only_one (chars bs)) None ≡ Some c → IsScalar c × (bs ≡ encode c)
+    tested false is e = absurd (cc e)
+    tested true is e =
+        let text = IsUtf8-from_is_utf8 bs is in
+        let one = one_in (chars bs) c e in
+        ((both _ _ (ap scalars (sym one) ∙ scalars-chars bs text)).0, sym (encodes-chars bs text) ∙ ap encodes one ∙ append-nil (encode c))
 
-member_at : (member : ℕ → Bool) (bs : List ℕ) (n k : ℕ) → is_member member (take n bs) ≡ true → length (take n bs) ≡ k → StandsFirst member bs k
-member_at member bs n k is len =
-    let one = member_is member (take n bs) is in
-    record { c = one.0; scalar = one.1; is_in = one.2; rest = drop n bs; bytes = take_drop n bs ∙ ap (λ x. x ++ drop n bs) one.3; counted = sym len ∙ ap length one.3 ∙ length-encode one.0 }
-
-taken : (member : ℕ → Bool) (bs : List ℕ) (n k : ℕ) (others : Option ℕ) (b : Bool) → is_member member (take n bs) ≡ b → cond b (Some (length (take n bs))) others ≡ Some k → (others ≡ Some k → StandsFirst member bs k) → StandsFirst member bs k
-taken member bs n k others true is e on = member_at member bs n k is (same_some refl e)
-taken member bs n k others false is e on = on e
-
-within_is : (member : ℕ → Bool) (bs ks : List ℕ) (k : ℕ) → member_within member bs ks ≡ Some k → StandsFirst member bs k
-within_is member bs [] k e = absurd (cc e)
-within_is member bs (n ∷ ks) k e = taken member bs n k (member_within member bs ks) (is_member member (take n bs)) refl e (λ e'. within_is member bs ks k e')
-
-pub member_stands : (member : ℕ → Bool) (bs : List ℕ) (k : ℕ) → member_len member bs ≡ Some k → StandsFirst member bs k
-member_stands member bs k e = within_is member bs (1 ∷ 2 ∷ 3 ∷ 4 ∷ []) k e
-
--- and is found
 alone : (c : ℕ) → IsScalar c → scalars (c ∷ []) ≡ true
 alone c scalar = ap (λ b. b && true) scalar
 
-is_member_of : (member : ℕ → Bool) (c : ℕ) → IsScalar c → member c ≡ true → is_member member (encode c) ≡ true
-is_member_of member c scalar is_in =
+pub character_of-encode : (c : ℕ) → IsScalar c → character_of (encode c) ≡ Some c
+character_of-encode c scalar =
     let text = is_utf8-from_IsUtf8 (encode c) (IsUtf8-encode c scalar) in
     let one : chars (encode c) ≡ c ∷ [] = ap chars (sym (append-nil (encode c))) ∙ chars-encodes (c ∷ []) (alone c scalar) in
-    ap₂ (λ x y. x && is_one member y) text one ∙ is_in
+    ap₂ (λ x y. cond x (only_one y) None) text one
 
-finds_at : (member : ℕ → Bool) (bs : List ℕ) (n k : ℕ) (others : Option ℕ) → StandsFirst member bs k → (b : Bool) → is_member member (take n bs) ≡ b → (n ≡ k) ⊎ (others ≡ Some k)
-    → cond b (Some (length (take n bs))) others ≡ Some k
-finds_at member bs n k others first true is where' =
-    let other = member_at member bs n (length (take n bs)) is refl in
-    let same = encode_same other.c first.c other.rest first.rest (sym other.bytes ∙ first.bytes) in
-    ap Some (other.counted ∙ ap len_utf8 same.0 ∙ sym first.counted)
-finds_at member bs n k others first false is (inr on) = on
-finds_at member bs n k others first false is (inl e) =
-    let here : take n bs ≡ encode first.c = ap₂ take (e ∙ first.counted) first.bytes ∙ take_at (encode first.c) first.rest (len_utf8 first.c) (length-encode first.c) in
-    absurd (cc (sym is ∙ ap (is_member member) here ∙ is_member_of member first.c first.scalar first.is_in))
+-- of two options
+some_first : (a b : Option ℕ) (c : ℕ) → first_some a b ≡ Some c → (a ≡ Some c) ⊎ (b ≡ Some c)
+some_first None b c e = inr e
+some_first (Some d) b c e = inl e
 
-within_finds : (member : ℕ → Bool) (bs ks : List ℕ) (k : ℕ) → StandsFirst member bs k → Contains ks k → member_within member bs ks ≡ Some k
-within_finds member bs [] k first c = absurd (none_seen k c)
-within_finds member bs (n ∷ ks) k first c = finds_at member bs n k (member_within member bs ks) first (is_member member (take n bs)) refl (elim (Contains-cases ks n k c) [ inl e ↦ inl e | inr c' ↦ inr (within_finds member bs ks k first c') ])
+first_of : (a b : Option ℕ) (c : ℕ) → (a ≡ None) ⊎ (a ≡ Some c) → (a ≡ Some c) ⊎ (b ≡ Some c) → first_some a b ≡ Some c
+first_of a b c (inr same) where' = ap (λ x. first_some x b) same
+first_of a b c (inl none) (inl is) = absurd (cc (none, is))
+first_of a b c (inl none) (inr is) = ap (λ x. first_some x b) none ∙ is
 
-four : (k : ℕ) → 1 ≤ k → k ≤ 4 → Contains (1 ∷ 2 ∷ 3 ∷ 4 ∷ []) k
-four zero low high = absurd (omega (arith, low))
-four (suc zero) low high = (0, omega arith, refl)
-four (suc (suc zero)) low high = (1, omega arith, refl)
-four (suc (suc (suc zero))) low high = (2, omega arith, refl)
-four (suc (suc (suc (suc zero)))) low high = (3, omega arith, refl)
-four (suc (suc (suc (suc (suc k))))) low high = absurd (omega (arith, high))
+-- what stands first is found
+at_length : (bs : List ℕ) (k c : ℕ) → character_of (take k bs) ≡ Some c → StandsFirst bs c
+at_length bs k c e = let one = character_is (take k bs) c e in record { scalar = one.0; rest = drop k bs; stands = take_drop k bs ∙ ap (λ x. x ++ drop k bs) one.1 }
 
-pub stands_member : (member : ℕ → Bool) (bs : List ℕ) (k : ℕ) → StandsFirst member bs k → member_len member bs ≡ Some k
-stands_member member bs k first = let bounds = len_utf8_bounds first.c in within_finds member bs (1 ∷ 2 ∷ 3 ∷ 4 ∷ []) k first (four k (omega (arith, bounds.0, first.counted)) (omega (arith, bounds.1, first.counted)))
+pub first_stands : (bs : List ℕ) (c : ℕ) → first_character bs ≡ Some c → StandsFirst bs c
+first_stands bs c e = elim (some_first (character_of (take 1 bs)) _ c e) [
+  | inl at ↦ at_length bs 1 c at
+  | inr e' ↦ elim (some_first (character_of (take 2 bs)) _ c e') [
+    | inl at ↦ at_length bs 2 c at
+    | inr e'' ↦ elim (some_first (character_of (take 3 bs)) _ c e'') [ inl at ↦ at_length bs 3 c at | inr at ↦ at_length bs 4 c at ]
+  ]
+]
+
+pub stands_first : (bs : List ℕ) (c : ℕ) → StandsFirst bs c → first_character bs ≡ Some c
+stands_first bs c first = let bounds = len_utf8_bounds c in by_length (len_utf8 c) refl bounds.0 bounds.1
+  where
+    none_or_same : (k : ℕ) (o : Option ℕ) → character_of (take k bs) ≡ o → (o ≡ None) ⊎ (o ≡ Some c)
+    none_or_same k None e = inl refl
+    none_or_same k (Some d) e = let other = at_length bs k d e in inr (ap Some (encode_same d c other.rest first.rest (sym other.stands ∙ first.stands)).0)
+
+    at : (k : ℕ) → len_utf8 c ≡ k → character_of (take k bs) ≡ Some c
+    at k e = ap character_of (ap₂ take (sym e) first.stands ∙ take_at (encode c) first.rest (len_utf8 c) (length-encode c)) ∙ character_of-encode c first.scalar
+
+    by_length : (k : ℕ) → len_utf8 c ≡ k → 1 ≤ k → k ≤ 4 → first_character bs ≡ Some c
+    by_length zero e low high = absurd (omega (arith, low))
+    by_length (suc zero) e low high = first_of _ _ c (none_or_same 1 _ refl) (inl (at 1 e))
+    by_length (suc (suc zero)) e low high = first_of _ _ c (none_or_same 1 _ refl) (inr (first_of _ _ c (none_or_same 2 _ refl) (inl (at 2 e))))
+    by_length (suc (suc (suc zero))) e low high = first_of _ _ c (none_or_same 1 _ refl) (inr (first_of _ _ c (none_or_same 2 _ refl) (inr (first_of _ _ c (none_or_same 3 _ refl) (inl (at 3 e))))))
+    by_length (suc (suc (suc (suc zero)))) e low high = first_of _ _ c (none_or_same 1 _ refl) (inr (first_of _ _ c (none_or_same 2 _ refl) (inr (first_of _ _ c (none_or_same 3 _ refl) (inr (at 4 e))))))
+    by_length (suc (suc (suc (suc (suc k))))) e low high = absurd (omega (arith, high))
+
+-- a member that stands first
+pub member_stands : (member : ℕ → Bool) (bs : List ℕ) (k : ℕ) → member_len member bs ≡ Some k → (c : ℕ) × StandsFirst bs c × (member c ≡ true) × (k ≡ len_utf8 c)
+member_stands member bs k e = by_first (first_character bs) refl e
+  where
+    by_member : (c : ℕ) → first_character bs ≡ Some c → (b : Bool) → member c ≡ b → cond b (Some (len_utf8 c)) None ≡ Some k → (c : ℕ) × StandsFirst bs c × (member c ≡ true) × (k ≡ len_utf8 c)
+    by_member c is false out e = absurd (cc e)
+    by_member c is true into e = (c, first_stands bs c is, into, sym (same_some refl e))
+
+    by_first : (o : Option ℕ) → first_character bs ≡ o → len_if member o ≡ Some k → (c : ℕ) × StandsFirst bs c × (member c ≡ true) × (k ≡ len_utf8 c)
+    by_first None is e = absurd (cc e)
+    by_first (Some c) is e = by_member c is (member c) refl e
+
+pub stands_member : (member : ℕ → Bool) (bs : List ℕ) (c : ℕ) → StandsFirst bs c → member c ≡ true → member_len member bs ≡ Some (len_utf8 c)
+stands_member member bs c first is = ap (len_if member) (stands_first bs c first) ∙ ap (λ b. cond b (Some (len_utf8 c)) None) is
 
 -- no character begins with a byte that continues one
 pick : (c n₂ n₃ n₄ : ℕ) (bs₂ bs₃ bs₄ : List ℕ) (p q r : Bool) → (p ≡ true → c < 128)

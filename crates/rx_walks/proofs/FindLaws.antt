@@ -2,8 +2,12 @@
 use Rattle.std.proofs.Common.{◌≡◌, ℕ, ◌+◌, ◌⊎◌, List, ◌∷◌, Option, Some, None, refl, sym, ap, ap₂, subst, ◌∙◌, arith, inl, inr}
 use Rattle.std.proofs.lemmas.Bool.{cases_order}
 use Rattle.std.specs.Str.{IsCharBoundary}
-use Rattle.rx_walks.specs.Walks.{reads, Machine, Trace, Walk, ended, went, took, Before, here, later, IsLeast, Finds, nowhere, found}
-use Rattle.rx_walks.specs.Finds.{Search, Counts, IsFind, not_found, is_found, Begins, Next, no_more, at_once, moved, Further, last, one_more, Matches, no_match, first}
+use Rattle.rx_walks.specs.Machines.{reads, Machine, Outcome}
+use Rattle.rx_walks.specs.Walks.{Walk, ended, went, took, Before, here, later, IsLeast}
+use Rattle.rx_walks.specs.Finds.{Search, Counts, IsFind, not_found, is_found}
+use Rattle.rx_walks.specs.Matches.{Next, no_more, at_once, moved, Further, last, one_more, Matches, no_match, first}
+use Rattle.rx_walks.specs.Steps.{FindsFrom, nowhere, found}
+use Rattle.rx_walks.specs.Laws.{Begins}
 use Rattle.rx_walks.proofs.WalkLaws.{same_walk, same_some}
 
 -- one least walk
@@ -13,7 +17,7 @@ not_both (here below) (later e b) = omega (arith, below, e)
 not_both (later e b) (here below) = omega (arith, below, e)
 not_both (later e b) (later e' b') = not_both b b'
 
-pub least_same : {Q N : Type 0} {m : Machine Q N} {seen : List Q} {n : N} {q : Q} {i : ℕ} {t u : Trace N} → IsLeast m seen n q i t → IsLeast m seen n q i u → t ≡ u
+pub least_same : {Q N : Type 0} {m : Machine Q N} {seen : List Q} {n : N} {q : Q} {i : ℕ} {t u : Outcome N} → IsLeast m seen n q i t → IsLeast m seen n q i u → t ≡ u
 least_same {m = m} {seen = seen} {n = n} {q = q} {i = i} {t = t} {u = u} one other = elim (one.least other.choices u other.walk) [
   | inl e ↦ same_walk one.walk (subst (λ cs. Walk m seen n q i cs u) e other.walk)
   | inr b ↦ elim (other.least one.choices t one.walk) [
@@ -23,13 +27,13 @@ least_same {m = m} {seen = seen} {n = n} {q = q} {i = i} {t = t} {u = u} one oth
 ]
 
 -- a walk that ends elsewhere has read at its start
-has_read : {Q N : Type 0} {m : Machine Q N} {seen : List Q} {n : N} {q : Q} {i : ℕ} {cs : List ℕ} {t : Trace N}
+has_read : {Q N : Type 0} {m : Machine Q N} {seen : List Q} {n : N} {q : Q} {i : ℕ} {cs : List ℕ} {t : Outcome N}
     → (content : List ℕ) → ((i j : ℕ) (q r : Q) → m.move i q ≡ reads r j → IsCharBoundary content i) → Walk m seen n q i cs t → (t.end ≡ i) ⊎ IsCharBoundary content i
 has_read content at_whole (ended new is) = inl refl
 has_read content at_whole (went rs r new is at w) = has_read content at_whole w
 has_read content at_whole (took {q = q} {i = i} r j new is w) = inr (at_whole i j q r is)
 
-begins : {Q N : Type 0} {m : Machine Q N} {fresh : ℕ → N} {s : Search} {q : Q} {i : ℕ} {t : Trace N} → ((i j : ℕ) (q r : Q) → m.move i q ≡ reads r j → IsCharBoundary s.content i) → Counts m fresh s q i t
+begins : {Q N : Type 0} {m : Machine Q N} {fresh : ℕ → N} {s : Search} {q : Q} {i : ℕ} {t : Outcome N} → ((i j : ℕ) (q r : Q) → m.move i q ≡ reads r j → IsCharBoundary s.content i) → Counts m fresh s q i t
     → Begins s i
 begins {s = s} {i = i} {t = t} at_whole counts = (
   counts.possible,
@@ -39,15 +43,15 @@ begins {s = s} {i = i} {t = t} at_whole counts = (
   ],
 )
 
-pub find_from_finds : {Q N : Type 0} {m : Machine Q N} {fresh : ℕ → N} {s : Search} {q : Q} {out : Option (Trace N)} → ((i j : ℕ) (q r : Q) → m.move i q ≡ reads r j → IsCharBoundary s.content i)
-    → Finds m (Begins s) fresh q s.start out → IsFind m fresh s q out
+pub find_from_finds : {Q N : Type 0} {m : Machine Q N} {fresh : ℕ → N} {s : Search} {q : Q} {out : Option (Outcome N)} → ((i j : ℕ) (q r : Q) → m.move i q ≡ reads r j → IsCharBoundary s.content i)
+    → FindsFrom m (Begins s) fresh q s.start out → IsFind m fresh s q out
 find_from_finds {s = s} at_whole (nowhere never) = not_found (λ i t counts. never i counts.possible.0.2 (begins at_whole counts) counts.least.choices t counts.least.walk)
 find_from_finds {s = s} at_whole (found j from b one before) = is_found
     (record { possible = b.0; least = one; may_end = inr b.1 })
     (λ k u below counts. before k counts.possible.0.2 below (begins at_whole counts) counts.least.choices u counts.least.walk)
 
 -- one find
-pub find_unique : {Q N : Type 0} {m : Machine Q N} {fresh : ℕ → N} {s : Search} {q : Q} {out out' : Option (Trace N)} → IsFind m fresh s q out → IsFind m fresh s q out' → out ≡ out'
+pub find_unique : {Q N : Type 0} {m : Machine Q N} {fresh : ℕ → N} {s : Search} {q : Q} {out out' : Option (Outcome N)} → IsFind m fresh s q out → IsFind m fresh s q out' → out ≡ out'
 find_unique (not_found never) (not_found never') = refl
 find_unique (not_found never) (is_found {i = i} {t = t} counts before) = absurd (never i t counts)
 find_unique (is_found {i = i} {t = t} counts before) (not_found never) = absurd (never i t counts)

@@ -1,32 +1,34 @@
 -- Walks with other notes, and steps from alike places.
 use Rattle.std.proofs.Common.{◌≡◌, ℕ, ◌+◌, List, [], ◌∷◌, ◌++◌, map, Option, Some, None, option_map, Contains, sym, ap, subst, ◌∙◌}
-use Rattle.rx_walks.specs.Walks.{ends, goes, reads, Machine, Trace, IsNew, Walk, ended, went, took, IsLeast, HasNoWalk, Steps, done, passed, met, opened, read, Finds, nowhere, found}
-use Rattle.rx_walks.specs.Likenesses.{noted, Notes, AlikeAt, both_end, both_go, both_read, IsAlike, ended_at, StepsSoFar}
+use Rattle.rx_walks.specs.Machines.{ends, goes, reads, Machine, Outcome}
+use Rattle.rx_walks.specs.Walks.{IsNew, Walk, ended, went, took, IsLeast, HasNoWalk}
+use Rattle.rx_walks.specs.Steps.{Steps, done, passed, met, opened, read, FindsFrom, nowhere, found, StepsSoFar}
+use Rattle.rx_walks.specs.Likenesses.{noted_by, HasNotes, AlikeAt, both_end, both_go, both_read, IsAlike, ended_at}
 use Rattle.std.proofs.lemmas.List.{append-nil, append_assoc}
 use Rattle.rx_walks.proofs.WalkLaws.{ends_not_goes, ends_not_reads, goes_not_reads, same_end, same_open, same_read, with_notes}
 
-pub renoted_by : {Q N M : Type 0} {m : Machine Q N} {other : Machine Q M} {h : N → M} {seen : List Q} {n : N} {q : Q} {i : ℕ} {cs : List ℕ} {t : Trace N} → Notes m other h
-    → Walk m seen n q i cs t → Walk other seen (h n) q i cs (noted h t)
+pub renoted_by : {Q N M : Type 0} {m : Machine Q N} {other : Machine Q M} {h : N → M} {seen : List Q} {n : N} {q : Q} {i : ℕ} {cs : List ℕ} {t : Outcome N} → HasNotes m other h
+    → Walk m seen n q i cs t → Walk other seen (h n) q i cs (noted_by h t)
 renoted_by same (ended {q = q} {i = i} new is) = ended new (same.moves i q ∙ is)
 renoted_by same (went {n = n} {q = q} {i = i} rs r new is at w) = went rs r new (same.moves i q ∙ is) at (with_notes (sym (same.notes i q n)) (renoted_by same w))
 renoted_by same (took {q = q} {i = i} r j new is w) = took r j new (same.moves i q ∙ is) (renoted_by same w)
 
-noted_back : {Q N M : Type 0} {m : Machine Q N} {other : Machine Q M} {h : N → M} {seen : List Q} {n' : M} {q : Q} {i : ℕ} {cs : List ℕ} {u : Trace M} (n : N) → Notes m other h
-    → Walk other seen n' q i cs u → (t : Trace N) × Walk m seen n q i cs t
+noted_back : {Q N M : Type 0} {m : Machine Q N} {other : Machine Q M} {h : N → M} {seen : List Q} {n' : M} {q : Q} {i : ℕ} {cs : List ℕ} {u : Outcome M} (n : N) → HasNotes m other h
+    → Walk other seen n' q i cs u → (t : Outcome N) × Walk m seen n q i cs t
 noted_back n same (ended {q = q} {i = i} new is) = (_, ended new (sym (same.moves i q) ∙ is))
 noted_back {m = m} n same (went {q = q} {i = i} rs r new is at w) = let on = noted_back (m.note i q n) same w in (on.0, went rs r new (sym (same.moves i q) ∙ is) at on.1)
 noted_back n same (took {q = q} {i = i} r j new is w) = let on = noted_back n same w in (on.0, took r j new (sym (same.moves i q) ∙ is) on.1)
 
-never_noted : {Q N M : Type 0} {m : Machine Q N} {other : Machine Q M} {h : N → M} {seen : List Q} {n : N} {q : Q} {i : ℕ} → Notes m other h → HasNoWalk m seen n q i → HasNoWalk other seen (h n) q i
+never_noted : {Q N M : Type 0} {m : Machine Q N} {other : Machine Q M} {h : N → M} {seen : List Q} {n : N} {q : Q} {i : ℕ} → HasNotes m other h → HasNoWalk m seen n q i → HasNoWalk other seen (h n) q i
 never_noted {n = n} same never cs u w = let on = noted_back n same w in never cs on.0 on.1
 
-least_noted : {Q N M : Type 0} {m : Machine Q N} {other : Machine Q M} {h : N → M} {seen : List Q} {n : N} {q : Q} {i : ℕ} {t : Trace N} → Notes m other h → IsLeast m seen n q i t
-    → IsLeast other seen (h n) q i (noted h t)
+least_noted : {Q N M : Type 0} {m : Machine Q N} {other : Machine Q M} {h : N → M} {seen : List Q} {n : N} {q : Q} {i : ℕ} {t : Outcome N} → HasNotes m other h → IsLeast m seen n q i t
+    → IsLeast other seen (h n) q i (noted_by h t)
 least_noted {n = n} same one = record { choices = one.choices; walk = renoted_by same one.walk; least = λ ds u w. let on = noted_back n same w in one.least ds on.0 on.1 }
 
 -- a find with other notes
-pub finds_noted : {Q N M : Type 0} {m : Machine Q N} {other : Machine Q M} {h : N → M} {begins : ℕ → Type 0} {fresh : ℕ → N} {q : Q} {i : ℕ} {out : Option (Trace N)} → Notes m other h
-    → Finds m begins fresh q i out → Finds other begins (λ j. h (fresh j)) q i (option_map (noted h) out)
+pub finds_noted : {Q N M : Type 0} {m : Machine Q N} {other : Machine Q M} {h : N → M} {begins : ℕ → Type 0} {fresh : ℕ → N} {q : Q} {i : ℕ} {out : Option (Outcome N)} → HasNotes m other h
+    → FindsFrom m begins fresh q i out → FindsFrom other begins (λ j. h (fresh j)) q i (option_map (noted_by h) out)
 finds_noted same (nowhere never) = nowhere (λ j from b. never_noted same (never j from b))
 finds_noted same (found j from b one before) = found j from b (least_noted same one) (λ k from' below b'. never_noted same (before k from' below b'))
 
@@ -46,7 +48,7 @@ move_read (both_end is is') e = absurd (ends_not_reads is e)
 move_read (both_go is is') e = absurd (goes_not_reads is e)
 move_read {j = j} (both_read is is') e = is' ∙ ap (λ x. reads x (j + 1)) (same_read is e).0
 
-pub steps_alike : {Q N : Type 0} {m : Machine Q N} {i : ℕ} {seen : List Q} {threads next : List (N × Q)} {out : Option (Trace N)} (j : ℕ) → IsAlike m i j
+pub steps_alike : {Q N : Type 0} {m : Machine Q N} {i : ℕ} {seen : List Q} {threads next : List (N × Q)} {out : Option (Outcome N)} (j : ℕ) → IsAlike m i j
     → Steps m i seen threads next out → Steps m j seen threads next (ended_at j out)
 steps_alike j alike done = done
 steps_alike j alike (passed c steps) = passed c (steps_alike j alike steps)
@@ -74,7 +76,7 @@ so_far_read {m = m} {i = i} threads seen n q r stack out so_far new is next met'
 
 pub so_far_met : {Q N : Type 0} {m : Machine Q N} {i p : ℕ} (threads : List (N × Q)) (seen : List Q) (n : N) (q : Q) (stack out : List (N × Q)) → StepsSoFar m i threads seen ((n, q) ∷ stack) out → IsNew seen q
     → m.move i q ≡ ends p → Steps m i [] threads out (Some (record { pattern = p; end = i; notes = n }))
-so_far_met {N = N} {m = m} {i = i} {p = p} threads seen n q stack out so_far new is = let ending : Option (Trace N) = Some (record { pattern = p; end = i; notes = n }) in subst (λ xs. Steps m i [] threads xs ending) (append-nil out) (so_far [] ending (met new is))
+so_far_met {N = N} {m = m} {i = i} {p = p} threads seen n q stack out so_far new is = let ending : Option (Outcome N) = Some (record { pattern = p; end = i; notes = n }) in subst (λ xs. Steps m i [] threads xs ending) (append-nil out) (so_far [] ending (met new is))
 
 pub so_far_done : {Q N : Type 0} {m : Machine Q N} {i : ℕ} (threads : List (N × Q)) (seen : List Q) (out : List (N × Q)) → StepsSoFar m i threads seen [] out → Steps m i [] threads out None
 so_far_done {m = m} {i = i} threads seen out so_far = subst (λ xs. Steps m i [] threads xs None) (append-nil out) (so_far [] None done)

@@ -1,7 +1,9 @@
 -- A machine that reads in smaller steps has the same walks.
 use Rattle.std.proofs.Common.{◌≡◌, ℕ, zero, suc, ◌↔◌, List, [], ◌∷◌, map, Option, Some, option_map, slice_get, Contains, refl, sym, ap, ap₂, subst, ◌∙◌, arith, inl, inr}
 use Rattle.std.proofs.lemmas.Option.{slice_get-map}
-use Rattle.rx_walks.specs.Walks.{ends, goes, reads, Machine, Trace, IsNew, Walk, ended, went, took, IsLeast, Finds, nowhere, found}
+use Rattle.rx_walks.specs.Machines.{ends, goes, reads, Machine, Outcome}
+use Rattle.rx_walks.specs.Walks.{IsNew, Walk, ended, went, took, IsLeast}
+use Rattle.rx_walks.specs.Steps.{FindsFrom, nowhere, found}
 use Rattle.rx_walks.specs.Refinements.{Chain, last, more, Dies, at_once, after_read, Agrees, both_end, both_go, both_read, both_fail, Refines}
 use Rattle.rx_walks.proofs.WalkLaws.{Contains-cases, Contains-head, Contains-tail, none_seen, ends_not_goes, ends_not_reads, goes_not_reads, same_end, same_open, same_read, same_some, from_node, from_place, with_notes}
 
@@ -39,12 +41,12 @@ to_chain {b = b} {f = f} {i = i} {q = q} (both_read is chain) e = let same = sam
     chain_to {r = r} {j' = j'} e e' chain = subst (λ x. Chain b (f q) i (f x) j') e (subst (λ x. Chain b (f q) i (f r) x) e' chain)
 to_chain (both_fail is dies) e = absurd (goes_not_reads is e)
 
-chain_walk : {Q N : Type 0} {m : Machine Q N} {seen : List Q} {n : N} {q r : Q} {i j : ℕ} {cs : List ℕ} {t : Trace N} → Chain m q i r j → IsNew seen q → Walk m [] n r j cs t → Walk m seen n q i cs t
+chain_walk : {Q N : Type 0} {m : Machine Q N} {seen : List Q} {n : N} {q r : Q} {i j : ℕ} {cs : List ℕ} {t : Outcome N} → Chain m q i r j → IsNew seen q → Walk m [] n r j cs t → Walk m seen n q i cs t
 chain_walk (last is) new w = took _ _ new is w
 chain_walk (more {r = r} is chain) new w = took _ _ new is (chain_walk chain (none_seen r) w)
 
 -- forth
-pub refined : {C B N : Type 0} {c : Machine C N} {b : Machine B N} {f : C → B} {seen : List C} {n : N} {q : C} {i : ℕ} {cs : List ℕ} {t : Trace N} → Refines c b f
+pub refined : {C B N : Type 0} {c : Machine C N} {b : Machine B N} {f : C → B} {seen : List C} {n : N} {q : C} {i : ℕ} {cs : List ℕ} {t : Outcome N} → Refines c b f
     → Walk c seen n q i cs t → Walk b (map f seen) n (f q) i cs t
 refined {f = f} same (ended {seen = seen} {q = q} {i = i} new is) = ended (λ x. new (Contains_back f same.apart seen q x)) (to_end (same.agrees i q) is)
 refined {f = f} same (went {seen = seen} {n = n} {q = q} {i = i} {k = k} rs r new is at w) =
@@ -58,14 +60,14 @@ map_at f (r ∷ rs) zero y at = (r, refl, sym (same_some refl at))
 map_at f (r ∷ rs) (suc k) y at = map_at f rs k y at
 
 -- from the end of a chain, or from its middle
-abbrev Returns : {C B N : Type 0} → Machine C N → Machine B N → (C → B) → List B → N → B → ℕ → List ℕ → Trace N → Type 0
+abbrev Returns : {C B N : Type 0} → Machine C N → Machine B N → (C → B) → List B → N → B → ℕ → List ℕ → Outcome N → Type 0
 Returns {C = C} c b f seen n x i cs t = ((seen' : List C) (q : C) → seen ≡ map f seen' → x ≡ f q → Walk c seen' n q i cs t) × ((q : C) (j : ℕ) → Chain b x i (f q) j → Walk c [] n q j cs t)
 
 no_chain : {Q N : Type 0} {m : Machine Q N} {q r : Q} {i j : ℕ} → Chain m q i r j → ((s : Q) (k : ℕ) → m.move i q ≡ reads s k → ⊥) → ⊥
 no_chain (last is) never = never _ _ is
 no_chain (more is chain) never = never _ _ is
 
-no_death : {Q N : Type 0} {m : Machine Q N} {seen : List Q} {n : N} {q : Q} {i : ℕ} {cs : List ℕ} {t : Trace N} → Dies m q i → Walk m seen n q i cs t → ⊥
+no_death : {Q N : Type 0} {m : Machine Q N} {seen : List Q} {n : N} {q : Q} {i : ℕ} {cs : List ℕ} {t : Outcome N} → Dies m q i → Walk m seen n q i cs t → ⊥
 no_death (at_once is) (ended new is') = ends_not_goes is' is
 no_death (at_once is) (went {k = k} rs r new is' at w) = cc (subst (λ x. slice_get x k ≡ Some r) (same_open is' is) at)
 no_death (at_once is) (took r j new is' w) = goes_not_reads is is'
@@ -79,7 +81,7 @@ still_seen f seen seen' x q e e' new within = new (subst (λ y. Contains seen y)
 chain_from : {Q N : Type 0} {m : Machine Q N} {q r s : Q} {i j k : ℕ} → q ≡ r → i ≡ j → Chain m q i s k → Chain m r j s k
 chain_from {m = m} {r = r} {s = s} {i = i} {k = k} e e' chain = subst (λ x. Chain m r x s k) e' (subst (λ x. Chain m x i s k) e chain)
 
-onward : {C B N : Type 0} {c : Machine C N} {b : Machine B N} {f : C → B} {n : N} {x y : B} {i j k : ℕ} {cs : List ℕ} {t : Trace N} (r : C) → b.move i x ≡ reads y j → Returns c b f [] n y j cs t
+onward : {C B N : Type 0} {c : Machine C N} {b : Machine B N} {f : C → B} {n : N} {x y : B} {i j k : ℕ} {cs : List ℕ} {t : Outcome N} (r : C) → b.move i x ≡ reads y j → Returns c b f [] n y j cs t
     → Chain b x i (f r) k → Walk c [] n r k cs t
 onward r is back (last is') = let same = same_read is is' in from_place same.1 (back.0 [] r refl same.0)
 onward {k = k} r is back (more is' chain) = let same = same_read is' is in back.1 r k (chain_from same.0 same.1 chain)
@@ -92,7 +94,7 @@ back_ended (both_read is chain) new e = absurd (no_chain chain (λ s k is'. ends
 back_ended (both_fail is (at_once is')) new e = absurd (ends_not_goes e is')
 back_ended (both_fail is (after_read is' dies)) new e = absurd (ends_not_reads e is')
 
-back_took : {C B N : Type 0} {c : Machine C N} {b : Machine B N} {f : C → B} {seen : List C} {n : N} {q : C} {y : B} {i j : ℕ} {cs : List ℕ} {t : Trace N} → Agrees c b f i q → IsNew seen q
+back_took : {C B N : Type 0} {c : Machine C N} {b : Machine B N} {f : C → B} {seen : List C} {n : N} {q : C} {y : B} {i j : ℕ} {cs : List ℕ} {t : Outcome N} → Agrees c b f i q → IsNew seen q
     → b.move i (f q) ≡ reads y j → Walk b [] n y j cs t → Returns c b f [] n y j cs t → Walk c seen n q i cs t
 back_took (both_end is is') new e w back = absurd (ends_not_reads is' e)
 back_took (both_go is is') new e w back = absurd (goes_not_reads is' e)
@@ -100,7 +102,7 @@ back_took (both_read {r = r} {j = k} is chain) new e w back = took r k new is (o
 back_took (both_fail is (at_once is')) new e w back = absurd (goes_not_reads is' e)
 back_took (both_fail is (after_read is' dies)) new e w back = let same = same_read e is' in absurd (no_death dies (from_node same.0 (from_place same.1 w)))
 
-back_went : {C B N : Type 0} {c : Machine C N} {b : Machine B N} {f : C → B} {seen : List C} {n : N} {q : C} {y : B} {i k : ℕ} {cs : List ℕ} {t : Trace N} (ys : List B) → Agrees c b f i q → IsNew seen q
+back_went : {C B N : Type 0} {c : Machine C N} {b : Machine B N} {f : C → B} {seen : List C} {n : N} {q : C} {y : B} {i k : ℕ} {cs : List ℕ} {t : Outcome N} (ys : List B) → Agrees c b f i q → IsNew seen q
     → b.move i (f q) ≡ goes ys → slice_get ys k ≡ Some y → b.note i (f q) n ≡ c.note i q n → Returns c b f (f q ∷ map f seen) (b.note i (f q) n) y i cs t → Walk c seen n q i (k ∷ cs) t
 back_went ys (both_end is is') new e at note back = absurd (ends_not_goes is' e)
 back_went {f = f} {seen = seen} {q = q} {y = y} {k = k} ys (both_go {rs = rs} is is') new e at note back =
@@ -110,7 +112,7 @@ back_went ys (both_read is chain) new e at note back = absurd (no_chain chain (�
 back_went {y = y} {k = k} ys (both_fail is (at_once is')) new e at note back = absurd (cc (subst (λ x. slice_get x k ≡ Some y) (same_open e is') at))
 back_went ys (both_fail is (after_read is' dies)) new e at note back = absurd (goes_not_reads e is')
 
-returns : {C B N : Type 0} {c : Machine C N} {b : Machine B N} {f : C → B} {seen : List B} {n : N} {x : B} {i : ℕ} {cs : List ℕ} {t : Trace N} → Refines c b f → Walk b seen n x i cs t
+returns : {C B N : Type 0} {c : Machine C N} {b : Machine B N} {f : C → B} {seen : List B} {n : N} {x : B} {i : ℕ} {cs : List ℕ} {t : Outcome N} → Refines c b f → Walk b seen n x i cs t
     → Returns c b f seen n x i cs t
 returns {b = b} {f = f} same (ended {seen = seen} {q = x} {i = i} new is) = (
   (λ seen' q e e'. back_ended (same.agrees i q) (still_seen f seen seen' x q e e' new) (ap (b.move i) (sym e') ∙ is)),
@@ -126,20 +128,20 @@ returns {b = b} {f = f} same (took {seen = seen} {q = x} {i = i} y j new is w) =
   (λ q k chain. onward q is (returns same w) chain),
 )
 
-pub unrefined : {C B N : Type 0} {c : Machine C N} {b : Machine B N} {f : C → B} {n : N} {i : ℕ} {cs : List ℕ} {t : Trace N} (seen : List C) (q : C) → Refines c b f
+pub unrefined : {C B N : Type 0} {c : Machine C N} {b : Machine B N} {f : C → B} {n : N} {i : ℕ} {cs : List ℕ} {t : Outcome N} (seen : List C) (q : C) → Refines c b f
     → Walk b (map f seen) n (f q) i cs t → Walk c seen n q i cs t
 unrefined seen q same w = (returns same w).0 seen q refl refl
 
 -- least walks and finds
-pub least_refined : {C B N : Type 0} {c : Machine C N} {b : Machine B N} {f : C → B} {seen : List C} {n : N} {q : C} {i : ℕ} {t : Trace N} → Refines c b f
+pub least_refined : {C B N : Type 0} {c : Machine C N} {b : Machine B N} {f : C → B} {seen : List C} {n : N} {q : C} {i : ℕ} {t : Outcome N} → Refines c b f
     → IsLeast c seen n q i t ↔ IsLeast b (map f seen) n (f q) i t
 least_refined {seen = seen} {q = q} same = (
   (λ one. record { choices = one.choices; walk = refined same one.walk; least = λ ds u w. one.least ds u (unrefined seen q same w) }),
   (λ one. record { choices = one.choices; walk = unrefined seen q same one.walk; least = λ ds u w. one.least ds u (refined same w) }),
 )
 
-pub finds_unrefined : {C B N : Type 0} {c : Machine C N} {b : Machine B N} {f : C → B} {begins : ℕ → Type 0} {fresh : ℕ → N} {i : ℕ} {out : Option (Trace N)} (q : C) → Refines c b f
-    → Finds b begins fresh (f q) i out → Finds c begins fresh q i out
+pub finds_unrefined : {C B N : Type 0} {c : Machine C N} {b : Machine B N} {f : C → B} {begins : ℕ → Type 0} {fresh : ℕ → N} {i : ℕ} {out : Option (Outcome N)} (q : C) → Refines c b f
+    → FindsFrom b begins fresh (f q) i out → FindsFrom c begins fresh q i out
 finds_unrefined q same (nowhere never) = nowhere (λ j from begun cs t w. never j from begun cs t (refined same w))
 finds_unrefined q same (found j from begun one before) =
     found j from begun ((least_refined same).1 one) (λ k from' below begun' cs t w. before k from' below begun' cs t (refined same w))

@@ -1,12 +1,12 @@
 -- Machines with other notes, and places at which a machine does the same.
-use Rattle.std.specs.Prelude.{◌≡◌, ℕ, ◌+◌, List, [], ◌++◌, Option, Some, None}
-use Rattle.rx_walks.specs.Walks.{Machine, Trace, ends, goes, reads, Steps}
+use Rattle.std.specs.Prelude.{◌≡◌, ℕ, ◌+◌, List, Option, Some, None}
+use Rattle.rx_walks.specs.Machines.{Machine, Outcome, ends, goes, reads}
 
-abbrev pub noted : {N M : Type 0} → (N → M) → Trace N → Trace M
-noted h t = record { pattern = t.pattern; end = t.end; notes = h t.notes }
+abbrev pub noted_by : {N M : Type 0} → (N → M) → Outcome N → Outcome M
+noted_by h t = record { pattern = t.pattern; end = t.end; notes = h t.notes }
 
 -- both machines move alike, and h takes the notes of one to those of the other
-pub record Notes {Q N M : Type 0} (m : Machine Q N) (other : Machine Q M) (h : N → M) : Type 0 where
+pub record HasNotes {Q N M : Type 0} (m : Machine Q N) (other : Machine Q M) (h : N → M) : Type 0 where
   pub moves : (i : ℕ) (q : Q) → other.move i q ≡ m.move i q
   pub notes : (i : ℕ) (q : Q) (n : N) → other.note i q (h n) ≡ h (m.note i q n)
 
@@ -20,10 +20,6 @@ pub record IsAlike {Q N : Type 0} (m : Machine Q N) (i j : ℕ) : Type 0 where
   pub moves : (q : Q) → AlikeAt m i j q
   pub notes : (q : Q) (n : N) → m.note i q n ≡ m.note j q n
 
-abbrev pub ended_at : {N : Type 0} → ℕ → Option (Trace N) → Option (Trace N)
+abbrev pub ended_at : {N : Type 0} → ℕ → Option (Outcome N) → Option (Outcome N)
 ended_at j None = None
 ended_at j (Some t) = Some (record { pattern = t.pattern; end = j; notes = t.notes })
-
--- a step in the middle: the stack that is left, and the threads that were put out, in order
-abbrev pub StepsSoFar : {Q N : Type 0} → Machine Q N → ℕ → List (N × Q) → List Q → List (N × Q) → List (N × Q) → Type 0
-StepsSoFar {Q} {N} m i threads seen stack out = (next : List (N × Q)) (met : Option (Trace N)) → Steps m i seen stack next met → Steps m i [] threads (out ++ next) met

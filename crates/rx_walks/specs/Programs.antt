@@ -1,17 +1,34 @@
--- Programs, and the machines that they are over a content: one reads characters, the other bytes.
-use Rattle.std.specs.Prelude.{ℕ, suc, ◌+◌, Bool, true, false, ◌&&◌, nat_le, List, [], ◌∷◌, map, take, drop, Option, Some, None, option_map, slice_get}
-use Rattle.rx_walks.specs.Walks.{Move, ends, goes, reads, Machine}
+-- Programs, and the machine that a program's nodes are over a content.
+use Rattle.std.specs.Prelude.{◌≡◌, ℕ, ◌+◌, Bool, true, false, ◌&&◌, ◌==◌, nat_le, List, [], ◌∷◌, take, drop, cond, Option, Some, None, slice_get}
+use Rattle.rx_walks.specs.Machines.{Move, ends, goes, reads, Machine}
 
--- looks are of L, sets of S
+-- a node of a program, with its edges as numbers of nodes; looks are of L, sets of characters of S
 pub data Node (L S : Type 0) : Type 0 where
+  -- a match of this pattern ends
   match : ℕ → Node L S
+  -- ordered empty edges, the preferred one first
   pass : List ℕ → Node L S
+  -- notes the place in this slot
   note : ℕ → ℕ → Node L S
+  -- an empty edge where the look holds
   look : L → ℕ → Node L S
+  -- an edge over one character of the set
   set : S → ℕ → Node L S
 
--- a content between two places, and the looks that hold in it
-pub record Place (L : Type 0) : Type 0 where
+-- a program: its nodes, the number of the node above all patterns, that of each pattern's own, and the byte that ends a line
+pub record Program (L S : Type 0) : Type 0 where
+  pub nodes : List (Node L S)
+  pub start : ℕ
+  pub patterns : List ℕ
+  pub line_terminator : ℕ
+
+-- one pattern stands alone; more, or none, stand under one node with ordered edges to them
+pub data IsAbovePatterns {L S : Type 0} (p : Program L S) : Type 0 where
+  one_pattern : p.patterns ≡ p.start ∷ [] → IsAbovePatterns p
+  several : slice_get p.nodes p.start ≡ Some (pass p.patterns) → IsAbovePatterns p
+
+-- a content, the first and the last place where a walk may stand, and the looks that hold at each place
+pub record Haystack (L : Type 0) : Type 0 where
   pub content : List ℕ
   pub low : ℕ
   pub high : ℕ
@@ -21,62 +38,52 @@ abbrev pub only_if : {Q : Type 0} → Bool → Move Q → Move Q
 only_if true x = x
 only_if false x = goes []
 
-abbrev pub is_inside : ℕ → ℕ → ℕ → Bool
-is_inside low high i = nat_le low i && nat_le i high
+abbrev pub is_within : ℕ → ℕ → ℕ → Bool
+is_within low high i = nat_le low i && nat_le i high
 
--- what is left from a place on, up to the end
-abbrev pub left_from : {L : Type 0} → Place L → ℕ → List ℕ
-left_from p i = drop i (take p.high p.content)
+-- the bytes from a place on that a walk may take
+abbrev pub left_from : {L : Type 0} → Haystack L → ℕ → List ℕ
+left_from h i = drop i (take h.high h.content)
 
 abbrev pub read_up_to : {Q : Type 0} → Q → ℕ → Option ℕ → Move Q
 read_up_to r i None = goes []
 read_up_to r i (Some k) = reads r (i + k)
 
--- the machine over characters; a set tells how many bytes of one of its members stand first in a list
-abbrev pub by_character : {L S : Type 0} → (S → List ℕ → Option ℕ) → Place L → ℕ → Option (Node L S) → Move ℕ
-by_character first p i None = goes []
-by_character first p i (Some (match k)) = ends k
-by_character first p i (Some (pass rs)) = goes rs
-by_character first p i (Some (note slot r)) = goes (r ∷ [])
-by_character first p i (Some (look l r)) = only_if (p.holds l i) (goes (r ∷ []))
-by_character first p i (Some (set s r)) = read_up_to r i (first s (left_from p i))
-
--- an automaton over bytes: at a state a byte is refused, or is the last, or leads to a state
-abbrev pub run : (ℕ → ℕ → Option (Option ℕ)) → ℕ → List ℕ → Option ℕ
-run step s [] = None
-run step s (b ∷ bs) = elim (step s b) [ None ↦ None | Some None ↦ Some 1 | Some (Some s') ↦ option_map suc (run step s' bs) ]
-
-abbrev pub read_on : ℕ → ℕ → ℕ → Option (Option ℕ) → Move (ℕ × ℕ)
-read_on q r i None = goes []
-read_on q r i (Some None) = reads (r, 0) (i + 1)
-read_on q r i (Some (Some s')) = reads (q, s') (i + 1)
-
-abbrev pub read_byte : (ℕ → ℕ → Option (Option ℕ)) → ℕ → ℕ → ℕ → ℕ → List ℕ → Move (ℕ × ℕ)
-read_byte step q r s i [] = goes []
-read_byte step q r s i (b ∷ bs) = read_on q r i (step s b)
-
--- the machine over bytes: a node, and the state of its set
-abbrev pub by_byte : {L S : Type 0} → (S → ℕ → ℕ → Option (Option ℕ)) → Place L → ℕ → ℕ → ℕ → Option (Node L S) → Move (ℕ × ℕ)
-by_byte step p i q s None = goes []
-by_byte step p i q s (Some (match k)) = ends k
-by_byte step p i q s (Some (pass rs)) = goes (map (λ r. (r, 0)) rs)
-by_byte step p i q s (Some (note slot r)) = goes ((r, 0) ∷ [])
-by_byte step p i q s (Some (look l r)) = only_if (p.holds l i) (goes ((r, 0) ∷ []))
-by_byte step p i q s (Some (set x r)) = read_byte (step x) q r s i (left_from p i)
+-- what there is to do at a node; `first` tells of a set how many bytes of one of its characters stand first
+abbrev pub by_character : {L S : Type 0} → (S → List ℕ → Option ℕ) → Haystack L → ℕ → Option (Node L S) → Move ℕ
+by_character first h i None = goes []
+by_character first h i (Some (match k)) = ends k
+by_character first h i (Some (pass rs)) = goes rs
+by_character first h i (Some (note slot r)) = goes (r ∷ [])
+by_character first h i (Some (look l r)) = only_if (h.holds l i) (goes (r ∷ []))
+by_character first h i (Some (set s r)) = read_up_to r i (first s (left_from h i))
 
 abbrev pub note_at : {L S N : Type 0} → (ℕ → ℕ → N → N) → ℕ → Option (Node L S) → N → N
 note_at put i (Some (note slot r)) n = put slot i n
 note_at put i _ n = n
 
--- put notes a place in a slot
-abbrev pub characters : {L S N : Type 0} → (ℕ → ℕ → N → N) → (S → List ℕ → Option ℕ) → List (Node L S) → Place L → Machine ℕ N
-characters put first nodes p = record {
-  move = λ i q. only_if (is_inside p.low p.high i) (by_character first p i (slice_get nodes q));
+-- the machine whose reads are whole characters; `put` notes a place in a slot
+abbrev pub over_characters : {L S N : Type 0} → (ℕ → ℕ → N → N) → (S → List ℕ → Option ℕ) → List (Node L S) → Haystack L → Machine ℕ N
+over_characters put first nodes h = record {
+  move = λ i q. only_if (is_within h.low h.high i) (by_character first h i (slice_get nodes q));
   note = λ i q n. note_at put i (slice_get nodes q) n;
 }
 
-abbrev pub bytes : {L S N : Type 0} → (ℕ → ℕ → N → N) → (S → ℕ → ℕ → Option (Option ℕ)) → List (Node L S) → Place L → Machine (ℕ × ℕ) N
-bytes put step nodes p = record {
-  move = λ i q. only_if (is_inside p.low p.high i) (by_byte step p i q.0 q.1 (slice_get nodes q.0));
-  note = λ i q n. note_at put i (slice_get nodes q.0) n;
-}
+-- what a walk notes: where it began, and slots with places, the last one first
+pub record Notes : Type 0 where
+  pub start : ℕ
+  pub noted : List (ℕ × ℕ)
+
+abbrev pub fresh_notes : ℕ → Notes
+fresh_notes i = record { start = i; noted = [] }
+
+abbrev pub put_note : ℕ → ℕ → Notes → Notes
+put_note slot i n = record n { noted = (slot, i) ∷ n.noted }
+
+-- the place that was noted last in a slot
+abbrev pub last_noted : ℕ → List (ℕ × ℕ) → Option ℕ
+last_noted slot [] = None
+last_noted slot (x ∷ noted) = cond (slot == x.0) (Some x.1) (last_noted slot noted)
+
+abbrev pub slot_of : Notes → ℕ → Option ℕ
+slot_of n slot = last_noted slot n.noted

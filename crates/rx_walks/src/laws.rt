@@ -1,33 +1,24 @@
-//! Laws of walks and finds. Each function here does nothing: its contract is a law of the definitions, proved.
+//! Laws of walks and of what is found by them. Each function does nothing: its contract is the law.
 
-ghost use Rattle.rx_walks.specs.Walks.{Machine};
-ghost use Rattle.rx_walks.specs.Laws.{StepsKeepBest, SearchesFind, FindsAtMostOne, PathsHaveWalks, WalksAgree, SearchesFindAll, BytesRefine, ProgramsFind};
-ghost use Rattle.rx_walks.specs.Programs.{Node, Place};
+ghost use Rattle.rx_walks.specs.Laws.{BytesRefine, FindsAtMostOne, PathsAgree, PathsHaveWalks, ProgramsFind, SearchesFind, SearchesFindAll, StepsKeepBest, WalksAgree};
+ghost use Rattle.rx_walks.specs.Machines.{Machine};
+ghost use Rattle.rx_walks.specs.Programs.{Node, Haystack};
+ghost use Rattle.rx_walks.specs.Bytes.{Automaton};
 ghost use Rattle.std.specs.Prelude.{ℕ, List, Option, Bool};
-
-/// One step from a place keeps the best walk.
-pub fn steps_keep_best<Q, N>()
-    ensures { (m : Machine Q N) → StepsKeepBest m }
-{}
-
-/// The loop over places finds.
-pub fn searches_find<C, B, N>()
-    ensures { (c : Machine C N) (b : Machine B N) (f : C → B) → SearchesFind c b f }
-{}
 
 /// There is at most one find.
 pub fn finds_at_most_one<Q, N>()
     ensures { (m : Machine Q N) → FindsAtMostOne m }
 {}
 
-/// Loops are taken out of paths.
-pub fn paths_have_walks<Q, N>()
-    ensures { (m : Machine Q N) → PathsHaveWalks m }
+/// One step from a place keeps the best walk.
+pub fn steps_keep_best<Q, N>()
+    ensures { (m : Machine Q N) → StepsKeepBest m }
 {}
 
-/// A machine that reads in smaller steps has the same walks.
-pub fn walks_agree<C, B, N>()
-    ensures { (c : Machine C N) (b : Machine B N) (f : C → B) → WalksAgree c b f }
+/// The loop over places finds the least walk of the least start that counts.
+pub fn searches_find<C, B, N>()
+    ensures { (c : Machine C N) (b : Machine B N) (f : C → B) → SearchesFind c b f }
 {}
 
 /// The loop over places without a cut finds the greatest end.
@@ -35,12 +26,33 @@ pub fn searches_find_all<C, B, N>()
     ensures { (c : Machine C N) (b : Machine B N) (f : C → B) → SearchesFindAll c b f }
 {}
 
-/// A program's machine over bytes refines its machine over characters.
+/// A path exists exactly where some walk does.
+pub fn paths_have_walks<Q, N>()
+    ensures { (m : Machine Q N) → PathsHaveWalks m }
+{}
+
+/// A machine that reads in smaller steps without forks has the same walks.
+pub fn walks_agree<C, B, N>()
+    ensures { (c : Machine C N) (b : Machine B N) (f : C → B) → WalksAgree c b f }
+{}
+
+/// And the same paths.
+pub fn paths_agree<C, B, N>()
+    ensures { (c : Machine C N) (b : Machine B N) (f : C → B) → PathsAgree c b f }
+{}
+
+/// A program's machine over bytes reads in smaller steps what its machine over characters reads.
 pub fn bytes_refine<L, S, N>()
-    ensures { (put : ℕ → ℕ → N → N) (first : S → List ℕ → Option ℕ) (step : S → ℕ → ℕ → Option (Option ℕ)) (nodes : List (Node L S)) (p : Place L) → BytesRefine put first step nodes p }
+    ensures {
+        (put : ℕ → ℕ → N → N) (first : S → List ℕ → Option ℕ) (step : S → Automaton)
+        (nodes : List (Node L S)) (h : Haystack L) → BytesRefine put first step nodes h
+    }
 {}
 
 /// The loop over places by a program's bytes finds what its characters have.
 pub fn programs_find<L, S, N>()
-    ensures { (put : ℕ → ℕ → N → N) (member : S → ℕ → Bool) (step : S → ℕ → ℕ → Option (Option ℕ)) (nodes : List (Node L S)) (holds : L → ℕ → Bool) → ProgramsFind put member step nodes holds }
+    ensures {
+        (put : ℕ → ℕ → N → N) (member : S → ℕ → Bool) (step : S → Automaton)
+        (nodes : List (Node L S)) (holds : L → ℕ → Bool) → ProgramsFind put member step nodes holds
+    }
 {}
