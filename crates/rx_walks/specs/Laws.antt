@@ -37,13 +37,27 @@ abbrev pub WalksTakeNoPairTwice : {Q N : Type 0} → Machine Q N → Type 0
 WalksTakeNoPairTwice {Q} {N} m = IsForward m → (n : N) (q : Q) (i : ℕ) (cs : List ℕ) (t : Outcome N)
     → Walk m [] n q i cs t ↔ ((pairs : List (Q × ℕ)) × PathThrough m n q i cs pairs t × HasNoRepeat pairs)
 
-abbrev pub FindsAtMostOne : {Q N : Type 0} → Machine Q N → Type 0
-FindsAtMostOne {Q} {N} m = (s : Search) (fresh : ℕ → N) (q : Q) (out out' : Option (Outcome N))
-    → IsFind m fresh s q out → IsFind m fresh s q out' → out ≡ out'
+-- in a content a program has at most one find
+abbrev pub FindsAtMostOne : {S : Type 0} → (S → ℕ → Bool) → (ℕ → Bool) → Program Look S → Type 0
+FindsAtMostOne member is_word p = (s : Search) (out out' : Option (Outcome Notes))
+    → ProgramFinds member is_word p s out → ProgramFinds member is_word p s out' → out ≡ out'
 
-abbrev pub FindsAllAtMostOne : {Q N : Type 0} → Machine Q N → Type 0
-FindsAllAtMostOne {Q} {N} m = (s : Search) (fresh : ℕ → N) (q : Q) (out out' : Option Span)
-    → IsFindAll m fresh s q out → IsFindAll m fresh s q out' → out ≡ out'
+abbrev pub FindsAllAtMostOne : {S : Type 0} → (S → ℕ → Bool) → (ℕ → Bool) → Program Look S → Type 0
+FindsAllAtMostOne member is_word p = (s : Search) (out out' : Option Span)
+    → ProgramFindsAll member is_word p s out → ProgramFindsAll member is_word p s out' → out ≡ out'
+
+-- and at most one list of matches
+abbrev pub MatchesAreOneList : {S : Type 0} → (S → ℕ → Bool) → (ℕ → Bool) → Program Look S → Type 0
+MatchesAreOneList member is_word p = (s : Search) (ms ms' : List (Outcome Notes))
+    → ProgramMatches member is_word p s ms → ProgramMatches member is_word p s ms' → ms ≡ ms'
+
+abbrev pub MatchesAllAreOneList : {S : Type 0} → (S → ℕ → Bool) → (ℕ → Bool) → Program Look S → Type 0
+MatchesAllAreOneList member is_word p = (s : Search) (ms ms' : List Span)
+    → ProgramMatchesAll member is_word p s ms → ProgramMatchesAll member is_word p s ms' → ms ≡ ms'
+
+-- the first character of bytes is the one whose UTF-8 stands first in them
+abbrev pub FirstCharacterStands : Type 0
+FirstCharacterStands = (bytes : List ℕ) (c : ℕ) → (first_character bytes ≡ Some c) ↔ StandsFirst bytes c
 
 -- ---- threads
 

@@ -1,14 +1,52 @@
 //! Laws of walks and of what is found by them. Each function does nothing: its contract is the law.
 
-ghost use Rattle.rx_walks.specs.Laws.{BytesRefine, FindsAtMostOne, PathsAgree, PathsHaveWalks, ProgramsFind, SearchesFind, SearchesFindAll, StepsKeepBest, WalksAgree};
+ghost use Rattle.rx_walks.specs.Laws.{BytesRefine, FindsAllAtMostOne, FindsAtMostOne, FirstCharacterStands, MatchesAllAreOneList, MatchesAreOneList, PathsAgree, PathsHaveWalks, ProgramsFind, SearchesFind, SearchesFindAll, StepsKeepBest, WalksAgree, WalksTakeNoPairTwice};
 ghost use Rattle.rx_walks.specs.Machines.{Machine};
-ghost use Rattle.rx_walks.specs.Programs.{Node, Haystack};
+ghost use Rattle.rx_walks.specs.Programs.{Haystack, Node, Program};
+ghost use Rattle.rx_walks.specs.Looks.{Look};
 ghost use Rattle.rx_walks.specs.Bytes.{Automaton};
 ghost use Rattle.std.specs.Prelude.{ℕ, List, Option, Bool};
 
-/// There is at most one find.
-pub fn finds_at_most_one<Q, N>()
-    ensures { (m : Machine Q N) → FindsAtMostOne m }
+/// A walk is a path that takes no pair of node and place twice.
+pub fn walks_take_no_pair_twice<Q, N>()
+    ensures { (m : Machine Q N) → WalksTakeNoPairTwice m }
+{}
+
+/// In a content a program has at most one find.
+pub fn finds_at_most_one<S>()
+    ensures {
+        (member : S → ℕ → Bool) (is_word : ℕ → Bool) (p : Program Look S)
+        → FindsAtMostOne member is_word p
+    }
+{}
+
+/// And at most one where all matches are wanted.
+pub fn finds_all_at_most_one<S>()
+    ensures {
+        (member : S → ℕ → Bool) (is_word : ℕ → Bool) (p : Program Look S)
+        → FindsAllAtMostOne member is_word p
+    }
+{}
+
+/// In a content a program has at most one list of matches.
+pub fn matches_are_one_list<S>()
+    ensures {
+        (member : S → ℕ → Bool) (is_word : ℕ → Bool) (p : Program Look S)
+        → MatchesAreOneList member is_word p
+    }
+{}
+
+/// And at most one where all matches are wanted.
+pub fn matches_all_are_one_list<S>()
+    ensures {
+        (member : S → ℕ → Bool) (is_word : ℕ → Bool) (p : Program Look S)
+        → MatchesAllAreOneList member is_word p
+    }
+{}
+
+/// The first character of bytes, whatever they are, is the one whose UTF-8 stands first in them.
+pub fn first_character_stands()
+    ensures { FirstCharacterStands }
 {}
 
 /// One step from a place keeps the best walk.
