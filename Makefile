@@ -1,5 +1,5 @@
 # make          builds bin/rope-search, the proved program
-# make demo     runs it on examples/first.session and shows the input and the replies
+# make demo     gives it the commands of examples/first.session, and shows each with its reply
 # make test     the gate: every proof and test, then the tests of the built program
 # make edits    tries each edit of code that the prover must refuse: those of crates/NAME/must-fail,
 #               which the gate tries too, and those of crates/NAME/must-fail-more. CRATES='NAME ..'
@@ -32,10 +32,7 @@ $(program) bin/memory-tests: $(sources)
 	@cp crates/$(crate)/out/$(crate) $@.new && mv $@.new $@
 
 demo: $(program)
-	@echo '--- the input, $(session)'
-	@cat $(session)
-	@echo '--- the replies of $(program)'
-	@$(program) < $(session)
+	@examples/demo.py $(session) $(program)
 
 test:
 	@:$(need_rt)
