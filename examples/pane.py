@@ -5,31 +5,20 @@
 
 Up and Down move the file, Enter goes to the next line with a match, Escape or Ctrl-C leaves.
 """
-import codecs
-import os
-import re
-import select
-import sys
-import termios
-import tty
+import os, re, select, sys, termios, tty
 
 sys.dont_write_bytecode = True
 from client import PROGRAM, Client
 
 BREAK = re.compile("\r\n|[\n-\r\x85\u2028\u2029]")  # what stands between two lines
-KEY = re.compile("\x1b\\[.|[^\0]")
 
 
 def report(search, pattern):
     """The matches of a pattern, as pairs of columns by the number of their line, and what is told of them."""
-    if not pattern:
-        search.ask(b"off\n")
-        return {}, ""
-    reply = search.ask(b"pattern %d\n%b" % (len(pattern), pattern))
-    if reply != b"ok\n":
-        return {}, reply.decode().strip()
-    matches = {}
-    *found, count = search.ask(b"list\n").splitlines()
+    reply = search.ask(b"pattern %d\n%b" % (len(pattern), pattern) if pattern else b"off\n")
+    if reply != b"ok\n" or not pattern:
+        return {}, reply.decode().strip() if pattern else ""
+    matches, (*found, count) = {}, search.ask(b"list\n").splitlines()
     for match in found:
         line, start, end = map(int, match.split()[1:])
         matches.setdefault(line, []).append((start, end))
@@ -40,49 +29,44 @@ def highlighted(line, matches):
     """A line with its matches in reverse video. A column is a number of UTF-16 code units, of two bytes each."""
     units, at, out = line.encode("utf-16-le"), 0, ""
 
-    def part(low, high):
+    def shown(low, high):
         return "".join(c if c.isprintable() else "·" for c in units[2 * low : 2 * high].decode("utf-16-le"))
 
     for start, end in matches:
-        out += f"{part(at, start)}\x1b[7m{part(start, end)}\x1b[27m"
-        at = end
-    return out + part(at, len(units))
+        out, at = f"{out}{shown(at, start)}\x1b[7m{shown(start, end)}\x1b[27m", end
+    return out + shown(at, len(units))
 
 
 def draw(lines, top, typed, matches, told):
     """Shows the pattern and what is told of it, and below them the lines from `top` on."""
     out = f"\x1b[H\x1b[Ksearch: {typed}\x1b7   {told}"
-    for row in range(1, os.get_terminal_size(1).lines):
-        out += f"\x1b[{row + 1}H\x1b[K"
-        number = top + row - 1
-        if number < len(lines):
-            out += f"{number + 1:6}  {highlighted(lines[number], matches.get(number, []))}"
-    sys.stdout.write(out + "\x1b8")
-    sys.stdout.flush()
+    for row in range(os.get_terminal_size().lines - 1):
+        out += f"\x1b[{row + 2}H\x1b[K"
+        if top + row < len(lines):
+            out += f"{top + row + 1:6}  {highlighted(lines[top + row], matches.get(top + row, []))}"
+    print(out, end="\x1b8", flush=True)
 
 
 def run(search, lines):
     """Takes keys and shows what they do, until Escape, Ctrl-C, or the end of keys."""
-    decoder, top, typed, asked, matches, told = codecs.getincrementaldecoder("utf-8")("ignore"), 0, "", "", {}, ""
+    top, typed, asked, matches, told = 0, "", "", {}, ""
     while True:
         if not select.select([0], [], [], 0)[0]:  # nothing was typed meanwhile
             if typed != asked:
                 (matches, told), asked = report(search, typed.encode()), typed
-                if matches and not any(0 <= number - top < os.get_terminal_size(1).lines - 1 for number in matches):
-                    top = min(matches)
+                if not any(top <= line < top + os.get_terminal_size().lines - 1 for line in matches):
+                    top = min(matches, default=top)
             draw(lines, top, typed, matches, told)
         given = os.read(0, 1024)
-        for key in KEY.findall(decoder.decode(given)) if given else ["\x1b"]:
+        for key in re.findall(r"\x1b\[.|[\s\S]", given.decode(errors="ignore")) if given else ["\x1b"]:
             if key in ("\x1b", "\x03"):
                 return
             if key in ("\x1b[A", "\x1b[B"):
                 top = max(0, min(top + (1 if key == "\x1b[B" else -1), len(lines) - 1))
             elif key == "\r":
-                top = min((number for number in matches if number > top), default=top)
-            elif key == "\x7f":
-                typed = typed[:-1]
-            elif key.isprintable():
-                typed += key
+                top = min((line for line in matches if line > top), default=top)
+            else:
+                typed = typed[:-1] if key == "\x7f" else typed + key * key.isprintable()
 
 
 def main(path, program=PROGRAM):
@@ -95,11 +79,10 @@ def main(path, program=PROGRAM):
     sys.stdout.reconfigure(encoding="utf-8")
     try:
         tty.setraw(0)
-        sys.stdout.write("\x1b[?1049h\x1b[?7l")  # another screen, on which long lines are cut
+        print("\x1b[?1049h\x1b[?7l", end="")  # another screen, on which long lines are cut
         run(search, BREAK.split(data.decode()))
     finally:
-        sys.stdout.write("\x1b[?7h\x1b[?1049l")
-        sys.stdout.flush()
+        print("\x1b[?7h\x1b[?1049l", end="", flush=True)
         termios.tcsetattr(0, termios.TCSADRAIN, before)
         search.close()
 

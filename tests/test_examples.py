@@ -1,5 +1,5 @@
-"""The examples: the session that `make demo` shows, which the README has too, and the search pane, run in a
-terminal of its own."""
+"""The examples: the session that `make demo` shows, which README.md has too, and the search
+pane, run in a terminal of its own."""
 import fcntl
 import os
 import pty
@@ -106,6 +106,11 @@ def test_pane():
     pane.shows(b"     1  x")
     pane.type("\x03")
     test("Ctrl-C leaves, with the terminal as it was", pane.end())
+
+    pane = Pane(b"a\x1b[31mb\n")
+    shown = pane.shows("     1  a·[31mb".encode())
+    pane.type("\x1b")
+    test("the pane gives the terminal no control characters of a file", ([] if shown else ["it does"]) + list(pane.end()))
 
     pane = Pane("".join(f"line {number} é\n" for number in range(50000)).encode())
     pane.shows(b"     1  line")
