@@ -2,7 +2,7 @@
 use Rattle.std.proofs.Common.{◌≡◌, length, take}
 use Rattle.rope_search_io.specs.ReadBuffer.{Takes}
 use Rattle.rope_search.specs.Reads.{HasNoLf}
-use Rattle.rope_search.proofs.lines.read_line.Given as goal
+use Rattle.rope_search.proofs.command_lines.read_line.Given as goal
 
 abbrev pub invariant-loop-len : goal.invariant-loop-len
 invariant-loop-len g l =

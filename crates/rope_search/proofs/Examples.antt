@@ -1,5 +1,6 @@
 -- What the definitions say of a few small lines and sessions, each by computation.
-use Rattle.std.specs.Prelude.{◌≡◌, ℕ, List, [], ◌∷◌, Ok, Err, true, false, map, codes, refl}
+use Rattle.std.proofs.Common.{◌≡◌, ℕ, List, [], ◌∷◌, true, false, map, codes, refl}
+use Rattle.std.specs.Prelude.{Ok, Err}
 use Rattle.std.specs.Fmt.{digits}
 use Rattle.std.proofs.Math.Utf8.{encode}
 use Rattle.rope_search_io.specs.declared.faults.Fault.TheVariants.{Nothing, Utf8, Pattern, Limit, Size, Memory}
