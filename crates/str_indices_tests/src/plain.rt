@@ -1,7 +1,7 @@
 //! The same answers by plain loops over the characters.
 
 #[derive(Clone, Copy)]
-pub(super) enum Breaks {
+pub(crate) enum Breaks {
     Unicode,
     Crlf,
     Lf,
@@ -20,7 +20,7 @@ fn ends_break(c: char, next: Option<char>, breaks: Breaks) -> bool {
 }
 
 /// How many breaks end at or before a byte.
-pub(super) fn line_of(text: &str, byte_idx: usize, breaks: Breaks) -> usize {
+pub(crate) fn line_of(text: &str, byte_idx: usize, breaks: Breaks) -> usize {
     let mut count: usize = 0;
     let mut before = None;
     for (at, c) in text.char_indices() {
@@ -42,7 +42,7 @@ pub(super) fn line_of(text: &str, byte_idx: usize, breaks: Breaks) -> usize {
 }
 
 /// Where a line starts.
-pub(super) fn start_of_line(text: &str, line_idx: usize, breaks: Breaks) -> usize {
+pub(crate) fn start_of_line(text: &str, line_idx: usize, breaks: Breaks) -> usize {
     let mut left = line_idx;
     let mut before = None;
     for (at, c) in text.char_indices() {
@@ -62,12 +62,12 @@ pub(super) fn start_of_line(text: &str, line_idx: usize, breaks: Breaks) -> usiz
     if left == 0 { 0 } else { text.len() }
 }
 
-pub(super) fn units_of(c: char) -> usize {
+pub(crate) fn units_of(c: char) -> usize {
     if c < '\u{10000}' { 1 } else { 2 }
 }
 
 /// How many characters and units end at or before a byte.
-pub(super) fn chars_and_units_to(text: &str, byte_idx: usize) -> (usize, usize) {
+pub(crate) fn chars_and_units_to(text: &str, byte_idx: usize) -> (usize, usize) {
     let mut chars: usize = 0;
     let mut units: usize = 0;
     for (at, c) in text.char_indices() {
@@ -80,7 +80,7 @@ pub(super) fn chars_and_units_to(text: &str, byte_idx: usize) -> (usize, usize) 
 }
 
 /// Where the character starts that has an index.
-pub(super) fn start_of_char(text: &str, char_idx: usize) -> usize {
+pub(crate) fn start_of_char(text: &str, char_idx: usize) -> usize {
     let mut left = char_idx;
     for (at, _) in text.char_indices() {
         if left == 0 {
@@ -92,7 +92,7 @@ pub(super) fn start_of_char(text: &str, char_idx: usize) -> usize {
 }
 
 /// Where the character starts that holds a unit.
-pub(super) fn start_of_unit(text: &str, utf16_idx: usize) -> usize {
+pub(crate) fn start_of_unit(text: &str, utf16_idx: usize) -> usize {
     let mut left = utf16_idx;
     for (at, c) in text.char_indices() {
         if left < units_of(c) {
@@ -101,4 +101,24 @@ pub(super) fn start_of_unit(text: &str, utf16_idx: usize) -> usize {
         left = left.wrapping_sub(units_of(c));
     }
     text.len()
+}
+
+/// Where the first break starts and ends.
+pub(crate) fn first_break(text: &str, breaks: Breaks) -> Option<(usize, usize)> {
+    let mut before = None;
+    for (at, c) in text.char_indices() {
+        if before == Some('\r') && is_break('\r', breaks) {
+            let end = at.wrapping_add((c == '\n') as usize);
+            return Some((at.wrapping_sub(1), end));
+        }
+        if c != '\r' && is_break(c, breaks) {
+            return Some((at, at.wrapping_add(c.len_utf8())));
+        }
+        before = Some(c);
+    }
+    let len = text.len();
+    if before == Some('\r') && is_break('\r', breaks) {
+        return Some((len.wrapping_sub(1), len));
+    }
+    None
 }

@@ -1,6 +1,7 @@
 -- Worked examples of the definitions.
-use Rattle.std.specs.Prelude.{◌≡◌, [], ◌∷◌, refl}
-use Rattle.str_indices.specs.Text.{is_line_break, is_crlf_break, is_lf_break, char_ends, break_ends, breaks, unit_ends, unit_starts, units, surrogate_pairs, ends_up_to, end_place}
+use Rattle.std.specs.Prelude.{◌≡◌, false, [], ◌∷◌, refl}
+use Rattle.str_indices.specs.FirstBreak.{IsBreak}
+use Rattle.str_indices.specs.Text.{is_line_break, is_crlf_break, is_lf_break, ends_break, char_ends, break_ends, breaks, unit_ends, unit_starts, units, surrogate_pairs, ends_up_to, end_place}
 
 -- `a`, CR, LF, U+2028, CR
 mixed_ends : break_ends is_line_break (0x61 ∷ 13 ∷ 10 ∷ 0x2028 ∷ 13 ∷ []) ≡ 3 ∷ 6 ∷ 7 ∷ []
@@ -48,3 +49,13 @@ second_place = refl
 
 place_past_last : end_place (3 ∷ 6 ∷ 7 ∷ []) 4 9 ≡ 9
 place_past_last = refl
+
+-- `a`, CR, LF, `b`: CR LF is the first break by both sets that have CR, and LF alone by the third
+one_break_of_two : IsBreak is_line_break (13 ∷ 10 ∷ []) (0x62 ∷ [])
+one_break_of_two = (refl, refl, refl, refl)
+
+no_break_at_cr : ends_break is_line_break 13 (10 ∷ 0x62 ∷ []) ≡ false
+no_break_at_cr = refl
+
+lf_alone : IsBreak is_lf_break (10 ∷ []) (0x62 ∷ [])
+lf_alone = refl

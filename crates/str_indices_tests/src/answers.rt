@@ -1,9 +1,6 @@
 //! Answers that are known from outside, each public function among them.
 
-mod kernels;
-mod plain;
-
-use crate::{chars, lines, lines_crlf, lines_lf, utf16};
+use str_indices::{chars, lines, lines_crlf, lines_lf, utf16};
 
 const LINES: &str = "Here\r\nare\r\nsome\r\nwords";
 
@@ -50,6 +47,21 @@ fn each_kind_of_break(rt: HostRuntime) {
     assert_eq!(rt; lines::count_breaks("¥©ˆ…\u{2027}\u{202A}"), 0);
     assert_eq!(rt; lines::from_byte_idx("\r\n", 1), 0);
     assert_eq!(rt; lines::from_byte_idx("\r\n", 2), 1);
+}
+
+#[test]
+fn break_that_comes_first(rt: HostRuntime) {
+    let mixed = "ab\r\nc\u{2028}\r";
+    assert_eq!(rt; lines::first_break(mixed), Some(2..4));
+    assert_eq!(rt; lines_crlf::first_break(mixed), Some(2..4));
+    assert_eq!(rt; lines_lf::first_break(mixed), Some(3..4));
+    assert_eq!(rt; lines::first_break("é\u{2028}\n"), Some(2..5));
+    assert_eq!(rt; lines_crlf::first_break("é\u{2028}\n"), Some(5..6));
+    assert_eq!(rt; lines::first_break("\u{85}"), Some(0..2));
+    assert_eq!(rt; lines::first_break("\r"), Some(0..1));
+    assert_eq!(rt; lines::first_break("\r\r\n"), Some(0..1));
+    assert_eq!(rt; lines_lf::first_break("\r"), None);
+    assert_eq!(rt; lines::first_break(""), None);
 }
 
 #[test]
