@@ -1,8 +1,10 @@
-"""The examples: the session that `make demo` shows, which README.md has too, and the search
+"""The examples: the session that `make demo` shows, which README.md has too, the code there, and the search
 pane, run in a terminal of its own."""
 import fcntl
+import glob
 import os
 import pty
+import re
 import select
 import signal
 import struct
@@ -31,6 +33,25 @@ def test_demo():
     with open(os.path.join(TOP, "README.md"), encoding="utf-8") as file:
         block = "".join(f"    {line}".rstrip() + "\n" for line in shown.splitlines())
         test("README.md shows the demo's session", [] if block in file.read() else ["it shows another"])
+
+
+def test_code():
+    """Each block of code of README.md stands in a test that the gate runs."""
+
+    def bare(text):
+        return "\n".join(line.strip() for line in text.splitlines())
+
+    tests = []
+    for form in ("*_tests/src/*.rt", "*/src/tests.rt"):
+        for path in glob.glob(os.path.join(TOP, "crates", form)):
+            with open(path, encoding="utf-8") as file:
+                tests.append(bare(file.read()))
+    with open(os.path.join(TOP, "README.md"), encoding="utf-8") as file:
+        blocks = re.findall(r"```rust\n(.*?)\n```", file.read(), re.DOTALL)
+    for block in blocks:
+        stands = any(bare(block) in lines for lines in tests)
+        test(f"README.md's {block.splitlines()[0]!r} is in a test", [] if stands else ["it is in none"])
+    test("README.md has code", [] if len(blocks) >= 2 else [f"{len(blocks)} blocks"])
 
 
 class Pane:
@@ -133,4 +154,5 @@ def test_pane():
 
 def test_all():
     test_demo()
+    test_code()
     test_pane()
