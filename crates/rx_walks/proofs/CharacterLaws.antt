@@ -14,7 +14,7 @@ take_drop zero bs = refl
 take_drop (suc k) [] = refl
 take_drop (suc k) (b ∷ bs) = ap (λ xs. b ∷ xs) (take_drop k bs)
 
-both : (a b : Bool) → (a && b) ≡ true → (a ≡ true) × (b ≡ true)
+pub both : (a b : Bool) → (a && b) ≡ true → (a ≡ true) × (b ≡ true)
 both true b e = (refl, e)
 both false b e = absurd (cc e)
 

@@ -107,3 +107,15 @@ ProgramsFind {L} {S} {N} put member step nodes holds = (s : Search) (fresh : ℕ
     → ReadsMembers (first_by member) step
     → Searches (over_bytes put step nodes (haystack_of holds s)) (Begins s) fresh (q, 0) s.start [] None out
     → IsFind (over_characters put (first_by member) nodes (haystack_of holds s)) fresh s q out
+
+-- without a cut it finds the greatest end of what its characters have
+abbrev pub ProgramsFindAll : {L S N : Type 0} → (ℕ → ℕ → N → N) → (S → ℕ → Bool) → (S → Automaton) → List (Node L S) → (L → ℕ → Bool) → Type 0
+ProgramsFindAll {L} {S} {N} put member step nodes holds = (s : Search) (fresh : ℕ → N) (q : ℕ) (out : Option Span)
+    → ReadsMembers (first_by member) step
+    → SearchesAll (over_bytes put step nodes (haystack_of holds s)) (Begins s) (q, 0) s.start [] None out
+    → IsFindAll (over_characters put (first_by member) nodes (haystack_of holds s)) fresh s q out
+
+-- both machines of a program read forward
+pub record ProgramsReadForward {L S N : Type 0} (put : ℕ → ℕ → N → N) (member : S → ℕ → Bool) (step : S → Automaton) (nodes : List (Node L S)) (h : Haystack L) : Type 0 where
+  pub characters : IsForward (over_characters put (first_by member) nodes h)
+  pub bytes : IsForward (over_bytes put step nodes h)
