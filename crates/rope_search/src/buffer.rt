@@ -57,7 +57,7 @@ impl Buffer {
         Ok(Buffer {
             alloc,
             limits,
-            text: Rope::new(),
+            text: Rope::new(alloc),
             search: None,
         })
     }

@@ -5,7 +5,7 @@ use std::test::Fail;
 
 /// Whether this is a buffer's text.
 fn has_text(alloc: Global, buffer: &Buffer, expected: &str) -> bool {
-    match buffer.text().to_text(alloc) {
+    match buffer.text().to_text() {
         Ok(text) => text.as_str() == expected,
         Err(_) => false,
     }
