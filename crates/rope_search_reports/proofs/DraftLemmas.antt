@@ -4,8 +4,7 @@ use Rattle.std.specs.Str.{NonePass}
 use Rattle.std.proofs.Math.Utf8.{encode}
 use Rattle.std.proofs.lemmas.List.Folds.{concat-append}
 use Rattle.std.proofs.lemmas.Str.{encodes-append, length-encode, len_utf8_bounds}
-use Rattle.str_indices.specs.Text.{is_line_break, starts_with_lf, breaks}
-use Rattle.str_indices.specs.Laws.{byte_len, ends_with_cr}
+use Rattle.str_indices.specs.Text.{is_line_break, starts_with_lf, breaks, byte_len, ends_with_cr}
 use Rattle.ropey.specs.Chunks.{IsPiece, IsCutting}
 use Rattle.ropey.specs.Chunks.{text_of, ShowsChunk}
 use Rattle.ropey.specs.Laws.{CutsNoCrLf, NextChunkFollows, IsNextChunk}

@@ -8,8 +8,7 @@ use Rattle.std.proofs.lemmas.List.{length-replicate, length-take-le, take_more}
 use Rattle.std.proofs.lemmas.Str.{IsUtf8-take, IsUtf8-past_char, IsCharBoundary-at_seam, chars-append, chars-nil, chars_past_char, encodes-chars, encodes-append, encodes_same, encode_ascii}
 use Rattle.std.specs.Char.{len_utf8}
 use Rattle.std.specs.Str.{NonePass, IsCharBoundary}
-use Rattle.str_indices.specs.Text.{is_line_break, ends_break, starts_with_lf, ends_from, breaks}
-use Rattle.str_indices.specs.Laws.{ends_with_cr}
+use Rattle.str_indices.specs.Text.{is_line_break, ends_break, starts_with_lf, ends_from, breaks, ends_with_cr}
 use Rattle.rope_search_reports.specs.Text.{bytes_of}
 use Rattle.rope_search_reports.specs.Report.{with_first, line_texts}
 use Rattle.rope_search_reports.specs.LineCuts.{is_stop, BeginsWithBreak, BeginsWithLine}

@@ -1,8 +1,7 @@
 -- Words of the code that cuts a text into lines, for its own contracts.
 use Rattle.std.specs.Prelude.{◌≡◌, ℕ, Bool, false, ◌&&◌, ◌||◌, nat_le, List, [], ◌∷◌, ◌++◌, Option, None, Some, chars}
 use Rattle.std.specs.Str.{NonePass}
-use Rattle.str_indices.specs.Text.{is_line_break, starts_with_lf}
-use Rattle.str_indices.specs.Laws.{ends_with_cr}
+use Rattle.str_indices.specs.Text.{is_line_break, starts_with_lf, ends_with_cr}
 use Rattle.rope_search_reports.specs.Report.{line_texts}
 
 -- a byte at which a line may end: LF, VT, FF or CR, or a byte of a character that has several

@@ -5,8 +5,8 @@ use Rattle.std.specs.Str.{IsUtf8, chars}
 use Rattle.std.proofs.lemmas.List.{append-nil}
 use Rattle.std.proofs.lemmas.List.Folds.{concat-append}
 use Rattle.std.proofs.lemmas.Str.{encodes-chars, scalars-chars, length-le-encodes}
-use Rattle.str_indices.specs.Text.{char_ends, unit_ends, unit_starts, break_ends, ends_up_to, end_place, units}
-use Rattle.str_indices.specs.Laws.{byte_len, ends_with_cr, NoCrLfBetween, AnyTexts, EndsAddUp, PlacesAddUp, UnitStartsAddUp, RisesWithPlace, NoMoreThanBytes, EndsAreBoundaries, UnitStartsAreBoundaries}
+use Rattle.str_indices.specs.Text.{char_ends, unit_ends, unit_starts, break_ends, ends_up_to, end_place, units, byte_len, ends_with_cr, NoCrLfBetween}
+use Rattle.str_indices.specs.Laws.{AnyTexts, EndsAddUp, PlacesAddUp, UnitStartsAddUp, RisesWithPlace, NoMoreThanBytes, EndsAreBoundaries, UnitStartsAreBoundaries}
 use Rattle.ropey_tree.specs.declared.counts.Counts.{Counts}
 use Rattle.ropey_tree.specs.declared.counts.By.TheVariants.{Bytes, Chars, Units, Breaks}
 use Rattle.ropey_tree.specs.Counts.{counts_of}

@@ -3,8 +3,7 @@ use Rattle.std.specs.Prelude.{◌≡◌, ℕ, ◌<◌, ◌≤◌, ◌⊎◌, Lis
 use Rattle.std.specs.List.{concat, flat_map}
 use Rattle.std.specs.Str.{chars}
 use Rattle.std.specs.Borrow.{Bor}
-use Rattle.str_indices.specs.Text.{breaks}
-use Rattle.str_indices.specs.Laws.{byte_len}
+use Rattle.str_indices.specs.Text.{breaks, byte_len}
 -- how a rope is cut, in the words of the tree
 pub use Rattle.ropey_tree.specs.Cutting.{IsPiece, IsCutting, IsText}
 -- which characters break its lines

@@ -1,7 +1,6 @@
 -- Places in a text by byte, character, UTF-16 code unit and line, each counted from 0.
 use Rattle.std.specs.Prelude.{ℕ, List, slice_index_or}
-use Rattle.str_indices.specs.Text.{char_ends, unit_ends, unit_starts, break_ends, ends_up_to, end_place}
-use Rattle.str_indices.specs.Laws.{byte_len}
+use Rattle.str_indices.specs.Text.{char_ends, unit_ends, unit_starts, break_ends, ends_up_to, end_place, byte_len}
 use Rattle.ropey.specs.Chunks.{is_break}
 
 -- how many characters end at or before a byte index: inside a character, that character

@@ -7,7 +7,7 @@
 
 ghost use Rattle.std.specs.Prelude.{◌≡◌, ◌+◌, ◌<◌, ◌≤◌, length, OkIff, IfErr, MatchResult};
 ghost use Rattle.str_indices.specs.Text.{units};
-ghost use Rattle.str_indices.specs.Laws.{byte_len};
+ghost use Rattle.str_indices.specs.Text.{byte_len};
 ghost use Rattle.ropey.specs.Chunks.{text_of, line_breaks};
 ghost use Rattle.ropey.specs.Conversions.{char_of_byte, unit_of_byte, line_of_byte, byte_of_char, byte_of_unit, byte_of_line};
 

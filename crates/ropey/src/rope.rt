@@ -5,7 +5,7 @@ ghost use Rattle.std.specs.Str.{chars, IsUtf8};
 ghost use Rattle.std.specs.Iterator.{Drains, IsFiniteIterable, Yields};
 ghost use Rattle.std.specs.Borrow.{Bor};
 ghost use Rattle.str_indices.specs.Text.{units};
-ghost use Rattle.str_indices.specs.Laws.{byte_len};
+ghost use Rattle.str_indices.specs.Text.{byte_len};
 ghost use Rattle.ropey_tree.specs.Counts.{counts_of};
 ghost use Rattle.ropey_tree.specs.Cutting.{IsText};
 ghost use Rattle.ropey_tree.specs.Nodes.{AreNodes, all_pieces};

@@ -2,7 +2,7 @@
 
 ghost use Rattle.std.specs.Prelude.{◌≡◌, ◌+◌, ◌^◌, ◌≤◌, ◌⊎◌, ◌↔◌, [], ◌++◌, length, Err, OnErr, OnOk, IfOk, IfErr};
 ghost use Rattle.std.specs.Str.{chars};
-ghost use Rattle.str_indices.specs.Laws.{byte_len};
+ghost use Rattle.str_indices.specs.Text.{byte_len};
 ghost use Rattle.ropey.specs.Chunks.{text_of};
 
 use crate::rope::{MAX_TEXT_BYTES, Rope};
@@ -22,7 +22,7 @@ pub struct RopeBuilder {
 
 impl Model for RopeBuilder {
     ghost use Rattle.std.specs.Prelude.{◌≡◌, List, ℕ, ◌<◌, ◌^◌};
-    ghost use Rattle.str_indices.specs.Laws.{byte_len};
+    ghost use Rattle.str_indices.specs.Text.{byte_len};
 
     ghost Value = { List ℕ };
 

@@ -3,8 +3,8 @@ use Rattle.std.proofs.Common.{◌≡◌, ℕ, ◌+◌, ◌≤◌, false, cond, �
 use Rattle.std.proofs.lemmas.List.{append-nil}
 use Rattle.std.proofs.lemmas.Str.{encodes-append}
 use Rattle.std.specs.List.{concat}
-use Rattle.str_indices.specs.Text.{breaks, units, starts_with_lf}
-use Rattle.str_indices.specs.Laws.{byte_len, ends_with_cr, LosesBreakInCrLf, AddsUp}
+use Rattle.str_indices.specs.Text.{breaks, units, starts_with_lf, byte_len, ends_with_cr}
+use Rattle.str_indices.specs.Laws.{LosesBreakInCrLf, AddsUp}
 use Rattle.ropey_tree.specs.Breaks.{is_break}
 use Rattle.ropey_tree.specs.Counts.{total, plus, counts_of}
 use Rattle.ropey_tree.specs.Cutting.{IsPiece, IsCutting, cuts_cr_lf}

@@ -1,7 +1,6 @@
 -- What texts count, in the four measures: bytes of UTF-8, characters, UTF-16 code units and line breaks.
 use Rattle.std.specs.Prelude.{ℕ, ◌+◌, List, length, sum_by}
-use Rattle.str_indices.specs.Text.{breaks, units}
-use Rattle.str_indices.specs.Laws.{byte_len}
+use Rattle.str_indices.specs.Text.{breaks, units, byte_len}
 use Rattle.ropey_tree.specs.Breaks.{is_break}
 use Rattle.ropey_tree.specs.declared.counts.Counts.{Counts}
 use Rattle.ropey_tree.specs.declared.counts.By.{By}

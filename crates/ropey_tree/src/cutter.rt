@@ -3,7 +3,7 @@
 ghost use Rattle.std.specs.Prelude.{◌≡◌, ◌≤◌, ◌++◌, [], IfOk, OnOk, OnErr};
 ghost use Rattle.std.specs.List.{concat};
 ghost use Rattle.std.specs.Str.{chars};
-ghost use Rattle.str_indices.specs.Laws.{byte_len};
+ghost use Rattle.str_indices.specs.Text.{byte_len};
 ghost use Rattle.ropey_tree.specs.Cutting.{IsCutting, IsPiece};
 ghost use Rattle.ropey_tree.specs.Nodes.{AreNodes, all_pieces, leaf_view};
 ghost use Rattle.ropey_tree.specs.Siblings.{views};

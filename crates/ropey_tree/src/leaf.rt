@@ -3,7 +3,7 @@
 ghost use Rattle.std.specs.Prelude.{◌≡◌, ◌+◌, ◌<◌, ◌≤◌, ◌⊎◌, ◌++◌, [], length, take, drop, true, false, encode_utf8_all};
 ghost use Rattle.std.specs.Str.{chars, IsCharBoundary};
 ghost use Rattle.str_indices.specs.Text.{starts_with_lf};
-ghost use Rattle.str_indices.specs.Laws.{byte_len, ends_with_cr};
+ghost use Rattle.str_indices.specs.Text.{byte_len, ends_with_cr};
 ghost use Rattle.ropey_tree.specs.Counts.{counts_of};
 ghost use Rattle.ropey_tree.specs.Cutting.{IsPiece, cuts_cr_lf};
 
@@ -69,7 +69,7 @@ pub struct LeafBuffer {
 impl Model for LeafBuffer {
     ghost use Rattle.std.specs.Prelude.{◌≡◌, ℕ, ◌<◌, ◌⊎◌, List, length, false};
     ghost use Rattle.std.specs.Str.{chars};
-    ghost use Rattle.str_indices.specs.Laws.{ends_with_cr};
+    ghost use Rattle.str_indices.specs.Text.{ends_with_cr};
 
     ghost Value = { List ℕ };
 

@@ -7,7 +7,7 @@
 ghost use Rattle.std.specs.Prelude.{◌≡◌, ◌+◌, ◌<◌, ◌^◌, ◌++◌, IfOk, true};
 ghost use Rattle.std.specs.List.{concat};
 ghost use Rattle.str_indices.specs.Text.{starts_with_lf};
-ghost use Rattle.str_indices.specs.Laws.{ends_with_cr};
+ghost use Rattle.str_indices.specs.Text.{ends_with_cr};
 ghost use Rattle.ropey_tree.specs.Counts.{total};
 ghost use Rattle.ropey_tree.specs.Splits.{pieces_in};
 

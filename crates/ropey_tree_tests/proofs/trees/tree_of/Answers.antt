@@ -1,6 +1,6 @@
 use Rattle.std.proofs.Common.{length, ap, arith}
 use Rattle.std.proofs.lemmas.Str.{encodes-chars}
-use Rattle.str_indices.specs.Laws.{byte_len}
+use Rattle.str_indices.specs.Text.{byte_len}
 use Rattle.ropey_tree.specs.Nodes.{all_pieces}
 use Rattle.ropey_tree.specs.Siblings.{views}
 use Rattle.ropey_tree_tests.proofs.trees.tree_of.Goals as goal

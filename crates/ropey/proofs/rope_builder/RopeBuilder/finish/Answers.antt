@@ -1,5 +1,5 @@
 use Rattle.std.proofs.Common.{ap, arith}
-use Rattle.str_indices.specs.Laws.{byte_len}
+use Rattle.str_indices.specs.Text.{byte_len}
 use Rattle.ropey_tree.specs.Nodes.{all_pieces}
 use Rattle.ropey_tree.specs.Siblings.{views}
 use Rattle.ropey.proofs.Cuts.{bytes-concat}

@@ -1,7 +1,7 @@
 use Rattle.std.proofs.Common.{◌≡◌, ◌+◌, ◌++◌, inl, inr, length, take, ap, sym, ◌∙◌, arith}
 use Rattle.std.specs.Str.{chars, IsUtf8}
 use Rattle.std.proofs.lemmas.Str.{encodes-chars}
-use Rattle.str_indices.specs.Laws.{byte_len}
+use Rattle.str_indices.specs.Text.{byte_len}
 use Rattle.ropey_tree.proofs.Filling.{is_filled}
 use Rattle.ropey_tree.proofs.Splitting.{slice_front}
 use Rattle.ropey_tree.proofs.leaf.LeafBuffer.fill.Goals as goal
