@@ -15,3 +15,5 @@ pub mod PatternLaws
 pub mod ShorterLaws
 pub mod StackLaws
 pub mod PlaceLaws
+pub mod SubtreeLaws
+pub mod WellFormedLaws

@@ -6,7 +6,8 @@ use Rattle.std.proofs.lemmas.List.Elements.{All-more}
 use Rattle.std.proofs.lemmas.List.Quantifiers.{all_pairs_push}
 use Rattle.std.proofs.lemmas.List.Concat.{flat_map-append}
 use Rattle.rx_grammar.specs.Trees.{Name, Tree, empty, in_a_row, concat_of, names_of, all_names_of}
-use Rattle.rx_grammar.specs.Postorder.{NodeKind, an_empty, a_set, a_look, a_group, a_concat, an_alternation, a_repetition, alternate, after_node, after_nodes, trees_of, tree_of, own_names, names_in}
+use Rattle.rx_grammar.specs.Subtrees.{NodeKind, an_empty, a_set, a_look, a_group, a_concat, an_alternation, a_repetition}
+use Rattle.rx_grammar.specs.Postorder.{alternate, after_node, after_nodes, trees_of, own_names, names_in}
 use Rattle.rx_grammar.specs.declared.hir.Node.{Node}
 use Rattle.rx_grammar.specs.Nodes.{kind_of}
 use Rattle.rx_grammar.proofs.HeadLaws.{front_apart as AllPairs-behind}
@@ -65,8 +66,8 @@ after_nodes-names trees (node ∷ nodes) =
     ∙ append_assoc (row_names trees) (own_names node) (names_in nodes)
 
 -- nodes that make one tree name what it names
-pub names_in-tree : (nodes : List NodeKind) → trees_of nodes ≡ tree_of nodes ∷ [] → names_in nodes ≡ names_of (tree_of nodes)
-names_in-tree nodes one = sym (after_nodes-names [] nodes) ∙ ap row_names one ∙ append-nil (names_of (tree_of nodes))
+pub names_in-tree : {tree : Tree} (nodes : List NodeKind) → trees_of nodes ≡ tree ∷ [] → names_in nodes ≡ names_of tree
+names_in-tree {tree = tree} nodes one = sym (after_nodes-names [] nodes) ∙ ap row_names one ∙ append-nil (names_of tree)
 
 -- names that are read one by one
 pub record NamesSoFar (names : List Name) (nodes : List Node) : Type 0 where

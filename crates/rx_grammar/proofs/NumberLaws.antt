@@ -5,7 +5,8 @@ use Rattle.std.proofs.lemmas.List.{reverse-append, take-append-drop, map_more}
 use Rattle.rx_grammar.specs.declared.hir.Node.{Node}
 use Rattle.rx_grammar.specs.Settings.{Settings}
 use Rattle.rx_grammar.specs.Trees.{Tree, in_a_row, concat_of, alternation_of, numbers_of, all_numbers_of}
-use Rattle.rx_grammar.specs.Postorder.{NodeKind, an_empty, a_set, a_look, a_group, a_concat, an_alternation, a_repetition, alternate, after_node, after_nodes, trees_of, tree_of, own_groups}
+use Rattle.rx_grammar.specs.Subtrees.{NodeKind, an_empty, a_set, a_look, a_group, a_concat, an_alternation, a_repetition}
+use Rattle.rx_grammar.specs.Postorder.{alternate, after_node, after_nodes, trees_of, own_groups}
 use Rattle.rx_grammar.specs.Nodes.{kind_of}
 use Rattle.rx_grammar.specs.Repetitions.{Postfixes, ended as no_more, further}
 use Rattle.rx_grammar.specs.Groups.{numbered, unnumbered}
@@ -79,10 +80,10 @@ after_nodes-groups trees [] = omega arith
 after_nodes-groups trees (node ∷ nodes) = omega (arith, after_nodes-groups (after_node trees node) nodes, after_node-groups trees node)
 
 -- nodes that make one tree are as many groups as it has
-pub groups_in-tree : (nodes : List NodeKind) → trees_of nodes ≡ tree_of nodes ∷ [] → groups_in nodes ≡ length (numbers_of (tree_of nodes))
-groups_in-tree nodes one =
+pub groups_in-tree : {tree : Tree} (nodes : List NodeKind) → trees_of nodes ≡ tree ∷ [] → groups_in nodes ≡ length (numbers_of tree)
+groups_in-tree {tree = tree} nodes one =
     let all : groups_of (trees_of nodes) ≡ 0 + groups_in nodes = after_nodes-groups [] nodes in
-    let here : groups_of (trees_of nodes) ≡ length (numbers_of (tree_of nodes)) + 0 = ap groups_of one in
+    let here : groups_of (trees_of nodes) ≡ length (numbers_of tree) + 0 = ap groups_of one in
     omega (arith, all, here)
 
 groups_in-append : (xs ys : List NodeKind) → groups_in (xs ++ ys) ≡ groups_in xs + groups_in ys

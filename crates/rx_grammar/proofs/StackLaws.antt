@@ -1,14 +1,15 @@
 -- The trees that nodes make.
 use Rattle.std.proofs.Common.{◌≡◌, ℕ, ◌+◌, ◌-◌, ◌≤◌, Bool, List, [], ◌∷◌, ◌++◌, length, take, drop, map, reverse, Some, None, refl, sym, ap, ap₂, subst, ◌∙◌, arith, length-append, length-drop}
-use Rattle.std.proofs.lemmas.List.{take_at, drop_at, reverse-reverse, length-reverse, map-append}
+use Rattle.std.proofs.lemmas.List.{take_at, drop_at, reverse-reverse, length-reverse}
 use Rattle.rx_grammar.specs.declared.hir.Node.{Node}
 use Rattle.rx_grammar.specs.declared.hir.Node.TheVariants as node
 use Rattle.rx_grammar.specs.declared.groups.GroupKind.{GroupKind}
 use Rattle.rx_grammar.specs.declared.groups.GroupKind.TheVariants.{Numbered, Unnumbered}
 use Rattle.rx_grammar.specs.declared.hir.Repetition.{Repetition}
 use Rattle.rx_grammar.specs.Trees.{Tree, empty, repeated}
-use Rattle.rx_grammar.specs.Postorder.{NodeKind, an_empty, a_set, a_look, a_group, a_concat, an_alternation, a_repetition, after_node, after_nodes, trees_of}
-use Rattle.rx_grammar.specs.Nodes.{kind_of, trees_in}
+use Rattle.rx_grammar.specs.Subtrees.{NodeKind, an_empty, a_set, a_look, a_group, a_concat, an_alternation, a_repetition}
+use Rattle.rx_grammar.specs.Postorder.{after_node, after_nodes, trees_of}
+use Rattle.rx_grammar.specs.Nodes.{kind_of}
 use Rattle.rx_grammar.specs.Input.{Stops}
 use Rattle.rx_grammar.specs.Repetitions.{Postfix, NoPostfix, Postfixes, is_postfix_start}
 use Rattle.rx_grammar.specs.Repetitions as repetitions
@@ -21,9 +22,8 @@ after_nodes-append : (trees : List Tree) (xs ys : List NodeKind) → after_nodes
 after_nodes-append trees [] ys = refl
 after_nodes-append trees (x ∷ xs) ys = after_nodes-append (after_node trees x) xs ys
 
-pub trees_in-push : (nodes all : List Node) (node : Node) → all ≡ nodes ++ node ∷ [] → trees_in all ≡ after_node (trees_in nodes) (kind_of node)
-trees_in-push nodes all node e =
-    ap trees_in e ∙ ap trees_of (map-append kind_of nodes (node ∷ [])) ∙ after_nodes-append [] (map kind_of nodes) (kind_of node ∷ [])
+pub trees_of-push : (nodes : List NodeKind) (node : NodeKind) → trees_of (nodes ++ node ∷ []) ≡ after_node (trees_of nodes) node
+trees_of-push nodes node = after_nodes-append [] nodes (node ∷ [])
 
 -- a node makes at most one tree more
 length-after_node : (trees : List Tree) (node : NodeKind) → length (after_node trees node) ≤ length trees + 1
@@ -45,8 +45,8 @@ kinds_length : (nodes : List Node) → length (map kind_of nodes) ≡ length nod
 kinds_length [] = refl
 kinds_length (x ∷ xs) = omega (arith, kinds_length xs)
 
-pub length-trees_in : (nodes : List Node) → length (trees_in nodes) ≤ length nodes
-length-trees_in nodes = omega (arith, length-after_nodes [] (map kind_of nodes), kinds_length nodes)
+pub length-trees_of : (nodes : List Node) → length (trees_of (map kind_of nodes)) ≤ length nodes
+length-trees_of nodes = omega (arith, length-after_nodes [] (map kind_of nodes), kinds_length nodes)
 
 -- the last trees, as they stand in a row
 front_taken : (items below : List Tree) → reverse (take (length items) (reverse items ++ below)) ≡ items
@@ -72,9 +72,6 @@ pub joined_one : (f : List Tree → Tree) → ((h : Tree) → f (h ∷ []) ≡ h
 joined_one f one trees [] below e len = absurd (omega arith)
 joined_one f one trees (item ∷ []) below e len = e ∙ ap (λ x. x ∷ below) (sym (one item))
 joined_one f one trees (item ∷ second ∷ items) below e len = absurd (omega arith)
-
-pub length-joined : (trees : List Tree) (tree : Tree) (n height : ℕ) → n ≤ height → height ≡ length trees → length (tree ∷ drop n trees) + n ≡ height + 1
-length-joined trees tree n height within counted = omega (arith, length-drop n trees)
 
 -- postfixes that are read one by one
 pub record PostfixesSoFar (swap : Bool) (tree : Tree) (depth : ℕ) (t : List ℕ) (trees below : List Tree) (deep : ℕ) (u : List ℕ) : Type 0 where
@@ -125,7 +122,7 @@ IsOver (node.Group number name) = Unit {0}
 IsOver (node.Repeat repetition) = Unit {0}
 IsOver _ = ⊥
 
-over_one : (trees : List Tree) (over : Node) → IsOver over → 1 ≤ length trees → length (after_node trees (kind_of over)) ≡ length trees
+pub over_one : (trees : List Tree) (over : Node) → IsOver over → 1 ≤ length trees → length (after_node trees (kind_of over)) ≡ length trees
 over_one [] over is some = absurd (omega arith)
 over_one (tree ∷ trees) node.Empty is some = absurd is
 over_one (tree ∷ trees) (node.Set set) is some = absurd is
@@ -135,12 +132,6 @@ over_one (tree ∷ trees) (node.Group number (Some name)) is some = refl
 over_one (tree ∷ trees) (node.Concat count) is some = absurd is
 over_one (tree ∷ trees) (node.Alternation count) is some = absurd is
 over_one (tree ∷ trees) (node.Repeat repetition) is some = refl
-
-pub length-over : (trees : List Tree) (over : Node) (height : ℕ) → IsOver over → 1 ≤ height → height ≡ length trees → length (after_node trees (kind_of over)) + 1 ≡ height + 1
-length-over trees over height is some counted =
-    let least : 1 ≤ length trees = omega (arith, counted) in
-    let same = over_one trees over is least in
-    omega (arith, counted)
 
 abbrev group_node : ℕ → GroupKind → Node
 group_node number (Numbered name) = node.Group number name

@@ -1,6 +1,7 @@
 pub mod Settings
 pub mod Sets
 pub mod Trees
+pub mod Subtrees
 pub mod Input
 pub mod Escapes
 pub mod Classes

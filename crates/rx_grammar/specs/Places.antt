@@ -5,14 +5,13 @@ use Rattle.rx_grammar.specs.declared.parser.Around.{Around}
 use Rattle.rx_grammar.specs.declared.parser.Parser.{Parser}
 use Rattle.rx_grammar.specs.Settings.{Settings}
 use Rattle.rx_grammar.specs.Trees.{Tree}
+use Rattle.rx_grammar.specs.Subtrees.{NodeKind}
+use Rattle.rx_grammar.specs.Postorder.{trees_of}
 use Rattle.rx_grammar.specs.Input.{Begins, Stops}
 use Rattle.rx_grammar.specs.Repetitions.{Postfixes}
 use Rattle.rx_grammar.specs.Groups.{Capture, opened}
 use Rattle.rx_grammar.specs.Grammar.{goes_on}
 use Rattle.rx_grammar.specs.Heads.{capture_of}
-use Rattle.rx_grammar.specs.Postorder.{NodeKind, trees_of, tree_of}
-use Rattle.rx_grammar.specs.Nodes.{trees_in}
-use Rattle.rx_grammar.specs.Stacks.{IsCounted}
 use Rattle.rx_grammar.specs.Resuming.{Level, OpenGroup, Place, SameEnds, no_level, with_item, tree_at}
 
 -- the trees of a level stand above those of the levels around it, the last one first
@@ -34,8 +33,7 @@ pub data Surround (limit : ℕ) : List Around → List OpenGroup → List Tree �
 pub record IsAt (parser : Parser) (pending : List Tree) (place : Place) : Type 0 where
   pub trees : List Tree
   pub below : List Tree
-  pub trees_are : trees_in parser.trees.nodes.items ≡ pending ++ trees
-  pub counted : IsCounted parser.trees
+  pub trees_are : trees_of parser.trees ≡ pending ++ trees
   pub level : IsLevel parser.heights parser.limit place.level trees below
   pub settings : parser.config ≡ place.settings
   pub groups : parser.groups ≡ place.groups
@@ -71,8 +69,7 @@ pub record ItemRead (before after : Parser) (place : Place) (tree : Tree) (depth
 -- the branches of the level are one tree, and all else is as before
 pub record EndsLevel (before after : Parser) (place : Place) : Type 0 where
   pub below : List Tree
-  pub trees_are : trees_in after.trees.nodes.items ≡ tree_at place.level ∷ below
-  pub counted : IsCounted after.trees
+  pub trees_are : trees_of after.trees ≡ tree_at place.level ∷ below
   pub depth_is : after.heights.depth ≡ place.level.depth
   pub depth_fits : place.level.depth ≤ after.limit
   pub around : Surround after.limit (reverse after.around.items) place.around below
@@ -101,9 +98,8 @@ pub record TextRead (before after : Parser) (place : Place) (t : List ℕ) : Typ
   pub same : SameEnds place t next []
   pub limit : after.limit ≡ before.limit
 
--- no group is open, and the nodes make the tree of what was read
+-- no group is open, and the tree is what was read
 pub record IsFinished (place : Place) (nodes : List NodeKind) (limit : ℕ) : Type 0 where
   pub nothing_open : place.around ≡ []
-  pub tree_is : tree_of nodes ≡ tree_at place.level
-  pub made : trees_of nodes ≡ tree_of nodes ∷ []
+  pub tree_is : trees_of nodes ≡ tree_at place.level ∷ []
   pub fits : place.level.depth ≤ limit

@@ -1,16 +1,10 @@
 -- What the parser's parts say of one another.
-use Rattle.std.specs.Prelude.{◌≡◌, ℕ, ◌≤◌, Bool, List, ◌∷◌, length}
+use Rattle.std.specs.Prelude.{◌≡◌, ℕ, ◌≤◌, Bool, List, ◌∷◌}
 use Rattle.rx_grammar.specs.declared.error.SyntaxError.{SyntaxError}
 use Rattle.rx_grammar.specs.declared.error.SyntaxError.TheVariants.{TooLong, Nesting, Outside, Memory}
-use Rattle.rx_grammar.specs.declared.trees.TreeStack.{TreeStack}
 use Rattle.rx_grammar.specs.Trees.{Tree, group}
 use Rattle.rx_grammar.specs.Groups.{Capture, numbered, unnumbered}
 use Rattle.rx_grammar.specs.Repetitions.{Postfixes}
-use Rattle.rx_grammar.specs.Nodes.{trees_in}
-
--- the height is the number of trees
-abbrev pub IsCounted : TreeStack → Type 0
-IsCounted stack = stack.height ≡ length (trees_in stack.nodes.items)
 
 -- the tree of a group with this number
 abbrev pub captured : ℕ → Capture → Tree → Tree

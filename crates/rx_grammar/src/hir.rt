@@ -2,8 +2,9 @@
 
 ghost use Rattle.std.specs.Prelude.{◌≡◌, ◌≤◌, [], ◌∷◌, length, map, MatchOption};
 ghost use Rattle.rx_grammar.specs.Trees.{numbers_of};
-ghost use Rattle.rx_grammar.specs.Postorder.{own_names, own_groups, tree_of};
-ghost use Rattle.rx_grammar.specs.Nodes.{kind_of, IsTree};
+ghost use Rattle.rx_grammar.specs.Subtrees.{nodes_of, width_of, IsWellFormed};
+ghost use Rattle.rx_grammar.specs.Postorder.{own_names, own_groups, tree_of, AreNodesOf};
+ghost use Rattle.rx_grammar.specs.Nodes.{kind_of};
 
 use rx_sets::CharacterSet;
 use std::marker::Model;
@@ -68,6 +69,17 @@ impl Node {
         }
     }
 
+    /// How many trees stand right below the node.
+    pub fn width(&self) -> usize
+        ensures { result ≡ width_of (kind_of self.now) }
+    {
+        match self {
+            Node::Empty | Node::Set(_) | Node::Look(_) => 0,
+            Node::Group(_, _) | Node::Repeat(_) => 1,
+            Node::Concat(count) | Node::Alternation(count) => *count,
+        }
+    }
+
     /// How many groups the node is by itself: one or none.
     fn own_groups(&self) -> usize
         ensures value { result ≡ own_groups (kind_of self.now) }
@@ -81,38 +93,42 @@ impl Node {
 }
 
 /// What a pattern spells: a tree, with nothing in it simplified. It comes from `parse` alone. Contracts see it as
-/// its nodes, each after what stands below it, which make the tree.
+/// its nodes, each after what stands below it: these are exactly the nodes of the tree that they make.
 #[derive(Debug, Drop)]
 pub struct Hir {
     nodes: Vec<Node>,
 }
 
 impl Model for Hir {
-    ghost use Rattle.std.specs.Prelude.{List, ◌≡◌, ◌∷◌, [], map};
-    ghost use Rattle.rx_grammar.specs.Postorder.{NodeKind, trees_of, tree_of};
+    ghost use Rattle.std.specs.Prelude.{List, map};
+    ghost use Rattle.rx_grammar.specs.Subtrees.{NodeKind};
+    ghost use Rattle.rx_grammar.specs.Postorder.{tree_of, AreNodesOf};
 
     ghost Value = { List NodeKind };
 
-    ghost use Rattle.rx_grammar.specs.Nodes.{kind_of, IsTree};
+    ghost use Rattle.rx_grammar.specs.Nodes.{kind_of};
 
     ghost view = { λ h. map kind_of h.nodes.items };
 
-    ghost invariant = { λ h. trees_of (map kind_of h.nodes.items) ≡ tree_of (map kind_of h.nodes.items) ∷ [] };
+    ghost invariant = { λ h. AreNodesOf (tree_of (map kind_of h.nodes.items)) (map kind_of h.nodes.items) };
 }
 
 impl Hir {
-    /// The nodes, each after what stands below it, so that the last one is the root. What stands below a node
-    /// are the last trees before it that stand below no other.
+    /// The nodes of the tree, each after what stands below it, so that the last one is the root. What stands
+    /// below a node are the last trees before it that stand below no other.
     pub fn nodes(&self) -> &[Node]
-        ensures { map kind_of result.now ≡ self.now }
+        ensures nodes { map kind_of result.now ≡ self.now }
+        ensures exact { self.now ≡ nodes_of (tree_of self.now) }
+        ensures well_formed { IsWellFormed (tree_of self.now) }
     {
         &self.nodes
     }
 
     /// How many groups with a number there are: the greatest number of a group. The whole match, which is called
-    /// group 0 elsewhere, isn't counted.
+    /// group 0 elsewhere, isn't counted. `O(n)` in the number of nodes.
     pub fn group_count(&self) -> usize
-        ensures { result ≡ length (numbers_of (tree_of self.now)) }
+        ensures count { result ≡ length (numbers_of (tree_of self.now)) }
+        ensures well_formed { IsWellFormed (tree_of self.now) }
     {
         let mut count = 0;
         for node in &self.nodes {
@@ -122,9 +138,9 @@ impl Hir {
     }
 }
 
-/// The tree of nodes that make one.
-pub(crate) fn tree(nodes: Vec<Node>) -> Hir
-    requires { IsTree nodes.items }
+/// The tree with these nodes.
+pub(crate) fn tree_with(nodes: Vec<Node>) -> Hir
+    requires { AreNodesOf (tree_of (map kind_of nodes.items)) (map kind_of nodes.items) }
     ensures { result ≡ map kind_of nodes.items }
 {
     Hir { nodes }

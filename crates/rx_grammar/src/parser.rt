@@ -11,7 +11,6 @@ ghost use Rattle.rx_grammar.specs.Places.{start_of, opened_at, IsAt, IsAtSomePla
 use crate::atoms::plain_atom;
 use crate::error::SyntaxError;
 use crate::groups::{GroupKind, Head, group_head};
-use crate::hir::{Hir, tree};
 use crate::input::first;
 use crate::syntax::Config;
 use crate::trees::{TreeStack, deeper};
@@ -246,17 +245,17 @@ impl Parser {
         Ok(())
     }
 
-    /// The tree of the pattern, where no group is open.
-    pub(crate) fn finish(mut self) -> Result<Hir, SyntaxError>
+    /// The tree of the pattern, alone on its stack, where no group is open.
+    pub(crate) fn finish(mut self) -> Result<TreeStack, SyntaxError>
         requires stands { IsAtSomePlace self }
         ensures ends { (place : Place) → IsAt self [] place → MatchResult result
-            (λ hir. IsFinished place hir self.limit) (λ e. IsRefusal e
-            (NoEnds place [] self.limit)) }
+            (λ trees. IsFinished place trees self.limit)
+            (λ e. IsRefusal e (NoEnds place [] self.limit)) }
     {
         if !self.around.is_empty() {
             return Err(SyntaxError::Outside);
         }
         self.end_level()?;
-        Ok(tree(self.trees.into_nodes()))
+        Ok(self.trees)
     }
 }

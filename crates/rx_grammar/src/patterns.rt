@@ -55,10 +55,10 @@ fn parse_characters(alloc: Global, text: &[char], config: &Config) -> Result<Hir
 {
     let mut parser = Parser::new(alloc, config);
     parser.read(text)?;
-    let hir = parser.finish()?;
-    let distinct = has_distinct_names(alloc, hir.nodes())?;
+    let trees = parser.finish()?;
+    let distinct = has_distinct_names(alloc, trees.nodes())?;
     if distinct {
-        Ok(hir)
+        Ok(trees.into_hir())
     } else {
         Err(SyntaxError::Outside)
     }

@@ -1,28 +1,45 @@
 //! Trees that grow: nodes, each after what stands below it, and how many trees they make.
 
-ghost use Rattle.std.specs.Prelude.{ℕ, ◌≡◌, ◌+◌, ◌≤◌, List, [], ◌∷◌, ◌++◌, length, reverse, OnOk, MatchBool, MatchOption, MatchResult};
+ghost use Rattle.std.specs.Prelude.{ℕ, ◌≡◌, ◌+◌, ◌≤◌, List, [], ◌∷◌, ◌++◌, length, map, reverse, OnOk, MatchBool, MatchOption, MatchResult};
 ghost use Rattle.rx_grammar.specs.Trees.{Tree, concat_of};
-ghost use Rattle.rx_grammar.specs.Postorder.{after_node, alternate};
-ghost use Rattle.rx_grammar.specs.Nodes.{kind_of, trees_in};
+ghost use Rattle.rx_grammar.specs.Subtrees.{IsWellFormed};
+ghost use Rattle.rx_grammar.specs.Postorder.{after_node, alternate, trees_of, MayFollow};
+ghost use Rattle.rx_grammar.specs.Nodes.{kind_of};
 ghost use Rattle.rx_grammar.specs.Input.{Stops};
 ghost use Rattle.rx_grammar.specs.Repetitions.{is_postfix_start};
 ghost use Rattle.rx_grammar.specs.Heads.{capture_of};
 ghost use Rattle.rx_grammar.specs.Atoms.{atom_tree};
-ghost use Rattle.rx_grammar.specs.Stacks.{captured, IsCounted, IsRefusal, PostfixesRead, PostfixesTooDeep};
+ghost use Rattle.rx_grammar.specs.Stacks.{captured, IsRefusal, PostfixesRead, PostfixesTooDeep};
 
 use crate::atoms::AtomTree;
 use crate::error::SyntaxError;
 use crate::groups::GroupKind;
-use crate::hir::Node;
+use crate::hir::{Hir, Node, tree_with};
 use crate::input::first;
 use crate::repetitions::postfix;
 use std::alloc::{AllocError, Global};
+use std::marker::Model;
 
-/// Trees in a row, of which the last ones may become parts of another one.
+/// Trees in a row, of which the last ones may become parts of another one. Contracts see it as the
+/// nodes, which make the trees (`trees_of`, the last one first).
 #[derive(Debug, Drop)]
 pub(crate) struct TreeStack {
     nodes: Vec<Node>,
     height: usize,
+}
+
+impl Model for TreeStack {
+    ghost use Rattle.std.specs.Prelude.{List, map};
+    ghost use Rattle.rx_grammar.specs.Subtrees.{NodeKind};
+    ghost use Rattle.rx_grammar.specs.Postorder.{AreStacked};
+
+    ghost Value = { List NodeKind };
+
+    ghost use Rattle.rx_grammar.specs.Nodes.{kind_of};
+
+    ghost view = { λ s. map kind_of s.nodes.items };
+
+    ghost invariant = { λ s. AreStacked (map kind_of s.nodes.items) s.height };
 }
 
 /// Whether a postfix begins with the character.
@@ -53,8 +70,7 @@ pub(crate) fn deeper(depth: u32, limit: u32) -> Option<u32>
 impl TreeStack {
     /// No tree.
     pub(crate) fn new(alloc: Global) -> TreeStack
-        ensures counted { IsCounted result }
-        ensures trees { trees_in result.nodes.items ≡ [] }
+        ensures { trees_of result ≡ [] }
     {
         TreeStack {
             nodes: Vec::new(alloc),
@@ -64,92 +80,84 @@ impl TreeStack {
 
     /// How many trees there are.
     pub(crate) fn height(&self) -> usize
-        ensures { result ≡ self.now.height }
+        ensures { result ≡ length (trees_of self.now) }
     {
         self.height
     }
 
-    /// The nodes.
-    pub(crate) fn into_nodes(self) -> Vec<Node>
-        ensures { result.items ≡ self.nodes.items }
+    /// The nodes, each after what stands below it.
+    pub(crate) fn nodes(&self) -> &[Node]
+        ensures { map kind_of result.now ≡ self.now }
     {
-        self.nodes
+        &self.nodes
     }
 
-    /// Appends a node, which takes so many of the last trees.
-    pub(crate) fn push(&mut self, node: Node, taken: usize) -> Result<(), AllocError>
-        requires counted { IsCounted self.old }
-        requires taken { taken ≤ self.old.height }
-        requires one { length (after_node (trees_in self.old.nodes.items) (kind_of node)) + taken
-            ≡ self.old.height + 1 }
-        ensures counted { OnOk result (IsCounted self.new) }
-        ensures trees { OnOk result (trees_in self.new.nodes.items ≡ after_node
-            (trees_in self.old.nodes.items) (kind_of node)) }
+    /// The only tree.
+    pub(crate) fn into_hir(self) -> Hir
+        requires { (tree : Tree) × (trees_of self ≡ tree ∷ []) × IsWellFormed tree }
+        ensures { result ≡ self }
     {
+        tree_with(self.nodes)
+    }
+
+    /// Appends a node, below which the last trees are to stand.
+    pub(crate) fn push(&mut self, node: Node) -> Result<(), AllocError>
+        requires { MayFollow (trees_of self.old) (kind_of node) }
+        ensures { OnOk result (trees_of self.new ≡ after_node (trees_of self.old) (kind_of node)) }
+    {
+        let width = node.width();
         self.nodes.push(node)?;
-        self.height = self.height - taken + 1;
+        self.height = self.height - width + 1;
         Ok(())
     }
 
     /// Appends what an atom spells.
     pub(crate) fn push_atom(&mut self, atom: AtomTree) -> Result<(), AllocError>
-        requires { IsCounted self.old }
-        ensures counted { OnOk result (IsCounted self.new) }
-        ensures trees { OnOk result (trees_in self.new.nodes.items
-            ≡ atom_tree atom ∷ trees_in self.old.nodes.items) }
+        ensures { OnOk result (trees_of self.new ≡ atom_tree atom ∷ trees_of self.old) }
     {
         match atom {
-            AtomTree::Set(set) => self.push(Node::Set(set), 0),
-            AtomTree::Look(look) => self.push(Node::Look(look), 0),
+            AtomTree::Set(set) => self.push(Node::Set(set)),
+            AtomTree::Look(look) => self.push(Node::Look(look)),
         }
     }
 
     /// The last tree becomes a group with this number, if the group captures anything.
     pub(crate) fn push_group(&mut self, number: u32, captures: GroupKind) -> Result<(), AllocError>
-        requires counted { IsCounted self.old }
-        requires tree { 1 ≤ self.old.height }
-        ensures counted { OnOk result (IsCounted self.new) }
-        ensures trees { (tree : Tree) (below : List Tree) → trees_in self.old.nodes.items
-            ≡ tree ∷ below → OnOk result (trees_in self.new.nodes.items ≡ captured number
-            (capture_of captures) tree ∷ below) }
+        requires { 1 ≤ length (trees_of self.old) }
+        ensures { (tree : Tree) (below : List Tree) → trees_of self.old ≡ tree ∷ below → OnOk result
+            (trees_of self.new ≡ captured number (capture_of captures) tree ∷ below) }
     {
         match captures {
-            GroupKind::Numbered(name) => self.push(Node::Group(number, name), 1),
+            GroupKind::Numbered(name) => self.push(Node::Group(number, name)),
             GroupKind::Unnumbered => Ok(()),
         }
     }
 
     /// The trees above this height become one: items in a row.
     pub(crate) fn join_items(&mut self, height: usize) -> Result<(), AllocError>
-        requires counted { IsCounted self.old }
-        requires above { height ≤ self.old.height }
-        ensures counted { OnOk result (IsCounted self.new) }
-        ensures trees { (items below : List Tree) → trees_in self.old.nodes.items
-            ≡ reverse items ++ below → length below ≡ height → OnOk result
-            (trees_in self.new.nodes.items ≡ concat_of items ∷ below) }
+        requires { height ≤ length (trees_of self.old) }
+        ensures { (items below : List Tree) → trees_of self.old ≡ reverse items ++ below → length below ≡ height
+            → OnOk result (trees_of self.new ≡ concat_of items ∷ below) }
     {
-        let count = self.height - height;
+        let count = self.height() - height;
         match count {
-            0 => self.push(Node::Empty, 0),
-            1 => Ok(()),
-            _ => self.push(Node::Concat(count), count),
+            0 => self.push(Node::Empty),
+            1 => Ok(()), // an item by itself
+            _ => self.push(Node::Concat(count)),
         }
     }
 
     /// The trees above this height become one: branches beside one another.
     pub(crate) fn join_branches(&mut self, height: usize) -> Result<(), AllocError>
-        requires counted { IsCounted self.old }
-        requires above { height ≤ self.old.height }
-        ensures counted { OnOk result (IsCounted self.new) }
-        ensures trees { (branches below : List Tree) → trees_in self.old.nodes.items
-            ≡ reverse branches ++ below → length below ≡ height → OnOk result
-            (trees_in self.new.nodes.items ≡ alternate branches ∷ below) }
+        requires { height ≤ length (trees_of self.old) }
+        ensures { (branches below : List Tree) → trees_of self.old ≡ reverse branches ++ below
+            → length below ≡ height → OnOk result (trees_of self.new ≡ alternate branches ∷ below) }
     {
-        let count = self.height - height;
+        let count = self.height() - height;
         match count {
-            0 => self.push(Node::Empty, 0),
-            1 => Ok(()),
-            _ => self.push(Node::Alternation(count), count),
+            0 => self.push(Node::Empty),
+            1 => Ok(()), // a branch by itself
+            _ => self.push(Node::Alternation(count)),
         }
     }
 
@@ -162,13 +170,11 @@ impl TreeStack {
         limit: u32,
         swap_greed: bool,
     ) -> Result<(u32, &'a [char]), SyntaxError>
-        requires counted { IsCounted self.old }
-        requires tree { 1 ≤ self.old.height }
+        requires tree { 1 ≤ length (trees_of self.old) }
         requires depth { depth ≤ limit }
-        ensures counted { OnOk result (IsCounted self.new) }
-        ensures reads { (tree : Tree) (below : List Tree) → trees_in self.old.nodes.items
-            ≡ tree ∷ below → MatchResult result (λ r. PostfixesRead swap_greed tree depth text.now
-            (trees_in self.new.nodes.items) below limit r.0 r.1.now)
+        ensures reads { (tree : Tree) (below : List Tree) → trees_of self.old ≡ tree ∷ below → MatchResult result
+            (λ r. PostfixesRead swap_greed tree depth text.now (trees_of self.new)
+            below limit r.0 r.1.now)
             (λ e. IsRefusal e (PostfixesTooDeep swap_greed tree depth text.now limit)) }
     {
         let mut rest = text;
@@ -180,7 +186,7 @@ impl TreeStack {
                 return Err(SyntaxError::Nesting);
             };
             depth = deep;
-            self.push(Node::Repeat(repetition), 1)?;
+            self.push(Node::Repeat(repetition))?;
             rest = behind;
         }
         Ok((depth, rest))

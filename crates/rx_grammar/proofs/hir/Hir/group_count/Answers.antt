@@ -2,7 +2,8 @@ use Rattle.std.proofs.Common.{List, map, length, ap, ◌∙◌, arith}
 use Rattle.std.proofs.lemmas.List.{take_all}
 use Rattle.rx_grammar.specs.declared.hir.Node.{Node}
 use Rattle.rx_grammar.specs.Trees.{numbers_of}
-use Rattle.rx_grammar.specs.Postorder.{NodeKind, tree_of}
+use Rattle.rx_grammar.specs.Subtrees.{NodeKind}
+use Rattle.rx_grammar.specs.Postorder.{tree_of}
 use Rattle.rx_grammar.specs.Nodes.{kind_of}
 use Rattle.rx_grammar.proofs.NumberLaws.{groups_in, groups_in-more, groups_in-tree}
 use Rattle.rx_grammar.proofs.hir.Hir.group_count.Goals as goal
@@ -16,9 +17,9 @@ loop-node-preserved c =
       few = omega (arith, c.loop-node.invariant.few, c.own_groups-count.ensures.few);
     }
 
-pub returns : goal.returns
-returns c =
+pub returns-clause-count : goal.returns-clause-count
+returns-clause-count c =
     let nodes = c.self.inside.nodes.items in
     let all = take_all c.loop-node.node-index c.deref-node-items.result.now c.loop-node-test.false ∙ c.deref-node-items.ensures.value in
-    c.loop-node.invariant.counted ∙ ap (λ (l : List Node). groups_in (map kind_of l)) all ∙ groups_in-tree (map kind_of nodes) c.self.invariant
+    c.loop-node.invariant.counted ∙ ap (λ (l : List Node). groups_in (map kind_of l)) all ∙ groups_in-tree (map kind_of nodes) c.self.invariant.made
     ∙ ap (λ (l : List NodeKind). length (numbers_of (tree_of l))) c.self.view_is

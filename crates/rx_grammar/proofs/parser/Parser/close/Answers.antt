@@ -25,14 +25,10 @@ returns-in_default-deeper c = record {
       close_refused c.args.self.now.limit place (place.level.depth + 1) refl inner.groups_are (too_deep over);
 }
 
-pub push_group-requires-clause-counted : goal.push_group-requires-clause-counted
-push_group-requires-clause-counted c = (c.in_ok-end_level.ensures.ends c.requires.stands.0 c.requires.stands.1).counted
-
-pub push_group-requires-clause-tree : goal.push_group-requires-clause-tree
-push_group-requires-clause-tree c =
+pub push_group-requires : goal.push_group-requires
+push_group-requires c =
     let e = c.in_ok-end_level.ensures.ends c.requires.stands.0 c.requires.stands.1 in
-    let len = ap length e.trees_are in
-    omega (arith, e.counted, len)
+    omega (arith, ap length e.trees_are)
 
 pub finish_item-requires-clause-stands : goal.finish_item-requires-clause-stands
 finish_item-requires-clause-stands c =
@@ -41,7 +37,7 @@ finish_item-requires-clause-stands c =
     let turned = ap reverse c.in-Some.ensures.items ∙ reverse-append c.pop.new.self.items (c.in-Some.field-0 ∷ []) in
     let inner = innermost turned e.around in
     let k = capture_of c.in-Some.field-0.captures in
-    let made = c.in_ok-push_group.ensures.trees (tree_at place.level) e.below e.trees_are in
+    let made = c.in_ok-push_group.ensures (tree_at place.level) e.below e.trees_are in
     let same = captured_grouped c.in-Some.field-0.number inner.group.groups k (tree_at place.level) (inner.number ∙ ap (opened inner.group.groups) (sym inner.captures)) ∙ ap (λ x. grouped inner.group.groups x (tree_at place.level)) inner.captures in (
       behind_group place inner.group inner.others,
       grouped inner.group.groups inner.group.capture (tree_at place.level),
@@ -49,7 +45,6 @@ finish_item-requires-clause-stands c =
         trees = e.below;
         below = inner.below;
         trees_are = made ∙ ap (λ x. x ∷ e.below) same;
-        counted = c.in_ok-push_group.ensures.counted;
         level = inner.level;
         settings = inner.settings;
         groups = e.groups_are;
@@ -64,7 +59,7 @@ returns c = record {
       let turned = ap reverse c.in-Some.ensures.items ∙ reverse-append c.pop.new.self.items (c.in-Some.field-0 ∷ []) in
       let inner = innermost turned e.around in
       let k = capture_of c.in-Some.field-0.captures in
-      let made = c.in_ok-push_group.ensures.trees (tree_at place.level) e.below e.trees_are in
+      let made = c.in_ok-push_group.ensures (tree_at place.level) e.below e.trees_are in
       let same = captured_grouped c.in-Some.field-0.number inner.group.groups k (tree_at place.level) (inner.number ∙ ap (opened inner.group.groups) (sym inner.captures)) ∙ ap (λ x. grouped inner.group.groups x (tree_at place.level)) inner.captures in
       let deep = c.in-Some-deeper.ensures.0 ∙ ap (λ x. x + 1) e.depth_is in
       result_map _ _ _ _ c.finish_item.result (λ rest read. close_read place c.in-Some-deeper.depth deep inner.groups_are read e.limit e.groups)
@@ -73,7 +68,6 @@ returns c = record {
         trees = e.below;
         below = inner.below;
         trees_are = made ∙ ap (λ x. x ∷ e.below) same;
-        counted = c.in_ok-push_group.ensures.counted;
         level = inner.level;
         settings = inner.settings;
         groups = e.groups_are;

@@ -16,7 +16,6 @@ returns c = record {
           trees = read.made ∷ stands.trees;
           below = stands.below;
           trees_are = read.trees_are;
-          counted = c.in_ok-deep.ensures.counted;
           level = level_item read.made stands.level refl refl c.max-self.ensures read.fits;
           settings = stands.settings;
           groups = stands.groups;

@@ -7,8 +7,7 @@ pub returns-clause-stands : goal.returns-clause-stands
 returns-clause-stands c = record {
   trees = [];
   below = [];
-  trees_are = c.new-2.ensures.trees;
-  counted = c.new-2.ensures.counted;
+  trees_are = c.new-2.ensures;
   level = level_none [] c.get_nest_limit.result 0 refl;
   settings = c.copied.ensures;
   groups = refl;

@@ -11,14 +11,13 @@ returns-clause-opens c = λ place stands.
     let k = capture_of c.args.captures in
     let limit = c.args.self.now.limit in
     let trees = stands.trees in
-    let height = c.height-height.ensures ∙ stands.counted ∙ ap length stands.trees_are in
+    let height = c.height-height.ensures ∙ ap length stands.trees_are in
     let groups = ap₂ (λ a b. a + b) stands.groups c.count.ensures ∙ sym (opened_by place.groups k) in
     let turned = ap reverse c.in_ok-push.ensures.items ∙ reverse-append c.args.self.now.around.items _ in
     record {
       trees = trees;
       below = trees;
       trees_are = stands.trees_are;
-      counted = stands.counted;
       level = subst (λ x. IsLevel x limit no_level trees trees) (sym c.replace.ensures.after) (level_none trees limit c.height-height.result height);
       settings = c.replace-2.ensures.after;
       groups = groups;

@@ -20,8 +20,7 @@ returns c = record {
       (c.finish_item.ensures.reads place (atom_tree c.in-Some.tree) (record {
         trees = stands.trees;
         below = stands.below;
-        trees_are = c.in_ok-push_atom.ensures.trees ∙ ap (λ x. atom_tree c.in-Some.tree ∷ x) stands.trees_are;
-        counted = c.in_ok-push_atom.ensures.counted;
+        trees_are = c.in_ok-push_atom.ensures ∙ ap (λ x. atom_tree c.in-Some.tree ∷ x) stands.trees_are;
         level = stands.level;
         settings = stands.settings;
         groups = stands.groups;

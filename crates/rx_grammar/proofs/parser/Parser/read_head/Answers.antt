@@ -24,7 +24,7 @@ returns-in-Setting c = record {
       let head : IsHead c.args.self.now.config c.args.text.now c.in-Some.head c.in-Some.rest.now = rw c.in-Some.is at c.in_ok-head.ensures in
       let one : Setting c.args.self.now.config c.args.text.now c.in-Setting.config c.in-Some.rest.now = rw c.in-Setting.is at head in
       let here = subst (λ s. Setting s c.args.text.now c.in-Setting.config c.in-Some.rest.now) stands.settings one in
-      setting_read place here (record { trees = stands.trees; below = stands.below; trees_are = stands.trees_are; counted = stands.counted; level = stands.level; settings = refl; groups = stands.groups; around = stands.around })
+      setting_read place here (record { trees = stands.trees; below = stands.below; trees_are = stands.trees_are; level = stands.level; settings = refl; groups = stands.groups; around = stands.around })
       (setting_shorter here) refl refl;
 }
 

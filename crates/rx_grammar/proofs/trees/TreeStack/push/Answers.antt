@@ -1,17 +1,32 @@
-use Rattle.std.proofs.Common.{◌<◌, ◌^◌, length, ap, arith}
-use Rattle.rx_grammar.proofs.StackLaws.{trees_in-push, length-trees_in}
+use Rattle.std.proofs.Common.{◌≡◌, ◌+◌, ◌-◌, ◌<◌, ◌^◌, [], ◌∷◌, ◌++◌, map, sym, ap, subst, ◌∙◌, arith}
+use Rattle.std.proofs.lemmas.List.{map-append}
+use Rattle.rx_grammar.specs.Postorder.{after_node, trees_of, MayFollow, AreStacked}
+use Rattle.rx_grammar.specs.Nodes.{kind_of}
+use Rattle.rx_grammar.proofs.StackLaws.{trees_of-push, length-trees_of}
+use Rattle.rx_grammar.proofs.SubtreeLaws.{AreStacked-push}
 use Rattle.rx_grammar.proofs.trees.TreeStack.push.Goals as goal
 
 pub overflow_add-self : goal.overflow_add-self
 overflow_add-self c =
-    let nodes = c.args.self.now.nodes in
-    let small : c.args.self.now.height < 2 ^ 63 = omega (arith, c.requires.counted, length-trees_in nodes.items, nodes.ok.0, nodes.small) in
+    let nodes = c.self.inside.nodes in
+    let small : c.self.inside.height < 2 ^ 63 = omega (arith, c.self.invariant.counted, length-trees_of nodes.items, nodes.ok.0, nodes.small) in
     omega (arith, small)
 
-pub returns-clause-counted : goal.returns-clause-counted
-returns-clause-counted c =
-    let pushed = ap length (trees_in-push _ _ c.args.node c.in_ok-push.ensures.items) in
-    omega (arith, pushed, c.requires.one, c.requires.taken)
+pub invariant_of-self-2 : goal.invariant_of-self-2
+invariant_of-self-2 c =
+    let node = kind_of c.args.node in
+    let nodes = map kind_of c.self.inside.nodes.items in
+    let height = c.self.inside.height - c.width-width.result + 1 in
+    let may : MayFollow (trees_of nodes) node = subst (λ x. MayFollow (trees_of x) node) (sym c.self.view_is) c.requires in
+    let e : map kind_of c.push.new.self.items ≡ nodes ++ node ∷ [] =
+    ap (map kind_of) c.in_ok-push.ensures.items ∙ map-append kind_of c.self.inside.nodes.items (c.args.node ∷ []) in
+    subst (λ x. AreStacked x height) (sym e)
+    (AreStacked-push nodes node c.self.inside.height height c.self.invariant may (omega (arith, c.width-width.ensures, may.fits, c.self.invariant.counted)))
 
-pub returns-clause-trees : goal.returns-clause-trees
-returns-clause-trees c = trees_in-push _ _ c.args.node c.in_ok-push.ensures.items
+pub returns : goal.returns
+returns c =
+    let node = kind_of c.args.node in
+    let nodes = map kind_of c.self.inside.nodes.items in
+    let e : map kind_of c.push.new.self.items ≡ nodes ++ node ∷ [] =
+    ap (map kind_of) c.in_ok-push.ensures.items ∙ map-append kind_of c.self.inside.nodes.items (c.args.node ∷ []) in
+    ap trees_of e ∙ trees_of-push nodes node ∙ ap (λ x. after_node (trees_of x) node) c.self.view_is

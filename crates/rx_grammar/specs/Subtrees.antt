@@ -1,0 +1,79 @@
+-- The parts of a tree, and its nodes: what each part is by itself.
+use Rattle.std.specs.Prelude.{◌≡◌, ◌≢◌, ℕ, ◌+◌, ◌≤◌, ◌<◌, List, [], ◌∷◌, ◌++◌, map, length, get_or, All, AllPairs, Option, Some, None}
+use Rattle.rx_grammar.specs.declared.hir.Look.{Look}
+use Rattle.rx_grammar.specs.declared.hir.Repetition.{Repetition}
+use Rattle.rx_grammar.specs.Sets.{Range}
+use Rattle.rx_grammar.specs.Trees.{Name, Tree, Trees, empty, one_of, look_at, group, concat, alternation, repeated, two, more, names_of, numbers_of}
+
+-- a node without what stands below it
+pub data NodeKind : Type 0 where
+  an_empty : NodeKind
+  a_set : List Range → NodeKind
+  a_look : Look → NodeKind
+  a_group : ℕ → Option Name → NodeKind
+  -- how many trees stand below
+  a_concat : ℕ → NodeKind
+  an_alternation : ℕ → NodeKind
+  a_repetition : Repetition → NodeKind
+
+-- how many trees stand right below a node
+abbrev pub width_of : NodeKind → ℕ
+width_of an_empty = 0
+width_of (a_set ranges) = 0
+width_of (a_look look) = 0
+width_of (a_group number name) = 1
+width_of (a_concat count) = count
+width_of (an_alternation count) = count
+width_of (a_repetition repetition) = 1
+
+abbrev pub how_many : Trees → ℕ
+how_many (two first second) = 2
+how_many (more first others) = how_many others + 1
+
+-- the node of a tree
+abbrev pub root_of : Tree → NodeKind
+root_of empty = an_empty
+root_of (one_of ranges) = a_set ranges
+root_of (look_at look) = a_look look
+root_of (group number name tree) = a_group number name
+root_of (concat trees) = a_concat (how_many trees)
+root_of (alternation trees) = an_alternation (how_many trees)
+root_of (repeated repetition tree) = a_repetition repetition
+
+-- a tree's parts, each after those that stand below it: the last one is the tree itself
+abbrev mutual
+  pub subtrees_of : Tree → List Tree
+  subtrees_of empty = empty ∷ []
+  subtrees_of (one_of ranges) = one_of ranges ∷ []
+  subtrees_of (look_at look) = look_at look ∷ []
+  subtrees_of (group number name tree) = subtrees_of tree ++ group number name tree ∷ []
+  subtrees_of (concat trees) = all_subtrees_of trees ++ concat trees ∷ []
+  subtrees_of (alternation trees) = all_subtrees_of trees ++ alternation trees ∷ []
+  subtrees_of (repeated repetition tree) = subtrees_of tree ++ repeated repetition tree ∷ []
+
+  pub all_subtrees_of : Trees → List Tree
+  all_subtrees_of (two first second) = subtrees_of first ++ subtrees_of second
+  all_subtrees_of (more first others) = subtrees_of first ++ all_subtrees_of others
+
+-- a tree's nodes, each after those that stand below it
+abbrev pub nodes_of : Tree → List NodeKind
+nodes_of tree = map root_of (subtrees_of tree)
+
+-- a greatest number of times is at least the least one, and at most 65,535
+abbrev pub IsMost : ℕ → Option ℕ → Type 0
+IsMost least None = Unit {0}
+IsMost least (Some most) = (least ≤ most) × (most ≤ 65535)
+
+-- the numbers of a repetition are at most 65,535, and the least one is at most the greatest
+abbrev pub IsBounded : NodeKind → Type 0
+IsBounded (a_repetition repetition) = (repetition.min ≤ 65535) × IsMost repetition.min repetition.max
+IsBounded _ = Unit {0}
+
+-- what is true of each tree that a text spells
+pub record IsWellFormed (tree : Tree) : Type 0 where
+  -- groups are numbered from 1 in the order in which they open
+  pub numbered : (k : ℕ) → k < length (numbers_of tree) → get_or (numbers_of tree) k 0 ≡ k + 1
+  -- no two groups have one name
+  pub names : AllPairs (λ a b. a ≢ b) (names_of tree)
+  -- the numbers of repetitions are in bounds
+  pub repetitions : All IsBounded (nodes_of tree)
