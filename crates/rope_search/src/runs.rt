@@ -22,8 +22,8 @@ pub enum Ended {
     Cut,
 }
 
-/// Reads commands to the input's end and writes their replies, under the default limits: a text has at
-/// most 1,073,741,824 bytes. What it promises is what `run_limited` does.
+/// Reads commands to the input's end and writes their replies, under the default limits: a text has
+/// at most 1,073,741,824 bytes. What it promises is what `run_limited` does.
 pub fn run<R: Source, W: Sink>(
     tick: &mut Lines,
     alloc: Global,
@@ -45,10 +45,10 @@ pub fn run<R: Source, W: Sink>(
     run_limited(tick, alloc, reader, writer, Limits::default())
 }
 
-/// Reads commands to the input's end and writes their replies, each whole before the next command is
-/// carried out, under these limits; then the ending's line, and then it flushes, once. Each read has
-/// room for 4,096 bytes, and none follows the one that tells the end. It stops at the first call that
-/// fails: `Broken` tells which, and what is written then.
+/// Reads commands to the input's end and writes their replies, each whole before the next command
+/// is carried out, under these limits; then the ending's line, and then it flushes, once. Each read
+/// has room for 4,096 bytes, and none follows the one that tells the end. It stops at the first
+/// call that fails: `Broken` tells which, and what is written then.
 pub fn run_limited<R: Source, W: Sink>(
     tick: &mut Lines,
     alloc: Global,
@@ -56,9 +56,9 @@ pub fn run_limited<R: Source, W: Sink>(
     writer: &mut W,
     limits: Limits,
 ) -> Result<Ended, Broken>
-    // Where it ends, what it wrote is an answer to the whole input, however that was cut into reads;
-    // it made at most the rows of that answer's cost and the searches of whole texts that its commands
-    // may make; and it flushed once, after all that it wrote.
+    // Where it ends, what it wrote is an answer to the whole input, however that was cut into
+    // reads; it made at most the rows of that answer's cost and the searches of whole texts that
+    // its commands may make; and it flushed once, after all that it wrote.
     ensures answers { AnswersWhole limits.text result (R.state reader.old)
         (W.state writer.old) (W.state writer.new) tick.old tick.new }
 

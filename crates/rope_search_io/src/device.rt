@@ -11,10 +11,10 @@ use crate::sources::Source;
 use counters::Counter;
 use std::io::{Read, Write};
 
-/// A reader of std as a source, or a writer as a sink. Each call is one call of what is under it, with
-/// the same bytes or the same room. Each error is a failure, that of an interrupted call too: it is
-/// handed back and not retried. So is a writer's answer that it took none of some bytes. It tells its
-/// bytes where the reader or writer under it does.
+/// A reader of std as a source, or a writer as a sink. Each call is one call of what is under it,
+/// with the same bytes or the same room. Each error is a failure, that of an interrupted call too:
+/// it is handed back and not retried. So is a writer's answer that it took none of some bytes. It
+/// tells its bytes where the reader or writer under it does.
 #[derive(Drop)]
 pub struct Device<D> {
     inner: D,

@@ -90,11 +90,11 @@ pub struct Failed;
 /// Why a run broke off.
 #[derive(Clone, Copy, Debug, PartialEq, Eq)]
 pub enum Broken {
-    /// The source failed. All replies to the commands that were read whole are written, and the sink
-    /// wasn't flushed.
+    /// The source failed. All replies to the commands that were read whole are written, and the
+    /// sink wasn't flushed.
     Read,
-    /// The sink failed: in a write, after which a front of those replies is written, and then of the
-    /// ending's line, where the ending was met; or in the flush after all of these.
+    /// The sink failed: in a write, after which a front of those replies is written, and then of
+    /// the ending's line, where the ending was met; or in the flush after all of these.
     Write,
     /// The source was read `2^62` times. All replies to the commands that were read whole are
     /// written, and the sink wasn't flushed.

@@ -13,7 +13,8 @@ pub const READ_LEN: usize = 4096;
 pub const MOST_READS: u64 = 1 << 62;
 
 /// The bytes that were read from a source and not yet taken, and how often the source was read. It
-/// goes along with one source, from its first call on, and takes no memory: the array is a part of it.
+/// goes along with one source, from its first call on, and takes no memory: the array is a part of
+/// it.
 #[derive(Drop)]
 pub struct ReadBuffer {
     bytes: [u8; READ_LEN],
@@ -50,14 +51,16 @@ impl ReadBuffer {
         }
     }
 
-    /// The bytes that were read and not yet taken, in order: all of them, so none where it is empty.
+    /// The bytes that were read and not yet taken, in order: all of them, so none where it is
+    /// empty.
     pub fn as_slice(&self) -> &[u8]
         ensures { result.now ≡ self.now.bytes }
     {
         &self.bytes[self.from..self.to]
     }
 
-    /// Takes `count` bytes from the front of those that `as_slice` gives, which has as many. `O(1)`.
+    /// Takes `count` bytes from the front of those that `as_slice` gives, which has as many.
+    /// `O(1)`.
     pub fn consume(&mut self, count: usize)
         requires { count ≤ length self.old.bytes }
         ensures bytes { self.new.bytes ≡ drop count self.old.bytes }
@@ -68,8 +71,8 @@ impl ReadBuffer {
 
     /// Reads the source once, with room for 4,096 bytes, where no byte is here; otherwise it does
     /// nothing. Answers whether there are bytes now: false says that the source told its end. It is
-    /// `Broken::Read` where the source failed, and `Broken::Turns`, without a read, where it was read
-    /// `2^62` times before. After an error no byte is here, and none was lost.
+    /// `Broken::Read` where the source failed, and `Broken::Turns`, without a read, where it was
+    /// read `2^62` times before. After an error no byte is here, and none was lost.
     pub fn fill<R: Source>(&mut self, source: &mut R) -> Result<bool, Broken>
         ensures taken { MatchResult result
             (λ more. MatchBool more
@@ -98,8 +101,8 @@ impl ReadBuffer {
         }
     }
 
-    /// Takes the next byte, reading the source where none is here. There is none where the source told
-    /// its end. The errors are those of `fill`: no byte is taken then.
+    /// Takes the next byte, reading the source where none is here. There is none where the source
+    /// told its end. The errors are those of `fill`: no byte is taken then.
     pub fn next_byte<R: Source>(&mut self, source: &mut R) -> Result<Option<u8>, Broken>
         ensures taken { MatchResult result
             (λ byte. MatchOption byte

@@ -10,9 +10,9 @@ use counters::Counter;
 use std::alloc::Global;
 use std::marker::Model;
 
-/// Where bytes go. To contracts it tells its bytes, where it knows them, and counts its calls: those of
-/// `write`, those of `flush`, those that failed, and the writes that it took since its last flush that
-/// succeeded.
+/// Where bytes go. To contracts it tells its bytes, where it knows them, and counts its calls:
+/// those of `write`, those of `flush`, those that failed, and the writes that it took since its
+/// last flush that succeeded.
 pub trait Sink {
     // The bytes that it holds, where they are known, and what it counted.
     ghost state: { Self → SinkState };
@@ -25,17 +25,21 @@ pub trait Sink {
         ensures bytes { WriteAppends (state self.old).held (state self.new).held result bytes.now }
         ensures writes { (state self.new).writes ≡ (state self.old).writes + 1 }
         ensures flushes { (state self.new).flushes ≡ (state self.old).flushes }
-        ensures failures { (state self.new).failures ≡ (state self.old).failures + failures_in result }
-        ensures unflushed { (state self.new).unflushed ≡ (state self.old).unflushed + successes_in result };
+        ensures failures { (state self.new).failures
+            ≡ (state self.old).failures + failures_in result }
+        ensures unflushed { (state self.new).unflushed
+            ≡ (state self.old).unflushed + successes_in result };
 
-    /// Hands on what it may have kept back. After `Failed` some of that may not have gone on, and it
-    /// stands as unflushed.
+    /// Hands on what it may have kept back. After `Failed` some of that may not have gone on, and
+    /// it stands as unflushed.
     fn flush(&mut self) -> Result<(), Failed>
         ensures bytes { Keeps (state self.old).held (state self.new).held }
         ensures writes { (state self.new).writes ≡ (state self.old).writes }
         ensures flushes { (state self.new).flushes ≡ (state self.old).flushes + 1 }
-        ensures failures { (state self.new).failures ≡ (state self.old).failures + failures_in result }
-        ensures unflushed { (state self.new).unflushed ≡ left_unflushed result (state self.old).unflushed };
+        ensures failures { (state self.new).failures
+            ≡ (state self.old).failures + failures_in result }
+        ensures unflushed { (state self.new).unflushed
+            ≡ left_unflushed result (state self.old).unflushed };
 }
 
 /// A sink over memory, with room for a number of bytes that it reserves when it is made.
@@ -76,10 +80,10 @@ impl Model for MemorySink {
 impl MemorySink {
     ghost use Rattle.std.specs.Prelude.{◌≡◌, ◌≤◌, [], IfOk, IfErr};
 
-    /// A sink with room for `room` bytes, which takes `step` of them at most in a call, one at least.
-    /// The call of the number `fail` fails, counted from 1, a `flush` too; at `None` none does. A
-    /// `write` of some bytes also fails where the room is full. It is refused with `Fault::Memory`
-    /// alone.
+    /// A sink with room for `room` bytes, which takes `step` of them at most in a call, one at
+    /// least. The call of the number `fail` fails, counted from 1, a `flush` too; at `None` none
+    /// does. A `write` of some bytes also fails where the room is full. It is refused with
+    /// `Fault::Memory` alone.
     pub fn new(
         alloc: Global,
         room: usize,

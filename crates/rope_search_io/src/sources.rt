@@ -10,9 +10,9 @@ use crate::read_buffer::READ_LEN;
 use counters::Counter;
 use std::marker::Model;
 
-/// Where bytes come from. To contracts it tells its bytes, where it knows them, and counts its calls:
-/// all of them, those with room for fewer than 4,096 bytes, those that failed, and those that told the
-/// end.
+/// Where bytes come from. To contracts it tells its bytes, where it knows them, and counts its
+/// calls: all of them, those with room for fewer than 4,096 bytes, those that failed, and those
+/// that told the end.
 pub trait Source {
     // The bytes that it has left, where they are known, and what it counted.
     ghost state: { Self → SourceState };
@@ -24,7 +24,8 @@ pub trait Source {
         ensures bytes { ReadConsumes (state self.old).left (state self.new).left result buf.new }
         ensures reads { (state self.new).reads ≡ (state self.old).reads + 1 }
         ensures narrow { (state self.new).narrow ≡ (state self.old).narrow + narrow_in buf.new }
-        ensures failures { (state self.new).failures ≡ (state self.old).failures + failures_in result }
+        ensures failures { (state self.new).failures
+            ≡ (state self.old).failures + failures_in result }
         ensures ends { (state self.new).ends ≡ (state self.old).ends + ends_in result buf.new };
 }
 
@@ -63,8 +64,9 @@ impl<'a> Model for MemorySource<'a> {
 impl<'a> MemorySource<'a> {
     ghost use Rattle.std.specs.Prelude.{◌≡◌, ◌≤◌};
 
-    /// A source of these bytes, of which a call gives `step` at most, and at least one is to be given.
-    /// The call of the number `fail` fails, counted from 1, and loses nothing; at `None` none fails.
+    /// A source of these bytes, of which a call gives `step` at most, and at least one is to be
+    /// given. The call of the number `fail` fails, counted from 1, and loses nothing; at `None`
+    /// none fails.
     pub fn new(bytes: &'a [u8], step: usize, fail: Option<u64>) -> MemorySource<'a>
         requires { 1 ≤ step }
         ensures { result ≡ record {

@@ -1,4 +1,5 @@
-//! Readers and writers of std under a `Device`: what they and a run ask of them, and such that fail.
+//! Readers and writers of std under a `Device`: what they and a run ask of them, and such that
+//! fail.
 use rope_search::{Broken, Device, Ended, Failed, Lines, Sink, run};
 use std::io;
 use std::io::{Read, Write};

@@ -59,8 +59,8 @@ fn a_run(rt: HostRuntime) -> Result<(), Fail> {
     Ok(())
 }
 
-/// Bytes are taken from a read buffer one by one, or many at once; it reads its source where none is
-/// left.
+/// Bytes are taken from a read buffer one by one, or many at once; it reads its source where none
+/// is left.
 #[test]
 fn a_read_buffer(rt: HostRuntime) -> Result<(), Fail> {
     let mut source = MemorySource::new(b"rope", 4096, None);
@@ -102,8 +102,8 @@ fn a_utf8_judge(rt: HostRuntime) {
     assert!(rt; !judge.is_utf8());
 }
 
-/// A fault is shown by its word. Of the faults that apply to a command, the one of the least rank is
-/// told.
+/// A fault is shown by its word. Of the faults that apply to a command, the one of the least rank
+/// is told.
 #[test]
 fn a_fault(rt: HostRuntime) -> Result<(), Fail> {
     assert!(rt; Fault::Nothing.word() == "none");
