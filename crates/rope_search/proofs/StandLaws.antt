@@ -8,7 +8,7 @@ use Rattle.rope_search.specs.declared.commands.CommandOf.{CommandOf}
 use Rattle.rope_search.specs.declared.commands.Payload.{Payload}
 use Rattle.rope_search.specs.declared.commands.Payload.TheVariants.{Kept, Long, Lost}
 use Rattle.rope_search.specs.Order.{Order, SetText, PrintText, ForkBuffer, SetPattern, DropPattern, ListMatches, UseBuffer}
-use Rattle.rope_search.specs.Pattern.{pattern_limit}
+use Rattle.rope_search_reports.specs.Pattern.{pattern_limit}
 use Rattle.rope_search.specs.Stands.{StandsFor, Stands}
 
 -- ---- a text and bytes that are none, of each length

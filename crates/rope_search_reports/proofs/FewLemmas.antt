@@ -9,7 +9,7 @@ use Rattle.str_indices.specs.Text.{is_line_break, ends_break}
 use Rattle.rope_search_reports.specs.Text.{bytes_of}
 use Rattle.rope_search_reports.specs.Report.{with_first, line_texts, columns, IsRow, AreRows, IsReport, match_count}
 use Rattle.rope_search_reports.proofs.MatchLemmas.{matches-few}
-use Rattle.rope_search_reports.proofs.ReportLemmas.{line_texts-nil, line_texts-break, line_texts-cr, line_texts-more}
+use Rattle.rope_search_reports.proofs.LineLemmas.{line_texts-nil, line_texts-break, line_texts-cr, line_texts-more}
 
 encode-some : (c : ℕ) → 1 ≤ length (encode c)
 encode-some c = omega (arith, length-encode c, len_utf8_bounds c)
