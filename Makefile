@@ -1,6 +1,9 @@
 # make          builds bin/rope-search, the proved program
-# make demo     runs it on examples/first.session and shows the input and the replies
+# make demo     gives it the commands of examples/first.session, and shows each with its reply
 # make test     the gate: every proof and test, then the tests of the built program
+# make edits    tries each edit of code that the prover must refuse: those of crates/NAME/must-fail,
+#               which the gate tries too, and those of crates/NAME/must-fail-more. CRATES='NAME ..'
+#               names some crates, JOBS=N tries N of them at a time
 # make bench    times large texts, their reports, ropes and patterns
 # make clean    removes what these made
 
@@ -13,7 +16,7 @@ sources := crates.txt $(shell find crates -name out -prune -o -type f \
 missing := the command '$(RT)' was not found: install the Rattle kit and put its folder bin on PATH
 need_rt = $(if $(shell command -v $(RT) 2>/dev/null),,$(error $(missing)))
 
-.PHONY: all demo test bench clean
+.PHONY: all demo test edits bench clean
 .DELETE_ON_ERROR:
 
 all: $(program)
@@ -29,14 +32,15 @@ $(program) bin/memory-tests: $(sources)
 	@cp crates/$(crate)/out/$(crate) $@.new && mv $@.new $@
 
 demo: $(program)
-	@echo '--- the input, $(session)'
-	@cat $(session)
-	@echo '--- the replies of $(program)'
-	@$(program) < $(session)
+	@examples/demo.py $(session) $(program)
 
 test:
 	@:$(need_rt)
 	@RT='$(RT)' tests/gate
+
+edits:
+	@:$(need_rt)
+	@RT='$(RT)' JOBS='$(or $(JOBS),1)' tests/edits $(CRATES)
 
 bench: $(program)
 	@bench/load_print

@@ -1,29 +1,9 @@
 #!/bin/sh
 # Measures how long patterns of up to 65,536 bytes take to be parsed, and the most memory that a
 # program takes which does so three times. Takes the command `rt` from RT, if it is set.
-set -eu
-here=$(cd "$(dirname "$0")" && pwd)
-work=$(mktemp -d)
-trap 'rm -rf "$work"' EXIT
-rt=${RT:-rt}
+. "$(dirname "$0")/common.sh"
 
-mkdir -p "$work/repository/crates"
-for crate in rx_sets rx_grammar; do
-    cp -r "$here/../crates/$crate" "$work/repository/crates/"
-    rm -rf "$work/repository/crates/$crate/out"
-done
-cp -r "$here/patterns" "$work/repository/crates/bench_patterns"
-# The sources of the measuring program end in .txt here, since it is no crate of this repository.
-find "$work/repository/crates/bench_patterns" -name '*.txt' | while read -r source; do
-    mv "$source" "${source%.txt}"
-done
-cp "$here/../HANDLES" "$work/repository/"
-grep -E '^rx_(sets|grammar):' "$here/../crates.txt" > "$work/repository/crates.txt"
-echo 'bench_patterns: rx_grammar' >> "$work/repository/crates.txt"
-cd "$work/repository/crates/bench_patterns"
-"$rt" run < /dev/null
-program=$PWD/out/bench_patterns
-
+build patterns rx_grammar
 python3 - "$program" "$work" << 'END'
 import itertools, os, subprocess, sys
 program, work = sys.argv[1:]

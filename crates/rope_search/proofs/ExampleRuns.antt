@@ -12,7 +12,7 @@ use Rattle.rope_search.specs.Session.{first}
 use Rattle.rope_search.specs.Step.{Refuses, Accepts, Step}
 use Rattle.rope_search.specs.Reads.{IsNumber, IsLine, Spells, Ends, Reads}
 use Rattle.rope_search.specs.Answers.{Run, Answers}
-use Rattle.rope_search.specs.Examples.{session_of}
+use Rattle.rope_search.proofs.Examples.{session_of}
 use Rattle.rope_search.proofs.LineLaws.{IsLine-second}
 use Rattle.rope_search.proofs.RunLaws.{Run-one, Run-append, SpellAll-one, SpellAll-append}
 use Rattle.rope_search.proofs.StepLaws.{accepted_text, accepted_print}

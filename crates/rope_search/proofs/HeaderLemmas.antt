@@ -23,9 +23,6 @@ pub Spelling-none : (before digit : ℕ) (digits : List ℕ) (n : ℕ) → (IsDi
 Spelling-none before digit digits n bad h =
     bad (h.decimal.0, omega (arith, h.fits, h.value, digits_after-le (10 * before + (digit - 48)) digits))
 
-pub Spelling-end : (before n : ℕ) → Spelling before [] n → before ≡ n
-Spelling-end before n h = h.value
-
 pub Spelling-nil : (n : ℕ) → n < 2 ^ 64 → Spelling n [] n
 Spelling-nil n fits = record { decimal = tt; value = refl; fits = fits }
 

@@ -16,5 +16,6 @@ pub mod TakesLemmas
 pub mod TextLemmas
 pub mod TurnLemmas
 pub mod ExampleRuns
+pub mod Examples
 pub mod PrintLemmas
 pub mod ReplyLemmas

@@ -21,7 +21,7 @@ use Rattle.rope_search.proofs.TurnLemmas.{SearchesWithin-more, SearchesWithin-tr
 use Rattle.rope_search.proofs.StepLaws.{run_exists}
 use Rattle.rope_search.proofs.ReadLaws.{reads_exist}
 
--- what was read from the source: the bytes that were taken, and those that are still ahead
+-- what was read from the source: the bytes that were taken, and those that are still in the buffer
 pub consumed_all : (left left' : Option (List ℕ)) (bytes back : List ℕ) → Consumes (prepend_known [] left) (prepend_known back left') bytes → Consumes left left' (bytes ++ back)
 consumed_all None left' bytes back p = tt
 consumed_all (Some xs) None bytes back p = absurd p
@@ -32,20 +32,20 @@ consumed_all (Some xs) (Some ys) bytes back p = p ∙ sym (append_assoc bytes ba
 -- the bytes after the last command, and what they tell of the ending
 record Left (ending : Ended) (source : SourceState) (mid new : Scene) : Type 0 where
   rest : List ℕ
-  ends : Ends (rest ++ new.ahead.bytes) ending
-  consumed : Consumes (to_come mid.ahead mid.source) (to_come new.ahead new.source) rest
+  ends : Ends (rest ++ new.buffer.bytes) ending
+  consumed : Consumes (to_come mid.buffer mid.source) (to_come new.buffer new.source) rest
   sound : new.source.failures ≡ mid.source.failures
   wide : new.source.narrow ≡ mid.source.narrow
   told : TellsEnd ending source new.source
 
-nothing_ahead : (rest back : List ℕ) → back ≡ [] → rest ≡ rest ++ back
-nothing_ahead rest back none = sym (append-nil rest) ∙ ap (λ l. rest ++ l) (sym none)
+nothing_unread : (rest back : List ℕ) → back ≡ [] → rest ≡ rest ++ back
+nothing_unread rest back none = sym (append-nil rest) ∙ ap (λ l. rest ++ l) (sym none)
 
 left_by : (limit : ℕ) (ending : Ended) (source : SourceState) (sink : SinkState) (ticks : Ticks) (mid new : Scene)
-    → SoFar limit (start source sink ticks) mid → TakesEnding ending mid.ahead new.ahead mid.source new.source → Left ending source mid new
+    → SoFar limit (start source sink ticks) mid → TakesEnding ending mid.buffer new.buffer mid.source new.source → Left ending source mid new
 left_by limit Command source sink ticks mid new so end = record {
   rest = end.rest;
-  ends = Ends-more end.rest new.ahead.bytes end.ends;
+  ends = Ends-more end.rest new.buffer.bytes end.ends;
   consumed = end.taken.consumed;
   sound = end.taken.sound;
   wide = end.taken.wide;
@@ -53,7 +53,7 @@ left_by limit Command source sink ticks mid new so end = record {
 }
 left_by limit Input source sink ticks mid new so end = record {
   rest = end.rest;
-  ends = subst (λ l. Ends l Input) (nothing_ahead end.rest new.ahead.bytes end.taken.empty) end.ends;
+  ends = subst (λ l. Ends l Input) (nothing_unread end.rest new.buffer.bytes end.taken.empty) end.ends;
   consumed = end.taken.consumed;
   sound = end.taken.sound;
   wide = end.taken.wide;
@@ -61,7 +61,7 @@ left_by limit Input source sink ticks mid new so end = record {
 }
 left_by limit Cut source sink ticks mid new so end = record {
   rest = end.rest;
-  ends = subst (λ l. Ends l Cut) (nothing_ahead end.rest new.ahead.bytes end.taken.empty) end.ends;
+  ends = subst (λ l. Ends l Cut) (nothing_unread end.rest new.buffer.bytes end.taken.empty) end.ends;
   consumed = end.taken.consumed;
   sound = end.taken.sound;
   wide = end.taken.wide;
@@ -70,28 +70,28 @@ left_by limit Cut source sink ticks mid new so end = record {
 
 -- all bytes that were read are the commands so far and what is left
 reads_left : (limit : ℕ) (ending : Ended) (source : SourceState) (sink : SinkState) (ticks : Ticks) (mid new : Scene)
-    (so : SoFar limit (start source sink ticks) mid) (left : Left ending source mid new) → Reads ((so.bytes ++ left.rest) ++ new.ahead.bytes) so.orders ending
+    (so : SoFar limit (start source sink ticks) mid) (left : Left ending source mid new) → Reads ((so.bytes ++ left.rest) ++ new.buffer.bytes) so.orders ending
 reads_left limit ending source sink ticks mid new so left = record {
   spelled = so.bytes;
-  rest = left.rest ++ new.ahead.bytes;
+  rest = left.rest ++ new.buffer.bytes;
   spells = so.spells;
   ends = left.ends;
-  whole = append_assoc so.bytes left.rest new.ahead.bytes;
+  whole = append_assoc so.bytes left.rest new.buffer.bytes;
 }
 
 consumed_left : (limit : ℕ) (source : SourceState) (sink : SinkState) (ticks : Ticks) (mid new : Scene) (so : SoFar limit (start source sink ticks) mid) (rest : List ℕ)
-    → Consumes (to_come mid.ahead mid.source) (to_come new.ahead new.source) rest → Consumes source.left new.source.left ((so.bytes ++ rest) ++ new.ahead.bytes)
+    → Consumes (to_come mid.buffer mid.source) (to_come new.buffer new.source) rest → Consumes source.left new.source.left ((so.bytes ++ rest) ++ new.buffer.bytes)
 consumed_left limit source sink ticks mid new so rest consumed =
-    consumed_all source.left new.source.left (so.bytes ++ rest) new.ahead.bytes
-    (Consumes-trans (prepend_known [] source.left) (to_come mid.ahead mid.source) (to_come new.ahead new.source) so.bytes rest so.taken.consumed consumed)
+    consumed_all source.left new.source.left (so.bytes ++ rest) new.buffer.bytes
+    (Consumes-trans (prepend_known [] source.left) (to_come mid.buffer mid.source) (to_come new.buffer new.source) so.bytes rest so.taken.consumed consumed)
 
 pub Ran-answered : (limit : ℕ) (ending : Ended) (source : SourceState) (sink sink' : SinkState) (ticks : Ticks) (mid new : Scene)
-    → SoFar limit (start source sink ticks) mid → TakesEnding ending mid.ahead new.ahead mid.source new.source → OnlyReads mid new
+    → SoFar limit (start source sink ticks) mid → TakesEnding ending mid.buffer new.buffer mid.source new.source → OnlyReads mid new
     → ClosesWhole ending new.sink sink' → IsAnswered limit ending source new.source sink sink' ticks new.ticks
 Ran-answered limit ending source sink sink' ticks mid new so end only closed =
     let left = left_by limit ending source sink ticks mid new so end in
     record {
-      input = (so.bytes ++ left.rest) ++ new.ahead.bytes;
+      input = (so.bytes ++ left.rest) ++ new.buffer.bytes;
       output = so.out ++ closing ending;
       cost = so.cost;
       read = consumed_left limit source sink ticks mid new so left.rest left.consumed;
@@ -115,12 +115,12 @@ FlushesLast-after a b c lost same last = elim last [ inl none ↦ inl (none ∙ 
 
 -- the ending's line wasn't written whole, or the flush failed
 unclosed : (limit : ℕ) (ending : Ended) (source : SourceState) (sink sink' : SinkState) (ticks : Ticks) (mid new : Scene)
-    → SoFar limit (start source sink ticks) mid → TakesEnding ending mid.ahead new.ahead mid.source new.source → OnlyReads mid new
+    → SoFar limit (start source sink ticks) mid → TakesEnding ending mid.buffer new.buffer mid.source new.source → OnlyReads mid new
     → ClosesFront ending new.sink sink' → StopsWriting limit source new.source sink sink' ticks new.ticks
 unclosed limit ending source sink sink' ticks mid new so end only closed =
     let left = left_by limit ending source sink ticks mid new so end in
     record {
-      input = (so.bytes ++ left.rest) ++ new.ahead.bytes;
+      input = (so.bytes ++ left.rest) ++ new.buffer.bytes;
       orders = so.orders;
       ending = ending;
       replies = so.out;
@@ -144,7 +144,7 @@ unclosed limit ending source sink sink' ticks mid new so end only closed =
     }
 
 pub Ran-unclosed : (limit : ℕ) (broken : Broken) (ending : Ended) (source : SourceState) (sink sink' : SinkState) (ticks : Ticks) (mid new : Scene)
-    → SoFar limit (start source sink ticks) mid → TakesEnding ending mid.ahead new.ahead mid.source new.source → OnlyReads mid new
+    → SoFar limit (start source sink ticks) mid → TakesEnding ending mid.buffer new.buffer mid.source new.source → OnlyReads mid new
     → Closes {T = Unit {0}} (Err broken) ending new.sink sink' → Ran limit (Err broken) source new.source sink sink' ticks new.ticks
 Ran-unclosed limit Write ending source sink sink' ticks mid new so end only closed = unclosed limit ending source sink sink' ticks mid new so end only closed
 Ran-unclosed limit Read ending source sink sink' ticks mid new so end only closed = absurd closed
@@ -164,12 +164,12 @@ unfinished_by rest h = elim h [ inl empty ↦ record { ending = Input; ends = em
 
 stopped : (limit : ℕ) (broken : Broken) (source : SourceState) (sink : SinkState) (ticks : Ticks) (mid new : Scene)
     → SoFar limit (start source sink ticks) mid → OnlyReads mid new → (rest : List ℕ) → IsUnfinished rest
-    → Consumes (to_come mid.ahead mid.source) (to_come new.ahead new.source) rest → new.ahead.bytes ≡ []
+    → Consumes (to_come mid.buffer mid.source) (to_come new.buffer new.source) rest → new.buffer.bytes ≡ []
     → StopsFor broken source new.source → new.source.ends ≡ mid.source.ends → new.source.narrow ≡ mid.source.narrow → StopsReading limit broken source new.source sink new.sink ticks new.ticks
 stopped limit broken source sink ticks mid new so only rest unfinished consumed none why open_end wide =
     let how = unfinished_by rest unfinished in
     record {
-      input = (so.bytes ++ rest) ++ new.ahead.bytes;
+      input = (so.bytes ++ rest) ++ new.buffer.bytes;
       orders = so.orders;
       ending = how.ending;
       output = so.out;
@@ -182,7 +182,7 @@ stopped limit broken source sink ticks mid new so only rest unfinished consumed 
         rest = rest;
         spells = so.spells;
         ends = how.ends;
-        whole = sym (nothing_ahead (so.bytes ++ rest) new.ahead.bytes none);
+        whole = sym (nothing_unread (so.bytes ++ rest) new.buffer.bytes none);
       };
       unfinished = how.unmet;
       run = so.run;
@@ -204,12 +204,12 @@ cut_short limit source sink ticks mid new so turned =
     let shown = turned.reply.bytes in
     let spells = SpellAll-append so.orders (turned.order ∷ []) so.bytes turned.bytes so.spells (SpellAll-one turned.order turned.bytes turned.spells) in
     let run = Run-push limit first mid.session new.session so.orders turned.order so.out so.cost turned.cost turned.answer shown so.run turned.step turned.costs turned.reply.shows in
-    let ahead = reads_exist new.ahead.bytes in
-    let later = run_exists limit new.session ahead.0 in
+    let unread = reads_exist new.buffer.bytes in
+    let later = run_exists limit new.session unread.0 in
     record {
-      input = bytes ++ new.ahead.bytes;
-      orders = orders ++ ahead.0;
-      ending = ahead.1;
+      input = bytes ++ new.buffer.bytes;
+      orders = orders ++ unread.0;
+      ending = unread.1;
       replies = (so.out ++ shown) ++ later.0;
       cost = (so.cost + turned.cost) + later.1;
       last = later.2;
@@ -218,12 +218,12 @@ cut_short limit source sink ticks mid new so turned =
       lost = turned.reply.written.lost ++ later.0;
       read = consumed_left limit source sink ticks mid new so turned.bytes turned.taken.consumed;
       written = Appends-trans sink.held mid.sink.held new.sink.held so.out turned.reply.written.front so.written.appended turned.reply.written.appended;
-      reads = Reads-after orders ahead.0 ahead.1 bytes new.ahead.bytes spells ahead.2;
-      run = Run-append limit first new.session later.2 orders ahead.0 (so.out ++ shown) later.0 (so.cost + turned.cost) later.1 run later.3;
+      reads = Reads-after orders unread.0 unread.1 bytes new.buffer.bytes spells unread.2;
+      run = Run-append limit first new.session later.2 orders unread.0 (so.out ++ shown) later.0 (so.cost + turned.cost) later.1 run later.3;
       met = inl (refl, turned.taken.open_end ∙ so.taken.open_end);
       front = append-nil ((so.out ++ shown) ++ later.0) ∙ ap (λ l. (so.out ++ l) ++ later.0) turned.reply.written.split
           ∙ ap (λ l. l ++ later.0) (sym (append_assoc so.out turned.reply.written.front turned.reply.written.lost)) ∙ append_assoc (so.out ++ turned.reply.written.front) turned.reply.written.lost later.0;
-      searches = SearchesWithin-more orders ahead.0 (so.cost + turned.cost) later.1 ticks new.ticks
+      searches = SearchesWithin-more orders unread.0 (so.cost + turned.cost) later.1 ticks new.ticks
           (SearchesWithin-trans so.orders (turned.order ∷ []) so.cost turned.cost ticks mid.ticks new.ticks so.searches turned.searches);
       wide = turned.taken.wide ∙ so.taken.wide;
       read_soundly = turned.taken.sound ∙ so.taken.sound;
@@ -246,7 +246,7 @@ Ran-broken limit Memory source sink ticks mid new so turn = absurd turn.0.taken
 
 -- ---- a turn takes at least one byte
 
-pub most_to_come-turn : (limit : ℕ) (mid new : Scene) (Written : List ℕ → Type 0) → Turned limit mid new Written → most_to_come new.ahead < most_to_come mid.ahead
+pub most_to_come-turn : (limit : ℕ) (mid new : Scene) (Written : List ℕ → Type 0) → Turned limit mid new Written → most_to_come new.buffer < most_to_come mid.buffer
 most_to_come-turn limit mid new Written turned =
     let line = turned.spells.line in
     let some : 0 < length turned.bytes = omega (arith, ap length turned.spells.whole, length-append line (10 ∷ payload_of turned.order)) in

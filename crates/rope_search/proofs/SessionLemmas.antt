@@ -1,7 +1,6 @@
 -- Steps of a session on the list of its buffers.
 use Rattle.std.proofs.Common.{◌≡◌, ℕ, ◌+◌, ◌<◌, ◌≤◌, List, [], length, map, sym, ap, ◌∙◌, subst, inl, inr, IsUtf8, Ok, arith, slice_index_or, slice_set}
 use Rattle.std.proofs.lemmas.List.{map-set, get_or-map, get_or-set_same, length-map}
-use Rattle.std.proofs.Math.Seq.{map-set_same}
 use Rattle.rope_search.specs.declared.commands.Payload.{Payload}
 use Rattle.rope_search.specs.declared.commands.CommandOf.TheVariants.{Text, Pattern as PatternCommand}
 use Rattle.rope_search.specs.Order.{Order, SetText, SetPattern}
@@ -78,13 +77,6 @@ Chosen-set items k limit old new s change c set =
     map-set state items k new ∙ ap (slice_set states k) written in
     subst (λ (t : LimitedSession). state_with items k new ≡ with_chosen t.state (change (chosen_buffer t.state))) c.seen
     (ap (λ (bs : List BufferState). record { buffers = bs; chosen = k }) list)
-
--- where it stays, the session stays
-pub Chosen-stays : (items : List LimitedBuffer) (k limit : ℕ) (old new : LimitedBuffer) (s : LimitedSession) → Chosen items k limit old s → new ≡ old → state_with items k new ≡ s.state
-Chosen-stays items k limit old new s c stays =
-    let state : LimitedBuffer → BufferState = λ b. b.state in
-    let list : map state (slice_set items k new) ≡ map state items = map-set_same state items k new old (ap state (stays ∙ c.is)) in
-    ap (λ (bs : List BufferState). record { buffers = bs; chosen = k }) list ∙ ap (λ (t : LimitedSession). t.state) c.seen
 
 -- ---- a text
 

@@ -48,7 +48,7 @@ SearchesWithin-more os ps m n t u before = record {
 
 -- a command that was read whole was carried out, and so much of its answer was written
 pub Turned-given : (limit : ℕ) (header : CommandOf ℕ) (kept : Collected) (answer : Answer) (old new : Scene) (Written : List ℕ → Type 0)
-    → TakesOrder limit header kept old.ahead new.ahead old.source new.source
+    → TakesOrder limit header kept old.buffer new.buffer old.source new.source
     → ((order : Order) → IsReadAs limit header kept order → Step limit old.session order answer new.session)
     → ((order : Order) (cost : ℕ) → IsReadAs limit header kept order → Costs limit old.session order cost → new.ticks.count ≤ old.ticks.count + cost)
     → ((order : Order) → IsReadAs limit header kept order → new.ticks.wholes ≤ old.ticks.wholes + whole_searches order)
@@ -97,7 +97,7 @@ SoFar-none limit scene = record {
   out = [];
   cost = 0;
   spells = refl;
-  taken = Takes-nil scene.ahead scene.source;
+  taken = Takes-nil scene.buffer scene.source;
   run = Run-nil limit scene.session;
   written = Writes-nil scene.sink;
   searches = SearchesWithin-none scene.ticks;
@@ -111,7 +111,7 @@ SoFar-push limit old mid new so turned = record {
   out = so.out ++ turned.reply.bytes;
   cost = so.cost + turned.cost;
   spells = SpellAll-append so.orders (turned.order ∷ []) so.bytes turned.bytes so.spells (SpellAll-one turned.order turned.bytes turned.spells);
-  taken = Takes-trans old.ahead mid.ahead new.ahead old.source mid.source new.source so.bytes turned.bytes so.taken turned.taken;
+  taken = Takes-trans old.buffer mid.buffer new.buffer old.source mid.source new.source so.bytes turned.bytes so.taken turned.taken;
   run = Run-push limit old.session mid.session new.session so.orders turned.order so.out so.cost turned.cost turned.answer turned.reply.bytes so.run turned.step turned.costs turned.reply.shows;
   written = Writes-then old.sink mid.sink new.sink so.out turned.reply.bytes so.written turned.reply.written;
   searches = SearchesWithin-trans so.orders (turned.order ∷ []) so.cost turned.cost old.ticks mid.ticks new.ticks so.searches turned.searches;

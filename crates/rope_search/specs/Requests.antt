@@ -4,8 +4,8 @@ use Rattle.rope_search_io.specs.declared.faults.Broken.{Broken}
 use Rattle.rope_search_io.specs.Sources.{SourceState}
 use Rattle.rope_search_io.specs.ReadBuffer.{Ahead, Takes, TakesLast, TakesUntil}
 use Rattle.rope_search_io.specs.Utf8Judge.{Continues}
-use Rattle.rope_search.specs.declared.lines.LineRead.{LineRead}
-use Rattle.rope_search.specs.declared.lines.LineRead.TheVariants.{Whole, Long, Part}
+use Rattle.rope_search.specs.declared.command_lines.LineRead.{LineRead}
+use Rattle.rope_search.specs.declared.command_lines.LineRead.TheVariants.{Whole, Long, Part}
 use Rattle.rope_search.specs.declared.payloads.Collected.{Collected}
 use Rattle.rope_search.specs.declared.payloads.Collected.TheVariants.{Kept, Judged, Lost}
 use Rattle.rope_search.specs.declared.commands.CommandOf.{CommandOf}

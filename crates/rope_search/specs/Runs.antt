@@ -135,14 +135,14 @@ AnswersWhole limit (Err broken) source sink sink' ticks ticks' = Unit {0}
 -- all that a run changes
 pub record Scene : Type 0 where
   pub session : State
-  pub ahead : Ahead
+  pub buffer : Ahead
   pub source : SourceState
   pub sink : SinkState
   pub ticks : Ticks
 
 -- before anything is read: the first session
 abbrev pub start : SourceState → SinkState → Ticks → Scene
-start source sink ticks = record { session = first; ahead = record { bytes = []; reads = 0 }; source = source; sink = sink; ticks = ticks }
+start source sink ticks = record { session = first; buffer = record { bytes = []; reads = 0 }; source = source; sink = sink; ticks = ticks }
 
 -- a command was read and carried out, and of its reply so much was written
 pub record Turned (limit : ℕ) (old new : Scene) (Written : List ℕ → Type 0) : Type 0 where
@@ -151,7 +151,7 @@ pub record Turned (limit : ℕ) (old new : Scene) (Written : List ℕ → Type 0
   pub answer : Answer
   pub cost : ℕ
   pub spells : Spells order bytes
-  pub taken : Takes old.ahead new.ahead old.source new.source bytes
+  pub taken : Takes old.buffer new.buffer old.source new.source bytes
   pub step : Step limit old.session order answer new.session
   pub costs : Costs limit old.session order cost
   pub reply : IsShown new.session answer Written
@@ -166,9 +166,9 @@ pub record OnlyReads (old new : Scene) : Type 0 where
 -- one turn: a command, or how the input ended, or why the run broke off
 abbrev pub TakesTurn : ℕ → Result (Option Ended) Broken → Scene → Scene → Type 0
 TakesTurn limit (Ok None) old new = Turned limit old new (Writes old.sink new.sink)
-TakesTurn limit (Ok (Some ending)) old new = TakesEnding ending old.ahead new.ahead old.source new.source × OnlyReads old new
+TakesTurn limit (Ok (Some ending)) old new = TakesEnding ending old.buffer new.buffer old.source new.source × OnlyReads old new
 TakesTurn limit (Err Write) old new = Turned limit old new (WritesFront old.sink new.sink)
-TakesTurn limit (Err broken) old new = TakesUnfinished broken old.ahead new.ahead old.source new.source × OnlyReads old new
+TakesTurn limit (Err broken) old new = TakesUnfinished broken old.buffer new.buffer old.source new.source × OnlyReads old new
 
 -- the turns so far
 pub record SoFar (limit : ℕ) (old now : Scene) : Type 0 where
@@ -177,7 +177,7 @@ pub record SoFar (limit : ℕ) (old now : Scene) : Type 0 where
   pub out : List ℕ
   pub cost : ℕ
   pub spells : SpellAll orders bytes
-  pub taken : Takes old.ahead now.ahead old.source now.source bytes
+  pub taken : Takes old.buffer now.buffer old.source now.source bytes
   pub run : Run limit old.session orders out cost now.session
   pub written : Writes old.sink now.sink out
   pub searches : SearchesWithin orders cost old.ticks now.ticks

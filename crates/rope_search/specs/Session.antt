@@ -52,3 +52,7 @@ pub record LimitedBuffer : Type 0 where
 pub record LimitedSession : Type 0 where
   pub limit : ℕ
   pub state : State
+
+-- the limit of the chosen one of these buffers
+abbrev pub limit_in : List LimitedBuffer → ℕ → ℕ
+limit_in buffers chosen = (slice_index_or buffers chosen (record { limit = 0; state = fresh [] })).limit

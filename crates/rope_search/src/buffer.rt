@@ -63,6 +63,18 @@ impl Buffer {
         })
     }
 
+    /// The allocator that the buffer was made with.
+    pub(crate) fn alloc(&self) -> Global {
+        self.alloc
+    }
+
+    /// The limits that the buffer was made with.
+    pub(crate) fn limits(&self) -> Limits
+        ensures { result.text ≡ self.now.limit }
+    {
+        self.limits
+    }
+
     /// The current text.
     pub fn text(&self) -> &Rope
         ensures { text_of result.now ≡ current_text self.now.state }

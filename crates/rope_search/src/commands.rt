@@ -9,21 +9,26 @@ use crate::limits::Limits;
 use rope_search_reports::PATTERN_LEN;
 
 /// A command, with what there is of its payload: how many bytes it has, or what was kept of them.
+/// `Session::apply` carries it out, and tells what is refused first where more than one thing is.
 #[derive(Clone, Copy, Debug, PartialEq, Eq)]
 pub enum CommandOf<P> {
-    /// Sets the chosen buffer's text.
+    /// Sets the chosen buffer's text; its pattern stays. Refused with `Fault::Utf8` where the payload
+    /// isn't UTF-8, `Fault::Size` where it has more bytes than the limit, or `Fault::Memory`.
     Text(P),
-    /// Shows the chosen buffer's text.
+    /// Shows the chosen buffer's text. It is never refused.
     Print,
-    /// Makes a new buffer of the chosen one's text.
+    /// Makes a new buffer of the chosen one's text, without its pattern, and answers the new one's
+    /// number. Refused with `Fault::Memory` alone.
     Fork,
-    /// Sets the chosen buffer's pattern.
+    /// Sets the chosen buffer's pattern, in place of any other. Refused with `Fault::Utf8` where the
+    /// payload isn't UTF-8, `Fault::Pattern` where it is no pattern, `Fault::Limit` where it has more
+    /// than 65,536 bytes, or `Fault::Memory`.
     Pattern(P),
-    /// Drops the chosen buffer's pattern.
+    /// Drops the chosen buffer's pattern, where there is one. It is never refused.
     Off,
-    /// Shows the chosen buffer's report.
+    /// Shows the chosen buffer's report. Refused with `Fault::Nothing` where it has no pattern.
     List,
-    /// Chooses a buffer by its number.
+    /// Chooses a buffer by its number, from 0. Refused with `Fault::Nothing` where there is none.
     Use(u64),
 }
 
@@ -74,7 +79,7 @@ impl CommandOf<u64> {
 /// What was kept of a payload.
 #[derive(Clone, Copy, Debug, PartialEq, Eq)]
 pub enum Payload<'a> {
-    /// All of its bytes.
+    /// All of its bytes. They need not be UTF-8.
     Kept(&'a [u8]),
     /// It has more bytes than the limit: on texts, or the 65,536 bytes of a pattern. It was read past,
     /// and judged over all its bytes.
@@ -82,7 +87,7 @@ pub enum Payload<'a> {
         /// Whether it is UTF-8.
         utf8: bool,
     },
-    /// There was no memory for it. It was read past.
+    /// There was no memory for it. It was read past. A command with it is refused with `Fault::Memory`.
     Lost,
 }
 
@@ -93,8 +98,8 @@ pub enum Reply {
     Done,
     /// It is done, and this is the number of a buffer.
     Number(usize),
-    /// The chosen buffer's report is to be shown.
+    /// The chosen buffer's report is to be shown: `session.buffer().report()`.
     List,
-    /// The chosen buffer's text is to be shown.
+    /// The chosen buffer's text is to be shown: `session.buffer().text()`.
     Print,
 }

@@ -2,11 +2,11 @@
 #![tactic(auto)]
 
 mod buffer;
+mod command_lines;
 mod commands;
 mod headers;
 pub mod laws;
 mod limits;
-mod lines;
 mod listings;
 mod payloads;
 mod replies;

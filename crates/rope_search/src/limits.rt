@@ -1,10 +1,11 @@
 //! What a session refuses by its size.
 ghost use Rattle.std.specs.Prelude.{◌^◌, ◌<◌};
 
-/// The most bytes that a text in a buffer has.
+/// How large what a session or a buffer holds may be. The default is one gibibyte for a text.
 #[derive(Clone, Copy, Debug, PartialEq, Eq)]
 pub struct Limits {
-    /// In bytes, at most `isize::MAX`.
+    /// The most bytes that a text in a buffer has, at most `isize::MAX`. One with more is refused with
+    /// `Fault::Size`.
     pub text: usize,
     ghost in_range: { text < 2 ^ 63 },
 }

@@ -14,27 +14,28 @@ use rope_search_io::{Broken, Fault, Sink, WriteBuffer};
 pub fn write_answer<W: Sink>(
     session: &Session,
     answer: Result<Reply, Fault>,
-    behind: &mut WriteBuffer,
+    write_buffer: &mut WriteBuffer,
     sink: &mut W,
 ) -> Result<(), Broken>
-    requires { behind.old ≡ [] }
-    ensures empty { OnOk result (behind.new ≡ []) }
+    requires { write_buffer.old ≡ [] }
+    ensures empty { OnOk result (write_buffer.new ≡ []) }
     ensures written { MatchResult result
         (λ _. IsShown session.now.state answer (Writes (W.state sink.old) (W.state sink.new)))
-        (λ broken. IsShown session.now.state answer (WritesUntil broken (W.state sink.old) (W.state sink.new))) }
+        (λ broken. IsShown session.now.state answer
+        (WritesUntil broken (W.state sink.old) (W.state sink.new))) }
 {
     let mut digits = Digits::new();
     match answer {
-        Ok(Reply::Done) => behind.send_parts(sink, &[b"ok\n"]),
+        Ok(Reply::Done) => write_buffer.send_parts(sink, &[b"ok\n"]),
         Ok(Reply::Number(number)) => {
             let number = digits.format(number).as_bytes();
-            behind.send_parts(sink, &[b"ok ", number, b"\n"])
+            write_buffer.send_parts(sink, &[b"ok ", number, b"\n"])
         }
         Ok(Reply::List) => {
             let rows = session.buffer().report().unwrap_or(&[]);
-            write_report(rows, behind, sink)
+            write_report(rows, write_buffer, sink)
         }
-        Ok(Reply::Print) => write_text(session.buffer().text(), behind, sink),
-        Err(fault) => behind.send_parts(sink, &[b"error ", fault.word().as_bytes(), b"\n"]),
+        Ok(Reply::Print) => write_text(session.buffer().text(), write_buffer, sink),
+        Err(fault) => write_buffer.send_parts(sink, &[b"error ", fault.word().as_bytes(), b"\n"]),
     }
 }

@@ -1,10 +1,10 @@
 //! Reading a whole command.
 ghost use Rattle.rope_search.specs.Requests.{TakesRequest, TakesRest};
 
+use crate::command_lines::{LINE_LEN, LineRead, read_line};
 use crate::commands::Header;
 use crate::headers::header_of;
 use crate::limits::Limits;
-use crate::lines::{LINE_LEN, LineRead, read_line};
 use crate::payloads::{Collected, collect};
 use crate::runs::Ended;
 use rope_search_io::{Broken, ReadBuffer, Source};

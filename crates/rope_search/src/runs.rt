@@ -22,27 +22,33 @@ pub enum Ended {
     Cut,
 }
 
-/// Reads commands to the input's end and writes their replies, under the default limits. What it
-/// promises is what `run_limited` does.
+/// Reads commands to the input's end and writes their replies, under the default limits: a text has at
+/// most 1,073,741,824 bytes. What it promises is what `run_limited` does.
 pub fn run<R: Source, W: Sink>(
     tick: &mut Lines,
     alloc: Global,
     reader: &mut R,
     writer: &mut W,
 ) -> Result<Ended, Broken>
-    ensures answers { AnswersWhole (2 ^ 30) result (R.state reader.old) (W.state writer.old) (W.state writer.new) tick.old tick.new }
+    ensures answers { AnswersWhole (2 ^ 30) result (R.state reader.old)
+        (W.state writer.old) (W.state writer.new) tick.old tick.new }
     ensures ran { Ran (2 ^ 30) result (R.state reader.old) (R.state reader.new)
         (W.state writer.old) (W.state writer.new) tick.old tick.new }
 
-    ensures read { (result ≡ Err Broken.Read) ↔ ((R.state reader.old).failures < (R.state reader.new).failures) }
-    ensures write { (result ≡ Err Broken.Write) ↔ ((W.state writer.old).failures < (W.state writer.new).failures) }
-    ensures turns { result ≡ Err Broken.Turns → (R.state reader.old).reads + 2 ^ 62 ≤ (R.state reader.new).reads }
+    ensures read { (result ≡ Err Broken.Read)
+        ↔ ((R.state reader.old).failures < (R.state reader.new).failures) }
+    ensures write { (result ≡ Err Broken.Write)
+        ↔ ((W.state writer.old).failures < (W.state writer.new).failures) }
+    ensures turns { result ≡ Err Broken.Turns
+        → (R.state reader.old).reads + 2 ^ 62 ≤ (R.state reader.new).reads }
 {
     run_limited(tick, alloc, reader, writer, Limits::default())
 }
 
 /// Reads commands to the input's end and writes their replies, each whole before the next command is
-/// carried out, under these limits. It stops at the first read or write that fails.
+/// carried out, under these limits; then the ending's line, and then it flushes, once. Each read has
+/// room for 4,096 bytes, and none follows the one that tells the end. It stops at the first call that
+/// fails: `Broken` tells which, and what is written then.
 pub fn run_limited<R: Source, W: Sink>(
     tick: &mut Lines,
     alloc: Global,
@@ -50,18 +56,23 @@ pub fn run_limited<R: Source, W: Sink>(
     writer: &mut W,
     limits: Limits,
 ) -> Result<Ended, Broken>
-    // Where it ends, what it wrote is an answer to the whole input, however that was cut into reads,
-    // and it made at most the rows of that answer's cost.
-    ensures answers { AnswersWhole limits.text result (R.state reader.old) (W.state writer.old) (W.state writer.new) tick.old tick.new }
+    // Where it ends, what it wrote is an answer to the whole input, however that was cut into reads;
+    // it made at most the rows of that answer's cost and the searches of whole texts that its commands
+    // may make; and it flushed once, after all that it wrote.
+    ensures answers { AnswersWhole limits.text result (R.state reader.old)
+        (W.state writer.old) (W.state writer.new) tick.old tick.new }
 
     // The same by what was read alone, with what each fault leaves.
     ensures ran { Ran limits.text result (R.state reader.old) (R.state reader.new)
         (W.state writer.old) (W.state writer.new) tick.old tick.new }
 
     // A fault comes exactly where the source or the sink counted one.
-    ensures read { (result ≡ Err Broken.Read) ↔ ((R.state reader.old).failures < (R.state reader.new).failures) }
-    ensures write { (result ≡ Err Broken.Write) ↔ ((W.state writer.old).failures < (W.state writer.new).failures) }
-    ensures turns { result ≡ Err Broken.Turns → (R.state reader.old).reads + 2 ^ 62 ≤ (R.state reader.new).reads }
+    ensures read { (result ≡ Err Broken.Read)
+        ↔ ((R.state reader.old).failures < (R.state reader.new).failures) }
+    ensures write { (result ≡ Err Broken.Write)
+        ↔ ((W.state writer.old).failures < (W.state writer.new).failures) }
+    ensures turns { result ≡ Err Broken.Turns
+        → (R.state reader.old).reads + 2 ^ 62 ≤ (R.state reader.new).reads }
 {
     run_turns(tick, alloc, reader, writer, limits)
 }
@@ -80,13 +91,20 @@ fn run_turns<R: Source, W: Sink>(
     let Ok(mut session) = Session::new(alloc, limits) else {
         return Err(Broken::Memory);
     };
-    let mut ahead = ReadBuffer::new();
-    let mut behind = WriteBuffer::new();
+    let mut read_buffer = ReadBuffer::new();
+    let mut write_buffer = WriteBuffer::new();
     loop {
-        match turn(tick, &mut session, &mut ahead, reader, &mut behind, writer)? {
+        match turn(
+            tick,
+            &mut session,
+            &mut read_buffer,
+            reader,
+            &mut write_buffer,
+            writer,
+        )? {
             None => {}
             Some(ending) => {
-                close(ending, &mut behind, writer)?;
+                close(ending, &mut write_buffer, writer)?;
                 return Ok(ending);
             }
         }
@@ -97,25 +115,37 @@ fn run_turns<R: Source, W: Sink>(
 fn turn<R: Source, W: Sink>(
     tick: &mut Lines,
     session: &mut Session,
-    ahead: &mut ReadBuffer,
+    read_buffer: &mut ReadBuffer,
     reader: &mut R,
-    behind: &mut WriteBuffer,
+    write_buffer: &mut WriteBuffer,
     writer: &mut W,
 ) -> Result<Option<Ended>, Broken>
-    requires { behind.old ≡ [] }
+    requires { write_buffer.old ≡ [] }
     ensures limit { session.new.limit ≡ session.old.limit }
-    ensures empty { OnOk result (behind.new ≡ []) }
+    ensures empty { OnOk result (write_buffer.new ≡ []) }
     ensures taken { TakesTurn session.old.limit result
-        (record { session = session.old.state; ahead = ahead.old; source = R.state reader.old; sink = W.state writer.old; ticks = tick.old })
-        (record { session = session.new.state; ahead = ahead.new; source = R.state reader.new; sink = W.state writer.new; ticks = tick.new }) }
+        (record {
+          session = session.old.state;
+          buffer = read_buffer.old;
+          source = R.state reader.old;
+          sink = W.state writer.old;
+          ticks = tick.old;
+        })
+        (record {
+          session = session.new.state;
+          buffer = read_buffer.new;
+          source = R.state reader.new;
+          sink = W.state writer.new;
+          ticks = tick.new;
+        }) }
 {
     let alloc = session.alloc();
     let limits = session.limits();
-    match read_request(ahead, reader, alloc, limits)? {
+    match read_request(read_buffer, reader, alloc, limits)? {
         Request::End(ending) => Ok(Some(ending)),
         Request::Given(header, collected) => {
             let answer = session.apply(tick, header.with(collected.payload()));
-            write_answer(session, answer, behind, writer)?;
+            write_answer(session, answer, write_buffer, writer)?;
             Ok(None)
         }
     }
@@ -133,11 +163,15 @@ fn closing_line(ending: Ended) -> &'static [u8]
 }
 
 /// Writes the line that is written last, and flushes.
-fn close<W: Sink>(ending: Ended, behind: &mut WriteBuffer, writer: &mut W) -> Result<(), Broken>
-    requires { behind.old ≡ [] }
+fn close<W: Sink>(
+    ending: Ended,
+    write_buffer: &mut WriteBuffer,
+    writer: &mut W,
+) -> Result<(), Broken>
+    requires { write_buffer.old ≡ [] }
     ensures { Closes result ending (W.state writer.old) (W.state writer.new) }
 {
-    behind.send_parts(writer, &[closing_line(ending)])?;
+    write_buffer.send_parts(writer, &[closing_line(ending)])?;
     match writer.flush() {
         Ok(()) => Ok(()),
         Err(Failed) => Err(Broken::Write),

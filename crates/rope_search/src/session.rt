@@ -15,31 +15,31 @@ use rope_search_reports::Lines;
 use std::alloc::Global;
 use std::marker::Model;
 
-/// Buffers by number, from 0, and the chosen one.
+/// Buffers by number, from 0, and the chosen one. All have the same limits.
 #[derive(Drop)]
 pub struct Session {
-    alloc: Global,
-    limits: Limits,
     buffers: Vec<Buffer>,
     chosen: usize,
 }
 
 impl Model for Session {
     ghost use Rattle.std.specs.Prelude.{◌≡◌, ◌<◌, All, map, vec_len};
-    ghost use Rattle.rope_search.specs.Session.{LimitedSession, LimitedBuffer};
+    ghost use Rattle.rope_search.specs.Session.{LimitedSession, LimitedBuffer, limit_in};
 
     ghost Value = { LimitedSession };
 
     ghost view = { λ s. record {
-      limit = s.limits.text;
+      limit = limit_in s.buffers.items s.chosen;
       state = record { buffers = map (λ (b : LimitedBuffer). b.state) s.buffers.items; chosen = s.chosen };
     } };
 
-    ghost invariant = { λ s. (s.chosen < vec_len s.buffers) × All (λ (b : LimitedBuffer). b.limit ≡ s.limits.text) s.buffers.items };
+    ghost invariant = { λ s. (s.chosen < vec_len s.buffers)
+        × All (λ (b : LimitedBuffer). b.limit ≡ limit_in s.buffers.items s.chosen) s.buffers.items };
 }
 
 impl Session {
-    /// One buffer, chosen, with the empty text. It may be refused with `Fault::Memory` alone.
+    /// One buffer, chosen, with the empty text and no pattern. All buffers take their memory from `alloc`
+    /// and keep within `limits`. It may be refused with `Fault::Memory` alone. `O(1)`.
     pub fn new(alloc: Global, limits: Limits) -> Result<Session, Fault>
         ensures ok { IfOk result (λ session. session ≡ record { limit = limits.text; state = first }) }
         ensures err { IfErr result (λ fault. fault ≡ Fault.Memory) }
@@ -47,15 +47,10 @@ impl Session {
         let buffer = Buffer::new(alloc, limits)?;
         let mut buffers = Vec::new(alloc);
         buffers.push(buffer)?;
-        Ok(Session {
-            alloc,
-            limits,
-            buffers,
-            chosen: 0,
-        })
+        Ok(Session { buffers, chosen: 0 })
     }
 
-    /// The chosen buffer.
+    /// The chosen buffer. `O(1)`.
     pub fn buffer(&self) -> &Buffer
         ensures { result.now ≡ record { limit = self.now.limit; state = chosen_buffer self.now.state } }
     {
@@ -64,17 +59,18 @@ impl Session {
 
     /// The allocator that the session was made with.
     pub(crate) fn alloc(&self) -> Global {
-        self.alloc
+        self.buffer().alloc()
     }
 
     /// The limits that the session was made with.
     pub(crate) fn limits(&self) -> Limits
         ensures { result.text ≡ self.now.limit }
     {
-        self.limits
+        self.buffer().limits()
     }
 
-    /// Chooses a buffer by its number. It is refused with `Fault::Nothing` where there is no such buffer.
+    /// Chooses a buffer by its number, from 0. It is refused with `Fault::Nothing` where there is no such
+    /// buffer; the session is then as before. `O(1)`.
     pub fn choose(&mut self, number: u64) -> Result<(), Fault>
         ensures found { IsOk result ↔ (number < length self.old.state.buffers) }
         ensures ok { OnOk result (self.new ≡ record {
@@ -91,8 +87,10 @@ impl Session {
         Ok(())
     }
 
-    /// Makes a new buffer of the chosen one's text, which stays chosen, and answers the new one's
-    /// number. It may be refused with `Fault::Memory` alone; the session is then as before.
+    /// Makes a new buffer of the chosen one's text, without its pattern, and answers the new one's
+    /// number, which is how many there were. The chosen one stays chosen. It may be refused with
+    /// `Fault::Memory` alone; the session is then as before. The text is shared: `O(1)`, but for the list
+    /// of buffers, which may be moved as it grows.
     pub fn fork(&mut self) -> Result<usize, Fault>
         ensures number { IfOk result (λ number. number ≡ length self.old.state.buffers) }
         ensures ok { OnOk result (self.new ≡ record {
@@ -110,7 +108,12 @@ impl Session {
         Ok(number)
     }
 
-    /// Carries out a command. After a refusal the session is as before.
+    /// Carries out a command on the chosen buffer. A refusal is the first in the order of `Fault`'s numbers
+    /// that applies, but that memory may run out before it is found; the session is then as before.
+    ///
+    /// `Text` and `Pattern` take time in the bytes of the payload, and where there is a pattern then also
+    /// in those of the text, each line of which is searched anew and counted by `tick`. `Off` lets go of
+    /// the report, a row a line. All others are `O(1)`, but for what `fork` says.
     pub fn apply(&mut self, tick: &mut Lines, command: Command<'_>) -> Result<Reply, Fault>
         // What it answers and leaves is a step, for each command that this one stands for.
         ensures step { (order : Order) → Stands self.old.limit command.entry order

@@ -1,6 +1,6 @@
 pub mod Faults
 pub mod Sources
-pub mod Devices
+pub mod Device
 pub mod ReadBuffer
 pub mod WriteBuffer
 pub mod Utf8Judge

@@ -11,11 +11,14 @@ use crate::sources::Source;
 use counters::Counter;
 use std::io::{Read, Write};
 
-/// A reader or a writer of std. Each of its errors is a failure, an interrupted call too: it is
-/// handed back and not retried. It tells its bytes where the reader or writer under it does.
+/// A reader of std as a source, or a writer as a sink. Each call is one call of what is under it, with
+/// the same bytes or the same room. Each error is a failure, that of an interrupted call too: it is
+/// handed back and not retried. So is a writer's answer that it took none of some bytes. It tells its
+/// bytes where the reader or writer under it does.
 #[derive(Drop)]
 pub struct Device<D> {
     inner: D,
+    // Read by contracts alone; they take no bytes at run time.
     reads: Counter,
     narrow: Counter,
     ends: Counter,
@@ -27,9 +30,10 @@ pub struct Device<D> {
 
 impl<D> Device<D> {
     ghost use Rattle.std.specs.Prelude.{◌≡◌};
-    ghost use Rattle.rope_search_io.specs.Devices.{under, IsUncounted};
+    ghost use Rattle.rope_search_io.specs.Device.{under, IsUncounted};
 
-    /// The device over this reader or writer, with nothing counted yet.
+    /// The device over this reader or writer, with nothing counted yet. It takes no memory. Over
+    /// `&mut D` the caller keeps what is under it.
     pub fn new(inner: D) -> Device<D>
         ensures inner { under result ≡ inner }
         ensures counts { IsUncounted result }
@@ -58,6 +62,7 @@ impl<D: Read> Source for Device<D> {
 
     fn read(&mut self, buf: &mut [u8]) -> Result<usize, Failed> {
         self.reads.add();
+        // Counted for contracts alone.
         if buf.len() < READ_LEN {
             self.narrow.add();
         }

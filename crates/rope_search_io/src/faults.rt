@@ -3,7 +3,8 @@ use std::alloc::{AllocError, AllocFailed};
 use std::fmt;
 
 /// Why a command is refused. After each the session, its buffers and their reports are as before.
-/// The numbers are the order in which refusals are told: the least that applies.
+/// The numbers are the order in which refusals are told: of all that apply, the one with the least.
+/// It is shown by its word.
 #[derive(Clone, Copy, Debug, PartialEq, Eq)]
 pub enum Fault {
     /// There is no such buffer, or no pattern.
@@ -24,14 +25,14 @@ impl Fault {
     ghost use Rattle.std.specs.Prelude.{◌≡◌};
     ghost use Rattle.rope_search_io.specs.Faults.{word_of, rank_of};
 
-    /// Its number: where several faults apply to a command, the one with the least is told.
+    /// Its number, from 1: where several faults apply to a command, the one with the least is told.
     pub fn rank(self) -> u8
         ensures { result ≡ rank_of self }
     {
         self as u8
     }
 
-    /// The word that a reply has for it.
+    /// The word that a reply has for it, after `error` and a space.
     pub fn word(self) -> &'static str
         ensures { result.now ≡ word_of self }
     {
@@ -81,19 +82,22 @@ impl<T: Drop> From<AllocFailed<T>> for Fault {
     }
 }
 
-/// A source gave no bytes, or a sink took none, though it was to. It is told once and never retried here.
+/// A source gave no bytes, or a sink took none, though it was to. It is told once and never retried
+/// here. No byte is lost by it.
 #[derive(Clone, Copy, Debug, PartialEq, Eq)]
 pub struct Failed;
 
 /// Why a run broke off.
 #[derive(Clone, Copy, Debug, PartialEq, Eq)]
 pub enum Broken {
-    /// The source failed. All replies to the commands that were read whole are written.
+    /// The source failed. All replies to the commands that were read whole are written, and the sink
+    /// wasn't flushed.
     Read,
-    /// The sink failed. What was written is a front of those replies, and then of the ending's line,
-    /// where the ending was met.
+    /// The sink failed: in a write, after which a front of those replies is written, and then of the
+    /// ending's line, where the ending was met; or in the flush after all of these.
     Write,
-    /// The source was read `2^62` times. All replies to the commands that were read whole are written.
+    /// The source was read `2^62` times. All replies to the commands that were read whole are
+    /// written, and the sink wasn't flushed.
     Turns,
     /// There was no memory for the first session. Nothing was read or written.
     Memory,

@@ -12,7 +12,8 @@ pub const READ_LEN: usize = 4096;
 /// How often a source is read before a run gives up on its end.
 pub const MOST_READS: u64 = 1 << 62;
 
-/// The bytes that were read from a source and not yet taken.
+/// The bytes that were read from a source and not yet taken, and how often the source was read. It
+/// goes along with one source, from its first call on, and takes no memory: the array is a part of it.
 #[derive(Drop)]
 pub struct ReadBuffer {
     bytes: [u8; READ_LEN],
@@ -27,13 +28,17 @@ impl Model for ReadBuffer {
 
     ghost Value = { Ahead };
 
-    ghost view = { λ a. record { bytes = take (a.to - a.from) (drop a.from a.bytes); reads = a.reads } };
+    ghost view = { λ buffer. record {
+      bytes = take (buffer.to - buffer.from) (drop buffer.from buffer.bytes);
+      reads = buffer.reads;
+    } };
 
-    ghost invariant = { λ a. (a.from ≤ a.to) × (a.to ≤ 4096) × (a.reads ≤ 2 ^ 62) };
+    ghost invariant = { λ buffer.
+        (buffer.from ≤ buffer.to) × (buffer.to ≤ 4096) × (buffer.reads ≤ 2 ^ 62) };
 }
 
 impl ReadBuffer {
-    /// Nothing read yet.
+    /// No byte yet, and no read.
     pub fn new() -> ReadBuffer
         ensures { result ≡ record { bytes = []; reads = 0 } }
     {
@@ -45,14 +50,14 @@ impl ReadBuffer {
         }
     }
 
-    /// The bytes that were read and not yet taken.
+    /// The bytes that were read and not yet taken, in order: all of them, so none where it is empty.
     pub fn as_slice(&self) -> &[u8]
         ensures { result.now ≡ self.now.bytes }
     {
         &self.bytes[self.from..self.to]
     }
 
-    /// Takes that many bytes from the front.
+    /// Takes `count` bytes from the front of those that `as_slice` gives, which has as many. `O(1)`.
     pub fn consume(&mut self, count: usize)
         requires { count ≤ length self.old.bytes }
         ensures bytes { self.new.bytes ≡ drop count self.old.bytes }
@@ -61,15 +66,20 @@ impl ReadBuffer {
         self.from += count;
     }
 
-    /// Reads once where no byte is here. False says that none came, since the source told its end.
-    /// After an error nothing is taken.
+    /// Reads the source once, with room for 4,096 bytes, where no byte is here; otherwise it does
+    /// nothing. Answers whether there are bytes now: false says that the source told its end. It is
+    /// `Broken::Read` where the source failed, and `Broken::Turns`, without a read, where it was read
+    /// `2^62` times before. After an error no byte is here, and none was lost.
     pub fn fill<R: Source>(&mut self, source: &mut R) -> Result<bool, Broken>
         ensures taken { MatchResult result
             (λ more. MatchBool more
             (Takes self.old self.new (R.state source.old) (R.state source.new) [])
             (TakesLast self.old self.new (R.state source.old) (R.state source.new) []))
-            (λ broken. TakesUntil broken self.old self.new (R.state source.old) (R.state source.new) []) }
-        ensures some { MatchResult result (λ more. MatchBool more (0 < length self.new.bytes) (self.new.bytes ≡ [])) (λ _. self.new.bytes ≡ []) }
+            (λ broken. TakesUntil broken self.old self.new
+            (R.state source.old) (R.state source.new) []) }
+        ensures some { MatchResult result
+            (λ more. MatchBool more (0 < length self.new.bytes) (self.new.bytes ≡ []))
+            (λ _. self.new.bytes ≡ []) }
     {
         if self.from < self.to {
             return Ok(true);
@@ -88,13 +98,15 @@ impl ReadBuffer {
         }
     }
 
-    /// Takes the next byte. There is none where the source told its end.
+    /// Takes the next byte, reading the source where none is here. There is none where the source told
+    /// its end. The errors are those of `fill`: no byte is taken then.
     pub fn next_byte<R: Source>(&mut self, source: &mut R) -> Result<Option<u8>, Broken>
         ensures taken { MatchResult result
             (λ byte. MatchOption byte
             (TakesLast self.old self.new (R.state source.old) (R.state source.new) [])
             (λ b. Takes self.old self.new (R.state source.old) (R.state source.new) (b ∷ [])))
-            (λ broken. TakesUntil broken self.old self.new (R.state source.old) (R.state source.new) []) }
+            (λ broken. TakesUntil broken self.old self.new
+            (R.state source.old) (R.state source.new) []) }
     {
         if !self.fill(source)? {
             return Ok(None);

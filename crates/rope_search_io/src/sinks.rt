@@ -10,13 +10,15 @@ use counters::Counter;
 use std::alloc::Global;
 use std::marker::Model;
 
-/// Where bytes go. To contracts it tells its bytes, where it knows them, and counts its calls.
+/// Where bytes go. To contracts it tells its bytes, where it knows them, and counts its calls: those of
+/// `write`, those of `flush`, those that failed, and the writes that it took since its last flush that
+/// succeeded.
 pub trait Sink {
     // The bytes that it holds, where they are known, and what it counted.
     ghost state: { Self → SinkState };
 
     /// Takes bytes from the front of `bytes` and answers their number: at least one, where there is
-    /// one. After `Failed` it took none.
+    /// one. After `Failed` it took none. What it took it may keep back until it is flushed.
     fn write(&mut self, bytes: &[u8]) -> Result<usize, Failed>
         ensures bound { WritesAtMost result bytes.now }
         ensures some { IfOk result (λ n. 0 < length bytes.now → 0 < n) }
@@ -26,7 +28,8 @@ pub trait Sink {
         ensures failures { (state self.new).failures ≡ (state self.old).failures + failures_in result }
         ensures unflushed { (state self.new).unflushed ≡ (state self.old).unflushed + successes_in result };
 
-    /// Hands on what it may have kept back.
+    /// Hands on what it may have kept back. After `Failed` some of that may not have gone on, and it
+    /// stands as unflushed.
     fn flush(&mut self) -> Result<(), Failed>
         ensures bytes { Keeps (state self.old).held (state self.new).held }
         ensures writes { (state self.new).writes ≡ (state self.old).writes }
@@ -42,6 +45,7 @@ pub struct MemorySink {
     room: usize,
     step: usize,
     fuse: Option<u64>,
+    // Read by contracts alone; they take no bytes at run time.
     writes: Counter,
     flushes: Counter,
     failures: Counter,
@@ -65,15 +69,17 @@ impl Model for MemorySink {
       unflushed = s.unflushed;
     } };
 
-    ghost invariant = { λ s. (1 ≤ s.step) × (vec_len s.bytes ≤ s.room) × (s.room ≤ vec_capacity s.bytes) };
+    ghost invariant = { λ s.
+        (1 ≤ s.step) × (vec_len s.bytes ≤ s.room) × (s.room ≤ vec_capacity s.bytes) };
 }
 
 impl MemorySink {
     ghost use Rattle.std.specs.Prelude.{◌≡◌, ◌≤◌, [], IfOk, IfErr};
 
-    /// A sink with room for `room` bytes, which takes `step` of them at most in a call. The call of
-    /// the number `fail` fails, counted from 1, a `flush` too; and a `write` of some bytes fails where
-    /// the room is full. It is refused with `Fault::Memory` alone.
+    /// A sink with room for `room` bytes, which takes `step` of them at most in a call, one at least.
+    /// The call of the number `fail` fails, counted from 1, a `flush` too; at `None` none does. A
+    /// `write` of some bytes also fails where the room is full. It is refused with `Fault::Memory`
+    /// alone.
     pub fn new(
         alloc: Global,
         room: usize,

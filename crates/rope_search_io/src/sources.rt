@@ -10,13 +10,15 @@ use crate::read_buffer::READ_LEN;
 use counters::Counter;
 use std::marker::Model;
 
-/// Where bytes come from. To contracts it tells its bytes, where it knows them, and counts its calls.
+/// Where bytes come from. To contracts it tells its bytes, where it knows them, and counts its calls:
+/// all of them, those with room for fewer than 4,096 bytes, those that failed, and those that told the
+/// end.
 pub trait Source {
     // The bytes that it has left, where they are known, and what it counted.
     ghost state: { Self → SourceState };
 
-    /// Puts bytes into the front of `buf` and answers their number, 0 at the end or where `buf` is
-    /// empty. After `Failed` no byte is lost.
+    /// Puts the next bytes into the front of `buf` and answers their number: 0 at the end, or where
+    /// `buf` is empty. After `Failed` no byte is lost: the next call goes on where this one began.
     fn read(&mut self, buf: &mut [u8]) -> Result<usize, Failed>
         ensures bound { ReadsAtMost result buf.new }
         ensures bytes { ReadConsumes (state self.old).left (state self.new).left result buf.new }
@@ -32,6 +34,7 @@ pub struct MemorySource<'a> {
     bytes: &'a [u8],
     step: usize,
     fuse: Option<u64>,
+    // Read by contracts alone; they take no bytes at run time.
     reads: Counter,
     narrow: Counter,
     failures: Counter,
@@ -60,8 +63,8 @@ impl<'a> Model for MemorySource<'a> {
 impl<'a> MemorySource<'a> {
     ghost use Rattle.std.specs.Prelude.{◌≡◌, ◌≤◌};
 
-    /// A source of these bytes, of which a call gives `step` at most. The call of the number `fail`
-    /// fails, counted from 1, and loses nothing.
+    /// A source of these bytes, of which a call gives `step` at most, and at least one is to be given.
+    /// The call of the number `fail` fails, counted from 1, and loses nothing; at `None` none fails.
     pub fn new(bytes: &'a [u8], step: usize, fail: Option<u64>) -> MemorySource<'a>
         requires { 1 ≤ step }
         ensures { result ≡ record {
@@ -106,10 +109,12 @@ impl<'a> Source for MemorySource<'a> {
         // It fails at that call alone, and gives as much as it may.
         ensures fails { IsErr result ↔ (self.old.fuse ≡ Some 1) }
         ensures fuse { self.new.fuse ≡ burnt self.old.fuse }
-        ensures most { IfOk result (λ n. n ≡ min self.old.step (min (length buf.old) (length self.old.left))) }
+        ensures most { IfOk result (λ n. n ≡ min self.old.step
+            (min (length buf.old) (length self.old.left))) }
         ensures step { self.new.step ≡ self.old.step }
     {
         self.reads.add();
+        // Counted for contracts alone.
         if buf.len() < READ_LEN {
             self.narrow.add();
         }

@@ -1,10 +1,11 @@
 //! UTF-8 of bytes that aren't kept.
 ghost use Rattle.std.specs.Prelude.{◌≡◌, ◌+◌, ◌≤◌, ◌<◌, ◌↔◌, ◌++◌, ◌∷◌, [], List, ℕ, length, take, IsTrue, IsUtf8};
-ghost use Rattle.rope_search_io.specs.Utf8Judge.{Continues, width_of};
+ghost use Rattle.rope_search_io.specs.Utf8Judge.{Continues, Feeds, width_of};
 
 use std::marker::Model;
 
-/// Judges whether bytes are UTF-8, in whatever pieces they come, and keeps at most a part of one character.
+/// Judges whether bytes are UTF-8, in whatever pieces they come, and keeps at most a part of one
+/// character. It takes no memory.
 #[derive(Drop)]
 pub struct Utf8Judge {
     part: [u8; 4],
@@ -66,9 +67,9 @@ impl Utf8Judge {
         }
     }
 
-    /// Judges these bytes after those so far.
+    /// Judges these bytes after those so far. `O(n)` in their number.
     pub fn feed(&mut self, bytes: &[u8])
-        ensures { (more : List ℕ) → Continues self.old (bytes.now ++ more) ↔ Continues self.new more }
+        ensures { Feeds self.old self.new bytes.now }
     {
         let (last, rest) = bytes.split_at(self.lacking().min(bytes.len()));
         self.push_all(last);
@@ -81,7 +82,7 @@ impl Utf8Judge {
         self.push_all(tail);
     }
 
-    /// Whether all bytes so far are UTF-8.
+    /// Whether all bytes so far are UTF-8. A part of a character at their end is none.
     pub fn is_utf8(&self) -> bool
         ensures { IsTrue result ↔ Continues self.now [] }
     {
@@ -98,7 +99,7 @@ impl Utf8Judge {
 
     // Judges these bytes one by one.
     fn push_all(&mut self, bytes: &[u8])
-        ensures { (more : List ℕ) → Continues self.old (bytes.now ++ more) ↔ Continues self.new more }
+        ensures { Feeds self.old self.new bytes.now }
     {
         for byte in bytes {
             self.push(*byte);

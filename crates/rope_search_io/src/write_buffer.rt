@@ -9,7 +9,8 @@ use std::marker::Model;
 /// How many bytes are gathered before the sink is given them.
 pub const WRITE_LEN: usize = 65_536;
 
-/// Writes all of these bytes. After an error the sink took a front of them.
+/// Writes all of these bytes, in as many writes as the sink needs. It is `Broken::Write` where a write
+/// failed: the sink then took a front of them, and no write is made after that. It doesn't flush.
 pub fn write_all<W: Sink>(sink: &mut W, bytes: &[u8]) -> Result<(), Broken>
     ensures { MatchResult result
         (λ _. Writes (W.state sink.old) (W.state sink.new) bytes.now)
@@ -25,7 +26,8 @@ pub fn write_all<W: Sink>(sink: &mut W, bytes: &[u8]) -> Result<(), Broken>
     Ok(())
 }
 
-/// The bytes that wait to be written.
+/// The bytes that wait to be written to a sink, at most 65,536. It takes no memory: the array is a part
+/// of it. What waits as it is let go is lost, so it is sent before.
 #[derive(Drop)]
 pub struct WriteBuffer {
     bytes: [u8; WRITE_LEN],
@@ -53,7 +55,8 @@ impl WriteBuffer {
         }
     }
 
-    /// Writes what waits. After an error the sink took a front of it.
+    /// Writes what waits, so that nothing waits. It is `Broken::Write` where the sink failed: the sink
+    /// then took a front of it, and the rest is lost. It doesn't flush.
     pub fn send<W: Sink>(&mut self, sink: &mut W) -> Result<(), Broken>
         ensures empty { self.new ≡ [] }
         ensures written { MatchResult result
@@ -65,13 +68,15 @@ impl WriteBuffer {
         write_all(sink, &self.bytes[..len])
     }
 
-    /// Puts these bytes behind those that wait, and writes what there is no room for. After an error
-    /// the sink took a front of what waited and of these, and nothing waits.
+    /// Puts these bytes behind those that wait, and writes what there is no room for: all that waited,
+    /// and these too where they are more than 65,536. It is `Broken::Write` where the sink failed: the
+    /// sink then took a front of what waited and of these, the rest is lost, and nothing waits.
     #[tactic(auto, using(crate::proofs::Fronts::putting))]
     pub fn put<W: Sink>(&mut self, sink: &mut W, bytes: &[u8]) -> Result<(), Broken>
         ensures written { MatchResult result
             (λ _. Puts self.old self.new (W.state sink.old) (W.state sink.new) bytes.now)
-            (λ broken. WritesUntil broken (W.state sink.old) (W.state sink.new) (self.old ++ bytes.now)) }
+            (λ broken. WritesUntil broken (W.state sink.old) (W.state sink.new)
+            (self.old ++ bytes.now)) }
         ensures err { OnErr result (self.new ≡ []) }
     {
         if bytes.len() <= WRITE_LEN - self.len {
@@ -87,13 +92,15 @@ impl WriteBuffer {
         Ok(())
     }
 
-    /// Puts these parts behind the bytes that wait, in order, and writes what there is no room for.
-    /// After an error the sink took a front of what waited and of these, and nothing waits.
+    /// Puts these parts behind the bytes that wait, in order, as `put` does one. It is `Broken::Write`
+    /// where the sink failed: the sink then took a front of what waited and of these, the rest is
+    /// lost, and nothing waits.
     #[tactic(auto, using(crate::proofs::Fronts::putting_parts))]
     pub fn put_parts<W: Sink>(&mut self, sink: &mut W, parts: &[&[u8]]) -> Result<(), Broken>
         ensures written { MatchResult result
             (λ _. Puts self.old self.new (W.state sink.old) (W.state sink.new) (joined parts.now))
-            (λ broken. WritesUntil broken (W.state sink.old) (W.state sink.new) (self.old ++ joined parts.now)) }
+            (λ broken. WritesUntil broken (W.state sink.old) (W.state sink.new)
+            (self.old ++ joined parts.now)) }
         ensures err { OnErr result (self.new ≡ []) }
     {
         for part in parts {
@@ -102,13 +109,16 @@ impl WriteBuffer {
         Ok(())
     }
 
-    /// Writes what waits, and then all of these parts, in order. After an error the sink took a front of that, and nothing waits.
+    /// Writes what waits, and then all of these parts, in order, so that nothing waits. It is
+    /// `Broken::Write` where the sink failed: the sink then took a front of these bytes, and the rest
+    /// is lost. It doesn't flush.
     #[tactic(auto, using(crate::proofs::Fronts::sending))]
     pub fn send_parts<W: Sink>(&mut self, sink: &mut W, parts: &[&[u8]]) -> Result<(), Broken>
         ensures empty { self.new ≡ [] }
         ensures written { MatchResult result
             (λ _. Writes (W.state sink.old) (W.state sink.new) (self.old ++ joined parts.now))
-            (λ broken. WritesUntil broken (W.state sink.old) (W.state sink.new) (self.old ++ joined parts.now)) }
+            (λ broken. WritesUntil broken (W.state sink.old) (W.state sink.new)
+            (self.old ++ joined parts.now)) }
     {
         self.put_parts(sink, parts)?;
         self.send(sink)?;

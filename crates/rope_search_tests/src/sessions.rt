@@ -1,11 +1,10 @@
 //! Buffers and sessions, call by call, with ample memory.
 use rope_search::{Buffer, Command, Fault, Limits, Lines, Payload, Reply, Session};
-use std::alloc::Global;
 use std::test::Fail;
 
 /// Whether this is a buffer's text.
-fn has_text(alloc: Global, buffer: &Buffer, expected: &str) -> bool {
-    match buffer.text().to_text(alloc) {
+fn has_text(buffer: &Buffer, expected: &str) -> bool {
+    match buffer.text().to_text() {
         Ok(text) => text.as_str() == expected,
         Err(_) => false,
     }
@@ -16,15 +15,15 @@ fn a_buffer(rt: HostRuntime) -> Result<(), Fail> {
     let mut tick = Lines::new(&rt);
     let limits = Limits { text: 4 };
     let mut buffer = Buffer::new(rt.alloc(), limits)?;
-    assert!(rt; has_text(rt.alloc(), &buffer, ""));
+    assert!(rt; has_text(&buffer, ""));
     buffer.set_text(&mut tick, "aé")?;
-    assert!(rt; has_text(rt.alloc(), &buffer, "aé"));
+    assert!(rt; has_text(&buffer, "aé"));
     assert!(rt; buffer.set_text(&mut tick, "a🐸") == Err(Fault::Size));
-    assert!(rt; has_text(rt.alloc(), &buffer, "aé"));
+    assert!(rt; has_text(&buffer, "aé"));
     let mut other = buffer.fork()?;
     other.set_text(&mut tick, "")?;
-    assert!(rt; has_text(rt.alloc(), &buffer, "aé"));
-    assert!(rt; has_text(rt.alloc(), &other, ""));
+    assert!(rt; has_text(&buffer, "aé"));
+    assert!(rt; has_text(&other, ""));
     Ok(())
 }
 
@@ -39,7 +38,7 @@ fn a_session(rt: HostRuntime) -> Result<(), Fail> {
     assert!(rt; session.apply(&mut tick, Command::Use(2)) == Err(Fault::Nothing));
     assert!(rt; session.apply(&mut tick, Command::Use(1)) == Ok(Reply::Done));
     assert!(rt; session.apply(&mut tick, Command::Print) == Ok(Reply::Print));
-    assert!(rt; has_text(rt.alloc(), session.buffer(), "ab"));
+    assert!(rt; has_text(session.buffer(), "ab"));
     assert!(rt; session.fork() == Ok(2));
     assert!(rt; session.choose(2) == Ok(()));
     assert!(rt; session.choose(3) == Err(Fault::Nothing));
@@ -62,7 +61,7 @@ fn payloads_that_are_refused(rt: HostRuntime) -> Result<(), Fail> {
     ];
     for (payload, fault) in cases {
         assert!(rt; session.apply(&mut tick, Command::Text(payload)) == Err(fault));
-        assert!(rt; has_text(rt.alloc(), session.buffer(), ""));
+        assert!(rt; has_text(session.buffer(), ""));
     }
     Ok(())
 }

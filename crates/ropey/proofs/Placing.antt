@@ -5,13 +5,13 @@ use Rattle.std.specs.Str.{IsUtf8, chars}
 use Rattle.std.proofs.lemmas.List.{append-nil}
 use Rattle.std.proofs.lemmas.List.Folds.{concat-append}
 use Rattle.std.proofs.lemmas.Str.{encodes-chars, scalars-chars, length-le-encodes}
-use Rattle.str_indices.specs.Text.{is_line_break, char_ends, unit_ends, unit_starts, break_ends, ends_up_to, end_place, units}
-use Rattle.str_indices.specs.Laws.{byte_len, ends_with_cr, NoCrLfBetween, AnyTexts, EndsAddUp, PlacesAddUp, UnitStartsAddUp, RisesWithPlace, NoMoreThanBytes, EndsAreBoundaries, UnitStartsAreBoundaries}
+use Rattle.str_indices.specs.Text.{char_ends, unit_ends, unit_starts, break_ends, ends_up_to, end_place, units, byte_len, ends_with_cr, NoCrLfBetween}
+use Rattle.str_indices.specs.Laws.{AnyTexts, EndsAddUp, PlacesAddUp, UnitStartsAddUp, RisesWithPlace, NoMoreThanBytes, EndsAreBoundaries, UnitStartsAreBoundaries}
 use Rattle.ropey_tree.specs.declared.counts.Counts.{Counts}
 use Rattle.ropey_tree.specs.declared.counts.By.TheVariants.{Bytes, Chars, Units, Breaks}
 use Rattle.ropey_tree.specs.Counts.{counts_of}
 use Rattle.ropey_tree.specs.Cutting.{IsCutting, IsText}
-use Rattle.ropey.specs.Chunks.{text_of, line_breaks, piece_of}
+use Rattle.ropey.specs.Chunks.{text_of, line_breaks, piece_of, is_break}
 use Rattle.ropey.specs.Conversions.{char_of_byte, unit_of_byte, line_of_byte, byte_of_char, byte_of_unit, byte_of_line}
 use Rattle.ropey.specs.Standing.{StandsAt, IsPlaceIn}
 use Rattle.ropey.proofs.Cuts.{byte_len-append, cut-left, whole_seams, text_fits}
@@ -87,9 +87,9 @@ char_reached law before chunk after (suc j) low passed =
     ] in
     sym (law before chunk after (suc j) tt tt (omega (arith, low)) high)
 
-line_reached : PlacesAddUp NoCrLfBetween line_breaks (break_ends is_line_break) → (before chunk after : List ℕ) (j : ℕ) → NoCrLfBetween before chunk → NoCrLfBetween (before ++ chunk) after
+line_reached : PlacesAddUp NoCrLfBetween line_breaks (break_ends is_break) → (before chunk after : List ℕ) (j : ℕ) → NoCrLfBetween before chunk → NoCrLfBetween (before ++ chunk) after
     → line_breaks before ≤ j → (j < line_breaks (before ++ chunk)) ⊎ (after ≡ [])
-    → byte_len before + end_place (break_ends is_line_break chunk) (suc j - line_breaks before) (byte_len chunk) ≡ byte_of_line (before ++ chunk ++ after) (suc j)
+    → byte_len before + end_place (break_ends is_break chunk) (suc j - line_breaks before) (byte_len chunk) ≡ byte_of_line (before ++ chunk ++ after) (suc j)
 line_reached law before chunk after j a b low passed =
     let high : (suc j ≤ line_breaks (before ++ chunk)) ⊎ (after ≡ []) = elim passed [
       | inl p ↦ inl (omega (arith, p))
@@ -133,15 +133,15 @@ module _ (pieces : List (List ℕ)) (bytes : List ℕ) (start : Counts) (utf8 : 
       placed (text_of pieces) chunk before (text_of h.after) start at (byte_of_unit (text_of pieces) k) part h.start_is inside
       (ap (λ n. byte_len before + n) at_is ∙ sym reached ∙ ap (λ t. byte_of_unit t k) (sym part.parts))
 
-  pub line_placed : PlacesAddUp NoCrLfBetween line_breaks (break_ends is_line_break) → EndsAreBoundaries (break_ends is_line_break) → (l : ℕ)
+  pub line_placed : PlacesAddUp NoCrLfBetween line_breaks (break_ends is_break) → EndsAreBoundaries (break_ends is_break) → (l : ℕ)
       → (l ≡ 0 → StandsAt pieces Bytes 0 (chars bytes) start) → (0 < l → StandsAt pieces Breaks (l - 1) (chars bytes) start)
-      → IsPlaced (text_of pieces) (chars bytes) start (end_place (break_ends is_line_break (chars bytes)) (l - start.breaks) (length bytes)) (byte_of_line (text_of pieces) l)
+      → IsPlaced (text_of pieces) (chars bytes) start (end_place (break_ends is_break (chars bytes)) (l - start.breaks) (length bytes)) (byte_of_line (text_of pieces) l)
   line_placed law boundaries zero first later =
       let h = first refl in
       let chunk = chars bytes in
       let part = is_part pieces h.before h.after chunk h.parts text in
-      let at_is = first_place (break_ends is_line_break chunk) start.breaks (length bytes) in
-      placed (text_of pieces) chunk (text_of h.before) (text_of h.after) start (end_place (break_ends is_line_break chunk) (zero - start.breaks) (length bytes)) 0 part h.start_is (omega (arith, at_is)) (omega (arith, at_is, h.not_past))
+      let at_is = first_place (break_ends is_break chunk) start.breaks (length bytes) in
+      placed (text_of pieces) chunk (text_of h.before) (text_of h.after) start (end_place (break_ends is_break chunk) (zero - start.breaks) (length bytes)) 0 part h.start_is (omega (arith, at_is)) (omega (arith, at_is, h.not_past))
   line_placed law boundaries (suc j) first later =
       let some : 0 < suc j = omega arith in
       let h = later some in
@@ -149,9 +149,9 @@ module _ (pieces : List (List ℕ)) (bytes : List ℕ) (start : Counts) (utf8 : 
       let before = text_of h.before in
       let part = is_part pieces h.before h.after chunk h.parts text in
       let starts : start.breaks ≡ line_breaks before = ap (λ c. c.breaks) h.start_is in
-      let at : ℕ = end_place (break_ends is_line_break chunk) (suc j - start.breaks) (length bytes) in
-      let at_is : at ≡ end_place (break_ends is_line_break chunk) (suc j - line_breaks before) (byte_len chunk) =
-      ap (λ n. end_place (break_ends is_line_break chunk) (suc j - start.breaks) n) len ∙ ap (λ n. end_place (break_ends is_line_break chunk) (suc j - n) (byte_len chunk)) starts in
+      let at : ℕ = end_place (break_ends is_break chunk) (suc j - start.breaks) (length bytes) in
+      let at_is : at ≡ end_place (break_ends is_break chunk) (suc j - line_breaks before) (byte_len chunk) =
+      ap (λ n. end_place (break_ends is_break chunk) (suc j - start.breaks) n) len ∙ ap (λ n. end_place (break_ends is_break chunk) (suc j - n) (byte_len chunk)) starts in
       let inside : at ≤ byte_len chunk = omega (arith, at_is, (boundaries chunk (suc j - line_breaks before) (scalars-chars bytes utf8)).0) in
       let same : suc j - 1 ≡ j = omega arith in
       let low : line_breaks before ≤ j = omega (arith, h.not_past, same) in
@@ -222,9 +222,9 @@ pub tells_units : EndsAddUp AnyTexts units unit_ends → RisesWithPlace unit_end
     → Tells (start.units + ends_up_to at (unit_ends chunk)) (unit_of_byte text (start.bytes + at))
 tells_units law rises below text chunk start at h = tells AnyTexts units unit_ends law (λ _. tt) refl rises below text chunk start at start.units h tt tt (ap (λ c. c.units) h.start_is)
 
-pub tells_lines : EndsAddUp NoCrLfBetween line_breaks (break_ends is_line_break) → RisesWithPlace (break_ends is_line_break) → NoMoreThanBytes line_breaks → (text chunk : List ℕ) (start : Counts) (at : ℕ) → IsPlaceIn text chunk start at
-    → Tells (start.breaks + ends_up_to at (break_ends is_line_break chunk)) (line_of_byte text (start.bytes + at))
-tells_lines law rises below text chunk start at h = tells NoCrLfBetween line_breaks (break_ends is_line_break) law nothing_follows refl rises below text chunk start at start.breaks h h.whole_before h.whole_after (ap (λ c. c.breaks) h.start_is)
+pub tells_lines : EndsAddUp NoCrLfBetween line_breaks (break_ends is_break) → RisesWithPlace (break_ends is_break) → NoMoreThanBytes line_breaks → (text chunk : List ℕ) (start : Counts) (at : ℕ) → IsPlaceIn text chunk start at
+    → Tells (start.breaks + ends_up_to at (break_ends is_break chunk)) (line_of_byte text (start.bytes + at))
+tells_lines law rises below text chunk start at h = tells NoCrLfBetween line_breaks (break_ends is_break) law nothing_follows refl rises below text chunk start at start.breaks h h.whole_before h.whole_after (ap (λ c. c.breaks) h.start_is)
 
 pub byte_fits : (text chunk : List ℕ) (start : Counts) (at : ℕ) → IsPlaceIn text chunk start at → start.bytes + at < 2 ^ 64
 byte_fits text chunk start at h =

@@ -5,8 +5,8 @@ use Rattle.std.specs.Str.{IsUtf8, chars, IsCharBoundary}
 use Rattle.std.proofs.lemmas.List.{get_or_append_left, get_or-append_right, drop_at}
 use Rattle.std.proofs.Math.Seq.{drop-cons}
 use Rattle.std.proofs.lemmas.Str.{encodes-chars, encodes-append, scalars-chars, length-encode, len_utf8_bounds}
-use Rattle.str_indices.specs.Text.{char_ends, end_place, ends_up_to}
-use Rattle.str_indices.specs.Laws.{byte_len, AnyTexts, EndsAddUp, EndsAreBoundaries, LastEndIsBefore, CharsAndBoundariesAgree}
+use Rattle.str_indices.specs.Text.{char_ends, end_place, ends_up_to, byte_len}
+use Rattle.str_indices.specs.Laws.{AnyTexts, EndsAddUp, EndsAreBoundaries, LastEndIsBefore, CharsAndBoundariesAgree}
 use Rattle.ropey_tree.specs.declared.counts.Counts.{Counts}
 use Rattle.ropey_tree.specs.declared.counts.By.TheVariants.{Bytes, Chars}
 use Rattle.ropey_tree.specs.Cutting.{IsText}

@@ -3,10 +3,11 @@ use Rattle.std.specs.Prelude.{◌≡◌, ℕ, ◌<◌, ◌≤◌, ◌⊎◌, Lis
 use Rattle.std.specs.List.{concat, flat_map}
 use Rattle.std.specs.Str.{chars}
 use Rattle.std.specs.Borrow.{Bor}
-use Rattle.str_indices.specs.Text.{is_line_break, breaks}
-use Rattle.str_indices.specs.Laws.{byte_len}
+use Rattle.str_indices.specs.Text.{breaks, byte_len}
 -- how a rope is cut, in the words of the tree
 pub use Rattle.ropey_tree.specs.Cutting.{IsPiece, IsCutting, IsText}
+-- which characters break its lines
+pub use Rattle.ropey_tree.specs.Breaks.{is_break}
 
 -- the text that pieces make together
 abbrev pub text_of : List (List ℕ) → List ℕ
@@ -18,7 +19,7 @@ joined parts = flat_map (λ part. chars part.now) parts
 
 -- how many line breaks a text has, CR LF as one
 abbrev pub line_breaks : List ℕ → ℕ
-line_breaks text = breaks is_line_break text
+line_breaks text = breaks is_break text
 
 -- a piece by itself; an empty text has none
 abbrev pub piece_of : List ℕ → List (List ℕ)

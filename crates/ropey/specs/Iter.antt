@@ -3,7 +3,7 @@ use Rattle.std.specs.Prelude.{◌≡◌, ℕ, ◌-◌, List, [], ◌∷◌, ◌+
 use Rattle.std.specs.Option.{MatchOption}
 use Rattle.std.specs.Str.{chars, IsUtf8}
 use Rattle.std.specs.Borrow.{Bor}
-use Rattle.str_indices.specs.Laws.{byte_len, NoCrLfBetween}
+use Rattle.str_indices.specs.Text.{byte_len, NoCrLfBetween}
 use Rattle.ropey_tree.specs.Cutting.{IsText}
 use Rattle.ropey.specs.Chunks.{text_of}
 

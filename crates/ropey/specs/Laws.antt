@@ -1,6 +1,6 @@
 -- Laws of the definitions, for every rope.
 use Rattle.std.specs.Prelude.{◌≡◌, ℕ, ◌<◌, false, List, ◌∷◌, ◌++◌}
-use Rattle.str_indices.specs.Laws.{byte_len}
+use Rattle.str_indices.specs.Text.{byte_len}
 use Rattle.ropey_tree.specs.Cutting.{IsCutting, cuts_cr_lf}
 use Rattle.ropey.specs.Chunks.{text_of, ShowsChunk}
 

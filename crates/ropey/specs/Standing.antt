@@ -1,6 +1,6 @@
 -- A chunk inside a rope, with what stands before it in all four measures.
 use Rattle.std.specs.Prelude.{◌≡◌, ℕ, ◌^◌, ◌<◌, ◌≤◌, ◌⊎◌, List, [], ◌++◌}
-use Rattle.str_indices.specs.Laws.{byte_len, NoCrLfBetween}
+use Rattle.str_indices.specs.Text.{byte_len, NoCrLfBetween}
 use Rattle.ropey_tree.specs.declared.counts.Counts.{Counts}
 use Rattle.ropey_tree.specs.declared.counts.By.{By}
 use Rattle.ropey_tree.specs.Counts.{counts_of, amount}

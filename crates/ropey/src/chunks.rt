@@ -2,7 +2,7 @@
 
 ghost use Rattle.std.specs.Prelude.{◌≡◌, ◌+◌, ◌-◌, ◌<◌, ◌≤◌, ◌↔◌, length, slice_index, SomeIff, IfSome, IsNone, encode_utf8_all};
 ghost use Rattle.std.specs.Str.{chars, IsUtf8};
-ghost use Rattle.str_indices.specs.Laws.{byte_len};
+ghost use Rattle.str_indices.specs.Text.{byte_len};
 ghost use Rattle.ropey.specs.Chunks.{text_of, line_breaks, ShowsChunk};
 
 use crate::rope::Rope;
@@ -10,7 +10,7 @@ use ropey_tree::counts::By;
 use str_indices::chars;
 
 impl Rope {
-    /// The byte at an index.
+    /// The byte at an index. The byte index is below `len_bytes`. `O(log n)`.
     pub fn byte(&self, byte_idx: usize) -> u8
         requires { byte_idx < byte_len (text_of self.now) }
         ensures { result ≡ slice_index (encode_utf8_all (text_of self.now)) byte_idx }
@@ -19,9 +19,10 @@ impl Rope {
         chunk.text.as_bytes()[byte_idx - chunk.start.bytes]
     }
 
-    /// `byte`, and none from the length on.
+    /// `byte`, and none from `len_bytes` on. `O(log n)`.
     pub fn get_byte(&self, byte_idx: usize) -> Option<u8>
-        ensures { SomeIff result (byte_idx < byte_len (text_of self.now)) (slice_index (encode_utf8_all (text_of self.now)) byte_idx) }
+        ensures { SomeIff result (byte_idx < byte_len (text_of self.now))
+            (slice_index (encode_utf8_all (text_of self.now)) byte_idx) }
     {
         if byte_idx < self.len_bytes() {
             Some(self.byte(byte_idx))
@@ -30,11 +31,12 @@ impl Rope {
         }
     }
 
-    /// The character at an index.
+    /// The character at an index. The character index is below `len_chars`. `O(log n)`.
     pub fn char(&self, char_idx: usize) -> char
         requires { char_idx < length (text_of self.now) }
         ensures { result ≡ slice_index (text_of self.now) char_idx }
     {
+        // Laws, for the proof alone.
         str_indices::laws::to_byte_idx_is_a_boundary();
         str_indices::laws::boundaries_and_indices_agree();
         str_indices::laws::place_there_and_back();
@@ -47,9 +49,10 @@ impl Rope {
         }
     }
 
-    /// `char`, and none from the number of characters on.
+    /// `char`, and none from `len_chars` on. `O(log n)`.
     pub fn get_char(&self, char_idx: usize) -> Option<char>
-        ensures { SomeIff result (char_idx < length (text_of self.now)) (slice_index (text_of self.now) char_idx) }
+        ensures { SomeIff result (char_idx < length (text_of self.now))
+            (slice_index (text_of self.now) char_idx) }
     {
         if char_idx < self.len_chars() {
             Some(self.char(char_idx))
@@ -58,11 +61,13 @@ impl Rope {
         }
     }
 
-    /// The chunk that holds a character, with the byte, the character and the line at which it
-    /// starts. At the number of characters it is the last chunk; an empty text shows an empty one.
+    /// The chunk that holds a character, and then the byte, the character and the line at which the
+    /// chunk starts. The character index is at most `len_chars`, and there it is the last chunk; an
+    /// empty text shows an empty one at 0, 0, 0. `O(log n)`.
     pub fn chunk_at_char(&self, char_idx: usize) -> (&str, usize, usize, usize)
         requires { char_idx ≤ length (text_of self.now) }
-        ensures chunk { ShowsChunk self.now length char_idx (chars result.0.now) result.1 result.2 result.3 }
+        ensures chunk { ShowsChunk self.now length char_idx (chars result.0.now) result.1 result.2
+            result.3 }
         ensures utf8 { IsUtf8 result.0.now }
     {
         let chunk = self.chunk(By::Chars, char_idx);
@@ -74,10 +79,11 @@ impl Rope {
         )
     }
 
-    /// `chunk_at_char`, and none past the number of characters.
+    /// `chunk_at_char`, and none past `len_chars`. `O(log n)`.
     pub fn get_chunk_at_char(&self, char_idx: usize) -> Option<(&str, usize, usize, usize)>
         ensures none { IsNone result ↔ (length (text_of self.now) < char_idx) }
-        ensures chunk { IfSome result (λ shown. ShowsChunk self.now length char_idx (chars shown.0.now) shown.1 shown.2 shown.3) }
+        ensures chunk { IfSome result (λ shown. ShowsChunk self.now length char_idx
+            (chars shown.0.now) shown.1 shown.2 shown.3) }
         ensures utf8 { IfSome result (λ shown. IsUtf8 shown.0.now) }
     {
         if char_idx <= self.len_chars() {
@@ -87,13 +93,16 @@ impl Rope {
         }
     }
 
-    /// The first chunk by whose end so many line breaks have ended, with the byte, the character and
-    /// the line at which it starts. For the number of lines it is the last chunk; an empty text shows
-    /// an empty one.
+    /// The first chunk by whose end so many line breaks have ended, and then the byte, the character and
+    /// the line at which the chunk starts. The number is at most `len_lines`, and there it is the last
+    /// chunk; an empty text shows an empty one at 0, 0, 0. `O(log n)`.
     pub fn chunk_at_line_break(&self, line_break_idx: usize) -> (&str, usize, usize, usize)
         requires { line_break_idx ≤ line_breaks (text_of self.now) + 1 }
-        ensures first { line_break_idx ≡ 0 → ShowsChunk self.now byte_len 0 (chars result.0.now) result.1 result.2 result.3 }
-        ensures later { 0 < line_break_idx → ShowsChunk self.now line_breaks (line_break_idx - 1) (chars result.0.now) result.1 result.2 result.3 }
+        ensures first { line_break_idx ≡ 0 →
+            ShowsChunk self.now byte_len 0 (chars result.0.now) result.1 result.2 result.3 }
+        ensures later { 0 < line_break_idx →
+            ShowsChunk self.now line_breaks (line_break_idx - 1) (chars result.0.now) result.1
+            result.2 result.3 }
         ensures utf8 { IsUtf8 result.0.now }
     {
         let chunk = self.chunk_of_break(line_break_idx);
@@ -105,14 +114,18 @@ impl Rope {
         )
     }
 
-    /// `chunk_at_line_break`, and none past the number of lines.
+    /// `chunk_at_line_break`, and none past `len_lines`. `O(log n)`.
     pub fn get_chunk_at_line_break(
         &self,
         line_break_idx: usize,
     ) -> Option<(&str, usize, usize, usize)>
         ensures none { IsNone result ↔ (line_breaks (text_of self.now) + 1 < line_break_idx) }
-        ensures first { line_break_idx ≡ 0 → IfSome result (λ shown. ShowsChunk self.now byte_len 0 (chars shown.0.now) shown.1 shown.2 shown.3) }
-        ensures later { 0 < line_break_idx → IfSome result (λ shown. ShowsChunk self.now line_breaks (line_break_idx - 1) (chars shown.0.now) shown.1 shown.2 shown.3) }
+        ensures first { line_break_idx ≡ 0 →
+            IfSome result (λ shown. ShowsChunk self.now byte_len 0 (chars shown.0.now) shown.1
+            shown.2 shown.3) }
+        ensures later { 0 < line_break_idx →
+            IfSome result (λ shown. ShowsChunk self.now line_breaks (line_break_idx - 1)
+            (chars shown.0.now) shown.1 shown.2 shown.3) }
         ensures utf8 { IfSome result (λ shown. IsUtf8 shown.0.now) }
     {
         if line_break_idx <= self.len_lines() {

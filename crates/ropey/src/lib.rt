@@ -8,9 +8,8 @@ pub mod laws;
 mod places;
 mod rope;
 mod rope_builder;
-#[cfg(test)]
-mod tests;
 
 pub use crate::rope::Rope;
 pub use crate::rope_builder::RopeBuilder;
-pub use ropey_tree::errors::Error;
+pub use ropey_tree::breaks;
+pub use ropey_tree::error::Error;

@@ -3,15 +3,16 @@
 ghost use Rattle.std.specs.Prelude.{◌≡◌, ◌+◌, ◌-◌, ◌<◌, ◌≤◌, length};
 ghost use Rattle.std.specs.Str.{chars, IsUtf8};
 ghost use Rattle.str_indices.specs.Text.{units};
-ghost use Rattle.str_indices.specs.Laws.{byte_len};
+ghost use Rattle.str_indices.specs.Text.{byte_len};
 ghost use Rattle.ropey_tree.specs.Cutting.{IsText};
 ghost use Rattle.ropey.specs.Chunks.{text_of, line_breaks};
 ghost use Rattle.ropey.specs.Conversions.{char_of_byte, unit_of_byte, line_of_byte, byte_of_char, byte_of_unit, byte_of_line};
 ghost use Rattle.ropey.specs.Standing.{StandsAt, IsPlaceIn};
 
 use crate::rope::{Chunk, Rope};
+use ropey_tree::breaks;
 use ropey_tree::counts::{By, Counts};
-use str_indices::{chars, lines, utf16};
+use str_indices::{chars, utf16};
 
 /// A byte index in a chunk, with what stands before the chunk.
 #[derive(Clone, Copy)]
@@ -25,7 +26,8 @@ impl Rope {
     /// The place of a byte.
     pub(crate) fn place_of_byte(&self, byte_idx: usize) -> Place<'_>
         requires { byte_idx ≤ byte_len (text_of self.now) }
-        ensures stands { IsPlaceIn (text_of self.now) (chars result.text.now) result.start result.at }
+        ensures stands { IsPlaceIn (text_of self.now) (chars result.text.now) result.start
+            result.at }
         ensures place { result.start.bytes + result.at ≡ byte_idx }
     {
         let chunk = self.chunk(By::Bytes, byte_idx);
@@ -38,9 +40,11 @@ impl Rope {
 
     /// The place where a character starts, or the text's end.
     pub(crate) fn place_of_char(&self, char_idx: usize) -> Place<'_>
-        ensures stands { IsPlaceIn (text_of self.now) (chars result.text.now) result.start result.at }
+        ensures stands { IsPlaceIn (text_of self.now) (chars result.text.now) result.start
+            result.at }
         ensures place { result.start.bytes + result.at ≡ byte_of_char (text_of self.now) char_idx }
     {
+        // Laws, for the proof alone.
         str_indices::laws::places_of_a_part();
         str_indices::laws::to_byte_idx_is_a_boundary();
         let chunk = self.chunk(By::Chars, char_idx.saturating_sub(1));
@@ -53,9 +57,12 @@ impl Rope {
 
     /// The place where the character starts that holds a code unit, or the text's end.
     pub(crate) fn place_of_unit(&self, utf16_cu_idx: usize) -> Place<'_>
-        ensures stands { IsPlaceIn (text_of self.now) (chars result.text.now) result.start result.at }
-        ensures place { result.start.bytes + result.at ≡ byte_of_unit (text_of self.now) utf16_cu_idx }
+        ensures stands { IsPlaceIn (text_of self.now) (chars result.text.now) result.start
+            result.at }
+        ensures place { result.start.bytes + result.at ≡
+            byte_of_unit (text_of self.now) utf16_cu_idx }
     {
+        // Laws, for the proof alone.
         str_indices::laws::places_of_a_part();
         str_indices::laws::to_byte_idx_is_a_boundary();
         let chunk = self.chunk(By::Units, utf16_cu_idx);
@@ -68,8 +75,10 @@ impl Rope {
 
     /// The first chunk by whose end so many line breaks have ended, else the last.
     pub(crate) fn chunk_of_break(&self, line_break_idx: usize) -> Chunk<'_>
-        ensures first { line_break_idx ≡ 0 → StandsAt self.now By.Bytes 0 (chars result.text.now) result.start }
-        ensures later { 0 < line_break_idx → StandsAt self.now By.Breaks (line_break_idx - 1) (chars result.text.now) result.start }
+        ensures first { line_break_idx ≡ 0 →
+            StandsAt self.now By.Bytes 0 (chars result.text.now) result.start }
+        ensures later { 0 < line_break_idx →
+            StandsAt self.now By.Breaks (line_break_idx - 1) (chars result.text.now) result.start }
         ensures cut { IsText self.now }
         ensures utf8 { IsUtf8 result.text.now }
     {
@@ -82,22 +91,25 @@ impl Rope {
 
     /// The place where a line starts, or the text's end.
     pub(crate) fn place_of_line(&self, line_idx: usize) -> Place<'_>
-        ensures stands { IsPlaceIn (text_of self.now) (chars result.text.now) result.start result.at }
+        ensures stands { IsPlaceIn (text_of self.now) (chars result.text.now) result.start
+            result.at }
         ensures place { result.start.bytes + result.at ≡ byte_of_line (text_of self.now) line_idx }
     {
+        // Laws, for the proof alone.
         str_indices::laws::places_of_a_part();
         str_indices::laws::to_byte_idx_is_a_boundary();
         let chunk = self.chunk_of_break(line_idx);
         Place {
             text: chunk.text,
             start: chunk.start,
-            at: lines::to_byte_idx(chunk.text, line_idx - chunk.start.breaks),
+            at: breaks::to_byte_idx(chunk.text, line_idx - chunk.start.breaks),
         }
     }
 
     /// The byte index of a place.
     pub(crate) fn byte_of(&self, place: &Place<'_>) -> usize
-        requires { IsPlaceIn (text_of self.now) (chars place.now.text.now) place.now.start place.now.at }
+        requires { IsPlaceIn (text_of self.now) (chars place.now.text.now) place.now.start
+            place.now.at }
         ensures { result ≡ place.now.start.bytes + place.now.at }
     {
         place.start.bytes + place.at
@@ -105,9 +117,11 @@ impl Rope {
 
     /// The character in which a place lies.
     pub(crate) fn char_of(&self, place: &Place<'_>) -> usize
-        requires { IsPlaceIn (text_of self.now) (chars place.now.text.now) place.now.start place.now.at }
+        requires { IsPlaceIn (text_of self.now) (chars place.now.text.now) place.now.start
+            place.now.at }
         ensures { result ≡ char_of_byte (text_of self.now) (place.now.start.bytes + place.now.at) }
     {
+        // Laws, for the proof alone.
         str_indices::laws::ends_of_a_part();
         str_indices::laws::from_byte_idx_is_monotone();
         str_indices::laws::counts_are_at_most_bytes();
@@ -116,9 +130,11 @@ impl Rope {
 
     /// The code units of the characters that end at or before a place.
     pub(crate) fn unit_of(&self, place: &Place<'_>) -> usize
-        requires { IsPlaceIn (text_of self.now) (chars place.now.text.now) place.now.start place.now.at }
+        requires { IsPlaceIn (text_of self.now) (chars place.now.text.now) place.now.start
+            place.now.at }
         ensures { result ≡ unit_of_byte (text_of self.now) (place.now.start.bytes + place.now.at) }
     {
+        // Laws, for the proof alone.
         str_indices::laws::ends_of_a_part();
         str_indices::laws::from_byte_idx_is_monotone();
         str_indices::laws::counts_are_at_most_bytes();
@@ -127,12 +143,14 @@ impl Rope {
 
     /// The line in which a place lies.
     pub(crate) fn line_of(&self, place: &Place<'_>) -> usize
-        requires { IsPlaceIn (text_of self.now) (chars place.now.text.now) place.now.start place.now.at }
+        requires { IsPlaceIn (text_of self.now) (chars place.now.text.now) place.now.start
+            place.now.at }
         ensures { result ≡ line_of_byte (text_of self.now) (place.now.start.bytes + place.now.at) }
     {
+        // Laws, for the proof alone.
         str_indices::laws::ends_of_a_part();
         str_indices::laws::from_byte_idx_is_monotone();
         str_indices::laws::counts_are_at_most_bytes();
-        place.start.breaks + lines::from_byte_idx(place.text, place.at)
+        place.start.breaks + breaks::from_byte_idx(place.text, place.at)
     }
 }

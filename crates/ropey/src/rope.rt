@@ -5,11 +5,11 @@ ghost use Rattle.std.specs.Str.{chars, IsUtf8};
 ghost use Rattle.std.specs.Iterator.{Drains, IsFiniteIterable, Yields};
 ghost use Rattle.std.specs.Borrow.{Bor};
 ghost use Rattle.str_indices.specs.Text.{units};
-ghost use Rattle.str_indices.specs.Laws.{byte_len};
+ghost use Rattle.str_indices.specs.Text.{byte_len};
 ghost use Rattle.ropey_tree.specs.Counts.{counts_of};
 ghost use Rattle.ropey_tree.specs.Cutting.{IsText};
 ghost use Rattle.ropey_tree.specs.Nodes.{AreNodes, all_pieces};
-ghost use Rattle.ropey_tree.specs.Rows.{views};
+ghost use Rattle.ropey_tree.specs.Siblings.{views};
 ghost use Rattle.ropey.specs.Chunks.{text_of, joined, line_breaks, ShowsChunk};
 ghost use Rattle.ropey.specs.Iter.{CutsNoCrLf};
 ghost use Rattle.ropey.specs.Standing.{StandsAt};
@@ -19,9 +19,9 @@ use crate::rope_builder::RopeBuilder;
 use ropey_tree::MAX_BYTES;
 use ropey_tree::builds::build;
 use ropey_tree::counts::{By, Counts};
-use ropey_tree::cuts::leaves_of;
-use ropey_tree::errors::Error;
-use ropey_tree::nodes::{Node, leaf_at};
+use ropey_tree::cutter::leaves_of;
+use ropey_tree::error::Error;
+use ropey_tree::node::{Node, leaf_at};
 use std::alloc::{AllocError, Global};
 use std::marker::Model;
 use std::rc::Rc;
@@ -29,9 +29,11 @@ use std::rc::Rc;
 /// The most bytes of a text: `isize::MAX`.
 pub(crate) const MAX_TEXT_BYTES: usize = 0x7FFF_FFFF_FFFF_FFFF;
 
-/// A text. Contracts see the pieces into which it is cut, its chunks.
+/// A text in a balanced tree of shared nodes. Contracts see the pieces into which it is cut, its
+/// chunks.
 ///
-/// A clone shares all of its source, and neither changes the other.
+/// It keeps its allocator, and what it takes later it takes there. A clone shares all of its source,
+/// and neither changes the other; it takes no memory that grows with the text, and costs `O(1)`.
 #[derive(Drop)]
 pub struct Rope {
     alloc: Global,
@@ -78,7 +80,7 @@ pub(crate) struct Chunk<'a> {
 }
 
 impl Rope {
-    /// The empty text.
+    /// The empty text. It takes no memory, and keeps the allocator for later.
     pub fn new(alloc: Global) -> Self
         ensures { result ≡ [] }
     {
@@ -88,7 +90,7 @@ impl Rope {
     /// A rope of a text.
     ///
     /// `Size` where the text has more than `isize::MAX` bytes, which is asked first, and `Memory`
-    /// where memory is refused.
+    /// where memory is refused. `O(n)`.
     pub fn from_str(alloc: Global, text: &str) -> Result<Self, Error>
         ensures text { IfOk result (λ rope. text_of rope ≡ chars text.now) }
         ensures size { (result ≡ Err Error.Size) ↔ (2 ^ 63 ≤ length text.now) }
@@ -105,14 +107,20 @@ impl Rope {
     /// A rope of the parts of a text that an iterator yields, joined in their order.
     ///
     /// `Size` where so many have come that they have more than `isize::MAX` bytes together, and
-    /// `Memory` where memory is refused before that.
+    /// `Memory` where memory is refused before that. How much was taken from the iterator then isn't
+    /// told. `O(n)`.
     pub fn from_chunks<'a, I: IntoIterator<Item = &'a str>>(
         alloc: Global,
         chunks: I,
     ) -> Result<Self, Error>
-        requires ends { IsFiniteIterable I.into_iter_gives I.IntoIter.can_next I.IntoIter.remaining chunks }
-        ensures text { IfOk result (λ rope. (it : I.IntoIter) × (parts : List (Bor (List ℕ))) × I.into_iter_gives chunks it × Drains I.IntoIter.next_gives it parts × (text_of rope ≡ joined parts)) }
-        ensures size { (result ≡ Err Error.Size) → (it : I.IntoIter) × (parts : List (Bor (List ℕ))) × (after : I.IntoIter) × I.into_iter_gives chunks it × Yields I.IntoIter.next_gives it parts after × (2 ^ 63 ≤ byte_len (joined parts)) }
+        requires ends { IsFiniteIterable I.into_iter_gives I.IntoIter.can_next I.IntoIter.remaining
+            chunks }
+        ensures text { IfOk result (λ rope. (it : I.IntoIter) × (parts : List (Bor (List ℕ))) ×
+            I.into_iter_gives chunks it × Drains I.IntoIter.next_gives it parts ×
+            (text_of rope ≡ joined parts)) }
+        ensures size { (result ≡ Err Error.Size) → (it : I.IntoIter) ×
+            (parts : List (Bor (List ℕ))) × (after : I.IntoIter) × I.into_iter_gives chunks it ×
+            Yields I.IntoIter.next_gives it parts after × (2 ^ 63 ≤ byte_len (joined parts)) }
         ensures refused { IfErr result (λ error. (error ≡ Error.Size) ⊎ (error ≡ Error.Memory)) }
     {
         let mut builder = RopeBuilder::new(alloc);
@@ -144,6 +152,7 @@ impl Rope {
         ensures counts { result ≡ counts_of (text_of self.now) }
         ensures cut { IsText self.now }
     {
+        // A law, for the proof alone.
         ropey_tree::laws::counts_of_a_cutting();
         match &self.root {
             None => Counts::zero(),
@@ -151,7 +160,7 @@ impl Rope {
         }
     }
 
-    /// How many bytes of UTF-8 the text has.
+    /// How many bytes of UTF-8 the text has. `O(1)`.
     pub fn len_bytes(&self) -> usize
         ensures bytes { result ≡ byte_len (text_of self.now) }
         ensures fits { result < 2 ^ 63 }
@@ -160,24 +169,25 @@ impl Rope {
         self.counts().bytes
     }
 
-    /// How many characters the text has.
+    /// How many characters, Unicode scalar values, the text has. `O(1)`.
     pub fn len_chars(&self) -> usize
         ensures { result ≡ length (text_of self.now) }
     {
         self.counts().chars
     }
 
-    /// How many UTF-16 code units the text takes.
+    /// How many UTF-16 code units the text takes. `O(1)`.
     pub fn len_utf16_cu(&self) -> usize
         ensures { result ≡ units (text_of self.now) }
     {
         self.counts().units
     }
 
-    /// How many lines the text has: one more than line breaks.
+    /// How many lines the text has: one more than line breaks, CR LF as one. `O(1)`.
     pub fn len_lines(&self) -> usize
         ensures { result ≡ line_breaks (text_of self.now) + 1 }
     {
+        // A law, for the proof alone.
         str_indices::laws::counts_are_at_most_bytes();
         self.counts().breaks + 1
     }
@@ -188,6 +198,7 @@ impl Rope {
         ensures cut { IsText self.now }
         ensures utf8 { IsUtf8 result.text.now }
     {
+        // A law, for the proof alone.
         ropey_tree::laws::counts_of_a_cutting();
         match &self.root {
             None => Chunk {
@@ -204,11 +215,13 @@ impl Rope {
         }
     }
 
-    /// The chunk that holds a byte, with the byte, the character and the line at which it starts.
-    /// At the text's length it is the last chunk; an empty text shows an empty one.
+    /// The chunk that holds a byte, and then the byte, the character and the line at which the chunk
+    /// starts. The byte index is at most `len_bytes`, and there it is the last chunk; an empty text
+    /// shows an empty one at 0, 0, 0. `O(log n)`.
     pub fn chunk_at_byte(&self, byte_idx: usize) -> (&str, usize, usize, usize)
         requires { byte_idx ≤ byte_len (text_of self.now) }
-        ensures chunk { ShowsChunk self.now byte_len byte_idx (chars result.0.now) result.1 result.2 result.3 }
+        ensures chunk { ShowsChunk self.now byte_len byte_idx (chars result.0.now) result.1 result.2
+            result.3 }
         ensures utf8 { IsUtf8 result.0.now }
         ensures cut { IsText self.now }
     {
@@ -221,10 +234,11 @@ impl Rope {
         )
     }
 
-    /// `chunk_at_byte`, and none past the text's length.
+    /// `chunk_at_byte`, and none past `len_bytes`. `O(log n)`.
     pub fn get_chunk_at_byte(&self, byte_idx: usize) -> Option<(&str, usize, usize, usize)>
         ensures none { IsNone result ↔ (byte_len (text_of self.now) < byte_idx) }
-        ensures chunk { IfSome result (λ shown. ShowsChunk self.now byte_len byte_idx (chars shown.0.now) shown.1 shown.2 shown.3) }
+        ensures chunk { IfSome result (λ shown. ShowsChunk self.now byte_len byte_idx
+            (chars shown.0.now) shown.1 shown.2 shown.3) }
         ensures utf8 { IfSome result (λ shown. IsUtf8 shown.0.now) }
     {
         if byte_idx <= self.len_bytes() {
@@ -234,7 +248,8 @@ impl Rope {
         }
     }
 
-    /// The chunks, from the first on. It takes no memory.
+    /// The chunks, from the first on: texts of 1 to 984 bytes, which are the text together, with no
+    /// character and no CR LF cut between them. It takes no memory; a step costs `O(log n)`.
     pub fn chunks(&self) -> Chunks<'_>
         ensures pieces { result ≡ self.now }
         ensures cut { IsText self.now }
@@ -243,9 +258,10 @@ impl Rope {
         Chunks::new(self)
     }
 
-    /// The whole text. The one refusal is `Memory`.
+    /// The whole text. The one refusal is `Memory`, and the rope stays as it is. `O(n)`.
     pub fn to_text(&self) -> Result<String, Error>
-        ensures text { IfOk result (λ text. string_bytes text ≡ encode_utf8_all (text_of self.now)) }
+        ensures text { IfOk result (λ text. string_bytes text ≡
+            encode_utf8_all (text_of self.now)) }
         ensures refused { IfErr result (λ error. error ≡ Error.Memory) }
     {
         let mut text = String::with_capacity(self.alloc, self.len_bytes())?;
@@ -256,7 +272,7 @@ impl Rope {
     }
 
     /// How many bytes the rope has room for without a new chunk: `MAX_BYTES` for each, and
-    /// `usize::MAX` where that is too much to say.
+    /// `usize::MAX` where that is too much to say. It goes over all chunks, in `O(n)`.
     pub fn capacity(&self) -> usize
         ensures { result ≡ min (984 * length self.now) (2 ^ 64 - 1) }
     {

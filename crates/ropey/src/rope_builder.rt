@@ -2,20 +2,19 @@
 
 ghost use Rattle.std.specs.Prelude.{◌≡◌, ◌+◌, ◌^◌, ◌≤◌, ◌⊎◌, ◌↔◌, [], ◌++◌, length, Err, OnErr, OnOk, IfOk, IfErr};
 ghost use Rattle.std.specs.Str.{chars};
-ghost use Rattle.str_indices.specs.Laws.{byte_len};
+ghost use Rattle.str_indices.specs.Text.{byte_len};
 ghost use Rattle.ropey.specs.Chunks.{text_of};
 
 use crate::rope::{MAX_TEXT_BYTES, Rope};
-use ropey_tree::cuts::Cutter;
-use ropey_tree::errors::Error;
+use ropey_tree::cutter::Cutter;
+use ropey_tree::error::Error;
 use std::alloc::Global;
 use std::marker::Model;
 
-/// A text that comes in parts, which lies in leaves but for its last part that fills none. Contracts
-/// see the text so far.
+/// A rope that is built of a text that comes in parts. The text lies in leaves but for its last part
+/// that fills none. Contracts see the text so far. It keeps its allocator.
 #[derive(Drop)]
 pub struct RopeBuilder {
-    alloc: Global,
     text: Cutter,
     // How many bytes the text has.
     len: usize,
@@ -23,7 +22,7 @@ pub struct RopeBuilder {
 
 impl Model for RopeBuilder {
     ghost use Rattle.std.specs.Prelude.{◌≡◌, List, ℕ, ◌<◌, ◌^◌};
-    ghost use Rattle.str_indices.specs.Laws.{byte_len};
+    ghost use Rattle.str_indices.specs.Text.{byte_len};
 
     ghost Value = { List ℕ };
 
@@ -33,19 +32,18 @@ impl Model for RopeBuilder {
 }
 
 impl RopeBuilder {
-    /// No text yet.
+    /// No text yet. It takes no memory.
     pub fn new(alloc: Global) -> Self
         ensures { result ≡ [] }
     {
         RopeBuilder {
-            alloc,
             text: Cutter::new(alloc),
             len: 0,
         }
     }
 
     /// Appends a text. A refusal leaves the builder as it was: `Size` where there would be more than
-    /// `isize::MAX` bytes, which is asked first, and `Memory`.
+    /// `isize::MAX` bytes, which is asked first, and `Memory`. `O(m)` for a text of m bytes.
     pub fn append(&mut self, text: &str) -> Result<(), Error>
         ensures text { OnOk result (self.new ≡ self.old ++ chars text.now) }
         ensures kept { OnErr result (self.new ≡ self.old) }
@@ -69,13 +67,15 @@ impl RopeBuilder {
         self.append(part)
     }
 
-    /// The rope of the text. A refusal, which is `Memory`, drops the builder.
+    /// The rope of the text. A refusal, which is `Memory`, drops the builder. `O(n)`, without copying the
+    /// text again.
     pub fn finish(self) -> Result<Rope, Error>
         ensures text { IfOk result (λ rope. text_of rope ≡ self) }
         ensures refused { IfErr result (λ error. error ≡ Error.Memory) }
     {
+        let alloc = self.text.allocator();
         let leaves = self.text.finish()?;
-        let rope = Rope::from_leaves(self.alloc, leaves)?;
+        let rope = Rope::from_leaves(alloc, leaves)?;
         Ok(rope)
     }
 }

@@ -9,8 +9,7 @@ use Rattle.std.proofs.Math.Seq.{get_or-append_seam, drop-cons}
 use Rattle.std.proofs.Math.ListN.{drop_of_length-le}
 use Rattle.std.proofs.Common.{length-take-le, ◌==◌}
 use Rattle.std.proofs.lemmas.Bool.Decides.{nat_tests}
-use Rattle.str_indices.specs.Text.{starts_with_lf}
-use Rattle.str_indices.specs.Laws.{ends_with_cr}
+use Rattle.str_indices.specs.Text.{starts_with_lf, ends_with_cr}
 
 pub is_code : (c d : ℕ) → (c == d) ≡ true → c ≡ d
 is_code c d h = grind (arith, nat_tests)

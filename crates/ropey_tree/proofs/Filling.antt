@@ -7,8 +7,7 @@ use Rattle.std.proofs.lemmas.List.Folds.{concat-append}
 use Rattle.std.specs.Str.{chars, IsUtf8, IsCharBoundary}
 use Rattle.std.proofs.lemmas.Str.{length-le-encodes, encodes-chars, chars-append, IsUtf8-take, chars-nil}
 use Rattle.std.proofs.Math.ListN.{drop_of_length-le}
-use Rattle.str_indices.specs.Text.{starts_with_lf}
-use Rattle.str_indices.specs.Laws.{byte_len, ends_with_cr}
+use Rattle.str_indices.specs.Text.{starts_with_lf, byte_len, ends_with_cr}
 use Rattle.ropey_tree.specs.Cutting.{IsPiece, IsCutting, cuts_cr_lf}
 use Rattle.ropey_tree.specs.Cutter.{IsCutBefore}
 use Rattle.ropey_tree.specs.NodeView.{NodeView}

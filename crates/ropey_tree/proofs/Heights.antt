@@ -4,7 +4,7 @@ use Rattle.std.proofs.Math.Nat.{pow-suc, pow-le-pow_right, mul-le-mul_left, mul-
 use Rattle.std.proofs.lemmas.List.Sums.{sum_by-cons}
 use Rattle.std.proofs.lemmas.List.Elements.{All-head, All-tail}
 use Rattle.std.proofs.lemmas.List.Concat.{flat_map-cons}
-use Rattle.str_indices.specs.Laws.{byte_len}
+use Rattle.str_indices.specs.Text.{byte_len}
 use Rattle.ropey_tree.specs.Counts.{total}
 use Rattle.ropey_tree.specs.Cutting.{IsPiece, IsCutting}
 use Rattle.ropey_tree.specs.NodeView.{NodeView}

@@ -1,5 +1,5 @@
 -- Nodes in a row, and the pieces of their texts.
-use Rattle.std.proofs.Common.{◌≡◌, ℕ, ◌+◌, ◌^◌, ◌<◌, ◌≤◌, List, [], ◌∷◌, ◌++◌, length, get_or, take, drop, refl, ap, arith, sym, ◌∙◌}
+use Rattle.std.proofs.Common.{◌≡◌, ℕ, ◌+◌, ◌^◌, ◌<◌, ◌≤◌, List, [], ◌∷◌, ◌++◌, length, get_or, take, drop, refl, ap, arith, sym, ◌∙◌, append_assoc}
 use Rattle.std.proofs.lemmas.Grind.{flat_map-append}
 use Rattle.std.proofs.lemmas.List.Concat.{flat_map-cons}
 use Rattle.std.proofs.lemmas.List.{take_more, take-append-drop, append-nil}
@@ -39,6 +39,16 @@ bytes-take-le vs k =
     let sums = ap total parts ∙ total-append (all_pieces (take k vs)) (all_pieces (drop k vs)) in
     let bytes : (total (all_pieces vs)).bytes ≡ (total (all_pieces (take k vs))).bytes + (total (all_pieces (drop k vs))).bytes = ap (λ c. c.bytes) sums in
     omega arith
+
+-- a part that takes the child at k too fits where the whole does
+pub part_fits : (vs part : List NodeView) (from k : ℕ) (v : NodeView) → take from vs ++ part ≡ take k vs → k < length vs → v ≡ get_or vs k v → (total (all_pieces vs)).bytes < 2 ^ 63
+    → (total (all_pieces (part ++ v ∷ []))).bytes < 2 ^ 63
+part_fits vs part from k v is within at fits =
+    let one_more : take k vs ++ v ∷ [] ≡ take (k + 1) vs = ap (λ w. take k vs ++ w ∷ []) at ∙ sym (take_more vs k v within) in
+    let more : take (k + 1) vs ≡ take from vs ++ (part ++ v ∷ []) = sym (sym (append_assoc (take from vs) part (v ∷ [])) ∙ ap (λ ws. ws ++ v ∷ []) is ∙ one_more) in
+    let sums = ap (λ ws. total (all_pieces ws)) more ∙ ap total (all_pieces-append (take from vs) (part ++ v ∷ [])) ∙ total-append (all_pieces (take from vs)) (all_pieces (part ++ v ∷ [])) in
+    let bytes : (total (all_pieces (take (k + 1) vs))).bytes ≡ (total (all_pieces (take from vs))).bytes + (total (all_pieces (part ++ v ∷ []))).bytes = ap (λ c. c.bytes) sums in
+    omega (arith, bytes, bytes-take-le vs (k + 1), fits)
 
 -- the child at k goes to what stands before it
 pub record Steps (vs : List NodeView) (k : ℕ) (before count : Counts) : Type 0 where

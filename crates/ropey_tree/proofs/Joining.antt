@@ -6,9 +6,9 @@ use Rattle.std.proofs.lemmas.List.Elements.{All-head, All-tail, All-cons, All-ni
 use Rattle.ropey_tree.specs.Cutting.{IsText}
 use Rattle.ropey_tree.specs.NodeView.{NodeView}
 use Rattle.ropey_tree.specs.Nodes.{all_pieces, AreNodes, IsNodeOf, IsInner, leaf_view, inner_view, AreJoined}
-use Rattle.ropey_tree.specs.Rows.{IsRow, Packed, nodes_of}
-use Rattle.ropey_tree.specs.declared.rows.Joined.{Joined}
-use Rattle.ropey_tree.specs.declared.rows.Joined.TheVariants.{One, Two}
+use Rattle.ropey_tree.specs.Siblings.{AreSiblings, Packed, nodes_of}
+use Rattle.ropey_tree.specs.declared.siblings.Joined.{Joined}
+use Rattle.ropey_tree.specs.declared.siblings.Joined.TheVariants.{One, Two}
 use Rattle.ropey_tree.proofs.InRow.{all_pieces-append, all_pieces-one}
 use Rattle.ropey_tree.proofs.Pieces.{text-left, text-right}
 use Rattle.ropey_tree.proofs.Packing.{nodes-left, nodes-right}
@@ -54,8 +54,8 @@ module _ (height : ℕ) (front init joined : List NodeView) (c r : NodeView) (in
   pub front_joined_pieces : AreJoined c r joined → all_pieces (init ++ joined) ≡ all_pieces front ++ r.pieces
   front_joined_pieces h = all_pieces-append init joined ∙ ap (λ ps. all_pieces init ++ ps) h.pieces ∙ sym (append_assoc (all_pieces init) c.pieces r.pieces) ∙ ap (λ ps. ps ++ r.pieces) (sym front_pieces)
 
-  pub front_row : r.height < height → length front ≤ 24 → 1 ≤ length joined → length joined ≤ 2 → IsText (all_pieces front ++ r.pieces) → AreJoined c r joined → IsRow height (init ++ joined)
-  front_row lower few some two text h =
+  pub front_siblings : r.height < height → length front ≤ 24 → 1 ≤ length joined → length joined ≤ 2 → IsText (all_pieces front ++ r.pieces) → AreJoined c r joined → AreSiblings height (init ++ joined)
+  front_siblings lower few some two text h =
       let level : c.height ≡ inner.below = last_node.level in
       let full : 12 ≤ c.degree = last_node.full in
       let top : max c.height r.height ≡ inner.below = omega (arith, inner.level, level, lower) in
@@ -87,8 +87,8 @@ module _ (height : ℕ) (back rest joined : List NodeView) (l c : NodeView) (inn
   pub back_joined_pieces : AreJoined l c joined → all_pieces (joined ++ rest) ≡ l.pieces ++ all_pieces back
   back_joined_pieces h = all_pieces-append joined rest ∙ ap (λ ps. ps ++ all_pieces rest) h.pieces ∙ append_assoc l.pieces c.pieces (all_pieces rest) ∙ ap (λ ps. l.pieces ++ ps) (sym back_pieces)
 
-  pub back_row : l.height < height → length back ≤ 24 → 1 ≤ length joined → length joined ≤ 2 → IsText (l.pieces ++ all_pieces back) → AreJoined l c joined → IsRow height (joined ++ rest)
-  back_row lower few some two text h =
+  pub back_siblings : l.height < height → length back ≤ 24 → 1 ≤ length joined → length joined ≤ 2 → IsText (l.pieces ++ all_pieces back) → AreJoined l c joined → AreSiblings height (joined ++ rest)
+  back_siblings lower few some two text h =
       let level : c.height ≡ inner.below = first_node.level in
       let full : 12 ≤ c.degree = first_node.full in
       let top : max l.height c.height ≡ inner.below = omega (arith, inner.level, level, lower) in
@@ -105,8 +105,8 @@ module _ (height : ℕ) (back rest joined : List NodeView) (l c : NodeView) (inn
       }
 
 -- the children of two nodes of one height
-pub both_row : (height : ℕ) (front back : List NodeView) (f : IsInner height front) → IsInner height back → length front ≤ 24 → length back ≤ 24 → IsText (all_pieces front ++ all_pieces back) → IsRow height (front ++ back)
-both_row height front back f g few few_back text =
+pub both_siblings : (height : ℕ) (front back : List NodeView) (f : IsInner height front) → IsInner height back → length front ≤ 24 → length back ≤ 24 → IsText (all_pieces front ++ all_pieces back) → AreSiblings height (front ++ back)
+both_siblings height front back f g few few_back text =
     let same : g.below ≡ f.below = omega (arith, f.level, g.level) in
     record {
       below = f.below;
@@ -118,11 +118,11 @@ both_row height front back f g few few_back text =
     }
 
 -- what is packed is what two nodes are joined to
-pub joined_of_packed : (l r : NodeView) (height : ℕ) (row packed : List NodeView) → Packed height row packed → all_pieces row ≡ l.pieces ++ r.pieces → max l.height r.height ≡ height
-    → (r.height ≤ l.height → l.degree ≤ length row) → (l.height ≤ r.height → r.degree ≤ length row) → AreJoined l r packed
-joined_of_packed l r height row packed h pieces level left right = record {
+pub joined_of_packed : (l r : NodeView) (height : ℕ) (siblings packed : List NodeView) → Packed height siblings packed → all_pieces siblings ≡ l.pieces ++ r.pieces → max l.height r.height ≡ height
+    → (r.height ≤ l.height → l.degree ≤ length siblings) → (l.height ≤ r.height → r.degree ≤ length siblings) → AreJoined l r packed
+joined_of_packed l r height siblings packed h pieces level left right = record {
   pieces = h.pieces ∙ pieces;
-  least = min 12 (length row);
+  least = min 12 (length siblings);
   nodes = rw level h.nodes;
   full = elim h.full [
     | inl one ↦ inl one
@@ -165,10 +165,10 @@ module _ (l r : NodeView) (text : IsText (l.pieces ++ r.pieces)) where
     beside_pieces : all_pieces (front ++ back) ≡ l.pieces ++ r.pieces
     beside_pieces = all_pieces-append front back ∙ ap (λ ps. ps ++ all_pieces back) (sym (ap (λ v. v.pieces) l_is)) ∙ ap (λ ps. l.pieces ++ ps) (sym (ap (λ v. v.pieces) r_is))
 
-    pub beside_row : length front ≤ 24 → length back ≤ 24 → IsRow l.height (front ++ back)
-    beside_row few few_back =
+    pub beside_siblings : length front ≤ 24 → length back ≤ 24 → AreSiblings l.height (front ++ back)
+    beside_siblings few few_back =
         let P : ℕ → Type 0 = λ h. IsInner h back in
-        both_row l.height front back f (subst P (sym same) b) few few_back (rw (← all_pieces-append front back, beside_pieces) text)
+        both_siblings l.height front back f (subst P (sym same) b) few few_back (rw (← all_pieces-append front back, beside_pieces) text)
 
     pub beside_joined : (packed : List NodeView) → Packed l.height (front ++ back) packed → AreJoined l r packed
     beside_joined packed h =
@@ -192,10 +192,10 @@ module _ (l r : NodeView) (text : IsText (l.pieces ++ r.pieces)) where
     pub left_falls : c.height < l.height
     left_falls = omega (arith, (last_node l.height front (take (length front - 1) front) [] c r inner parts).level, inner.level)
 
-    pub left_row : (joined : Joined) → length front ≤ 24 → AreJoined c r (nodes_of joined) → IsRow l.height (take (length front - 1) front ++ nodes_of joined)
-    left_row joined few h =
+    pub left_siblings : (joined : Joined) → length front ≤ 24 → AreJoined c r (nodes_of joined) → AreSiblings l.height (take (length front - 1) front ++ nodes_of joined)
+    left_siblings joined few h =
         let len = joined_len joined in
-        front_row l.height front (take (length front - 1) front) (nodes_of joined) c r inner parts lower few len.0 len.1 front_text h
+        front_siblings l.height front (take (length front - 1) front) (nodes_of joined) c r inner parts lower few len.0 len.1 front_text h
 
     pub left_joined : (joined : Joined) (packed : List NodeView) → AreJoined c r (nodes_of joined) → Packed l.height (take (length front - 1) front ++ nodes_of joined) packed → AreJoined l r packed
     left_joined joined packed h p =
@@ -223,10 +223,10 @@ module _ (l r : NodeView) (text : IsText (l.pieces ++ r.pieces)) where
     pub right_falls : c.height < r.height
     right_falls = omega (arith, (first_node r.height back (drop 1 back) [] l c inner back_parts).level, inner.level)
 
-    pub right_row : (joined : Joined) → length back ≤ 24 → AreJoined l c (nodes_of joined) → IsRow r.height (nodes_of joined ++ drop 1 back)
-    right_row joined few h =
+    pub right_siblings : (joined : Joined) → length back ≤ 24 → AreJoined l c (nodes_of joined) → AreSiblings r.height (nodes_of joined ++ drop 1 back)
+    right_siblings joined few h =
         let len = joined_len joined in
-        back_row r.height back (drop 1 back) (nodes_of joined) l c inner back_parts lower few len.0 len.1 back_text h
+        back_siblings r.height back (drop 1 back) (nodes_of joined) l c inner back_parts lower few len.0 len.1 back_text h
 
     pub right_joined : (joined : Joined) (packed : List NodeView) → AreJoined l c (nodes_of joined) → Packed r.height (nodes_of joined ++ drop 1 back) packed → AreJoined l r packed
     right_joined joined packed h p =

@@ -4,7 +4,7 @@ use Rattle.std.proofs.Math.Seq.{take-length}
 use Rattle.std.proofs.lemmas.List.Elements.{All-cons, All-nil, All-append}
 use Rattle.ropey_tree.specs.NodeView.{NodeView}
 use Rattle.ropey_tree.specs.Nodes.{all_pieces, AreNodes, IsNodeOf, IsInner, inner_view}
-use Rattle.ropey_tree.specs.Rows.{IsLevelOver}
+use Rattle.ropey_tree.specs.Siblings.{IsLevelOver}
 use Rattle.ropey_tree.proofs.InRow.{all_pieces-append, all_pieces-one}
 use Rattle.ropey_tree.proofs.Packing.{part_inner, node_over}
 

@@ -1,3 +1,4 @@
+mod Examples
 pub mod Totals
 pub mod Filled
 pub mod InRow

@@ -8,8 +8,7 @@ use Rattle.std.proofs.lemmas.List.{append-nil, get_or-append_right}
 use Rattle.std.proofs.lemmas.List.Folds.{concat-append}
 use Rattle.std.proofs.lemmas.List.Sums.{sum_by-cons}
 use Rattle.std.proofs.lemmas.Str.{length-le-encodes, length-encode, len_utf8_bounds, len_utf8_ascii, inside_one}
-use Rattle.str_indices.specs.Text.{starts_with_lf}
-use Rattle.str_indices.specs.Laws.{byte_len, ends_with_cr}
+use Rattle.str_indices.specs.Text.{starts_with_lf, byte_len, ends_with_cr}
 use Rattle.ropey_tree.specs.declared.counts.Counts.{Counts}
 use Rattle.ropey_tree.specs.declared.counts.By.TheVariants.{Bytes}
 use Rattle.ropey_tree.specs.Counts.{total}

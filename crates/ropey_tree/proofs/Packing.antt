@@ -3,7 +3,7 @@ use Rattle.std.proofs.Common.{◌≡◌, ℕ, ◌≤◌, min, inl, inr, List, []
 use Rattle.std.proofs.lemmas.List.Elements.{All-head, All-tail, All-cons, All-nil}
 use Rattle.ropey_tree.specs.NodeView.{NodeView}
 use Rattle.ropey_tree.specs.Nodes.{all_pieces, AreNodes, IsNodeOf, IsInner, inner_view}
-use Rattle.ropey_tree.specs.Rows.{IsRow, Packed}
+use Rattle.ropey_tree.specs.Siblings.{AreSiblings, Packed}
 use Rattle.ropey_tree.proofs.InRow.{all_pieces-append, all_pieces-one}
 use Rattle.ropey_tree.proofs.Pieces.{text-left, text-right}
 use Rattle.ropey_tree.proofs.Heights.{inner_tree}
@@ -17,9 +17,9 @@ nodes-right h least [] ws all = all
 nodes-right h least (v ∷ vs) ws all = nodes-right h least vs ws (All-tail (IsNodeOf h least) v (vs ++ ws) all)
 
 -- children that are the front or the back of a row
-pub front_inner : (height : ℕ) (row front back : List NodeView) → IsRow height row → front ++ back ≡ row → 2 ≤ length front → IsInner height front
-front_inner height row front back h is branches =
-    let pieces : all_pieces row ≡ all_pieces front ++ all_pieces back = sym (ap all_pieces is) ∙ all_pieces-append front back in
+pub front_inner : (height : ℕ) (siblings front back : List NodeView) → AreSiblings height siblings → front ++ back ≡ siblings → 2 ≤ length front → IsInner height front
+front_inner height siblings front back h is branches =
+    let pieces : all_pieces siblings ≡ all_pieces front ++ all_pieces back = sym (ap all_pieces is) ∙ all_pieces-append front back in
     record {
       below = h.below;
       level = h.level;
@@ -28,9 +28,9 @@ front_inner height row front back h is branches =
       text = text-left (all_pieces front) (all_pieces back) (rw pieces at h.text);
     }
 
-pub back_inner : (height : ℕ) (row front back : List NodeView) → IsRow height row → front ++ back ≡ row → 2 ≤ length back → IsInner height back
-back_inner height row front back h is branches =
-    let pieces : all_pieces row ≡ all_pieces front ++ all_pieces back = sym (ap all_pieces is) ∙ all_pieces-append front back in
+pub back_inner : (height : ℕ) (siblings front back : List NodeView) → AreSiblings height siblings → front ++ back ≡ siblings → 2 ≤ length back → IsInner height back
+back_inner height siblings front back h is branches =
+    let pieces : all_pieces siblings ≡ all_pieces front ++ all_pieces back = sym (ap all_pieces is) ∙ all_pieces-append front back in
     record {
       below = h.below;
       level = h.level;
@@ -44,21 +44,21 @@ node_over height least children v h is enough =
     rw is (record { level = refl; full = enough; many = (inner_tree height children h).many })
 
 -- one node over the whole row
-pub packed_one : (height : ℕ) (row : List NodeView) (v : NodeView) → IsRow height row → IsInner height row → v ≡ inner_view height row → Packed height row (v ∷ [])
-packed_one height row v h inner is =
+pub packed_one : (height : ℕ) (siblings : List NodeView) (v : NodeView) → AreSiblings height siblings → IsInner height siblings → v ≡ inner_view height siblings → Packed height siblings (v ∷ [])
+packed_one height siblings v h inner is =
     record {
       pieces = all_pieces-one v ∙ ap (λ w. w.pieces) is;
-      nodes = All-cons (IsNodeOf height (min 12 (length row))) v [] (node_over height (min 12 (length row)) row v inner is (omega arith)) (All-nil (IsNodeOf height (min 12 (length row))));
+      nodes = All-cons (IsNodeOf height (min 12 (length siblings))) v [] (node_over height (min 12 (length siblings)) siblings v inner is (omega arith)) (All-nil (IsNodeOf height (min 12 (length siblings))));
       full = inl refl;
     }
 
 -- two nodes over its halves
-pub packed_two : (height : ℕ) (row front back : List NodeView) (v w : NodeView) → IsRow height row → front ++ back ≡ row → 12 ≤ length front → 12 ≤ length back
-    → v ≡ inner_view height front → w ≡ inner_view height back → Packed height row (v ∷ w ∷ [])
-packed_two height row front back v w h is enough enough_back v_is w_is =
-    let least = min 12 (length row) in
-    let first = node_over height least front v (front_inner height row front back h is (omega arith)) v_is (omega arith) in
-    let second = node_over height least back w (back_inner height row front back h is (omega arith)) w_is (omega arith) in
+pub packed_two : (height : ℕ) (siblings front back : List NodeView) (v w : NodeView) → AreSiblings height siblings → front ++ back ≡ siblings → 12 ≤ length front → 12 ≤ length back
+    → v ≡ inner_view height front → w ≡ inner_view height back → Packed height siblings (v ∷ w ∷ [])
+packed_two height siblings front back v w h is enough enough_back v_is w_is =
+    let least = min 12 (length siblings) in
+    let first = node_over height least front v (front_inner height siblings front back h is (omega arith)) v_is (omega arith) in
+    let second = node_over height least back w (back_inner height siblings front back h is (omega arith)) w_is (omega arith) in
     let v_pieces = ap (λ u. u.pieces) v_is in
     let w_pieces = ap (λ u. u.pieces) w_is in
     record {

@@ -3,8 +3,9 @@ use Rattle.std.proofs.Common.{◌≡◌, ℕ, ◌+◌, ◌≤◌, false, cond, �
 use Rattle.std.proofs.lemmas.List.{append-nil}
 use Rattle.std.proofs.lemmas.Str.{encodes-append}
 use Rattle.std.specs.List.{concat}
-use Rattle.str_indices.specs.Text.{is_line_break, breaks, units, starts_with_lf}
-use Rattle.str_indices.specs.Laws.{byte_len, ends_with_cr, LosesBreakInCrLf, AddsUp}
+use Rattle.str_indices.specs.Text.{breaks, units, starts_with_lf, byte_len, ends_with_cr}
+use Rattle.str_indices.specs.Laws.{LosesBreakInCrLf, AddsUp}
+use Rattle.ropey_tree.specs.Breaks.{is_break}
 use Rattle.ropey_tree.specs.Counts.{total, plus, counts_of}
 use Rattle.ropey_tree.specs.Cutting.{IsPiece, IsCutting, cuts_cr_lf}
 use Rattle.ropey_tree.proofs.Totals.{total-append}
@@ -25,19 +26,19 @@ total-one p =
     let b = zero-add (byte_len p) in
     let c = zero-add (length p) in
     let u = zero-add (units p) in
-    let l = zero-add (breaks is_line_break p) in
+    let l = zero-add (breaks is_break p) in
     cc
 
-module _ (lines : LosesBreakInCrLf is_line_break) (adds : AddsUp units) where
+module _ (lines : LosesBreakInCrLf is_break) (adds : AddsUp units) where
   -- two texts between which no CR LF is cut
   counts-append : (s t : List ℕ) → cuts_cr_lf s t ≡ false → counts_of (s ++ t) ≡ plus (counts_of s) (counts_of t)
   counts-append s t h =
       let joined = lines s t in
-      let none : breaks is_line_break (s ++ t) + cond (cuts_cr_lf s t) 1 0 ≡ breaks is_line_break (s ++ t) = ap (λ b. breaks is_line_break (s ++ t) + cond b 1 0) h ∙ omega arith in
+      let none : breaks is_break (s ++ t) + cond (cuts_cr_lf s t) 1 0 ≡ breaks is_break (s ++ t) = ap (λ b. breaks is_break (s ++ t) + cond b 1 0) h ∙ omega arith in
       let b = byte_len-append s t in
       let c = length-append s t in
       let u = adds s t in
-      let l : breaks is_line_break (s ++ t) ≡ breaks is_line_break s + breaks is_line_break t = sym none ∙ joined in
+      let l : breaks is_break (s ++ t) ≡ breaks is_break s + breaks is_break t = sym none ∙ joined in
       cc
 
   pub total-concat : (ps : List (List ℕ)) → IsCutting ps → total ps ≡ counts_of (concat ps)

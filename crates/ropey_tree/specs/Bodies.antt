@@ -1,6 +1,6 @@
 -- What a node's body is seen as, and what holds of it.
-use Rattle.ropey_tree.specs.declared.nodes.Body.{Body}
-use Rattle.ropey_tree.specs.declared.nodes.Body.TheVariants.{Leaf, Inner}
+use Rattle.ropey_tree.specs.declared.node.Body.{Body}
+use Rattle.ropey_tree.specs.declared.node.Body.TheVariants.{Leaf, Inner}
 use Rattle.ropey_tree.specs.Cutting.{IsPiece}
 use Rattle.ropey_tree.specs.NodeView.{NodeView}
 use Rattle.ropey_tree.specs.Nodes.{leaf_view, inner_view, IsInner}

@@ -3,7 +3,7 @@ use Rattle.std.specs.Prelude.{ℕ, ◌+◌, ◌*◌, max, List, [], ◌∷◌, m
 use Rattle.std.specs.Prelude.{Option, Some, None}
 use Rattle.std.specs.declared.rc.Rc.{Rc}
 use Rattle.std.specs.declared.alloc.Global.{Global}
-use Rattle.ropey_tree.specs.declared.nodes.Node.{Node}
+use Rattle.ropey_tree.specs.declared.node.Node.{Node}
 use Rattle.ropey_tree.specs.NodeView.{NodeView}
 
 -- a place as it is seen: empty, or with what its node is seen as

@@ -1,14 +1,14 @@
 -- What texts count, in the four measures: bytes of UTF-8, characters, UTF-16 code units and line breaks.
 use Rattle.std.specs.Prelude.{ℕ, ◌+◌, List, length, sum_by}
-use Rattle.str_indices.specs.Text.{is_line_break, breaks, units}
-use Rattle.str_indices.specs.Laws.{byte_len}
+use Rattle.str_indices.specs.Text.{breaks, units, byte_len}
+use Rattle.ropey_tree.specs.Breaks.{is_break}
 use Rattle.ropey_tree.specs.declared.counts.Counts.{Counts}
 use Rattle.ropey_tree.specs.declared.counts.By.{By}
 use Rattle.ropey_tree.specs.declared.counts.By.TheVariants.{Bytes, Chars, Units, Breaks}
 
 -- what a text counts
 abbrev pub counts_of : List ℕ → Counts
-counts_of text = record { bytes = byte_len text; chars = length text; units = units text; breaks = breaks is_line_break text }
+counts_of text = record { bytes = byte_len text; chars = length text; units = units text; breaks = breaks is_break text }
 
 -- what the empty text counts
 abbrev pub zero_counts : Counts
@@ -26,4 +26,4 @@ amount Breaks c = c.breaks
 
 -- what pieces of text count together: the sums over the pieces
 abbrev pub total : List (List ℕ) → Counts
-total pieces = record { bytes = sum_by byte_len pieces; chars = sum_by length pieces; units = sum_by units pieces; breaks = sum_by (breaks is_line_break) pieces }
+total pieces = record { bytes = sum_by byte_len pieces; chars = sum_by length pieces; units = sum_by units pieces; breaks = sum_by (breaks is_break) pieces }

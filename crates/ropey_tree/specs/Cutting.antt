@@ -1,8 +1,8 @@
 -- Texts that are cut into pieces. A text is a list of Unicode scalar values, and pieces are joined by `concat`.
 use Rattle.std.specs.Prelude.{◌≡◌, ℕ, ◌^◌, ◌<◌, ◌≤◌, Bool, true, false, ◌&&◌, List, [], ◌∷◌, ◌++◌}
 use Rattle.std.specs.Str.{all_scalars}
-use Rattle.str_indices.specs.Text.{starts_with_lf}
-use Rattle.str_indices.specs.Laws.{byte_len, ends_with_cr}
+use Rattle.str_indices.specs.Text.{byte_len}
+pub use Rattle.str_indices.specs.Text.{cuts_cr_lf}
 use Rattle.ropey_tree.specs.Counts.{total}
 
 -- scalar values of 1 to 984 bytes together
@@ -10,10 +10,6 @@ pub record IsPiece (piece : List ℕ) : Type 0 where
   pub scalars : all_scalars piece ≡ true
   pub not_empty : 1 ≤ byte_len piece
   pub not_long : byte_len piece ≤ 984
-
--- a CR at the end of the first, and an LF at the start of the second
-abbrev pub cuts_cr_lf : List ℕ → List ℕ → Bool
-cuts_cr_lf first second = ends_with_cr first && starts_with_lf second
 
 -- pieces of which no two neighbours cut a CR LF
 abbrev pub IsCutting : List (List ℕ) → Type 0

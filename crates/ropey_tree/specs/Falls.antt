@@ -4,9 +4,9 @@ use Rattle.std.proofs.lemmas.List.Elements.{All-head, All-tail}
 use Rattle.std.specs.declared.rc.Rc.{Rc}
 use Rattle.std.specs.declared.alloc.Global.{Global}
 use denote.Param.Weighed.{most}
-use Rattle.ropey_tree.specs.declared.nodes.Node.{Node}
-use Rattle.ropey_tree.specs.declared.nodes.Body.{Body}
-use Rattle.ropey_tree.specs.declared.nodes.Body.TheVariants.{Leaf, Inner}
+use Rattle.ropey_tree.specs.declared.node.Node.{Node}
+use Rattle.ropey_tree.specs.declared.node.Body.{Body}
+use Rattle.ropey_tree.specs.declared.node.Body.TheVariants.{Leaf, Inner}
 use Rattle.ropey_tree.specs.declared.children.Children.TheShapes.{weighed-Children-nodes-at-2}
 use Rattle.ropey_tree.specs.declared.children.Children.TheDeep.{deep-Body}
 use Rattle.ropey_tree.specs.NodeView.{NodeView}

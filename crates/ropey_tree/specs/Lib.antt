@@ -1,3 +1,4 @@
+pub mod Breaks
 pub mod Counts
 pub mod Cutting
 pub mod NodeView
@@ -7,8 +8,8 @@ pub mod Children
 pub mod Bodies
 pub mod Falls
 pub mod Cutter
-pub mod Rows
+pub mod Siblings
 pub mod Parts
 pub mod Splits
 pub mod Laws
-pub mod Examples
+pub mod Visits

@@ -1,7 +1,7 @@
 -- What a node is made of.
 use Rattle.std.specs.Prelude.{◌≡◌}
-use Rattle.ropey_tree.specs.declared.nodes.Parts.{Parts}
-use Rattle.ropey_tree.specs.declared.nodes.Parts.TheVariants.{Leaf, Inner}
+use Rattle.ropey_tree.specs.declared.node.Parts.{Parts}
+use Rattle.ropey_tree.specs.declared.node.Parts.TheVariants.{Leaf, Inner}
 use Rattle.ropey_tree.specs.Cutting.{IsPiece}
 use Rattle.ropey_tree.specs.NodeView.{NodeView}
 use Rattle.ropey_tree.specs.Nodes.{leaf_view, inner_view, IsInner}

@@ -3,7 +3,7 @@ use Rattle.std.specs.Prelude.{◌≡◌, ℕ, List, [], ◌++◌, Option, Some, 
 use Rattle.std.specs.List.{concat}
 use Rattle.std.specs.declared.rc.Rc.{Rc}
 use Rattle.std.specs.declared.alloc.Global.{Global}
-use Rattle.ropey_tree.specs.declared.nodes.Node.{Node}
+use Rattle.ropey_tree.specs.declared.node.Node.{Node}
 use Rattle.ropey_tree.specs.Counts.{total}
 use Rattle.ropey_tree.specs.Cutting.{IsText}
 

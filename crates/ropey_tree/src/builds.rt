@@ -3,10 +3,10 @@
 ghost use Rattle.std.specs.Prelude.{◌≡◌, ◌+◌, ◌<◌, ◌≤◌, ◌⊎◌, length, IfOk, vec_len};
 ghost use Rattle.ropey_tree.specs.Cutting.{IsText};
 ghost use Rattle.ropey_tree.specs.Nodes.{AreNodes, IsInner, all_pieces};
-ghost use Rattle.ropey_tree.specs.Rows.{views, IsLevelOver};
+ghost use Rattle.ropey_tree.specs.Siblings.{views, IsLevelOver};
 
-use crate::nodes::Node;
-use crate::rows::{Row, over};
+use crate::node::Node;
+use crate::siblings::{Siblings, over};
 use crate::{MAX_CHILDREN, MIN_CHILDREN};
 use std::alloc::{AllocError, Global};
 use std::rc::Rc;
@@ -38,7 +38,7 @@ fn level(alloc: Global, height: usize, nodes: &[Rc<Node>]) -> Result<Vec<Rc<Node
     let mut from = 0;
     while from < nodes.len() {
         let to = from + share(nodes.len() - from);
-        let children = Row::Nodes(nodes).gather(from, to)?;
+        let children = Siblings::Nodes(nodes).gather(from, to)?;
         let node = over(alloc, height, children)?;
         above.push(node)?;
         from = to;

@@ -8,12 +8,13 @@ ghost use Rattle.ropey_tree.specs.Nodes.{count_of, all_pieces};
 
 use crate::MAX_CHILDREN;
 use crate::counts::{By, Counts};
-use crate::nodes::Node;
+use crate::node::Node;
+use crate::visits::Visits;
 use arrayvec::ArrayVec;
 use std::marker::Model;
 use std::rc::Rc;
 
-/// Nodes in a row, and beside each what its text counts: the `NodeChildren` of `ropey`. Contracts
+/// Nodes side by side, and beside each what its text counts: the `NodeChildren` of `ropey`. Contracts
 /// see what the nodes are seen as.
 #[cycle(node)]
 #[derive(Drop)]
@@ -74,6 +75,7 @@ impl Children {
         requires { k < length self.now }
         ensures { result.now.value ≡ slice_index_or self.now k result.now.value }
     {
+        // For its facts alone.
         let _ = self.len();
         match &self.nodes[k] {
             Some(node) => node,
@@ -90,10 +92,11 @@ impl Children {
         self.counts[k]
     }
 
-    /// Appends a node, with what it counts.
+    /// Appends a node, with what it counts. All of them together are to be a text that fits.
     pub fn push(&mut self, node: Rc<Node>, counts: Counts)
         requires room { length self.old < 24 }
         requires counted { counts ≡ count_of node.value }
+        requires fits { (total (all_pieces (self.old ++ node.value ∷ []))).bytes < 2 ^ 63 }
         ensures { self.new ≡ self.old ++ node.value ∷ [] }
     {
         let k = self.counts.len();
@@ -113,8 +116,8 @@ impl Children {
         sum
     }
 
-    /// The first up to whose end more than `i` stand in a measure, else the last.
-    pub fn choose(&self, by: By, i: usize) -> Choice
+    /// The first up to whose end more than `i` stand in a measure, else the last. No node is entered.
+    pub fn choose(&self, by: By, i: usize, visits: &mut Visits) -> Choice
         requires some { 0 < length self.now }
         requires fits { (total (all_pieces self.now)).bytes < 2 ^ 63 }
         ensures within { result.index < length self.now }
@@ -122,6 +125,7 @@ impl Children {
         ensures not_past { amount by result.before ≤ i }
         ensures passed { (i < amount by (total (all_pieces (take (result.index + 1) self.now)))) ⊎
             (result.index + 1 ≡ length self.now) }
+        ensures visited { visits.new.nodes ≡ visits.old.nodes }
     {
         let last = self.len() - 1;
         let mut before = Counts::zero();

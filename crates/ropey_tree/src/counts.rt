@@ -3,7 +3,8 @@
 ghost use Rattle.std.specs.Prelude.{◌≡◌, ◌+◌, ◌<◌, ◌^◌};
 ghost use Rattle.std.specs.Str.{chars};
 
-use str_indices::{chars, lines, utf16};
+use crate::breaks;
+use str_indices::{chars, utf16};
 
 /// A measure of text.
 #[derive(Clone, Copy, Debug, PartialEq, Eq)]
@@ -55,7 +56,7 @@ impl Counts {
             bytes: text.len(),
             chars: chars::count(text),
             units: utf16::count(text),
-            breaks: lines::count_breaks(text),
+            breaks: breaks::count_breaks(text),
         }
     }
 

@@ -3,11 +3,11 @@
 ghost use Rattle.std.specs.Prelude.{◌≡◌, ◌++◌, IfOk};
 ghost use Rattle.ropey_tree.specs.Cutting.{IsText};
 ghost use Rattle.ropey_tree.specs.Nodes.{AreJoined};
-ghost use Rattle.ropey_tree.specs.Rows.{nodes_of};
+ghost use Rattle.ropey_tree.specs.Siblings.{nodes_of};
 
 use crate::children::Children;
-use crate::nodes::{Node, Parts};
-use crate::rows::{Joined, Row, over, pack};
+use crate::node::{Node, Parts};
+use crate::siblings::{Joined, Siblings, over, pack};
 use std::alloc::{AllocError, Global};
 use std::rc::Rc;
 
@@ -30,8 +30,9 @@ fn beside(alloc: Global, left: &Rc<Node>, right: &Rc<Node>) -> Result<Joined, Al
             let Parts::Inner(back) = right.parts() else {
                 unreachable!()
             };
+            // For its facts alone.
             let _ = (front.len(), back.len());
-            let joined = pack(alloc, left.height(), Row::Both(front, back))?;
+            let joined = pack(alloc, left.height(), Siblings::Both(front, back))?;
             Ok(joined)
         }
     }
@@ -52,15 +53,16 @@ pub fn join(alloc: Global, left: &Rc<Node>, right: &Rc<Node>) -> Result<Joined, 
             unreachable!()
         };
         let last = join(alloc, front.get(front.len() - 1), right)?;
-        let joined = pack(alloc, l, Row::Front(front, &last))?;
+        let joined = pack(alloc, l, Siblings::Front(front, &last))?;
         Ok(joined)
     } else {
         let Parts::Inner(back) = right.parts() else {
             unreachable!()
         };
+        // For its facts alone.
         let _ = back.len();
         let first = join(alloc, left, back.get(0))?;
-        let joined = pack(alloc, r, Row::Back(&first, back))?;
+        let joined = pack(alloc, r, Siblings::Back(&first, back))?;
         Ok(joined)
     }
 }
@@ -68,7 +70,8 @@ pub fn join(alloc: Global, left: &Rc<Node>, right: &Rc<Node>) -> Result<Joined, 
 /// One tree of the pieces of two, in order. Neither of them changes.
 pub fn concat(alloc: Global, left: &Rc<Node>, right: &Rc<Node>) -> Result<Rc<Node>, AllocError>
     requires { IsText (left.now.value.pieces ++ right.now.value.pieces) }
-    ensures { IfOk result (λ node. node.value.pieces ≡ left.now.value.pieces ++ right.now.value.pieces) }
+    ensures { IfOk result (λ node. node.value.pieces ≡ left.now.value.pieces ++
+        right.now.value.pieces) }
 {
     match join(alloc, left, right)? {
         Joined::One(node) => Ok(node),

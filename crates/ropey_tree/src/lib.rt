@@ -2,20 +2,19 @@
 //! each child, as the inner part of the Rust crate `ropey` has them.
 #![tactic(auto)]
 
+pub mod breaks;
 pub mod builds;
 pub mod children;
 pub mod counts;
-pub mod cuts;
-pub mod errors;
+pub mod cutter;
+pub mod error;
 pub mod joins;
 pub mod laws;
-pub mod leaves;
-pub mod nodes;
-pub mod rows;
+pub mod leaf;
+pub mod node;
 pub mod seams;
+pub mod siblings;
 pub mod splits;
-#[cfg(test)]
-mod tests;
 pub mod visits;
 
 /// The most bytes of a leaf's text.

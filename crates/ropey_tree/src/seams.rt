@@ -7,14 +7,14 @@
 ghost use Rattle.std.specs.Prelude.{◌≡◌, ◌+◌, ◌<◌, ◌^◌, ◌++◌, IfOk, true};
 ghost use Rattle.std.specs.List.{concat};
 ghost use Rattle.str_indices.specs.Text.{starts_with_lf};
-ghost use Rattle.str_indices.specs.Laws.{ends_with_cr};
+ghost use Rattle.str_indices.specs.Text.{ends_with_cr};
 ghost use Rattle.ropey_tree.specs.Counts.{total};
 ghost use Rattle.ropey_tree.specs.Splits.{pieces_in};
 
 use crate::counts::By;
 use crate::joins;
-use crate::leaves::Leaf;
-use crate::nodes::{Node, leaf_at};
+use crate::leaf::Leaf;
+use crate::node::{Node, leaf_at};
 use crate::splits::{concat, split};
 use std::alloc::{AllocError, Global};
 use std::rc::Rc;
@@ -23,6 +23,7 @@ use std::rc::Rc;
 fn is_cr_last(node: &Node) -> bool
     ensures { result ≡ ends_with_cr (concat node.now.pieces) }
 {
+    // For its facts alone.
     let _ = node.height();
     let text = leaf_at(node, By::Bytes, usize::MAX).leaf.as_str();
     text.as_bytes()[text.len() - 1] == b'\r'
@@ -44,9 +45,12 @@ fn append_over_cr_lf(
 ) -> Result<Option<Rc<Node>>, AllocError>
     requires cr { ends_with_cr (concat left.now.value.pieces) ≡ true }
     requires lf { starts_with_lf (concat right.now.value.pieces) ≡ true }
-    requires fits { (total left.now.value.pieces).bytes + (total right.now.value.pieces).bytes < 2 ^ 63 }
-    ensures { IfOk result (λ tree. concat (pieces_in tree) ≡ concat left.now.value.pieces ++ concat right.now.value.pieces) }
+    requires fits { (total left.now.value.pieces).bytes + (total right.now.value.pieces).bytes
+        < 2 ^ 63 }
+    ensures { IfOk result (λ tree. concat (pieces_in tree) ≡ concat left.now.value.pieces ++
+        concat right.now.value.pieces) }
 {
+    // For its facts alone.
     let _ = (left.height(), right.height());
     let end = left.counts().bytes;
     let before = split(alloc, left, end - 1)?;
@@ -66,12 +70,14 @@ pub fn append(
     right: Option<Rc<Node>>,
 ) -> Result<Option<Rc<Node>>, AllocError>
     requires fits { (total (pieces_in left)).bytes + (total (pieces_in right)).bytes < 2 ^ 63 }
-    ensures text { IfOk result (λ tree. concat (pieces_in tree) ≡ concat (pieces_in left) ++ concat (pieces_in right)) }
+    ensures text { IfOk result (λ tree. concat (pieces_in tree) ≡ concat (pieces_in left) ++
+        concat (pieces_in right)) }
 {
     match (left, right) {
         (None, right) => Ok(right),
         (Some(left), None) => Ok(Some(left)),
         (Some(left), Some(right)) => {
+            // For its facts alone.
             let _ = (left.height(), right.height());
             if is_cr_last(&left) && is_lf_first(&right) {
                 let tree = append_over_cr_lf(alloc, &left, &right)?;

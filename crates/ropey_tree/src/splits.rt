@@ -9,9 +9,10 @@ ghost use Rattle.ropey_tree.specs.Splits.{pieces_in, IsSplit};
 use crate::children::Children;
 use crate::counts::By;
 use crate::joins;
-use crate::leaves::Leaf;
-use crate::nodes::{Node, Parts};
-use crate::rows::{Row, over};
+use crate::leaf::Leaf;
+use crate::node::{Node, Parts};
+use crate::siblings::{Siblings, over};
+use crate::visits::Visits;
 use std::alloc::{AllocError, Global};
 use std::rc::Rc;
 
@@ -28,7 +29,8 @@ pub struct Halves {
 fn split_leaf(alloc: Global, node: &Rc<Node>, leaf: &Leaf, at: usize) -> Result<Halves, AllocError>
     requires leaf { node.now.value ≡ leaf_view leaf.now }
     requires boundary { IsBoundaryOf leaf.now at }
-    ensures { IfOk result (λ halves. IsSplit node.now.value.pieces at (pieces_in halves.left) (pieces_in halves.right)) }
+    ensures { IfOk result (λ halves. IsSplit node.now.value.pieces at (pieces_in halves.left)
+        (pieces_in halves.right)) }
 {
     let text = leaf.as_str();
     if at == 0 {
@@ -54,7 +56,7 @@ fn split_leaf(alloc: Global, node: &Rc<Node>, leaf: &Leaf, at: usize) -> Result<
 }
 
 /// A tree over the children from one index up to another.
-fn siblings(
+fn tree_over(
     alloc: Global,
     height: usize,
     children: &Children,
@@ -64,8 +66,10 @@ fn siblings(
     requires inner { IsInner height children.now }
     requires range { from ≤ to }
     requires within { to ≤ length children.now }
-    ensures { IfOk result (λ tree. all_pieces (take from children.now) ++ pieces_in tree ≡ all_pieces (take to children.now)) }
+    ensures { IfOk result (λ tree. all_pieces (take from children.now) ++ pieces_in tree ≡
+        all_pieces (take to children.now)) }
 {
+    // For its facts alone.
     let _ = children.len();
     if from == to {
         return Ok(None);
@@ -74,7 +78,7 @@ fn siblings(
         let child = children.get(from).clone()?;
         return Ok(Some(child));
     }
-    let some = Row::One(children).gather(from, to)?;
+    let some = Siblings::One(children).gather(from, to)?;
     let node = over(alloc, height, some)?;
     Ok(Some(node))
 }
@@ -103,7 +107,8 @@ pub fn concat(
 /// both it and a half hold, they share.
 pub fn split(alloc: Global, node: &Rc<Node>, at: usize) -> Result<Halves, AllocError>
     requires { IsBoundaryOf (concat node.now.value.pieces) at }
-    ensures { IfOk result (λ halves. IsSplit node.now.value.pieces at (pieces_in halves.left) (pieces_in halves.right)) }
+    ensures { IfOk result (λ halves. IsSplit node.now.value.pieces at (pieces_in halves.left)
+        (pieces_in halves.right)) }
 {
     let height = node.height();
     match node.parts() {
@@ -113,12 +118,12 @@ pub fn split(alloc: Global, node: &Rc<Node>, at: usize) -> Result<Halves, AllocE
         }
         Parts::Inner(children) => {
             let len = children.len();
-            let choice = children.choose(By::Bytes, at);
+            let choice = children.choose(By::Bytes, at, &mut Visits::new());
             let child = children.get(choice.index);
             let halves = split(alloc, child, at - choice.before.bytes)?;
-            let front = siblings(alloc, height, children, 0, choice.index)?;
+            let front = tree_over(alloc, height, children, 0, choice.index)?;
             let left = concat(alloc, front, halves.left)?;
-            let back = siblings(alloc, height, children, choice.index + 1, len)?;
+            let back = tree_over(alloc, height, children, choice.index + 1, len)?;
             let right = concat(alloc, halves.right, back)?;
             Ok(Halves { left, right })
         }

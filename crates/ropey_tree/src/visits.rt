@@ -1,42 +1,43 @@
-//! A count of the nodes that were entered, for contracts alone.
+//! A count of what a way down a tree does, for contracts alone.
 
-ghost use Rattle.std.specs.Prelude.{◌≡◌, ℕ, ◌+◌, ◌<◌};
+ghost use Rattle.std.specs.Prelude.{◌≡◌, ◌+◌};
 
+use counters::Counter;
 use std::marker::Model;
-use std::sync::ledger::{Blank, Book, Ledger, Share};
 
-/// How many nodes were entered. It has no bytes when the program runs, and only entering a child
+/// How many nodes were entered. It takes no bytes when the program runs, and only entering a child
 /// changes it.
 #[derive(Drop)]
-pub struct Visits<L: Ledger> {
-    book: Book<L>,
-    share: Share<L>,
+pub struct Visits {
+    nodes: Counter,
 }
 
-impl<L: Ledger> Model for Visits<L> {
-    ghost Value = { ℕ };
+impl Model for Visits {
+    ghost use Rattle.ropey_tree.specs.Visits.{Visited};
 
-    ghost view = { λ v. v.book.total };
+    ghost Value = { Visited };
 
-    ghost invariant = { λ v. 0 < v.share.parts };
+    ghost view = { λ v. record { nodes = v.nodes } };
 }
 
-impl<L: Ledger> Visits<L> {
-    /// None yet, in a new ledger. A type stands for that ledger where a caller's proof says so.
-    pub fn new(blank: Blank) -> Self
-        requires name { blank.name ≡ L.name }
-        requires parts { (blank.parts ≡ L.parts) × (0 < L.parts) }
-        ensures { result ≡ 0 }
-    {
-        let (book, share) = blank.open::<L>();
-        Visits { book, share }
-    }
-
-    /// One more.
+impl Visits {
+    /// None yet.
     #[inline(always)]
-    pub(crate) fn tick(&mut self)
-        ensures { self.new ≡ self.old + 1 }
+    pub fn new() -> Self
+        ensures { result.nodes ≡ 0 }
     {
-        self.book.add(&mut self.share, 1);
+        Visits {
+            nodes: Counter::new(),
+        }
+    }
+
+    /// One node more.
+    #[inline(always)]
+    pub(crate) fn enter(&mut self)
+        ensures { self.new.nodes ≡ self.old.nodes + 1 }
+    {
+        self.nodes.add();
     }
 }
+
+const _: () = prove!(size_of::<Visits>() == 0);

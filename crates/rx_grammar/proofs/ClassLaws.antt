@@ -5,10 +5,10 @@ use Rattle.std.proofs.lemmas.Bool.{or_right}
 use Rattle.rx_sets.specs.declared.items.ClassPerlKind.{ClassPerlKind}
 use Rattle.rx_sets.specs.declared.items.ClassItem.{ClassItem}
 use Rattle.rx_sets.specs.declared.items.ClassItem.TheVariants.{Span, Perl}
-use Rattle.rx_grammar.specs.Texts.{Begins}
+use Rattle.rx_grammar.specs.Input.{Begins}
 use Rattle.rx_grammar.specs.Escapes.{NumberAfter, unbraced, braced, EscapedCharacter, control, itself as escaped_itself, two_digits, four_digits, perl_letter}
 use Rattle.rx_grammar.specs.Classes.{is_class_literal, NoLetterClass, NoItem, NoItems, NoClassBody, NoClass, ItemsAfter, RangeGoesOn, ClassCharacter, itself, escaped, GoesOnAsRange, OneItem, character, range, letter_class, ClassItems, closed, last_hyphen, further, ClassBody, bracket_first, hyphen_first, other_first, Class, plain, negation}
-use Rattle.rx_grammar.proofs.TextLemmas.{first_is, rest_is, apart, told_apart, Begins-from}
+use Rattle.rx_grammar.proofs.InputLemmas.{first_is, rest_is, apart, told_apart, Begins-from}
 use Rattle.rx_grammar.proofs.EscapeLaws.{escape_unique, perl_letter-unique, perl_letter-no_character}
 
 -- the second escape, at the text of the first

@@ -7,7 +7,7 @@ use Rattle.rx_sets.specs.declared.items.ClassPerlKind.{ClassPerlKind}
 use Rattle.rx_sets.specs.declared.items.ClassPerlKind.TheVariants.{Digit, Space, Word}
 use Rattle.std.specs.Char.{is_ascii_hexdigit}
 use Rattle.rx_grammar.specs.Escapes.{control_of, perl_letter, look_of, is_escapable, hex_after, SpellsScalar, NumberOfLength, NumberInBraces, NumberAfter, unbraced, braced, EscapedCharacter, control, itself, two_digits, four_digits}
-use Rattle.rx_grammar.proofs.TextLemmas.{first_is, rest_is, apart, told_apart, fronts, fronts_of_length}
+use Rattle.rx_grammar.proofs.InputLemmas.{first_is, rest_is, apart, told_apart, fronts, fronts_of_length}
 
 abbrev pub names_control : ℕ → Bool
 names_control c = is_some (control_of c)

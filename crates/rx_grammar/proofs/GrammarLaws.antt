@@ -5,14 +5,14 @@ use Rattle.std.proofs.lemmas.Bool.Decides.{nat_tests}
 use Rattle.rx_grammar.specs.Settings.{Settings}
 use Rattle.rx_grammar.specs.Sets.{Range, IsSetOf, Folded, InPerl}
 use Rattle.rx_grammar.specs.Trees.{Tree, one_of, look_at, concat_of, alternation_of}
-use Rattle.rx_grammar.specs.Texts.{Begins, Stops}
+use Rattle.rx_grammar.specs.Input.{Begins, Stops}
 use Rattle.rx_grammar.specs.Escapes.{look_of}
 use Rattle.rx_sets.specs.declared.items.ClassItem.{ClassItem}
 use Rattle.rx_grammar.specs.Classes.{Class, InClass}
 use Rattle.rx_grammar.specs.Groups.{Setting, opened, grouped}
-use Rattle.rx_grammar.specs.Grammar.{is_literal, InDot, Escape, character, letter_class, look, Leaf, literal, dot, caret, dollar, escape, class, goes_on, goes_on_in_branches, Atom, leaf, group, Items, ended, setting, item, Branches, last, bar, Spells}
-use Rattle.rx_grammar.proofs.SetLaws.{IsSetOf-unique}
-use Rattle.rx_grammar.proofs.TextLemmas.{first_is, rest_is, apart, told_apart, Stops-not}
+use Rattle.rx_grammar.specs.Grammar.{is_literal, InDot, Escape, character, letter_class, look, PlainAtom, literal, dot, caret, dollar, escape, class, goes_on, goes_on_in_branches, Atom, plain_atom, group, Items, ended, setting, item, Branches, last, bar, Spells}
+use Rattle.rx_sets.proofs.SetLaws.{IsSetOf-unique}
+use Rattle.rx_grammar.proofs.InputLemmas.{first_is, rest_is, apart, told_apart, Stops-not}
 use Rattle.rx_grammar.proofs.EscapeLaws.{escape_unique, perl_letter-unique, perl_letter-no_character, is_look, look-no_character, perl_letter-no_look}
 use Rattle.rx_grammar.proofs.ClassLaws.{class_unique}
 use Rattle.rx_grammar.proofs.RepetitionLaws.{postfixes_unique, postfixes_along}
@@ -49,84 +49,84 @@ escape_along {s = s} {u = u} {h = h} e one = subst (λ x. Escape s x h u) (sym e
 pub class_along : {t t' u : List ℕ} {n : Bool} {items : List ClassItem} → t ≡ t' → Class t' n items u → Class t n items u
 class_along {u = u} {n = n} {items = items} e one = subst (λ x. Class x n items u) (sym e) one
 
-pub leaf_unique : {s : Settings} {t u u' : List ℕ} {h h' : Tree} → Leaf s t h u → Leaf s t h' u' → (h ≡ h') × (u ≡ u')
-leaf_unique {s = s} (literal e is_one is) (literal e' is_one' is') = (same_characters s (first_is e e') is is', rest_is e e')
-leaf_unique (literal e is_one is) (dot e' allowed' is') = absurd (told_apart is_literal e e' is_one refl)
-leaf_unique (literal e is_one is) (caret e') = absurd (told_apart is_literal e e' is_one refl)
-leaf_unique (literal e is_one is) (dollar e') = absurd (told_apart is_literal e e' is_one refl)
-leaf_unique (literal e is_one is) (escape e' one') = absurd (told_apart is_literal e e' is_one refl)
-leaf_unique (literal e is_one is) (class e' one' is') = absurd (told_apart is_literal e e' is_one refl)
-leaf_unique (dot e allowed is) (literal e' is_one' is') = absurd (told_apart is_literal e' e is_one' refl)
-leaf_unique {s = s} (dot {ranges = rs} e allowed is) (dot {ranges = ss} e' allowed' is') = (ap (λ r. one_of r) (IsSetOf-unique rs ss (InDot s) is is'), rest_is e e')
-leaf_unique (dot e allowed is) (caret e') = absurd (apart e e' refl)
-leaf_unique (dot e allowed is) (dollar e') = absurd (apart e e' refl)
-leaf_unique (dot e allowed is) (escape e' one') = absurd (apart e e' refl)
-leaf_unique (dot e allowed is) (class e' one' is') = absurd (apart e e' refl)
-leaf_unique (caret e) (literal e' is_one' is') = absurd (told_apart is_literal e' e is_one' refl)
-leaf_unique (caret e) (dot e' allowed' is') = absurd (apart e e' refl)
-leaf_unique (caret e) (caret e') = (refl, rest_is e e')
-leaf_unique (caret e) (dollar e') = absurd (apart e e' refl)
-leaf_unique (caret e) (escape e' one') = absurd (apart e e' refl)
-leaf_unique (caret e) (class e' one' is') = absurd (apart e e' refl)
-leaf_unique (dollar e) (literal e' is_one' is') = absurd (told_apart is_literal e' e is_one' refl)
-leaf_unique (dollar e) (dot e' allowed' is') = absurd (apart e e' refl)
-leaf_unique (dollar e) (caret e') = absurd (apart e e' refl)
-leaf_unique (dollar e) (dollar e') = (refl, rest_is e e')
-leaf_unique (dollar e) (escape e' one') = absurd (apart e e' refl)
-leaf_unique (dollar e) (class e' one' is') = absurd (apart e e' refl)
-leaf_unique (escape e one) (literal e' is_one' is') = absurd (told_apart is_literal e' e is_one' refl)
-leaf_unique (escape e one) (dot e' allowed' is') = absurd (apart e e' refl)
-leaf_unique (escape e one) (caret e') = absurd (apart e e' refl)
-leaf_unique (escape e one) (dollar e') = absurd (apart e e' refl)
-leaf_unique (escape e one) (escape e' one') = escape_tree_unique one (escape_along (rest_is e e') one')
-leaf_unique (escape e one) (class e' one' is') = absurd (apart e e' refl)
-leaf_unique (class e one is) (literal e' is_one' is') = absurd (told_apart is_literal e' e is_one' refl)
-leaf_unique (class e one is) (dot e' allowed' is') = absurd (apart e e' refl)
-leaf_unique (class e one is) (caret e') = absurd (apart e e' refl)
-leaf_unique (class e one is) (dollar e') = absurd (apart e e' refl)
-leaf_unique (class e one is) (escape e' one') = absurd (apart e e' refl)
-leaf_unique {s = s} (class {negated = n} {items = items} {ranges = rs} e one is) (class {negated = n'} {items = items'} {ranges = ss} e' one' is') =
+pub plain_unique : {s : Settings} {t u u' : List ℕ} {h h' : Tree} → PlainAtom s t h u → PlainAtom s t h' u' → (h ≡ h') × (u ≡ u')
+plain_unique {s = s} (literal e is_one is) (literal e' is_one' is') = (same_characters s (first_is e e') is is', rest_is e e')
+plain_unique (literal e is_one is) (dot e' allowed' is') = absurd (told_apart is_literal e e' is_one refl)
+plain_unique (literal e is_one is) (caret e') = absurd (told_apart is_literal e e' is_one refl)
+plain_unique (literal e is_one is) (dollar e') = absurd (told_apart is_literal e e' is_one refl)
+plain_unique (literal e is_one is) (escape e' one') = absurd (told_apart is_literal e e' is_one refl)
+plain_unique (literal e is_one is) (class e' one' is') = absurd (told_apart is_literal e e' is_one refl)
+plain_unique (dot e allowed is) (literal e' is_one' is') = absurd (told_apart is_literal e' e is_one' refl)
+plain_unique {s = s} (dot {ranges = rs} e allowed is) (dot {ranges = ss} e' allowed' is') = (ap (λ r. one_of r) (IsSetOf-unique rs ss (InDot s) is is'), rest_is e e')
+plain_unique (dot e allowed is) (caret e') = absurd (apart e e' refl)
+plain_unique (dot e allowed is) (dollar e') = absurd (apart e e' refl)
+plain_unique (dot e allowed is) (escape e' one') = absurd (apart e e' refl)
+plain_unique (dot e allowed is) (class e' one' is') = absurd (apart e e' refl)
+plain_unique (caret e) (literal e' is_one' is') = absurd (told_apart is_literal e' e is_one' refl)
+plain_unique (caret e) (dot e' allowed' is') = absurd (apart e e' refl)
+plain_unique (caret e) (caret e') = (refl, rest_is e e')
+plain_unique (caret e) (dollar e') = absurd (apart e e' refl)
+plain_unique (caret e) (escape e' one') = absurd (apart e e' refl)
+plain_unique (caret e) (class e' one' is') = absurd (apart e e' refl)
+plain_unique (dollar e) (literal e' is_one' is') = absurd (told_apart is_literal e' e is_one' refl)
+plain_unique (dollar e) (dot e' allowed' is') = absurd (apart e e' refl)
+plain_unique (dollar e) (caret e') = absurd (apart e e' refl)
+plain_unique (dollar e) (dollar e') = (refl, rest_is e e')
+plain_unique (dollar e) (escape e' one') = absurd (apart e e' refl)
+plain_unique (dollar e) (class e' one' is') = absurd (apart e e' refl)
+plain_unique (escape e one) (literal e' is_one' is') = absurd (told_apart is_literal e' e is_one' refl)
+plain_unique (escape e one) (dot e' allowed' is') = absurd (apart e e' refl)
+plain_unique (escape e one) (caret e') = absurd (apart e e' refl)
+plain_unique (escape e one) (dollar e') = absurd (apart e e' refl)
+plain_unique (escape e one) (escape e' one') = escape_tree_unique one (escape_along (rest_is e e') one')
+plain_unique (escape e one) (class e' one' is') = absurd (apart e e' refl)
+plain_unique (class e one is) (literal e' is_one' is') = absurd (told_apart is_literal e' e is_one' refl)
+plain_unique (class e one is) (dot e' allowed' is') = absurd (apart e e' refl)
+plain_unique (class e one is) (caret e') = absurd (apart e e' refl)
+plain_unique (class e one is) (dollar e') = absurd (apart e e' refl)
+plain_unique (class e one is) (escape e' one') = absurd (apart e e' refl)
+plain_unique {s = s} (class {negated = n} {items = items} {ranges = rs} e one is) (class {negated = n'} {items = items'} {ranges = ss} e' one' is') =
     let same = class_unique one (class_along (rest_is e e') one') in
     let P : ℕ → Type 0 = InClass s n items in
     let is'' = subst (λ x. IsSetOf ss (InClass s n x)) (sym same.1) (subst (λ x. IsSetOf ss (InClass s x items')) (sym same.0) is') in
     (ap (λ r. one_of r) (IsSetOf-unique rs ss P is is''), same.2)
 
 -- what an atom that is no group begins with
-abbrev pub is_leaf_start : ℕ → Bool
-is_leaf_start c = is_literal c || ((c == 46) || (c == 94) || (c == 36) || (c == 92) || (c == 91))
+abbrev pub is_atom_start : ℕ → Bool
+is_atom_start c = is_literal c || ((c == 46) || (c == 94) || (c == 36) || (c == 92) || (c == 91))
 
-pub leaf_begins : {s : Settings} {t u : List ℕ} {h : Tree} → Leaf s t h u → Stops is_leaf_start t → ⊥
-leaf_begins (literal e is_one is) stops = Stops-not is_leaf_start stops e (or_left _ _ is_one)
-leaf_begins (dot e allowed is) stops = Stops-not is_leaf_start stops e refl
-leaf_begins (caret e) stops = Stops-not is_leaf_start stops e refl
-leaf_begins (dollar e) stops = Stops-not is_leaf_start stops e refl
-leaf_begins (escape e one) stops = Stops-not is_leaf_start stops e refl
-leaf_begins (class e one is) stops = Stops-not is_leaf_start stops e refl
+pub plain_begins : {s : Settings} {t u : List ℕ} {h : Tree} → PlainAtom s t h u → Stops is_atom_start t → ⊥
+plain_begins (literal e is_one is) stops = Stops-not is_atom_start stops e (or_left _ _ is_one)
+plain_begins (dot e allowed is) stops = Stops-not is_atom_start stops e refl
+plain_begins (caret e) stops = Stops-not is_atom_start stops e refl
+plain_begins (dollar e) stops = Stops-not is_atom_start stops e refl
+plain_begins (escape e one) stops = Stops-not is_atom_start stops e refl
+plain_begins (class e one is) stops = Stops-not is_atom_start stops e refl
 
-pub Stops-paren : (t : List ℕ) → Begins 40 t → Stops is_leaf_start t
+pub Stops-paren : (t : List ℕ) → Begins 40 t → Stops is_atom_start t
 Stops-paren [] begins = tt
-Stops-paren (c ∷ cs) begins = subst (λ x. is_leaf_start x ≡ false) (sym begins) refl
+Stops-paren (c ∷ cs) begins = subst (λ x. is_atom_start x ≡ false) (sym begins) refl
 
-Stops-end : (t : List ℕ) → Stops goes_on t → Stops is_leaf_start t
+Stops-end : (t : List ℕ) → Stops goes_on t → Stops is_atom_start t
 Stops-end [] stops = tt
-Stops-end (c ∷ cs) stops = ends_no_leaf c stops
+Stops-end (c ∷ cs) stops = ends_no_atom c stops
   where
-    ends_no_leaf : (c : ℕ) → goes_on c ≡ false → is_leaf_start c ≡ false
-    ends_no_leaf c fails = grind (arith, nat_tests)
+    ends_no_atom : (c : ℕ) → goes_on c ≡ false → is_atom_start c ≡ false
+    ends_no_atom c fails = grind (arith, nat_tests)
 
 pub no_paren : (t : List ℕ) → Begins 40 t → Stops goes_on t → ⊥
 no_paren [] begins stops = begins
 no_paren (c ∷ cs) begins stops = true≢false (sym (subst (λ x. goes_on x ≡ true) (sym begins) refl) ∙ stops)
 
 pub atom_goes_on : {s : Settings} {m n d : ℕ} {t u : List ℕ} {h : Tree} → Atom s m t h d n u → Stops goes_on t → ⊥
-atom_goes_on {t = t} (leaf one) stops = leaf_begins one (Stops-end t stops)
+atom_goes_on {t = t} (plain_atom one) stops = plain_begins one (Stops-end t stops)
 atom_goes_on {t = t} (group opening inside close) stops = no_paren t (opening_begins opening) stops
 
 pub setting_goes_on : {s s' : Settings} {t u : List ℕ} → Setting s t s' u → Stops goes_on t → ⊥
 setting_goes_on {t = t} one stops = no_paren t (setting_begins one) stops
 
 pub setting_or_atom : {s s' : Settings} {m n d : ℕ} {t u v : List ℕ} {h : Tree} → Setting s t s' u → Atom s m t h d n v → ⊥
-setting_or_atom {t = t} one (leaf other) = leaf_begins other (Stops-paren t (setting_begins one))
+setting_or_atom {t = t} one (plain_atom other) = plain_begins other (Stops-paren t (setting_begins one))
 setting_or_atom one (group opening inside close) = setting_or_opening one opening
 
 pub items_along : {s s' z : Settings} {m m' n d : ℕ} {t t' u : List ℕ} {hs : List Tree} → s ≡ s' → m ≡ m' → t ≡ t' → Items s' m' t' hs d z n u → Items s m t hs d z n u
@@ -147,9 +147,9 @@ one_more e f = ap₂ (λ a l. a ∷ l) e f
 
 mutual
   pub atom_unique : {s : Settings} {m n n' d d' : ℕ} {t u u' : List ℕ} {h h' : Tree} → Atom s m t h d n u → Atom s m t h' d' n' u' → (h ≡ h') × (d ≡ d') × (n ≡ n') × (u ≡ u')
-  atom_unique (leaf one) (leaf one') = let same = leaf_unique one one' in (same.0, refl, refl, same.1)
-  atom_unique {t = t} (leaf one) (group opening inside close) = absurd (leaf_begins one (Stops-paren t (opening_begins opening)))
-  atom_unique {t = t} (group opening inside close) (leaf one) = absurd (leaf_begins one (Stops-paren t (opening_begins opening)))
+  atom_unique (plain_atom one) (plain_atom one') = let same = plain_unique one one' in (same.0, refl, refl, same.1)
+  atom_unique {t = t} (plain_atom one) (group opening inside close) = absurd (plain_begins one (Stops-paren t (opening_begins opening)))
+  atom_unique {t = t} (group opening inside close) (plain_atom one) = absurd (plain_begins one (Stops-paren t (opening_begins opening)))
   atom_unique {m = m} (group opening inside close) (group opening' inside' close') =
       let head = opening_unique opening opening' in
       let same = branches_unique inside (branches_along head.0 (ap (opened m) head.1) head.2 inside') in

@@ -6,10 +6,10 @@ use Rattle.rx_grammar.specs.declared.flags.Flag.{Flag}
 use Rattle.rx_grammar.specs.declared.flags.Flag.TheVariants.{CaseInsensitive, MultiLine, DotMatchesNewLine, SwapGreed}
 use Rattle.rx_grammar.specs.Settings.{Settings, letter_of}
 use Rattle.rx_grammar.specs.Trees.{Name}
-use Rattle.rx_grammar.specs.Texts.{Begins, passes}
-use Rattle.rx_grammar.specs.declared.texts.CharacterTest.TheVariants.{NameCharacter}
+use Rattle.rx_grammar.specs.Input.{Begins, passes}
+use Rattle.rx_grammar.specs.declared.input.CharacterTest.TheVariants.{NameCharacter}
 use Rattle.rx_grammar.specs.Groups.{is_flag_letter, FlagLetters, Flags, turning_on, turning_off, flagged, Setting, setting, IsName, Capture, numbered, Opening, plain, without_number, with_name, with_short_name, changing}
-use Rattle.rx_grammar.proofs.TextLemmas.{first_is, rest_is, apart, told_apart, Begins-from, fronts}
+use Rattle.rx_grammar.proofs.InputLemmas.{first_is, rest_is, apart, told_apart, Begins-from, fronts}
 
 pub letter_of-passes : (flag : Flag) → is_flag_letter (letter_of flag) ≡ true
 letter_of-passes CaseInsensitive = refl

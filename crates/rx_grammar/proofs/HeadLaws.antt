@@ -8,11 +8,11 @@ use Rattle.rx_grammar.specs.declared.flags.Flag.{Flag}
 use Rattle.rx_grammar.specs.declared.flags.Flag.TheVariants.{CaseInsensitive, MultiLine, DotMatchesNewLine, SwapGreed}
 use Rattle.rx_grammar.specs.Settings.{Settings, letter_of}
 use Rattle.rx_grammar.specs.Trees.{Name}
-use Rattle.rx_grammar.specs.Texts.{Begins, Stops, SplitsFront, passes}
-use Rattle.rx_grammar.specs.declared.texts.CharacterTest.TheVariants.{NameCharacter}
+use Rattle.rx_grammar.specs.Input.{Begins, Stops, SplitsFront, passes}
+use Rattle.rx_grammar.specs.declared.input.CharacterTest.TheVariants.{NameCharacter}
 use Rattle.rx_grammar.specs.Groups.{is_flag_letter, FlagLetters, Flags, turning_on, turning_off, flagged, Setting, setting, is_name_start, IsName, Capture, numbered, unnumbered, Opening, plain, without_number, with_name, with_short_name, changing}
 use Rattle.rx_grammar.specs.Heads.{FlagsAfter, NoFlagsAfter, NoFlagLetter, FlagsChange, NoFlags, NoName, NameOpening, NoNameOpening, NoHead}
-use Rattle.rx_grammar.proofs.TextLemmas.{first_is, rest_is, apart, Stops-not, Begins-from, fronts}
+use Rattle.rx_grammar.proofs.InputLemmas.{first_is, rest_is, apart, Stops-not, Begins-from, fronts}
 use Rattle.rx_grammar.proofs.GroupLaws.{letter_of-passes, letter_of-unique, letters_unique, letters_along, flags_along, IsName-passes, behind, flags_begin, setting_begins, opening_begins}
 
 -- flags that were read after others

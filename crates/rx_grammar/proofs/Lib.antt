@@ -1,6 +1,5 @@
-pub mod SetLaws
 pub mod DigitLemmas
-pub mod TextLemmas
+pub mod InputLemmas
 pub mod EscapeLaws
 pub mod ReaderLemmas
 pub mod ClassLaws
@@ -8,11 +7,11 @@ pub mod RepetitionLaws
 pub mod GroupLaws
 pub mod HeadLaws
 pub mod GrammarLaws
-pub mod LeafLaws
+pub mod AtomLaws
 pub mod NameLaws
 pub mod NumberLaws
 pub mod ResumeLaws
 pub mod PatternLaws
 pub mod ShorterLaws
 pub mod StackLaws
-pub mod StandingLaws
+pub mod PlaceLaws

@@ -6,9 +6,9 @@ use Rattle.std.proofs.lemmas.List.Elements.{All-more}
 use Rattle.std.proofs.lemmas.List.Quantifiers.{all_pairs_push}
 use Rattle.std.proofs.lemmas.List.Concat.{flat_map-append}
 use Rattle.rx_grammar.specs.Trees.{Name, Tree, empty, in_a_row, concat_of, names_of, all_names_of}
-use Rattle.rx_grammar.specs.Postorder.{Step, an_empty, a_set, a_look, a_group, a_concat, an_alternation, a_repetition, alternate, after_node, after_nodes, trees_of, tree_of, own_names, names_in}
+use Rattle.rx_grammar.specs.Postorder.{NodeKind, an_empty, a_set, a_look, a_group, a_concat, an_alternation, a_repetition, alternate, after_node, after_nodes, trees_of, tree_of, own_names, names_in}
 use Rattle.rx_grammar.specs.declared.hir.Node.{Node}
-use Rattle.rx_grammar.specs.Nodes.{step_of}
+use Rattle.rx_grammar.specs.Nodes.{kind_of}
 use Rattle.rx_grammar.proofs.HeadLaws.{front_apart as AllPairs-behind}
 
 all_names : (first second : Tree) (others : List Tree) → all_names_of (in_a_row first second others) ≡ flat_map names_of (first ∷ second ∷ others)
@@ -42,7 +42,7 @@ joined_names : (tree : Tree) (n : ℕ) (trees : List Tree) → names_of tree ≡
 joined_names tree n trees is =
     row_names-cons tree (drop n trees) ∙ ap (λ x. row_names (drop n trees) ++ x) is ∙ row_names-split n trees ∙ sym (append-nil (row_names trees))
 
-after_node-names : (trees : List Tree) (node : Step) → row_names (after_node trees node) ≡ row_names trees ++ own_names node
+after_node-names : (trees : List Tree) (node : NodeKind) → row_names (after_node trees node) ≡ row_names trees ++ own_names node
 after_node-names trees an_empty = row_names-cons empty trees
 after_node-names trees (a_set ranges) = row_names-cons _ trees
 after_node-names trees (a_look look) = row_names-cons _ trees
@@ -58,51 +58,51 @@ after_node-names [] (a_repetition repetition) = refl
 after_node-names (tree ∷ trees) (a_repetition repetition) =
     row_names-cons _ trees ∙ sym (row_names-cons tree trees) ∙ sym (append-nil (row_names (tree ∷ trees)))
 
-after_nodes-names : (trees : List Tree) (nodes : List Step) → row_names (after_nodes trees nodes) ≡ row_names trees ++ names_in nodes
+after_nodes-names : (trees : List Tree) (nodes : List NodeKind) → row_names (after_nodes trees nodes) ≡ row_names trees ++ names_in nodes
 after_nodes-names trees [] = sym (append-nil (row_names trees))
 after_nodes-names trees (node ∷ nodes) =
     after_nodes-names (after_node trees node) nodes ∙ ap (λ x. x ++ names_in nodes) (after_node-names trees node)
     ∙ append_assoc (row_names trees) (own_names node) (names_in nodes)
 
 -- nodes that make one tree name what it names
-pub names_in-tree : (nodes : List Step) → trees_of nodes ≡ tree_of nodes ∷ [] → names_in nodes ≡ names_of (tree_of nodes)
+pub names_in-tree : (nodes : List NodeKind) → trees_of nodes ≡ tree_of nodes ∷ [] → names_in nodes ≡ names_of (tree_of nodes)
 names_in-tree nodes one = sym (after_nodes-names [] nodes) ∙ ap row_names one ∙ append-nil (names_of (tree_of nodes))
 
 -- names that are read one by one
 pub record NamesSoFar (names : List Name) (nodes : List Node) : Type 0 where
-  pub names_are : names ≡ names_in (map step_of nodes)
+  pub names_are : names ≡ names_in (map kind_of nodes)
   pub once : AllPairs (λ a b. a ≢ b) names
 
 pub names_of_more : (nodes : List Node) (i : ℕ) (node : Node) → i < length nodes → node ≡ get_or nodes i node
-    → names_in (map step_of (take (i + 1) nodes)) ≡ names_in (map step_of (take i nodes)) ++ own_names (step_of node)
+    → names_in (map kind_of (take (i + 1) nodes)) ≡ names_in (map kind_of (take i nodes)) ++ own_names (kind_of node)
 names_of_more nodes i node lt is =
-    ap names_in (map_more step_of nodes i node lt) ∙ flat_map-append own_names (map step_of (take i nodes)) (step_of (get_or nodes i node) ∷ [])
-    ∙ ap (λ x. names_in (map step_of (take i nodes)) ++ x) (append-nil (own_names (step_of (get_or nodes i node))) ∙ ap (λ x. own_names (step_of x)) (sym is))
+    ap names_in (map_more kind_of nodes i node lt) ∙ flat_map-append own_names (map kind_of (take i nodes)) (kind_of (get_or nodes i node) ∷ [])
+    ∙ ap (λ x. names_in (map kind_of (take i nodes)) ++ x) (append-nil (own_names (kind_of (get_or nodes i node))) ∙ ap (λ x. own_names (kind_of x)) (sym is))
 
 pub NamesSoFar-skip : {names : List Name} (nodes : List Node) (i : ℕ) (node : Node) → NamesSoFar names (take i nodes) → i < length nodes → node ≡ get_or nodes i node
-    → own_names (step_of node) ≡ [] → NamesSoFar names (take (i + 1) nodes)
+    → own_names (kind_of node) ≡ [] → NamesSoFar names (take (i + 1) nodes)
 NamesSoFar-skip nodes i node so_far lt is none = record {
-  names_are = so_far.names_are ∙ sym (append-nil (names_in (map step_of (take i nodes)))) ∙ ap (λ x. names_in (map step_of (take i nodes)) ++ x) (sym none)
+  names_are = so_far.names_are ∙ sym (append-nil (names_in (map kind_of (take i nodes)))) ∙ ap (λ x. names_in (map kind_of (take i nodes)) ++ x) (sym none)
       ∙ sym (names_of_more nodes i node lt is);
   once = so_far.once;
 }
 
 pub NamesSoFar-push : {names : List Name} {name : Name} (nodes : List Node) (i : ℕ) (node : Node) → NamesSoFar names (take i nodes) → i < length nodes → node ≡ get_or nodes i node
-    → own_names (step_of node) ≡ name ∷ [] → All (λ other. other ≢ name) names → NamesSoFar (names ++ name ∷ []) (take (i + 1) nodes)
+    → own_names (kind_of node) ≡ name ∷ [] → All (λ other. other ≢ name) names → NamesSoFar (names ++ name ∷ []) (take (i + 1) nodes)
 NamesSoFar-push {names = names} {name = name} nodes i node so_far lt is own other = record {
-  names_are = ap (λ x. x ++ name ∷ []) so_far.names_are ∙ ap (λ x. names_in (map step_of (take i nodes)) ++ x) (sym own) ∙ sym (names_of_more nodes i node lt is);
+  names_are = ap (λ x. x ++ name ∷ []) so_far.names_are ∙ ap (λ x. names_in (map kind_of (take i nodes)) ++ x) (sym own) ∙ sym (names_of_more nodes i node lt is);
   once = all_pairs_push (λ a b. a ≢ b) names name so_far.once (λ k d within. other k d within);
 }
 
 pub NamesSoFar-twice : {names : List Name} {name : Name} (nodes : List Node) (i : ℕ) (node : Node) → NamesSoFar names (take i nodes) → i < length nodes → node ≡ get_or nodes i node
-    → own_names (step_of node) ≡ name ∷ [] → Contains names name → AllPairs (λ a b. a ≢ b) (names_in (map step_of nodes)) → ⊥
+    → own_names (kind_of node) ≡ name ∷ [] → Contains names name → AllPairs (λ a b. a ≢ b) (names_in (map kind_of nodes)) → ⊥
 NamesSoFar-twice {names = names} {name = name} nodes i node so_far lt is own found once =
-    let later = names_in (map step_of (drop (i + 1) nodes)) in
-    let front : names_in (map step_of (take (i + 1) nodes)) ≡ names ++ name ∷ [] =
+    let later = names_in (map kind_of (drop (i + 1) nodes)) in
+    let front : names_in (map kind_of (take (i + 1) nodes)) ≡ names ++ name ∷ [] =
     names_of_more nodes i node lt is ∙ ap₂ (λ x y. x ++ y) (sym so_far.names_are) own in
-    let split : names_in (map step_of nodes) ≡ names ++ name ∷ later =
-    ap (λ x. names_in (map step_of x)) (sym (take-append-drop (i + 1) nodes)) ∙ ap names_in (map-append step_of (take (i + 1) nodes) (drop (i + 1) nodes))
-    ∙ flat_map-append own_names (map step_of (take (i + 1) nodes)) (map step_of (drop (i + 1) nodes)) ∙ ap (λ x. x ++ later) front ∙ append_assoc names (name ∷ []) later in
+    let split : names_in (map kind_of nodes) ≡ names ++ name ∷ later =
+    ap (λ x. names_in (map kind_of x)) (sym (take-append-drop (i + 1) nodes)) ∙ ap names_in (map-append kind_of (take (i + 1) nodes) (drop (i + 1) nodes))
+    ∙ flat_map-append own_names (map kind_of (take (i + 1) nodes)) (map kind_of (drop (i + 1) nodes)) ∙ ap (λ x. x ++ later) front ∙ append_assoc names (name ∷ []) later in
     AllPairs-behind names later name found.0 name found.1 found.2 (subst (λ l. AllPairs (λ a b. a ≢ b) l) split once)
 
 -- a name among names that are kept otherwise

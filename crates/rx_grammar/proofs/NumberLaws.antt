@@ -5,11 +5,11 @@ use Rattle.std.proofs.lemmas.List.{reverse-append, take-append-drop, map_more}
 use Rattle.rx_grammar.specs.declared.hir.Node.{Node}
 use Rattle.rx_grammar.specs.Settings.{Settings}
 use Rattle.rx_grammar.specs.Trees.{Tree, in_a_row, concat_of, alternation_of, numbers_of, all_numbers_of}
-use Rattle.rx_grammar.specs.Postorder.{Step, an_empty, a_set, a_look, a_group, a_concat, an_alternation, a_repetition, alternate, after_node, after_nodes, trees_of, tree_of, own_groups}
-use Rattle.rx_grammar.specs.Nodes.{step_of}
+use Rattle.rx_grammar.specs.Postorder.{NodeKind, an_empty, a_set, a_look, a_group, a_concat, an_alternation, a_repetition, alternate, after_node, after_nodes, trees_of, tree_of, own_groups}
+use Rattle.rx_grammar.specs.Nodes.{kind_of}
 use Rattle.rx_grammar.specs.Repetitions.{Postfixes, ended as no_more, further}
 use Rattle.rx_grammar.specs.Groups.{numbered, unnumbered}
-use Rattle.rx_grammar.specs.Grammar.{Escape, character, letter_class, look, Leaf, literal, dot, caret, dollar, escape, class, Atom, leaf, group, Items, ended, setting, item, Branches, last, bar, Spells}
+use Rattle.rx_grammar.specs.Grammar.{Escape, character, letter_class, look, PlainAtom, literal, dot, caret, dollar, escape, class, Atom, plain_atom, group, Items, ended, setting, item, Branches, last, bar, Spells}
 
 all_numbers : (first second : Tree) (others : List Tree) → all_numbers_of (in_a_row first second others) ≡ flat_map numbers_of (first ∷ second ∷ others)
 all_numbers first second [] = ap (λ x. numbers_of first ++ x) (sym (append-nil (numbers_of second)))
@@ -57,11 +57,11 @@ joined_groups tree n trees is =
     sym (groups_of-append (take n trees) (drop n trees)) ∙ ap groups_of (take-append-drop n trees) in
     omega (arith, made, split)
 
-abbrev pub groups_in : List Step → ℕ
+abbrev pub groups_in : List NodeKind → ℕ
 groups_in [] = 0
 groups_in (node ∷ nodes) = own_groups node + groups_in nodes
 
-after_node-groups : (trees : List Tree) (node : Step) → groups_of (after_node trees node) ≡ groups_of trees + own_groups node
+after_node-groups : (trees : List Tree) (node : NodeKind) → groups_of (after_node trees node) ≡ groups_of trees + own_groups node
 after_node-groups trees an_empty = omega arith
 after_node-groups trees (a_set ranges) = omega arith
 after_node-groups trees (a_look asked) = omega arith
@@ -74,28 +74,28 @@ after_node-groups trees (an_alternation count) =
 after_node-groups [] (a_repetition repetition) = refl
 after_node-groups (tree ∷ trees) (a_repetition repetition) = omega arith
 
-after_nodes-groups : (trees : List Tree) (nodes : List Step) → groups_of (after_nodes trees nodes) ≡ groups_of trees + groups_in nodes
+after_nodes-groups : (trees : List Tree) (nodes : List NodeKind) → groups_of (after_nodes trees nodes) ≡ groups_of trees + groups_in nodes
 after_nodes-groups trees [] = omega arith
 after_nodes-groups trees (node ∷ nodes) = omega (arith, after_nodes-groups (after_node trees node) nodes, after_node-groups trees node)
 
 -- nodes that make one tree are as many groups as it has
-pub groups_in-tree : (nodes : List Step) → trees_of nodes ≡ tree_of nodes ∷ [] → groups_in nodes ≡ length (numbers_of (tree_of nodes))
+pub groups_in-tree : (nodes : List NodeKind) → trees_of nodes ≡ tree_of nodes ∷ [] → groups_in nodes ≡ length (numbers_of (tree_of nodes))
 groups_in-tree nodes one =
     let all : groups_of (trees_of nodes) ≡ 0 + groups_in nodes = after_nodes-groups [] nodes in
     let here : groups_of (trees_of nodes) ≡ length (numbers_of (tree_of nodes)) + 0 = ap groups_of one in
     omega (arith, all, here)
 
-groups_in-append : (xs ys : List Step) → groups_in (xs ++ ys) ≡ groups_in xs + groups_in ys
+groups_in-append : (xs ys : List NodeKind) → groups_in (xs ++ ys) ≡ groups_in xs + groups_in ys
 groups_in-append [] ys = omega arith
 groups_in-append (x ∷ xs) ys = omega (arith, groups_in-append xs ys)
 
 -- one more node
 pub groups_in-more : (nodes : List Node) (i : ℕ) (node : Node) → i < length nodes → node ≡ get_or nodes i node
-    → groups_in (map step_of (take (i + 1) nodes)) ≡ groups_in (map step_of (take i nodes)) + own_groups (step_of node)
+    → groups_in (map kind_of (take (i + 1) nodes)) ≡ groups_in (map kind_of (take i nodes)) + own_groups (kind_of node)
 groups_in-more nodes i node lt is =
-    let e : groups_in (map step_of (take (i + 1) nodes)) ≡ groups_in (map step_of (take i nodes)) + groups_in (step_of (get_or nodes i node) ∷ []) =
-    ap groups_in (map_more step_of nodes i node lt) ∙ groups_in-append (map step_of (take i nodes)) (step_of (get_or nodes i node) ∷ []) in
-    let same : own_groups (step_of node) ≡ own_groups (step_of (get_or nodes i node)) = ap (λ x. own_groups (step_of x)) is in
+    let e : groups_in (map kind_of (take (i + 1) nodes)) ≡ groups_in (map kind_of (take i nodes)) + groups_in (kind_of (get_or nodes i node) ∷ []) =
+    ap groups_in (map_more kind_of nodes i node lt) ∙ groups_in-append (map kind_of (take i nodes)) (kind_of (get_or nodes i node) ∷ []) in
+    let same : own_groups (kind_of node) ≡ own_groups (kind_of (get_or nodes i node)) = ap (λ x. own_groups (kind_of x)) is in
     omega (arith, e, same)
 
 -- the numbers from m + 1 to n, in order
@@ -120,13 +120,13 @@ escape_numbers (character one is) = refl
 escape_numbers (letter_class kind negated e is) = refl
 escape_numbers (look letter e f) = refl
 
-leaf_numbers : {s : Settings} {t u : List ℕ} {h : Tree} → Leaf s t h u → numbers_of h ≡ []
-leaf_numbers (literal e is_one is) = refl
-leaf_numbers (dot e allowed is) = refl
-leaf_numbers (caret e) = refl
-leaf_numbers (dollar e) = refl
-leaf_numbers (escape e one) = escape_numbers one
-leaf_numbers (class e one is) = refl
+plain_numbers : {s : Settings} {t u : List ℕ} {h : Tree} → PlainAtom s t h u → numbers_of h ≡ []
+plain_numbers (literal e is_one is) = refl
+plain_numbers (dot e allowed is) = refl
+plain_numbers (caret e) = refl
+plain_numbers (dollar e) = refl
+plain_numbers (escape e one) = escape_numbers one
+plain_numbers (class e one is) = refl
 
 postfixes_numbers : {swap : Bool} {h g : Tree} {d e : ℕ} {t u : List ℕ} → Postfixes swap h d t g e u → numbers_of g ≡ numbers_of h
 postfixes_numbers (no_more stops) = refl
@@ -134,7 +134,7 @@ postfixes_numbers (further one others) = postfixes_numbers others
 
 mutual
   atom_run : {s : Settings} {m n d : ℕ} {t u : List ℕ} {h : Tree} → Atom s m t h d n u → Run m (numbers_of h) n
-  atom_run {m = m} (leaf one) = Run-along m m (leaf_numbers one) refl
+  atom_run {m = m} (plain_atom one) = Run-along m m (plain_numbers one) refl
   atom_run {m = m} {n = n} (group {h = h} {hs = hs} {k = numbered name} opening inside close) =
       (refl, Run-along (m + 1) n (numbers_of-alternation h hs) (branches_run inside))
   atom_run {m = m} {n = n} (group {h = h} {hs = hs} {k = unnumbered} opening inside close) =

@@ -4,7 +4,7 @@ use Rattle.rx_grammar.specs.Settings.{Settings}
 use Rattle.rx_grammar.specs.Trees.{Tree, names_of}
 use Rattle.rx_grammar.specs.Grammar.{Spells, SpellsNothing}
 use Rattle.rx_grammar.specs.Resuming.{Level, OpenGroup, Place, no_level, tree_at, Ends, Resumes, whole, Completes, SameEnds, NoEnds}
-use Rattle.rx_grammar.specs.Standing.{start_of, StepTaken, TextRead, Stands}
+use Rattle.rx_grammar.specs.Places.{start_of, PartRead, TextRead, IsAt}
 use Rattle.rx_grammar.specs.declared.parser.Parser.{Parser}
 use Rattle.rx_grammar.proofs.ResumeLaws.{ends_branches, branches_of, ends_here, end_of_text, end_in_group}
 
@@ -20,15 +20,15 @@ NoEnds-before same none = λ tree depth r fits. none tree depth (same.on tree de
 -- a text that is read in part
 pub record ReadSoFar (before after : Parser) (place : Place) (t u : List ℕ) : Type 0 where
   pub next : Place
-  pub stands : Stands after [] next
+  pub stands : IsAt after [] next
   pub same : SameEnds place t next u
   pub limit : after.limit ≡ before.limit
 
-pub ReadSoFar-none : (parser : Parser) (place : Place) (t : List ℕ) → Stands parser [] place → ReadSoFar parser parser place t t
+pub ReadSoFar-none : (parser : Parser) (place : Place) (t : List ℕ) → IsAt parser [] place → ReadSoFar parser parser place t t
 ReadSoFar-none parser place t stands = record { next = place; stands = stands; same = SameEnds-none place t; limit = refl }
 
-pub ReadSoFar-more : {before middle after : Parser} {place : Place} {t u v : List ℕ} → (read : ReadSoFar before middle place t u) → StepTaken middle after read.next u v → ReadSoFar before after place t v
-ReadSoFar-more read step = record { next = step.next; stands = step.stands; same = SameEnds-more read.same step.same; limit = step.limit ∙ read.limit }
+pub ReadSoFar-more : {before middle after : Parser} {place : Place} {t u v : List ℕ} → (read : ReadSoFar before middle place t u) → PartRead middle after read.next u v → ReadSoFar before after place t v
+ReadSoFar-more read part = record { next = part.next; stands = part.stands; same = SameEnds-more read.same part.same; limit = part.limit ∙ read.limit }
 
 pub ReadSoFar-end : {before after : Parser} {place : Place} {t u : List ℕ} → ReadSoFar before after place t u → u ≡ [] → TextRead before after place t
 ReadSoFar-end {place = place} {t = t} read is = record { next = read.next; stands = read.stands; same = subst (λ x. SameEnds place t read.next x) is read.same; limit = read.limit }

@@ -1,13 +1,13 @@
 -- What a reader that finds nothing knows: the readings of a text, turned round.
-use Rattle.std.proofs.Common.{◌≡◌, ℕ, ◌+◌, ◌≤◌, Bool, true, false, List, ◌∷◌, length, take, drop, Option, Some, None, Result, Ok, Err, IfOk, MatchOption, is_some, refl, sym, ap, subst, ◌∙◌, arith, length-append}
+use Rattle.std.proofs.Common.{◌≡◌, ℕ, ◌+◌, ◌≤◌, Bool, true, false, List, ◌∷◌, length, take, drop, Option, Some, None, MatchOption, is_some, refl, sym, ap, subst, ◌∙◌, arith, length-append}
 use Rattle.std.proofs.lemmas.Bool.{cond-true, cond-false}
 use Rattle.std.proofs.lemmas.List.{take_at, drop_at}
 use Rattle.std.specs.Char.{is_ascii_digit, is_ascii_hexdigit}
-use Rattle.rx_grammar.specs.declared.texts.CharacterTest.TheVariants.{Digit, HexDigit}
-use Rattle.rx_grammar.specs.Texts.{Begins, SplitsFront}
+use Rattle.rx_grammar.specs.declared.input.CharacterTest.TheVariants.{Digit, HexDigit}
+use Rattle.rx_grammar.specs.Input.{Begins, SplitsFront}
 use Rattle.rx_grammar.specs.Escapes.{control_of, is_escapable, escaped_by, SpellsScalar, NumberOfLength, NumberInBraces, NumberAfter, unbraced, braced, EscapedCharacter, control, itself, two_digits, four_digits}
 use Rattle.rx_grammar.specs.Repetitions.{decimal_after, Number}
-use Rattle.rx_grammar.proofs.TextLemmas.{first_is, rest_is, apart, told_apart, Begins-from, fronts}
+use Rattle.rx_grammar.proofs.InputLemmas.{first_is, rest_is, apart, told_apart, Begins-from, fronts}
 use Rattle.rx_grammar.proofs.EscapeLaws.{no_brace, names_control, is_escapable-control}
 
 -- the front of a text that a number has is the one that was split off
@@ -83,8 +83,3 @@ escaped_by-reads {text = text} {rest = rest} {c = c} letter e f = at (is_escapab
 pub MatchOption-map : {T : Type 0} (o : Option T) (P Q : Type 0) (R S : T → Type 0) → MatchOption o P R → (P → Q) → ((x : T) → R x → S x) → MatchOption o Q S
 MatchOption-map None P Q R S h f g = f h
 MatchOption-map (Some x) P Q R S h f g = g x h
-
--- what an `Ok` holds may be said in other words
-pub IfOk-map : {T E : Type 0} (r : Result T E) (P Q : T → Type 0) → IfOk r P → ((x : T) → P x → Q x) → IfOk r Q
-IfOk-map (Ok x) P Q h f = f x h
-IfOk-map (Err e) P Q h f = tt

@@ -3,10 +3,10 @@ use Rattle.std.proofs.Common.{◌≡◌, ℕ, ◌≤◌, Bool, true, false, not,
 use Rattle.std.specs.List.{AllByRecursion}
 use Rattle.rx_grammar.specs.declared.hir.Repetition.{Repetition}
 use Rattle.rx_grammar.specs.Trees.{Tree, repeated}
-use Rattle.rx_grammar.specs.Texts.{Begins, Stops}
+use Rattle.rx_grammar.specs.Input.{Begins, Stops}
 use Rattle.std.specs.Char.{is_ascii_digit}
 use Rattle.rx_grammar.specs.Repetitions.{decimal_after, Number, CountInBraces, exactly, at_least, between, Count, star, plus, question, in_braces, repetition, Postfix, alone, marked, is_postfix_start, Postfixes, ended, further}
-use Rattle.rx_grammar.proofs.TextLemmas.{rest_is, apart, told_apart, Stops-not, Begins-from, fronts}
+use Rattle.rx_grammar.proofs.InputLemmas.{rest_is, apart, told_apart, Stops-not, Begins-from, fronts}
 
 pub number_unique : {t u u' : List ℕ} {n n' : ℕ} → Number t n u → Number t n' u' → (n ≡ n') × (u ≡ u')
 number_unique {u = u} {u' = u'} a b =

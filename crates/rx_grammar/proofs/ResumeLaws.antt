@@ -4,19 +4,19 @@ use Rattle.std.proofs.lemmas.Bool.Decides.{nat_tests}
 use Rattle.rx_grammar.specs.Settings.{Settings}
 use Rattle.rx_grammar.specs.Trees.{Tree, concat_of, alternation_of}
 use Rattle.rx_grammar.specs.Postorder.{alternate}
-use Rattle.rx_grammar.specs.Texts.{Begins, Stops}
+use Rattle.rx_grammar.specs.Input.{Begins, Stops}
 use Rattle.rx_grammar.specs.Repetitions.{Postfixes, Postfix}
 use Rattle.rx_grammar.specs.Repetitions as repetitions
 use Rattle.rx_grammar.specs.Groups.{Setting, Capture, Opening, opened, grouped}
-use Rattle.rx_grammar.specs.Grammar.{Leaf, Atom, leaf, group, Items, ended, setting, item, Branches, goes_on, goes_on_in_branches}
+use Rattle.rx_grammar.specs.Grammar.{PlainAtom, Atom, plain_atom, group, Items, ended, setting, item, Branches, goes_on, goes_on_in_branches}
 use Rattle.rx_grammar.specs.Grammar as grammar
 use Rattle.rx_grammar.specs.Heads.{NoHead}
-use Rattle.rx_grammar.specs.Leaves.{NoLeaf}
+use Rattle.rx_grammar.specs.Atoms.{NoPlainAtom}
 use Rattle.rx_grammar.specs.Resuming.{Level, OpenGroup, no_level, with_item, with_branch, tree_with, tree_at, Rest, last, bar, Ends, Closes, Resumes, whole, within}
-use Rattle.rx_grammar.proofs.TextLemmas.{rest_is, Stops-not}
+use Rattle.rx_grammar.proofs.InputLemmas.{rest_is, Stops-not}
 use Rattle.rx_grammar.proofs.RepetitionLaws.{postfixes_unique, postfixes_along}
 use Rattle.rx_grammar.proofs.GroupLaws.{setting_unique, opening_unique, setting_or_opening, setting_begins, opening_begins}
-use Rattle.rx_grammar.proofs.GrammarLaws.{atom_unique, items_along, branches_along, setting_or_atom, setting_goes_on, atom_goes_on, leaf_begins, Stops-paren, no_paren}
+use Rattle.rx_grammar.proofs.GrammarLaws.{atom_unique, items_along, branches_along, setting_or_atom, setting_goes_on, atom_goes_on, plain_begins, Stops-paren, no_paren}
 
 -- what completes the level completes the pattern
 resume_by : {os : List OpenGroup} {l l' : Level} {s s' : Settings} {m m' depth : ℕ} {t t' : List ℕ} {tree : Tree}
@@ -309,7 +309,7 @@ record GroupFirst (s : Settings) (m : ℕ) (s' : Settings) (k : Capture) (v : Li
 group_first : {s s' z : Settings} {k : Capture} {m n f : ℕ} {t v u : List ℕ} {hs : List Tree} → Opening s t s' k v → Items s m t hs f z n u → GroupFirst s m s' k v
 group_first {t = t} opening (ended stops) = absurd (no_paren t (opening_begins opening) stops)
 group_first opening (setting one items) = absurd (setting_or_opening one opening)
-group_first {t = t} opening (item (leaf one) postfixes items) = absurd (leaf_begins one (Stops-paren t (opening_begins opening)))
+group_first {t = t} opening (item (plain_atom one) postfixes items) = absurd (plain_begins one (Stops-paren t (opening_begins opening)))
 group_first {s = s} {m = m} opening (item {e = e} {w = x} {g = g} (group {d = d} {u = y} {h = h} {hs = hs} opening' inside close) postfixes items) =
     let head = opening_unique opening opening' in
     record {
@@ -482,21 +482,21 @@ no_open_group is (whole ends) =
 no_items_head : {s z : Settings} {m n d : ℕ} {t u : List ℕ} {hs : List Tree} → Begins 40 t → NoHead s t → Items s m t hs d z n u → ⊥
 no_items_head {t = t} begins none (ended stops) = no_paren t begins stops
 no_items_head begins none (setting one items) = none.setting _ _ one
-no_items_head {t = t} begins none (item (leaf one) postfixes items) = leaf_begins one (Stops-paren t begins)
+no_items_head {t = t} begins none (item (plain_atom one) postfixes items) = plain_begins one (Stops-paren t begins)
 no_items_head begins none (item (group opening inside close) postfixes items) = none.opening _ _ _ opening
 
 pub no_head : {os : List OpenGroup} {l : Level} {s : Settings} {m depth : ℕ} {t : List ℕ} {tree : Tree} → Begins 40 t → NoHead s t → Resumes os l s m t tree depth → ⊥
 no_head begins none resumes = no_items_head begins none (items_of resumes).items
 
 -- no atom that is no group
-no_items_leaf : {s z : Settings} {m n d : ℕ} {t u : List ℕ} {hs : List Tree} → (Begins 40 t → ⊥) → (Stops goes_on t → ⊥) → NoLeaf s t → Items s m t hs d z n u → ⊥
-no_items_leaf other inside none (ended stops) = inside stops
-no_items_leaf other inside none (setting one items) = other (setting_begins one)
-no_items_leaf other inside none (item (leaf one) postfixes items) = none _ _ one
-no_items_leaf other inside none (item (group opening within' close) postfixes items) = other (opening_begins opening)
+no_items_atom : {s z : Settings} {m n d : ℕ} {t u : List ℕ} {hs : List Tree} → (Begins 40 t → ⊥) → (Stops goes_on t → ⊥) → NoPlainAtom s t → Items s m t hs d z n u → ⊥
+no_items_atom other inside none (ended stops) = inside stops
+no_items_atom other inside none (setting one items) = other (setting_begins one)
+no_items_atom other inside none (item (plain_atom one) postfixes items) = none _ _ one
+no_items_atom other inside none (item (group opening within' close) postfixes items) = other (opening_begins opening)
 
-pub no_leaf : {os : List OpenGroup} {l : Level} {s : Settings} {m depth : ℕ} {t : List ℕ} {tree : Tree} → (Begins 40 t → ⊥) → (Stops goes_on t → ⊥) → NoLeaf s t → Resumes os l s m t tree depth → ⊥
-no_leaf other inside none resumes = no_items_leaf other inside none (items_of resumes).items
+pub no_atom : {os : List OpenGroup} {l : Level} {s : Settings} {m depth : ℕ} {t : List ℕ} {tree : Tree} → (Begins 40 t → ⊥) → (Stops goes_on t → ⊥) → NoPlainAtom s t → Resumes os l s m t tree depth → ⊥
+no_atom other inside none resumes = no_items_atom other inside none (items_of resumes).items
 
 -- the text ends
 pub end_of_text : {l : Level} {s : Settings} {m depth : ℕ} {tree : Tree} → Resumes [] l s m [] tree depth → (tree ≡ tree_at l) × (depth ≡ l.depth)

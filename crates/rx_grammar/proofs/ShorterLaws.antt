@@ -10,7 +10,7 @@ use Rattle.rx_grammar.specs.Classes as classes
 use Rattle.rx_grammar.specs.Repetitions.{Number, CountInBraces, exactly, at_least, between, Count, star, plus, question, in_braces, Postfix, alone, marked, Postfixes}
 use Rattle.rx_grammar.specs.Repetitions as repetitions
 use Rattle.rx_grammar.specs.Groups.{FlagLetters, Flags, turning_on, turning_off, Setting, setting, Capture, Opening, plain, without_number, with_name, with_short_name, changing}
-use Rattle.rx_grammar.specs.Grammar.{Escape, character, letter_class, look, Leaf, literal, dot, caret, dollar, escape, class}
+use Rattle.rx_grammar.specs.Grammar.{Escape, character, letter_class, look, PlainAtom, literal, dot, caret, dollar, escape, class}
 use Rattle.rx_grammar.proofs.ClassLaws.{escape_shorter, item_shorter}
 
 items_shorter : {t u : List ℕ} {items : List ClassItem} → ClassItems t items u → length u < length t
@@ -32,13 +32,13 @@ escape_tree_shorter (character one is) = escape_shorter one
 escape_tree_shorter (letter_class k n e is) = omega (arith, ap length e)
 escape_tree_shorter (look letter e f) = omega (arith, ap length e)
 
-pub leaf_shorter : {s : Settings} {t u : List ℕ} {h : Tree} → Leaf s t h u → length u < length t
-leaf_shorter (literal e is_one is) = omega (arith, ap length e)
-leaf_shorter (dot e allowed is) = omega (arith, ap length e)
-leaf_shorter (caret e) = omega (arith, ap length e)
-leaf_shorter (dollar e) = omega (arith, ap length e)
-leaf_shorter (escape e one) = omega (arith, ap length e, escape_tree_shorter one)
-leaf_shorter (class e one is) = omega (arith, ap length e, class_shorter one)
+pub plain_shorter : {s : Settings} {t u : List ℕ} {h : Tree} → PlainAtom s t h u → length u < length t
+plain_shorter (literal e is_one is) = omega (arith, ap length e)
+plain_shorter (dot e allowed is) = omega (arith, ap length e)
+plain_shorter (caret e) = omega (arith, ap length e)
+plain_shorter (dollar e) = omega (arith, ap length e)
+plain_shorter (escape e one) = omega (arith, ap length e, escape_tree_shorter one)
+plain_shorter (class e one is) = omega (arith, ap length e, class_shorter one)
 
 number_shorter : {t u : List ℕ} {n : ℕ} → Number t n u → length u ≤ length t
 number_shorter {u = u} number = omega (arith, ap length number.whole, length-append number.digits u)

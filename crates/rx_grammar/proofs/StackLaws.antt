@@ -3,13 +3,13 @@ use Rattle.std.proofs.Common.{◌≡◌, ℕ, ◌+◌, ◌-◌, ◌≤◌, Bool,
 use Rattle.std.proofs.lemmas.List.{take_at, drop_at, reverse-reverse, length-reverse, map-append}
 use Rattle.rx_grammar.specs.declared.hir.Node.{Node}
 use Rattle.rx_grammar.specs.declared.hir.Node.TheVariants as node
-use Rattle.rx_grammar.specs.declared.groups.Captures.{Captures}
-use Rattle.rx_grammar.specs.declared.groups.Captures.TheVariants.{Numbered, Unnumbered}
+use Rattle.rx_grammar.specs.declared.groups.GroupKind.{GroupKind}
+use Rattle.rx_grammar.specs.declared.groups.GroupKind.TheVariants.{Numbered, Unnumbered}
 use Rattle.rx_grammar.specs.declared.hir.Repetition.{Repetition}
 use Rattle.rx_grammar.specs.Trees.{Tree, empty, repeated}
-use Rattle.rx_grammar.specs.Postorder.{Step, an_empty, a_set, a_look, a_group, a_concat, an_alternation, a_repetition, after_node, after_nodes, trees_of}
-use Rattle.rx_grammar.specs.Nodes.{step_of, trees_in}
-use Rattle.rx_grammar.specs.Texts.{Stops}
+use Rattle.rx_grammar.specs.Postorder.{NodeKind, an_empty, a_set, a_look, a_group, a_concat, an_alternation, a_repetition, after_node, after_nodes, trees_of}
+use Rattle.rx_grammar.specs.Nodes.{kind_of, trees_in}
+use Rattle.rx_grammar.specs.Input.{Stops}
 use Rattle.rx_grammar.specs.Repetitions.{Postfix, NoPostfix, Postfixes, is_postfix_start}
 use Rattle.rx_grammar.specs.Repetitions as repetitions
 use Rattle.rx_grammar.specs.Heads.{capture_of}
@@ -17,16 +17,16 @@ use Rattle.rx_grammar.specs.Stacks.{captured, PostfixesRead, PostfixesTooDeep}
 use Rattle.rx_grammar.proofs.RepetitionLaws.{postfix_unique, postfix_starts, postfixes_along}
 use Rattle.rx_grammar.proofs.ResumeLaws.{postfixes_deep}
 
-after_nodes-append : (trees : List Tree) (xs ys : List Step) → after_nodes trees (xs ++ ys) ≡ after_nodes (after_nodes trees xs) ys
+after_nodes-append : (trees : List Tree) (xs ys : List NodeKind) → after_nodes trees (xs ++ ys) ≡ after_nodes (after_nodes trees xs) ys
 after_nodes-append trees [] ys = refl
 after_nodes-append trees (x ∷ xs) ys = after_nodes-append (after_node trees x) xs ys
 
-pub trees_in-push : (nodes all : List Node) (node : Node) → all ≡ nodes ++ node ∷ [] → trees_in all ≡ after_node (trees_in nodes) (step_of node)
+pub trees_in-push : (nodes all : List Node) (node : Node) → all ≡ nodes ++ node ∷ [] → trees_in all ≡ after_node (trees_in nodes) (kind_of node)
 trees_in-push nodes all node e =
-    ap trees_in e ∙ ap trees_of (map-append step_of nodes (node ∷ [])) ∙ after_nodes-append [] (map step_of nodes) (step_of node ∷ [])
+    ap trees_in e ∙ ap trees_of (map-append kind_of nodes (node ∷ [])) ∙ after_nodes-append [] (map kind_of nodes) (kind_of node ∷ [])
 
 -- a node makes at most one tree more
-length-after_node : (trees : List Tree) (node : Step) → length (after_node trees node) ≤ length trees + 1
+length-after_node : (trees : List Tree) (node : NodeKind) → length (after_node trees node) ≤ length trees + 1
 length-after_node trees an_empty = omega arith
 length-after_node trees (a_set ranges) = omega arith
 length-after_node trees (a_look look) = omega arith
@@ -37,16 +37,16 @@ length-after_node trees (an_alternation count) = omega (arith, length-drop count
 length-after_node [] (a_repetition repetition) = omega arith
 length-after_node (tree ∷ trees) (a_repetition repetition) = omega arith
 
-length-after_nodes : (trees : List Tree) (nodes : List Step) → length (after_nodes trees nodes) ≤ length trees + length nodes
+length-after_nodes : (trees : List Tree) (nodes : List NodeKind) → length (after_nodes trees nodes) ≤ length trees + length nodes
 length-after_nodes trees [] = omega arith
 length-after_nodes trees (node ∷ nodes) = omega (arith, length-after_nodes (after_node trees node) nodes, length-after_node trees node)
 
-steps_length : (nodes : List Node) → length (map step_of nodes) ≡ length nodes
-steps_length [] = refl
-steps_length (x ∷ xs) = omega (arith, steps_length xs)
+kinds_length : (nodes : List Node) → length (map kind_of nodes) ≡ length nodes
+kinds_length [] = refl
+kinds_length (x ∷ xs) = omega (arith, kinds_length xs)
 
 pub length-trees_in : (nodes : List Node) → length (trees_in nodes) ≤ length nodes
-length-trees_in nodes = omega (arith, length-after_nodes [] (map step_of nodes), steps_length nodes)
+length-trees_in nodes = omega (arith, length-after_nodes [] (map kind_of nodes), kinds_length nodes)
 
 -- the last trees, as they stand in a row
 front_taken : (items below : List Tree) → reverse (take (length items) (reverse items ++ below)) ≡ items
@@ -125,7 +125,7 @@ IsOver (node.Group number name) = Unit {0}
 IsOver (node.Repeat repetition) = Unit {0}
 IsOver _ = ⊥
 
-over_one : (trees : List Tree) (over : Node) → IsOver over → 1 ≤ length trees → length (after_node trees (step_of over)) ≡ length trees
+over_one : (trees : List Tree) (over : Node) → IsOver over → 1 ≤ length trees → length (after_node trees (kind_of over)) ≡ length trees
 over_one [] over is some = absurd (omega arith)
 over_one (tree ∷ trees) node.Empty is some = absurd is
 over_one (tree ∷ trees) (node.Set set) is some = absurd is
@@ -136,22 +136,22 @@ over_one (tree ∷ trees) (node.Concat count) is some = absurd is
 over_one (tree ∷ trees) (node.Alternation count) is some = absurd is
 over_one (tree ∷ trees) (node.Repeat repetition) is some = refl
 
-pub length-over : (trees : List Tree) (over : Node) (height : ℕ) → IsOver over → 1 ≤ height → height ≡ length trees → length (after_node trees (step_of over)) + 1 ≡ height + 1
+pub length-over : (trees : List Tree) (over : Node) (height : ℕ) → IsOver over → 1 ≤ height → height ≡ length trees → length (after_node trees (kind_of over)) + 1 ≡ height + 1
 length-over trees over height is some counted =
     let least : 1 ≤ length trees = omega (arith, counted) in
     let same = over_one trees over is least in
     omega (arith, counted)
 
-abbrev group_node : ℕ → Captures → Node
+abbrev group_node : ℕ → GroupKind → Node
 group_node number (Numbered name) = node.Group number name
 group_node number Unnumbered = node.Empty
 
-abbrev IsNumbered : Captures → Type 0
+abbrev IsNumbered : GroupKind → Type 0
 IsNumbered (Numbered name) = Unit {0}
 IsNumbered Unnumbered = ⊥
 
-pub captured_made : (number : ℕ) (captures : Captures) (trees below : List Tree) (tree : Tree) → IsNumbered captures → trees ≡ tree ∷ below
-    → after_node trees (step_of (group_node number captures)) ≡ captured number (capture_of captures) tree ∷ below
-captured_made number (Numbered None) trees below tree is e = ap (λ x. after_node x (step_of (group_node number (Numbered None)))) e
-captured_made number (Numbered (Some name)) trees below tree is e = ap (λ x. after_node x (step_of (group_node number (Numbered (Some name))))) e
+pub captured_made : (number : ℕ) (captures : GroupKind) (trees below : List Tree) (tree : Tree) → IsNumbered captures → trees ≡ tree ∷ below
+    → after_node trees (kind_of (group_node number captures)) ≡ captured number (capture_of captures) tree ∷ below
+captured_made number (Numbered None) trees below tree is e = ap (λ x. after_node x (kind_of (group_node number (Numbered None)))) e
+captured_made number (Numbered (Some name)) trees below tree is e = ap (λ x. after_node x (kind_of (group_node number (Numbered (Some name))))) e
 captured_made number Unnumbered trees below tree is e = absurd is

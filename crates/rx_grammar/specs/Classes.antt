@@ -5,7 +5,7 @@ use Rattle.rx_sets.specs.declared.items.ClassItem.{ClassItem}
 use Rattle.rx_sets.specs.declared.items.ClassItem.TheVariants.{Span, Perl}
 use Rattle.rx_grammar.specs.Settings.{Settings}
 use Rattle.rx_sets.specs.Items as named
-use Rattle.rx_grammar.specs.Texts.{Begins}
+use Rattle.rx_grammar.specs.Input.{Begins}
 use Rattle.rx_grammar.specs.Escapes.{EscapedCharacter, perl_letter}
 
 -- a character that stands for itself in a class wherever it stands: any but \ [ ] and -

@@ -7,7 +7,7 @@ use Rattle.rx_grammar.specs.Sets.{ordinal}
 use Rattle.rx_grammar.specs.Trees.{empty, look_at, concat_of, concat, two}
 use Rattle.rx_grammar.specs.Escapes.{EscapedCharacter, control, itself, escaped_by}
 use Rattle.rx_grammar.specs.Repetitions.{star, plus, Postfix, alone, marked, repetition}
-use Rattle.rx_grammar.specs.Grammar.{Leaf, caret, dollar, Items, ended, is_literal}
+use Rattle.rx_grammar.specs.Grammar.{PlainAtom, caret, dollar, Items, ended, is_literal}
 
 -- the last scalar value before the surrogates and the first behind them are neighbours
 neighbours : ordinal 0xE000 ≡ ordinal 0xD7FF + 1
@@ -41,13 +41,13 @@ swapped : Postfix true (codes "+?") (repetition 1 None true) []
 swapped = marked (plus refl) refl
 
 -- ^ is the start of the text, and under `m` $ is the end of a line
-start_of_text : Leaf default_settings (codes "^a") (look_at Start) (codes "a")
+start_of_text : PlainAtom default_settings (codes "^a") (look_at Start) (codes "a")
 start_of_text = caret refl
 
 abbrev lines : Settings
 lines = record default_settings { multi_line = true }
 
-end_of_line : Leaf lines (codes "$") (look_at EndLine) []
+end_of_line : PlainAtom lines (codes "$") (look_at EndLine) []
 end_of_line = dollar refl
 
 -- the empty pattern is no item

@@ -6,7 +6,7 @@ use Rattle.rx_grammar.specs.declared.hir.Look.TheVariants.{Start, End, StartLine
 use Rattle.rx_grammar.specs.Settings.{Settings}
 use Rattle.rx_grammar.specs.Sets.{Range, IsSetOf, Folded, InPerl}
 use Rattle.rx_grammar.specs.Trees.{Tree, one_of, look_at, concat_of, alternation_of, names_of}
-use Rattle.rx_grammar.specs.Texts.{Stops}
+use Rattle.rx_grammar.specs.Input.{Stops}
 use Rattle.rx_grammar.specs.Escapes.{EscapedCharacter, perl_letter, look_of}
 use Rattle.rx_sets.specs.declared.items.ClassItem.{ClassItem}
 use Rattle.rx_grammar.specs.Classes.{Class, InClass}
@@ -34,13 +34,13 @@ pub data Escape : Settings → List ℕ → Tree → List ℕ → Type 0 where
   look : {s : Settings} {t u : List ℕ} {asked : Look} (letter : ℕ) → t ≡ letter ∷ u → look_of letter ≡ Some asked → Escape s t (look_at asked) u
 
 -- an atom that is no group: a tree and u after it
-pub data Leaf : Settings → List ℕ → Tree → List ℕ → Type 0 where
-  literal : {s : Settings} {t u : List ℕ} {c : ℕ} {ranges : List Range} → t ≡ c ∷ u → is_literal c ≡ true → IsSetOf ranges (Folded s (λ d. d ≡ c)) → Leaf s t (one_of ranges) u
-  dot : {s : Settings} {t u : List ℕ} {ranges : List Range} → t ≡ 46 ∷ u → IsDotAllowed s → IsSetOf ranges (InDot s) → Leaf s t (one_of ranges) u
-  caret : {s : Settings} {t u : List ℕ} → t ≡ 94 ∷ u → Leaf s t (look_at (if s.multi_line then StartLine else Start)) u
-  dollar : {s : Settings} {t u : List ℕ} → t ≡ 36 ∷ u → Leaf s t (look_at (if s.multi_line then EndLine else End)) u
-  escape : {s : Settings} {t u v : List ℕ} {h : Tree} → t ≡ 92 ∷ v → Escape s v h u → Leaf s t h u
-  class : {s : Settings} {t u v : List ℕ} {negated : Bool} {items : List ClassItem} {ranges : List Range} → t ≡ 91 ∷ v → Class v negated items u → IsSetOf ranges (InClass s negated items) → Leaf s t (one_of ranges) u
+pub data PlainAtom : Settings → List ℕ → Tree → List ℕ → Type 0 where
+  literal : {s : Settings} {t u : List ℕ} {c : ℕ} {ranges : List Range} → t ≡ c ∷ u → is_literal c ≡ true → IsSetOf ranges (Folded s (λ d. d ≡ c)) → PlainAtom s t (one_of ranges) u
+  dot : {s : Settings} {t u : List ℕ} {ranges : List Range} → t ≡ 46 ∷ u → IsDotAllowed s → IsSetOf ranges (InDot s) → PlainAtom s t (one_of ranges) u
+  caret : {s : Settings} {t u : List ℕ} → t ≡ 94 ∷ u → PlainAtom s t (look_at (if s.multi_line then StartLine else Start)) u
+  dollar : {s : Settings} {t u : List ℕ} → t ≡ 36 ∷ u → PlainAtom s t (look_at (if s.multi_line then EndLine else End)) u
+  escape : {s : Settings} {t u v : List ℕ} {h : Tree} → t ≡ 92 ∷ v → Escape s v h u → PlainAtom s t h u
+  class : {s : Settings} {t u v : List ℕ} {negated : Bool} {items : List ClassItem} {ranges : List Range} → t ≡ 91 ∷ v → Class v negated items u → IsSetOf ranges (InClass s negated items) → PlainAtom s t (one_of ranges) u
 
 -- a concatenation ends before | or ), or at the end of the text
 abbrev pub goes_on : ℕ → Bool
@@ -53,7 +53,7 @@ mutual
   -- an atom: of settings, the number of groups opened before it, and a text, the tree that it spells,
   -- its depth, the number of groups opened after it, and the rest of the text
   pub data Atom : Settings → ℕ → List ℕ → Tree → ℕ → ℕ → List ℕ → Type 0 where
-    leaf : {s : Settings} {m : ℕ} {t u : List ℕ} {h : Tree} → Leaf s t h u → Atom s m t h 0 m u
+    plain_atom : {s : Settings} {m : ℕ} {t u : List ℕ} {h : Tree} → PlainAtom s t h u → Atom s m t h 0 m u
     group : {s s' s'' : Settings} {m n d : ℕ} {t u v w : List ℕ} {h : Tree} {hs : List Tree} {k : Capture} → Opening s t s' k v
         → Branches s' (opened m k) v h hs d s'' n w → w ≡ 41 ∷ u → Atom s m t (grouped m k (alternation_of h hs)) (d + 1) n u
 

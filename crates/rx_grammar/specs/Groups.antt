@@ -5,8 +5,8 @@ use Rattle.std.specs.List.{AllByRecursion}
 use Rattle.rx_grammar.specs.declared.flags.Flag.{Flag}
 use Rattle.rx_grammar.specs.Settings.{Settings, letter_of, with_flags}
 use Rattle.rx_grammar.specs.Trees.{Name, Tree, group}
-use Rattle.rx_grammar.specs.Texts.{Begins, Stops, passes}
-use Rattle.rx_grammar.specs.declared.texts.CharacterTest.TheVariants.{NameCharacter}
+use Rattle.rx_grammar.specs.Input.{Begins, Stops, passes}
+use Rattle.rx_grammar.specs.declared.input.CharacterTest.TheVariants.{NameCharacter}
 
 -- i, m, s or U
 abbrev pub is_flag_letter : ℕ → Bool

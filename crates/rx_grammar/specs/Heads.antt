@@ -1,8 +1,8 @@
 -- What a reader of flags, of a name and of the head of a group finds.
 use Rattle.std.specs.Prelude.{◌≡◌, ◌≢◌, ◌⊎◌, ℕ, List, ◌∷◌, ◌++◌, Some, None, AllPairs}
 use Rattle.rx_grammar.specs.declared.flags.Flag.{Flag}
-use Rattle.rx_grammar.specs.declared.groups.Captures.{Captures}
-use Rattle.rx_grammar.specs.declared.groups.Captures.TheVariants.{Numbered, Unnumbered}
+use Rattle.rx_grammar.specs.declared.groups.GroupKind.{GroupKind}
+use Rattle.rx_grammar.specs.declared.groups.GroupKind.TheVariants.{Numbered, Unnumbered}
 use Rattle.rx_grammar.specs.declared.groups.Head.{Head}
 use Rattle.rx_grammar.specs.declared.groups.Head.TheVariants as head
 use Rattle.rx_grammar.specs.Settings.{Settings, letter_of}
@@ -30,7 +30,7 @@ pub record FlagsChange (s : Settings) (t : List ℕ) (s' : Settings) (u : List �
 abbrev pub NameOpening : List ℕ → List ℕ → Type 0
 NameOpening t u = (t ≡ 80 ∷ 60 ∷ u) ⊎ (t ≡ 60 ∷ u)
 
-abbrev pub capture_of : Captures → Capture
+abbrev pub capture_of : GroupKind → Capture
 capture_of (Numbered None) = numbered None
 capture_of (Numbered (Some name)) = numbered (Some name.items)
 capture_of Unnumbered = unnumbered

@@ -1,7 +1,7 @@
 pub mod Settings
 pub mod Sets
 pub mod Trees
-pub mod Texts
+pub mod Input
 pub mod Escapes
 pub mod Classes
 pub mod Repetitions
@@ -12,7 +12,7 @@ pub mod Postorder
 pub mod Nodes
 pub mod Stacks
 pub mod Resuming
-pub mod Leaves
-pub mod Standing
+pub mod Atoms
+pub mod Places
 pub mod Laws
 pub mod Examples

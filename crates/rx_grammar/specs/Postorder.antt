@@ -6,15 +6,15 @@ use Rattle.rx_grammar.specs.Sets.{Range}
 use Rattle.rx_grammar.specs.Trees.{Name, Tree, empty, one_of, look_at, group, repeated, concat_of, alternation_of}
 
 -- a node without what stands below it
-pub data Step : Type 0 where
-  an_empty : Step
-  a_set : List Range → Step
-  a_look : Look → Step
-  a_group : ℕ → Option Name → Step
+pub data NodeKind : Type 0 where
+  an_empty : NodeKind
+  a_set : List Range → NodeKind
+  a_look : Look → NodeKind
+  a_group : ℕ → Option Name → NodeKind
   -- how many trees stand below
-  a_concat : ℕ → Step
-  an_alternation : ℕ → Step
-  a_repetition : Repetition → Step
+  a_concat : ℕ → NodeKind
+  an_alternation : ℕ → NodeKind
+  a_repetition : Repetition → NodeKind
 
 -- branches beside one another
 abbrev pub alternate : List Tree → Tree
@@ -22,7 +22,7 @@ alternate [] = empty
 alternate (first ∷ others) = alternation_of first others
 
 -- the trees that stand in a row after a node, the last one first: a node takes the last trees
-abbrev pub after_node : List Tree → Step → List Tree
+abbrev pub after_node : List Tree → NodeKind → List Tree
 after_node trees an_empty = empty ∷ trees
 after_node trees (a_set ranges) = one_of ranges ∷ trees
 after_node trees (a_look look) = look_at look ∷ trees
@@ -33,12 +33,12 @@ after_node trees (an_alternation count) = alternate (reverse (take count trees))
 after_node [] (a_repetition repetition) = repeated repetition empty ∷ []
 after_node (tree ∷ trees) (a_repetition repetition) = repeated repetition tree ∷ trees
 
-abbrev pub after_nodes : List Tree → List Step → List Tree
+abbrev pub after_nodes : List Tree → List NodeKind → List Tree
 after_nodes trees [] = trees
 after_nodes trees (node ∷ nodes) = after_nodes (after_node trees node) nodes
 
 -- the trees that nodes make, the last one first
-abbrev pub trees_of : List Step → List Tree
+abbrev pub trees_of : List NodeKind → List Tree
 trees_of nodes = after_nodes [] nodes
 
 abbrev pub first_of : List Tree → Tree
@@ -46,19 +46,19 @@ first_of [] = empty
 first_of (tree ∷ trees) = tree
 
 -- the tree that the nodes make
-abbrev pub tree_of : List Step → Tree
+abbrev pub tree_of : List NodeKind → Tree
 tree_of nodes = first_of (trees_of nodes)
 
 -- the name of a group that has one
-abbrev pub own_names : Step → List Name
+abbrev pub own_names : NodeKind → List Name
 own_names (a_group number (Some name)) = name ∷ []
 own_names _ = []
 
 -- the names of the groups among the nodes, in their order
-abbrev pub names_in : List Step → List Name
+abbrev pub names_in : List NodeKind → List Name
 names_in nodes = flat_map own_names nodes
 
 -- how many groups a node is by itself, without those below it
-abbrev pub own_groups : Step → ℕ
+abbrev pub own_groups : NodeKind → ℕ
 own_groups (a_group number name) = 1
 own_groups _ = 0

@@ -4,7 +4,7 @@ use Rattle.std.specs.Char.{is_ascii_digit, digit_value}
 use Rattle.std.specs.List.{AllByRecursion}
 use Rattle.rx_grammar.specs.declared.hir.Repetition.{Repetition}
 use Rattle.rx_grammar.specs.Trees.{Tree, repeated}
-use Rattle.rx_grammar.specs.Texts.{Begins, Stops}
+use Rattle.rx_grammar.specs.Input.{Begins, Stops}
 
 -- the number that decimal digits spell after those of n
 abbrev pub decimal_after : ℕ → List ℕ → ℕ

@@ -3,7 +3,7 @@ use Rattle.std.specs.Prelude.{◌≡◌, ℕ, ◌+◌, ◌≤◌, List, [], ◌�
 use Rattle.rx_grammar.specs.Settings.{Settings}
 use Rattle.rx_grammar.specs.Trees.{Tree, concat_of}
 use Rattle.rx_grammar.specs.Postorder.{alternate}
-use Rattle.rx_grammar.specs.Texts.{Stops}
+use Rattle.rx_grammar.specs.Input.{Stops}
 use Rattle.rx_grammar.specs.Repetitions.{Postfixes}
 use Rattle.rx_grammar.specs.Groups.{Capture, grouped}
 use Rattle.rx_grammar.specs.Grammar.{Items, Branches, goes_on_in_branches}

@@ -1,12 +1,12 @@
 //! What stands between brackets.
 
 ghost use Rattle.std.specs.Prelude.{◌≡◌, ◌∷◌, MatchOption, IfOk, MatchBool, true, false, IsTrue, ◌↔◌};
-ghost use Rattle.rx_grammar.specs.Texts.{Begins};
+ghost use Rattle.rx_grammar.specs.Input.{Begins};
 ghost use Rattle.rx_grammar.specs.Escapes.{perl_letter, IsNoClassLetter};
 ghost use Rattle.rx_grammar.specs.Classes.{is_class_literal, doubles, ClassCharacter, NoClassCharacter, NoLetterClass, GoesOnAsRange, RangeGoesOn, OneItem, NoItem, NoItems, ItemsAfter, ClassBody, NoClassBody, Class, NoClass};
 
 use crate::escapes::escaped_character;
-use crate::texts::{eat, first};
+use crate::input::{eat, first};
 use rx_sets::{ClassItem, ClassPerlKind};
 use std::alloc::{AllocError, Global};
 
@@ -26,7 +26,8 @@ fn doubles(c: char) -> bool
 
 /// One character of a class, which stands for itself or is escaped.
 pub(crate) fn class_character(text: &[char]) -> Option<(char, &[char])>
-    ensures { MatchOption result (NoClassCharacter text.now) (λ r. ClassCharacter text.now r.0 r.1.now) }
+    ensures { MatchOption result (NoClassCharacter text.now)
+        (λ r. ClassCharacter text.now r.0 r.1.now) }
 {
     let Some((c, rest)) = first(text) else {
         return None;
@@ -63,7 +64,8 @@ pub(crate) fn letter_named(letter: char) -> Option<(ClassPerlKind, bool)>
 
 /// `\d`, `\D`, `\s`, `\S`, `\w` or `\W`: what it names, and whether that is negated.
 pub(crate) fn letter_class(text: &[char]) -> Option<((ClassPerlKind, bool), &[char])>
-    ensures { MatchOption result (NoLetterClass text.now) (λ r. text.now ≡ 92 ∷ perl_letter r.0.0 r.0.1 ∷ r.1.now) }
+    ensures { MatchOption result (NoLetterClass text.now)
+        (λ r. text.now ≡ 92 ∷ perl_letter r.0.0 r.0.1 ∷ r.1.now) }
 {
     let Some(behind) = eat(text, '\\') else {
         return None;
@@ -79,7 +81,8 @@ pub(crate) fn letter_class(text: &[char]) -> Option<((ClassPerlKind, bool), &[ch
 
 /// What follows a `-` between the two ends of a range. The one before `]` isn't between two ends.
 fn range_goes_on(text: &[char]) -> Option<&[char]>
-    ensures { MatchOption result (GoesOnAsRange text.now → ⊥) (λ rest. RangeGoesOn text.now rest.now) }
+    ensures { MatchOption result (GoesOnAsRange text.now → ⊥)
+        (λ rest. RangeGoesOn text.now rest.now) }
 {
     let Some(rest) = eat(text, '-') else {
         return None;
@@ -117,7 +120,8 @@ fn class_items(
     text: &[char],
     mut items: Vec<ClassItem>,
 ) -> Result<Option<(Vec<ClassItem>, &[char])>, AllocError>
-    ensures { IfOk result (λ found. MatchOption found (NoItems text.now) (λ r. ItemsAfter items.items r.0.items text.now r.1.now)) }
+    ensures { IfOk result (λ found. MatchOption found (NoItems text.now)
+        (λ r. ItemsAfter items.items r.0.items text.now r.1.now)) }
 {
     let mut rest = text;
     while let Some((item, behind)) = class_item(rest) {
@@ -139,7 +143,8 @@ fn class_items(
 
 /// The items of a class, in which `]` and `-` stand for themselves where they are first.
 fn class_body(alloc: Global, text: &[char]) -> Result<Option<(Vec<ClassItem>, &[char])>, AllocError>
-    ensures { IfOk result (λ found. MatchOption found (NoClassBody text.now) (λ r. ClassBody text.now r.0.items r.1.now)) }
+    ensures { IfOk result (λ found. MatchOption found (NoClassBody text.now)
+        (λ r. ClassBody text.now r.0.items r.1.now)) }
 {
     let mut items = Vec::new(alloc);
     if let Some(behind) = eat(text, ']') {
@@ -164,7 +169,8 @@ pub(crate) fn class(
     alloc: Global,
     text: &[char],
 ) -> Result<Option<((bool, Vec<ClassItem>), &[char])>, AllocError>
-    ensures { IfOk result (λ found. MatchOption found (NoClass text.now) (λ r. Class text.now r.0.0 r.0.1.items r.1.now)) }
+    ensures { IfOk result (λ found. MatchOption found (NoClass text.now)
+        (λ r. Class text.now r.0.0 r.0.1.items r.1.now)) }
 {
     let Some(behind) = eat(text, '^') else {
         return plain_class(alloc, text);
@@ -182,7 +188,8 @@ fn plain_class(
     text: &[char],
 ) -> Result<Option<((bool, Vec<ClassItem>), &[char])>, AllocError>
     requires { Begins 94 text.now → ⊥ }
-    ensures { IfOk result (λ found. MatchOption found (NoClass text.now) (λ r. Class text.now r.0.0 r.0.1.items r.1.now)) }
+    ensures { IfOk result (λ found. MatchOption found (NoClass text.now)
+        (λ r. Class text.now r.0.0 r.0.1.items r.1.now)) }
 {
     let found = class_body(alloc, text)?;
     match found {

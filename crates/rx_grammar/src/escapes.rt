@@ -3,7 +3,7 @@
 ghost use Rattle.std.specs.Prelude.{◌≡◌, ◌≤◌, length, MatchOption, ℕ};
 ghost use Rattle.rx_grammar.specs.Escapes.{SpellsScalar, EscapedCharacter, SpellsNoCharacter, NumberOfLength, NoNumberOfLength, NumberInBraces, NoNumberInBraces, NumberAfter, NoNumberAfter, escaped_by};
 
-use crate::texts::{CharacterTest, eat, first, split_front};
+use crate::input::{CharacterTest, eat, first, split_front};
 
 /// The character that one character after a backslash spells by itself: a control character for `a`, `f`, `t`,
 /// `n`, `r` and `v`, and itself for any ASCII character but letters, digits, `<` and `>`.
@@ -28,7 +28,8 @@ const MAX_SCALAR: u32 = 0x10_FFFF;
 
 /// The scalar value that hexadecimal digits spell, and `None` where they spell none.
 fn scalar_of(digits: &[char]) -> Option<char>
-    ensures { MatchOption result ((c : ℕ) → SpellsScalar digits.now c → ⊥) (λ c. SpellsScalar digits.now c) }
+    ensures { MatchOption result ((c : ℕ) → SpellsScalar digits.now c → ⊥)
+        (λ c. SpellsScalar digits.now c) }
 {
     let mut code: u32 = 0;
     for digit in digits {
@@ -43,7 +44,8 @@ fn scalar_of(digits: &[char]) -> Option<char>
 /// What follows `\x` or `\u`: `count` hexadecimal digits, or one to eight in braces.
 fn number_after(text: &[char], count: usize) -> Option<(char, &[char])>
     requires { 1 ≤ count }
-    ensures { MatchOption result (NoNumberAfter count text.now) (λ r. NumberAfter count text.now r.0 r.1.now) }
+    ensures { MatchOption result (NoNumberAfter count text.now)
+        (λ r. NumberAfter count text.now r.0 r.1.now) }
 {
     match eat(text, '{') {
         Some(inside) => number_in_braces(inside),
@@ -53,7 +55,8 @@ fn number_after(text: &[char], count: usize) -> Option<(char, &[char])>
 
 /// One to eight hexadecimal digits and `}`.
 fn number_in_braces(text: &[char]) -> Option<(char, &[char])>
-    ensures { MatchOption result (NoNumberInBraces text.now) (λ r. NumberInBraces text.now r.0 r.1.now) }
+    ensures { MatchOption result (NoNumberInBraces text.now)
+        (λ r. NumberInBraces text.now r.0 r.1.now) }
 {
     let (digits, rest) = split_front(text, CharacterTest::HexDigit);
     let Some(rest) = eat(rest, '}') else {
@@ -70,7 +73,8 @@ fn number_in_braces(text: &[char]) -> Option<(char, &[char])>
 
 /// Hexadecimal digits, `count` of them.
 fn number_of_length(text: &[char], count: usize) -> Option<(char, &[char])>
-    ensures { MatchOption result (NoNumberOfLength count text.now) (λ r. NumberOfLength count text.now r.0 r.1.now) }
+    ensures { MatchOption result (NoNumberOfLength count text.now)
+        (λ r. NumberOfLength count text.now r.0 r.1.now) }
 {
     if text.len() < count {
         return None;
@@ -84,7 +88,8 @@ fn number_of_length(text: &[char], count: usize) -> Option<(char, &[char])>
 
 /// The character that the text after a backslash spells, and `None` where it spells none.
 pub(crate) fn escaped_character(text: &[char]) -> Option<(char, &[char])>
-    ensures { MatchOption result (SpellsNoCharacter text.now) (λ r. EscapedCharacter text.now r.0 r.1.now) }
+    ensures { MatchOption result (SpellsNoCharacter text.now)
+        (λ r. EscapedCharacter text.now r.0 r.1.now) }
 {
     let Some((letter, rest)) = first(text) else {
         return None;

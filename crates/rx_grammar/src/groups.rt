@@ -2,31 +2,31 @@
 
 ghost use Rattle.std.specs.Prelude.{◌≡◌, ◌≢◌, AllPairs, [], ◌∷◌, ◌++◌, MatchOption, IfOk};
 ghost use Rattle.rx_grammar.specs.Groups.{is_name_start, IsName, opened};
-ghost use Rattle.rx_grammar.specs.Texts.{Begins};
+ghost use Rattle.rx_grammar.specs.Input.{Begins};
 ghost use Rattle.rx_grammar.specs.Heads.{capture_of, NameOpening, NoNameOpening, IsFlagLetter, NoFlagLetter, FlagsAfter, NoFlagsAfter, FlagsChange, NoFlags, NoName, IsHead, NoHead};
 
 use crate::flags::Flag;
+use crate::input::{CharacterTest, eat, first, split_front};
 use crate::syntax::Config;
-use crate::texts::{CharacterTest, eat, first, split_front};
 use std::alloc::{AllocError, Global};
 
 /// What a group captures.
 #[derive(Debug, Drop)]
-pub(crate) enum Captures {
+pub(crate) enum GroupKind {
     /// The group has a number, and perhaps a name.
     Numbered(Option<Vec<char>>),
     /// The group has no number.
     Unnumbered,
 }
 
-impl Captures {
+impl GroupKind {
     /// How many groups with a number the group is: one or none.
     pub(crate) fn count(&self) -> u32
         ensures { result ≡ opened 0 (capture_of self.now) }
     {
         match self {
-            Captures::Numbered(_) => 1,
-            Captures::Unnumbered => 0,
+            GroupKind::Numbered(_) => 1,
+            GroupKind::Unnumbered => 0,
         }
     }
 }
@@ -37,7 +37,7 @@ pub(crate) enum Head {
     /// A setting, with what is set after it.
     Setting(Config),
     /// The head of a group, with what is set inside it and what it captures.
-    Group(Config, Captures),
+    Group(Config, GroupKind),
 }
 
 /// The flag that a letter spells.
@@ -62,7 +62,8 @@ fn flag_letters(
     mut flags: Vec<Flag>,
 ) -> Result<Option<(Vec<Flag>, &[char])>, AllocError>
     requires { AllPairs (λ a b. a ≢ b) flags.items }
-    ensures { IfOk result (λ found. MatchOption found (NoFlagsAfter flags.items text.now) (λ r. FlagsAfter flags.items r.0.items text.now r.1.now)) }
+    ensures { IfOk result (λ found. MatchOption found (NoFlagsAfter flags.items text.now)
+        (λ r. FlagsAfter flags.items r.0.items text.now r.1.now)) }
 {
     let mut rest = text;
     while let Some((flag, behind)) = flag_letter(rest) {
@@ -81,7 +82,8 @@ fn flag_changes<'a>(
     text: &'a [char],
     config: &Config,
 ) -> Result<Option<(Config, &'a [char])>, AllocError>
-    ensures { IfOk result (λ found. MatchOption found (NoFlags text.now) (λ r. FlagsChange config.now text.now r.0 r.1.now)) }
+    ensures { IfOk result (λ found. MatchOption found (NoFlags text.now)
+        (λ r. FlagsChange config.now text.now r.0 r.1.now)) }
 {
     let Some((on, rest)) = flag_letters(text, Vec::new(alloc))? else {
         return Ok(None);
@@ -113,7 +115,8 @@ fn is_name_start(c: char) -> bool
 
 /// A name, and what follows the `>` after it.
 fn group_name(text: &[char]) -> Option<(&[char], &[char])>
-    ensures { MatchOption result (NoName text.now) (λ r. IsName r.0.now × (text.now ≡ r.0.now ++ 62 ∷ r.1.now)) }
+    ensures { MatchOption result (NoName text.now)
+        (λ r. IsName r.0.now × (text.now ≡ r.0.now ++ 62 ∷ r.1.now)) }
 {
     let (front, rest) = split_front(text, CharacterTest::NameCharacter);
     let Some((start, _)) = first(front) else {
@@ -146,7 +149,8 @@ fn flagged_head<'a>(
 ) -> Result<Option<(Head, &'a [char])>, AllocError>
     requires colon { Begins 58 text.now → ⊥ }
     requires name { NoNameOpening text.now }
-    ensures { IfOk result (λ found. MatchOption found (NoHead config.now (40 ∷ 63 ∷ text.now)) (λ r. IsHead config.now (40 ∷ 63 ∷ text.now) r.0 r.1.now)) }
+    ensures { IfOk result (λ found. MatchOption found (NoHead config.now (40 ∷ 63 ∷ text.now))
+        (λ r. IsHead config.now (40 ∷ 63 ∷ text.now) r.0 r.1.now)) }
 {
     let Some((changed, rest)) = flag_changes(alloc, text, config)? else {
         return Ok(None);
@@ -155,7 +159,7 @@ fn flagged_head<'a>(
         return Ok(Some((Head::Setting(changed), behind)));
     }
     match eat(rest, ':') {
-        Some(behind) => Ok(Some((Head::Group(changed, Captures::Unnumbered), behind))),
+        Some(behind) => Ok(Some((Head::Group(changed, GroupKind::Unnumbered), behind))),
         None => Ok(None),
     }
 }
@@ -166,10 +170,11 @@ fn marked_head<'a>(
     text: &'a [char],
     config: &Config,
 ) -> Result<Option<(Head, &'a [char])>, AllocError>
-    ensures { IfOk result (λ found. MatchOption found (NoHead config.now (40 ∷ 63 ∷ text.now)) (λ r. IsHead config.now (40 ∷ 63 ∷ text.now) r.0 r.1.now)) }
+    ensures { IfOk result (λ found. MatchOption found (NoHead config.now (40 ∷ 63 ∷ text.now))
+        (λ r. IsHead config.now (40 ∷ 63 ∷ text.now) r.0 r.1.now)) }
 {
     if let Some(rest) = eat(text, ':') {
-        return Ok(Some((Head::Group(config.copied(), Captures::Unnumbered), rest)));
+        return Ok(Some((Head::Group(config.copied(), GroupKind::Unnumbered), rest)));
     }
     let Some(inside) = before_name(text) else {
         return flagged_head(alloc, text, config);
@@ -177,7 +182,7 @@ fn marked_head<'a>(
     let Some((name, rest)) = group_name(inside) else {
         return Ok(None);
     };
-    let captures = Captures::Numbered(Some(Vec::from_slice(alloc, name)?));
+    let captures = GroupKind::Numbered(Some(Vec::from_slice(alloc, name)?));
     Ok(Some((Head::Group(config.copied(), captures), rest)))
 }
 
@@ -187,7 +192,8 @@ pub(crate) fn group_head<'a>(
     text: &'a [char],
     config: &Config,
 ) -> Result<Option<(Head, &'a [char])>, AllocError>
-    ensures { IfOk result (λ found. MatchOption found (NoHead config.now text.now) (λ r. IsHead config.now text.now r.0 r.1.now)) }
+    ensures { IfOk result (λ found. MatchOption found (NoHead config.now text.now)
+        (λ r. IsHead config.now text.now r.0 r.1.now)) }
 {
     let Some(inside) = eat(text, '(') else {
         return Ok(None);
@@ -195,7 +201,7 @@ pub(crate) fn group_head<'a>(
     match eat(inside, '?') {
         Some(behind) => marked_head(alloc, behind, config),
         None => Ok(Some((
-            Head::Group(config.copied(), Captures::Numbered(None)),
+            Head::Group(config.copied(), GroupKind::Numbered(None)),
             inside,
         ))),
     }

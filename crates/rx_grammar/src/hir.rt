@@ -3,7 +3,7 @@
 ghost use Rattle.std.specs.Prelude.{◌≡◌, ◌≤◌, [], ◌∷◌, length, map, MatchOption};
 ghost use Rattle.rx_grammar.specs.Trees.{numbers_of};
 ghost use Rattle.rx_grammar.specs.Postorder.{own_names, own_groups, tree_of};
-ghost use Rattle.rx_grammar.specs.Nodes.{step_of, IsTree};
+ghost use Rattle.rx_grammar.specs.Nodes.{kind_of, IsTree};
 
 use rx_sets::CharacterSet;
 use std::marker::Model;
@@ -59,7 +59,8 @@ pub enum Node {
 impl Node {
     /// The name of a group that has one.
     pub fn name(&self) -> Option<&[char]>
-        ensures { MatchOption result (own_names (step_of self.now) ≡ []) (λ name. own_names (step_of self.now) ≡ name.now ∷ []) }
+        ensures { MatchOption result (own_names (kind_of self.now) ≡ [])
+            (λ name. own_names (kind_of self.now) ≡ name.now ∷ []) }
     {
         match self {
             Node::Group(_, Some(name)) => Some(name),
@@ -69,7 +70,7 @@ impl Node {
 
     /// How many groups the node is by itself: one or none.
     fn own_groups(&self) -> usize
-        ensures value { result ≡ own_groups (step_of self.now) }
+        ensures value { result ≡ own_groups (kind_of self.now) }
         ensures few { result ≤ 1 }
     {
         match self {
@@ -88,22 +89,22 @@ pub struct Hir {
 
 impl Model for Hir {
     ghost use Rattle.std.specs.Prelude.{List, ◌≡◌, ◌∷◌, [], map};
-    ghost use Rattle.rx_grammar.specs.Postorder.{Step, trees_of, tree_of};
+    ghost use Rattle.rx_grammar.specs.Postorder.{NodeKind, trees_of, tree_of};
 
-    ghost Value = { List Step };
+    ghost Value = { List NodeKind };
 
-    ghost use Rattle.rx_grammar.specs.Nodes.{step_of, IsTree};
+    ghost use Rattle.rx_grammar.specs.Nodes.{kind_of, IsTree};
 
-    ghost view = { λ h. map step_of h.nodes.items };
+    ghost view = { λ h. map kind_of h.nodes.items };
 
-    ghost invariant = { λ h. trees_of (map step_of h.nodes.items) ≡ tree_of (map step_of h.nodes.items) ∷ [] };
+    ghost invariant = { λ h. trees_of (map kind_of h.nodes.items) ≡ tree_of (map kind_of h.nodes.items) ∷ [] };
 }
 
 impl Hir {
     /// The nodes, each after what stands below it, so that the last one is the root. What stands below a node
     /// are the last trees before it that stand below no other.
     pub fn nodes(&self) -> &[Node]
-        ensures { map step_of result.now ≡ self.now }
+        ensures { map kind_of result.now ≡ self.now }
     {
         &self.nodes
     }
@@ -124,7 +125,7 @@ impl Hir {
 /// The tree of nodes that make one.
 pub(crate) fn tree(nodes: Vec<Node>) -> Hir
     requires { IsTree nodes.items }
-    ensures { result ≡ map step_of nodes.items }
+    ensures { result ≡ map kind_of nodes.items }
 {
     Hir { nodes }
 }

@@ -8,21 +8,16 @@ mod escapes;
 mod flags;
 mod groups;
 mod hir;
+mod input;
 pub mod laws;
-mod leaves;
 mod parser;
 mod patterns;
 mod repetitions;
+mod sets;
 pub mod syntax;
-mod texts;
 mod trees;
 
 pub use error::SyntaxError;
 pub use hir::{Hir, Look, Node, Repetition};
 pub use patterns::parse;
-pub use rx_sets::{CharacterSet, ClassItem, ClassPerlKind, Range, ordinal};
-
-#[cfg(test)]
-mod pattern_tests;
-#[cfg(test)]
-mod tests;
+pub use rx_sets::{CharacterSet, ClassItem, ClassPerlKind, Range, from_ordinal, ordinal};

@@ -4,18 +4,18 @@ ghost use Rattle.std.specs.Prelude.{ℕ, ◌≡◌, ◌+◌, ◌≤◌, ◌<◌,
 ghost use Rattle.rx_grammar.specs.Trees.{Tree};
 ghost use Rattle.rx_grammar.specs.Stacks.{IsRefusal, PostfixesTooDeep};
 ghost use Rattle.rx_grammar.specs.Resuming.{Place, NoEnds, with_branch};
-ghost use Rattle.rx_grammar.specs.Texts.{Begins};
+ghost use Rattle.rx_grammar.specs.Input.{Begins};
 ghost use Rattle.rx_grammar.specs.Heads.{capture_of};
-ghost use Rattle.rx_grammar.specs.Standing.{start_of, opened_at, Stands, IsStanding, ItemRead, EndsLevel, IsLeafPlace, StepTaken, TextRead, IsFinished};
+ghost use Rattle.rx_grammar.specs.Places.{start_of, opened_at, IsAt, IsAtSomePlace, ItemRead, EndsLevel, IsAtomPlace, PartRead, TextRead, IsFinished};
 
+use crate::atoms::plain_atom;
 use crate::error::SyntaxError;
-use crate::groups::{Captures, Head, group_head};
+use crate::groups::{GroupKind, Head, group_head};
 use crate::hir::{Hir, tree};
-use crate::leaves::leaf;
+use crate::input::first;
 use crate::syntax::Config;
-use crate::texts::first;
 use crate::trees::{TreeStack, deeper};
-use rx_sets::Atoms;
+use rx_sets::AtomSets;
 use std::alloc::{AllocError, Global};
 
 /// The heights at which the trees of a group begin, and those of its last branch, and how deep its items are.
@@ -32,7 +32,7 @@ pub(crate) struct Around {
     heights: Heights,
     config: Config,
     number: u32,
-    captures: Captures,
+    captures: GroupKind,
 }
 
 /// A pattern that is read in part.
@@ -45,13 +45,13 @@ pub(crate) struct Parser {
     heights: Heights,
     around: Vec<Around>,
     trees: TreeStack,
-    atoms: Atoms,
+    sets: AtomSets,
 }
 
 impl Parser {
     /// Nothing is read yet.
     pub(crate) fn new(alloc: Global, config: &Config) -> Parser
-        ensures stands { Stands result [] (start_of config.now) }
+        ensures stands { IsAt result [] (start_of config.now) }
         ensures limit { result.limit ≡ config.now.nest_limit }
         ensures groups { result.groups ≡ 0 }
     {
@@ -67,15 +67,19 @@ impl Parser {
             },
             around: Vec::new(alloc),
             trees: TreeStack::new(alloc),
-            atoms: Atoms::new(alloc),
+            sets: AtomSets::new(alloc),
         }
     }
 
     /// The postfixes after an atom of this depth, which is an item with them. Answers the text after it.
     fn finish_item<'a>(&mut self, text: &'a [char], depth: u32) -> Result<&'a [char], SyntaxError>
-        requires stands { (place : Place) × (tree : Tree) × Stands self.old (tree ∷ []) place }
+        requires stands { (place : Place) × (tree : Tree) × IsAt self.old (tree ∷ []) place }
         requires depth { depth ≤ self.old.limit }
-        ensures reads { (place : Place) (tree : Tree) → Stands self.old (tree ∷ []) place → MatchResult result (λ rest. ItemRead self.old self.new place tree depth text.now rest.now) (λ e. IsRefusal e (PostfixesTooDeep place.settings.swap_greed tree depth text.now self.old.limit)) }
+        ensures reads { (place : Place) (tree : Tree) → IsAt self.old (tree ∷ []) place
+            → MatchResult result
+            (λ rest. ItemRead self.old self.new place tree depth text.now rest.now)
+            (λ e. IsRefusal e
+            (PostfixesTooDeep place.settings.swap_greed tree depth text.now self.old.limit)) }
     {
         let swap_greed = self.config.get_swap_greed();
         let (deep, rest) = self
@@ -86,22 +90,26 @@ impl Parser {
     }
 
     /// An atom that is no group, with its postfixes.
-    fn read_leaf<'a>(&mut self, text: &'a [char]) -> Result<&'a [char], SyntaxError>
-        requires stands { IsStanding self.old }
-        requires leaf { IsLeafPlace text.now }
-        ensures steps { (place : Place) → Stands self.old [] place → MatchResult result (λ rest. StepTaken self.old self.new place text.now rest.now) (λ e. IsRefusal e (NoEnds place text.now self.old.limit)) }
+    fn read_atom<'a>(&mut self, text: &'a [char]) -> Result<&'a [char], SyntaxError>
+        requires stands { IsAtSomePlace self.old }
+        requires atom { IsAtomPlace text.now }
+        ensures reads { (place : Place) → IsAt self.old [] place → MatchResult result
+            (λ rest. PartRead self.old self.new place text.now rest.now)
+            (λ e. IsRefusal e (NoEnds place text.now self.old.limit)) }
     {
-        let Some((tree, behind)) = leaf(self.alloc, &mut self.atoms, text, &self.config)? else {
+        let Some((tree, behind)) = plain_atom(self.alloc, &mut self.sets, text, &self.config)?
+        else {
             return Err(SyntaxError::Outside);
         };
-        self.trees.push_leaf(tree)?;
+        self.trees.push_atom(tree)?;
         self.finish_item(behind, 0)
     }
 
     /// The branch ends.
     fn end_branch(&mut self) -> Result<(), AllocError>
-        requires stands { IsStanding self.old }
-        ensures ends { (place : Place) → Stands self.old [] place → OnOk result (Stands self.new [] (record place { level = with_branch place.level })) }
+        requires stands { IsAtSomePlace self.old }
+        ensures ends { (place : Place) → IsAt self.old [] place → OnOk result
+            (IsAt self.new [] (record place { level = with_branch place.level })) }
         ensures kept { (self.new.limit ≡ self.old.limit) × (self.new.groups ≡ self.old.groups) }
     {
         self.trees.join_items(self.heights.branch)?;
@@ -111,8 +119,9 @@ impl Parser {
 
     /// The group, or the whole pattern, ends, and its branches are one tree.
     fn end_level(&mut self) -> Result<(), AllocError>
-        requires stands { IsStanding self.old }
-        ensures ends { (place : Place) → Stands self.old [] place → OnOk result (EndsLevel self.old self.new place) }
+        requires stands { IsAtSomePlace self.old }
+        ensures ends { (place : Place) → IsAt self.old [] place → OnOk result
+            (EndsLevel self.old self.new place) }
     {
         self.end_branch()?;
         self.trees.join_branches(self.heights.group)?;
@@ -121,10 +130,12 @@ impl Parser {
 
     /// What a parenthesis begins.
     fn read_head<'a>(&mut self, text: &'a [char]) -> Result<&'a [char], SyntaxError>
-        requires stands { IsStanding self.old }
+        requires stands { IsAtSomePlace self.old }
         requires parenthesis { Begins 40 text.now }
         requires room { self.old.groups + length text.now < 2 ^ 32 }
-        ensures steps { (place : Place) → Stands self.old [] place → MatchResult result (λ rest. StepTaken self.old self.new place text.now rest.now) (λ e. IsRefusal e (NoEnds place text.now self.old.limit)) }
+        ensures reads { (place : Place) → IsAt self.old [] place → MatchResult result
+            (λ rest. PartRead self.old self.new place text.now rest.now)
+            (λ e. IsRefusal e (NoEnds place text.now self.old.limit)) }
     {
         let Some((head, rest)) = group_head(self.alloc, text, &self.config)? else {
             return Err(SyntaxError::Outside);
@@ -142,10 +153,11 @@ impl Parser {
     }
 
     /// A group begins.
-    fn open(&mut self, config: Config, captures: Captures) -> Result<(), AllocError>
-        requires stands { IsStanding self.old }
+    fn open(&mut self, config: Config, captures: GroupKind) -> Result<(), AllocError>
+        requires stands { IsAtSomePlace self.old }
         requires room { self.old.groups + 1 < 2 ^ 32 }
-        ensures opens { (place : Place) → Stands self.old [] place → OnOk result (Stands self.new [] (opened_at place config (capture_of captures))) }
+        ensures opens { (place : Place) → IsAt self.old [] place → OnOk result
+            (IsAt self.new [] (opened_at place config (capture_of captures))) }
         ensures groups { OnOk result (self.new.groups ≤ self.old.groups + 1) }
         ensures limit { self.new.limit ≡ self.old.limit }
     {
@@ -168,8 +180,10 @@ impl Parser {
 
     /// The innermost group ends, and postfixes follow it.
     fn close<'a>(&mut self, rest: &'a [char]) -> Result<&'a [char], SyntaxError>
-        requires stands { IsStanding self.old }
-        ensures steps { (place : Place) → Stands self.old [] place → MatchResult result (λ rest'. StepTaken self.old self.new place (41 ∷ rest.now) rest'.now) (λ e. IsRefusal e (NoEnds place (41 ∷ rest.now) self.old.limit)) }
+        requires stands { IsAtSomePlace self.old }
+        ensures reads { (place : Place) → IsAt self.old [] place → MatchResult result
+            (λ rest'. PartRead self.old self.new place (41 ∷ rest.now) rest'.now)
+            (λ e. IsRefusal e (NoEnds place (41 ∷ rest.now) self.old.limit)) }
     {
         self.end_level()?;
         let Some(
@@ -193,16 +207,18 @@ impl Parser {
     }
 
     /// What stands at the start of a text, and the text after it.
-    pub(crate) fn step<'a>(
+    pub(crate) fn read_part<'a>(
         &mut self,
         c: char,
         rest: &'a [char],
         text: &'a [char],
     ) -> Result<&'a [char], SyntaxError>
-        requires stands { IsStanding self.old }
+        requires stands { IsAtSomePlace self.old }
         requires text { text.now ≡ c ∷ rest.now }
         requires room { self.old.groups + length text.now < 2 ^ 32 }
-        ensures steps { (place : Place) → Stands self.old [] place → MatchResult result (λ after. StepTaken self.old self.new place text.now after.now) (λ e. IsRefusal e (NoEnds place text.now self.old.limit)) }
+        ensures reads { (place : Place) → IsAt self.old [] place → MatchResult result
+            (λ after. PartRead self.old self.new place text.now after.now)
+            (λ e. IsRefusal e (NoEnds place text.now self.old.limit)) }
     {
         match c {
             '|' => {
@@ -211,27 +227,31 @@ impl Parser {
             }
             '(' => self.read_head(text),
             ')' => self.close(rest),
-            _ => self.read_leaf(text),
+            _ => self.read_atom(text),
         }
     }
 
     /// A whole text.
     pub(crate) fn read(&mut self, text: &[char]) -> Result<(), SyntaxError>
-        requires stands { IsStanding self.old }
+        requires stands { IsAtSomePlace self.old }
         requires room { self.old.groups + length text.now < 2 ^ 32 }
-        ensures reads { (place : Place) → Stands self.old [] place → MatchResult result (λ _. TextRead self.old self.new place text.now) (λ e. IsRefusal e (NoEnds place text.now self.old.limit)) }
+        ensures reads { (place : Place) → IsAt self.old [] place → MatchResult result
+            (λ _. TextRead self.old self.new place text.now)
+            (λ e. IsRefusal e (NoEnds place text.now self.old.limit)) }
     {
         let mut rest = text;
         while let Some((c, behind)) = first(rest) {
-            rest = self.step(c, behind, rest)?;
+            rest = self.read_part(c, behind, rest)?;
         }
         Ok(())
     }
 
     /// The tree of the pattern, where no group is open.
     pub(crate) fn finish(mut self) -> Result<Hir, SyntaxError>
-        requires stands { IsStanding self }
-        ensures ends { (place : Place) → Stands self [] place → MatchResult result (λ hir. IsFinished place hir self.limit) (λ e. IsRefusal e (NoEnds place [] self.limit)) }
+        requires stands { IsAtSomePlace self }
+        ensures ends { (place : Place) → IsAt self [] place → MatchResult result
+            (λ hir. IsFinished place hir self.limit) (λ e. IsRefusal e
+            (NoEnds place [] self.limit)) }
     {
         if !self.around.is_empty() {
             return Err(SyntaxError::Outside);

@@ -3,7 +3,7 @@
 ghost use Rattle.std.specs.Prelude.{◌≡◌, ◌≢◌, ◌<◌, ◌≤◌, ◌↔◌, All, AllPairs, Contains, MatchBool, length, chars, encode_utf8_all, map, IfOk, IfErr};
 ghost use Rattle.rx_grammar.specs.Postorder.{tree_of, names_in};
 ghost use Rattle.rx_grammar.specs.Grammar.{Spells, SpellsNothing};
-ghost use Rattle.rx_grammar.specs.Nodes.{step_of};
+ghost use Rattle.rx_grammar.specs.Nodes.{kind_of};
 ghost use Rattle.rx_grammar.specs.Stacks.{IsRefusal};
 
 use crate::error::SyntaxError;
@@ -17,7 +17,8 @@ const MAX_BYTES: usize = 65_536;
 
 /// Whether the name stands among the names.
 fn stands_in(name: &[char], names: &[&[char]]) -> bool
-    ensures { MatchBool result (Contains (map (λ name. name.now) names.now) name.now) (All (λ other. other ≢ name.now) (map (λ name. name.now) names.now)) }
+    ensures { MatchBool result (Contains (map (λ name. name.now) names.now) name.now)
+        (All (λ other. other ≢ name.now) (map (λ name. name.now) names.now)) }
 {
     for other in names {
         if *other == name {
@@ -29,7 +30,9 @@ fn stands_in(name: &[char], names: &[&[char]]) -> bool
 
 /// Whether no two groups among the nodes have one name.
 fn has_distinct_names(alloc: Global, nodes: &[Node]) -> Result<bool, AllocError>
-    ensures { IfOk result (λ distinct. MatchBool distinct (AllPairs (λ a b. a ≢ b) (names_in (map step_of nodes.now))) (AllPairs (λ a b. a ≢ b) (names_in (map step_of nodes.now)) → ⊥)) }
+    ensures { IfOk result (λ distinct. MatchBool distinct
+        (AllPairs (λ a b. a ≢ b) (names_in (map kind_of nodes.now)))
+        (AllPairs (λ a b. a ≢ b) (names_in (map kind_of nodes.now)) → ⊥)) }
 {
     let mut names: Vec<&[char]> = Vec::new(alloc);
     for node in nodes {
@@ -66,7 +69,8 @@ fn parse_characters(alloc: Global, text: &[char], config: &Config) -> Result<Hir
 /// nothing. `Memory` may stand in place of a tree and of the last two.
 pub fn parse(alloc: Global, text: &str, config: &Config) -> Result<Hir, SyntaxError>
     ensures spells { IfOk result (λ hir. Spells (chars text.now) config.now (tree_of hir)) }
-    ensures refused { IfErr result (λ e. e ≢ SyntaxError.TooLong → IsRefusal e (SpellsNothing (chars text.now) config.now)) }
+    ensures refused { IfErr result (λ e. e ≢ SyntaxError.TooLong → IsRefusal e
+        (SpellsNothing (chars text.now) config.now)) }
     ensures too_long { (result ≡ Err SyntaxError.TooLong) ↔ (65536 < length text.now) }
 {
     if text.len() > MAX_BYTES {

@@ -6,14 +6,16 @@ ghost use Rattle.std.specs.List.{AllByRecursion};
 ghost use Rattle.rx_grammar.specs.Repetitions.{Number, NoNumber, decimal_after, CountInBraces, NoCountInBraces, Count, NoCount, Postfix, NoPostfix};
 
 use crate::hir::Repetition;
-use crate::texts::{CharacterTest, eat, first, split_front};
+use crate::input::{CharacterTest, eat, first, split_front};
 
 /// The greatest number in braces.
 const MAX_NUMBER: u32 = 65_535;
 
 /// The number that decimal digits spell, and `None` where it is above 65,535.
 fn number_of(digits: &[char]) -> Option<u32>
-    ensures { MatchOption result (AllByRecursion (λ c. is_ascii_digit c ≡ true) digits.now → 65535 < decimal_after 0 digits.now) (λ n. (decimal_after 0 digits.now ≡ n) × (n ≤ 65535)) }
+    ensures { MatchOption result (AllByRecursion (λ c. is_ascii_digit c ≡ true) digits.now
+        → 65535 < decimal_after 0 digits.now) (λ n. (decimal_after 0 digits.now ≡ n) ×
+        (n ≤ 65535)) }
 {
     let mut number: u32 = 0;
     for digit in digits {
@@ -44,7 +46,8 @@ pub(crate) type Bounds = (u32, Option<u32>);
 
 /// What stands in braces after `{`: `n}`, `n,}` or `n,m}`.
 fn count_in_braces(text: &[char]) -> Option<(Bounds, &[char])>
-    ensures { MatchOption result (NoCountInBraces text.now) (λ r. CountInBraces text.now r.0.0 r.0.1 r.1.now) }
+    ensures { MatchOption result (NoCountInBraces text.now)
+        (λ r. CountInBraces text.now r.0.0 r.0.1 r.1.now) }
 {
     let Some((least, rest)) = number(text) else {
         return None;
@@ -88,7 +91,8 @@ pub(crate) fn count(text: &[char]) -> Option<(Bounds, &[char])>
 
 /// A count, and whether it is greedy: not with a `?` straight after it. `swap_greed` turns that round.
 pub(crate) fn postfix(text: &[char], swap_greed: bool) -> Option<(Repetition, &[char])>
-    ensures { MatchOption result (NoPostfix swap_greed text.now) (λ r. Postfix swap_greed text.now r.0 r.1.now) }
+    ensures { MatchOption result (NoPostfix swap_greed text.now)
+        (λ r. Postfix swap_greed text.now r.0 r.1.now) }
 {
     let Some(((min, max), rest)) = count(text) else {
         return None;

@@ -3,19 +3,19 @@
 ghost use Rattle.std.specs.Prelude.{ℕ, ◌≡◌, ◌+◌, ◌≤◌, List, [], ◌∷◌, ◌++◌, length, reverse, OnOk, MatchBool, MatchOption, MatchResult};
 ghost use Rattle.rx_grammar.specs.Trees.{Tree, concat_of};
 ghost use Rattle.rx_grammar.specs.Postorder.{after_node, alternate};
-ghost use Rattle.rx_grammar.specs.Nodes.{step_of, trees_in};
-ghost use Rattle.rx_grammar.specs.Texts.{Stops};
+ghost use Rattle.rx_grammar.specs.Nodes.{kind_of, trees_in};
+ghost use Rattle.rx_grammar.specs.Input.{Stops};
 ghost use Rattle.rx_grammar.specs.Repetitions.{is_postfix_start};
 ghost use Rattle.rx_grammar.specs.Heads.{capture_of};
-ghost use Rattle.rx_grammar.specs.Leaves.{leaf_tree};
+ghost use Rattle.rx_grammar.specs.Atoms.{atom_tree};
 ghost use Rattle.rx_grammar.specs.Stacks.{captured, IsCounted, IsRefusal, PostfixesRead, PostfixesTooDeep};
 
+use crate::atoms::AtomTree;
 use crate::error::SyntaxError;
-use crate::groups::Captures;
+use crate::groups::GroupKind;
 use crate::hir::Node;
-use crate::leaves::LeafTree;
+use crate::input::first;
 use crate::repetitions::postfix;
-use crate::texts::first;
 use std::alloc::{AllocError, Global};
 
 /// Trees in a row, of which the last ones may become parts of another one.
@@ -34,7 +34,8 @@ fn is_postfix_start(c: char) -> bool
 
 /// Whether a postfix begins the text.
 fn begins_postfix(text: &[char]) -> bool
-    ensures { MatchBool result (Stops is_postfix_start text.now → ⊥) (Stops is_postfix_start text.now) }
+    ensures { MatchBool result (Stops is_postfix_start text.now → ⊥)
+        (Stops is_postfix_start text.now) }
 {
     match first(text) {
         Some((c, _)) => is_postfix_start(c),
@@ -79,9 +80,11 @@ impl TreeStack {
     pub(crate) fn push(&mut self, node: Node, taken: usize) -> Result<(), AllocError>
         requires counted { IsCounted self.old }
         requires taken { taken ≤ self.old.height }
-        requires one { length (after_node (trees_in self.old.nodes.items) (step_of node)) + taken ≡ self.old.height + 1 }
+        requires one { length (after_node (trees_in self.old.nodes.items) (kind_of node)) + taken
+            ≡ self.old.height + 1 }
         ensures counted { OnOk result (IsCounted self.new) }
-        ensures trees { OnOk result (trees_in self.new.nodes.items ≡ after_node (trees_in self.old.nodes.items) (step_of node)) }
+        ensures trees { OnOk result (trees_in self.new.nodes.items ≡ after_node
+            (trees_in self.old.nodes.items) (kind_of node)) }
     {
         self.nodes.push(node)?;
         self.height = self.height - taken + 1;
@@ -89,27 +92,30 @@ impl TreeStack {
     }
 
     /// Appends what an atom spells.
-    pub(crate) fn push_leaf(&mut self, leaf: LeafTree) -> Result<(), AllocError>
+    pub(crate) fn push_atom(&mut self, atom: AtomTree) -> Result<(), AllocError>
         requires { IsCounted self.old }
         ensures counted { OnOk result (IsCounted self.new) }
-        ensures trees { OnOk result (trees_in self.new.nodes.items ≡ leaf_tree leaf ∷ trees_in self.old.nodes.items) }
+        ensures trees { OnOk result (trees_in self.new.nodes.items
+            ≡ atom_tree atom ∷ trees_in self.old.nodes.items) }
     {
-        match leaf {
-            LeafTree::Set(set) => self.push(Node::Set(set), 0),
-            LeafTree::Look(look) => self.push(Node::Look(look), 0),
+        match atom {
+            AtomTree::Set(set) => self.push(Node::Set(set), 0),
+            AtomTree::Look(look) => self.push(Node::Look(look), 0),
         }
     }
 
     /// The last tree becomes a group with this number, if the group captures anything.
-    pub(crate) fn push_group(&mut self, number: u32, captures: Captures) -> Result<(), AllocError>
+    pub(crate) fn push_group(&mut self, number: u32, captures: GroupKind) -> Result<(), AllocError>
         requires counted { IsCounted self.old }
         requires tree { 1 ≤ self.old.height }
         ensures counted { OnOk result (IsCounted self.new) }
-        ensures trees { (tree : Tree) (below : List Tree) → trees_in self.old.nodes.items ≡ tree ∷ below → OnOk result (trees_in self.new.nodes.items ≡ captured number (capture_of captures) tree ∷ below) }
+        ensures trees { (tree : Tree) (below : List Tree) → trees_in self.old.nodes.items
+            ≡ tree ∷ below → OnOk result (trees_in self.new.nodes.items ≡ captured number
+            (capture_of captures) tree ∷ below) }
     {
         match captures {
-            Captures::Numbered(name) => self.push(Node::Group(number, name), 1),
-            Captures::Unnumbered => Ok(()),
+            GroupKind::Numbered(name) => self.push(Node::Group(number, name), 1),
+            GroupKind::Unnumbered => Ok(()),
         }
     }
 
@@ -118,7 +124,9 @@ impl TreeStack {
         requires counted { IsCounted self.old }
         requires above { height ≤ self.old.height }
         ensures counted { OnOk result (IsCounted self.new) }
-        ensures trees { (items below : List Tree) → trees_in self.old.nodes.items ≡ reverse items ++ below → length below ≡ height → OnOk result (trees_in self.new.nodes.items ≡ concat_of items ∷ below) }
+        ensures trees { (items below : List Tree) → trees_in self.old.nodes.items
+            ≡ reverse items ++ below → length below ≡ height → OnOk result
+            (trees_in self.new.nodes.items ≡ concat_of items ∷ below) }
     {
         let count = self.height - height;
         match count {
@@ -133,7 +141,9 @@ impl TreeStack {
         requires counted { IsCounted self.old }
         requires above { height ≤ self.old.height }
         ensures counted { OnOk result (IsCounted self.new) }
-        ensures trees { (branches below : List Tree) → trees_in self.old.nodes.items ≡ reverse branches ++ below → length below ≡ height → OnOk result (trees_in self.new.nodes.items ≡ alternate branches ∷ below) }
+        ensures trees { (branches below : List Tree) → trees_in self.old.nodes.items
+            ≡ reverse branches ++ below → length below ≡ height → OnOk result
+            (trees_in self.new.nodes.items ≡ alternate branches ∷ below) }
     {
         let count = self.height - height;
         match count {
@@ -156,7 +166,10 @@ impl TreeStack {
         requires tree { 1 ≤ self.old.height }
         requires depth { depth ≤ limit }
         ensures counted { OnOk result (IsCounted self.new) }
-        ensures reads { (tree : Tree) (below : List Tree) → trees_in self.old.nodes.items ≡ tree ∷ below → MatchResult result (λ r. PostfixesRead swap_greed tree depth text.now (trees_in self.new.nodes.items) below limit r.0 r.1.now) (λ e. IsRefusal e (PostfixesTooDeep swap_greed tree depth text.now limit)) }
+        ensures reads { (tree : Tree) (below : List Tree) → trees_in self.old.nodes.items
+            ≡ tree ∷ below → MatchResult result (λ r. PostfixesRead swap_greed tree depth text.now
+            (trees_in self.new.nodes.items) below limit r.0 r.1.now)
+            (λ e. IsRefusal e (PostfixesTooDeep swap_greed tree depth text.now limit)) }
     {
         let mut rest = text;
         while begins_postfix(rest) {

@@ -1,4 +1,5 @@
 pub mod SetLemmas
+pub mod SetLaws
 pub mod RangeLemmas
 pub mod FoldLemmas
 pub mod UnionLemmas

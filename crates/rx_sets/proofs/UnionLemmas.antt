@@ -6,7 +6,7 @@ use Rattle.rx_sets.specs.declared.items.ClassItem.{ClassItem}
 use Rattle.rx_sets.specs.declared.items.ClassItem.TheVariants.{Span, Perl}
 use Rattle.rx_sets.specs.declared.items.ClassPerlKind.{ClassPerlKind}
 use Rattle.rx_sets.specs.declared.items.ClassPerlKind.TheVariants.{Digit, Space, Word}
-use Rattle.rx_sets.specs.declared.atoms.TheConstants.{LETTER_CLASSES}
+use Rattle.rx_sets.specs.declared.atom_sets.TheConstants.{LETTER_CLASSES}
 use Rattle.unicode.specs.CaseFolding.{simple_fold}
 use Rattle.rx_sets.specs.Sets.{Range, IsScalar, ordinal, in_ranges, Holds, IsCanonical, IsSetOf, HasExactly, FoldsInto, FoldedIf, InPerl}
 use Rattle.rx_sets.specs.Items.{InItem, InItems, InClass}

@@ -1,3 +1,4 @@
 pub mod Sets
 pub mod Items
 pub mod Unions
+pub mod Laws

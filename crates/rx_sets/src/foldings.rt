@@ -5,14 +5,15 @@ ghost use Rattle.unicode.specs.CaseFolding.{simple_fold};
 ghost use Rattle.rx_sets.specs.Sets.{is_scalar, FoldsInto, FoldedIf};
 ghost use Rattle.rx_sets.specs.Unions.{Adds, OneOf, Between, LeadsOut, InSpan};
 
+use crate::character_set::{Range, is_scalar, ordinal, ordinal_of_code};
 use crate::items::ClassItem;
-use crate::sets::{Range, is_scalar, ordinal, ordinal_of_code};
 use std::alloc::AllocError;
 use unicode::case::fold_pairs;
 
 /// The pairs of code points with one simple case folding whose first part is from `low` to `high`.
 fn pairs_between(low: char, high: char) -> &'static [(u32, u32)]
-    ensures { (a b : ℕ) → Contains result.now (a, b) ↔ ((a ≢ b) × (simple_fold a ≡ simple_fold b) × Between low high a) }
+    ensures { (a b : ℕ) → Contains result.now (a, b) ↔
+        ((a ≢ b) × (simple_fold a ≡ simple_fold b) × Between low high a) }
 {
     let pairs = fold_pairs();
     let (_, rest) = pairs.split_at(pairs.partition_point(|pair| pair.0 < low as u32));
@@ -59,7 +60,8 @@ fn push_seconds(
     high: char,
     pairs: &[(u32, u32)],
 ) -> Result<(), AllocError>
-    ensures { OnOk result (Adds ranges.old.items ranges.new.items (λ c. OneOf (LeadsOut low high c) pairs.now)) }
+    ensures { OnOk result (Adds ranges.old.items ranges.new.items
+        (λ c. OneOf (LeadsOut low high c) pairs.now)) }
 {
     for pair in pairs {
         push_second(ranges, low, high, *pair)?;
@@ -90,7 +92,8 @@ pub(crate) fn push_folded_if(
     low: char,
     high: char,
 ) -> Result<(), AllocError>
-    ensures { OnOk result (Adds ranges.old.items ranges.new.items (FoldedIf fold (Between low high))) }
+    ensures { OnOk result (Adds ranges.old.items ranges.new.items
+        (FoldedIf fold (Between low high))) }
 {
     if fold {
         push_folded(ranges, low, high)
@@ -115,7 +118,8 @@ pub(crate) fn push_items(
     fold: bool,
     items: &[ClassItem],
 ) -> Result<(), AllocError>
-    ensures { OnOk result (Adds ranges.old.items ranges.new.items (λ c. OneOf (InSpan fold c) items.now)) }
+    ensures { OnOk result (Adds ranges.old.items ranges.new.items
+        (λ c. OneOf (InSpan fold c) items.now)) }
 {
     for item in items {
         push_item(ranges, fold, *item)?;

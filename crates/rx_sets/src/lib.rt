@@ -1,15 +1,13 @@
 //! Sets of characters: how they are kept, and those that the atoms of a pattern stand for.
 #![tactic(auto)]
 
-mod atoms;
+mod atom_sets;
+mod character_set;
 mod foldings;
 mod items;
-mod letters;
-mod sets;
+pub mod laws;
+mod letter_set;
 
-pub use atoms::Atoms;
+pub use atom_sets::AtomSets;
+pub use character_set::{CharacterSet, Range, from_ordinal, ordinal};
 pub use items::{ClassItem, ClassPerlKind};
-pub use sets::{CharacterSet, Range, ordinal};
-
-#[cfg(test)]
-mod tests;

@@ -6,7 +6,7 @@ use Rattle.str_indices.specs.Bytes.{IsFirstPast}
 use Rattle.std.proofs.Math.Seq.{take-append-add}
 use Rattle.std.proofs.lemmas.List.{length-replicate, take-append-le, take-replicate}
 use Rattle.std.proofs.lemmas.List.Sums.{sum_by-cons, sum_by-append, sum_by_push, sum_by-take-le}
-use Rattle.str_indices.specs.Counts.{first_block, last_block}
+use Rattle.str_indices.specs.FirstAndLastBytes.{first_block, last_block}
 
 pub length-first_block : (n w : ℕ) → 1 ≤ n → length (first_block n w) ≡ n
 length-first_block n w h = omega (arith, length-replicate {A = ℕ} (n - 1) 0)

@@ -13,7 +13,7 @@ use Rattle.str_indices.specs.Text.{byte_len, ends_with_cr, ends_from, starts_wit
 use Rattle.str_indices.specs.Bytes.{IsFirstPast, is_cr_lf_end}
 use Rattle.str_indices.specs.BreakBytes.{starts_with_lf-encodes}
 use Rattle.str_indices.specs.Encodings.{encode_two, encode_three, encode_four}
-use Rattle.str_indices.specs.Counts.{CountsLastBytes, at_last_bytes, last_block}
+use Rattle.str_indices.specs.FirstAndLastBytes.{CountsLastBytes, at_last_bytes, last_block}
 use Rattle.str_indices.specs.Laws.{JoinsEnds}
 use Rattle.str_indices.specs.FirstBreak.{IsBreak, IsFirstBreak, GoesOnBehindFirstBreak}
 use Rattle.str_indices.proofs.Blocks.{first_past-enters, first_past-rest, first_past-at_last, length-last_block, sum-last_block}

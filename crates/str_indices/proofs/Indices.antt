@@ -13,7 +13,7 @@ use Rattle.str_indices.specs.Bytes.{IsFirstPast}
 use Rattle.str_indices.specs.Encodings.{encode_two, encode_three, encode_four, len_two, len_four}
 use Rattle.str_indices.proofs.Blocks.{length-first_block, sum-first_block, sum-take_past}
 use Rattle.str_indices.proofs.Spread.{length-ends_from, sum-at_first_bytes, sum-take-last_bytes, first_past-starts, first_past-ends, up_to-append, up_to-replicate_past, up_to-replicate_within, up_to-start}
-use Rattle.str_indices.specs.Counts.{CountsFirstBytes, CountsLastBytes, at_first_bytes, at_last_bytes, first_block}
+use Rattle.str_indices.specs.FirstAndLastBytes.{CountsFirstBytes, CountsLastBytes, at_first_bytes, at_last_bytes, first_block}
 
 firsts : (weights : List ℕ → List ℕ) (count : ℕ → List ℕ → ℕ) → CountsFirstBytes weights count → (bytes : List ℕ) → IsUtf8 bytes → weights bytes ≡ at_first_bytes count (chars bytes)
 firsts weights count k bytes text = ap weights (sym (encodes-chars bytes text)) ∙ k.of_text (chars bytes)

@@ -11,3 +11,4 @@ pub mod Units
 pub mod Order
 pub mod Parts
 pub mod FirstBreaks
+mod Examples

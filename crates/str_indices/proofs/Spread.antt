@@ -8,7 +8,7 @@ use Rattle.std.proofs.lemmas.Str.{len_utf8_bounds}
 use Rattle.str_indices.specs.Text.{ends_from, starts_from, ends_up_to}
 use Rattle.str_indices.specs.Bytes.{IsFirstPast}
 use Rattle.str_indices.proofs.Blocks.{first_past-enters, first_past-rest, first_past-at_first, first_past-at_last, length-first_block, length-last_block, sum-first_block, sum-last_block, sum-take-last_block, sum-take_within, sum-take_past}
-use Rattle.str_indices.specs.Counts.{at_first_bytes, at_last_bytes, first_block, last_block}
+use Rattle.str_indices.specs.FirstAndLastBytes.{at_first_bytes, at_last_bytes, first_block, last_block}
 
 pub long : (c : ℕ) → 1 ≤ len_utf8 c
 long c = (len_utf8_bounds c).0

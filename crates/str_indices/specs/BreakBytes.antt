@@ -9,7 +9,7 @@ use Rattle.str_indices.specs.Text.{is_line_break, is_crlf_break, is_lf_break, en
 use Rattle.str_indices.specs.Bytes.{tested_weights, ends_line, ends_crlf_line, ends_lf_line, line_weights, crlf_line_weights, lf_line_weights}
 use Rattle.str_indices.specs.Encodings.{encode_two, encode_three, encode_four, len_two, len_three, len_four}
 use Rattle.str_indices.specs.Weights.{tested_len}
-use Rattle.str_indices.specs.Counts.{CountsLastBytes, at_last_bytes}
+use Rattle.str_indices.specs.FirstAndLastBytes.{CountsLastBytes, at_last_bytes}
 
 -- a text begins with an LF exactly if its bytes do
 pub starts_with_lf-encodes : (text : List ℕ) → starts_with_lf (encode_utf8_all text) ≡ starts_with_lf text

@@ -10,7 +10,7 @@ use Rattle.str_indices.specs.Text.{units_of}
 use Rattle.str_indices.specs.Bytes.{is_lead, is_lead_of_four, char_weights, pair_weights, unit_weights}
 use Rattle.str_indices.specs.Encodings.{encode_two, encode_three, encode_four, len_two, len_three, len_four}
 use Rattle.str_indices.specs.Weights.{map_len}
-use Rattle.str_indices.specs.Counts.{CountsFirstBytes, at_first_bytes, first_block}
+use Rattle.str_indices.specs.FirstAndLastBytes.{CountsFirstBytes, at_first_bytes, first_block}
 
 -- f is w of the character at its first byte, and 0 at the others
 record CountsFirst (f : ℕ → ℕ) (w : ℕ → ℕ) : Type 0 where

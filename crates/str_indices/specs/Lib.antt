@@ -1,11 +1,10 @@
 pub mod Text
 pub mod FirstBreak
 pub mod Bytes
-pub mod Counts
+pub mod FirstAndLastBytes
 pub mod Weights
 pub mod Encodings
 pub mod LeadBytes
 pub mod BreakBytes
 pub mod Lanes
 pub mod Laws
-pub mod Examples

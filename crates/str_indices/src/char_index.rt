@@ -6,9 +6,8 @@ ghost use Rattle.str_indices.specs.Text.{ends_from, starts_from, ends_up_to};
 
 use crate::byte_chunk::ByteChunk;
 use crate::measure::CharMeasure;
-use crate::steps::Steps;
 use crate::{scan, uncounted};
-use std::sync::ledger::Ledger;
+use counters::Counter;
 
 pub(crate) fn count<M: CharMeasure>(text: &str) -> usize
     ensures { result ≡ length (ends_from M.count 0 (chars text.now)) }
@@ -30,28 +29,28 @@ pub(crate) fn to_byte_idx<M: CharMeasure>(text: &str, idx: usize) -> usize
     uncounted::find_past::<M>(text.as_bytes(), idx)
 }
 
-pub(crate) fn count_impl<M: CharMeasure, C: ByteChunk, L: Ledger>(
+pub(crate) fn count_impl<M: CharMeasure, C: ByteChunk>(
     text: &str,
     leading: usize,
-    steps: &mut Steps<L>,
+    turns: &mut Counter,
 ) -> usize
     ensures count { result ≡ length (ends_from M.count 0 (chars text.now)) }
-    ensures one_by_one { steps.old + min leading (length text.now) ≤ steps.new }
-    ensures turns { steps.new ≤ steps.old + min leading (length text.now) + C.SIZE + 4 }
+    ensures one_by_one { turns.old + min leading (length text.now) ≤ turns.new }
+    ensures turns { turns.new ≤ turns.old + min leading (length text.now) + C.SIZE + 4 }
 {
-    scan::count_before::<M, C, L>(text.as_bytes(), text.len(), leading, steps)
+    scan::count_before::<M, C>(text.as_bytes(), text.len(), leading, turns)
 }
 
-pub(crate) fn to_byte_idx_impl<M: CharMeasure, C: ByteChunk, L: Ledger>(
+pub(crate) fn to_byte_idx_impl<M: CharMeasure, C: ByteChunk>(
     text: &str,
     idx: usize,
     leading: usize,
-    steps: &mut Steps<L>,
+    turns: &mut Counter,
 ) -> usize
     ensures place { result ≡ slice_index_or (starts_from M.count 0 (chars text.now)) idx
         (length text.now) }
-    ensures one_by_one { steps.old + min leading result ≤ steps.new }
-    ensures turns { steps.new ≤ steps.old + min leading (length text.now) + C.SIZE + 4 }
+    ensures one_by_one { turns.old + min leading result ≤ turns.new }
+    ensures turns { turns.new ≤ turns.old + min leading (length text.now) + C.SIZE + 4 }
 {
-    scan::find_past::<M, C, L>(text.as_bytes(), idx, leading, steps)
+    scan::find_past::<M, C>(text.as_bytes(), idx, leading, turns)
 }

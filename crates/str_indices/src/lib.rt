@@ -14,8 +14,5 @@ pub mod lines_crlf;
 pub mod lines_lf;
 mod measure;
 mod scan;
-pub mod steps;
-#[cfg(test)]
-mod tests;
 mod uncounted;
 pub mod utf16;

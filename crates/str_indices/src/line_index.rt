@@ -9,10 +9,9 @@ ghost use Rattle.str_indices.specs.FirstBreak.{IsFirstBreak};
 use crate::breaks::ends_cr_lf;
 use crate::byte_chunk::ByteChunk;
 use crate::measure::BreakMeasure;
-use crate::steps::Steps;
 use crate::{scan, uncounted};
+use counters::Counter;
 use std::ops::Range;
-use std::sync::ledger::Ledger;
 
 pub(crate) fn count_breaks<M: BreakMeasure>(text: &str) -> usize
     ensures { result ≡ breaks M.is_break (chars text.now) }
@@ -62,32 +61,32 @@ pub(crate) fn first_break<M: BreakMeasure>(text: &str) -> Option<Range<usize>>
     Some(start..last + 1)
 }
 
-pub(crate) fn count_breaks_impl<M: BreakMeasure, C: ByteChunk, L: Ledger>(
+pub(crate) fn count_breaks_impl<M: BreakMeasure, C: ByteChunk>(
     text: &str,
     leading: usize,
-    steps: &mut Steps<L>,
+    turns: &mut Counter,
 ) -> usize
     ensures count { result ≡ breaks M.is_break (chars text.now) }
-    ensures one_by_one { steps.old + min leading (length text.now) ≤ steps.new }
-    ensures turns { steps.new ≤ steps.old + min leading (length text.now) + C.SIZE + 4 }
+    ensures one_by_one { turns.old + min leading (length text.now) ≤ turns.new }
+    ensures turns { turns.new ≤ turns.old + min leading (length text.now) + C.SIZE + 4 }
 {
-    scan::count_before::<M, C, L>(text.as_bytes(), text.len(), leading, steps)
+    scan::count_before::<M, C>(text.as_bytes(), text.len(), leading, turns)
 }
 
-pub(crate) fn to_byte_idx_impl<M: BreakMeasure, C: ByteChunk, L: Ledger>(
+pub(crate) fn to_byte_idx_impl<M: BreakMeasure, C: ByteChunk>(
     text: &str,
     line_idx: usize,
     leading: usize,
-    steps: &mut Steps<L>,
+    turns: &mut Counter,
 ) -> usize
     ensures place { result ≡ end_place (break_ends M.is_break (chars text.now)) line_idx
         (length text.now) }
-    ensures one_by_one { steps.old + min leading result ≤ steps.new }
-    ensures turns { steps.new ≤ steps.old + min leading (length text.now) + C.SIZE + 4 }
+    ensures one_by_one { turns.old + min leading result ≤ turns.new }
+    ensures turns { turns.new ≤ turns.old + min leading (length text.now) + C.SIZE + 4 }
 {
     if line_idx == 0 {
         return 0;
     }
-    let last = scan::find_past::<M, C, L>(text.as_bytes(), line_idx - 1, leading, steps);
+    let last = scan::find_past::<M, C>(text.as_bytes(), line_idx - 1, leading, turns);
     if last < text.len() { last + 1 } else { last }
 }

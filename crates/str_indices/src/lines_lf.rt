@@ -1,5 +1,8 @@
 //! Lines by LF alone, as the Rust crate `str_indices` counts them. A CR before an LF is part of the
 //! line.
+//!
+//! Each call takes `O(n)` for a text of n bytes, by 16 bytes at a time, and no memory. Every index has
+//! an answer.
 
 ghost use Rattle.std.specs.Prelude.{◌≡◌, ◌+◌, ◌≤◌, ◌↔◌, min, length, IsNone, IfSome};
 ghost use Rattle.std.specs.Str.{chars};
@@ -9,11 +12,10 @@ ghost use Rattle.str_indices.specs.FirstBreak.{IsFirstBreak};
 use crate::breaks::LfBreaks;
 use crate::byte_chunk::ByteChunk;
 use crate::line_index;
-use crate::steps::Steps;
+use counters::Counter;
 use std::ops::Range;
-use std::sync::ledger::Ledger;
 
-/// How many line breaks a text has: one less than its lines.
+/// How many line breaks a text has: one less than its lines. `O(n)`.
 pub fn count_breaks(text: &str) -> usize
     ensures { result ≡ breaks is_lf_break (chars text.now) }
 {
@@ -21,7 +23,7 @@ pub fn count_breaks(text: &str) -> usize
 }
 
 /// The line, counted from 0, in which a byte index lies: the number of breaks that end at or before
-/// it.
+/// it. `O(byte_idx)`.
 ///
 /// An index past the text's length acts as the length.
 pub fn from_byte_idx(text: &str, byte_idx: usize) -> usize
@@ -31,7 +33,7 @@ pub fn from_byte_idx(text: &str, byte_idx: usize) -> usize
 }
 
 /// The byte index at which a line starts, lines counted from 0, and the text's length for a line
-/// past the last.
+/// past the last. `O(n)`, up to that line.
 pub fn to_byte_idx(text: &str, line_idx: usize) -> usize
     ensures { result ≡ end_place (break_ends is_lf_break (chars text.now)) line_idx
         (length text.now) }
@@ -39,8 +41,11 @@ pub fn to_byte_idx(text: &str, line_idx: usize) -> usize
     line_index::to_byte_idx::<LfBreaks>(text, line_idx)
 }
 
-/// The bytes of the first break, from the end of the first line to the start of the second; `None`
-/// exactly where there is no break. This call is this crate's own.
+/// The bytes of the first break: from where the first line's text ends to where the second line
+/// starts. `None` exactly where there is no break. `O(n)`, up to that break.
+///
+/// Both ends are character boundaries, so a caller may cut the text there. The breaks of what follows
+/// are the other breaks of the text (`laws::breaks_behind_the_first`). This call is this crate's own.
 pub fn first_break(text: &str) -> Option<Range<usize>>
     ensures none { IsNone result ↔ (breaks is_lf_break (chars text.now) ≡ 0) }
     ensures first { IfSome result (λ at. IsFirstBreak is_lf_break text.now at.start at.end) }
@@ -48,32 +53,28 @@ pub fn first_break(text: &str) -> Option<Range<usize>>
     line_index::first_break::<LfBreaks>(text)
 }
 
-/// `count_breaks` by chunks of any type, with at least the first `leading` bytes one by one. A step
-/// is a turn of a loop that looks at one byte.
-pub fn count_breaks_impl<C: ByteChunk, L: Ledger>(
-    text: &str,
-    leading: usize,
-    steps: &mut Steps<L>,
-) -> usize
+/// `count_breaks` by chunks of any type, with at least the first `leading` bytes one by one. `turns`
+/// counts the turns of loops that look at one byte.
+pub fn count_breaks_impl<C: ByteChunk>(text: &str, leading: usize, turns: &mut Counter) -> usize
     ensures count { result ≡ breaks is_lf_break (chars text.now) }
-    ensures one_by_one { steps.old + min leading (length text.now) ≤ steps.new }
-    ensures turns { steps.new ≤ steps.old + min leading (length text.now) + C.SIZE + 4 }
+    ensures one_by_one { turns.old + min leading (length text.now) ≤ turns.new }
+    ensures turns { turns.new ≤ turns.old + min leading (length text.now) + C.SIZE + 4 }
 {
-    line_index::count_breaks_impl::<LfBreaks, C, L>(text, leading, steps)
+    line_index::count_breaks_impl::<LfBreaks, C>(text, leading, turns)
 }
 
-/// `to_byte_idx` by chunks of any type, with at least the first `leading` bytes one by one. A step
-/// is a turn of a loop that looks at one byte.
-pub fn to_byte_idx_impl<C: ByteChunk, L: Ledger>(
+/// `to_byte_idx` by chunks of any type, with at least the first `leading` bytes one by one. `turns`
+/// counts the turns of loops that look at one byte.
+pub fn to_byte_idx_impl<C: ByteChunk>(
     text: &str,
     line_idx: usize,
     leading: usize,
-    steps: &mut Steps<L>,
+    turns: &mut Counter,
 ) -> usize
     ensures place { result ≡ end_place (break_ends is_lf_break (chars text.now)) line_idx
         (length text.now) }
-    ensures one_by_one { steps.old + min leading result ≤ steps.new }
-    ensures turns { steps.new ≤ steps.old + min leading (length text.now) + C.SIZE + 4 }
+    ensures one_by_one { turns.old + min leading result ≤ turns.new }
+    ensures turns { turns.new ≤ turns.old + min leading (length text.now) + C.SIZE + 4 }
 {
-    line_index::to_byte_idx_impl::<LfBreaks, C, L>(text, line_idx, leading, steps)
+    line_index::to_byte_idx_impl::<LfBreaks, C>(text, line_idx, leading, turns)
 }

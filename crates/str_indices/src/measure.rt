@@ -2,7 +2,7 @@
 
 ghost use Rattle.std.specs.Prelude.{◌≡◌, ℕ, Bool, ◌+◌, ◌*◌, ◌<◌, ◌≤◌, if◌then◌else◌, true, List, length, take, sum, slice_index};
 ghost use Rattle.str_indices.specs.Text.{ends_break};
-ghost use Rattle.str_indices.specs.Counts.{CountsFirstBytes, CountsLastBytes};
+ghost use Rattle.str_indices.specs.FirstAndLastBytes.{CountsFirstBytes, CountsLastBytes};
 ghost use Rattle.str_indices.specs.Lanes.{HasLanes};
 
 use crate::byte_chunk::ByteChunk;

@@ -6,28 +6,22 @@ ghost use Rattle.str_indices.specs.Bytes.{IsFirstPast};
 
 use crate::byte_chunk::ByteChunk;
 use crate::measure::Measure;
-use crate::steps::Steps;
-use std::sync::ledger::Ledger;
+use counters::Counter;
 
 /// How many chunks are summed at a time where a search may have to go back to the first of them.
 const SEARCH_ROUND: usize = 16;
 
 /// What the bytes from `from` to `end` count, one by one.
-fn count_bytes<M: Measure, L: Ledger>(
-    bytes: &[u8],
-    from: usize,
-    end: usize,
-    steps: &mut Steps<L>,
-) -> usize
+fn count_bytes<M: Measure>(bytes: &[u8], from: usize, end: usize, turns: &mut Counter) -> usize
     requires order { from ≤ end }
     requires within { end ≤ length bytes.now }
     ensures count { sum (take from (M.weights bytes.now)) + result
         ≡ sum (take end (M.weights bytes.now)) }
-    ensures turns { steps.new ≡ steps.old + (end - from) }
+    ensures turns { turns.new ≡ turns.old + (end - from) }
 {
     let mut count = 0;
     for at in from..end {
-        steps.tick();
+        turns.add();
         count += M::weight(bytes, at) as usize;
     }
     count
@@ -89,35 +83,35 @@ fn count_chunks<M: Measure, C: ByteChunk>(bytes: &[u8], from: usize, end: usize)
 
 /// What the bytes before `end` count, with at least the first `leading` of them one by one.
 #[inline(always)]
-pub(crate) fn count_before<M: Measure, C: ByteChunk, L: Ledger>(
+pub(crate) fn count_before<M: Measure, C: ByteChunk>(
     bytes: &[u8],
     end: usize,
     leading: usize,
-    steps: &mut Steps<L>,
+    turns: &mut Counter,
 ) -> usize
     requires { end ≤ length bytes.now }
     ensures count { result ≡ sum (take end (M.weights bytes.now)) }
-    ensures one_by_one { steps.old + min leading end ≤ steps.new }
-    ensures turns { steps.new ≤ steps.old + min leading end + C.SIZE + 4 }
+    ensures one_by_one { turns.old + min leading end ≤ turns.new }
+    ensures turns { turns.new ≤ turns.old + min leading end + C.SIZE + 4 }
 {
     let first = leading.max(2).min(end);
-    let head = count_bytes::<M, L>(bytes, 0, first, steps);
+    let head = count_bytes::<M>(bytes, 0, first, turns);
     let (middle, at) = count_chunks::<M, C>(bytes, first, end);
     // Of what is left, less than a chunk, eight bytes may still go at once.
     let (small, at) = count_chunks::<M, usize>(bytes, at, end);
-    let tail = count_bytes::<M, L>(bytes, at, end, steps);
+    let tail = count_bytes::<M>(bytes, at, end, turns);
     head + middle + small + tail
 }
 
 /// Goes on from `from`, before which the bytes count `count`, to the first byte with which they
 /// count more than `k`, or to `end`.
-fn skip_bytes<M: Measure, L: Ledger>(
+fn skip_bytes<M: Measure>(
     bytes: &[u8],
     k: usize,
     count: usize,
     from: usize,
     end: usize,
-    steps: &mut Steps<L>,
+    turns: &mut Counter,
 ) -> (usize, usize)
     requires order { from ≤ end }
     requires within { end ≤ length bytes.now }
@@ -128,11 +122,11 @@ fn skip_bytes<M: Measure, L: Ledger>(
     ensures low { from ≤ result.1 }
     ensures high { result.1 ≤ end }
     ensures passed { result.1 < end → k < sum (take (result.1 + 1) (M.weights bytes.now)) }
-    ensures turns { steps.new ≡ steps.old + min (result.1 + 1 - from) (end - from) }
+    ensures turns { turns.new ≡ turns.old + min (result.1 + 1 - from) (end - from) }
 {
     let mut count = count;
     for at in from..end {
-        steps.tick();
+        turns.add();
         let next = count + M::weight(bytes, at) as usize;
         if next > k {
             return (count, at);
@@ -182,25 +176,25 @@ fn skip_chunks<M: Measure, C: ByteChunk>(
 /// The first byte with which the bytes count more than `k`, or the length, with at least the first
 /// `leading` bytes one by one.
 #[inline(always)]
-pub(crate) fn find_past<M: Measure, C: ByteChunk, L: Ledger>(
+pub(crate) fn find_past<M: Measure, C: ByteChunk>(
     bytes: &[u8],
     k: usize,
     leading: usize,
-    steps: &mut Steps<L>,
+    turns: &mut Counter,
 ) -> usize
     ensures place { IsFirstPast (M.weights bytes.now) k result }
     ensures within { result ≤ length bytes.now }
-    ensures one_by_one { steps.old + min leading (min (result + 1) (length bytes.now)) ≤ steps.new }
-    ensures turns { steps.new ≤ steps.old + min leading (length bytes.now) + C.SIZE + 4 }
+    ensures one_by_one { turns.old + min leading (min (result + 1) (length bytes.now)) ≤ turns.new }
+    ensures turns { turns.new ≤ turns.old + min leading (length bytes.now) + C.SIZE + 4 }
 {
     let end = bytes.len();
     let first = leading.max(2).min(end);
-    let (count, at) = skip_bytes::<M, L>(bytes, k, 0, 0, first, steps);
+    let (count, at) = skip_bytes::<M>(bytes, k, 0, 0, first, turns);
     if at < first {
         return at;
     }
     let (count, at) = skip_chunks::<M, C>(bytes, k, count, at, SEARCH_ROUND.min(C::MAX_ACC / 2));
     let (count, at) = skip_chunks::<M, C>(bytes, k, count, at, 1);
-    let (_, at) = skip_bytes::<M, L>(bytes, k, count, at, end, steps);
+    let (_, at) = skip_bytes::<M>(bytes, k, count, at, end, turns);
     at
 }

@@ -7,9 +7,9 @@ use Rattle.rope_search.proofs.runs.run_turns.Goals as goal
 
 pub loop-session-init : goal.loop-session-init
 loop-session-init g c = (
-  c.new-behind.ensures,
+  c.new-write_buffer.ensures,
   ap (λ (s : LimitedSession). s.limit) c.in-Ok.ensures.ok,
-  rw (c.in-Ok.ensures.ok, c.new-ahead.ensures) (SoFar-none _ _),
+  rw (c.in-Ok.ensures.ok, c.new-read_buffer.ensures) (SoFar-none _ _),
 )
 
 pub returns-in_err-turn : goal.returns-in_err-turn

@@ -1,6 +1,6 @@
 use Rattle.std.proofs.Common.{◌≡◌, decimal}
 use Rattle.std.proofs.lemmas.Result.{err_from_is_err_and}
-use Rattle.str_indices.specs.Laws.{byte_len}
+use Rattle.str_indices.specs.Text.{byte_len}
 use Rattle.ropey.specs.Chunks.{text_of}
 use Rattle.rope_search_reports.specs.Text.{bytes_of}
 use Rattle.rope_search.proofs.PrintLemmas.{Writes-text, WritesUntil-text, WritesUntil-head, shown}

@@ -1,6 +1,6 @@
 use Rattle.std.proofs.Common.{◌≡◌, ◌+◌, ◌≤◌, ◌⊎◌, vec_len}
 use Rattle.ropey_tree.specs.Nodes.{all_pieces, AreNodes}
-use Rattle.ropey_tree.specs.Rows.{views}
+use Rattle.ropey_tree.specs.Siblings.{views}
 use Rattle.ropey_tree.proofs.builds.build.Given as goal
 
 abbrev pub invariant-loop-alloc : goal.invariant-loop-alloc

@@ -1,6 +1,6 @@
 use Rattle.std.proofs.Common.{◌≡◌, ◌+◌, ◌<◌, ◌≤◌, ◌⊎◌, inl, inr, ◌∷◌, [], length, take, ap, sym, ◌∙◌, arith, length-append, length-take-le}
 use Rattle.std.proofs.lemmas.List.{map-append, length-map}
-use Rattle.ropey_tree.specs.Rows.{views}
+use Rattle.ropey_tree.specs.Siblings.{views}
 use Rattle.ropey_tree.proofs.Levels.{level_step}
 use Rattle.ropey_tree.proofs.Packing.{part_inner}
 use Rattle.ropey_tree.proofs.builds.level.Goals as goal

@@ -1,5 +1,5 @@
 use Rattle.std.proofs.Common.{◌-◌, length}
-use Rattle.ropey_tree.specs.Rows.{views}
+use Rattle.ropey_tree.specs.Siblings.{views}
 use Rattle.ropey_tree.proofs.Levels.{IsLevelSoFar}
 use Rattle.ropey_tree.proofs.builds.level.Given as goal
 

@@ -1,6 +1,6 @@
 use Rattle.std.proofs.Common.{arith, ◌<◌}
-use Rattle.ropey_tree.specs.Rows.{nodes_of}
-use Rattle.ropey_tree.proofs.Joining.{left_text, left_falls, left_row, left_joined, right_text, right_falls, right_row, right_joined}
+use Rattle.ropey_tree.specs.Siblings.{nodes_of}
+use Rattle.ropey_tree.proofs.Joining.{left_text, left_falls, left_siblings, left_joined, right_text, right_falls, right_siblings, right_joined}
 use Rattle.ropey_tree.proofs.joins.+join.Goals as goal
 
 pub join-requires : goal.join-requires
@@ -24,7 +24,7 @@ pack-requires-clause-nodes t c =
     let is = rw c.len.ensures.value at c.get.ensures in
     let lower = rw (c.height-l.ensures.value, c.height-r.ensures.value, c.deref.ensures, c.deref-2.ensures) at c.if-l-r-2.true in
     rw (c.height-l.ensures.value, c.deref.ensures)
-    (left_row l r c.requires c.in-Inner.front.now c.get.result.now.value l_is inner is lower c.in_ok-last.last (omega (arith, c.len.ensures.value, c.len.ensures.fits)) c.in_ok-last.ensures)
+    (left_siblings l r c.requires c.in-Inner.front.now c.get.result.now.value l_is inner is lower c.in_ok-last.last (omega (arith, c.len.ensures.value, c.len.ensures.fits)) c.in_ok-last.ensures)
 
 pub returns-in_ok-joined-2 : goal.returns-in_ok-joined-2
 returns-in_ok-joined-2 t c =
@@ -56,7 +56,7 @@ pack-requires-else-l-r-2-clause-nodes t c =
     let heights : c.height-l.result < c.height-r.result = omega (arith, c.if-l-r.false, c.if-l-r-2.false) in
     let lower = rw (c.height-l.ensures.value, c.height-r.ensures.value, c.deref.ensures, c.deref-2.ensures) at heights in
     rw (c.height-r.ensures.value, c.deref-2.ensures)
-    (right_row l r c.requires c.in-Inner-parts.back.now c.get-else-l-r-2.result.now.value r_is inner c.get-else-l-r-2.ensures lower c.in_ok-first.first (omega (arith, c.len-else-l-r-2.ensures.value, c.len-else-l-r-2.ensures.fits)) c.in_ok-first.ensures)
+    (right_siblings l r c.requires c.in-Inner-parts.back.now c.get-else-l-r-2.result.now.value r_is inner c.get-else-l-r-2.ensures lower c.in_ok-first.first (omega (arith, c.len-else-l-r-2.ensures.value, c.len-else-l-r-2.ensures.fits)) c.in_ok-first.ensures)
 
 pub returns-in_ok-joined-3 : goal.returns-in_ok-joined-3
 returns-in_ok-joined-3 t c =

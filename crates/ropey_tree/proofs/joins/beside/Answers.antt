@@ -1,6 +1,6 @@
 use Rattle.std.proofs.Common.{arith}
-use Rattle.ropey_tree.specs.Rows.{nodes_of}
-use Rattle.ropey_tree.proofs.Joining.{leaves_joined, beside_row, beside_joined}
+use Rattle.ropey_tree.specs.Siblings.{nodes_of}
+use Rattle.ropey_tree.proofs.Joining.{leaves_joined, beside_siblings, beside_joined}
 use Rattle.ropey_tree.proofs.joins.beside.Goals as goal
 
 pub pack-requires-clause-nodes : goal.pack-requires-clause-nodes
@@ -10,7 +10,7 @@ pack-requires-clause-nodes c =
     let r_is = rw c.deref-in-Inner.ensures at c.in-Inner-parts-2.ensures.0 in
     let back = rw c.deref-in-Inner.ensures at c.in-Inner-parts-2.ensures.1 in
     rw (c.height.ensures.value, c.deref-in-Inner-2.ensures)
-    (beside_row c.args.left.now.value c.args.right.now.value c.requires.text c.in-Inner.front.now c.in-Inner-parts-2.back.now l_is front r_is back c.requires.level
+    (beside_siblings c.args.left.now.value c.args.right.now.value c.requires.text c.in-Inner.front.now c.in-Inner-parts-2.back.now l_is front r_is back c.requires.level
     (omega (arith, c.len.ensures.value, c.len.ensures.fits)) (omega (arith, c.len-in-Inner.ensures.value, c.len-in-Inner.ensures.fits)))
 
 pub returns-in_ok-joined-in-Inner : goal.returns-in_ok-joined-in-Inner

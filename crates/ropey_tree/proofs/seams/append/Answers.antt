@@ -1,8 +1,7 @@
 use Rattle.std.proofs.Common.{◌≡◌, false, ap, sym, ◌∙◌}
 use Rattle.std.specs.List.{concat}
 use Rattle.std.proofs.lemmas.List.Folds.{concat-append}
-use Rattle.str_indices.specs.Text.{starts_with_lf}
-use Rattle.str_indices.specs.Laws.{ends_with_cr}
+use Rattle.str_indices.specs.Text.{starts_with_lf, ends_with_cr}
 use Rattle.ropey_tree.specs.Cutting.{cuts_cr_lf}
 use Rattle.ropey_tree.proofs.Ends.{and_false}
 use Rattle.ropey_tree.proofs.OverSeams.{false_and, text-append}

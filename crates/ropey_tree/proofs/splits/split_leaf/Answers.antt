@@ -1,6 +1,6 @@
 use Rattle.std.proofs.Common.{◌≡◌, ◌≤◌, ◌∷◌, [], ap, ◌∙◌, arith, subst, ℕ, ◌++◌}
 use Rattle.std.specs.Str.{chars}
-use Rattle.str_indices.specs.Laws.{byte_len}
+use Rattle.str_indices.specs.Text.{byte_len}
 use Rattle.ropey_tree.specs.Splits.{IsSplit}
 use Rattle.ropey_tree.proofs.Splitting.{leaf_parts, piece_split, split_start, slice_front}
 use Rattle.ropey_tree.proofs.splits.split_leaf.Goals as goal

@@ -1,6 +1,6 @@
 use Rattle.std.proofs.Common.{◌≤◌, length, sym, arith}
 use Rattle.std.proofs.lemmas.Bool.{eqb-true}
-use Rattle.rx_grammar.proofs.TextLemmas.{Begins-from}
+use Rattle.rx_grammar.proofs.InputLemmas.{Begins-from}
 use Rattle.rx_grammar.proofs.ReaderLemmas.{braces_read}
 use Rattle.rx_grammar.proofs.escapes.number_in_braces.Goals.{then-is_empty-via-then-is_empty, then-is_empty-via-else-is_empty+then-digits-gt8}
 use Rattle.rx_grammar.proofs.escapes.number_in_braces.Goals as goal

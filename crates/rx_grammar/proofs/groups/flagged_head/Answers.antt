@@ -1,7 +1,7 @@
 use Rattle.std.proofs.Common.{subst, ⊎_elim}
-use Rattle.rx_grammar.specs.Texts.{Begins}
+use Rattle.rx_grammar.specs.Input.{Begins}
 use Rattle.rx_grammar.specs.Heads.{FlagsChange}
-use Rattle.rx_grammar.proofs.TextLemmas.{Begins-from}
+use Rattle.rx_grammar.proofs.InputLemmas.{Begins-from}
 use Rattle.rx_grammar.proofs.GroupLaws.{flags_unique}
 use Rattle.rx_grammar.proofs.HeadLaws.{no_flagged_head, setting_head, changing_head}
 use Rattle.rx_grammar.proofs.groups.flagged_head.Goals as goal

@@ -3,8 +3,8 @@ use Rattle.std.proofs.lemmas.Str.{chars_from_encodes}
 use Rattle.rx_grammar.specs.Postorder.{tree_of}
 use Rattle.rx_grammar.specs.Grammar.{Spells, SpellsNothing}
 use Rattle.rx_grammar.specs.Stacks.{IsRefusal}
-use Rattle.rx_grammar.proofs.ReaderLemmas.{IfOk-map}
-use Rattle.rx_grammar.proofs.StandingLaws.{result_map}
+use Rattle.rx_sets.proofs.SetLemmas.{IfOk-map}
+use Rattle.rx_grammar.proofs.PlaceLaws.{result_map}
 use Rattle.rx_grammar.proofs.patterns.parse.Goals as goal
 
 pub returns-clause-spells : goal.returns-clause-spells

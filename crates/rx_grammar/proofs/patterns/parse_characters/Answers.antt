@@ -1,9 +1,9 @@
 use Rattle.std.proofs.Common.{◌≢◌, ◌≤◌, AllPairs, sym, ap, subst, ◌∙◌, arith}
 use Rattle.std.proofs.lemmas.Result.{err_from_is_err_and}
 use Rattle.rx_grammar.specs.Postorder.{tree_of, names_in}
-use Rattle.rx_grammar.specs.Standing.{start_of}
+use Rattle.rx_grammar.specs.Places.{start_of}
 use Rattle.rx_grammar.proofs.NameLaws.{names_in-tree}
-use Rattle.rx_grammar.proofs.StandingLaws.{refusal_map}
+use Rattle.rx_grammar.proofs.PlaceLaws.{refusal_map}
 use Rattle.rx_grammar.proofs.PatternLaws.{NoEnds-before, spells_nothing, spells_by, names_stand_twice}
 use Rattle.rx_grammar.proofs.patterns.parse_characters.Goals as goal
 

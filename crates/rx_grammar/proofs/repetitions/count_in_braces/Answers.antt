@@ -1,5 +1,5 @@
 use Rattle.std.proofs.Common.{◌≤◌, subst, arith}
-use Rattle.rx_grammar.specs.Texts.{Begins}
+use Rattle.rx_grammar.specs.Input.{Begins}
 use Rattle.rx_grammar.specs.Repetitions.{exactly, at_least, between}
 use Rattle.rx_grammar.proofs.RepetitionLaws.{number_unique, no_count, no_end, second_number}
 use Rattle.rx_grammar.proofs.repetitions.count_in_braces.Goals as goal

@@ -5,5 +5,5 @@ abbrev pub invariant-loop-at : goal.invariant-loop-at
 invariant-loop-at g l = record {
   counted : l.count ≡ sum (take l.at (g.M.Measure.weights l.bytes));
   below : l.count ≤ l.k;
-  turns : l.steps ≡ l.initial.steps + (l.at - l.from);
+  turns : l.turns ≡ l.initial.turns + (l.at - l.from);
 }

@@ -1,6 +1,6 @@
 use Rattle.std.proofs.Common.{◌≡◌, ◌<◌, ◌≤◌, Some, IsUtf8, length, sym, ap, ◌∙◌, subst, arith}
 use Rattle.std.specs.Str.{chars}
-use Rattle.rope_search.specs.Session.{with_pattern}
+use Rattle.rope_search.specs.Session.{with_pattern, limit_in}
 use Rattle.rope_search_reports.specs.Pattern.{IsPattern, pattern_limit}
 use Rattle.rope_search.proofs.PatternLemmas.{known_pattern}
 use Rattle.rope_search.proofs.SessionLemmas.{Step-take_pattern}
@@ -18,6 +18,6 @@ returns-in_ok-set_pattern-in-Ok-clause-step c = λ bytes stands.
     let short : length c.in-Ok.pattern.now ≤ pattern_limit = omega arith in
     let is : IsPattern (chars c.in-Ok.pattern.now) = known_pattern (chars c.in-Ok.pattern.now) (λ is_not. absurd (let bad = told.no_pattern.1 (short, is_not) in cc)) in
     let pattern : c.set_pattern.new.self.state ≡ with_pattern old.state (Some (chars bytes)) = told.ok ∙ ap (λ t. with_pattern old.state (Some (chars t))) same in
-    Step-take_pattern inside.buffers.items inside.chosen inside.limits.text old c.set_pattern.new.self bytes c.args.self.now
+    Step-take_pattern inside.buffers.items inside.chosen (limit_in inside.buffers.items inside.chosen) old c.set_pattern.new.self bytes c.args.self.now
     (record { inside = omega (arith, inside.buffers.ok.0); is = c.index_mut.ensures.value; all = c.self.invariant.1; seen = c.self.view_is })
     utf8 (omega (arith, ap length same)) (subst (λ bs. IsPattern (chars bs)) same is) pattern

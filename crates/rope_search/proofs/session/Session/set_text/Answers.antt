@@ -1,7 +1,7 @@
 use Rattle.std.proofs.Common.{◌≡◌, ◌+◌, ◌<◌, ◌≤◌, IsUtf8, length, sym, ap, ◌∙◌, subst, arith}
 use Rattle.std.specs.Str.{chars}
 use Rattle.rope_search_reports.specs.Ticks.{Ticks}
-use Rattle.rope_search.specs.Session.{with_text}
+use Rattle.rope_search.specs.Session.{with_text, limit_in}
 use Rattle.rope_search.specs.Cost.{rows_anew}
 use Rattle.rope_search.proofs.SessionLemmas.{Step-take_text, rows_taken}
 use Rattle.rope_search.proofs.session.Session.set_text.Goals as goal
@@ -16,7 +16,7 @@ returns-in_ok-set_text-in-Ok-clause-step c = λ bytes stands.
     let told = c.in_ok-set_text-in-Ok.ensures in
     let fits : old.limit < length c.in-Ok.text.now → ⊥ = λ long. absurd (let size = told.size.1 long in cc) in
     let text : c.set_text.new.self.state ≡ with_text old.state (chars bytes) = told.ok ∙ ap (λ t. with_text old.state (chars t)) same in
-    Step-take_text inside.buffers.items inside.chosen inside.limits.text old c.set_text.new.self bytes c.args.self.now
+    Step-take_text inside.buffers.items inside.chosen (limit_in inside.buffers.items inside.chosen) old c.set_text.new.self bytes c.args.self.now
     (record { inside = omega (arith, inside.buffers.ok.0); is = c.index_mut.ensures.value; all = c.self.invariant.1; seen = c.self.view_is })
     utf8 (omega (arith, ap length same)) text
 
@@ -32,7 +32,7 @@ returns-in_err-set_text-in-Ok-clause-rows c = λ bytes cost stands costs.
     λ over. omega (arith, ap (λ (t : Ticks). t.count) (told.refused (told.size.1 (omega (arith, over, ap length same))))) in
     let rows : c.set_text.new.tick.count ≤ c.args.tick.now.count + rows_anew old.state (chars bytes) =
     omega (arith, told.rows, ap (λ t. rows_anew old.state (chars t)) same) in
-    rows_taken inside.buffers.items inside.chosen inside.limits.text old bytes c.args.self.now c.set_text.new.tick.count c.args.tick.now.count
+    rows_taken inside.buffers.items inside.chosen (limit_in inside.buffers.items inside.chosen) old bytes c.args.self.now c.set_text.new.tick.count c.args.tick.now.count
     (record { inside = omega (arith, inside.buffers.ok.0); is = c.index_mut.ensures.value; all = c.self.invariant.1; seen = c.self.view_is })
     utf8 long rows cost costs
 
@@ -48,6 +48,6 @@ returns-in_ok-set_text-in-Ok-clause-rows c = λ bytes cost stands costs.
     λ over. omega (arith, ap (λ (t : Ticks). t.count) (told.refused (told.size.1 (omega (arith, over, ap length same))))) in
     let rows : c.set_text.new.tick.count ≤ c.args.tick.now.count + rows_anew old.state (chars bytes) =
     omega (arith, told.rows, ap (λ t. rows_anew old.state (chars t)) same) in
-    rows_taken inside.buffers.items inside.chosen inside.limits.text old bytes c.args.self.now c.set_text.new.tick.count c.args.tick.now.count
+    rows_taken inside.buffers.items inside.chosen (limit_in inside.buffers.items inside.chosen) old bytes c.args.self.now c.set_text.new.tick.count c.args.tick.now.count
     (record { inside = omega (arith, inside.buffers.ok.0); is = c.index_mut.ensures.value; all = c.self.invariant.1; seen = c.self.view_is })
     utf8 long rows cost costs

@@ -1,7 +1,7 @@
 use Rattle.std.proofs.Common.{◌≡◌, ◌≢◌, ◌+◌, ℕ, ◌∷◌, length, ap, sym, ◌∙◌, subst, arith}
 use Rattle.std.specs.Str.{chars}
 use Rattle.std.proofs.lemmas.Str.{encodes-chars}
-use Rattle.str_indices.specs.Laws.{byte_len}
+use Rattle.str_indices.specs.Text.{byte_len}
 use Rattle.ropey.specs.Iter.{pieces_from, IsWalk}
 use Rattle.ropey.proofs.Walks.{PassesChunk, passes, none_left}
 use Rattle.ropey.proofs.iter.ChunksIterator.next.Goals as goal

@@ -2,8 +2,8 @@ use Rattle.std.proofs.Common.{◌≡◌, ◌∷◌, [], ◌++◌, ap, sym, ◌�
 use Rattle.std.proofs.lemmas.Grind.{common_steps}
 use Rattle.std.specs.Str.{chars}
 use Rattle.std.proofs.iter.Next.{Yields-more}
-use Rattle.str_indices.specs.Laws.{byte_len}
-use Rattle.ropey_tree.specs.declared.errors.Error.TheVariants.{Size}
+use Rattle.str_indices.specs.Text.{byte_len}
+use Rattle.ropey_tree.specs.declared.error.Error.TheVariants.{Size}
 use Rattle.ropey.specs.Chunks.{joined}
 use Rattle.ropey.proofs.Cuts.{joined-last}
 use Rattle.ropey.proofs.rope.Rope.from_chunks.Goals as goal

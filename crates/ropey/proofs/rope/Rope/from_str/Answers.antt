@@ -1,6 +1,6 @@
 use Rattle.std.proofs.Common.{◌^◌, ◌<◌, length, arith}
 use Rattle.ropey_tree.specs.Nodes.{all_pieces}
-use Rattle.ropey_tree.specs.Rows.{views}
+use Rattle.ropey_tree.specs.Siblings.{views}
 use Rattle.ropey.proofs.Cuts.{fits_in}
 use Rattle.ropey.proofs.rope.Rope.from_str.Goals as goal
 

@@ -1,18 +1,17 @@
 use Rattle.std.proofs.Common.{arith}
 use Rattle.std.specs.Str.{chars}
-use Rattle.str_indices.specs.Text.{is_line_break}
-use Rattle.ropey.specs.Chunks.{text_of}
+use Rattle.ropey.specs.Chunks.{text_of, is_break}
 use Rattle.ropey.proofs.Placing.{tells_lines}
 use Rattle.ropey.proofs.rope.Rope.line_of.Goals as goal
 
 pub overflow_add-result : goal.overflow_add-result
 overflow_add-result c =
     let place = c.args.place.now in
-    let told = tells_lines (c.ends_of_a_part.ensures.lines is_line_break) (c.from_byte_idx_is_monotone.ensures.lines is_line_break) (c.counts_are_at_most_bytes.ensures.lines is_line_break) (text_of c.args.self.now) (chars place.text.now) place.start place.at c.requires in
+    let told = tells_lines (c.ends_of_a_part.ensures.lines is_break) (c.from_byte_idx_is_monotone.ensures.lines is_break) (c.counts_are_at_most_bytes.ensures.lines is_break) (text_of c.args.self.now) (chars place.text.now) place.start place.at c.requires in
     omega (arith, told.fits, c.from_byte_idx.ensures)
 
 pub returns : goal.returns
 returns c =
     let place = c.args.place.now in
-    let told = tells_lines (c.ends_of_a_part.ensures.lines is_line_break) (c.from_byte_idx_is_monotone.ensures.lines is_line_break) (c.counts_are_at_most_bytes.ensures.lines is_line_break) (text_of c.args.self.now) (chars place.text.now) place.start place.at c.requires in
+    let told = tells_lines (c.ends_of_a_part.ensures.lines is_break) (c.from_byte_idx_is_monotone.ensures.lines is_break) (c.counts_are_at_most_bytes.ensures.lines is_break) (text_of c.args.self.now) (chars place.text.now) place.start place.at c.requires in
     rw c.from_byte_idx.ensures told.is

@@ -1,5 +1,5 @@
 use Rattle.std.specs.Str.{chars}
-use Rattle.str_indices.specs.Text.{is_line_break}
+use Rattle.ropey.specs.Chunks.{is_break}
 use Rattle.ropey.proofs.Placing.{line_placed, line_low}
 use Rattle.ropey.proofs.rope.Rope.place_of_line.Goals as goal
 
@@ -13,10 +13,10 @@ pub returns-clause-stands : goal.returns-clause-stands
 returns-clause-stands c =
     let r = c.chunk_of_break-chunk.result in
     let e = c.chunk_of_break-chunk.ensures in
-    rw c.to_byte_idx.ensures (line_placed c.args.self.now r.text.now r.start e.utf8 e.cut (c.places_of_a_part.ensures.lines is_line_break) (c.to_byte_idx_is_a_boundary.ensures.lines is_line_break) c.args.line_idx e.first e.later).stands
+    rw c.to_byte_idx.ensures (line_placed c.args.self.now r.text.now r.start e.utf8 e.cut (c.places_of_a_part.ensures.lines is_break) (c.to_byte_idx_is_a_boundary.ensures.lines is_break) c.args.line_idx e.first e.later).stands
 
 pub returns-clause-place : goal.returns-clause-place
 returns-clause-place c =
     let r = c.chunk_of_break-chunk.result in
     let e = c.chunk_of_break-chunk.ensures in
-    rw c.to_byte_idx.ensures (line_placed c.args.self.now r.text.now r.start e.utf8 e.cut (c.places_of_a_part.ensures.lines is_line_break) (c.to_byte_idx_is_a_boundary.ensures.lines is_line_break) c.args.line_idx e.first e.later).place_is
+    rw c.to_byte_idx.ensures (line_placed c.args.self.now r.text.now r.start e.utf8 e.cut (c.places_of_a_part.ensures.lines is_break) (c.to_byte_idx_is_a_boundary.ensures.lines is_break) c.args.line_idx e.first e.later).place_is

@@ -1,7 +1,7 @@
 use Rattle.std.proofs.Common.{ap, arith}
-use Rattle.str_indices.specs.Laws.{byte_len}
+use Rattle.str_indices.specs.Text.{byte_len}
 use Rattle.ropey_tree.specs.Nodes.{all_pieces}
-use Rattle.ropey_tree.specs.Rows.{views}
+use Rattle.ropey_tree.specs.Siblings.{views}
 use Rattle.ropey.proofs.Cuts.{bytes-concat}
 use Rattle.ropey.proofs.rope_builder.RopeBuilder.finish.Goals as goal
 

@@ -2,8 +2,8 @@ use Rattle.std.proofs.Common.{List, map, length, ap, ◌∙◌, arith}
 use Rattle.std.proofs.lemmas.List.{take_all}
 use Rattle.rx_grammar.specs.declared.hir.Node.{Node}
 use Rattle.rx_grammar.specs.Trees.{numbers_of}
-use Rattle.rx_grammar.specs.Postorder.{Step, tree_of}
-use Rattle.rx_grammar.specs.Nodes.{step_of}
+use Rattle.rx_grammar.specs.Postorder.{NodeKind, tree_of}
+use Rattle.rx_grammar.specs.Nodes.{kind_of}
 use Rattle.rx_grammar.proofs.NumberLaws.{groups_in, groups_in-more, groups_in-tree}
 use Rattle.rx_grammar.proofs.hir.Hir.group_count.Goals as goal
 
@@ -20,5 +20,5 @@ pub returns : goal.returns
 returns c =
     let nodes = c.self.inside.nodes.items in
     let all = take_all c.loop-node.node-index c.deref-node-items.result.now c.loop-node-test.false ∙ c.deref-node-items.ensures.value in
-    c.loop-node.invariant.counted ∙ ap (λ (l : List Node). groups_in (map step_of l)) all ∙ groups_in-tree (map step_of nodes) c.self.invariant
-    ∙ ap (λ (l : List Step). length (numbers_of (tree_of l))) c.self.view_is
+    c.loop-node.invariant.counted ∙ ap (λ (l : List Node). groups_in (map kind_of l)) all ∙ groups_in-tree (map kind_of nodes) c.self.invariant
+    ∙ ap (λ (l : List NodeKind). length (numbers_of (tree_of l))) c.self.view_is

@@ -1,6 +1,6 @@
 use Rattle.std.proofs.Common.{length, sym, ap, ◌∙◌, arith}
 use Rattle.rx_grammar.specs.Resuming.{with_branch}
-use Rattle.rx_grammar.proofs.StandingLaws.{group_within}
+use Rattle.rx_grammar.proofs.PlaceLaws.{group_within}
 use Rattle.rx_grammar.proofs.parser.Parser.end_level.Goals as goal
 
 pub join_branches-requires-clause-counted : goal.join_branches-requires-clause-counted

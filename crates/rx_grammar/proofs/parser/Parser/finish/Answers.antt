@@ -3,7 +3,7 @@ use Rattle.std.proofs.lemmas.Bool.{eqb-true, eqb-false}
 use Rattle.rx_grammar.specs.Postorder.{trees_of, first_of}
 use Rattle.rx_grammar.specs.Nodes.{trees_in}
 use Rattle.rx_grammar.specs.Resuming.{tree_at}
-use Rattle.rx_grammar.proofs.StandingLaws.{no_arounds, some_arounds, nothing_below}
+use Rattle.rx_grammar.proofs.PlaceLaws.{no_arounds, some_arounds, nothing_below}
 use Rattle.rx_grammar.proofs.PatternLaws.{group_open_at_end}
 use Rattle.rx_grammar.proofs.parser.Parser.finish.Goals as goal
 

@@ -1,6 +1,6 @@
 use Rattle.std.proofs.Common.{◌≡◌, ◌∷◌, refl, ap, subst, ◌∙◌}
 use Rattle.rx_grammar.specs.Repetitions.{Postfixes}
-use Rattle.rx_grammar.proofs.StandingLaws.{level_item}
+use Rattle.rx_grammar.proofs.PlaceLaws.{level_item}
 use Rattle.rx_grammar.proofs.parser.Parser.finish_item.Goals as goal
 
 pub returns : goal.returns

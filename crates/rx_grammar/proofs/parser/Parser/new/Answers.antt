@@ -1,6 +1,6 @@
 use Rattle.std.proofs.Common.{[], reverse, refl, sym, ap, subst}
-use Rattle.rx_grammar.specs.Standing.{Surround, outermost}
-use Rattle.rx_grammar.proofs.StandingLaws.{level_none}
+use Rattle.rx_grammar.specs.Places.{Surround, outermost}
+use Rattle.rx_grammar.proofs.PlaceLaws.{level_none}
 use Rattle.rx_grammar.proofs.parser.Parser.new.Goals as goal
 
 pub returns-clause-stands : goal.returns-clause-stands

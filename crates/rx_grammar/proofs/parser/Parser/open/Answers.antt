@@ -2,8 +2,8 @@ use Rattle.std.proofs.Common.{◌+◌, length, reverse, refl, sym, ap, ap₂, su
 use Rattle.std.proofs.lemmas.List.{reverse-append}
 use Rattle.rx_grammar.specs.Heads.{capture_of}
 use Rattle.rx_grammar.specs.Resuming.{no_level}
-use Rattle.rx_grammar.specs.Standing.{IsLevel, Surround, further, opened_at}
-use Rattle.rx_grammar.proofs.StandingLaws.{level_none, opened_by}
+use Rattle.rx_grammar.specs.Places.{IsLevel, Surround, further, opened_at}
+use Rattle.rx_grammar.proofs.PlaceLaws.{level_none, opened_by}
 use Rattle.rx_grammar.proofs.parser.Parser.open.Goals as goal
 
 pub returns-clause-opens : goal.returns-clause-opens

@@ -1,0 +1,80 @@
+-- What the definitions say of a few small lines and sessions, each by computation.
+use Rattle.std.proofs.Common.{◌≡◌, ℕ, List, [], ◌∷◌, true, false, map, codes, refl}
+use Rattle.std.specs.Prelude.{Ok, Err}
+use Rattle.std.specs.Fmt.{digits}
+use Rattle.std.proofs.Math.Utf8.{encode}
+use Rattle.rope_search_io.specs.declared.faults.Fault.TheVariants.{Nothing, Utf8, Pattern, Limit, Size, Memory}
+use Rattle.rope_search.specs.declared.commands.Reply.TheVariants.{Done, Number, List as Listing, Print}
+use Rattle.rope_search.specs.declared.runs.Ended.TheVariants.{Input, Command, Cut}
+use Rattle.rope_search_reports.specs.Pattern.{is_meta}
+use Rattle.rope_search.specs.Session.{State, fresh, first}
+use Rattle.rope_search.specs.Reads.{digits_after}
+use Rattle.rope_search.specs.Shows.{shows, closing}
+
+-- ---- numbers
+
+pub digits_zeros : digits_after 0 (codes "007") ≡ 7
+digits_zeros = refl
+
+pub digits_many : digits_after 0 (codes "18446744073709551615") ≡ 18446744073709551615
+digits_many = refl
+
+-- ---- patterns
+
+-- a dot and a dollar are meta characters, a closing bracket and an LF aren't
+pub meta_some : map is_meta (codes ".$]\n") ≡ true ∷ true ∷ false ∷ false ∷ []
+meta_some = refl
+
+-- ---- what is written
+
+-- a session with one buffer, of this text
+abbrev pub session_of : List ℕ → State
+session_of text = record { buffers = fresh text ∷ []; chosen = 0 }
+
+pub shows_done : shows first [] (Ok Done) ≡ codes "ok\n"
+shows_done = refl
+
+pub shows_number : shows first [] (Ok (Number 12)) ≡ codes "ok 12\n"
+unfolding digits
+shows_number = refl
+
+-- a text is shown after the number of its bytes, and has an LF behind it
+pub shows_print : shows (session_of (codes "hi")) [] (Ok Print) ≡ codes "text 2\nhi\n"
+unfolding digits encode
+shows_print = refl
+
+-- a report of two lines with one match each
+pub shows_list : shows first (((0, 1) ∷ []) ∷ ((0, 1) ∷ []) ∷ []) (Ok Listing) ≡ codes "m 0 0 1\nm 1 0 1\nok 2\n"
+unfolding digits
+shows_list = refl
+
+pub shows_empty : shows first [] (Ok Print) ≡ codes "text 0\n\n"
+unfolding digits
+shows_empty = refl
+
+pub shows_nothing : shows first [] (Err Nothing) ≡ codes "error none\n"
+shows_nothing = refl
+
+pub shows_utf8 : shows first [] (Err Utf8) ≡ codes "error utf8\n"
+shows_utf8 = refl
+
+pub shows_pattern : shows first [] (Err Pattern) ≡ codes "error pattern\n"
+shows_pattern = refl
+
+pub shows_limit : shows first [] (Err Limit) ≡ codes "error limit\n"
+shows_limit = refl
+
+pub shows_size : shows first [] (Err Size) ≡ codes "error size\n"
+shows_size = refl
+
+pub shows_memory : shows first [] (Err Memory) ≡ codes "error memory\n"
+shows_memory = refl
+
+pub closing_input : closing Input ≡ []
+closing_input = refl
+
+pub closing_command : closing Command ≡ codes "error command\n"
+closing_command = refl
+
+pub closing_cut : closing Cut ≡ codes "error end\n"
+closing_cut = refl

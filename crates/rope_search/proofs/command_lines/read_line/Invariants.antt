@@ -1,0 +1,10 @@
+-- The bytes so far are the front of the line, and no LF is among them.
+use Rattle.std.proofs.Common.{◌≡◌, length, take}
+use Rattle.rope_search_io.specs.ReadBuffer.{Takes}
+use Rattle.rope_search.specs.Reads.{HasNoLf}
+use Rattle.rope_search.proofs.command_lines.read_line.Given as goal
+
+abbrev pub invariant-loop-len : goal.invariant-loop-len
+invariant-loop-len g l =
+    (length l.line ≡ 129) × HasNoLf (take l.len l.line)
+    × Takes l.fn.ahead l.ahead (g.R.Source.state l.fn.source) (g.R.Source.state l.source) (take l.len l.line)

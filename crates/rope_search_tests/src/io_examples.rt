@@ -1,0 +1,122 @@
+//! Examples of where bytes come from and where they go, one for each type.
+use rope_search::{
+    Broken, Device, Ended, Failed, Fault, Lines, MemorySink, MemorySource, Sink, Source, run,
+};
+use rope_search_io::{ReadBuffer, Utf8Judge, WriteBuffer, write_all};
+use std::test::Fail;
+
+/// A source over memory gives at most as many bytes in a call as it was told, and fails
+/// at one call.
+#[test]
+fn a_memory_source(rt: HostRuntime) -> Result<(), Fail> {
+    let mut source = MemorySource::new(b"rope", 3, Some(2));
+    let mut buf = [0; 8];
+    assert!(rt; source.read(&mut buf) == Ok(3));
+    assert!(rt; buf.starts_with(b"rop"));
+    // The failed call loses nothing.
+    assert!(rt; source.read(&mut buf) == Err(Failed));
+    assert!(rt; source.read(&mut buf) == Ok(1));
+    assert!(rt; buf.starts_with(b"e"));
+    assert!(rt; source.read(&mut buf) == Ok(0), "the end");
+    Ok(())
+}
+
+/// A sink over memory takes at most as many bytes in a call as it was told, and no more than it has
+/// room for.
+#[test]
+fn a_memory_sink(rt: HostRuntime) -> Result<(), Fail> {
+    let mut sink = MemorySink::new(rt.alloc(), 4, 3, None)?;
+    assert!(rt; sink.write(b"ropes") == Ok(3));
+    assert!(rt; sink.write(b"es") == Ok(1));
+    assert!(rt; sink.write(b"s") == Err(Failed), "its room is full");
+    assert!(rt; sink.flush() == Ok(()));
+    assert!(rt; sink.written() == b"rope".as_slice());
+    Ok(())
+}
+
+/// A device is a source over any reader of std, and a sink over any writer.
+#[test]
+fn a_device(rt: HostRuntime) -> Result<(), Fail> {
+    let mut written = Vec::new(rt.alloc());
+    assert!(rt; write_all(&mut Device::new(&mut written), b"rope") == Ok(()));
+    let mut reader = Device::new(written.as_slice());
+    let mut buf = [0; 8];
+    assert!(rt; reader.read(&mut buf) == Ok(4));
+    assert!(rt; buf.starts_with(b"rope"));
+    assert!(rt; reader.read(&mut buf) == Ok(0), "the end");
+    Ok(())
+}
+
+/// A whole run, from the bytes of its commands to those of the replies.
+#[test]
+fn a_run(rt: HostRuntime) -> Result<(), Fail> {
+    let mut tick = Lines::new(&rt);
+    let mut source = MemorySource::new(b"text 2\nhiprint\n", 4096, None);
+    let mut sink = MemorySink::new(rt.alloc(), 4096, 4096, None)?;
+    let result = run(&mut tick, rt.alloc(), &mut source, &mut sink);
+    assert!(rt; result == Ok(Ended::Input));
+    assert!(rt; sink.written() == b"ok\ntext 2\nhi\n".as_slice());
+    Ok(())
+}
+
+/// Bytes are taken from a read buffer one by one, or many at once; it reads its source where none is
+/// left.
+#[test]
+fn a_read_buffer(rt: HostRuntime) -> Result<(), Fail> {
+    let mut source = MemorySource::new(b"rope", 4096, None);
+    let mut buffer = ReadBuffer::new();
+    assert!(rt; buffer.next_byte(&mut source) == Ok(Some(b'r')));
+    assert!(rt; buffer.fill(&mut source) == Ok(true));
+    assert!(rt; buffer.as_slice() == b"ope".as_slice());
+    let count = buffer.as_slice().len();
+    buffer.consume(count);
+    assert!(rt; buffer.next_byte(&mut source) == Ok(None), "the end");
+    Ok(())
+}
+
+/// Bytes wait in a write buffer until they are sent, or until there is no room for more.
+#[test]
+fn a_write_buffer(rt: HostRuntime) -> Result<(), Fail> {
+    let mut sink = MemorySink::new(rt.alloc(), 8, 4096, None)?;
+    let mut buffer = WriteBuffer::new();
+    assert!(rt; buffer.put(&mut sink, b"ro") == Ok(()));
+    assert!(rt; buffer.put_parts(&mut sink, &[b"p", b"e"]) == Ok(()));
+    assert!(rt; sink.written().is_empty());
+    assert!(rt; buffer.send(&mut sink) == Ok(()));
+    assert!(rt; sink.written() == b"rope".as_slice());
+    let more: &[u8] = b"slice";
+    assert!(rt; buffer.send_parts(&mut sink, &[more]) == Err(Broken::Write));
+    assert!(rt; sink.written() == b"ropeslic".as_slice(), "a front of it");
+    Ok(())
+}
+
+/// Whether bytes are UTF-8 is judged in pieces, which may cut characters.
+#[test]
+fn a_utf8_judge(rt: HostRuntime) {
+    let mut judge = Utf8Judge::new();
+    judge.feed(b"a\xc3");
+    assert!(rt; !judge.is_utf8(), "a part of a character");
+    judge.feed(b"\xa9b");
+    assert!(rt; judge.is_utf8());
+    judge.feed(b"\xff");
+    assert!(rt; !judge.is_utf8());
+}
+
+/// A fault is shown by its word. Of the faults that apply to a command, the one of the least rank is
+/// told.
+#[test]
+fn a_fault(rt: HostRuntime) -> Result<(), Fail> {
+    assert!(rt; Fault::Nothing.word() == "none");
+    let text = format!(in rt.alloc(); "error {}", Fault::Utf8)?;
+    assert!(rt; text.as_str() == "error utf8");
+    let ranks = [
+        Fault::Nothing.rank(),
+        Fault::Utf8.rank(),
+        Fault::Pattern.rank(),
+        Fault::Limit.rank(),
+        Fault::Size.rank(),
+        Fault::Memory.rank(),
+    ];
+    assert!(rt; ranks == [1, 3, 4, 5, 6, 7]);
+    Ok(())
+}

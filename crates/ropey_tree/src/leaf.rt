@@ -1,0 +1,162 @@
+//! A leaf: a piece of text that lies in the leaf itself.
+
+ghost use Rattle.std.specs.Prelude.{◌≡◌, ◌+◌, ◌<◌, ◌≤◌, ◌⊎◌, ◌++◌, [], length, take, drop, true, false, encode_utf8_all};
+ghost use Rattle.std.specs.Str.{chars, IsCharBoundary};
+ghost use Rattle.str_indices.specs.Text.{starts_with_lf};
+ghost use Rattle.str_indices.specs.Text.{byte_len, ends_with_cr};
+ghost use Rattle.ropey_tree.specs.Counts.{counts_of};
+ghost use Rattle.ropey_tree.specs.Cutting.{IsPiece, cuts_cr_lf};
+
+use crate::MAX_BYTES;
+use crate::counts::Counts;
+use arrayvec::ArrayString;
+use std::marker::Model;
+
+/// A text of 1 to `MAX_BYTES` bytes: the `NodeText` of `ropey`. Contracts see its characters.
+#[derive(Drop)]
+pub struct Leaf {
+    text: ArrayString<MAX_BYTES>,
+}
+
+impl Model for Leaf {
+    ghost use Rattle.std.specs.Prelude.{ℕ, ◌≤◌, List, length};
+    ghost use Rattle.std.specs.Str.{chars};
+
+    ghost Value = { List ℕ };
+
+    ghost view = { λ leaf. chars leaf.text.bytes };
+
+    ghost invariant = { λ leaf. 1 ≤ length leaf.text.bytes };
+}
+
+impl Leaf {
+    /// A leaf of a text.
+    pub fn new(text: &str) -> Self
+        requires not_empty { 1 ≤ length text.now }
+        requires not_long { length text.now ≤ 984 }
+        ensures { result ≡ chars text.now }
+    {
+        let mut leaf = ArrayString::new();
+        leaf.push_str(text);
+        Leaf { text: leaf }
+    }
+
+    /// The text.
+    #[inline]
+    pub fn as_str(&self) -> &str
+        ensures text { chars result.now ≡ self.now }
+        ensures bytes { result.now ≡ encode_utf8_all self.now }
+        ensures piece { IsPiece self.now }
+    {
+        self.text.as_str()
+    }
+
+    /// What the text counts.
+    pub fn counts(&self) -> Counts
+        ensures { result ≡ counts_of self.now }
+    {
+        Counts::of(self.as_str())
+    }
+}
+
+/// A leaf that is being filled: a text of at most `MAX_BYTES` bytes. A CR ends it only where an LF
+/// that comes next still has room. Contracts see its characters.
+#[derive(Drop)]
+pub struct LeafBuffer {
+    text: ArrayString<MAX_BYTES>,
+}
+
+impl Model for LeafBuffer {
+    ghost use Rattle.std.specs.Prelude.{◌≡◌, ℕ, ◌<◌, ◌⊎◌, List, length, false};
+    ghost use Rattle.std.specs.Str.{chars};
+    ghost use Rattle.str_indices.specs.Text.{ends_with_cr};
+
+    ghost Value = { List ℕ };
+
+    ghost view = { λ buffer. chars buffer.text.bytes };
+
+    ghost invariant = { λ buffer. (length buffer.text.bytes < 984) ⊎
+        (ends_with_cr (chars buffer.text.bytes) ≡ false) };
+}
+
+impl LeafBuffer {
+    /// No text yet.
+    pub fn new() -> Self
+        ensures { result ≡ [] }
+    {
+        LeafBuffer {
+            text: ArrayString::new(),
+        }
+    }
+
+    /// Another buffer of the same text.
+    pub fn copy(&self) -> Self
+        ensures { result ≡ self.now }
+    {
+        LeafBuffer { text: self.text }
+    }
+
+    /// How many more bytes there is room for.
+    #[inline]
+    pub fn room(&self) -> usize
+        ensures { byte_len self.now + result ≡ 984 }
+    {
+        // For its facts alone.
+        let _ = self.text.as_str();
+        self.text.remaining_capacity()
+    }
+
+    /// Takes the front of a text, as much as there is room for but for a part of a character or of a
+    /// CR LF, and answers how many bytes that is.
+    pub fn fill(&mut self, text: &str) -> usize
+        ensures within { result ≤ length text.now }
+        ensures boundary { IsCharBoundary text.now result }
+        ensures text { self.new ≡ self.old ++ chars (take result text.now) }
+        ensures whole { cuts_cr_lf self.new (chars (drop result text.now)) ≡ false }
+        ensures all { byte_len self.old + length text.now < 984 → result ≡ length text.now }
+        ensures full { (result ≡ length text.now) ⊎ (980 ≤ byte_len self.new) }
+    {
+        // For its facts alone.
+        let _ = self.text.as_str();
+        let end = fill_end(text, self.text.remaining_capacity());
+        self.text.push_str(&text[..end]);
+        end
+    }
+
+    /// The leaf of the text.
+    pub fn into_leaf(self) -> Leaf
+        requires { 1 ≤ byte_len self }
+        ensures text { result ≡ self }
+        ensures piece { IsPiece self }
+    {
+        // For its facts alone.
+        let _ = self.text.as_str();
+        let leaf = Leaf { text: self.text };
+        // For its facts alone.
+        let _ = leaf.as_str();
+        leaf
+    }
+}
+
+/// How many bytes of a text go into a room: as many as may be, but no part of a character, and no CR
+/// that would leave no room for an LF after it.
+fn fill_end(text: &str, room: usize) -> usize
+    ensures within { result ≤ length text.now }
+    ensures fits { result ≤ room }
+    ensures boundary { IsCharBoundary text.now result }
+    ensures all { length text.now < room → result ≡ length text.now }
+    ensures full { (result ≡ length text.now) ⊎ (room ≤ result + 4) }
+    ensures cr { (result < room) ⊎ ((result ≡ 0) ⊎
+        (ends_with_cr (chars (take result text.now)) ≡ false)) }
+    ensures lf { starts_with_lf (chars (drop result text.now)) ≡ true → result ≡ room }
+{
+    if text.len() < room {
+        return text.len();
+    }
+    let end = text.floor_char_boundary(room);
+    if end > 0 && text.as_bytes()[end - 1] == b'\r' {
+        end - 1
+    } else {
+        end
+    }
+}

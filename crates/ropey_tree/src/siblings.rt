@@ -1,0 +1,196 @@
+//! Nodes in a row that are packed under one node, or two.
+
+ghost use Rattle.std.specs.Prelude.{◌≡◌, ◌+◌, ◌<◌, ◌≤◌, ◌^◌, ◌++◌, length, slice_index_or, take, IfOk};
+ghost use Rattle.ropey_tree.specs.NodeView.{NodeView};
+ghost use Rattle.ropey_tree.specs.Counts.{total};
+ghost use Rattle.ropey_tree.specs.Nodes.{count_of, all_pieces, inner_view, IsInner};
+ghost use Rattle.ropey_tree.specs.Siblings.{nodes_of, siblings_of, IsFilled, AreSiblings, Packed};
+
+use crate::MAX_CHILDREN;
+use crate::children::Children;
+use crate::counts::Counts;
+use crate::node::Node;
+use std::alloc::{AllocError, Global};
+use std::rc::Rc;
+
+/// One node, or two of one height.
+#[derive(Drop)]
+pub enum Joined {
+    /// One.
+    One(Rc<Node>),
+    /// Two, in order.
+    Two(Rc<Node>, Rc<Node>),
+}
+
+/// Nodes of one height in a siblings, which lie in several places.
+#[derive(Clone, Copy)]
+pub(crate) enum Siblings<'a> {
+    /// The children of one node.
+    One(&'a Children),
+    /// Nodes side by side.
+    Nodes(&'a [Rc<Node>]),
+    /// The children of two nodes.
+    Both(&'a Children, &'a Children),
+    /// All children but the last, and then what stands in its place.
+    Front(&'a Children, &'a Joined),
+    /// What stands in the place of the first child, and then all others.
+    Back(&'a Joined, &'a Children),
+}
+
+impl Joined {
+    #[inline]
+    fn len(&self) -> usize
+        ensures value { result ≡ length (nodes_of self.now) }
+        ensures fits { result ≤ 2 }
+    {
+        match self {
+            Joined::One(_) => 1,
+            Joined::Two(..) => 2,
+        }
+    }
+
+    #[inline]
+    fn get(&self, k: usize) -> &Rc<Node>
+        requires { k < length (nodes_of self.now) }
+        ensures { result.now.value ≡ slice_index_or (nodes_of self.now) k result.now.value }
+    {
+        match self {
+            Joined::One(node) => node,
+            Joined::Two(first, second) => { if k == 0 { first } else { second } }
+        }
+    }
+}
+
+impl Siblings<'_> {
+    /// How many there are.
+    pub(crate) fn len(&self) -> usize
+        requires { IsFilled self.now }
+        ensures { result ≡ length (siblings_of self.now) }
+    {
+        match self {
+            Siblings::One(children) => children.len(),
+            Siblings::Nodes(nodes) => nodes.len(),
+            Siblings::Both(front, back) => front.len() + back.len(),
+            Siblings::Front(front, joined) => front.len() - 1 + joined.len(),
+            Siblings::Back(joined, back) => joined.len() + (back.len() - 1),
+        }
+    }
+
+    /// The one at an index.
+    fn get(&self, k: usize) -> &Rc<Node>
+        requires filled { IsFilled self.now }
+        requires within { k < length (siblings_of self.now) }
+        ensures { result.now.value ≡ slice_index_or (siblings_of self.now) k result.now.value }
+    {
+        match self {
+            Siblings::One(children) => children.get(k),
+            Siblings::Nodes(nodes) => match nodes.get(k) {
+                Some(node) => node,
+                None => unreachable!(),
+            },
+            Siblings::Both(front, back) => {
+                let n = front.len();
+                if k < n { front.get(k) } else { back.get(k - n) }
+            }
+            Siblings::Front(front, joined) => {
+                let n = front.len() - 1;
+                if k < n {
+                    front.get(k)
+                } else {
+                    joined.get(k - n)
+                }
+            }
+            Siblings::Back(joined, back) => {
+                let n = joined.len();
+                if k < n {
+                    joined.get(k)
+                } else {
+                    back.get(k - n + 1)
+                }
+            }
+        }
+    }
+
+    /// What the one at an index counts.
+    fn count(&self, k: usize) -> Counts
+        requires filled { IsFilled self.now }
+        requires within { k < length (siblings_of self.now) }
+        ensures { (d : NodeView) → result ≡ count_of (slice_index_or (siblings_of self.now) k d) }
+    {
+        match self {
+            Siblings::One(children) => children.count(k),
+            Siblings::Nodes(_) => self.get(k).counts(),
+            Siblings::Both(front, back) => {
+                let n = front.len();
+                if k < n {
+                    front.count(k)
+                } else {
+                    back.count(k - n)
+                }
+            }
+            Siblings::Front(front, joined) => {
+                let n = front.len() - 1;
+                if k < n {
+                    front.count(k)
+                } else {
+                    joined.get(k - n).counts()
+                }
+            }
+            Siblings::Back(joined, back) => {
+                let n = joined.len();
+                if k < n {
+                    joined.get(k).counts()
+                } else {
+                    back.count(k - n + 1)
+                }
+            }
+        }
+    }
+
+    /// Copies of those from one index up to another.
+    pub(crate) fn gather(&self, from: usize, to: usize) -> Result<Children, AllocError>
+        requires filled { IsFilled self.now }
+        requires range { from ≤ to }
+        requires room { to ≤ from + 24 }
+        requires fits { (total (all_pieces (siblings_of self.now))).bytes < 2 ^ 63 }
+        requires within { to ≤ length (siblings_of self.now) }
+        ensures { IfOk result (λ children. take from (siblings_of self.now) ++ children ≡
+            take to (siblings_of self.now)) }
+    {
+        let mut children = Children::new();
+        for k in from..to {
+            let node = self.get(k).clone()?;
+            children.push(node, self.count(k));
+        }
+        Ok(children)
+    }
+}
+
+/// A node over children.
+pub(crate) fn over(alloc: Global, height: usize, children: Children) -> Result<Rc<Node>, AllocError>
+    requires { IsInner height children }
+    ensures { IfOk result (λ node. node.value ≡ inner_view height children) }
+{
+    let node = Node::from_children(alloc, height, children)?;
+    Ok(Rc::new(alloc, node)?)
+}
+
+/// One node over up to 24, or two nodes over its halves.
+pub(crate) fn pack(
+    alloc: Global,
+    height: usize,
+    siblings: Siblings<'_>,
+) -> Result<Joined, AllocError>
+    requires filled { IsFilled siblings }
+    requires nodes { AreSiblings height (siblings_of siblings) }
+    ensures { IfOk result (λ joined. Packed height (siblings_of siblings.entry) (nodes_of joined)) }
+{
+    let n = siblings.len();
+    if n <= MAX_CHILDREN {
+        let node = over(alloc, height, siblings.gather(0, n)?)?;
+        return Ok(Joined::One(node));
+    }
+    let first = over(alloc, height, siblings.gather(0, n / 2)?)?;
+    let second = over(alloc, height, siblings.gather(n / 2, n)?)?;
+    Ok(Joined::Two(first, second))
+}

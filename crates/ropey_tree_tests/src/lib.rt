@@ -1,0 +1,5 @@
+//! Tests of `ropey_tree`, apart from it since a crate with tests is proved twice.
+#![tactic(auto)]
+
+#[cfg(test)]
+mod trees;

@@ -1,0 +1,109 @@
+-- Where the parser stands in a pattern.
+use Rattle.std.specs.Prelude.{◌≡◌, ℕ, ◌+◌, ◌≤◌, ◌<◌, List, [], ◌∷◌, ◌++◌, length, reverse}
+use Rattle.rx_grammar.specs.declared.parser.Heights.{Heights}
+use Rattle.rx_grammar.specs.declared.parser.Around.{Around}
+use Rattle.rx_grammar.specs.declared.parser.Parser.{Parser}
+use Rattle.rx_grammar.specs.Settings.{Settings}
+use Rattle.rx_grammar.specs.Trees.{Tree}
+use Rattle.rx_grammar.specs.Input.{Begins, Stops}
+use Rattle.rx_grammar.specs.Repetitions.{Postfixes}
+use Rattle.rx_grammar.specs.Groups.{Capture, opened}
+use Rattle.rx_grammar.specs.Grammar.{goes_on}
+use Rattle.rx_grammar.specs.Heads.{capture_of}
+use Rattle.rx_grammar.specs.Postorder.{NodeKind, trees_of, tree_of}
+use Rattle.rx_grammar.specs.Nodes.{trees_in}
+use Rattle.rx_grammar.specs.Stacks.{IsCounted}
+use Rattle.rx_grammar.specs.Resuming.{Level, OpenGroup, Place, SameEnds, no_level, with_item, tree_at}
+
+-- the trees of a level stand above those of the levels around it, the last one first
+pub record IsLevel (heights : Heights) (limit : ℕ) (level : Level) (trees below : List Tree) : Type 0 where
+  pub trees_are : trees ≡ reverse level.items ++ (reverse level.branches ++ below)
+  pub group_is : heights.group ≡ length below
+  pub branch_is : heights.branch ≡ length (reverse level.branches ++ below)
+  pub depth_is : heights.depth ≡ level.depth
+  pub depth_fits : level.depth ≤ limit
+
+-- the groups around a place, the innermost one first
+pub data Surround (limit : ℕ) : List Around → List OpenGroup → List Tree → Type 0 where
+  outermost : Surround limit [] [] []
+  further : {around : Around} {group : OpenGroup} {arounds : List Around} {groups : List OpenGroup} {trees below : List Tree}
+      → IsLevel around.heights limit group.level trees below → around.config ≡ group.settings → around.number ≡ opened group.groups group.capture
+      → capture_of around.captures ≡ group.capture → Surround limit arounds groups below → Surround limit (around ∷ arounds) (group ∷ groups) trees
+
+-- the parser stands at a place, with more trees that are no items yet, the last one first
+pub record IsAt (parser : Parser) (pending : List Tree) (place : Place) : Type 0 where
+  pub trees : List Tree
+  pub below : List Tree
+  pub trees_are : trees_in parser.trees.nodes.items ≡ pending ++ trees
+  pub counted : IsCounted parser.trees
+  pub level : IsLevel parser.heights parser.limit place.level trees below
+  pub settings : parser.config ≡ place.settings
+  pub groups : parser.groups ≡ place.groups
+  pub around : Surround parser.limit (reverse parser.around.items) place.around below
+
+abbrev pub IsAtSomePlace : Parser → Type 0
+IsAtSomePlace parser = (place : Place) × IsAt parser [] place
+
+-- where a pattern begins
+abbrev pub start_of : Settings → Place
+start_of settings = record { settings = settings; groups = 0; level = no_level; around = [] }
+
+abbrev pub item_at : Place → Tree → ℕ → Place
+item_at place tree depth = record place { level = with_item place.level tree depth }
+
+abbrev pub opened_at : Place → Settings → Capture → Place
+opened_at place inside capture = record {
+  settings = inside;
+  groups = opened place.groups capture;
+  level = no_level;
+  around = (record { level = place.level; settings = place.settings; groups = place.groups; capture = capture }) ∷ place.around;
+}
+
+-- the postfixes after an atom were read, and it is an item with them
+pub record ItemRead (before after : Parser) (place : Place) (tree : Tree) (depth : ℕ) (t u : List ℕ) : Type 0 where
+  pub made : Tree
+  pub deep : ℕ
+  pub postfixes : Postfixes place.settings.swap_greed tree depth t made deep u
+  pub stands : IsAt after [] (item_at place made deep)
+  pub limit : after.limit ≡ before.limit
+  pub groups : after.groups ≡ before.groups
+
+-- the branches of the level are one tree, and all else is as before
+pub record EndsLevel (before after : Parser) (place : Place) : Type 0 where
+  pub below : List Tree
+  pub trees_are : trees_in after.trees.nodes.items ≡ tree_at place.level ∷ below
+  pub counted : IsCounted after.trees
+  pub depth_is : after.heights.depth ≡ place.level.depth
+  pub depth_fits : place.level.depth ≤ after.limit
+  pub around : Surround after.limit (reverse after.around.items) place.around below
+  pub groups_are : after.groups ≡ place.groups
+  pub limit : after.limit ≡ before.limit
+  pub groups : after.groups ≡ before.groups
+
+-- a part of the text was read, and the rest completes the pattern as before
+pub record PartRead (before after : Parser) (place : Place) (t u : List ℕ) : Type 0 where
+  pub next : Place
+  pub stands : IsAt after [] next
+  pub same : SameEnds place t next u
+  pub limit : after.limit ≡ before.limit
+  pub shorter : length u < length t
+  pub groups : after.groups + length u ≤ before.groups + length t
+
+-- an atom that is no group may stand at the start of the text
+pub record IsAtomPlace (t : List ℕ) : Type 0 where
+  pub no_group : Begins 40 t → ⊥
+  pub inside : Stops goes_on t → ⊥
+
+-- the whole text was read
+pub record TextRead (before after : Parser) (place : Place) (t : List ℕ) : Type 0 where
+  pub next : Place
+  pub stands : IsAt after [] next
+  pub same : SameEnds place t next []
+  pub limit : after.limit ≡ before.limit
+
+-- no group is open, and the nodes make the tree of what was read
+pub record IsFinished (place : Place) (nodes : List NodeKind) (limit : ℕ) : Type 0 where
+  pub nothing_open : place.around ≡ []
+  pub tree_is : tree_of nodes ≡ tree_at place.level
+  pub made : trees_of nodes ≡ tree_of nodes ∷ []
+  pub fits : place.level.depth ≤ limit

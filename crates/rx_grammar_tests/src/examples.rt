@@ -1,0 +1,103 @@
+//! An example for each public type of `rx_sets` and `rx_grammar`.
+
+use rx_grammar::syntax::Config;
+use rx_grammar::{
+    CharacterSet, ClassItem, ClassPerlKind, Hir, Look, Node, Repetition, SyntaxError, ordinal,
+    parse,
+};
+use rx_sets::AtomSets;
+use std::test::Fail;
+
+/// What a pattern spells: its nodes, each after what stands below it.
+#[test]
+fn hir(rt: HostRuntime) -> Result<(), Fail> {
+    let hir: Hir = parse(rt.alloc(), "^(?<word>a)*?", &Config::new())?;
+    assert_eq!(rt; hir.group_count(), 1);
+    match hir.nodes() {
+        [
+            Node::Look(look),
+            Node::Set(set),
+            Node::Group(number, Some(name)),
+            Node::Repeat(repetition),
+            Node::Concat(2),
+        ] => {
+            assert_eq!(rt; *look, Look::Start);
+            assert_eq!(rt; set.contains(ordinal('a')), true);
+            assert_eq!(rt; *number, 1);
+            assert_eq!(rt; name.as_slice(), ['w', 'o', 'r', 'd'].as_slice());
+            assert_eq!(rt;
+                *repetition,
+                Repetition {
+                    min: 0,
+                    max: None,
+                    greedy: false
+                }
+            );
+        }
+        _ => assert!(rt; false),
+    }
+    Ok(())
+}
+
+/// The settings that a pattern is read under.
+#[test]
+fn config(rt: HostRuntime) -> Result<(), Fail> {
+    let config = Config::new()
+        .case_insensitive(true)
+        .multi_line(true)
+        .dot_matches_new_line(true)
+        .swap_greed(true)
+        .nest_limit(7)
+        .line_terminator(b';')
+        .clone()?;
+    assert_eq!(rt; config.get_case_insensitive(), true);
+    assert_eq!(rt; config.get_multi_line(), true);
+    assert_eq!(rt; config.get_dot_matches_new_line(), true);
+    assert_eq!(rt; config.get_swap_greed(), true);
+    assert_eq!(rt; config.get_nest_limit(), 7);
+    assert_eq!(rt; config.get_line_terminator(), b';');
+    assert_eq!(rt; Config::default().get_nest_limit(), 250);
+    Ok(())
+}
+
+/// Why a pattern is refused.
+#[test]
+fn syntax_error(rt: HostRuntime) -> Result<(), Fail> {
+    let alloc = rt.alloc();
+    let shallow = Config::new().nest_limit(1);
+    let outside = parse(alloc, "*", &Config::new());
+    assert!(rt; matches!(outside, Err(SyntaxError::Outside)));
+    let nested = parse(alloc, "(a*)", &shallow);
+    assert!(rt; matches!(nested, Err(SyntaxError::Nesting)));
+    let message = format!(in alloc; "{}", SyntaxError::Outside)?;
+    assert_eq!(rt; message.as_str(), "the pattern isn't in the grammar");
+    Ok(())
+}
+
+/// A set of characters, as its maximal ranges. Ordinals leave the surrogates out.
+#[test]
+fn character_set(rt: HostRuntime) -> Result<(), Fail> {
+    let letters = vec![in rt.alloc(); (ordinal('n'), ordinal('z')), (ordinal('a'), ordinal('m'))]?;
+    let set = CharacterSet::from_ranges(letters)?;
+    assert_eq!(rt; set.ranges(), [(ordinal('a'), ordinal('z'))].as_slice());
+    assert_eq!(rt; set.contains(ordinal('q')), true);
+    assert_eq!(rt; set.complement()?.contains(ordinal('q')), false);
+    let folded = set.closed_under_folding()?;
+    assert_eq!(rt; folded.contains(ordinal('Q')), true);
+    Ok(())
+}
+
+/// The sets that atoms stand for: here `[^a-f\d]` with letters in each case.
+#[test]
+fn atom_sets(rt: HostRuntime) -> Result<(), Fail> {
+    let mut sets = AtomSets::new(rt.alloc());
+    let items = [
+        ClassItem::Span('a', 'f'),
+        ClassItem::Perl(ClassPerlKind::Digit, false),
+    ];
+    let set = sets.class(true, true, &items)?;
+    assert_eq!(rt; set.contains(ordinal('D')), false);
+    assert_eq!(rt; set.contains(ordinal('7')), false);
+    assert_eq!(rt; set.contains(ordinal('x')), true);
+    Ok(())
+}

@@ -1,0 +1,9 @@
+//! Tests of `rx_sets` and `rx_grammar`: sets, patterns, and an example for each public type.
+#![tactic(auto)]
+
+#[cfg(test)]
+mod examples;
+#[cfg(test)]
+mod patterns;
+#[cfg(test)]
+mod sets;

@@ -1,7 +1,0 @@
-use Rattle.std.proofs.Common.{◌≡◌}
-use Rattle.rx_sets.proofs.LetterLemmas.{IfOk-complement}
-use Rattle.rx_sets.proofs.atoms.all_but.Goals as goal
-
-pub returns : goal.returns
-returns c =
-    IfOk-complement c.complement.result _ (λ d. d ≡ c.args.c) c.complement.ensures.canonical c.complement.ensures.members c.in_ok-one.ensures

@@ -1,0 +1,230 @@
+//! The sets that the atoms of a pattern stand for.
+
+ghost use Rattle.std.specs.Prelude.{◌≡◌, ◌≢◌, ◌↔◌, [], ◌∷◌, ◌++◌, Contains, IsTrue, IfOk, OnOk, IfSome};
+ghost use Rattle.rx_sets.specs.Sets.{IsSetOf, FoldedIf, InPerl};
+ghost use Rattle.rx_sets.specs.Items.{InItems, InClass};
+ghost use Rattle.rx_sets.specs.Unions.{Adds, OneOf, InLetters};
+
+use crate::character_set::{CharacterSet, Range};
+use crate::foldings::{push_folded_if, push_items};
+use crate::items::{ClassItem, ClassPerlKind};
+use crate::letter_set::LetterSet;
+use std::alloc::{AllocError, Global};
+use std::rc::Rc;
+
+/// The letter classes.
+const LETTER_CLASSES: [(ClassPerlKind, bool); 6] = [
+    (ClassPerlKind::Digit, false),
+    (ClassPerlKind::Digit, true),
+    (ClassPerlKind::Space, false),
+    (ClassPerlKind::Space, true),
+    (ClassPerlKind::Word, false),
+    (ClassPerlKind::Word, true),
+];
+
+/// The letter class that the items are, if they are one.
+fn only_letters(items: &[ClassItem]) -> Option<(ClassPerlKind, bool)>
+    ensures { IfSome result (λ r. items.now ≡ ClassItem.Perl r.0 r.1 ∷ []) }
+{
+    match items {
+        [ClassItem::Perl(kind, negated)] => Some((*kind, *negated)),
+        _ => None,
+    }
+}
+
+/// Whether the item is this letter class.
+fn is_letters(item: ClassItem, kind: ClassPerlKind, negated: bool) -> bool
+    ensures { IsTrue result ↔ (item ≡ ClassItem.Perl kind negated) }
+{
+    match item {
+        ClassItem::Perl(found, opposite) => found == kind && opposite == negated,
+        ClassItem::Span(_, _) => false,
+    }
+}
+
+/// Whether the letter class is among the items.
+fn has_letters(items: &[ClassItem], kind: ClassPerlKind, negated: bool) -> bool
+    ensures { IsTrue result ↔ Contains items.now (ClassItem.Perl kind negated) }
+{
+    for item in items {
+        if is_letters(*item, kind, negated) {
+            return true;
+        }
+    }
+    false
+}
+
+/// Appends the ranges of a set.
+fn push_set(ranges: &mut Vec<Range>, set: &CharacterSet) -> Result<(), AllocError>
+    ensures { OnOk result (ranges.new.items ≡ ranges.old.items ++ set.now) }
+{
+    ranges.extend_from_slice(set.ranges())
+}
+
+/// The one character, closed under folding or as it is.
+fn character_set(alloc: Global, fold: bool, c: char) -> Result<CharacterSet, AllocError>
+    ensures { IfOk result (λ set. IsSetOf set (FoldedIf fold (λ d. d ≡ c))) }
+{
+    let mut ranges = Vec::new(alloc);
+    push_folded_if(&mut ranges, fold, c, c)?;
+    CharacterSet::from_ranges(ranges)
+}
+
+/// All characters.
+fn any_set(alloc: Global) -> Result<CharacterSet, AllocError>
+    ensures { IfOk result (λ set. IsSetOf set (λ d. Unit {0})) }
+{
+    let none = CharacterSet::empty(alloc);
+    none.complement()
+}
+
+/// All characters but one.
+fn all_but(alloc: Global, c: char) -> Result<CharacterSet, AllocError>
+    ensures { IfOk result (λ set. IsSetOf set (λ d. d ≢ c)) }
+{
+    let one = character_set(alloc, false, c)?;
+    one.complement()
+}
+
+/// Makes the sets of a pattern's atoms. The set of a letter class is made once and shared.
+#[derive(Drop)]
+pub struct AtomSets {
+    alloc: Global,
+    letters: Vec<LetterSet>,
+}
+
+impl AtomSets {
+    /// No set is made yet.
+    pub fn new(alloc: Global) -> AtomSets {
+        AtomSets {
+            alloc,
+            letters: Vec::new(alloc),
+        }
+    }
+
+    /// What a letter class names, closed under folding or as it is.
+    fn letters(
+        &mut self,
+        fold: bool,
+        kind: ClassPerlKind,
+        negated: bool,
+    ) -> Result<Rc<CharacterSet>, AllocError>
+        ensures { IfOk result (λ set. IsSetOf set.value (FoldedIf fold (InPerl kind negated))) }
+    {
+        for letters in &self.letters {
+            if letters.is_of(fold, kind, negated) {
+                return letters.share();
+            }
+        }
+        let made = LetterSet::new(self.alloc, fold, kind, negated)?;
+        let set = made.share()?;
+        self.letters.push(made)?;
+        Ok(set)
+    }
+
+    /// What a letter class outside brackets stands for.
+    pub fn perl(
+        &mut self,
+        kind: ClassPerlKind,
+        negated: bool,
+    ) -> Result<Rc<CharacterSet>, AllocError>
+        ensures { IfOk result (λ set. IsSetOf set.value (InPerl kind negated)) }
+    {
+        self.letters(false, kind, negated)
+    }
+
+    /// What a literal stands for, closed under folding or as it is.
+    pub fn literal(&self, fold: bool, c: char) -> Result<Rc<CharacterSet>, AllocError>
+        ensures { IfOk result (λ set. IsSetOf set.value (FoldedIf fold (λ d. d ≡ c))) }
+    {
+        let set = character_set(self.alloc, fold, c)?;
+        Ok(Rc::new(self.alloc, set)?)
+    }
+
+    /// All characters.
+    pub fn any(&self) -> Result<Rc<CharacterSet>, AllocError>
+        ensures { IfOk result (λ set. IsSetOf set.value (λ d. Unit {0})) }
+    {
+        Ok(Rc::new(self.alloc, any_set(self.alloc)?)?)
+    }
+
+    /// All characters but one.
+    pub fn all_but(&self, c: char) -> Result<Rc<CharacterSet>, AllocError>
+        ensures { IfOk result (λ set. IsSetOf set.value (λ d. d ≢ c)) }
+    {
+        Ok(Rc::new(self.alloc, all_but(self.alloc, c)?)?)
+    }
+
+    /// Appends what a letter class names, if it is among the items.
+    fn push_letters(
+        &mut self,
+        ranges: &mut Vec<Range>,
+        fold: bool,
+        items: &[ClassItem],
+        kind: ClassPerlKind,
+        negated: bool,
+    ) -> Result<(), AllocError>
+        ensures { OnOk result (Adds ranges.old.items ranges.new.items
+            (λ c. InLetters fold items.now c (kind, negated))) }
+    {
+        if !has_letters(items, kind, negated) {
+            return Ok(());
+        }
+        let set = self.letters(fold, kind, negated)?;
+        push_set(ranges, &set)
+    }
+
+    /// Appends what the letter classes among the items name, each once.
+    fn push_all_letters(
+        &mut self,
+        ranges: &mut Vec<Range>,
+        fold: bool,
+        items: &[ClassItem],
+    ) -> Result<(), AllocError>
+        ensures { OnOk result (Adds ranges.old.items ranges.new.items
+            (λ c. OneOf (InLetters fold items.now c) LETTER_CLASSES)) }
+    {
+        for letters in &LETTER_CLASSES {
+            self.push_letters(ranges, fold, items, letters.0, letters.1)?;
+        }
+        Ok(())
+    }
+
+    /// What the items of a class name, closed under folding or as it is.
+    fn union(&mut self, fold: bool, items: &[ClassItem]) -> Result<CharacterSet, AllocError>
+        ensures { IfOk result (λ set. IsSetOf set (FoldedIf fold (λ d. InItems d items.now))) }
+    {
+        let mut ranges = Vec::new(self.alloc);
+        push_items(&mut ranges, fold, items)?;
+        self.push_all_letters(&mut ranges, fold, items)?;
+        CharacterSet::from_ranges(ranges)
+    }
+
+    /// The same set, shared where the items are one letter class.
+    fn named(&mut self, fold: bool, items: &[ClassItem]) -> Result<Rc<CharacterSet>, AllocError>
+        ensures { IfOk result (λ set. IsSetOf set.value
+            (FoldedIf fold (λ d. InItems d items.now))) }
+    {
+        if let Some((kind, negated)) = only_letters(items) {
+            return self.letters(fold, kind, negated);
+        }
+        let set = self.union(fold, items)?;
+        Ok(Rc::new(self.alloc, set)?)
+    }
+
+    /// What a class in brackets stands for, closed under folding before it is negated, or as it is.
+    pub fn class(
+        &mut self,
+        fold: bool,
+        negated: bool,
+        items: &[ClassItem],
+    ) -> Result<Rc<CharacterSet>, AllocError>
+        ensures { IfOk result (λ set. IsSetOf set.value (InClass fold negated items.now)) }
+    {
+        let named = self.named(fold, items)?;
+        if !negated {
+            return Ok(named);
+        }
+        Ok(Rc::new(self.alloc, named.complement()?)?)
+    }
+}

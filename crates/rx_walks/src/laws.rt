@@ -1,0 +1,96 @@
+//! Laws of walks and of what is found by them. Each function does nothing: its contract is the law.
+
+ghost use Rattle.rx_walks.specs.Laws.{BytesRefine, FindsAllAtMostOne, FindsAtMostOne, FirstCharacterStands, MatchesAllAreOneList, MatchesAreOneList, PathsAgree, PathsHaveWalks, ProgramsFind, ProgramsFindAll, ProgramsReadForward, SearchesFind, SearchesFindAll, StepsKeepBest, WalksAgree, WalksTakeNoPairTwice};
+ghost use Rattle.rx_walks.specs.Machines.{Machine};
+ghost use Rattle.rx_walks.specs.Programs.{Haystack, Node, Program};
+ghost use Rattle.rx_walks.specs.Looks.{Look};
+ghost use Rattle.rx_walks.specs.Bytes.{Automaton};
+ghost use Rattle.std.specs.Prelude.{ℕ, List, Option, Bool};
+
+/// A walk is a path that takes no pair of node and place twice.
+pub fn walks_take_no_pair_twice<Q, N>()
+    ensures { (m : Machine Q N) → WalksTakeNoPairTwice m }
+{}
+
+/// In a content a program has at most one find.
+pub fn finds_at_most_one<S>()
+    ensures { (member : S → ℕ → Bool) (is_word : ℕ → Bool) (p : Program Look S)
+        → FindsAtMostOne member is_word p }
+{}
+
+/// And at most one where all matches are wanted.
+pub fn finds_all_at_most_one<S>()
+    ensures { (member : S → ℕ → Bool) (is_word : ℕ → Bool) (p : Program Look S)
+        → FindsAllAtMostOne member is_word p }
+{}
+
+/// In a content a program has at most one list of matches.
+pub fn matches_are_one_list<S>()
+    ensures { (member : S → ℕ → Bool) (is_word : ℕ → Bool) (p : Program Look S)
+        → MatchesAreOneList member is_word p }
+{}
+
+/// And at most one where all matches are wanted.
+pub fn matches_all_are_one_list<S>()
+    ensures { (member : S → ℕ → Bool) (is_word : ℕ → Bool) (p : Program Look S)
+        → MatchesAllAreOneList member is_word p }
+{}
+
+/// The first character of bytes, whatever they are, is the one whose UTF-8 stands first in them.
+pub fn first_character_stands()
+    ensures { FirstCharacterStands }
+{}
+
+/// One step from a place keeps the best walk.
+pub fn steps_keep_best<Q, N>()
+    ensures { (m : Machine Q N) → StepsKeepBest m }
+{}
+
+/// The loop over places finds the least walk of the least start that counts.
+pub fn searches_find<C, B, N>()
+    ensures { (c : Machine C N) (b : Machine B N) (f : C → B) → SearchesFind c b f }
+{}
+
+/// The loop over places without a cut finds the greatest end.
+pub fn searches_find_all<C, B, N>()
+    ensures { (c : Machine C N) (b : Machine B N) (f : C → B) → SearchesFindAll c b f }
+{}
+
+/// A path exists exactly where some walk does.
+pub fn paths_have_walks<Q, N>()
+    ensures { (m : Machine Q N) → PathsHaveWalks m }
+{}
+
+/// A machine that reads in smaller steps without forks has the same walks.
+pub fn walks_agree<C, B, N>()
+    ensures { (c : Machine C N) (b : Machine B N) (f : C → B) → WalksAgree c b f }
+{}
+
+/// And the same paths.
+pub fn paths_agree<C, B, N>()
+    ensures { (c : Machine C N) (b : Machine B N) (f : C → B) → PathsAgree c b f }
+{}
+
+/// A program's machine over bytes reads in smaller steps what its machine over characters reads.
+pub fn bytes_refine<L, S, N>()
+    ensures { (put : ℕ → ℕ → N → N) (first : S → List ℕ → Option ℕ) (step : S → Automaton)
+        (nodes : List (Node L S)) (h : Haystack L) → BytesRefine put first step nodes h }
+{}
+
+/// The loop over places by a program's bytes finds what its characters have.
+pub fn programs_find<L, S, N>()
+    ensures { (put : ℕ → ℕ → N → N) (member : S → ℕ → Bool) (step : S → Automaton)
+        (nodes : List (Node L S)) (holds : L → ℕ → Bool) → ProgramsFind put member step nodes holds }
+{}
+
+/// Without a cut the loop over places by a program's bytes finds the greatest end.
+pub fn programs_find_all<L, S, N>()
+    ensures { (put : ℕ → ℕ → N → N) (member : S → ℕ → Bool) (step : S → Automaton)
+        (nodes : List (Node L S)) (holds : L → ℕ → Bool) → ProgramsFindAll put member step nodes holds }
+{}
+
+/// Both machines of a program read forward.
+pub fn programs_read_forward<L, S, N>()
+    ensures { (put : ℕ → ℕ → N → N) (member : S → ℕ → Bool) (step : S → Automaton)
+        (nodes : List (Node L S)) (h : Haystack L) → ProgramsReadForward put member step nodes h }
+{}

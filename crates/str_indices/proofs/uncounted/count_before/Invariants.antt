@@ -1,4 +1,0 @@
-use Rattle.str_indices.proofs.uncounted.count_before.Given as goal
-
-abbrev pub ghosts-count_in : goal.ghosts-count_in
-ghosts-count_in g a = record { name = a.blank.name; parts = a.blank.parts }

@@ -1,0 +1,29 @@
+"""The program bin/rope-search as a child process."""
+import os
+import subprocess
+
+PROGRAM = os.path.join(os.path.dirname(os.path.dirname(os.path.abspath(__file__))), "bin", "rope-search")
+
+
+class Client:
+    """A session, which ends as the client is closed."""
+
+    def __init__(self, program=PROGRAM):
+        self.child = subprocess.Popen([program], stdin=subprocess.PIPE, stdout=subprocess.PIPE)
+
+    def ask(self, command):
+        """Gives the program one command, with its payload, and answers the whole reply."""
+        self.child.stdin.write(command)
+        self.child.stdin.flush()
+        line = reply = self.child.stdout.readline()
+        while line.startswith(b"m "):  # of list, which ends with a line 'ok' and a number
+            line = self.child.stdout.readline()
+            reply += line
+        if line.startswith(b"text "):  # of print: so many bytes, and LF
+            reply += self.child.stdout.read(int(line[5:]) + 1)
+        return reply
+
+    def close(self):
+        self.child.stdin.close()
+        self.child.stdout.close()
+        return self.child.wait()

@@ -1,0 +1,131 @@
+"""What all tests of the built programs share: running a program, comparing what it wrote, and counting
+which tests passed."""
+import atexit
+import os
+import re
+import shutil
+import subprocess
+import sys
+import tempfile
+import threading
+
+TOP = os.path.dirname(os.path.dirname(os.path.abspath(__file__)))
+PROGRAM = os.path.abspath(os.environ.get("ROPE_SEARCH") or os.path.join(TOP, "bin", "rope-search"))
+MEMORY_PROGRAM = os.path.join(TOP, "bin", "memory-tests")
+ROOM = tempfile.mkdtemp(prefix="rope-search-")  # the one folder that tests write in
+atexit.register(shutil.rmtree, ROOM, ignore_errors=True)
+SECONDS = 120
+PASSED, FAILED = [], []
+
+# The first session of docs/protocol.md, which is also the stored run of the program.
+FIRST = b"text 2\nhifork\ntext 1\nxuse 1\nprint\n"
+
+
+def test(name, problems):
+    """Counts a test, of which `problems` is what is wrong with it, and nothing where it passes."""
+    problems = list(problems)
+    (FAILED if problems else PASSED).append(name)
+    if problems:
+        print(f"FAILED: {name}")
+        for problem in problems[:5]:
+            print(f"    {problem}")
+        if len(problems) > 5:
+            print(f"    and {len(problems) - 5} more")
+    else:
+        print(f"passed: {name}")
+    sys.stdout.flush()
+
+
+def example_rows(page, form):
+    """The rows of the table of examples of a page of docs/, as matches of this form."""
+    with open(os.path.join(TOP, "docs", page), encoding="utf-8") as file:
+        lines = file.read().split("\n## Examples\n")[1].split("\n## ")[0].split("\n")
+    rows = []
+    for row in [line for line in lines if line.startswith("|")][2:]:
+        found = re.fullmatch(form, row)
+        if not found:
+            raise SystemExit(f"docs/{page}: this row is no example: {row}")
+        rows.append(found)
+    return rows
+
+
+class Run:
+    """What a run wrote, and its status: that of the process, or minus the signal that ended it."""
+
+    def __init__(self, status, out, err):
+        self.status, self.out, self.err = status, out, err
+
+
+def short(data):
+    return repr(data if len(data) <= 200 else data[:150] + b" .. " + data[-50:])[1:]
+
+
+def end_of(process):
+    try:
+        out, err = process.communicate(timeout=SECONDS)
+    except subprocess.TimeoutExpired:
+        process.kill()
+        process.communicate()
+        return Run(None, b"", b"(no end within %d seconds)" % SECONDS)
+    return Run(process.returncode, out or b"", err or b"")
+
+
+def start(arguments=(), environment=None, program=PROGRAM, **files):
+    settings = {"stdin": subprocess.DEVNULL, "stdout": subprocess.PIPE, "stderr": subprocess.PIPE}
+    settings.update(files)
+    settings["env"] = dict(os.environ, **(environment or {}))
+    return subprocess.Popen([program, *arguments], cwd=ROOM, **settings)
+
+
+def run(data, arguments=(), environment=None):
+    """Runs the program on bytes that lie in a file."""
+    with tempfile.TemporaryFile(dir=ROOM) as given:
+        given.write(data)
+        given.seek(0)
+        return end_of(start(arguments, environment, stdin=given))
+
+
+def run_in_pieces(data, size):
+    """Runs the program on a pipe that gives each read the next `size` bytes, fewer at the end."""
+    read_end, write_end = os.pipe2(os.O_DIRECT | os.O_CLOEXEC)  # a read takes one write's bytes
+
+    def feed():
+        try:
+            for at in range(0, len(data), size):
+                os.write(write_end, data[at : at + size])
+        except BrokenPipeError:
+            pass  # the program ended before the input did
+        finally:
+            os.close(write_end)
+
+    process = start(stdin=read_end)
+    os.close(read_end)
+    feeder = threading.Thread(target=feed)
+    feeder.start()
+    ended = end_of(process)
+    feeder.join()
+    return ended
+
+
+def differences(ended, out, status, err=b""):
+    """What is wrong with a run that must write `out` and `err` and end with `status`."""
+    wrong = []
+    if ended.out != out:
+        wrong.append(f"wrote {short(ended.out)}, not {short(out)}")
+    if ended.status != status:
+        wrong.append(f"ended with {ended.status}, not {status}")
+    if ended.err != err:
+        wrong.append(f"told {short(ended.err)}, not {short(err)}")
+    return wrong
+
+
+def told(message):
+    return b"rope-search: " + message + b"\n"
+
+
+def open_input(data):
+    """A file with these bytes, open at its start."""
+    given = tempfile.TemporaryFile(dir=ROOM)
+    given.write(data)
+    given.seek(0)
+    return given

@@ -1,0 +1,38 @@
+"""A program run with each of its requests for memory counted, and one of them refused, or one and all that
+follow it, by the library that tests/refuse_memory.c makes."""
+import functools
+import os
+import subprocess
+
+from harness import ROOM, TOP, test
+
+
+@functools.lru_cache(maxsize=None)
+def library():
+    """The library that refuses memory, built once, or None where that fails."""
+    made = os.path.join(ROOM, "refuse_memory.so")
+    build = [os.environ.get("CC", "cc"), "-std=c11", "-D_GNU_SOURCE", "-O2", "-Wall", "-Wextra", "-shared", "-fPIC"]
+    build += ["-o", made, os.path.join(TOP, "tests", "refuse_memory.c")]
+    try:
+        built = subprocess.run(build, stdin=subprocess.DEVNULL, stderr=subprocess.PIPE, text=True)
+        problems = [] if built.returncode == 0 else built.stderr.splitlines() or ["the compiler failed"]
+    except OSError as error:
+        problems = [f"no C compiler: {error}"]
+    test("the library that refuses memory is built", problems)
+    return None if problems else made
+
+
+def counted(runs, **settings):
+    """A run with the library, which `runs` makes of an environment, the number of its requests and the
+    greatest of them, in bytes."""
+    tally = os.path.join(ROOM, "tally")
+    if os.path.exists(tally):
+        os.remove(tally)
+    environment = {"LD_PRELOAD": library(), "REFUSE_MEMORY_TELL": tally}
+    environment.update({f"REFUSE_MEMORY_{name.upper()}": str(value) for name, value in settings.items()})
+    ended = runs(environment)
+    if not os.path.exists(tally):
+        return ended, 0, 0
+    with open(tally) as told_by:
+        count, largest = map(int, told_by.read().split())
+    return ended, count, largest

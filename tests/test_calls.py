@@ -1,0 +1,118 @@
+"""What the libraries' own calls do where memory is refused: patterns that are parsed and ropes that are built
+by bin/memory-tests, with each request refused in turn."""
+import re
+
+from harness import MEMORY_PROGRAM, differences, end_of, short, start, test
+from memory import counted, library
+from protocol import is_utf8
+
+PATTERNS = [
+    ("parse", "a"),
+    ("parse", "x*|(b|c)+?\\d{2,3}"),
+    ("parse", "(?P<year>\\d{4})-(?<month>[^\\W_])\\b|^$"),
+    ("fold", "[k-m\\s](?-i:s)(?m)^.\\D"),
+    ("fold", "\\w[\\w]\\W[^\\w-][\\wa]"),
+    ("parse", "(" * 250 + ")" * 250),
+    ("parse", "(a|b"),
+]
+PARTS = [
+    [""],
+    ["Here\r", "\nare\r\n", "", "words"],
+    ["a" * 983, "\r", "\n" + "b" * 3000, "\r", "\n", "c"],
+    ["é" * 491, "せ" * 500, "🐸" * 700 + "\r", "\n"],
+    ["x" * 100] * 40,
+]
+
+
+def told_rope(out):
+    """The numbers of the refused parts, the chunks, and whether a rope was told, from what
+    bin/memory-tests writes of one."""
+    refused, chunks = set(), []
+    while found := re.match(rb"part ([0-9]+) is refused\n", out):
+        refused.add(int(found[1]))
+        out = out[found.end() :]
+    while found := re.match(rb"([0-9]+) (?!bytes\n\Z)", out):
+        end = found.end() + int(found[1])
+        chunks.append(out[found.end() : end])
+        out = out[end + 1 :]
+    return refused, chunks, out == b"%d bytes\n" % sum(map(len, chunks))
+
+
+def wrong_chunks(chunks):
+    for number, chunk in enumerate(chunks):
+        last = number + 1 == len(chunks)
+        if not 1 <= len(chunk) <= 984 or (len(chunk) < 980 and not last):
+            yield f"chunk {number} has {len(chunk)} bytes"
+        if not is_utf8(chunk):
+            yield f"chunk {number} cuts a character"
+        if not last and chunk.endswith(b"\r") and chunks[number + 1].startswith(b"\n"):
+            yield f"a CR LF is cut after chunk {number}"
+
+
+def test_all():
+    if library() is None:
+        return
+
+    def call(arguments, **settings):
+        def runs(environment):
+            return end_of(start(arguments, environment, program=MEMORY_PROGRAM))
+
+        return counted(runs, **settings)
+
+    def refusals(arguments, count):
+        """The runs in which a request is refused alone, or with all after it."""
+        for number in range(1, count + 1):
+            for name in ("at", "from"):
+                ended, _, _ = call(arguments, **{name: number})
+                # Where the program lacks memory for its arguments, it makes no call.
+                if ended.status != 1 or ended.out:
+                    yield f"{name} request {number}", name, ended
+
+    def parses(arguments, whole, count):
+        seen = False
+        for place, _, ended in refusals(arguments, count):
+            seen = seen or ended.out == b"no memory\n"
+            out = ended.out if ended.out == b"no memory\n" else whole
+            for line in differences(ended, out, 0):
+                yield f"{place}: {line}"
+        if not seen:
+            yield "no refusal reached it"
+
+    def builds(arguments, parts, count):
+        seen = set()
+        for place, name, ended in refusals(arguments, count):
+            refused, chunks, is_told = told_rope(ended.out)
+            seen |= refused
+            left = "".join(part for number, part in enumerate(parts) if number not in refused).encode()
+            if is_told:
+                wrong = list(wrong_chunks(chunks)) + ([] if b"".join(chunks) == left else ["it is another text"])
+            else:
+                seen.add("finish")
+                wrong = [] if ended.out.endswith(b"no memory\n") else [f"it wrote {short(ended.out)}"]
+            if name == "at" and len(refused) + (not is_told) > 1:
+                wrong.append("more than one call was refused")
+            for line in wrong + differences(ended, ended.out, 0):
+                yield f"{place}: {line}"
+        if "".join(parts) and "finish" not in seen:
+            yield "no refusal reached finish"
+        if arguments[0] == "build" and len("".join(parts).encode()) > 1968 and not seen - {"finish"}:
+            yield "no refusal reached a part"
+
+    for arguments in PATTERNS:
+        name = short(" ".join(arguments).encode()[:60])
+        ended, count, _ = call(arguments)
+        test(f"{name} under the library, nothing refused", differences(ended, ended.out, 0) + ([] if count else ["it asked for no memory"]))
+        test(f"{name} with each of its {count} requests refused, alone and with all that follow", parses(arguments, ended.out, count))
+
+    def check_rope(arguments, parts):
+        name = f"{arguments[0]} of {len(parts)} parts, {short('|'.join(parts).encode()[:40])}"
+        ended, count, _ = call(arguments)
+        refused, chunks, is_told = told_rope(ended.out)
+        right = is_told and not refused and b"".join(chunks) == "".join(parts).encode()
+        wrong = list(wrong_chunks(chunks)) + ([] if right else [f"wrote {short(ended.out)}"])
+        test(f"{name}, nothing refused", wrong + differences(ended, ended.out, 0))
+        test(f"{name}, with each of its {count} requests refused, alone and with all that follow", builds(arguments, parts, count))
+
+    for parts in PARTS:
+        check_rope(["build", *parts], parts)
+        check_rope(["chunks", "|".join(parts)], parts)

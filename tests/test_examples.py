@@ -1,0 +1,158 @@
+"""The examples: the session that `make demo` shows, which README.md has too, the code there, and the search
+pane, run in a terminal of its own."""
+import fcntl
+import glob
+import os
+import pty
+import re
+import select
+import signal
+import struct
+import subprocess
+import sys
+import termios
+import time
+
+from harness import PROGRAM, ROOM, SECONDS, TOP, short, test
+
+ROWS, COLUMNS = 12, 80
+TEXT = "A frog 🐸 and a toad.\nNo toad here is green.\r\n" + "\n" * 40 + "the end\n"
+
+
+def test_demo():
+    demo = os.path.join(TOP, "examples", "demo.py")
+    session = os.path.join(TOP, "examples", "first.session")
+    ended = subprocess.run([sys.executable, demo, session, PROGRAM], stdin=subprocess.DEVNULL, stdout=subprocess.PIPE)
+    shown = ended.stdout.decode()
+    test("the demo ends well", [] if ended.returncode == 0 else [f"with {ended.returncode}"])
+    with open(session, "rb") as file:
+        data = file.read()
+    out = subprocess.run([PROGRAM], input=data, stdout=subprocess.PIPE).stdout.decode()
+    told = "".join(line for line in shown.splitlines(True) if not line.startswith("> "))
+    test("the demo shows what the program answers to the whole session", [] if told == out else [f"it shows {told!r}"])
+    with open(os.path.join(TOP, "README.md"), encoding="utf-8") as file:
+        block = "".join(f"    {line}".rstrip() + "\n" for line in shown.splitlines())
+        test("README.md shows the demo's session", [] if block in file.read() else ["it shows another"])
+
+
+def test_code():
+    """Each block of code of README.md stands in a test that the gate runs."""
+
+    def bare(text):
+        return "\n".join(line.strip() for line in text.splitlines())
+
+    tests = []
+    for form in ("*_tests/src/*.rt", "*/src/tests.rt"):
+        for path in glob.glob(os.path.join(TOP, "crates", form)):
+            with open(path, encoding="utf-8") as file:
+                tests.append(bare(file.read()))
+    with open(os.path.join(TOP, "README.md"), encoding="utf-8") as file:
+        blocks = re.findall(r"```rust\n(.*?)\n```", file.read(), re.DOTALL)
+    for block in blocks:
+        stands = any(bare(block) in lines for lines in tests)
+        test(f"README.md's {block.splitlines()[0]!r} is in a test", [] if stands else ["it is in none"])
+    test("README.md has code", [] if len(blocks) >= 2 else [f"{len(blocks)} blocks"])
+
+
+class Pane:
+    """The pane in a terminal: what it wrote to that, and its exit status."""
+
+    def __init__(self, text):
+        path = os.path.join(ROOM, "shown")
+        with open(path, "wb") as file:
+            file.write(text)
+        self.control, self.terminal = pty.openpty()
+        fcntl.ioctl(self.terminal, termios.TIOCSWINSZ, struct.pack("HHHH", ROWS, COLUMNS, 0, 0))
+        self.settings = termios.tcgetattr(self.terminal)
+        command = [sys.executable, os.path.join(TOP, "examples", "pane.py"), path, PROGRAM]
+        files = {"stdin": self.terminal, "stdout": self.terminal, "stderr": self.terminal}
+        self.process = subprocess.Popen(command, cwd=ROOM, start_new_session=True, **files)
+        self.out = b""
+
+    def shows(self, wanted, since=0):
+        """Waits until the terminal was given these bytes, and tells whether it was."""
+        end = time.monotonic() + SECONDS
+        while wanted not in self.out[since:] and time.monotonic() < end:
+            if select.select([self.control], [], [], 0.1)[0]:
+                self.out += os.read(self.control, 1 << 16)
+            elif self.process.poll() is not None:
+                break
+        return wanted in self.out[since:]
+
+    def type(self, keys):
+        """Types keys, and answers how much had been written before."""
+        before = len(self.out)
+        os.write(self.control, keys.encode())
+        return before
+
+    def end(self):
+        """What is wrong with how the pane left the terminal, once it has been told to end."""
+        if not self.shows(b"\x1b[?1049l"):
+            yield f"it leaves the terminal as {short(self.out[-200:])}"
+        try:
+            status = self.process.wait(SECONDS)
+        except subprocess.TimeoutExpired:
+            os.killpg(self.process.pid, signal.SIGKILL)
+            status = self.process.wait()
+        if status != 0:
+            yield f"it ends with {status}: {short(self.out[-200:])}"
+        if termios.tcgetattr(self.terminal) != self.settings:
+            yield "it leaves the terminal with other settings"
+        os.close(self.control)
+        os.close(self.terminal)
+
+
+def test_pane():
+    pane = Pane(TEXT.encode())
+
+    def asked(keys, *wanted):
+        before = pane.type(keys)
+        return [f"after {keys!r} it doesn't show {text!r}" for text in wanted if not pane.shows(text.encode(), before)]
+
+    started = pane.shows("     2  No toad here is green.".encode())
+    test("the pane shows a file's lines", [] if started else [f"it shows {short(pane.out)}"])
+    marked = "     1  A frog 🐸 and a \x1b[7mtoad\x1b[27m."
+    test("the pane marks matches behind a character of two code units", asked("toad", "matches: 2, lines: 2", marked))
+    test("the pane tells a pattern that is refused", asked("(", "error pattern", "     1  A frog 🐸 and a toad."))
+    test("the pane goes on after it", asked("\x7f", "matches: 2, lines: 2", marked))
+    test("Enter goes to the next line with a match", asked("\r", "\x1b[2H\x1b[K     2  No \x1b[7mtoad"))
+    test("Up and Down move the file", asked("\x1b[A", "\x1b[2H\x1b[K     1  ") + asked("\x1b[B", "\x1b[2H\x1b[K     2  "))
+    far = asked("\x7f" * 4 + "the end", "search: the end", "    43  \x1b[7mthe end\x1b[27m")
+    test("the pane goes to the first match where none is in sight", far)
+    test("without a pattern the pane marks nothing", asked("\x7f" * 7, "    43  the end"))
+    pane.type("\x1b")
+    test("Escape leaves, with the terminal as it was", pane.end())
+
+    pane = Pane(b"x\n")
+    pane.shows(b"     1  x")
+    pane.type("\x03")
+    test("Ctrl-C leaves, with the terminal as it was", pane.end())
+
+    pane = Pane(b"a\x1b[31mb\n")
+    shown = pane.shows("     1  a·[31mb".encode())
+    pane.type("\x1b")
+    test("the pane gives the terminal no control characters of a file", ([] if shown else ["it does"]) + list(pane.end()))
+
+    pane = Pane("".join(f"line {number} é\n" for number in range(50000)).encode())
+    pane.shows(b"     1  line")
+    start = time.monotonic()
+    for key in "line 4":
+        pane.type(key)
+    shown = pane.shows(b"search: line 4\x1b7   matches: ")
+    seconds = time.monotonic() - start
+    test("the pane follows who types fast over 50,000 lines", [] if shown and seconds < 20 else [f"after {seconds:.1f} s"])
+    pane.type("\x1b")
+    test("it leaves at once then", pane.end())
+
+    pane = Pane(b"\xff")
+    refused = pane.shows(b"error utf8")
+    test("the pane tells that a file isn't UTF-8", [] if refused else [f"it shows {short(pane.out)}"])
+    pane.process.wait()
+    os.close(pane.control)
+    os.close(pane.terminal)
+
+
+def test_all():
+    test_demo()
+    test_code()
+    test_pane()

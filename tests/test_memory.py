@@ -1,0 +1,92 @@
+"""What bin/rope-search does where memory is refused: each request of several sessions in turn, alone and
+with all that follow it."""
+from harness import FIRST, differences, run, short, test, told
+from memory import counted, library
+from protocol import HAS_PAYLOAD, NUMBER_LIMIT, TAKES_MEMORY, TEXT_LIMIT, answer, read_commands, replies
+
+# Inputs on which memory is refused. The payload of the second is as long as several reads and
+# spells commands, which must not be carried out where it is lost.
+MEMORY_INPUTS = [
+    FIRST,
+    b"text 9000\n" + b"print\n" * 1500 + b"fork\nprint\nuse 1\ntext 6000\n" + b"use 0\n" * 1000 + b"print\nuse 0\nprint\n",
+    b"fork\n" * 40 + b"use 40\ntext 3\nabcfork\nuse 41\nprint\n",
+    b"text 9\naba\na\nbabpattern 1\nblist\ntext 5\nb\nb\nblist\npattern 1\n*pattern 1\nclist\noff\nlist\nprint\n",
+    b"pattern 2\nabtext 240\n" + b"abab\n" * 48 + b"list\nfork\nuse 1\nlist\nuse 0\noff\nprint\n",
+    b"pattern 1\nbtext 4003\n" + b"a" * 2000 + b"b\n" + b"a" * 2000 + b"blist\ntext 2\nb\nlist\nprint\n",
+    b"text 2\nab" + b"text 3\n\xff\xfe\xfd" + b"fork\nuse 9\nuse 1\ntext 0\nprint\nuse 0\nprint\nundo\n",
+]
+
+
+def test_all():
+    if library() is None:
+        return
+
+    def session(data, **settings):
+        return counted(lambda environment: run(data, environment=environment), **settings)
+
+    def one_refused(data, count):
+        """Each request refused alone: no session at all, or want of memory told by one command."""
+        commands, _ = read_commands(data)
+        takers = {place for place, command in enumerate(commands) if command[0] in TAKES_MEMORY}
+        allowed = {answer(data, {place})[0]: place for place in takers}
+        seen = set()
+        for number in range(1, count + 1):
+            ended, _, _ = session(data, at=number)
+            if ended.status == 1:
+                for wrong in differences(ended, b"", 1, told(b"out of memory")):
+                    yield f"request {number}: {wrong}"
+            elif ended.out in allowed:
+                seen.add(allowed[ended.out])
+                for wrong in differences(ended, ended.out, answer(data)[1]):
+                    yield f"request {number}: {wrong}"
+            else:
+                yield f"request {number}: no command alone is answered error memory: {short(ended.out)}"
+        # A payload that isn't empty needs memory, and so does some fork among many.
+        for place in sorted(takers - seen):
+            if commands[place][0] in HAS_PAYLOAD and commands[place][1] > 0:
+                yield f"no refusal reached command {place}, a {commands[place][0]}"
+        forks = {place for place in takers if commands[place][0] == "fork"}
+        if len(forks) >= 10 and not forks & seen:
+            yield "no refusal reached a fork"
+
+    def all_refused_from(data, count):
+        """Each request and all after it refused: what was told is right for the commands that tell
+        want of memory, and these take memory."""
+        commands, _ = read_commands(data)
+        for number in range(1, count + 1):
+            ended, _, _ = session(data, **{"from": number})
+            if ended.status == 1:
+                wrong = differences(ended, b"", 1, told(b"out of memory"))
+            else:
+                wrong = differences(ended, *follow(commands, ended.out, data))
+            for line in wrong:
+                yield f"from request {number}: {line}"
+
+    def follow(commands, out, data):
+        """The answer to the input where memory is refused to the commands that `out` says."""
+        refused = set()
+        for place, command in enumerate(commands):
+            if command[0] in TAKES_MEMORY:
+                before = b"".join(replies(commands[:place], refused))
+                if out[len(before) :].startswith(b"error memory\n"):
+                    refused.add(place)
+        return answer(data, refused)
+
+    for data in MEMORY_INPUTS:
+        name = short(data[:40]) + (f".. ({len(data)} bytes)" if len(data) > 40 else "")
+        ended, count, _ = session(data)
+        wrong = differences(ended, *answer(data)) + ([] if count else ["it asked for no memory"])
+        test(f"{name} under the library, nothing refused", wrong)
+        test(f"{name} with each of its {count} requests refused", one_refused(data, count))
+        test(f"{name} with all from each of its {count} requests on refused", all_refused_from(data, count))
+
+    def claims():
+        """No memory is asked for by the number that a line claims, but by what was read."""
+        for number in (100_000_000, TEXT_LIMIT, TEXT_LIMIT + 1, NUMBER_LIMIT):
+            data = b"text %d\nab" % number
+            ended, _, largest = session(data)
+            yield from differences(ended, b"error end\n", 2)
+            if largest > 1 << 16:
+                yield f"text {number} with two bytes asks for {largest} bytes"
+
+    test("a line that claims many bytes takes no memory for them", claims())

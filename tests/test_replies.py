@@ -1,0 +1,152 @@
+"""What bin/rope-search answers: the examples of docs/protocol.md and longer ones, from a file, from a pipe
+in pieces, cut short, and command by command."""
+import os
+import re
+import select
+import subprocess
+import tempfile
+
+from harness import FIRST, ROOM, SECONDS, TOP, differences, end_of, example_rows, run, run_in_pieces, short, start, test
+from protocol import TEXT_LIMIT, answer, read_commands, replies
+
+
+def bytes_of(spelling):
+    """The bytes that a spelling of the page stands for: \\n, \\r and \\xHH are escapes."""
+    return re.sub(
+        r"\\(n|r|x[0-9a-f]{2})",
+        lambda found: {"n": "\n", "r": "\r"}.get(found[1]) or chr(int(found[1][1:], 16)),
+        spelling,
+    ).encode("latin-1")
+
+
+def examples_of_page():
+    """The rows of the page's table of examples: input, output, status."""
+    rows = example_rows("protocol.md", r"\| (?:`(.+)`|nothing) \| (?:`(.+)`|nothing) \| ([02]) \|")
+    return [(bytes_of(row[1] or ""), bytes_of(row[2] or ""), int(row[3])) for row in rows]
+
+
+LONG_EXAMPLES = [
+    (b"x" * 128, b"error end\n", 2),
+    (b"x" * 129, b"error command\n", 2),
+    (b"x" * 128 + b"\n", b"error command\n", 2),
+    (b"x" * 129 + b"\n", b"error command\n", 2),
+    (b"text 0\n" + b" " * 128, b"ok\nerror end\n", 2),
+    (b"text 0\n" + b" " * 129, b"ok\nerror command\n", 2),
+    (b"use 0" + b" " * 123 + b"\n", b"error command\n", 2),
+    (b"text 9000\n" + b"print\n" * 1500 + b"print\n", b"ok\ntext 9000\n" + b"print\n" * 1500 + b"\n", 0),
+    (b"text 9001\n" + b"print\n" * 1500 + b"\xff" + b"print\n", b"error utf8\ntext 0\n\n", 0),
+    (b"pattern 65536\n" + b"a" * 65536 + b"list\n", b"ok\nok 0\n", 0),
+    (b"pattern 65537\n" + b"a" * 65537 + b"list\n", b"error limit\nerror none\n", 0),
+    (b"pattern 65537\n" + b"a" * 65536 + b"\xfflist\n", b"error utf8\nerror none\n", 0),
+    (b"pattern 65537\n" + b"*" * 65537 + b"list\n", b"error limit\nerror none\n", 0),
+    (b"pattern 65536\n" + b"a" * 65535 + b"*list\n", b"error pattern\nerror none\n", 0),
+    (b"text 1969\n" + b"a" * 983 + b"xyz" + b"a" * 983 + b"pattern 3\nxyzlist\n", b"ok\nok\nm 0 983 986\nok 1\n", 0),
+    # lines and breaks at the end of a chunk of 984 bytes, and a line over several chunks
+    (b"pattern 1\nbtext 1004\n" + b"a" * 982 + b"b\r\n" + b"a" * 18 + b"blist\n", b"ok\nok\nm 0 982 983\nm 1 18 19\nok 2\n", 0),
+    (b"pattern 2\nabtext 3006\n" + b"a" * 3000 + b"b\n\nab\nlist\nprint\n", b"ok\nok\nm 0 2999 3001\nm 2 0 2\nok 2\ntext 3006\n" + b"a" * 3000 + b"b\n\nab\n\n", 0),
+    (b"fork\n" * 300 + b"use 300\nuse 301\n", b"".join(b"ok %d\n" % k for k in range(1, 301)) + b"ok\nerror none\n", 0),
+]
+
+
+def pieces(data, out, status):
+    for size in (1, 2, 3, 4096):
+        for wrong in differences(run_in_pieces(data, size), out, status):
+            yield f"in pieces of {size}: {wrong}"
+
+
+def cuts(data):
+    """The input cut after each of its bytes, by the model."""
+    for length in range(len(data)):
+        out, status = answer(data[:length])
+        for wrong in differences(run(data[:length]), out, status):
+            yield f"the first {length} bytes: {wrong}"
+
+
+def test_examples(examples):
+    test(f"the page has its examples ({len(examples)})", [] if len(examples) >= 20 else ["fewer than 20"])
+    with open(os.path.join(TOP, "crates", "rope_search_cli", "stdin"), "rb") as stored:
+        same = stored.read() == examples[0][0] == FIRST
+    test("the program's stored run is the first example", [] if same else ["it is not"])
+    for data, out, status in examples + LONG_EXAMPLES:
+        name = short(data[:60]) + (f".. ({len(data)} bytes)" if len(data) > 60 else "")
+        model = [] if answer(data) == (out, status) else [f"the model answers {answer(data)}"]
+        test(f"{name} in a file", model + differences(run(data), out, status))
+        test(f"{name} in pieces of 1, 2, 3 and 4,096 bytes", pieces(data, out, status))
+        if len(data) <= 400:
+            test(f"{name} cut after each of its bytes", cuts(data))
+
+
+def test_ample_memory():
+    text = "".join(f"line {number}: wörter, 🐸\n" for number in range(20000)).encode()
+    data = b"text %d\n" % len(text) + text + b"fork\nprint\nuse 1\nprint\n" * 3 + b"text 0\nprint\n"
+    ended = run(data)
+    wrong = differences(ended, *answer(data))
+    test("a text of many reads, and no want of memory", wrong + (["error memory"] if b"error memory" in ended.out else []))
+
+
+def test_long_text():
+    """A text one byte over the limit is read past and refused; it lies in a file with a hole."""
+    line = b"text %d\n" % (TEXT_LIMIT + 1)
+    with tempfile.TemporaryFile(dir=ROOM) as given:
+        given.write(line)
+        given.truncate(len(line) + TEXT_LIMIT + 1)
+        given.seek(0, os.SEEK_END)
+        given.write(b"print\n")
+        given.seek(0)
+        ended = end_of(start(stdin=given))
+    test("a text one byte over the limit", differences(ended, b"error size\ntext 0\n\n", 0))
+
+
+def test_conversation():
+    """Each reply comes while the program waits for the next command."""
+
+    def talk(data):
+        commands, _ = read_commands(data)
+        process = start(stdin=subprocess.PIPE, bufsize=0)
+        try:
+            for (word, number, payload), reply in zip(commands, replies(commands)):
+                line = word.encode() + (b"" if number is None else b" %d" % number) + b"\n"
+                os.write(process.stdin.fileno(), line)
+                if payload:
+                    os.write(process.stdin.fileno(), payload)
+                heard = b""
+                while len(heard) < len(reply):
+                    if not select.select([process.stdout], [], [], SECONDS)[0]:
+                        yield f"after {short(line)} nothing more than {short(heard)} comes"
+                        return
+                    more = os.read(process.stdout.fileno(), len(reply) - len(heard))
+                    if not more:
+                        break
+                    heard += more
+                if heard != reply:
+                    yield f"{short(line)} is answered {short(heard)}, not {short(reply)}"
+                    return
+            process.stdin.close()
+            process.stdin = None
+            yield from differences(end_of(process), b"", 0)
+        except BrokenPipeError:
+            yield "the program ended before the commands did"
+        finally:
+            process.kill()
+            process.communicate()
+
+    for data in (
+        FIRST,
+        b"print\nuse 7\ntext 1\n\xfffork\nuse 1\ntext 3\na\nbprint\n",
+        b"list\npattern 1\naoff\ntext 3\na\napattern 1\nalist\npattern 1\n(list\n",
+    ):
+        test(f"{short(data)} command by command, each reply before the next", talk(data))
+
+
+def test_arguments():
+    for arguments in (["--help"], ["-", "print"], ["text", "2", ""], ["x"] * 500):
+        name = " ".join(map(repr, arguments[:3])) + (" .." if len(arguments) > 3 else "")
+        test(f"the arguments {name} are ignored", differences(run(FIRST, arguments), *answer(FIRST)))
+
+
+def test_all():
+    test_examples(examples_of_page())
+    test_ample_memory()
+    test_long_text()
+    test_conversation()
+    test_arguments()
