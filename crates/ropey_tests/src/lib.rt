@@ -1,0 +1,13 @@
+//! Tests of `ropey`, apart from it since a crate with tests is proved twice.
+#![tactic(auto)]
+
+#[cfg(test)]
+mod building;
+#[cfg(test)]
+mod checks;
+#[cfg(test)]
+mod examples;
+#[cfg(test)]
+mod lookups;
+#[cfg(test)]
+mod texts;
