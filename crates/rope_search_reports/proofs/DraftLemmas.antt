@@ -9,7 +9,7 @@ use Rattle.ropey.specs.Iter.{CutsNoCrLf}
 use Rattle.rope_search_reports.specs.Ticks.{Ticks}
 use Rattle.rope_search_reports.specs.Report.{line_texts, IsRow, AreRows, IsReport}
 use Rattle.rope_search_reports.specs.Drafts.{with_front, AddsRow, AddsLines}
-use Rattle.rope_search_reports.proofs.LineLemmas.{line_texts-nil, lines-counted, lines-cut, line-last, first_line, front-none, join_lines, join-last, lines-joined}
+use Rattle.rope_search_reports.proofs.LineLemmas.{line_texts-nil, lines-counted, lines-cut, line-last, first_line, front-none, join_lines, join-last, join-length, lines-joined}
 
 -- no bytes spell no characters
 pub chars-none : (bytes : List ℕ) → length bytes ≡ 0 → chars bytes ≡ []
@@ -174,7 +174,7 @@ front-breaks front rest whole =
       lines-counted (text_of front ++ text_of rest),
       lines-counted (text_of front),
       lines-counted (text_of rest),
-      join-length (line_texts (text_of front)) (line_texts (text_of rest)),
+      join-length (line_texts (text_of front)) (line_texts (text_of rest)) (omega (arith, lines-counted (text_of rest))),
     )
 
 -- the piece that comes next, in the lines so far

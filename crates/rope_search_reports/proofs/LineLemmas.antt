@@ -96,10 +96,10 @@ break-cut c cs is_so = elim (cases_Bool (ends_break is_line_break c cs)) [
 ]
   where
     crlf : (ds : List ℕ) → ends_break is_line_break c ds ≡ false → IsCutOff (c ∷ ds)
-    crlf [] no = absurd (grind (arith, nat_tests, is_so, no))
-    crlf (d ∷ ds) no =
-        let cr : c ≡ 13 = grind (arith, nat_tests, is_so, no) in
-        let lf : d ≡ 10 = grind (arith, nat_tests, is_so, no) in
+    crlf [] not_yet = absurd (grind (arith, nat_tests, is_so, not_yet))
+    crlf (d ∷ ds) not_yet =
+        let cr : c ≡ 13 = grind (arith, nat_tests, is_so, not_yet) in
+        let lf : d ≡ 10 = grind (arith, nat_tests, is_so, not_yet) in
         record { line = []; one = c ∷ d ∷ []; rest = ds; parts = refl; plain = tt; is = (cr, lf, refl, refl) }
 
 pub first_line : (text : List ℕ) → NonePass is_line_break text ⊎ IsCutOff text
@@ -164,10 +164,11 @@ join-last [] tail others = refl
 join-last (line ∷ []) tail others = refl
 join-last (line ∷ line' ∷ done) tail others = ap (λ ls. line ∷ ls) (join-last (line' ∷ done) tail others)
 
-pub join-length : (lines others : List (List ℕ)) → length lines ≤ length (join_lines lines others) + 1
-join-length [] others = omega arith
-join-length (line ∷ []) others = omega arith
-join-length (line ∷ line' ∷ lines) others = omega (arith, join-length (line' ∷ lines) others)
+pub join-length : (lines others : List (List ℕ)) → 0 < length others → length lines ≤ length (join_lines lines others)
+join-length [] others some = omega arith
+join-length (line ∷ []) [] some = absurd (omega (arith, some))
+join-length (line ∷ []) (other ∷ others) some = omega arith
+join-length (line ∷ line' ∷ lines) others some = omega (arith, join-length (line' ∷ lines) others some)
 
 -- no CR LF is cut: what ends a break still does
 ends-joined : (c : ℕ) (cs second : List ℕ) → NoCrLfBetween (c ∷ cs) second → ends_break is_line_break c (cs ++ second) ≡ ends_break is_line_break c cs

@@ -1,5 +1,6 @@
 use Rattle.std.proofs.Common.{◌≡◌, ◌+◌, ◌-◌, ◌<◌, ◌≤◌, ◌++◌, [], List, ℕ, IsUtf8, length, take, drop, chars, string_bytes, refl, sym, ap, subst, ◌∙◌, arith, length-drop}
 use Rattle.std.proofs.lemmas.Str.{chars-nil, IsUtf8-drop}
+use Rattle.std.specs.Prelude.{IsNone}
 use Rattle.str_indices.specs.Text.{is_line_break, breaks}
 use Rattle.rope_search_reports.specs.Drafts.{AddsRow}
 use Rattle.rope_search_reports.proofs.DraftLemmas.{Ended, Ended-start, Ended-line, Ended-end, first-lines, first-counted}
@@ -18,7 +19,14 @@ loop-at-smaller c =
     less
 
 pub returns-in_err-end_line-clause-count : goal.returns-in_err-end_line-clause-count
-returns-in_err-end_line-clause-count c = ?
+returns-in_err-end_line-clause-count c =
+    let rest = c.loop-at.rest.now in
+    let at = c.in-Some.ensures.first in
+    let line = take c.in-Some.at.start rest in
+    let later = drop c.in-Some.at.end rest in
+    let one = first-counted (chars rest) (chars line) (chars later) (first-lines rest c.in-Some.at.start c.in-Some.at.end line later at refl refl) in
+    let counted = c.loop-at.invariant.1.0.counted in
+    omega (arith, counted, one, c.end_line.ensures.count)
 
 pub loop-at-preserved : goal.loop-at-preserved
 loop-at-preserved c =
@@ -41,4 +49,6 @@ loop-at-preserved c =
     )
 
 pub returns-clause-rows : goal.returns-clause-rows
-returns-clause-rows c = ?
+returns-clause-rows c =
+    let none : breaks is_line_break (chars c.loop-at.rest.now) ≡ 0 = c.first_break.ensures.none.0 (subst IsNone (sym c.in_default.is) refl) in
+    Ended-end _ _ _ _ _ _ _ _ _ c.loop-at.invariant.1.0 none
