@@ -51,7 +51,8 @@ impl Model for Buffer {
 impl Buffer {
     /// A buffer with the empty text and no pattern. It may be refused with `Fault::Memory` alone.
     pub fn new(alloc: Global, limits: Limits) -> Result<Buffer, Fault>
-        ensures ok { IfOk result (λ buffer. buffer ≡ record { limit = limits.text; state = fresh [] }) }
+        ensures ok { IfOk result (λ buffer.
+            buffer ≡ record { limit = limits.text; state = fresh [] }) }
         ensures err { IfErr result (λ fault. fault ≡ Fault.Memory) }
     {
         Ok(Buffer {
@@ -115,7 +116,8 @@ impl Buffer {
     /// or more characters that stand for themselves, which are all but `\ . + * ? ( ) | [ { ^ $`; and
     /// perhaps with `Fault::Memory`. The buffer is then as before.
     pub fn set_pattern(&mut self, tick: &mut Lines, pattern: &str) -> Result<(), Fault>
-        ensures ok { OnOk result (self.new.state ≡ with_pattern self.old.state (Some (chars pattern.now))) }
+        ensures ok { OnOk result
+            (self.new.state ≡ with_pattern self.old.state (Some (chars pattern.now))) }
         ensures limit { self.new.limit ≡ self.old.limit }
         ensures too_long { (result ≡ Err Fault.Limit) ↔ (pattern_limit < length pattern.now) }
         ensures is_pattern { OnOk result (IsPattern (chars pattern.now)) }

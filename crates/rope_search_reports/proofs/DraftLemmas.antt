@@ -1,239 +1,237 @@
 -- The report of a text in pieces, made line by line.
-use Rattle.std.proofs.Common.{◌≡◌, ℕ, ◌+◌, ◌<◌, ◌≤◌, Bool, false, ◌&&◌, List, [], ◌∷◌, ◌++◌, length, refl, sym, ap, subst, ◌∙◌, append-nil, append_assoc, arith, length-append}
-use Rattle.std.specs.Str.{NonePass}
-use Rattle.std.proofs.Math.Utf8.{encode}
+use Rattle.std.proofs.Common.{◌≡◌, ℕ, ◌+◌, ◌-◌, ◌<◌, ◌≤◌, Bool, true, false, ◌&&◌, List, [], ◌∷◌, ◌++◌, chars, length, take, drop, refl, sym, ap, subst, ◌∙◌, ◌⊎◌, inl, inr, append-nil, append_assoc, arith, length-append}
 use Rattle.std.proofs.lemmas.List.Folds.{concat-append}
-use Rattle.std.proofs.lemmas.Str.{encodes-append, length-encode, len_utf8_bounds}
-use Rattle.str_indices.specs.Text.{is_line_break, starts_with_lf, breaks, byte_len, ends_with_cr}
-use Rattle.ropey.specs.Chunks.{IsPiece, IsCutting}
-use Rattle.ropey.specs.Chunks.{text_of, ShowsChunk}
-use Rattle.ropey.specs.Laws.{CutsNoCrLf, NextChunkFollows, IsNextChunk}
+use Rattle.std.proofs.lemmas.Str.{chars-nil}
+use Rattle.str_indices.specs.Text.{is_line_break, ends_with_cr, breaks, NoCrLfBetween}
+use Rattle.str_indices.specs.FirstBreak.{IsFirstBreak}
+use Rattle.ropey.specs.Chunks.{text_of}
+use Rattle.ropey.specs.Iter.{CutsNoCrLf}
 use Rattle.rope_search_reports.specs.Ticks.{Ticks}
-use Rattle.rope_search_reports.specs.Report.{line_texts, IsRow, AreRows, IsReport, AddsRow}
-use Rattle.rope_search_reports.specs.LineCuts.{BeginsWithLine}
-use Rattle.rope_search_reports.proofs.ReportLemmas.{line_texts-nil, lines-counted, line-cut, none-append}
+use Rattle.rope_search_reports.specs.Report.{line_texts, IsRow, AreRows, IsReport}
+use Rattle.rope_search_reports.specs.Drafts.{with_front, AddsRow, AddsLines}
+use Rattle.rope_search_reports.proofs.LineLemmas.{line_texts-nil, lines-counted, lines-cut, line-last, first_line, front-none, join_lines, join-last, join-length, lines-joined}
 
--- ---- the end of a text
-
-ends-append : (xs : List ℕ) (y : ℕ) (ys : List ℕ) → ends_with_cr (xs ++ y ∷ ys) ≡ ends_with_cr (y ∷ ys)
-ends-append [] y ys = refl
-ends-append (x ∷ []) y ys = refl
-ends-append (x ∷ x' ∷ xs) y ys = ends-append (x' ∷ xs) y ys
-
--- where a text and a later one have no CR LF between them, the end of the text has none either
-ends-back : (xs ys : List ℕ) (lf : Bool) → (ends_with_cr (xs ++ ys) && lf) ≡ false → (ends_with_cr ys && lf) ≡ false
-ends-back xs [] lf whole = refl
-ends-back xs (y ∷ ys) lf whole = ap (λ cr. cr && lf) (sym (ends-append xs y ys)) ∙ whole
-
-byte_len-append : (xs ys : List ℕ) → byte_len (xs ++ ys) ≡ byte_len xs + byte_len ys
-byte_len-append xs ys = ap length (encodes-append xs ys) ∙ length-append _ _
-
-no_bytes : (cs : List ℕ) → byte_len cs ≡ 0 → cs ≡ []
-no_bytes [] none = refl
-no_bytes (c ∷ cs) none = absurd (omega (arith, none, byte_len-append (c ∷ []) cs, length-append (encode c) [], length-encode c, len_utf8_bounds c))
-
--- ---- cuttings
-
-first-piece : (piece : List ℕ) (pieces : List (List ℕ)) → IsCutting (piece ∷ pieces) → IsPiece piece
-first-piece piece [] cut = cut
-first-piece piece (other ∷ pieces) cut = cut.0
-
-later-pieces : (piece : List ℕ) (pieces : List (List ℕ)) → IsCutting (piece ∷ pieces) → IsCutting pieces
-later-pieces piece [] cut = tt
-later-pieces piece (other ∷ pieces) cut = cut.2
-
-cut-back : (front back : List (List ℕ)) → IsCutting (front ++ back) → IsCutting back
-cut-back [] back cut = cut
-cut-back (piece ∷ front) back cut = cut-back front back (later-pieces piece (front ++ back) cut)
-
--- ---- the lines of a text that goes on
-
--- behind a front of its own, a text begins with a line
-line-past : (front text line rest later : List ℕ) → NonePass is_line_break front → BeginsWithLine text line rest → (ends_with_cr text && starts_with_lf later) ≡ false
-    → line_texts (front ++ (text ++ later)) ≡ (front ++ line) ∷ line_texts (rest ++ later)
-line-past front text line rest later plain cut whole =
-    let behind = cut.behind in
-    let split : front ++ (text ++ later) ≡ (front ++ line) ++ (behind ++ later) =
-    ap (λ t. front ++ (t ++ later)) cut.parts ∙ ap (λ t. front ++ t) (append_assoc line behind later) ∙ sym (append_assoc front line (behind ++ later)) in
-    let whole' = ends-back line behind (starts_with_lf later) (ap (λ t. ends_with_cr t && starts_with_lf later) (sym cut.parts) ∙ whole) in
-    ap line_texts split
-    ∙ line-cut (front ++ line) (behind ++ later) (line_texts (rest ++ later)) (none-append is_line_break front line plain cut.plain) (cut.ends.lines later whole')
-
--- and the rest has no CR LF cut at its end either
-rest-whole : (text line rest later : List ℕ) → BeginsWithLine text line rest → (ends_with_cr text && starts_with_lf later) ≡ false → (ends_with_cr rest && starts_with_lf later) ≡ false
-rest-whole text line rest later cut whole =
-    let split : text ≡ (line ++ cut.ends.one) ++ rest = cut.parts ∙ ap (λ t. line ++ t) cut.ends.parts ∙ sym (append_assoc line cut.ends.one rest) in
-    ends-back (line ++ cut.ends.one) rest (starts_with_lf later) (ap (λ t. ends_with_cr t && starts_with_lf later) (sym split) ∙ whole)
-
--- a text without a break has one line
-line-last : (text : List ℕ) → NonePass is_line_break text → line_texts text ≡ text ∷ []
-line-last text plain = ap line_texts (sym (append-nil text)) ∙ line-cut text [] [] plain line_texts-nil
+-- no bytes spell no characters
+pub chars-none : (bytes : List ℕ) → length bytes ≡ 0 → chars bytes ≡ []
+chars-none [] none = chars-nil
+chars-none (b ∷ bytes) none = absurd (omega (arith, none))
 
 -- ---- rows
 
-AreRows-length : (needle : List ℕ) (lines : List (List ℕ)) (rows : List (List (ℕ × ℕ))) → AreRows needle lines rows → length rows ≡ length lines
-AreRows-length needle [] [] are = refl
-AreRows-length needle [] (row ∷ rows) are = absurd are
-AreRows-length needle (line ∷ lines) [] are = absurd are
-AreRows-length needle (line ∷ lines) (row ∷ rows) are = omega (arith, AreRows-length needle lines rows are.1)
+AreRows-join : (pattern : List ℕ) (lines lines' : List (List ℕ)) (rows rows' : List (List (ℕ × ℕ))) → AreRows pattern lines rows → AreRows pattern lines' rows'
+    → AreRows pattern (lines ++ lines') (rows ++ rows')
+AreRows-join pattern [] lines' [] rows' are are' = are'
+AreRows-join pattern [] lines' (row ∷ rows) rows' are are' = absurd are
+AreRows-join pattern (line ∷ lines) lines' [] rows' are are' = absurd are
+AreRows-join pattern (line ∷ lines) lines' (row ∷ rows) rows' are are' = (are.0, AreRows-join pattern lines lines' rows rows' are.1 are')
 
-AreRows-more : (needle : List ℕ) (lines : List (List ℕ)) (rows : List (List (ℕ × ℕ))) (line : List ℕ) (row : List (ℕ × ℕ)) → AreRows needle lines rows → IsRow needle line row
-    → AreRows needle (lines ++ line ∷ []) (rows ++ row ∷ [])
-AreRows-more needle [] [] line row are is = (is, tt)
-AreRows-more needle [] (r ∷ rows) line row are is = absurd are
-AreRows-more needle (l ∷ lines) [] line row are is = absurd are
-AreRows-more needle (l ∷ lines) (r ∷ rows) line row are is = (are.0, AreRows-more needle lines rows line row are.1 is)
+-- ---- the lines of one chunk
 
--- a row more, that of this line
-AreRows-add : (needle : List ℕ) (lines : List (List ℕ)) (rows rows' : List (List (ℕ × ℕ))) (line : List ℕ) → AreRows needle lines rows → AddsRow needle line rows rows'
-    → AreRows needle (lines ++ line ∷ []) rows'
-AreRows-add needle lines rows rows' line are adds =
-    subst (AreRows needle (lines ++ line ∷ [])) (sym adds.added) (AreRows-more needle lines rows line adds.row are adds.is)
-
--- ---- the report so far
-
--- Of a text in pieces the rows so far are of the lines up to a place. From there `front`, without a break, lies before `rest`, which is left of the last piece that was taken. The next piece starts at byte `at`.
-pub record Reported (needle : List ℕ) (pieces : List (List ℕ)) (rest : List ℕ) (at : ℕ) (front : List ℕ) (rows : List (List (ℕ × ℕ))) (old new : Ticks) : Type 0 where
-  pub before : List (List ℕ)
-  pub after : List (List ℕ)
-  pub parts : pieces ≡ before ++ after
-  pub place : at ≡ byte_len (text_of before)
-  pub whole : (ends_with_cr rest && starts_with_lf (text_of after)) ≡ false
-  pub plain : NonePass is_line_break front
+-- the lines of a text up to the rest are done; the front of the next line is kept
+pub record Ended (pattern front text rest front' : List ℕ) (rows rows' : List (List (ℕ × ℕ))) (old new : Ticks) : Type 0 where
   pub done : List (List ℕ)
-  pub lines : line_texts (text_of pieces) ≡ done ++ line_texts (front ++ (rest ++ text_of after))
-  pub are : AreRows needle done rows
-  pub counted : new.count ≤ old.count + length rows
+  pub added : List (List (ℕ × ℕ))
+  pub lines : with_front front (line_texts text) ≡ done ++ with_front front' (line_texts rest)
+  pub are : AreRows pattern done added
+  pub sum : rows' ≡ rows ++ added
+  pub counted : new.count + breaks is_line_break rest ≤ old.count + breaks is_line_break text
   pub wholes : new.wholes ≡ old.wholes
 
-pub Reported-start : (needle : List ℕ) (pieces : List (List ℕ)) (front : List ℕ) (rows : List (List (ℕ × ℕ))) (ticks : Ticks) → front ≡ [] → rows ≡ []
-    → Reported needle pieces [] 0 front rows ticks ticks
-Reported-start needle pieces front rows ticks front-is rows-is =
-    let none : Reported needle pieces [] 0 [] [] ticks ticks = record {
-      before = [];
-      after = pieces;
-      parts = refl;
-      place = refl;
-      whole = refl;
-      plain = tt;
-      done = [];
-      lines = refl;
-      are = tt;
-      counted = omega arith;
-      wholes = refl;
-    } in
-    let P : List ℕ → Type 0 = λ f. Reported needle pieces [] 0 f [] ticks ticks in
-    subst (λ rs. Reported needle pieces [] 0 front rs ticks ticks) (sym rows-is) (subst P (sym front-is) none)
+pub Ended-start : (pattern front text : List ℕ) (rows : List (List (ℕ × ℕ))) (ticks : Ticks) → Ended pattern front text text front rows rows ticks ticks
+Ended-start pattern front text rows ticks = record {
+  done = [];
+  added = [];
+  lines = refl;
+  are = tt;
+  sum = sym (append-nil rows);
+  counted = omega arith;
+  wholes = refl;
+}
 
--- a line more
-pub Reported-line : (needle : List ℕ) (pieces : List (List ℕ)) (rest : List ℕ) (at : ℕ) (front : List ℕ) (rows : List (List (ℕ × ℕ))) (line next front' : List ℕ) (rows' : List (List (ℕ × ℕ)))
-    (old mid new : Ticks) → Reported needle pieces rest at front rows old mid → BeginsWithLine rest line next → AddsRow needle (front ++ line) rows rows'
-    → front' ≡ [] → new.count ≤ mid.count + 1 → new.wholes ≡ mid.wholes → Reported needle pieces next at front' rows' old new
-Reported-line needle pieces rest at front rows line next front' rows' old mid new sofar cut adds front-is count wholes =
-    let later = text_of sofar.after in
-    let done = sofar.done ++ (front ++ line) ∷ [] in
-    let lines = line-past front rest line next later sofar.plain cut sofar.whole in
+-- the lines at a first break
+pub first-lines : (bytes : List ℕ) (start end : ℕ) (line rest : List ℕ) → (at : IsFirstBreak is_line_break bytes start end) → line ≡ take start bytes → rest ≡ drop end bytes
+    → line_texts (chars bytes) ≡ chars line ∷ line_texts (chars rest)
+first-lines bytes start end line rest at line-is rest-is =
+    let one = chars (take (end - start) (drop start bytes)) in
+    ap line_texts (at.parts ∙ append_assoc (chars (take start bytes)) one (chars (drop end bytes)))
+    ∙ lines-cut (chars (take start bytes)) one (chars (drop end bytes)) at.line at.one
+    ∙ ap (λ l. chars l ∷ line_texts (chars (drop end bytes))) (sym line-is) ∙ ap (λ r. chars line ∷ line_texts (chars r)) (sym rest-is)
+
+-- one break more was counted
+pub first-counted : (text line rest : List ℕ) → line_texts text ≡ line ∷ line_texts rest → breaks is_line_break text ≡ breaks is_line_break rest + 1
+first-counted text line rest e = omega (arith, ap length e, lines-counted text, lines-counted rest)
+
+pub Ended-line : (pattern front text rest front' : List ℕ) (rows rows' : List (List (ℕ × ℕ))) (line rest' front'' : List ℕ) (rows'' : List (List (ℕ × ℕ))) (old mid new : Ticks)
+    → Ended pattern front text rest front' rows rows' old mid → line_texts rest ≡ line ∷ line_texts rest' → AddsRow pattern (front' ++ line) rows' rows'' → front'' ≡ []
+    → new.count ≤ mid.count + 1 → new.wholes ≡ mid.wholes → Ended pattern front text rest' front'' rows rows'' old new
+Ended-line pattern front text rest front' rows rows' line rest' front'' rows'' old mid new sofar cut adds none count wholes =
+    let later = with_front front'' (line_texts rest') in
+    let kept : line_texts rest' ≡ later = sym (front-none (line_texts rest')) ∙ ap (λ f. with_front f (line_texts rest')) (sym none) in
+    let counted = sofar.counted in
     record {
-      before = sofar.before;
-      after = sofar.after;
-      parts = sofar.parts;
-      place = sofar.place;
-      whole = rest-whole rest line next later cut sofar.whole;
-      plain = subst (NonePass is_line_break) (sym front-is) tt;
-      done = done;
+      done = sofar.done ++ (front' ++ line) ∷ [];
+      added = sofar.added ++ adds.row ∷ [];
       lines =
-          sofar.lines ∙ ap (λ ls. sofar.done ++ ls) lines ∙ sym (append_assoc sofar.done ((front ++ line) ∷ []) (line_texts (next ++ later)))
-          ∙ ap (λ f. done ++ line_texts (f ++ (next ++ later))) (sym front-is);
-      are = AreRows-add needle sofar.done rows rows' (front ++ line) sofar.are adds;
-      counted = omega (arith, sofar.counted, count, ap length adds.added, length-append rows (adds.row ∷ []));
+          sofar.lines ∙ ap (λ ls. sofar.done ++ with_front front' ls) cut ∙ ap (λ ls. sofar.done ++ (front' ++ line) ∷ ls) kept
+          ∙ sym (append_assoc sofar.done ((front' ++ line) ∷ []) later);
+      are = AreRows-join pattern sofar.done ((front' ++ line) ∷ []) sofar.added (adds.row ∷ []) sofar.are (adds.is, tt);
+      sum = adds.added ∙ ap (λ rs. rs ++ adds.row ∷ []) sofar.sum ∙ append_assoc rows sofar.added (adds.row ∷ []);
+      counted = omega (arith, counted, count, first-counted rest line rest' cut);
       wholes = wholes ∙ sofar.wholes;
     }
 
--- where the next piece starts is within the text
-pub Reported-within : (needle : List ℕ) (pieces : List (List ℕ)) (rest : List ℕ) (at : ℕ) (front : List ℕ) (rows : List (List (ℕ × ℕ))) (old new : Ticks)
-    → Reported needle pieces rest at front rows old new → at ≤ byte_len (text_of pieces)
-Reported-within needle pieces rest at front rows old new sofar =
-    omega (arith, sofar.place, ap (λ ps. byte_len (text_of ps)) sofar.parts, ap byte_len (concat-append sofar.before sofar.after), byte_len-append (text_of sofar.before) (text_of sofar.after))
-
--- the chunk that is shown there is the next piece
-next : (needle : List ℕ) (pieces : List (List ℕ)) (rest : List ℕ) (at : ℕ) (front : List ℕ) (rows : List (List (ℕ × ℕ))) (old new : Ticks) (chunk : List ℕ) (byte char line : ℕ)
-    → (sofar : Reported needle pieces rest at front rows old new) → NextChunkFollows → IsCutting pieces → at < byte_len (text_of pieces) → ShowsChunk pieces byte_len at chunk byte char line
-    → IsNextChunk sofar.before sofar.after chunk byte
-next needle pieces rest at front rows old new chunk byte char line sofar follows cut more shown =
-    let P : List (List ℕ) → ℕ → Type 0 = λ ps i. ShowsChunk ps byte_len i chunk byte char line in
-    follows sofar.before sofar.after chunk byte char line (subst IsCutting sofar.parts cut)
-    (omega (arith, more, sofar.place, ap (λ ps. byte_len (text_of ps)) sofar.parts))
-    (subst (λ i. P (sofar.before ++ sofar.after) i) sofar.place (subst (λ ps. P ps at) sofar.parts shown))
-
--- which has a byte or more, all within the text
-pub chunk-within : (needle : List ℕ) (pieces : List (List ℕ)) (rest : List ℕ) (at : ℕ) (front : List ℕ) (rows : List (List (ℕ × ℕ))) (old new : Ticks) (chunk : List ℕ) (byte char line : ℕ)
-    → Reported needle pieces rest at front rows old new → NextChunkFollows → IsCutting pieces → at < byte_len (text_of pieces) → ShowsChunk pieces byte_len at chunk byte char line
-    → (1 ≤ byte_len chunk) × (at + byte_len chunk ≤ byte_len (text_of pieces))
-chunk-within needle pieces rest at front rows old new chunk byte char line sofar follows cut more shown =
-    let found = next needle pieces rest at front rows old new chunk byte char line sofar follows cut more shown in
-    let here : IsCutting (chunk ∷ found.after) = subst IsCutting found.first (cut-back sofar.before sofar.after (subst IsCutting sofar.parts cut)) in
-    let piece = first-piece chunk found.after here in
-    let text : byte_len (text_of pieces) ≡ byte_len (text_of sofar.before) + byte_len (text_of sofar.after) =
-    ap (λ ps. byte_len (text_of ps)) sofar.parts ∙ ap byte_len (concat-append sofar.before sofar.after) ∙ byte_len-append (text_of sofar.before) (text_of sofar.after) in
-    let rest-is : byte_len (text_of sofar.after) ≡ byte_len chunk + byte_len (text_of found.after) =
-    ap (λ ps. byte_len (text_of ps)) found.first ∙ byte_len-append chunk (text_of found.after) in
-    (piece.not_empty, omega (arith, text, rest-is, sofar.place))
-
--- the line goes on in the next piece
-pub Reported-carry : (needle : List ℕ) (pieces : List (List ℕ)) (rest : List ℕ) (at : ℕ) (front : List ℕ) (rows : List (List (ℕ × ℕ))) (line front' : List ℕ) (rows' : List (List (ℕ × ℕ))) (at' : ℕ)
-    (old new : Ticks) (chunk : List ℕ) (byte char break : ℕ) → Reported needle pieces rest at front rows old new → NextChunkFollows → CutsNoCrLf → IsCutting pieces
-    → at < byte_len (text_of pieces) → ShowsChunk pieces byte_len at chunk byte char break → line ≡ rest → NonePass is_line_break rest → front' ≡ front ++ line → rows' ≡ rows → at' ≡ at + byte_len chunk
-    → Reported needle pieces chunk at' front' rows' old new
-Reported-carry needle pieces rest at front rows line front' rows' at' old new chunk byte char break sofar follows uncut cut more shown line-is plain front-is rows-is at-is =
-    let found = next needle pieces rest at front rows old new chunk byte char break sofar follows cut more shown in
-    let later = text_of found.after in
-    let here : IsCutting (chunk ∷ found.after) = subst IsCutting found.first (cut-back sofar.before sofar.after (subst IsCutting sofar.parts cut)) in
-    let carried : front' ≡ front ++ rest = front-is ∙ ap (λ l. front ++ l) line-is in
-    let taken : text_of (sofar.before ++ chunk ∷ []) ≡ text_of sofar.before ++ chunk =
-    concat-append sofar.before (chunk ∷ []) ∙ ap (λ t. text_of sofar.before ++ t) (append-nil chunk) in
-    let moved : front ++ (rest ++ text_of sofar.after) ≡ front' ++ (chunk ++ later) =
-    ap (λ ps. front ++ (rest ++ text_of ps)) found.first ∙ sym (append_assoc front rest (chunk ++ later)) ∙ ap (λ f. f ++ (chunk ++ later)) (sym carried) in
+-- no break is left
+pub Ended-end : (pattern front text rest front' : List ℕ) (rows rows' : List (List (ℕ × ℕ))) (old new : Ticks)
+    → Ended pattern front text rest front' rows rows' old new → breaks is_line_break rest ≡ 0 → AddsLines pattern front text (front' ++ rest) rows rows'
+Ended-end pattern front text rest front' rows rows' old new sofar none =
+    let one : line_texts rest ≡ rest ∷ [] = elim (first_line rest) [
+      | inl plain ↦ line-last rest plain
+      | inr cut ↦
+          let split : line_texts rest ≡ cut.line ∷ line_texts cut.rest = ap line_texts cut.parts ∙ lines-cut cut.line cut.one cut.rest cut.plain cut.is in
+          absurd (omega (arith, none, first-counted rest cut.line cut.rest split))
+    ] in
     record {
-      before = sofar.before ++ chunk ∷ [];
-      after = found.after;
-      parts = sofar.parts ∙ ap (λ ps. sofar.before ++ ps) found.first ∙ sym (append_assoc sofar.before (chunk ∷ []) found.after);
-      place = omega (arith, at-is, sofar.place, ap byte_len taken, byte_len-append (text_of sofar.before) chunk);
-      whole = ap (λ t. ends_with_cr t && starts_with_lf later) (sym (append-nil chunk)) ∙ uncut (chunk ∷ []) found.after here;
-      plain = subst (NonePass is_line_break) (sym carried) (none-append is_line_break front rest sofar.plain plain);
       done = sofar.done;
-      lines = sofar.lines ∙ ap (λ t. sofar.done ++ line_texts t) moved;
-      are = subst (AreRows needle sofar.done) (sym rows-is) sofar.are;
-      counted = omega (arith, sofar.counted, ap length rows-is);
-      wholes = sofar.wholes;
+      added = sofar.added;
+      lines = sofar.lines ∙ ap (λ ls. sofar.done ++ with_front front' ls) one;
+      are = sofar.are;
+      rows = sofar.sum;
+    }
+
+-- ---- the report so far
+
+-- Of a text in pieces those up to the ones that are left were gone through: the rows are of all their lines but the last, of which this is the text.
+pub record Drafted (pattern : List ℕ) (pieces left : List (List ℕ)) (tail : List ℕ) (rows : List (List (ℕ × ℕ))) (old new : Ticks) : Type 0 where
+  pub before : List (List ℕ)
+  pub parts : pieces ≡ before ++ left
+  pub done : List (List ℕ)
+  pub lines : line_texts (text_of before) ≡ done ++ tail ∷ []
+  pub are : AreRows pattern done rows
+  pub counted : new.count ≤ old.count + breaks is_line_break (text_of before)
+  pub wholes : new.wholes ≡ old.wholes
+
+pub Drafted-start : (pattern : List ℕ) (pieces : List (List ℕ)) (ticks : Ticks) → Drafted pattern pieces pieces [] [] ticks ticks
+Drafted-start pattern pieces ticks = record {
+  before = [];
+  parts = refl;
+  done = [];
+  lines = line_texts-nil;
+  are = tt;
+  counted = omega arith;
+  wholes = refl;
+}
+
+-- what stands before the piece and the piece cut no CR LF
+meets : (text piece : List ℕ) (after : List (List ℕ)) → NoCrLfBetween text (text_of (piece ∷ after)) → NoCrLfBetween text piece
+meets text [] after whole = none (ends_with_cr text)
+  where
+    none : (b : Bool) → (b && false) ≡ false
+    none true = refl
+    none false = refl
+meets text (c ∷ cs) after whole = whole
+
+one_more : (before : List (List ℕ)) (piece : List ℕ) → text_of (before ++ piece ∷ []) ≡ text_of before ++ piece
+one_more before piece = concat-append before (piece ∷ []) ∙ ap (λ t. text_of before ++ t) (append-nil piece)
+
+-- the lines of the text up to a piece and with it
+record Joined (before : List (List ℕ)) (piece : List ℕ) (done : List (List ℕ)) (tail : List ℕ) : Type 0 where
+  pub lines : line_texts (text_of (before ++ piece ∷ [])) ≡ done ++ with_front tail (line_texts piece)
+  pub counted : breaks is_line_break (text_of (before ++ piece ∷ [])) ≡ breaks is_line_break (text_of before) + breaks is_line_break piece
+
+front-length : (front : List ℕ) (lines : List (List ℕ)) → length (with_front front lines) ≡ length lines
+front-length front [] = refl
+front-length front (line ∷ lines) = refl
+
+joined : (before : List (List ℕ)) (piece : List ℕ) (done : List (List ℕ)) (tail : List ℕ) → NoCrLfBetween (text_of before) piece → line_texts (text_of before) ≡ done ++ tail ∷ []
+    → Joined before piece done tail
+joined before piece done tail whole lines =
+    let first = text_of before in
+    let all : line_texts (text_of (before ++ piece ∷ [])) ≡ done ++ with_front tail (line_texts piece) =
+    ap line_texts (one_more before piece) ∙ lines-joined first piece whole ∙ ap (λ ls. join_lines ls (line_texts piece)) lines ∙ join-last done tail (line_texts piece) in
+    record {
+      lines = all;
+      counted = omega (
+        arith,
+        ap length all,
+        ap length lines,
+        lines-counted (text_of (before ++ piece ∷ [])),
+        lines-counted first,
+        lines-counted piece,
+        length-append done (with_front tail (line_texts piece)),
+        length-append done (tail ∷ []),
+        front-length tail (line_texts piece),
+      );
+    }
+
+-- a front of the pieces has no more breaks than all of them
+front-breaks : (front rest : List (List ℕ)) → NoCrLfBetween (text_of front) (text_of rest) → breaks is_line_break (text_of front) ≤ breaks is_line_break (text_of (front ++ rest))
+front-breaks front rest whole =
+    let lines = lines-joined (text_of front) (text_of rest) whole in
+    omega (
+      arith,
+      ap (λ t. breaks is_line_break t) (concat-append front rest),
+      ap length lines,
+      lines-counted (text_of front ++ text_of rest),
+      lines-counted (text_of front),
+      lines-counted (text_of rest),
+      join-length (line_texts (text_of front)) (line_texts (text_of rest)) (omega (arith, lines-counted (text_of rest))),
+    )
+
+-- the piece that comes next, in the lines so far
+next-piece : (pattern : List ℕ) (pieces left : List (List ℕ)) (tail : List ℕ) (rows : List (List (ℕ × ℕ))) (old new : Ticks) (piece : List ℕ) (after : List (List ℕ))
+    → (sofar : Drafted pattern pieces left tail rows old new) → CutsNoCrLf pieces → left ≡ piece ∷ after → Joined sofar.before piece sofar.done tail
+next-piece pattern pieces left tail rows old new piece after sofar cuts first =
+    let whole = cuts sofar.before (piece ∷ after) (sofar.parts ∙ ap (λ ps. sofar.before ++ ps) first) in
+    joined sofar.before piece sofar.done tail (meets (text_of sofar.before) piece after whole) sofar.lines
+
+-- its breaks are among those of the whole text
+pub Drafted-room : (pattern : List ℕ) (pieces left : List (List ℕ)) (tail : List ℕ) (rows : List (List (ℕ × ℕ))) (old new : Ticks) (piece : List ℕ) (after : List (List ℕ))
+    → Drafted pattern pieces left tail rows old new → CutsNoCrLf pieces → left ≡ piece ∷ after
+    → new.count + breaks is_line_break piece ≤ old.count + breaks is_line_break (text_of pieces)
+Drafted-room pattern pieces left tail rows old new piece after sofar cuts first =
+    let next = next-piece pattern pieces left tail rows old new piece after sofar cuts first in
+    let parts : pieces ≡ (sofar.before ++ piece ∷ []) ++ after =
+    sofar.parts ∙ ap (λ ps. sofar.before ++ ps) first ∙ sym (append_assoc sofar.before (piece ∷ []) after) in
+    let few = front-breaks (sofar.before ++ piece ∷ []) after (cuts (sofar.before ++ piece ∷ []) after parts) in
+    let counted = sofar.counted in
+    let sum = next.counted in
+    omega (arith, counted, sum, few, ap (λ ps. breaks is_line_break (text_of ps)) parts)
+
+-- so are those of what was gone through
+pub Drafted-within : (pattern : List ℕ) (pieces left : List (List ℕ)) (tail : List ℕ) (rows : List (List (ℕ × ℕ))) (old new : Ticks)
+    → Drafted pattern pieces left tail rows old new → CutsNoCrLf pieces → new.count ≤ old.count + breaks is_line_break (text_of pieces)
+Drafted-within pattern pieces left tail rows old new sofar cuts =
+    let few = front-breaks sofar.before left (cuts sofar.before left sofar.parts) in
+    let counted = sofar.counted in
+    omega (arith, counted, few, ap (λ ps. breaks is_line_break (text_of ps)) sofar.parts)
+
+-- one piece more
+pub Drafted-more : (pattern : List ℕ) (pieces left : List (List ℕ)) (tail : List ℕ) (rows : List (List (ℕ × ℕ))) (old mid new : Ticks) (piece : List ℕ) (after : List (List ℕ))
+    (front tail' : List ℕ) (rows' : List (List (ℕ × ℕ)))
+    → Drafted pattern pieces left tail rows old mid → CutsNoCrLf pieces → left ≡ piece ∷ after → front ≡ tail → AddsLines pattern front piece tail' rows rows'
+    → new.count ≤ mid.count + breaks is_line_break piece → new.wholes ≡ mid.wholes → Drafted pattern pieces after tail' rows' old new
+Drafted-more pattern pieces left tail rows old mid new piece after front tail' rows' sofar cuts first front-is adds count wholes =
+    let next = next-piece pattern pieces left tail rows old mid piece after sofar cuts first in
+    let counted = sofar.counted in
+    let sum = next.counted in
+    record {
+      before = sofar.before ++ piece ∷ [];
+      parts = sofar.parts ∙ ap (λ ps. sofar.before ++ ps) first ∙ sym (append_assoc sofar.before (piece ∷ []) after);
+      done = sofar.done ++ adds.done;
+      lines =
+          next.lines ∙ ap (λ f. sofar.done ++ with_front f (line_texts piece)) (sym front-is) ∙ ap (λ ls. sofar.done ++ ls) adds.lines
+          ∙ sym (append_assoc sofar.done adds.done (tail' ∷ []));
+      are = subst (AreRows pattern (sofar.done ++ adds.done)) (sym adds.rows) (AreRows-join pattern sofar.done adds.done rows adds.added sofar.are adds.are);
+      counted = omega (arith, counted, count, sum);
+      wholes = wholes ∙ sofar.wholes;
     }
 
 -- the last line
-pub Reported-end : (needle : List ℕ) (pieces : List (List ℕ)) (rest : List ℕ) (at : ℕ) (front : List ℕ) (rows : List (List (ℕ × ℕ))) (line : List ℕ) (rows' : List (List (ℕ × ℕ))) (old new : Ticks)
-    → Reported needle pieces rest at front rows old new → at ≡ byte_len (text_of pieces) → line ≡ rest → NonePass is_line_break rest
-    → AddsRow needle (front ++ line) rows rows' → IsReport (text_of pieces) needle rows'
-Reported-end needle pieces rest at front rows line rows' old new sofar all line-is plain adds =
-    let text : byte_len (text_of pieces) ≡ byte_len (text_of sofar.before) + byte_len (text_of sofar.after) =
-    ap (λ ps. byte_len (text_of ps)) sofar.parts ∙ ap byte_len (concat-append sofar.before sofar.after) ∙ byte_len-append (text_of sofar.before) (text_of sofar.after) in
-    let none : text_of sofar.after ≡ [] = no_bytes (text_of sofar.after) (omega (arith, text, all, sofar.place)) in
-    let left : front ++ (rest ++ text_of sofar.after) ≡ front ++ line =
-    ap (λ t. front ++ (rest ++ t)) none ∙ ap (λ t. front ++ t) (append-nil rest) ∙ ap (λ l. front ++ l) (sym line-is) in
-    let plain' : NonePass is_line_break (front ++ line) =
-    subst (λ l. NonePass is_line_break (front ++ l)) (sym line-is) (none-append is_line_break front rest sofar.plain plain) in
-    subst (λ ls. AreRows needle ls rows')
-    (sym (sofar.lines ∙ ap (λ t. sofar.done ++ line_texts t) left ∙ ap (λ ls. sofar.done ++ ls) (line-last (front ++ line) plain')))
-    (AreRows-add needle sofar.done rows rows' (front ++ line) sofar.are adds)
-
--- one row more is still within the count
-pub Reported-room : (needle : List ℕ) (pieces : List (List ℕ)) (rest : List ℕ) (at : ℕ) (front : List ℕ) (rows : List (List (ℕ × ℕ))) (old new : Ticks)
-    → Reported needle pieces rest at front rows old new → new.count + 1 ≤ old.count + breaks is_line_break (text_of pieces) + 1
-Reported-room needle pieces rest at front rows old new sofar =
-    let left = front ++ (rest ++ text_of sofar.after) in
-    omega (
-      arith,
-      sofar.counted,
-      AreRows-length needle sofar.done rows sofar.are,
-      ap length sofar.lines,
-      length-append sofar.done (line_texts left),
-      lines-counted (text_of pieces),
-      lines-counted left,
-    )
+pub Drafted-end : (pattern : List ℕ) (pieces left : List (List ℕ)) (tail : List ℕ) (rows rows' : List (List (ℕ × ℕ))) (old new : Ticks)
+    → Drafted pattern pieces left tail rows old new → left ≡ [] → AddsRow pattern tail rows rows' → IsReport (text_of pieces) pattern rows'
+Drafted-end pattern pieces left tail rows rows' old new sofar none adds =
+    let all : pieces ≡ sofar.before = sofar.parts ∙ ap (λ ps. sofar.before ++ ps) none ∙ append-nil sofar.before in
+    let lines : line_texts (text_of pieces) ≡ sofar.done ++ tail ∷ [] = ap (λ ps. line_texts (text_of ps)) all ∙ sofar.lines in
+    subst (λ ls. AreRows pattern ls rows') (sym lines)
+    (subst (AreRows pattern (sofar.done ++ tail ∷ [])) (sym adds.added)
+    (AreRows-join pattern sofar.done (tail ∷ []) rows (adds.row ∷ []) sofar.are (adds.is, tt)))

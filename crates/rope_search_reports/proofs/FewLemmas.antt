@@ -1,15 +1,16 @@
 -- How many matches a report has at most.
-use Rattle.std.proofs.Common.{◌≡◌, ℕ, ◌+◌, ◌≤◌, List, [], ◌∷◌, length, sum_by, ap, ⊎_elim, length-append, arith}
+use Rattle.std.proofs.Common.{◌≡◌, ℕ, ◌+◌, ◌^◌, ◌<◌, ◌≤◌, List, [], ◌∷◌, length, sum_by, refl, ap, ⊎_elim, length-append, arith}
 use Rattle.std.proofs.lemmas.Bool.{cases_Bool}
 use Rattle.std.proofs.lemmas.List.{length-map}
 use Rattle.std.proofs.lemmas.List.Sums.{sum_by-cons}
 use Rattle.std.proofs.lemmas.Str.{length-encode, len_utf8_bounds}
 use Rattle.std.proofs.Math.Utf8.{encode}
-use Rattle.str_indices.specs.Text.{is_line_break, ends_break}
+use Rattle.str_indices.specs.Text.{byte_len, is_line_break, ends_break}
+use Rattle.ropey.specs.Chunks.{text_of}
 use Rattle.rope_search_reports.specs.Text.{bytes_of}
 use Rattle.rope_search_reports.specs.Report.{with_first, line_texts, columns, IsRow, AreRows, IsReport, match_count}
 use Rattle.rope_search_reports.proofs.MatchLemmas.{matches-few}
-use Rattle.rope_search_reports.proofs.ReportLemmas.{line_texts-nil, line_texts-break, line_texts-cr, line_texts-more}
+use Rattle.rope_search_reports.proofs.LineLemmas.{line_texts-nil, line_texts-break, line_texts-cr, line_texts-more, byte_len-append}
 
 encode-some : (c : ℕ) → 1 ≤ length (encode c)
 encode-some c = omega (arith, length-encode c, len_utf8_bounds c)
@@ -62,3 +63,15 @@ lines-room (c ∷ cs) =
 -- a report has at most one match more than its text has bytes
 pub report-few : (text pattern : List ℕ) (rows : List (List (ℕ × ℕ))) → IsReport text pattern rows → match_count rows ≤ length (bytes_of text) + 1
 report-few text pattern rows is = omega (arith, rows-few pattern (line_texts text) rows is, lines-room text)
+
+-- a text in pieces has the bytes of its pieces
+pieces-bytes : (pieces : List (List ℕ)) → byte_len (text_of pieces) ≡ sum_by byte_len pieces
+pieces-bytes [] = refl
+pieces-bytes (piece ∷ pieces) = omega (arith, byte_len-append piece (text_of pieces), pieces-bytes pieces, sum_by-cons byte_len piece pieces)
+
+-- the matches in a text that a rope may hold can be counted in a `u64`
+pub pieces-few : (pieces : List (List ℕ)) (pattern : List ℕ) (rows : List (List (ℕ × ℕ))) → sum_by byte_len pieces < 2 ^ 63 → IsReport (text_of pieces) pattern rows
+    → match_count rows < 2 ^ 64
+pieces-few pieces pattern rows fits is =
+    let few : match_count rows ≤ byte_len (text_of pieces) + 1 = report-few (text_of pieces) pattern rows is in
+    omega (arith, few, fits, pieces-bytes pieces)

@@ -1,7 +1,10 @@
 pub mod PatternLemmas
 pub mod MatchLemmas
 pub mod RowLemmas
-pub mod ReportLemmas
+pub mod LineLemmas
 pub mod FewLemmas
 pub mod DraftLemmas
 pub mod ReportLaws
+pub mod TextExamples
+pub mod PositionExamples
+pub mod ReportExamples

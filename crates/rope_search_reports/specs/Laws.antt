@@ -1,6 +1,7 @@
 -- Laws of the definitions themselves.
-use Rattle.std.specs.Prelude.{◌≡◌, ℕ, ◌+◌, ◌≤◌, List, length}
-use Rattle.rope_search_reports.specs.Text.{bytes_of}
+use Rattle.std.specs.Prelude.{◌≡◌, ℕ, ◌+◌, ◌<◌, ◌≤◌, List, length}
+use Rattle.rope_search_reports.specs.Text.{bytes_of, line_count}
+use Rattle.rope_search_reports.specs.Position.{LiesInPlace}
 use Rattle.rope_search_reports.specs.Report.{IsMatches, IsReport, match_count}
 use Rattle.rope_search_reports.specs.Computed.{matches, report}
 
@@ -26,3 +27,7 @@ HasOneReport = (text pattern : List ℕ) (rows rows' : List (List (ℕ × ℕ)))
 -- and one
 abbrev pub HasReport : Type 0
 HasReport = (text pattern : List ℕ) → IsReport text pattern (report text pattern)
+
+-- each line of a text lies in its place
+abbrev pub HasLinesInPlace : Type 0
+HasLinesInPlace = (text : List ℕ) (line : ℕ) → line < line_count text → LiesInPlace text line

@@ -1,12 +1,9 @@
 pub mod Text
-pub mod TextExamples
 pub mod Matches
 pub mod Pattern
 pub mod Report
 pub mod Computed
-pub mod ReportExamples
 pub mod Position
-pub mod PositionExamples
 pub mod Ticks
 pub mod Laws
-pub mod LineCuts
+pub mod Drafts

@@ -1,8 +1,9 @@
 -- Positions: a line and a column, for a place in a text. A place is a number of bytes of its UTF-8.
-use Rattle.std.specs.Prelude.{◌≡◌, ℕ, ◌+◌, ◌-◌, ◌≤◌, List, [], length, take, drop, slice_index_or, chars}
+use Rattle.std.specs.Prelude.{◌≡◌, ℕ, ◌+◌, ◌-◌, ◌<◌, ◌≤◌, ◌⊎◌, List, [], ◌++◌, length, take, drop, slice_index_or, chars}
 use Rattle.std.specs.Str.{IsCharBoundary}
-use Rattle.str_indices.specs.Text.{is_line_break, break_ends, ends_up_to, end_place, units}
-use Rattle.rope_search_reports.specs.Text.{bytes_of}
+use Rattle.str_indices.specs.Text.{byte_len, is_line_break, break_ends, ends_up_to, end_place, units}
+use Rattle.str_indices.specs.FirstBreak.{IsBreak}
+use Rattle.rope_search_reports.specs.Text.{bytes_of, line_count}
 use Rattle.rope_search_reports.specs.Report.{line_texts}
 
 -- the line that a place is in: how many breaks end there or before
@@ -22,9 +23,13 @@ column_at text place =
 abbrev pub position : List ℕ → ℕ → ℕ × ℕ
 position text place = (line_at text place, column_at text place)
 
+-- a line's text
+abbrev pub line_text : List ℕ → ℕ → List ℕ
+line_text text line = slice_index_or (line_texts text) line []
+
 -- where a line's text ends: before its break
 abbrev pub text_end : List ℕ → ℕ → ℕ
-text_end text line = line_start text line + length (bytes_of (slice_index_or (line_texts text) line []))
+text_end text line = line_start text line + byte_len (line_text text line)
 
 -- the position is at this place: a boundary, in the line's text or at its end
 pub record IsAt (text : List ℕ) (spot : ℕ × ℕ) (place : ℕ) : Type 0 where
@@ -35,3 +40,30 @@ pub record IsAt (text : List ℕ) (spot : ℕ × ℕ) (place : ℕ) : Type 0 whe
 -- the position is at no place: inside a character or a break, behind its line's text, or past the last line
 abbrev pub IsNowhere : List ℕ → ℕ × ℕ → Type 0
 IsNowhere text spot = (place : ℕ) → IsAt text spot place → ⊥
+
+-- ---- where a line lies in its text
+
+-- the last line: nothing stands behind its text, which ends where the whole text does
+pub record IsLastLine (text : List ℕ) (line : ℕ) (behind : List ℕ) : Type 0 where
+  pub last : line + 1 ≡ line_count text
+  pub nothing : behind ≡ []
+  pub ends : text_end text line ≡ byte_len text
+
+-- another line: one break stands behind its text, and behind that the next line starts
+pub record EndsInBreak (text : List ℕ) (line : ℕ) (behind : List ℕ) : Type 0 where
+  pub more : line + 1 < line_count text
+  pub one : List ℕ
+  pub rest : List ℕ
+  pub splits : behind ≡ one ++ rest
+  pub is : IsBreak is_line_break one rest
+  pub next : line_start text (line + 1) ≡ text_end text line + byte_len one
+
+-- from where a line starts to where its text ends stand that text's bytes, and then comes what ends the line
+pub record LiesInPlace (text : List ℕ) (line : ℕ) : Type 0 where
+  pub before : List ℕ
+  pub behind : List ℕ
+  pub parts : text ≡ before ++ (line_text text line ++ behind)
+  pub starts : line_start text line ≡ byte_len before
+  pub ends : text_end text line ≡ byte_len (before ++ line_text text line)
+  pub bytes : take (text_end text line - line_start text line) (drop (line_start text line) (bytes_of text)) ≡ bytes_of (line_text text line)
+  pub ended : IsLastLine text line behind ⊎ EndsInBreak text line behind

@@ -53,12 +53,6 @@ AreRows pattern lines rows = ⊥
 abbrev pub IsReport : List ℕ → List ℕ → List (List (ℕ × ℕ)) → Type 0
 IsReport text pattern rows = AreRows pattern (line_texts text) rows
 
--- one row more, that of this line
-pub record AddsRow (pattern line : List ℕ) (old new : List (List (ℕ × ℕ))) : Type 0 where
-  pub row : List (ℕ × ℕ)
-  pub is : IsRow pattern line row
-  pub added : new ≡ old ++ row ∷ []
-
 -- how many matches there are in all rows
 abbrev pub match_count : List (List (ℕ × ℕ)) → ℕ
 match_count rows = sum_by length rows

@@ -1,7 +1,7 @@
 //! Laws of the definitions that the contracts of this crate cite. Each function does nothing: its
 //! contract is the law.
 
-ghost use Rattle.rope_search_reports.specs.Laws.{HasOneListOfMatches, HasMatches, HasFewMatches, HasOneReport, HasReport};
+ghost use Rattle.rope_search_reports.specs.Laws.{HasOneListOfMatches, HasMatches, HasFewMatches, HasOneReport, HasReport, HasLinesInPlace};
 
 /// A pattern has at most one list of matches in a content.
 pub fn one_list_of_matches()
@@ -26,4 +26,10 @@ pub fn one_report()
 /// A text and a pattern have a report, which may be computed so.
 pub fn has_report()
     ensures { HasReport }
+{}
+
+/// From where a line starts to where its text ends stand that text's bytes. Behind them stands one
+/// break, after which the next line starts; the last line's text ends where the whole text does.
+pub fn lines_in_place()
+    ensures { HasLinesInPlace }
 {}

@@ -82,7 +82,8 @@ impl Model for Finder {
 
     ghost view = { λ f. chars f.needle };
 
-    ghost invariant = { λ f. IsUtf8 f.needle × (IsPattern (chars f.needle) × (f.width ≡ units (chars f.needle))) };
+    ghost invariant = { λ f. IsUtf8 f.needle
+        × (IsPattern (chars f.needle) × (f.width ≡ units (chars f.needle))) };
 }
 
 impl Finder {

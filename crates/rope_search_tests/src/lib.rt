@@ -12,6 +12,8 @@ mod patterns;
 #[cfg(test)]
 mod reports;
 #[cfg(test)]
+mod row_examples;
+#[cfg(test)]
 mod runs;
 #[cfg(test)]
 mod sessions;

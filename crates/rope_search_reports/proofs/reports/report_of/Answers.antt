@@ -1,108 +1,71 @@
-use Rattle.std.proofs.Common.{rules, refl, ◌≡◌, ◌+◌, ◌-◌, ◌*◌, ◌<◌, ◌++◌, List, ℕ, chars, string_bytes, length, ap, sym, subst, ◌∙◌, arith}
+use Rattle.std.proofs.Common.{rules, ◌≡◌, ◌+◌, ◌^◌, ◌++◌, ◌<◌, ◌≤◌, [], List, ℕ, chars, string_bytes, length, refl, ap, sym, subst, ◌∙◌, arith}
 use Rattle.std.proofs.lemmas.Result.{IfOk-weaker}
-use Rattle.std.proofs.lemmas.Str.{IsUtf8-nil, chars-nil, encodes-chars}
-use Rattle.str_indices.specs.Text.{byte_len}
-use Rattle.ropey.specs.Chunks.{text_of}
-use Rattle.rope_search_reports.specs.Report.{AddsRow}
-use Rattle.rope_search_reports.proofs.FewLemmas.{report-few}
-use Rattle.rope_search_reports.proofs.DraftLemmas.{Reported, Reported-start, Reported-line, Reported-within, Reported-carry, Reported-end, Reported-room, chunk-within}
+use Rattle.std.proofs.lemmas.Str.{IsUtf8-nil, chars-nil}
+use Rattle.rope_search_reports.specs.Drafts.{AddsRow, AddsLines}
+use Rattle.rope_search_reports.proofs.FewLemmas.{pieces-few}
+use Rattle.rope_search_reports.proofs.DraftLemmas.{Drafted, Drafted-start, Drafted-room, Drafted-within, Drafted-more, Drafted-end}
 use Rattle.rope_search_reports.proofs.reports.report_of.Goals as goal
 
-pub loop-next-init : goal.loop-next-init
-loop-next-init c =
-    let needle = c.args.finder.now in
+pub loop-chunk-init : goal.loop-chunk-init
+loop-chunk-init c =
+    let pattern = c.args.finder.now in
     let text = c.args.text.now in
-    let front = chars (string_bytes c.new-draft.result.front) in
-    let rows = c.new-draft.result.rows.items in
     let ticks = c.args.tick.now in
-    let P : List ℕ → Type 0 = λ rest. Reported needle text rest 0 front rows ticks ticks in (
+    let none : chars (string_bytes c.new-draft.result.front) ++ chars [] ≡ [] =
+    ap (λ f. chars f ++ chars []) c.new-draft.ensures.front ∙ ap (λ cs. cs ++ chars []) chars-nil ∙ chars-nil in
+    let P : List (List ℕ) → List ℕ → List (List (ℕ × ℕ)) → Type 0 = λ left tail rows. Drafted pattern text left tail rows ticks ticks in
+    let start : P text [] [] = Drafted-start pattern text ticks in (
       IsUtf8-nil,
-      (subst P (sym chars-nil) (Reported-start needle text front rows ticks (ap chars c.new-draft.ensures.front ∙ chars-nil) c.new-draft.ensures.rows), refl),
-    )
-
-pub returns-in_err-end_line-clause-count : goal.returns-in_err-end_line-clause-count
-returns-in_err-end_line-clause-count c =
-    let room = Reported-room _ _ _ _ _ _ _ _ c.loop-next.invariant.1.0 in omega (arith, room, c.end_line.ensures.count)
-
-pub loop-next-preserved-in-Some : goal.loop-next-preserved-in-Some
-loop-next-preserved-in-Some c =
-    let cut = rw c.in-Some.is at c.cut_line.ensures.lines in
-    let line = chars c.cut_line.result.0.now in
-    let P : List ℕ → Type 0 = λ pattern. AddsRow pattern (chars (string_bytes c.loop-next.draft.front) ++ line) c.loop-next.draft.rows.items c.end_line.new.self.rows.items in (
-      search rules,
       (
-        Reported-line _ _ _ _ _ _ line _ _ _ _ _ _ c.loop-next.invariant.1.0 cut (subst P c.loop-next.invariant.1.1 c.in_ok-end_line.ensures.rows)
-            (ap chars c.in_ok-end_line.ensures.front ∙ chars-nil) c.end_line.ensures.count c.end_line.ensures.wholes,
-        c.end_line.ensures.finder ∙ c.loop-next.invariant.1.1,
+        subst (λ left. P left (chars (string_bytes c.new-draft.result.front) ++ chars []) c.new-draft.result.rows.items) (sym (c.into_iter-chunk-iterator.ensures.into_iter_gives ∙ c.chunks-chunk-items.ensures.pieces))
+            (subst (λ tail. P text tail c.new-draft.result.rows.items) (sym none) (subst (P text []) (sym c.new-draft.ensures.rows) start)),
+        refl,
       ),
     )
-
-pub returns-then-at-len-clause-rows : goal.returns-then-at-len-clause-rows
-returns-then-at-len-clause-rows c =
-    let cut = rw c.in_default.is at c.cut_line.ensures.lines in
-    let all : c.loop-next.at ≡ byte_len (text_of c.args.text.now) = omega (arith, c.if-at-len.true, c.len_bytes-len.ensures.bytes) in
-    let line = chars c.cut_line.result.0.now in
-    let front = chars (string_bytes c.loop-next.draft.front) in
-    let P : List (List (ℕ × ℕ)) → List ℕ → Type 0 = λ rows pattern. AddsRow pattern (front ++ line) c.loop-next.draft.rows.items rows in
-    IfOk-weaker c.finish.result (λ rows. P rows.items c.loop-next.finder) _
-    (λ rows same. Reported-end _ _ _ _ _ _ line _ _ _ c.loop-next.invariant.1.0 all cut.0 cut.1 (subst (P rows.items) c.loop-next.invariant.1.1 same)) c.finish.ensures.rows
-
-pub returns-then-at-len-clause-few : goal.returns-then-at-len-clause-few
-returns-then-at-len-clause-few c =
-    let cut = rw c.in_default.is at c.cut_line.ensures.lines in
-    let all : c.loop-next.at ≡ byte_len (text_of c.args.text.now) = omega (arith, c.if-at-len.true, c.len_bytes-len.ensures.bytes) in
-    let line = chars c.cut_line.result.0.now in
-    let front = chars (string_bytes c.loop-next.draft.front) in
-    let P : List (List (ℕ × ℕ)) → List ℕ → Type 0 = λ rows pattern. AddsRow pattern (front ++ line) c.loop-next.draft.rows.items rows in
-    IfOk-weaker c.finish.result (λ rows. P rows.items c.loop-next.finder) _
-    (λ rows same.
-    let is = Reported-end _ _ _ _ _ _ line _ _ _ c.loop-next.invariant.1.0 all cut.0 cut.1 (subst (P rows.items) c.loop-next.invariant.1.1 same) in
-    let few = report-few (text_of c.args.text.now) c.args.finder.now rows.items is in
-    omega (arith, few, c.len_bytes-len.ensures.bytes, c.len_bytes-len.ensures.fits))
-    c.finish.ensures.rows
-
-pub returns-then-at-len-clause-count : goal.returns-then-at-len-clause-count
-returns-then-at-len-clause-count c =
-    let room = Reported-room _ _ _ _ _ _ _ _ c.loop-next.invariant.1.0 in omega (arith, room, c.finish.ensures.count)
 
 pub returns-in_err-carry-clause-count : goal.returns-in_err-carry-clause-count
 returns-in_err-carry-clause-count c =
-    let room = Reported-room _ _ _ _ _ _ _ _ c.loop-next.invariant.1.0 in omega (arith, room)
+    let within = Drafted-within _ _ _ _ _ _ _ c.loop-chunk.invariant.1.0 c.chunks-chunk-items.ensures.whole in omega (arith, within)
 
-pub chunk_at_byte-requires : goal.chunk_at_byte-requires
-chunk_at_byte-requires c = Reported-within _ _ _ _ _ _ _ _ c.loop-next.invariant.1.0
+pub returns-in_err-part-clause-count : goal.returns-in_err-part-clause-count
+returns-in_err-part-clause-count c =
+    let room = Drafted-room _ _ _ _ _ _ _ _ _ c.loop-chunk.invariant.1.0 c.chunks-chunk-items.ensures.whole c.in-Some.ensures.steps.0 in
+    omega (arith, room, c.end_lines.ensures.count)
 
-pub overflow_add-at : goal.overflow_add-at
-overflow_add-at c =
-    let within = Reported-within _ _ _ _ _ _ _ _ c.loop-next.invariant.1.0 in
-    let more : c.loop-next.at < byte_len (text_of c.args.text.now) = omega (arith, within, c.if-at-len.false, c.len_bytes-len.ensures.bytes) in
-    let chunk = c.chunk_at_byte.result.0.now in
-    let fits = chunk-within _ _ _ _ _ _ _ _ _ _ _ _ c.loop-next.invariant.1.0 c.next_chunk_follows.ensures c.chunk_at_byte.ensures.cut.cut more c.chunk_at_byte.ensures.chunk in
-    omega (arith, fits.1, ap length (encodes-chars chunk c.chunk_at_byte.ensures.utf8), c.len_bytes-len.ensures.bytes, c.len_bytes-len.ensures.fits)
-
-pub loop-next-smaller : goal.loop-next-smaller
-loop-next-smaller c =
-    let within = Reported-within _ _ _ _ _ _ _ _ c.loop-next.invariant.1.0 in
-    let more : c.loop-next.at < byte_len (text_of c.args.text.now) = omega (arith, within, c.if-at-len.false, c.len_bytes-len.ensures.bytes) in
-    let chunk = c.chunk_at_byte.result.0.now in
-    let at = c.loop-next.at in
-    let len = c.len_bytes-len.result in
-    let fits = chunk-within _ _ _ _ _ _ _ _ _ _ _ _ c.loop-next.invariant.1.0 c.next_chunk_follows.ensures c.chunk_at_byte.ensures.cut.cut more c.chunk_at_byte.ensures.chunk in
-    let less : 2 * (len - (at + length chunk)) + length chunk < 2 * (len - at) + length c.loop-next.rest.now =
-    omega (arith, fits.0, fits.1, ap length (encodes-chars chunk c.chunk_at_byte.ensures.utf8), c.len_bytes-len.ensures.bytes) in
-    less
-
-pub loop-next-preserved : goal.loop-next-preserved
-loop-next-preserved c =
-    let cut = rw c.in_default.is at c.cut_line.ensures.lines in
-    let within = Reported-within _ _ _ _ _ _ _ _ c.loop-next.invariant.1.0 in
-    let more : c.loop-next.at < byte_len (text_of c.args.text.now) = omega (arith, within, c.if-at-len.false, c.len_bytes-len.ensures.bytes) in
-    let chunk = c.chunk_at_byte.result.0.now in
-    let at-is : c.loop-next.at + length chunk ≡ c.loop-next.at + byte_len (chars chunk) = omega (arith, ap length (encodes-chars chunk c.chunk_at_byte.ensures.utf8)) in (
-      c.chunk_at_byte.ensures.utf8,
+pub loop-chunk-preserved : goal.loop-chunk-preserved
+loop-chunk-preserved c =
+    let front = chars (string_bytes c.carry.new.self.front) in
+    let piece = chars c.in-Some.chunk.now in
+    let tail = chars (string_bytes c.end_lines.new.self.front) ++ chars c.in_ok-part.part.now in
+    let P : List ℕ → List (List (ℕ × ℕ)) → Type 0 = λ pattern rows. AddsLines pattern front piece tail rows c.end_lines.new.self.rows.items in
+    let adds = subst (P c.args.finder.now) c.in_ok-carry.ensures.rows
+    (subst (λ pattern. P pattern c.carry.new.self.rows.items) c.loop-chunk.invariant.1.1 c.in_ok-part.ensures.rows) in (
+      search rules,
       (
-        Reported-carry _ _ _ _ _ _ (chars c.cut_line.result.0.now) _ _ _ _ _ _ _ _ _ c.loop-next.invariant.1.0 c.next_chunk_follows.ensures c.chunks_cut_no_cr_lf.ensures
-            c.chunk_at_byte.ensures.cut.cut more c.chunk_at_byte.ensures.chunk cut.0 cut.1 c.in_ok-carry.ensures.front c.in_ok-carry.ensures.rows at-is,
-        c.loop-next.invariant.1.1,
+        Drafted-more _ _ _ _ _ _ _ _ _ _ front _ _ c.loop-chunk.invariant.1.0 c.chunks-chunk-items.ensures.whole c.in-Some.ensures.steps.0 c.in_ok-carry.ensures.front adds
+            c.end_lines.ensures.count c.end_lines.ensures.wholes,
+        c.end_lines.ensures.finder ∙ c.loop-chunk.invariant.1.1,
       ),
     )
+
+pub returns-clause-rows : goal.returns-clause-rows
+returns-clause-rows c =
+    let tail = chars (string_bytes c.loop-chunk.draft.front) ++ chars c.loop-chunk.part.now in
+    let P : List ℕ → List (List (ℕ × ℕ)) → Type 0 = λ pattern rows. AddsRow pattern tail c.loop-chunk.draft.rows.items rows in
+    IfOk-weaker c.finish.result (λ rows. P c.loop-chunk.finder rows.items) _
+    (λ rows adds. Drafted-end _ _ _ _ _ _ _ _ c.loop-chunk.invariant.1.0 c.in-None.ensures.steps.0
+    (subst (λ pattern. P pattern rows.items) c.loop-chunk.invariant.1.1 adds))
+    c.finish.ensures.rows
+
+pub returns-clause-few : goal.returns-clause-few
+returns-clause-few c =
+    let tail = chars (string_bytes c.loop-chunk.draft.front) ++ chars c.loop-chunk.part.now in
+    let P : List ℕ → List (List (ℕ × ℕ)) → Type 0 = λ pattern rows. AddsRow pattern tail c.loop-chunk.draft.rows.items rows in
+    IfOk-weaker c.finish.result (λ rows. P c.loop-chunk.finder rows.items) _
+    (λ rows adds. pieces-few c.args.text.now c.args.finder.now rows.items c.chunks-chunk-items.ensures.cut.fits
+    (Drafted-end _ _ _ _ _ _ _ _ c.loop-chunk.invariant.1.0 c.in-None.ensures.steps.0 (subst (λ pattern. P pattern rows.items) c.loop-chunk.invariant.1.1 adds)))
+    c.finish.ensures.rows
+
+pub returns-clause-count : goal.returns-clause-count
+returns-clause-count c =
+    let within = Drafted-within _ _ _ _ _ _ _ c.loop-chunk.invariant.1.0 c.chunks-chunk-items.ensures.whole in omega (arith, within, c.finish.ensures.count)

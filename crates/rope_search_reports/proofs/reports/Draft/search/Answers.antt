@@ -3,7 +3,7 @@ use Rattle.std.proofs.lemmas.Bool.Decides.{nat_tests}
 use Rattle.std.proofs.lemmas.Grind.{common_steps}
 use Rattle.std.proofs.lemmas.Str.{IsUtf8-string_bytes, chars-append}
 use Rattle.rope_search_reports.specs.Report.{IsRow}
-use Rattle.rope_search_reports.proofs.ReportLemmas.{chars-none}
+use Rattle.rope_search_reports.proofs.DraftLemmas.{chars-none}
 use Rattle.rope_search_reports.proofs.reports.Draft.search.Goals as goal
 
 pub returns-then-is_empty-clause-row : goal.returns-then-is_empty-clause-row
