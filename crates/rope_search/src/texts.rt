@@ -8,7 +8,6 @@ ghost use Rattle.rope_search.specs.Shows.{shown_text};
 use itoa::Buffer as Digits;
 use rope_search_io::{Broken, Sink, WriteBuffer};
 use ropey::Rope;
-use ropey::laws::next_chunk_follows;
 
 /// Puts a text behind the bytes that wait, chunk by chunk. After an error the sink took a front of what
 /// waited and of this.
@@ -17,13 +16,8 @@ fn put_text<W: Sink>(text: &Rope, behind: &mut WriteBuffer, sink: &mut W) -> Res
         (λ _. Puts behind.old behind.new (W.state sink.old) (W.state sink.new) (bytes_of (text_of text.now)))
         (λ broken. WritesUntil broken (W.state sink.old) (W.state sink.new) (behind.old ++ bytes_of (text_of text.now))) }
 {
-    next_chunk_follows();
-    let len = text.len_bytes();
-    let mut at = 0;
-    while at < len {
-        let (chunk, ..) = text.chunk_at_byte(at);
+    for chunk in text.chunks() {
         behind.put(sink, chunk.as_bytes())?;
-        at += chunk.len();
     }
     Ok(())
 }
