@@ -12,7 +12,7 @@ use Rattle.ropey.specs.Chunks.{text_of, joined}
 use Rattle.std.specs.Borrow.{Bor}
 use Rattle.std.proofs.lemmas.Grind.{flat_map-append}
 use Rattle.std.proofs.lemmas.List.Concat.{flat_map-cons}
-use Rattle.ropey.specs.Laws.{CutsNoCrLf}
+use Rattle.ropey.specs.Laws.{NoCuttingCutsCrLf}
 
 pub byte_len-append : (s t : List ℕ) → byte_len (s ++ t) ≡ byte_len s + byte_len t
 byte_len-append s t = ap length (encodes-append s t) ∙ length-append _ _
@@ -51,7 +51,7 @@ nothing_after s = none (ends_with_cr s)
     none false = refl
 
 -- no CR LF is cut between two parts of a cutting
-pub whole_seams : CutsNoCrLf
+pub whole_seams : NoCuttingCutsCrLf
 whole_seams [] rest h = refl
 whole_seams (p ∷ []) [] h = nothing_after (concat (p ∷ []))
 whole_seams (p ∷ []) (q ∷ rest) h =

@@ -5,8 +5,8 @@ use Rattle.ropey_tree.specs.Cutting.{IsCutting, cuts_cr_lf}
 use Rattle.ropey.specs.Chunks.{text_of, ShowsChunk}
 
 -- no CR LF is cut between the pieces of a cutting
-abbrev pub CutsNoCrLf : Type 0
-CutsNoCrLf = (front rest : List (List ℕ)) → IsCutting (front ++ rest) → cuts_cr_lf (text_of front) (text_of rest) ≡ false
+abbrev pub NoCuttingCutsCrLf : Type 0
+NoCuttingCutsCrLf = (front rest : List (List ℕ)) → IsCutting (front ++ rest) → cuts_cr_lf (text_of front) (text_of rest) ≡ false
 
 -- the chunk is the first of the pieces that are left, and starts where those before it end
 pub record IsNextChunk (front rest : List (List ℕ)) (chunk : List ℕ) (byte : ℕ) : Type 0 where
