@@ -2,9 +2,9 @@
 use Rattle.std.proofs.Common.{◌≡◌, ℕ, ◌+◌, ◌-◌, ◌<◌, ◌≤◌, Bool, true, false, ◌&&◌, List, [], ◌∷◌, ◌++◌, chars, length, take, drop, refl, sym, ap, subst, ◌∙◌, ◌⊎◌, inl, inr, append-nil, append_assoc, arith, length-append}
 use Rattle.std.proofs.lemmas.List.Folds.{concat-append}
 use Rattle.std.proofs.lemmas.Str.{chars-nil}
-use Rattle.str_indices.specs.Text.{is_line_break, ends_with_cr, breaks, NoCrLfBetween}
+use Rattle.str_indices.specs.Text.{ends_with_cr, breaks, NoCrLfBetween}
 use Rattle.str_indices.specs.FirstBreak.{IsFirstBreak}
-use Rattle.ropey.specs.Chunks.{text_of}
+use Rattle.ropey.specs.Chunks.{is_break, text_of}
 use Rattle.ropey.specs.Iter.{CutsNoCrLf}
 use Rattle.rope_search_reports.specs.Ticks.{Ticks}
 use Rattle.rope_search_reports.specs.Report.{line_texts, IsRow, AreRows, IsReport}
@@ -34,7 +34,7 @@ pub record Ended (pattern front text rest front' : List ℕ) (rows rows' : List 
   pub lines : with_front front (line_texts text) ≡ done ++ with_front front' (line_texts rest)
   pub are : AreRows pattern done added
   pub sum : rows' ≡ rows ++ added
-  pub counted : new.count + breaks is_line_break rest ≤ old.count + breaks is_line_break text
+  pub counted : new.count + breaks is_break rest ≤ old.count + breaks is_break text
   pub wholes : new.wholes ≡ old.wholes
 
 pub Ended-start : (pattern front text : List ℕ) (rows : List (List (ℕ × ℕ))) (ticks : Ticks) → Ended pattern front text text front rows rows ticks ticks
@@ -49,7 +49,7 @@ Ended-start pattern front text rows ticks = record {
 }
 
 -- the lines at a first break
-pub first-lines : (bytes : List ℕ) (start end : ℕ) (line rest : List ℕ) → (at : IsFirstBreak is_line_break bytes start end) → line ≡ take start bytes → rest ≡ drop end bytes
+pub first-lines : (bytes : List ℕ) (start end : ℕ) (line rest : List ℕ) → (at : IsFirstBreak is_break bytes start end) → line ≡ take start bytes → rest ≡ drop end bytes
     → line_texts (chars bytes) ≡ chars line ∷ line_texts (chars rest)
 first-lines bytes start end line rest at line-is rest-is =
     let one = chars (take (end - start) (drop start bytes)) in
@@ -58,7 +58,7 @@ first-lines bytes start end line rest at line-is rest-is =
     ∙ ap (λ l. chars l ∷ line_texts (chars (drop end bytes))) (sym line-is) ∙ ap (λ r. chars line ∷ line_texts (chars r)) (sym rest-is)
 
 -- one break more was counted
-pub first-counted : (text line rest : List ℕ) → line_texts text ≡ line ∷ line_texts rest → breaks is_line_break text ≡ breaks is_line_break rest + 1
+pub first-counted : (text line rest : List ℕ) → line_texts text ≡ line ∷ line_texts rest → breaks is_break text ≡ breaks is_break rest + 1
 first-counted text line rest e = omega (arith, ap length e, lines-counted text, lines-counted rest)
 
 pub Ended-line : (pattern front text rest front' : List ℕ) (rows rows' : List (List (ℕ × ℕ))) (line rest' front'' : List ℕ) (rows'' : List (List (ℕ × ℕ))) (old mid new : Ticks)
@@ -82,7 +82,7 @@ Ended-line pattern front text rest front' rows rows' line rest' front'' rows'' o
 
 -- no break is left
 pub Ended-end : (pattern front text rest front' : List ℕ) (rows rows' : List (List (ℕ × ℕ))) (old new : Ticks)
-    → Ended pattern front text rest front' rows rows' old new → breaks is_line_break rest ≡ 0 → AddsLines pattern front text (front' ++ rest) rows rows'
+    → Ended pattern front text rest front' rows rows' old new → breaks is_break rest ≡ 0 → AddsLines pattern front text (front' ++ rest) rows rows'
 Ended-end pattern front text rest front' rows rows' old new sofar none =
     let one : line_texts rest ≡ rest ∷ [] = elim (first_line rest) [
       | inl plain ↦ line-last rest plain
@@ -107,7 +107,7 @@ pub record Drafted (pattern : List ℕ) (pieces left : List (List ℕ)) (tail : 
   pub done : List (List ℕ)
   pub lines : line_texts (text_of before) ≡ done ++ tail ∷ []
   pub are : AreRows pattern done rows
-  pub counted : new.count ≤ old.count + breaks is_line_break (text_of before)
+  pub counted : new.count ≤ old.count + breaks is_break (text_of before)
   pub wholes : new.wholes ≡ old.wholes
 
 pub Drafted-start : (pattern : List ℕ) (pieces : List (List ℕ)) (ticks : Ticks) → Drafted pattern pieces pieces [] [] ticks ticks
@@ -136,7 +136,7 @@ one_more before piece = concat-append before (piece ∷ []) ∙ ap (λ t. text_o
 -- the lines of the text up to a piece and with it
 record Joined (before : List (List ℕ)) (piece : List ℕ) (done : List (List ℕ)) (tail : List ℕ) : Type 0 where
   pub lines : line_texts (text_of (before ++ piece ∷ [])) ≡ done ++ with_front tail (line_texts piece)
-  pub counted : breaks is_line_break (text_of (before ++ piece ∷ [])) ≡ breaks is_line_break (text_of before) + breaks is_line_break piece
+  pub counted : breaks is_break (text_of (before ++ piece ∷ [])) ≡ breaks is_break (text_of before) + breaks is_break piece
 
 front-length : (front : List ℕ) (lines : List (List ℕ)) → length (with_front front lines) ≡ length lines
 front-length front [] = refl
@@ -164,12 +164,12 @@ joined before piece done tail whole lines =
     }
 
 -- a front of the pieces has no more breaks than all of them
-front-breaks : (front rest : List (List ℕ)) → NoCrLfBetween (text_of front) (text_of rest) → breaks is_line_break (text_of front) ≤ breaks is_line_break (text_of (front ++ rest))
+front-breaks : (front rest : List (List ℕ)) → NoCrLfBetween (text_of front) (text_of rest) → breaks is_break (text_of front) ≤ breaks is_break (text_of (front ++ rest))
 front-breaks front rest whole =
     let lines = lines-joined (text_of front) (text_of rest) whole in
     omega (
       arith,
-      ap (λ t. breaks is_line_break t) (concat-append front rest),
+      ap (λ t. breaks is_break t) (concat-append front rest),
       ap length lines,
       lines-counted (text_of front ++ text_of rest),
       lines-counted (text_of front),
@@ -187,7 +187,7 @@ next-piece pattern pieces left tail rows old new piece after sofar cuts first =
 -- its breaks are among those of the whole text
 pub Drafted-room : (pattern : List ℕ) (pieces left : List (List ℕ)) (tail : List ℕ) (rows : List (List (ℕ × ℕ))) (old new : Ticks) (piece : List ℕ) (after : List (List ℕ))
     → Drafted pattern pieces left tail rows old new → CutsNoCrLf pieces → left ≡ piece ∷ after
-    → new.count + breaks is_line_break piece ≤ old.count + breaks is_line_break (text_of pieces)
+    → new.count + breaks is_break piece ≤ old.count + breaks is_break (text_of pieces)
 Drafted-room pattern pieces left tail rows old new piece after sofar cuts first =
     let next = next-piece pattern pieces left tail rows old new piece after sofar cuts first in
     let parts : pieces ≡ (sofar.before ++ piece ∷ []) ++ after =
@@ -195,21 +195,21 @@ Drafted-room pattern pieces left tail rows old new piece after sofar cuts first 
     let few = front-breaks (sofar.before ++ piece ∷ []) after (cuts (sofar.before ++ piece ∷ []) after parts) in
     let counted = sofar.counted in
     let sum = next.counted in
-    omega (arith, counted, sum, few, ap (λ ps. breaks is_line_break (text_of ps)) parts)
+    omega (arith, counted, sum, few, ap (λ ps. breaks is_break (text_of ps)) parts)
 
 -- so are those of what was gone through
 pub Drafted-within : (pattern : List ℕ) (pieces left : List (List ℕ)) (tail : List ℕ) (rows : List (List (ℕ × ℕ))) (old new : Ticks)
-    → Drafted pattern pieces left tail rows old new → CutsNoCrLf pieces → new.count ≤ old.count + breaks is_line_break (text_of pieces)
+    → Drafted pattern pieces left tail rows old new → CutsNoCrLf pieces → new.count ≤ old.count + breaks is_break (text_of pieces)
 Drafted-within pattern pieces left tail rows old new sofar cuts =
     let few = front-breaks sofar.before left (cuts sofar.before left sofar.parts) in
     let counted = sofar.counted in
-    omega (arith, counted, few, ap (λ ps. breaks is_line_break (text_of ps)) sofar.parts)
+    omega (arith, counted, few, ap (λ ps. breaks is_break (text_of ps)) sofar.parts)
 
 -- one piece more
 pub Drafted-more : (pattern : List ℕ) (pieces left : List (List ℕ)) (tail : List ℕ) (rows : List (List (ℕ × ℕ))) (old mid new : Ticks) (piece : List ℕ) (after : List (List ℕ))
     (front tail' : List ℕ) (rows' : List (List (ℕ × ℕ)))
     → Drafted pattern pieces left tail rows old mid → CutsNoCrLf pieces → left ≡ piece ∷ after → front ≡ tail → AddsLines pattern front piece tail' rows rows'
-    → new.count ≤ mid.count + breaks is_line_break piece → new.wholes ≡ mid.wholes → Drafted pattern pieces after tail' rows' old new
+    → new.count ≤ mid.count + breaks is_break piece → new.wholes ≡ mid.wholes → Drafted pattern pieces after tail' rows' old new
 Drafted-more pattern pieces left tail rows old mid new piece after front tail' rows' sofar cuts first front-is adds count wholes =
     let next = next-piece pattern pieces left tail rows old mid piece after sofar cuts first in
     let counted = sofar.counted in

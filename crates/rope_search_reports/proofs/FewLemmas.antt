@@ -5,8 +5,8 @@ use Rattle.std.proofs.lemmas.List.{length-map}
 use Rattle.std.proofs.lemmas.List.Sums.{sum_by-cons}
 use Rattle.std.proofs.lemmas.Str.{length-encode, len_utf8_bounds}
 use Rattle.std.proofs.Math.Utf8.{encode}
-use Rattle.str_indices.specs.Text.{byte_len, is_line_break, ends_break}
-use Rattle.ropey.specs.Chunks.{text_of}
+use Rattle.str_indices.specs.Text.{byte_len, ends_break}
+use Rattle.ropey.specs.Chunks.{is_break, text_of}
 use Rattle.rope_search_reports.specs.Text.{bytes_of}
 use Rattle.rope_search_reports.specs.Report.{with_first, line_texts, columns, IsRow, AreRows, IsReport, match_count}
 use Rattle.rope_search_reports.proofs.MatchLemmas.{matches-few}
@@ -57,8 +57,8 @@ lines-room (c ∷ cs) =
     (λ is_not. ⊎_elim
     (λ is_so. omega (arith, later, bytes, some, ap room (line_texts-cr c cs is_not is_so)))
     (λ is_not'. lines-first c cs later (line_texts-more c cs is_not is_not'))
-    (cases_Bool (is_line_break c)))
-    (cases_Bool (ends_break is_line_break c cs))
+    (cases_Bool (is_break c)))
+    (cases_Bool (ends_break is_break c cs))
 
 -- a report has at most one match more than its text has bytes
 pub report-few : (text pattern : List ℕ) (rows : List (List (ℕ × ℕ))) → IsReport text pattern rows → match_count rows ≤ length (bytes_of text) + 1

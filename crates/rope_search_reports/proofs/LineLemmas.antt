@@ -8,7 +8,8 @@ use Rattle.std.proofs.lemmas.List.{length-replicate}
 use Rattle.std.proofs.lemmas.Str.{encodes-append, length-encode}
 use Rattle.std.specs.Char.{len_utf8}
 use Rattle.std.specs.Str.{NonePass}
-use Rattle.str_indices.specs.Text.{byte_len, NoCrLfBetween, is_line_break, ends_break, starts_with_lf, ends_from, end_place, breaks}
+use Rattle.str_indices.specs.Text.{byte_len, NoCrLfBetween, ends_break, starts_with_lf, ends_from, end_place, breaks}
+use Rattle.ropey.specs.Chunks.{is_break}
 use Rattle.str_indices.specs.FirstBreak.{IsBreak}
 use Rattle.rope_search_reports.specs.Text.{bytes_of, line_count}
 use Rattle.rope_search_reports.specs.Report.{with_first, line_texts}
@@ -21,19 +22,19 @@ pub line_texts-nil : line_texts [] ≡ [] ∷ []
 unfolding line_texts
 line_texts-nil = refl
 
-pub line_texts-break : (c : ℕ) (rest : List ℕ) → ends_break is_line_break c rest ≡ true → line_texts (c ∷ rest) ≡ [] ∷ line_texts rest
+pub line_texts-break : (c : ℕ) (rest : List ℕ) → ends_break is_break c rest ≡ true → line_texts (c ∷ rest) ≡ [] ∷ line_texts rest
 unfolding line_texts
 line_texts-break c rest is_so = cond-true _ _ _ is_so
 
-pub line_texts-cr : (c : ℕ) (rest : List ℕ) → ends_break is_line_break c rest ≡ false → is_line_break c ≡ true → line_texts (c ∷ rest) ≡ line_texts rest
+pub line_texts-cr : (c : ℕ) (rest : List ℕ) → ends_break is_break c rest ≡ false → is_break c ≡ true → line_texts (c ∷ rest) ≡ line_texts rest
 unfolding line_texts
 line_texts-cr c rest is_not is_so = cond-false _ _ _ is_not ∙ cond-true _ _ _ is_so
 
-pub line_texts-more : (c : ℕ) (rest : List ℕ) → ends_break is_line_break c rest ≡ false → is_line_break c ≡ false → line_texts (c ∷ rest) ≡ with_first c (line_texts rest)
+pub line_texts-more : (c : ℕ) (rest : List ℕ) → ends_break is_break c rest ≡ false → is_break c ≡ false → line_texts (c ∷ rest) ≡ with_first c (line_texts rest)
 unfolding line_texts
 line_texts-more c rest is_not is_not' = cond-false _ _ _ is_not ∙ cond-false _ _ _ is_not'
 
-no_break-ends_none : (c : ℕ) (rest : List ℕ) → is_line_break c ≡ false → ends_break is_line_break c rest ≡ false
+no_break-ends_none : (c : ℕ) (rest : List ℕ) → is_break c ≡ false → ends_break is_break c rest ≡ false
 no_break-ends_none c rest is_not = ap (λ b. b && not ((c == 13) && starts_with_lf rest)) is_not
 
 -- ---- how many lines there are
@@ -43,7 +44,7 @@ with_first-length c [] some = absurd (omega (arith, some))
 with_first-length c (line ∷ lines) some = refl
 
 abbrev pub breaks_after : ℕ → List ℕ → ℕ
-breaks_after c rest = cond (ends_break is_line_break c rest) 1 0
+breaks_after c rest = cond (ends_break is_break c rest) 1 0
 
 ends-first : (at c : ℕ) (cs : List ℕ) → length (ends_from breaks_after at (c ∷ cs)) ≡ breaks_after c cs + length (ends_from breaks_after (at + len_utf8 c) cs)
 ends-first at c cs =
@@ -56,14 +57,14 @@ lines-from at [] = ap length line_texts-nil
 lines-from at (c ∷ cs) =
     let later = lines-from (at + len_utf8 c) cs in
     let ends = ends-first at c cs in
-    elim (cases_Bool (ends_break is_line_break c cs)) [
+    elim (cases_Bool (ends_break is_break c cs)) [
       | inl is_so ↦
           let one : breaks_after c cs ≡ 1 = cond-true _ _ _ is_so in
           let lines : length (line_texts (c ∷ cs)) ≡ suc (length (line_texts cs)) = ap length (line_texts-break c cs is_so) in
           omega (arith, later, ends, one, lines)
       | inr is_not ↦
           let none : breaks_after c cs ≡ 0 = cond-false _ _ _ is_not in
-          elim (cases_Bool (is_line_break c)) [
+          elim (cases_Bool (is_break c)) [
             | inl is_so ↦
                 let lines : length (line_texts (c ∷ cs)) ≡ length (line_texts cs) = ap length (line_texts-cr c cs is_not is_so) in
                 omega (arith, later, ends, none, lines)
@@ -75,7 +76,7 @@ lines-from at (c ∷ cs) =
     ]
 
 -- a text has one more line than breaks
-pub lines-counted : (text : List ℕ) → length (line_texts text) ≡ breaks is_line_break text + 1
+pub lines-counted : (text : List ℕ) → length (line_texts text) ≡ breaks is_break text + 1
 lines-counted text = lines-from 0 text
 
 -- ---- the first line, cut off
@@ -86,25 +87,25 @@ pub record IsCutOff (text : List ℕ) : Type 0 where
   pub one : List ℕ
   pub rest : List ℕ
   pub parts : text ≡ line ++ (one ++ rest)
-  pub plain : NonePass is_line_break line
-  pub is : IsBreak is_line_break one rest
+  pub plain : NonePass is_break line
+  pub is : IsBreak is_break one rest
 
-break-cut : (c : ℕ) (cs : List ℕ) → is_line_break c ≡ true → IsCutOff (c ∷ cs)
-break-cut c cs is_so = elim (cases_Bool (ends_break is_line_break c cs)) [
+break-cut : (c : ℕ) (cs : List ℕ) → is_break c ≡ true → IsCutOff (c ∷ cs)
+break-cut c cs is_so = elim (cases_Bool (ends_break is_break c cs)) [
   | inl ends ↦ record { line = []; one = c ∷ []; rest = cs; parts = refl; plain = tt; is = ends }
   | inr not_yet ↦ crlf cs not_yet
 ]
   where
-    crlf : (ds : List ℕ) → ends_break is_line_break c ds ≡ false → IsCutOff (c ∷ ds)
+    crlf : (ds : List ℕ) → ends_break is_break c ds ≡ false → IsCutOff (c ∷ ds)
     crlf [] not_yet = absurd (grind (arith, nat_tests, is_so, not_yet))
     crlf (d ∷ ds) not_yet =
         let cr : c ≡ 13 = grind (arith, nat_tests, is_so, not_yet) in
         let lf : d ≡ 10 = grind (arith, nat_tests, is_so, not_yet) in
         record { line = []; one = c ∷ d ∷ []; rest = ds; parts = refl; plain = tt; is = (cr, lf, refl, refl) }
 
-pub first_line : (text : List ℕ) → NonePass is_line_break text ⊎ IsCutOff text
+pub first_line : (text : List ℕ) → NonePass is_break text ⊎ IsCutOff text
 first_line [] = inl tt
-first_line (c ∷ cs) = elim (cases_Bool (is_line_break c)) [
+first_line (c ∷ cs) = elim (cases_Bool (is_break c)) [
   | inl is_so ↦ inr (break-cut c cs is_so)
   | inr is_not ↦ elim (first_line cs) [
     | inl none ↦ inl (is_not, none)
@@ -113,11 +114,11 @@ first_line (c ∷ cs) = elim (cases_Bool (is_line_break c)) [
 ]
 
 -- a text without a break is one line
-pub line-last : (text : List ℕ) → NonePass is_line_break text → line_texts text ≡ text ∷ []
+pub line-last : (text : List ℕ) → NonePass is_break text → line_texts text ≡ text ∷ []
 line-last [] plain = line_texts-nil
 line-last (c ∷ cs) plain = line_texts-more c cs (no_break-ends_none c cs plain.0) plain.0 ∙ ap (with_first c) (line-last cs plain.1)
 
-line-cut : (cs ds : List ℕ) (others : List (List ℕ)) → NonePass is_line_break cs → line_texts ds ≡ [] ∷ others → line_texts (cs ++ ds) ≡ cs ∷ others
+line-cut : (cs ds : List ℕ) (others : List (List ℕ)) → NonePass is_break cs → line_texts ds ≡ [] ∷ others → line_texts (cs ++ ds) ≡ cs ∷ others
 line-cut [] ds others none e = e
 line-cut (c ∷ cs) ds others none e =
     line_texts-more c (cs ++ ds) (no_break-ends_none c (cs ++ ds) none.0) none.0 ∙ ap (with_first c) (line-cut cs ds others none.1 e)
@@ -127,14 +128,14 @@ lines-crlf c d rest cr lf =
     ap (λ n. line_texts (n ∷ d ∷ rest)) cr ∙ ap (λ n. line_texts (13 ∷ n ∷ rest)) lf
     ∙ line_texts-cr 13 (10 ∷ rest) refl refl ∙ line_texts-break 10 rest refl
 
-break-lines : (one rest : List ℕ) → IsBreak is_line_break one rest → line_texts (one ++ rest) ≡ [] ∷ line_texts rest
+break-lines : (one rest : List ℕ) → IsBreak is_break one rest → line_texts (one ++ rest) ≡ [] ∷ line_texts rest
 break-lines [] rest is = absurd is
 break-lines (c ∷ []) rest is = line_texts-break c rest is
 break-lines (c ∷ d ∷ []) rest is = lines-crlf c d rest is.0 is.1
 break-lines (c ∷ d ∷ e ∷ es) rest is = absurd is
 
 -- behind a line and its break come the lines of the rest
-pub lines-cut : (line one rest : List ℕ) → NonePass is_line_break line → IsBreak is_line_break one rest → line_texts (line ++ (one ++ rest)) ≡ line ∷ line_texts rest
+pub lines-cut : (line one rest : List ℕ) → NonePass is_break line → IsBreak is_break one rest → line_texts (line ++ (one ++ rest)) ≡ line ∷ line_texts rest
 lines-cut line one rest plain is = line-cut line (one ++ rest) (line_texts rest) plain (break-lines one rest is)
 
 -- ---- the lines of joined texts
@@ -171,8 +172,8 @@ join-length (line ∷ []) (other ∷ others) some = omega arith
 join-length (line ∷ line' ∷ lines) others some = omega (arith, join-length (line' ∷ lines) others some)
 
 -- no CR LF is cut: what ends a break still does
-ends-joined : (c : ℕ) (cs second : List ℕ) → NoCrLfBetween (c ∷ cs) second → ends_break is_line_break c (cs ++ second) ≡ ends_break is_line_break c cs
-ends-joined c [] second whole = ap (λ b. is_line_break c && not b) (whole ∙ sym (none (c == 13)))
+ends-joined : (c : ℕ) (cs second : List ℕ) → NoCrLfBetween (c ∷ cs) second → ends_break is_break c (cs ++ second) ≡ ends_break is_break c cs
+ends-joined c [] second whole = ap (λ b. is_break c && not b) (whole ∙ sym (none (c == 13)))
   where
     none : (b : Bool) → (b && false) ≡ false
     none true = refl
@@ -193,11 +194,11 @@ lines-joined (c ∷ cs) second whole =
     let later = lines-joined cs second (tail-whole c cs second whole) in
     let same = ends-joined c cs second whole in
     let others = line_texts second in
-    elim (cases_Bool (ends_break is_line_break c cs)) [
+    elim (cases_Bool (ends_break is_break c cs)) [
       | inl is_so ↦
           line_texts-break c (cs ++ second) (same ∙ is_so) ∙ ap (λ ls. [] ∷ ls) later
           ∙ sym (ap (λ ls. join_lines ls others) (line_texts-break c cs is_so) ∙ join-cons [] (line_texts cs) others (some-lines cs))
-      | inr is_not ↦ elim (cases_Bool (is_line_break c)) [
+      | inr is_not ↦ elim (cases_Bool (is_break c)) [
         | inl is_so ↦ line_texts-cr c (cs ++ second) (same ∙ is_not) is_so ∙ later ∙ sym (ap (λ ls. join_lines ls others) (line_texts-cr c cs is_not is_so))
         | inr is_not' ↦
             line_texts-more c (cs ++ second) (same ∙ is_not) is_not' ∙ ap (with_first c) later
@@ -216,31 +217,31 @@ byte_len-one c cs = omega (arith, length-append (encode c) (bytes_of cs), length
 abbrev ends_at : ℕ → List ℕ → List ℕ
 ends_at at text = ends_from breaks_after at text
 
-ends-ends : (at c : ℕ) (cs : List ℕ) → ends_break is_line_break c cs ≡ true → ends_at at (c ∷ cs) ≡ (at + len_utf8 c) ∷ ends_at (at + len_utf8 c) cs
+ends-ends : (at c : ℕ) (cs : List ℕ) → ends_break is_break c cs ≡ true → ends_at at (c ∷ cs) ≡ (at + len_utf8 c) ∷ ends_at (at + len_utf8 c) cs
 ends-ends at c cs is_so =
     let next = at + len_utf8 c in
     ap (λ n. replicate n next ++ ends_at next cs) (cond-true _ _ _ is_so)
 
-ends-none : (at c : ℕ) (cs : List ℕ) → ends_break is_line_break c cs ≡ false → ends_at at (c ∷ cs) ≡ ends_at (at + len_utf8 c) cs
+ends-none : (at c : ℕ) (cs : List ℕ) → ends_break is_break c cs ≡ false → ends_at at (c ∷ cs) ≡ ends_at (at + len_utf8 c) cs
 ends-none at c cs is_not =
     let next = at + len_utf8 c in
     ap (λ n. replicate n next ++ ends_at next cs) (cond-false _ _ _ is_not)
 
-ends-plain : (at : ℕ) (line later : List ℕ) → NonePass is_line_break line → ends_at at (line ++ later) ≡ ends_at (at + byte_len line) later
+ends-plain : (at : ℕ) (line later : List ℕ) → NonePass is_break line → ends_at at (line ++ later) ≡ ends_at (at + byte_len line) later
 ends-plain at [] later plain = let same : at ≡ at + byte_len [] = omega arith in ap (λ n. ends_at n later) same
 ends-plain at (c ∷ cs) later plain =
     let same : at + len_utf8 c + byte_len cs ≡ at + byte_len (c ∷ cs) = omega (arith, byte_len-one c cs) in
     ends-none at c (cs ++ later) (no_break-ends_none c (cs ++ later) plain.0) ∙ ends-plain (at + len_utf8 c) cs later plain.1 ∙ ap (λ n. ends_at n later) same
 
-ends-break : (at : ℕ) (one rest : List ℕ) → IsBreak is_line_break one rest → ends_at at (one ++ rest) ≡ (at + byte_len one) ∷ ends_at (at + byte_len one) rest
+ends-break : (at : ℕ) (one rest : List ℕ) → IsBreak is_break one rest → ends_at at (one ++ rest) ≡ (at + byte_len one) ∷ ends_at (at + byte_len one) rest
 ends-break at [] rest is = absurd is
 ends-break at (c ∷ []) rest is =
     let same : at + len_utf8 c ≡ at + byte_len (c ∷ []) = omega (arith, byte_len-one c []) in
     ends-ends at c rest is ∙ ap (λ n. n ∷ ends_at n rest) same
 ends-break at (c ∷ d ∷ []) rest is =
     let same : at + len_utf8 c + len_utf8 d ≡ at + byte_len (c ∷ d ∷ []) = omega (arith, byte_len-one c (d ∷ []), byte_len-one d []) in
-    let cr : ends_break is_line_break c (d ∷ rest) ≡ false = grind (arith, nat_tests, is.0, is.1) in
-    let lf : ends_break is_line_break d rest ≡ true = grind (arith, nat_tests, is.1) in
+    let cr : ends_break is_break c (d ∷ rest) ≡ false = grind (arith, nat_tests, is.0, is.1) in
+    let lf : ends_break is_break d rest ≡ true = grind (arith, nat_tests, is.1) in
     ends-none at c (d ∷ rest) cr ∙ ends-ends (at + len_utf8 c) d rest lf ∙ ap (λ n. n ∷ ends_at n rest) same
 ends-break at (c ∷ d ∷ e ∷ es) rest is = absurd is
 
@@ -262,7 +263,7 @@ record IsBroken (at last : ℕ) (text : List ℕ) (k : ℕ) (before behind : Lis
   pub one : List ℕ
   pub rest : List ℕ
   pub splits : behind ≡ one ++ rest
-  pub is : IsBreak is_line_break one rest
+  pub is : IsBreak is_break one rest
   pub next : start_at at (ends_at at text) (suc k) last ≡ at + byte_len before + byte_len (nth (line_texts text) k) + byte_len one
 
 -- such a line, and what lies round it

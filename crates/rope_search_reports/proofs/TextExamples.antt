@@ -1,28 +1,29 @@
 -- What the words on texts say of a few small ones, each by computation.
 use Rattle.std.specs.Prelude.{◌≡◌, [], ◌∷◌, codes, refl}
 use Rattle.std.proofs.Math.Utf8.{encode}
-use Rattle.str_indices.specs.Text.{is_line_break, breaks}
+use Rattle.str_indices.specs.Text.{breaks}
+use Rattle.ropey.specs.Chunks.{is_break}
 use Rattle.rope_search_reports.specs.Text.{line_count, bytes_of}
 
 -- ---- breaks
 
 -- of the letter a, CR, LF, U+2028 and CR: CR LF is one break, and a CR at the end is one
-pub breaks_mixed : breaks is_line_break (97 ∷ 13 ∷ 10 ∷ 0x2028 ∷ 13 ∷ []) ≡ 3
+pub breaks_mixed : breaks is_break (97 ∷ 13 ∷ 10 ∷ 0x2028 ∷ 13 ∷ []) ≡ 3
 breaks_mixed = refl
 
-pub breaks_crlf : breaks is_line_break (13 ∷ 10 ∷ []) ≡ 1
+pub breaks_crlf : breaks is_break (13 ∷ 10 ∷ []) ≡ 1
 breaks_crlf = refl
 
 -- LF CR are two breaks
-pub breaks_lfcr : breaks is_line_break (10 ∷ 13 ∷ []) ≡ 2
+pub breaks_lfcr : breaks is_break (10 ∷ 13 ∷ []) ≡ 2
 breaks_lfcr = refl
 
 -- each of the break set alone: LF, VT, FF, CR, U+0085, U+2028 and U+2029
-pub breaks_each : breaks is_line_break (10 ∷ 11 ∷ 12 ∷ 13 ∷ 0x85 ∷ 0x2028 ∷ 0x2029 ∷ []) ≡ 7
+pub breaks_each : breaks is_break (10 ∷ 11 ∷ 12 ∷ 13 ∷ 0x85 ∷ 0x2028 ∷ 0x2029 ∷ []) ≡ 7
 breaks_each = refl
 
 -- a tab, U+001C and a space are none
-pub breaks_none : breaks is_line_break (9 ∷ 0x1c ∷ 32 ∷ []) ≡ 0
+pub breaks_none : breaks is_break (9 ∷ 0x1c ∷ 32 ∷ []) ≡ 0
 breaks_none = refl
 
 -- the empty text has one line

@@ -1,18 +1,19 @@
 -- Positions: a line and a column, for a place in a text. A place is a number of bytes of its UTF-8.
 use Rattle.std.specs.Prelude.{◌≡◌, ℕ, ◌+◌, ◌-◌, ◌<◌, ◌≤◌, ◌⊎◌, List, [], ◌++◌, length, take, drop, slice_index_or, chars}
 use Rattle.std.specs.Str.{IsCharBoundary}
-use Rattle.str_indices.specs.Text.{byte_len, is_line_break, break_ends, ends_up_to, end_place, units}
+use Rattle.str_indices.specs.Text.{byte_len, break_ends, ends_up_to, end_place, units}
+use Rattle.ropey.specs.Chunks.{is_break}
 use Rattle.str_indices.specs.FirstBreak.{IsBreak}
 use Rattle.rope_search_reports.specs.Text.{bytes_of, line_count}
 use Rattle.rope_search_reports.specs.Report.{line_texts}
 
 -- the line that a place is in: how many breaks end there or before
 abbrev pub line_at : List ℕ → ℕ → ℕ
-line_at text place = ends_up_to place (break_ends is_line_break text)
+line_at text place = ends_up_to place (break_ends is_break text)
 
 -- where a line starts: at the end of the break before it, the first one at 0
 abbrev pub line_start : List ℕ → ℕ → ℕ
-line_start text line = end_place (break_ends is_line_break text) line (length (bytes_of text))
+line_start text line = end_place (break_ends is_break text) line (length (bytes_of text))
 
 -- how many code units there are from where the place's line starts up to the place
 abbrev pub column_at : List ℕ → ℕ → ℕ
@@ -55,7 +56,7 @@ pub record EndsInBreak (text : List ℕ) (line : ℕ) (behind : List ℕ) : Type
   pub one : List ℕ
   pub rest : List ℕ
   pub splits : behind ≡ one ++ rest
-  pub is : IsBreak is_line_break one rest
+  pub is : IsBreak is_break one rest
   pub next : line_start text (line + 1) ≡ text_end text line + byte_len one
 
 -- from where a line starts to where its text ends stand that text's bytes, and then comes what ends the line

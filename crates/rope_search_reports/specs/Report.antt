@@ -1,6 +1,7 @@
 -- The report of a text and a pattern: for each line, where the pattern matches in it.
 use Rattle.std.specs.Prelude.{◌≡◌, ℕ, List, [], ◌∷◌, ◌++◌, if◌then◌else◌, length, take, map, sum_by, chars}
-use Rattle.str_indices.specs.Text.{is_line_break, ends_break, units}
+use Rattle.str_indices.specs.Text.{ends_break, units}
+use Rattle.ropey.specs.Chunks.{is_break}
 use Rattle.rope_search_reports.specs.Text.{bytes_of}
 use Rattle.rope_search_reports.specs.Matches.{AreMatches}
 use Rattle.rope_search_reports.specs.Pattern.{Finds}
@@ -17,8 +18,8 @@ with_first c (line ∷ lines) = (c ∷ line) ∷ lines
 unfoldable pub line_texts : List ℕ → List (List ℕ)
 line_texts [] = [] ∷ []
 line_texts (c ∷ rest) =
-    if ends_break is_line_break c rest then [] ∷ line_texts rest
-    else if is_line_break c then line_texts rest
+    if ends_break is_break c rest then [] ∷ line_texts rest
+    else if is_break c then line_texts rest
     else with_first c (line_texts rest)
 
 -- ---- matches

@@ -1,7 +1,8 @@
 -- A text is a list of Unicode scalar values, spelled in UTF-8.
 use Rattle.std.specs.Prelude.{◌≡◌, ℕ, ◌+◌, List, true, encode_utf8_all}
 use Rattle.std.specs.Str.{all_scalars}
-use Rattle.str_indices.specs.Text.{is_line_break, breaks}
+use Rattle.str_indices.specs.Text.{breaks}
+use Rattle.ropey.specs.Chunks.{is_break}
 
 -- each number in the list is a scalar value
 abbrev pub IsText : List ℕ → Type 0
@@ -19,4 +20,4 @@ pub record Encodes (text bytes : List ℕ) : Type 0 where
 -- A text has breaks plus one lines: the last one has no break at its end. Breaks are LF, VT, FF, CR, U+0085, U+2028 and
 -- U+2029, with CR LF as one.
 abbrev pub line_count : List ℕ → ℕ
-line_count text = breaks is_line_break text + 1
+line_count text = breaks is_break text + 1

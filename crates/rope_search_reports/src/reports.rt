@@ -1,15 +1,15 @@
 //! The report of a text: its lines, each searched by itself.
 ghost use Rattle.std.specs.Prelude.{◌≡◌, ◌+◌, ◌^◌, ◌<◌, ◌≤◌, [], ◌++◌, chars, string_bytes, IfOk, IfErr, OnOk};
-ghost use Rattle.str_indices.specs.Text.{is_line_break, breaks};
-ghost use Rattle.ropey.specs.Chunks.{text_of};
+ghost use Rattle.str_indices.specs.Text.{breaks};
+ghost use Rattle.ropey.specs.Chunks.{is_break, text_of};
 ghost use Rattle.rope_search_reports.specs.Report.{IsRow, IsReport, match_count};
 ghost use Rattle.rope_search_reports.specs.Drafts.{AddsRow, AddsLines};
 
 use crate::rows::{Finder, Lines, Row, search_line};
 use rope_search_io::Fault;
 use ropey::Rope;
+use ropey::breaks::first_break;
 use std::alloc::Global;
-use str_indices::lines;
 
 /// A report that is being made.
 #[derive(Drop)]
@@ -82,11 +82,11 @@ impl Draft {
             self.old.rows.items self.new.rows.items) }
         ensures fault { IfErr result (λ fault. fault ≡ Fault.Memory) }
         ensures finder { finder.new ≡ finder.old }
-        ensures count { tick.new.count ≤ tick.old.count + breaks is_line_break (chars chunk.now) }
+        ensures count { tick.new.count ≤ tick.old.count + breaks is_break (chars chunk.now) }
         ensures wholes { tick.new.wholes ≡ tick.old.wholes }
     {
         let mut rest = chunk;
-        while let Some(at) = lines::first_break(rest) {
+        while let Some(at) = first_break(rest) {
             self.end_line(tick, finder, &rest[..at.start])?;
             rest = &rest[at.end..];
         }
@@ -132,7 +132,7 @@ pub fn report_of(
     ensures few { IfOk result (λ rows. match_count rows.items < 2 ^ 64) }
     ensures fault { IfErr result (λ fault. fault ≡ Fault.Memory) }
     ensures finder { finder.new ≡ finder.old }
-    ensures count { tick.new.count ≤ tick.old.count + breaks is_line_break (text_of text.now) + 1 }
+    ensures count { tick.new.count ≤ tick.old.count + breaks is_break (text_of text.now) + 1 }
     ensures wholes { tick.new.wholes ≡ tick.old.wholes }
 {
     let mut draft = Draft::new(alloc);

@@ -1,7 +1,8 @@
 use Rattle.std.proofs.Common.{◌≡◌, ◌+◌, ◌-◌, ◌<◌, ◌≤◌, ◌++◌, [], List, ℕ, IsUtf8, length, take, drop, chars, string_bytes, refl, sym, ap, subst, ◌∙◌, arith, length-drop}
 use Rattle.std.proofs.lemmas.Str.{chars-nil, IsUtf8-drop}
 use Rattle.std.specs.Prelude.{IsNone}
-use Rattle.str_indices.specs.Text.{is_line_break, breaks}
+use Rattle.str_indices.specs.Text.{breaks}
+use Rattle.ropey.specs.Chunks.{is_break}
 use Rattle.rope_search_reports.specs.Drafts.{AddsRow}
 use Rattle.rope_search_reports.proofs.DraftLemmas.{Ended, Ended-start, Ended-line, Ended-end, first-lines, first-counted}
 use Rattle.rope_search_reports.proofs.reports.Draft.end_lines.Goals as goal
@@ -50,5 +51,5 @@ loop-at-preserved c =
 
 pub returns-clause-rows : goal.returns-clause-rows
 returns-clause-rows c =
-    let none : breaks is_line_break (chars c.loop-at.rest.now) ≡ 0 = c.first_break.ensures.none.0 (subst IsNone (sym c.in_default.is) refl) in
+    let none : breaks is_break (chars c.loop-at.rest.now) ≡ 0 = c.first_break.ensures.none.0 (subst IsNone (sym c.in_default.is) refl) in
     Ended-end _ _ _ _ _ _ _ _ _ c.loop-at.invariant.1.0 none
