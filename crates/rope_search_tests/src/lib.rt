@@ -6,6 +6,8 @@ mod cases;
 #[cfg(test)]
 mod devices;
 #[cfg(test)]
+mod examples;
+#[cfg(test)]
 mod io_examples;
 #[cfg(test)]
 mod patterns;
