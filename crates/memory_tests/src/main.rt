@@ -9,10 +9,10 @@ use std::env::Args;
 use std::iter::Skip;
 use std::{env, io};
 
-/// `parse PATTERN` and `fold PATTERN` write the tree of a pattern, `fold` where letters match in each
-/// case, or why there is none. `build PART..` appends the parts to a builder and writes the rope: a
-/// line for each part that was refused, then each chunk's length and all of its text. `chunks TEXT`
-/// makes a rope of the parts of a text between its `|`, and writes it likewise.
+/// `parse PATTERN` and `fold PATTERN` write the tree of a pattern, `fold` where letters match in
+/// each case, or why there is none. `build PART..` appends the parts to a builder and writes the
+/// rope: a line for each part that was refused, then each chunk's length and all of its text.
+/// `chunks TEXT` makes a rope of the parts of a text between its `|`, and writes it likewise.
 fn main(rt: HostRuntime) -> io::Result<()> {
     let mut args = env::args(&rt)?.skip(1);
     let Some(mode) = args.next() else {

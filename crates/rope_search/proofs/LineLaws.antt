@@ -4,7 +4,7 @@ use Rattle.std.specs.List.{AllByRecursion}
 use Rattle.std.proofs.lemmas.Bool.{cases_lt, cases_eq}
 use Rattle.std.proofs.lemmas.List.{length-replicate, append_cancel_left}
 use Rattle.rope_search.specs.Order.{Order, SetText, PrintText, ForkBuffer, SetPattern, DropPattern, ListMatches, UseBuffer}
-use Rattle.rope_search.specs.Reads.{digits_after, IsNumber, payload_of, IsLine, HasNoLf}
+use Rattle.rope_search.specs.Reads.{digits_after, IsNumber, IsWorded, payload_of, IsLine, HasNoLf}
 
 -- ---- numbers
 
@@ -42,10 +42,6 @@ number_choice digits = elim (cases_lt 0 (length digits)) [
 -- digits spell one number
 pub IsNumber-one : (digits : List ℕ) (m n : ℕ) → IsNumber digits m → IsNumber digits n → m ≡ n
 IsNumber-one digits m n one other = sym one.value ∙ other.value
-
--- a word and then a number
-abbrev pub IsWorded : List ℕ → List ℕ → ℕ → Type 0
-IsWorded word line n = (digits : List ℕ) × IsNumber digits n × (line ≡ word ++ digits)
 
 -- ---- whether a line is a command's
 

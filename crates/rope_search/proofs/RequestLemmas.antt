@@ -3,7 +3,7 @@ use Rattle.std.proofs.Common.{◌≡◌, ◌↔◌, ℕ, ◌<◌, List, [], ◌�
 use Rattle.std.proofs.lemmas.List.{length-replicate}
 use Rattle.rope_search_io.specs.declared.faults.Broken.{Broken}
 use Rattle.rope_search_io.specs.Sources.{SourceState}
-use Rattle.rope_search_io.specs.ReadBuffer.{Ahead, Takes}
+use Rattle.rope_search_io.specs.ReadBuffer.{Unread, Takes}
 use Rattle.rope_search.specs.declared.commands.CommandOf.{CommandOf}
 use Rattle.rope_search.specs.declared.payloads.Collected.{Collected}
 use Rattle.rope_search.specs.declared.requests.Request.{Request}
@@ -36,7 +36,7 @@ order_for ListMatches len bytes has is = (ListMatches, tt, no_bytes bytes (is �
 order_for (UseBuffer k) len bytes has is = (UseBuffer k, refl, no_bytes bytes (is ∙ sym (has (UseBuffer k) refl)))
 
 -- a payload that was read whole
-pub TakesRest-whole : (limit len : ℕ) (header : CommandOf ℕ) (kept : Collected) (old new : Ahead) (s t : SourceState) → HasPayload header len
+pub TakesRest-whole : (limit len : ℕ) (header : CommandOf ℕ) (kept : Collected) (old new : Unread) (s t : SourceState) → HasPayload header len
     → TakesCollected (Ok (Some kept)) (limit_on header limit) len old new s t → TakesRestOf limit header header kept old new s t
 TakesRest-whole limit len header kept old new s t has h =
     let o = order_for header len h.0 has h.1 in
@@ -55,7 +55,7 @@ line_then : (line rest : List ℕ) → (line ++ 10 ∷ []) ++ rest ≡ line ++ 1
 line_then line rest = append_assoc line (10 ∷ []) rest
 
 -- a command's line, and then what follows it
-pub TakesRequest-after : (limit : ℕ) (header : CommandOf ℕ) (line : List ℕ) (r : Result Request Broken) (a b c : Ahead) (s t u : SourceState)
+pub TakesRequest-after : (limit : ℕ) (header : CommandOf ℕ) (line : List ℕ) (r : Result Request Broken) (a b c : Unread) (s t u : SourceState)
     → ((o : Order) → IsLine o line ↔ IsHeaderOf header o) → Takes a b s t (line ++ 10 ∷ []) → TakesRest limit header r b c t u → TakesRequest limit r a c s u
 TakesRequest-after limit header line (Ok (Given given kept)) a b c s t u told p q = record {
   order = q.order;

@@ -244,14 +244,6 @@ Ran-broken limit Turns source sink ticks mid new so turn =
     (taken.sound ∙ so.taken.sound, omega (arith, taken.many, taken.counted, so.taken.counted)) taken.open_end taken.wide
 Ran-broken limit Memory source sink ticks mid new so turn = absurd turn.0.taken
 
--- ---- a turn takes at least one byte
-
-pub most_to_come-turn : (limit : ℕ) (mid new : Scene) (Written : List ℕ → Type 0) → Turned limit mid new Written → most_to_come new.buffer < most_to_come mid.buffer
-most_to_come-turn limit mid new Written turned =
-    let line = turned.spells.line in
-    let some : 0 < length turned.bytes = omega (arith, ap length turned.spells.whole, length-append line (10 ∷ payload_of turned.order)) in
-    omega (arith, turned.taken.fewer)
-
 -- ---- the whole input
 
 -- an answer, and that no more was searched than its commands may

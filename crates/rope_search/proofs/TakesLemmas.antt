@@ -5,13 +5,13 @@ use Rattle.std.specs.Io.KnownBytes.{Consumes, prepend_known}
 use Rattle.rope_search_io.specs.declared.faults.Broken.{Broken}
 use Rattle.rope_search_io.specs.declared.faults.Broken.TheVariants.{Read, Write, Turns, Memory}
 use Rattle.rope_search_io.specs.Sources.{SourceState}
-use Rattle.rope_search_io.specs.ReadBuffer.{Ahead, Takes, TakesLast, TakesUntil, to_come}
+use Rattle.rope_search_io.specs.ReadBuffer.{Unread, Takes, TakesLast, TakesUntil, to_come}
 
 -- nothing taken
-pub Takes-nil : (a : Ahead) (s : SourceState) → Takes a a s s []
+pub Takes-nil : (a : Unread) (s : SourceState) → Takes a a s s []
 Takes-nil a s = record { consumed = Consumes-nil (to_come a s); fewer = omega arith; counted = refl; sound = refl; open_end = refl; wide = refl }
 
-pub Takes-trans : (a b c : Ahead) (s t u : SourceState) (xs ys : List ℕ) → Takes a b s t xs → Takes b c t u ys → Takes a c s u (xs ++ ys)
+pub Takes-trans : (a b c : Unread) (s t u : SourceState) (xs ys : List ℕ) → Takes a b s t xs → Takes b c t u ys → Takes a c s u (xs ++ ys)
 Takes-trans a b c s t u xs ys p q = record {
   consumed = Consumes-trans (to_come a s) (to_come b t) (to_come c u) xs ys p.consumed q.consumed;
   fewer = omega (arith, p.fewer, q.fewer, length-append xs ys);
@@ -22,7 +22,7 @@ Takes-trans a b c s t u xs ys p q = record {
 }
 
 -- bytes taken, and then the last ones
-pub TakesLast-after : (a b c : Ahead) (s t u : SourceState) (xs ys : List ℕ) → Takes a b s t xs → TakesLast b c t u ys → TakesLast a c s u (xs ++ ys)
+pub TakesLast-after : (a b c : Unread) (s t u : SourceState) (xs ys : List ℕ) → Takes a b s t xs → TakesLast b c t u ys → TakesLast a c s u (xs ++ ys)
 TakesLast-after a b c s t u xs ys p q = record {
   consumed = Consumes-trans (to_come a s) (to_come b t) (to_come c u) xs ys p.consumed q.consumed;
   counted = omega (arith, p.counted, q.counted);
@@ -34,7 +34,7 @@ TakesLast-after a b c s t u xs ys p q = record {
 }
 
 -- bytes taken, and then some more before no others came
-pub TakesUntil-after : (broken : Broken) (a b c : Ahead) (s t u : SourceState) (xs ys : List ℕ)
+pub TakesUntil-after : (broken : Broken) (a b c : Unread) (s t u : SourceState) (xs ys : List ℕ)
     → Takes a b s t xs → TakesUntil broken b c t u ys → TakesUntil broken a c s u (xs ++ ys)
 TakesUntil-after Read a b c s t u xs ys p q = record {
   consumed = Consumes-trans (to_come a s) (to_come b t) (to_come c u) xs ys p.consumed q.consumed;
@@ -61,7 +61,7 @@ front_consumed front back None = tt
 front_consumed front back (Some ys) = append_assoc front back ys
 
 -- bytes taken from the front of those that were read already
-pub Takes-front : (old new : Ahead) (s : SourceState) (count : ℕ) → count ≤ length old.bytes
+pub Takes-front : (old new : Unread) (s : SourceState) (count : ℕ) → count ≤ length old.bytes
     → new.bytes ≡ drop count old.bytes → new.reads ≡ old.reads → Takes old new s s (take count old.bytes)
 Takes-front old new s count enough rest same = record {
   consumed = subst (λ (bs : List ℕ). Consumes (prepend_known bs s.left) (prepend_known new.bytes s.left) (take count old.bytes))

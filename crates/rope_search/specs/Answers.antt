@@ -9,7 +9,8 @@ use Rattle.rope_search.specs.Shows.{Shows, closing}
 use Rattle.rope_search.specs.Cost.{Costs}
 
 -- one command of a run, and what the others do from the session after it
-pub record Turn (limit : ℕ) (old : State) (order : Order) (out : List ℕ) (cost : ℕ) (Others : State → List ℕ → ℕ → Type 0) : Type 0 where
+pub record Turn (limit : ℕ) (old : State) (order : Order) (out : List ℕ) (cost : ℕ)
+    (Others : State → List ℕ → ℕ → Type 0) : Type 0 where
   pub answer : Answer
   pub new : State
   pub own_cost : ℕ
@@ -26,10 +27,13 @@ pub record Turn (limit : ℕ) (old : State) (order : Order) (out : List ℕ) (co
 -- from an old session these commands may be shown so, at this cost, and leave a new one
 abbrev pub Run : ℕ → State → List Order → List ℕ → ℕ → State → Type 0
 Run limit old [] out cost new = (out ≡ []) × (cost ≡ 0) × (new ≡ old)
-Run limit old (order ∷ orders) out cost new = Turn limit old order out cost (λ mid later later_cost. Run limit mid orders later later_cost new)
+Run limit old (order ∷ orders) out cost new =
+    Turn limit old order out cost
+        (λ mid later later_cost. Run limit mid orders later later_cost new)
 
 -- an input that ends so may be answered by this output, at this cost
-pub record Answers (limit : ℕ) (input : List ℕ) (ending : Ended) (output : List ℕ) (cost : ℕ) : Type 0 where
+pub record Answers (limit : ℕ) (input : List ℕ) (ending : Ended) (output : List ℕ)
+    (cost : ℕ) : Type 0 where
   pub orders : List Order
   pub replies : List ℕ
   pub last : State

@@ -32,9 +32,11 @@ pub record CostsAccepted (limit : ℕ) (old : State) (order : Order) (n : ℕ) :
   pub step : Step limit old order (Ok reply) new
   pub rows : n ≡ rows_of order new
 
--- a command costs nothing where there is a reason to refuse it, and else what it costs once accepted, whatever it is answered
+-- a command costs nothing where there is a reason to refuse it, and else what it costs once
+-- accepted, whatever it is answered
 abbrev pub Costs : ℕ → State → Order → ℕ → Type 0
-Costs limit old order n = ((fault : Fault) × Refuses limit old order fault × (n ≡ 0)) ⊎ CostsAccepted limit old order n
+Costs limit old order n =
+    ((fault : Fault) × Refuses limit old order fault × (n ≡ 0)) ⊎ CostsAccepted limit old order n
 
 -- how often a command may search a whole text
 abbrev pub whole_searches : Order → ℕ

@@ -1,4 +1,5 @@
--- Laws of the definitions themselves: that they leave one reading, one step and one cost, and that no command is left out.
+-- Laws of the definitions themselves: that they leave one reading, one step and one cost, and that
+-- no command is left out.
 use Rattle.std.specs.Prelude.{◌≡◌, ◌≢◌, ℕ, ◌↔◌, List, ◌++◌, Err}
 use Rattle.rope_search_io.specs.declared.faults.Fault.TheVariants.{Memory}
 use Rattle.rope_search.specs.declared.runs.Ended.{Ended}
@@ -18,31 +19,41 @@ use Rattle.rope_search.specs.Answers.{Answers}
 abbrev pub HasOneReading : List ℕ → Type 0
 HasOneReading input =
     ((orders : List Order) × (ending : Ended) × Reads input orders ending)
-    × ((orders others : List Order) (ending other : Ended) → Reads input orders ending → Reads input others other → (orders ≡ others) × (ending ≡ other))
+    × ((orders others : List Order) (ending other : Ended) → Reads input orders ending
+        → Reads input others other → (orders ≡ others) × (ending ≡ other))
 
 -- apart from want of memory, this command has some answer with a session after it, and no other
 abbrev pub HasOneStep : ℕ → State → Order → Type 0
 HasOneStep limit old order =
     ((answer : Answer) × (new : State) × (answer ≢ Err Memory) × Step limit old order answer new)
-    × ((answer other : Answer) (new new' : State) → Step limit old order answer new → Step limit old order other new'
+    × ((answer other : Answer) (new new' : State) → Step limit old order answer new
+        → Step limit old order other new'
     → answer ≢ Err Memory → other ≢ Err Memory → (answer ≡ other) × (new ≡ new'))
 
 -- this command has some cost, and no other
 abbrev pub HasOneCost : ℕ → State → Order → Type 0
-HasOneCost limit old order = ((n : ℕ) × Costs limit old order n) × ((m n : ℕ) → Costs limit old order m → Costs limit old order n → m ≡ n)
+HasOneCost limit old order =
+    ((n : ℕ) × Costs limit old order n)
+    × ((m n : ℕ) → Costs limit old order m → Costs limit old order n → m ≡ n)
 
 -- what follows a bad line changes nothing: with it and without it the same may be answered
 abbrev pub EndsAtBadLine : ℕ → List ℕ → Type 0
 EndsAtBadLine limit input =
-    (orders : List Order) → Reads input orders Command → (more output : List ℕ) (cost : ℕ) → Answers limit input Command output cost ↔ Answers limit (input ++ more) Command output cost
+    (orders : List Order) → Reads input orders Command → (more output : List ℕ) (cost : ℕ)
+        → Answers limit input Command output cost
+        ↔ Answers limit (input ++ more) Command output cost
 
 -- these bytes end in some way, and may then be answered
 abbrev pub HasAnswer : ℕ → List ℕ → Type 0
-HasAnswer limit input = (ending : Ended) × (output : List ℕ) × (cost : ℕ) × Answers limit input ending output cost
+HasAnswer limit input =
+    (ending : Ended) × (output : List ℕ) × (cost : ℕ) × Answers limit input ending output cost
 
 -- an answer is shown in some way, and in no other
 abbrev pub HasOneShow : State → Answer → Type 0
-HasOneShow session answer = ((bytes : List ℕ) × Shows session answer bytes) × ((bytes other : List ℕ) → Shows session answer bytes → Shows session answer other → bytes ≡ other)
+HasOneShow session answer =
+    ((bytes : List ℕ) × Shows session answer bytes)
+    × ((bytes other : List ℕ) → Shows session answer bytes → Shows session answer other
+        → bytes ≡ other)
 
 -- this command, with what was kept of its payload, stands for some command of the definition
 abbrev pub StandsForSome : ℕ → CommandOf Payload → Type 0

@@ -28,15 +28,19 @@ payload_of DropPattern = []
 payload_of ListMatches = []
 payload_of (UseBuffer k) = []
 
+-- a line is a word and then a number
+abbrev pub IsWorded : List ℕ → List ℕ → ℕ → Type 0
+IsWorded word line n = (digits : List ℕ) × IsNumber digits n × (line ≡ word ++ digits)
+
 -- a command's line, without its LF: a word, then its numbers, each after one space
 abbrev pub IsLine : Order → List ℕ → Type 0
-IsLine (SetText payload) line = (digits : List ℕ) × IsNumber digits (length payload) × (line ≡ codes "text " ++ digits)
+IsLine (SetText payload) line = IsWorded (codes "text ") line (length payload)
 IsLine PrintText line = line ≡ codes "print"
 IsLine ForkBuffer line = line ≡ codes "fork"
-IsLine (SetPattern payload) line = (digits : List ℕ) × IsNumber digits (length payload) × (line ≡ codes "pattern " ++ digits)
+IsLine (SetPattern payload) line = IsWorded (codes "pattern ") line (length payload)
 IsLine DropPattern line = line ≡ codes "off"
 IsLine ListMatches line = line ≡ codes "list"
-IsLine (UseBuffer k) line = (digits : List ℕ) × IsNumber digits k × (line ≡ codes "use " ++ digits)
+IsLine (UseBuffer k) line = IsWorded (codes "use ") line k
 
 -- a command is spelled by its line, LF, and its payload
 pub record Spells (order : Order) (bytes : List ℕ) : Type 0 where

@@ -2,7 +2,7 @@
 use Rattle.std.specs.Prelude.{◌≡◌, ℕ, ◌<◌, ◌≤◌, ◌↔◌, ◌⊎◌, List, [], ◌∷◌, ◌++◌, length, take, Bool, true, false, Option, None, Some, Result, Ok, Err, IsUtf8}
 use Rattle.rope_search_io.specs.declared.faults.Broken.{Broken}
 use Rattle.rope_search_io.specs.Sources.{SourceState}
-use Rattle.rope_search_io.specs.ReadBuffer.{Ahead, Takes, TakesLast, TakesUntil}
+use Rattle.rope_search_io.specs.ReadBuffer.{Unread, Takes, TakesLast, TakesUntil}
 use Rattle.rope_search_io.specs.Utf8Judge.{Continues}
 use Rattle.rope_search.specs.declared.command_lines.LineRead.{LineRead}
 use Rattle.rope_search.specs.declared.command_lines.LineRead.TheVariants.{Whole, Long, Part}
@@ -18,8 +18,10 @@ use Rattle.rope_search.specs.Stands.{limit_on}
 use Rattle.rope_search.specs.Header.{IsHeaderOf}
 use Rattle.rope_search.specs.Reads.{HasNoLf, Spells, Ends, payload_of}
 
--- a line of at most 128 bytes and its LF; 129 bytes without one; or the bytes without one before the end
-abbrev pub TakesLine : Result LineRead Broken → List ℕ → Ahead → Ahead → SourceState → SourceState → Type 0
+-- a line of at most 128 bytes and its LF; 129 bytes without one; or the bytes without one before
+-- the end
+abbrev pub TakesLine : Result LineRead Broken → List ℕ → Unread → Unread → SourceState → SourceState
+    → Type 0
 TakesLine (Ok (Whole len)) line old new source source' =
     (len ≤ 128) × HasNoLf (take len line) × Takes old new source source' (take len line ++ 10 ∷ [])
 TakesLine (Ok Long) line old new source source' =
@@ -27,43 +29,55 @@ TakesLine (Ok Long) line old new source source' =
 TakesLine (Ok (Part len)) line old new source source' =
     (len ≤ 128) × HasNoLf (take len line) × TakesLast old new source source' (take len line)
 TakesLine (Err broken) line old new source source' =
-    (bytes : List ℕ) × (length bytes ≤ 128) × HasNoLf bytes × TakesUntil broken old new source source' bytes
+    (bytes : List ℕ) × (length bytes ≤ 128) × HasNoLf bytes
+        × TakesUntil broken old new source source' bytes
 
--- of a payload with this many bytes in all, what is kept of those before; it is judged alone exactly where it is over the limit
+-- of a payload with this many bytes in all, what is kept of those before; it is judged alone
+-- exactly where it is over the limit
 abbrev pub Collects : ℕ → ℕ → Collected → List ℕ → Type 0
 Collects limit len (Kept bytes) before = (len ≤ limit) × (bytes.items ≡ before)
-Collects limit len (Judged judge) before = (limit < len) × ((more : List ℕ) → IsUtf8 (before ++ more) ↔ Continues judge more)
+Collects limit len (Judged judge) before =
+    (limit < len) × ((more : List ℕ) → IsUtf8 (before ++ more) ↔ Continues judge more)
 Collects limit len Lost before = Unit {0}
 
 -- what is kept of more bytes, where it was of those before
 abbrev pub CollectsMore : Collected → Collected → List ℕ → Type 0
-CollectsMore old new bytes = (limit len : ℕ) (before : List ℕ) → Collects limit len old before → Collects limit len new (before ++ bytes)
+CollectsMore old new bytes =
+    (limit len : ℕ) (before : List ℕ) → Collects limit len old before
+    → Collects limit len new (before ++ bytes)
 
 -- a payload of this many bytes was taken, or fewer, before the end or where no more came
-abbrev pub TakesPayload : Result Bool Broken → ℕ → Collected → Collected → Ahead → Ahead → SourceState → SourceState → Type 0
+abbrev pub TakesPayload : Result Bool Broken → ℕ → Collected → Collected → Unread → Unread
+    → SourceState → SourceState → Type 0
 TakesPayload (Ok true) len kept kept' old new source source' =
-    (bytes : List ℕ) × (length bytes ≡ len) × CollectsMore kept kept' bytes × Takes old new source source' bytes
+    (bytes : List ℕ) × (length bytes ≡ len) × CollectsMore kept kept' bytes
+        × Takes old new source source' bytes
 TakesPayload (Ok false) len kept kept' old new source source' =
     (bytes : List ℕ) × (length bytes < len) × TakesLast old new source source' bytes
 TakesPayload (Err broken) len kept kept' old new source source' =
     (bytes : List ℕ) × (length bytes < len) × TakesUntil broken old new source source' bytes
 
--- a payload of this many bytes was read, and collected under a limit on them; or the input ended before, or no more came
-abbrev pub TakesCollected : Result (Option Collected) Broken → ℕ → ℕ → Ahead → Ahead → SourceState → SourceState → Type 0
+-- a payload of this many bytes was read, and collected under a limit on them; or the input ended
+-- before, or no more came
+abbrev pub TakesCollected : Result (Option Collected) Broken → ℕ → ℕ → Unread → Unread → SourceState
+    → SourceState → Type 0
 TakesCollected (Ok (Some collected)) limit len old new source source' =
-    (bytes : List ℕ) × (length bytes ≡ len) × Collects limit len collected bytes × Takes old new source source' bytes
+    (bytes : List ℕ) × (length bytes ≡ len) × Collects limit len collected bytes
+        × Takes old new source source' bytes
 TakesCollected (Ok None) limit len old new source source' =
     (bytes : List ℕ) × (length bytes < len) × TakesLast old new source source' bytes
 TakesCollected (Err broken) limit len old new source source' =
     (bytes : List ℕ) × (length bytes < len) × TakesUntil broken old new source source' bytes
 
 -- a header and what was kept of a payload are of this command, under a limit on the bytes of a text
-pub record IsReadAs (limit : ℕ) (header : CommandOf ℕ) (kept : Collected) (order : Order) : Type 0 where
+pub record IsReadAs (limit : ℕ) (header : CommandOf ℕ) (kept : Collected)
+    (order : Order) : Type 0 where
   pub of_header : IsHeaderOf header order
   pub payload : Collects (limit_on header limit) (length (payload_of order)) kept (payload_of order)
 
 -- all bytes of a command were taken
-pub record TakesOrder (limit : ℕ) (header : CommandOf ℕ) (kept : Collected) (old new : Ahead) (source source' : SourceState) : Type 0 where
+pub record TakesOrder (limit : ℕ) (header : CommandOf ℕ) (kept : Collected) (old new : Unread)
+    (source source' : SourceState) : Type 0 where
   pub order : Order
   pub bytes : List ℕ
   pub spells : Spells order bytes
@@ -71,13 +85,14 @@ pub record TakesOrder (limit : ℕ) (header : CommandOf ℕ) (kept : Collected) 
   pub taken : Takes old new source source' bytes
 
 -- after these bytes the source has told its end, but for a line that is no command
-abbrev pub TakesTo : Ended → Ahead → Ahead → SourceState → SourceState → List ℕ → Type 0
+abbrev pub TakesTo : Ended → Unread → Unread → SourceState → SourceState → List ℕ → Type 0
 TakesTo Command old new source source' bytes = Takes old new source source' bytes
 TakesTo Input old new source source' bytes = TakesLast old new source source' bytes
 TakesTo Cut old new source source' bytes = TakesLast old new source source' bytes
 
 -- bytes were taken with which the input ends so
-pub record TakesEnding (ending : Ended) (old new : Ahead) (source source' : SourceState) : Type 0 where
+pub record TakesEnding (ending : Ended) (old new : Unread)
+    (source source' : SourceState) : Type 0 where
   pub rest : List ℕ
   pub ends : Ends rest ending
   pub taken : TakesTo ending old new source source' rest
@@ -87,19 +102,25 @@ abbrev pub IsUnfinished : List ℕ → Type 0
 IsUnfinished rest = Ends rest Input ⊎ Ends rest Cut
 
 -- bytes were taken that are no whole command, and then no more came
-pub record TakesUnfinished (broken : Broken) (old new : Ahead) (source source' : SourceState) : Type 0 where
+pub record TakesUnfinished (broken : Broken) (old new : Unread)
+    (source source' : SourceState) : Type 0 where
   pub rest : List ℕ
   pub unfinished : IsUnfinished rest
   pub taken : TakesUntil broken old new source source' rest
 
 -- a command was read whole, or the input ended, or no more bytes came
-abbrev pub TakesRequest : ℕ → Result Request Broken → Ahead → Ahead → SourceState → SourceState → Type 0
-TakesRequest limit (Ok (Given header kept)) old new source source' = TakesOrder limit header kept old new source source'
-TakesRequest limit (Ok (End ending)) old new source source' = TakesEnding ending old new source source'
-TakesRequest limit (Err broken) old new source source' = TakesUnfinished broken old new source source'
+abbrev pub TakesRequest : ℕ → Result Request Broken → Unread → Unread → SourceState → SourceState
+    → Type 0
+TakesRequest limit (Ok (Given header kept)) old new source source' =
+    TakesOrder limit header kept old new source source'
+TakesRequest limit (Ok (End ending)) old new source source' =
+    TakesEnding ending old new source source'
+TakesRequest limit (Err broken) old new source source' =
+    TakesUnfinished broken old new source source'
 
 -- the payload of a command with this header was taken
-pub record TakesRestOf (limit : ℕ) (header given : CommandOf ℕ) (kept : Collected) (old new : Ahead) (source source' : SourceState) : Type 0 where
+pub record TakesRestOf (limit : ℕ) (header given : CommandOf ℕ) (kept : Collected)
+    (old new : Unread) (source source' : SourceState) : Type 0 where
   pub order : Order
   pub of_header : IsHeaderOf header order
   pub is : IsReadAs limit given kept order
@@ -114,9 +135,13 @@ pub record TakesPartOf (header : CommandOf ℕ) (Taken : List ℕ → Type 0) : 
   pub taken : Taken part
 
 -- what follows a command's line was read
-abbrev pub TakesRest : ℕ → CommandOf ℕ → Result Request Broken → Ahead → Ahead → SourceState → SourceState → Type 0
-TakesRest limit header (Ok (Given given kept)) old new source source' = TakesRestOf limit header given kept old new source source'
-TakesRest limit header (Ok (End Cut)) old new source source' = TakesPartOf header (TakesLast old new source source')
+abbrev pub TakesRest : ℕ → CommandOf ℕ → Result Request Broken → Unread → Unread → SourceState
+    → SourceState → Type 0
+TakesRest limit header (Ok (Given given kept)) old new source source' =
+    TakesRestOf limit header given kept old new source source'
+TakesRest limit header (Ok (End Cut)) old new source source' =
+    TakesPartOf header (TakesLast old new source source')
 TakesRest limit header (Ok (End Input)) old new source source' = ⊥
 TakesRest limit header (Ok (End Command)) old new source source' = ⊥
-TakesRest limit header (Err broken) old new source source' = TakesPartOf header (TakesUntil broken old new source source')
+TakesRest limit header (Err broken) old new source source' =
+    TakesPartOf header (TakesUntil broken old new source source')

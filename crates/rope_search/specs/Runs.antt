@@ -4,7 +4,7 @@ use Rattle.std.specs.Io.KnownBytes.{Appends, Consumes, IsAtEnd}
 use Rattle.rope_search_io.specs.declared.faults.Broken.{Broken}
 use Rattle.rope_search_io.specs.declared.faults.Broken.TheVariants.{Read, Write, Turns, Memory}
 use Rattle.rope_search_io.specs.Sources.{SourceState, SinkState}
-use Rattle.rope_search_io.specs.ReadBuffer.{Ahead, Takes}
+use Rattle.rope_search_io.specs.ReadBuffer.{Unread, Takes}
 use Rattle.rope_search_io.specs.WriteBuffer.{Writes, WritesFront}
 use Rattle.rope_search.specs.declared.runs.Ended.{Ended}
 use Rattle.rope_search.specs.declared.runs.Ended.TheVariants.{Input, Command, Cut}
@@ -18,13 +18,15 @@ use Rattle.rope_search.specs.Cost.{Costs, whole_searches}
 use Rattle.rope_search.specs.Answers.{Run, Answers}
 use Rattle.rope_search.specs.Requests.{TakesEnding, TakesUnfinished}
 
--- exactly one read told the end, and all bytes were read; a line that is no command needs none, and none told it
+-- exactly one read told the end, and all bytes were read; a line that is no command needs none, and
+-- none told it
 abbrev pub TellsEnd : Ended → SourceState → SourceState → Type 0
 TellsEnd Command source source' = source'.ends ≡ source.ends
 TellsEnd Input source source' = (source'.ends ≡ source.ends + 1) × IsAtEnd source'.left
 TellsEnd Cut source source' = (source'.ends ≡ source.ends + 1) × IsAtEnd source'.left
 
--- no more rows were made than this cost, and whole texts were searched no more often than these commands may
+-- no more rows were made than this cost, and whole texts were searched no more often than these
+-- commands may
 pub record SearchesWithin (orders : List Order) (cost : ℕ) (ticks ticks' : Ticks) : Type 0 where
   pub rows : ticks'.count ≤ ticks.count + cost
   pub wholes : ticks'.wholes ≤ ticks.wholes + sum_by whole_searches orders
@@ -36,10 +38,12 @@ pub record FlushesAll (sink sink' : SinkState) : Type 0 where
 
 -- the sink was not flushed; or once, where none of these bytes are lost
 abbrev pub FlushesLast : SinkState → SinkState → List ℕ → Type 0
-FlushesLast sink sink' lost = (sink'.flushes ≡ sink.flushes) ⊎ ((sink'.flushes ≡ sink.flushes + 1) × (lost ≡ []))
+FlushesLast sink sink' lost =
+    (sink'.flushes ≡ sink.flushes) ⊎ ((sink'.flushes ≡ sink.flushes + 1) × (lost ≡ []))
 
 -- what was written is an answer to what was read
-pub record IsAnswered (limit : ℕ) (ending : Ended) (source source' : SourceState) (sink sink' : SinkState) (ticks ticks' : Ticks) : Type 0 where
+pub record IsAnswered (limit : ℕ) (ending : Ended) (source source' : SourceState)
+    (sink sink' : SinkState) (ticks ticks' : Ticks) : Type 0 where
   pub input : List ℕ
   pub output : List ℕ
   pub cost : ℕ
@@ -56,12 +60,14 @@ pub record IsAnswered (limit : ℕ) (ending : Ended) (source source' : SourceSta
 -- why no more bytes came: a read failed, or there were 2^62 of them
 abbrev pub StopsFor : Broken → SourceState → SourceState → Type 0
 StopsFor Read source source' = source'.failures ≡ source.failures + 1
-StopsFor Turns source source' = (source'.failures ≡ source.failures) × (source.reads + 2 ^ 62 ≤ source'.reads)
+StopsFor Turns source source' =
+    (source'.failures ≡ source.failures) × (source.reads + 2 ^ 62 ≤ source'.reads)
 StopsFor Write source source' = ⊥
 StopsFor Memory source source' = ⊥
 
 -- all replies to the commands that were read whole were written, and then no more bytes came
-pub record StopsReading (limit : ℕ) (broken : Broken) (source source' : SourceState) (sink sink' : SinkState) (ticks ticks' : Ticks) : Type 0 where
+pub record StopsReading (limit : ℕ) (broken : Broken) (source source' : SourceState)
+    (sink sink' : SinkState) (ticks ticks' : Ticks) : Type 0 where
   pub input : List ℕ
   pub orders : List Order
   pub ending : Ended
@@ -80,13 +86,17 @@ pub record StopsReading (limit : ℕ) (broken : Broken) (source source' : Source
   pub wrote_soundly : sink'.failures ≡ sink.failures
   pub flushed : sink'.flushes ≡ sink.flushes
 
--- the ending's line, where the ending was met: by a line that is no command, or by a read that told the end
+-- the ending's line, where the ending was met: by a line that is no command, or by a read that told
+-- the end
 abbrev pub IsMet : Ended → SourceState → SourceState → List ℕ → Type 0
 IsMet ending source source' line =
-    ((line ≡ []) × (source'.ends ≡ source.ends)) ⊎ ((line ≡ closing ending) × TellsEnd ending source source')
+    ((line ≡ []) × (source'.ends ≡ source.ends))
+        ⊎ ((line ≡ closing ending) × TellsEnd ending source source')
 
--- of the replies to the commands that were read whole, and the ending's line where that was met, a front was written, and then the sink failed
-pub record StopsWriting (limit : ℕ) (source source' : SourceState) (sink sink' : SinkState) (ticks ticks' : Ticks) : Type 0 where
+-- of the replies to the commands that were read whole, and the ending's line where that was met, a
+-- front was written, and then the sink failed
+pub record StopsWriting (limit : ℕ) (source source' : SourceState) (sink sink' : SinkState)
+    (ticks ticks' : Ticks) : Type 0 where
   pub input : List ℕ
   pub orders : List Order
   pub ending : Ended
@@ -109,15 +119,21 @@ pub record StopsWriting (limit : ℕ) (source source' : SourceState) (sink sink'
   pub flushed : FlushesLast sink sink' lost
 
 -- what a run did that answers so
-abbrev pub Ran : ℕ → Result Ended Broken → SourceState → SourceState → SinkState → SinkState → Ticks → Ticks → Type 0
-Ran limit (Ok ending) source source' sink sink' ticks ticks' = IsAnswered limit ending source source' sink sink' ticks ticks'
+abbrev pub Ran : ℕ → Result Ended Broken → SourceState → SourceState → SinkState → SinkState → Ticks
+    → Ticks → Type 0
+Ran limit (Ok ending) source source' sink sink' ticks ticks' =
+    IsAnswered limit ending source source' sink sink' ticks ticks'
 -- nothing was read or written
-Ran limit (Err Memory) source source' sink sink' ticks ticks' = (source' ≡ source) × (sink' ≡ sink) × (ticks' ≡ ticks)
-Ran limit (Err Write) source source' sink sink' ticks ticks' = StopsWriting limit source source' sink sink' ticks ticks'
-Ran limit (Err broken) source source' sink sink' ticks ticks' = StopsReading limit broken source source' sink sink' ticks ticks'
+Ran limit (Err Memory) source source' sink sink' ticks ticks' =
+    (source' ≡ source) × (sink' ≡ sink) × (ticks' ≡ ticks)
+Ran limit (Err Write) source source' sink sink' ticks ticks' =
+    StopsWriting limit source source' sink sink' ticks ticks'
+Ran limit (Err broken) source source' sink sink' ticks ticks' =
+    StopsReading limit broken source source' sink sink' ticks ticks'
 
 -- what was written to a sink is an answer to this whole input
-pub record IsAnswerTo (limit : ℕ) (ending : Ended) (input : List ℕ) (sink sink' : SinkState) (ticks ticks' : Ticks) : Type 0 where
+pub record IsAnswerTo (limit : ℕ) (ending : Ended) (input : List ℕ) (sink sink' : SinkState)
+    (ticks ticks' : Ticks) : Type 0 where
   pub output : List ℕ
   pub cost : ℕ
   pub written : Appends sink.held sink'.held output
@@ -126,8 +142,10 @@ pub record IsAnswerTo (limit : ℕ) (ending : Ended) (input : List ℕ) (sink si
   pub flushed : FlushesAll sink sink'
 
 -- a run that ends has answered all that its source had to give, where that is known
-abbrev pub AnswersWhole : ℕ → Result Ended Broken → SourceState → SinkState → SinkState → Ticks → Ticks → Type 0
-AnswersWhole limit (Ok ending) source sink sink' ticks ticks' = IfSome source.left (λ input. IsAnswerTo limit ending input sink sink' ticks ticks')
+abbrev pub AnswersWhole : ℕ → Result Ended Broken → SourceState → SinkState → SinkState → Ticks
+    → Ticks → Type 0
+AnswersWhole limit (Ok ending) source sink sink' ticks ticks' =
+    IfSome source.left (λ input. IsAnswerTo limit ending input sink sink' ticks ticks')
 AnswersWhole limit (Err broken) source sink sink' ticks ticks' = Unit {0}
 
 -- ---- inside a run
@@ -135,14 +153,20 @@ AnswersWhole limit (Err broken) source sink sink' ticks ticks' = Unit {0}
 -- all that a run changes
 pub record Scene : Type 0 where
   pub session : State
-  pub buffer : Ahead
+  pub buffer : Unread
   pub source : SourceState
   pub sink : SinkState
   pub ticks : Ticks
 
 -- before anything is read: the first session
 abbrev pub start : SourceState → SinkState → Ticks → Scene
-start source sink ticks = record { session = first; buffer = record { bytes = []; reads = 0 }; source = source; sink = sink; ticks = ticks }
+start source sink ticks = record {
+  session = first;
+  buffer = record { bytes = []; reads = 0 };
+  source = source;
+  sink = sink;
+  ticks = ticks;
+}
 
 -- a command was read and carried out, and of its reply so much was written
 pub record Turned (limit : ℕ) (old new : Scene) (Written : List ℕ → Type 0) : Type 0 where
@@ -166,9 +190,11 @@ pub record OnlyReads (old new : Scene) : Type 0 where
 -- one turn: a command, or how the input ended, or why the run broke off
 abbrev pub TakesTurn : ℕ → Result (Option Ended) Broken → Scene → Scene → Type 0
 TakesTurn limit (Ok None) old new = Turned limit old new (Writes old.sink new.sink)
-TakesTurn limit (Ok (Some ending)) old new = TakesEnding ending old.buffer new.buffer old.source new.source × OnlyReads old new
+TakesTurn limit (Ok (Some ending)) old new =
+    TakesEnding ending old.buffer new.buffer old.source new.source × OnlyReads old new
 TakesTurn limit (Err Write) old new = Turned limit old new (WritesFront old.sink new.sink)
-TakesTurn limit (Err broken) old new = TakesUnfinished broken old.buffer new.buffer old.source new.source × OnlyReads old new
+TakesTurn limit (Err broken) old new =
+    TakesUnfinished broken old.buffer new.buffer old.source new.source × OnlyReads old new
 
 -- the turns so far
 pub record SoFar (limit : ℕ) (old now : Scene) : Type 0 where

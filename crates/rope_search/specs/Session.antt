@@ -2,7 +2,8 @@
 use Rattle.std.specs.Prelude.{◌≡◌, MatchOption, ℕ, List, [], ◌∷◌, Option, None, slice_index_or, slice_set}
 use Rattle.rope_search_reports.specs.Report.{IsReport}
 
--- a history of texts with a current one, and perhaps a pattern. Texts and patterns are lists of scalar values
+-- a history of texts with a current one, and perhaps a pattern. Texts and patterns are lists of
+-- scalar values
 pub record BufferState : Type 0 where
   pub texts : List (List ℕ)
   pub current : ℕ
@@ -37,11 +38,13 @@ with_pattern buffer pattern = record buffer { pattern = pattern }
 
 -- these rows are the report of the buffer's current text; there are none without a pattern
 abbrev pub IsReportIn : BufferState → List (List (ℕ × ℕ)) → Type 0
-IsReportIn buffer rows = MatchOption buffer.pattern (rows ≡ []) (λ pattern. IsReport (current_text buffer) pattern rows)
+IsReportIn buffer rows =
+    MatchOption buffer.pattern (rows ≡ []) (λ pattern. IsReport (current_text buffer) pattern rows)
 
 -- the session with another buffer in the chosen one's place
 abbrev pub with_chosen : State → BufferState → State
-with_chosen session buffer = record session { buffers = slice_set session.buffers session.chosen buffer }
+with_chosen session buffer =
+    record session { buffers = slice_set session.buffers session.chosen buffer }
 
 -- a buffer, and the most bytes that a text of it has
 pub record LimitedBuffer : Type 0 where
@@ -55,4 +58,5 @@ pub record LimitedSession : Type 0 where
 
 -- the limit of the chosen one of these buffers
 abbrev pub limit_in : List LimitedBuffer → ℕ → ℕ
-limit_in buffers chosen = (slice_index_or buffers chosen (record { limit = 0; state = fresh [] })).limit
+limit_in buffers chosen =
+    (slice_index_or buffers chosen (record { limit = 0; state = fresh [] })).limit

@@ -19,7 +19,9 @@ shown_number n = codes "ok " ++ decimal n ++ codes "\n"
 
 -- how a match is shown: the number of its line, then its two columns
 abbrev pub shown_match : ℕ → ℕ × ℕ → List ℕ
-shown_match line span = codes "m " ++ decimal line ++ codes " " ++ decimal span.0 ++ codes " " ++ decimal span.1 ++ codes "\n"
+shown_match line span =
+    codes "m " ++ decimal line ++ codes " " ++ decimal span.0 ++ codes " " ++ decimal span.1
+    ++ codes "\n"
 
 -- the matches of all rows, the first of which is that of this line
 abbrev pub shown_rows : ℕ → List (List (ℕ × ℕ)) → List ℕ
@@ -30,7 +32,8 @@ shown_rows line (row ∷ rows) = flat_map (shown_match line) row ++ shown_rows (
 abbrev pub shown_report : List (List (ℕ × ℕ)) → List ℕ
 shown_report rows = shown_rows 0 rows ++ shown_number (match_count rows)
 
--- the bytes of an answer, where this is the session after it, and these are the rows of the report that it shows
+-- the bytes of an answer, where this is the session after it, and these are the rows of the report
+-- that it shows
 abbrev pub shows : State → List (List (ℕ × ℕ)) → Answer → List ℕ
 shows session rows (Ok Done) = codes "ok\n"
 shows session rows (Ok (Number k)) = shown_number k
@@ -38,7 +41,8 @@ shows session rows (Ok Listing) = shown_report rows
 shows session rows (Ok Print) = shown_text (bytes_of (current_text (chosen_buffer session)))
 shows session rows (Err fault) = codes "error " ++ word_of fault ++ codes "\n"
 
--- these are the rows of the report that an answer shows: of the chosen buffer's, and none where it shows no report
+-- these are the rows of the report that an answer shows: of the chosen buffer's, and none where it
+-- shows no report
 abbrev pub IsListed : State → Answer → List (List (ℕ × ℕ)) → Type 0
 IsListed session (Ok Listing) rows = IsReportIn (chosen_buffer session) rows
 IsListed session answer rows = rows ≡ []

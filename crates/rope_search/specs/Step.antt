@@ -22,9 +22,11 @@ Refuses limit session (SetText payload) Size = limit < length payload
 Refuses limit session (SetText payload) fault = ⊥
 Refuses limit session PrintText fault = ⊥
 Refuses limit session ForkBuffer fault = ⊥
--- the payload isn't UTF-8, or has too many bytes, or is no pattern; one that is too long isn't judged
+-- the payload isn't UTF-8, or has too many bytes, or is no pattern; one that is too long isn't
+-- judged
 Refuses limit session (SetPattern payload) Utf8 = ¬ (IsUtf8 payload)
-Refuses limit session (SetPattern payload) Pattern = (length payload ≤ pattern_limit) × ¬ (IsPattern (chars payload))
+Refuses limit session (SetPattern payload) Pattern =
+    (length payload ≤ pattern_limit) × ¬ (IsPattern (chars payload))
 Refuses limit session (SetPattern payload) Limit = pattern_limit < length payload
 Refuses limit session (SetPattern payload) fault = ⊥
 Refuses limit session DropPattern fault = ⊥
@@ -36,9 +38,11 @@ Refuses limit session (UseBuffer k) Nothing = length session.buffers ≤ k
 Refuses limit session (UseBuffer k) fault = ⊥
 
 -- of all reasons to refuse the command, this comes first
-pub record IsFirstRefusal (limit : ℕ) (session : State) (order : Order) (fault : Fault) : Type 0 where
+pub record IsFirstRefusal (limit : ℕ) (session : State) (order : Order)
+    (fault : Fault) : Type 0 where
   pub refuses : Refuses limit session order fault
-  pub none_before : (other : Fault) → rank_of other < rank_of fault → Refuses limit session order other → ⊥
+  pub none_before : (other : Fault) → rank_of other < rank_of fault
+      → Refuses limit session order other → ⊥
 
 -- there is no reason to refuse the command
 abbrev pub Accepts : ℕ → State → Order → Type 0
@@ -57,12 +61,18 @@ TakesMemory session (UseBuffer k) = ⊥
 -- what an accepted command does: its reply, and the session after it
 abbrev pub Does : State → Order → Reply → State → Type 0
 -- the text is that of the payload; the pattern stays
-Does old (SetText payload) Done new = (text : List ℕ) × Encodes text payload × (new ≡ with_chosen old (with_text (chosen_buffer old) text))
+Does old (SetText payload) Done new =
+    (text : List ℕ) × Encodes text payload
+    × (new ≡ with_chosen old (with_text (chosen_buffer old) text))
 Does old PrintText Print new = new ≡ old
 -- the new buffer has the current text alone, and comes last; the chosen one stays
-Does old ForkBuffer (Number k) new = (k ≡ length old.buffers) × (new ≡ record old { buffers = old.buffers ++ fresh (current_text (chosen_buffer old)) ∷ [] })
+Does old ForkBuffer (Number k) new =
+    (k ≡ length old.buffers)
+    × (new ≡ record old { buffers = old.buffers ++ fresh (current_text (chosen_buffer old)) ∷ [] })
 -- the pattern is that of the payload; the texts stay
-Does old (SetPattern payload) Done new = (pattern : List ℕ) × Encodes pattern payload × (new ≡ with_chosen old (with_pattern (chosen_buffer old) (Some pattern)))
+Does old (SetPattern payload) Done new =
+    (pattern : List ℕ) × Encodes pattern payload
+    × (new ≡ with_chosen old (with_pattern (chosen_buffer old) (Some pattern)))
 Does old DropPattern Done new = new ≡ with_chosen old (with_pattern (chosen_buffer old) None)
 Does old ListMatches Listing new = new ≡ old
 Does old (UseBuffer k) Done new = new ≡ record old { chosen = k }

@@ -21,8 +21,8 @@ struct Search {
     rows: Vec<Row>,
 }
 
-/// A text within a limit on its bytes; and where a pattern is set, the report of its matches. A fork
-/// shares the memory of the text.
+/// A text within a limit on its bytes; and where a pattern is set, the report of its matches. A
+/// fork shares the memory of the text.
 #[derive(Drop)]
 pub struct Buffer {
     alloc: Global,
@@ -82,8 +82,8 @@ impl Buffer {
         &self.text
     }
 
-    /// Makes this the text, with a new history; the pattern stays, and its report is made anew. It is
-    /// refused with `Fault::Size` where it has more bytes than the limit, and perhaps with
+    /// Makes this the text, with a new history; the pattern stays, and its report is made anew. It
+    /// is refused with `Fault::Size` where it has more bytes than the limit, and perhaps with
     /// `Fault::Memory`; the buffer is then as before.
     pub fn set_text(&mut self, tick: &mut Lines, text: &str) -> Result<(), Fault>
         ensures ok { OnOk result (self.new.state ≡ with_text self.old.state (chars text.now)) }
@@ -92,7 +92,8 @@ impl Buffer {
         ensures fault { IfErr result (λ fault. (fault ≡ Fault.Size) ⊎ (fault ≡ Fault.Memory)) }
         ensures err { OnErr result (self.new ≡ self.old) }
 
-        // A report that is made anew has a row for each line; a text that is too long is searched nowhere.
+        // A report that is made anew has a row for each line; a text that is too long is searched
+        // nowhere.
         ensures refused { result ≡ Err Fault.Size → tick.new ≡ tick.old }
         ensures rows { tick.new.count ≤ tick.old.count + rows_anew self.old.state (chars text.now) }
         ensures wholes { tick.new.wholes ≡ tick.old.wholes }
@@ -112,9 +113,9 @@ impl Buffer {
     }
 
     /// Makes this the pattern, in place of any other, and makes the report. It is refused with
-    /// `Fault::Limit` where it has more than 65,536 bytes, else with `Fault::Pattern` where it isn't one
-    /// or more characters that stand for themselves, which are all but `\ . + * ? ( ) | [ { ^ $`; and
-    /// perhaps with `Fault::Memory`. The buffer is then as before.
+    /// `Fault::Limit` where it has more than 65,536 bytes, else with `Fault::Pattern` where it
+    /// isn't one or more characters that stand for themselves, which are all but
+    /// `\ . + * ? ( ) | [ { ^ $`; and perhaps with `Fault::Memory`. The buffer is then as before.
     pub fn set_pattern(&mut self, tick: &mut Lines, pattern: &str) -> Result<(), Fault>
         ensures ok { OnOk result
             (self.new.state ≡ with_pattern self.old.state (Some (chars pattern.now))) }
@@ -164,7 +165,9 @@ impl Buffer {
     /// refused with `Fault::Memory` alone.
     pub fn fork(&self) -> Result<Buffer, Fault>
         ensures ok { IfOk result (λ buffer.
-            buffer ≡ record { limit = self.now.limit; state = fresh (current_text self.now.state) }) }
+            buffer ≡ record {
+                limit = self.now.limit;
+                state = fresh (current_text self.now.state) }) }
         ensures err { IfErr result (λ fault. fault ≡ Fault.Memory) }
     {
         let text = self.text.clone()?;

@@ -19,14 +19,15 @@ pub enum LineRead {
 
 /// Reads a line into the front of `line`, its LF left off.
 pub fn read_line<R: Source>(
-    ahead: &mut ReadBuffer,
+    read_buffer: &mut ReadBuffer,
     source: &mut R,
     line: &mut [u8; LINE_LEN],
 ) -> Result<LineRead, Broken>
-    ensures { TakesLine result line.new ahead.old ahead.new (R.state source.old) (R.state source.new) }
+    ensures { TakesLine result line.new read_buffer.old read_buffer.new (R.state source.old)
+        (R.state source.new) }
 {
     for len in 0..LINE_LEN {
-        match ahead.next_byte(source)? {
+        match read_buffer.next_byte(source)? {
             Some(b'\n') => return Ok(LineRead::Whole(len)),
             Some(byte) => line[len] = byte,
             None => return Ok(LineRead::Part(len)),

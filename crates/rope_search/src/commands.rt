@@ -12,17 +12,18 @@ use rope_search_reports::PATTERN_LEN;
 /// `Session::apply` carries it out, and tells what is refused first where more than one thing is.
 #[derive(Clone, Copy, Debug, PartialEq, Eq)]
 pub enum CommandOf<P> {
-    /// Sets the chosen buffer's text; its pattern stays. Refused with `Fault::Utf8` where the payload
-    /// isn't UTF-8, `Fault::Size` where it has more bytes than the limit, or `Fault::Memory`.
+    /// Sets the chosen buffer's text; its pattern stays. Refused with `Fault::Utf8` where the
+    /// payload isn't UTF-8, `Fault::Size` where it has more bytes than the limit, or
+    /// `Fault::Memory`.
     Text(P),
     /// Shows the chosen buffer's text. It is never refused.
     Print,
     /// Makes a new buffer of the chosen one's text, without its pattern, and answers the new one's
     /// number. Refused with `Fault::Memory` alone.
     Fork,
-    /// Sets the chosen buffer's pattern, in place of any other. Refused with `Fault::Utf8` where the
-    /// payload isn't UTF-8, `Fault::Pattern` where it is no pattern, `Fault::Limit` where it has more
-    /// than 65,536 bytes, or `Fault::Memory`.
+    /// Sets the chosen buffer's pattern, in place of any other. Refused with `Fault::Utf8` where
+    /// the payload isn't UTF-8, `Fault::Pattern` where it is no pattern, `Fault::Limit` where it
+    /// has more than 65,536 bytes, or `Fault::Memory`.
     Pattern(P),
     /// Drops the chosen buffer's pattern, where there is one. It is never refused.
     Off,
@@ -45,7 +46,8 @@ impl CommandOf<u64> {
     {
         match self {
             CommandOf::Text(len) | CommandOf::Pattern(len) => *len,
-            _ => 0,
+            CommandOf::Print | CommandOf::Fork | CommandOf::Off => 0,
+            CommandOf::List | CommandOf::Use(_) => 0,
         }
     }
 
@@ -55,14 +57,16 @@ impl CommandOf<u64> {
     {
         match self {
             CommandOf::Pattern(_) => PATTERN_LEN,
-            _ => limits.text,
+            CommandOf::Text(_) | CommandOf::Print | CommandOf::Fork => limits.text,
+            CommandOf::Off | CommandOf::List | CommandOf::Use(_) => limits.text,
         }
     }
 
     /// The command with what was kept of its payload.
     pub(crate) fn with(self, payload: Payload<'_>) -> Command<'_>
         ensures { (limit : ℕ) (order : Order) → IsHeaderOf self order
-            → StandsFor (limit_on self limit) payload.entry (payload_of order) → Stands limit result order }
+            → StandsFor (limit_on self limit) payload.entry (payload_of order)
+            → Stands limit result order }
     {
         match self {
             CommandOf::Text(_) => Command::Text(payload),
@@ -81,13 +85,14 @@ impl CommandOf<u64> {
 pub enum Payload<'a> {
     /// All of its bytes. They need not be UTF-8.
     Kept(&'a [u8]),
-    /// It has more bytes than the limit: on texts, or the 65,536 bytes of a pattern. It was read past,
-    /// and judged over all its bytes.
+    /// It has more bytes than the limit: on texts, or the 65,536 bytes of a pattern. It was read
+    /// past, and judged over all its bytes.
     Long {
         /// Whether it is UTF-8.
         utf8: bool,
     },
-    /// There was no memory for it. It was read past. A command with it is refused with `Fault::Memory`.
+    /// There was no memory for it. It was read past. A command with it is refused with
+    /// `Fault::Memory`.
     Lost,
 }
 

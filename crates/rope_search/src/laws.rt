@@ -1,5 +1,5 @@
-//! Laws of what a session is asked and what it answers. Each function here does nothing: its contract is a law
-//! of the definitions by which the other contracts speak, proved.
+//! Laws of what a session is asked and what it answers. Each function here does nothing: its
+//! contract is a law of the definitions by which the other contracts speak, proved.
 
 ghost use Rattle.std.specs.Prelude.{ℕ, List};
 ghost use Rattle.rope_search.specs.Order.{Order};
@@ -14,7 +14,8 @@ pub fn one_reading()
     ensures { (input : List ℕ) → HasOneReading input }
 {}
 
-/// Apart from `error memory`, each command in each session has exactly one reply and one session after it.
+/// Apart from `error memory`, each command in each session has exactly one reply and one session
+/// after it.
 pub fn one_step()
     ensures { (limit : ℕ) (session : State) (order : Order) → HasOneStep limit session order }
 {}
@@ -39,8 +40,9 @@ pub fn one_show()
     ensures { (session : State) (answer : Answer) → HasOneShow session answer }
 {}
 
-/// Every command stands for some command of the definition, under every limit and whatever was kept of
-/// its payload. So what `Session::apply` promises of the commands that one stands for is said of each.
+/// Every command stands for some command of the definition, under every limit and whatever was kept
+/// of its payload. So what `Session::apply` promises of the commands that one stands for is said of
+/// each.
 pub fn stands_for_some()
     ensures { (limit : ℕ) (command : CommandOf Payload) → StandsForSome limit command }
 {}

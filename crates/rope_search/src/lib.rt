@@ -1,4 +1,5 @@
-//! A regular expression kept live over a text that is edited, undone and forked: commands in, replies out.
+//! A regular expression kept live over a text that is edited, undone and forked: commands in,
+//! replies out.
 #![tactic(auto)]
 
 mod buffer;

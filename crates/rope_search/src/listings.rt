@@ -8,17 +8,19 @@ use itoa::Buffer as Digits;
 use rope_search_io::{Broken, Sink, WriteBuffer};
 use rope_search_reports::Row;
 
-/// Puts a match behind the bytes that wait: the number of its line, and its two columns. After an error
-/// the sink took a front of what waited and of this.
+/// Puts a match behind the bytes that wait: the number of its line, and its two columns. After an
+/// error the sink took a front of what waited and of this.
 fn put_match<W: Sink>(
     line: usize,
     span: (usize, usize),
-    behind: &mut WriteBuffer,
+    write_buffer: &mut WriteBuffer,
     sink: &mut W,
 ) -> Result<(), Broken>
     ensures written { MatchResult result
-        (λ _. Puts behind.old behind.new (W.state sink.old) (W.state sink.new) (shown_match line span))
-        (λ broken. WritesUntil broken (W.state sink.old) (W.state sink.new) (behind.old ++ shown_match line span)) }
+        (λ _. Puts write_buffer.old write_buffer.new (W.state sink.old) (W.state sink.new)
+            (shown_match line span))
+        (λ broken. WritesUntil broken (W.state sink.old) (W.state sink.new)
+            (write_buffer.old ++ shown_match line span)) }
 {
     let (mut line_digits, mut start_digits, mut end_digits) = (
         Digits::new(),
@@ -28,49 +30,52 @@ fn put_match<W: Sink>(
     let line = line_digits.format(line).as_bytes();
     let start = start_digits.format(span.0).as_bytes();
     let end = end_digits.format(span.1).as_bytes();
-    behind.put_parts(sink, &[b"m ", line, b" ", start, b" ", end, b"\n"])
+    write_buffer.put_parts(sink, &[b"m ", line, b" ", start, b" ", end, b"\n"])
 }
 
-/// Puts the matches of a line behind the bytes that wait. After an error the sink took a front of what
-/// waited and of these.
+/// Puts the matches of a line behind the bytes that wait. After an error the sink took a front of
+/// what waited and of these.
 fn put_row<W: Sink>(
     line: usize,
     matches: &[(usize, usize)],
-    behind: &mut WriteBuffer,
+    write_buffer: &mut WriteBuffer,
     sink: &mut W,
 ) -> Result<(), Broken>
     ensures written { MatchResult result
-        (λ _. Puts behind.old behind.new (W.state sink.old) (W.state sink.new) (flat_map (shown_match line) matches.now))
-        (λ broken. WritesUntil broken (W.state sink.old) (W.state sink.new) (behind.old ++ flat_map (shown_match line) matches.now)) }
+        (λ _. Puts write_buffer.old write_buffer.new (W.state sink.old) (W.state sink.new)
+            (flat_map (shown_match line) matches.now))
+        (λ broken. WritesUntil broken (W.state sink.old) (W.state sink.new)
+            (write_buffer.old ++ flat_map (shown_match line) matches.now)) }
 {
     for span in matches {
-        put_match(line, *span, behind, sink)?;
+        put_match(line, *span, write_buffer, sink)?;
     }
     Ok(())
 }
 
-/// Writes a report: a line for each match, and then how many there are. After an error a front of it is
-/// written.
+/// Writes a report: a line for each match, and then how many there are. After an error a front of
+/// it is written.
 pub fn write_report<W: Sink>(
     rows: &[Row],
-    behind: &mut WriteBuffer,
+    write_buffer: &mut WriteBuffer,
     sink: &mut W,
 ) -> Result<(), Broken>
-    requires empty { behind.old ≡ [] }
+    requires empty { write_buffer.old ≡ [] }
     requires few { match_count rows.now < 2 ^ 64 }
-    ensures empty { OnOk result (behind.new ≡ []) }
+    ensures empty { OnOk result (write_buffer.new ≡ []) }
     ensures written { MatchResult result
         (λ _. Writes (W.state sink.old) (W.state sink.new) (shown_report rows.now))
-        (λ broken. WritesUntil broken (W.state sink.old) (W.state sink.new) (shown_report rows.now)) }
+        (λ broken. WritesUntil broken (W.state sink.old) (W.state sink.new) 
+            (shown_report rows.now)) }
 {
     let mut line = 0;
     let mut count = 0;
     for row in rows {
         let matches = row.matches();
-        put_row(line, matches, behind, sink)?;
+        put_row(line, matches, write_buffer, sink)?;
         line += 1;
         count += matches.len();
     }
     let mut digits = Digits::new();
-    behind.send_parts(sink, &[b"ok ", digits.format(count).as_bytes(), b"\n"])
+    write_buffer.send_parts(sink, &[b"ok ", digits.format(count).as_bytes(), b"\n"])
 }

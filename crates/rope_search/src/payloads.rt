@@ -49,7 +49,8 @@ impl Collected {
 
     /// The payload, once all of it was read.
     pub fn payload(&self) -> Payload<'_>
-        ensures stands { (limit : ℕ) (bytes : List ℕ) → Collects limit (length bytes) self.now bytes → StandsFor limit result bytes }
+        ensures stands { (limit : ℕ) (bytes : List ℕ) → Collects limit (length bytes) self.now bytes
+            → StandsFor limit result bytes }
         ensures lost { result ≡ Payload.Lost → self.now ≡ Collected.Lost }
     {
         match self {
@@ -77,41 +78,42 @@ fn front(bytes: &[u8], most: u64) -> &[u8]
 
 /// Reads a payload of `len` bytes. False says that the input ended before.
 pub fn read_payload<R: Source>(
-    ahead: &mut ReadBuffer,
+    read_buffer: &mut ReadBuffer,
     source: &mut R,
     collected: &mut Collected,
     len: u64,
 ) -> Result<bool, Broken>
-    ensures { TakesPayload result len collected.old collected.new ahead.old ahead.new
+    ensures { TakesPayload result len collected.old collected.new read_buffer.old read_buffer.new
         (R.state source.old) (R.state source.new) }
 {
     let mut left = len;
     while left > 0 {
-        if !ahead.fill(source)? {
+        if !read_buffer.fill(source)? {
             return Ok(false);
         }
-        let bytes = front(ahead.as_slice(), left);
+        let bytes = front(read_buffer.as_slice(), left);
         collected.add(bytes);
         let count = bytes.len();
-        ahead.consume(count);
+        read_buffer.consume(count);
         left -= count as u64;
     }
     Ok(true)
 }
 
-/// Reads a payload of `len` bytes, which is kept where there are at most so many. None says that the
-/// input ended before.
+/// Reads a payload of `len` bytes, which is kept where there are at most so many. None says that
+/// the input ended before.
 pub fn collect<R: Source>(
-    ahead: &mut ReadBuffer,
+    read_buffer: &mut ReadBuffer,
     source: &mut R,
     alloc: Global,
     len: u64,
     most: usize,
 ) -> Result<Option<Collected>, Broken>
-    ensures { TakesCollected result most len ahead.old ahead.new (R.state source.old) (R.state source.new) }
+    ensures { TakesCollected result most len read_buffer.old read_buffer.new (R.state source.old)
+        (R.state source.new) }
 {
     let mut collected = Collected::new(alloc, len, most);
-    if read_payload(ahead, source, &mut collected, len)? {
+    if read_payload(read_buffer, source, &mut collected, len)? {
         Ok(Some(collected))
     } else {
         Ok(None)

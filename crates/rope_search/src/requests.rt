@@ -21,37 +21,39 @@ pub enum Request {
 
 /// Reads the next command, its payload too, or finds how the input ends.
 pub fn read_request<R: Source>(
-    ahead: &mut ReadBuffer,
+    read_buffer: &mut ReadBuffer,
     source: &mut R,
     alloc: Global,
     limits: Limits,
 ) -> Result<Request, Broken>
-    ensures { TakesRequest limits.text result ahead.old ahead.new (R.state source.old) (R.state source.new) }
+    ensures { TakesRequest limits.text result read_buffer.old read_buffer.new (R.state source.old)
+        (R.state source.new) }
 {
     let mut line = [0; LINE_LEN];
-    match read_line(ahead, source, &mut line)? {
+    match read_line(read_buffer, source, &mut line)? {
         LineRead::Long => Ok(Request::End(Ended::Command)),
         LineRead::Part(0) => Ok(Request::End(Ended::Input)),
         LineRead::Part(_) => Ok(Request::End(Ended::Cut)),
         LineRead::Whole(len) => match header_of(&line[..len]) {
             None => Ok(Request::End(Ended::Command)),
-            Some(header) => read_rest(ahead, source, alloc, limits, header),
+            Some(header) => read_rest(read_buffer, source, alloc, limits, header),
         },
     }
 }
 
 /// Reads what follows a command's line.
 fn read_rest<R: Source>(
-    ahead: &mut ReadBuffer,
+    read_buffer: &mut ReadBuffer,
     source: &mut R,
     alloc: Global,
     limits: Limits,
     header: Header,
 ) -> Result<Request, Broken>
-    ensures { TakesRest limits.text header result ahead.old ahead.new (R.state source.old) (R.state source.new) }
+    ensures { TakesRest limits.text header result read_buffer.old read_buffer.new (R.state source.old)
+        (R.state source.new) }
 {
     let most = header.payload_limit(limits);
-    match collect(ahead, source, alloc, header.payload_len(), most)? {
+    match collect(read_buffer, source, alloc, header.payload_len(), most)? {
         Some(collected) => Ok(Request::Given(header, collected)),
         None => Ok(Request::End(Ended::Cut)),
     }

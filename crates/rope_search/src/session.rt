@@ -30,18 +30,23 @@ impl Model for Session {
 
     ghost view = { λ s. record {
       limit = limit_in s.buffers.items s.chosen;
-      state = record { buffers = map (λ (b : LimitedBuffer). b.state) s.buffers.items; chosen = s.chosen };
+      state = record {
+        buffers = map (λ (b : LimitedBuffer). b.state) s.buffers.items;
+        chosen = s.chosen;
+      };
     } };
 
     ghost invariant = { λ s. (s.chosen < vec_len s.buffers)
-        × All (λ (b : LimitedBuffer). b.limit ≡ limit_in s.buffers.items s.chosen) s.buffers.items };
+        × All (λ (b : LimitedBuffer). b.limit ≡ limit_in s.buffers.items s.chosen)
+            s.buffers.items };
 }
 
 impl Session {
-    /// One buffer, chosen, with the empty text and no pattern. All buffers take their memory from `alloc`
-    /// and keep within `limits`. It may be refused with `Fault::Memory` alone. `O(1)`.
+    /// One buffer, chosen, with the empty text and no pattern. All buffers take their memory from
+    /// `alloc` and keep within `limits`. It may be refused with `Fault::Memory` alone. `O(1)`.
     pub fn new(alloc: Global, limits: Limits) -> Result<Session, Fault>
-        ensures ok { IfOk result (λ session. session ≡ record { limit = limits.text; state = first }) }
+        ensures ok { IfOk result (λ session.
+            session ≡ record { limit = limits.text; state = first }) }
         ensures err { IfErr result (λ fault. fault ≡ Fault.Memory) }
     {
         let buffer = Buffer::new(alloc, limits)?;
@@ -52,7 +57,9 @@ impl Session {
 
     /// The chosen buffer. `O(1)`.
     pub fn buffer(&self) -> &Buffer
-        ensures { result.now ≡ record { limit = self.now.limit; state = chosen_buffer self.now.state } }
+        ensures { result.now ≡ record {
+            limit = self.now.limit;
+            state = chosen_buffer self.now.state } }
     {
         &self.buffers[self.chosen]
     }
@@ -69,8 +76,8 @@ impl Session {
         self.buffer().limits()
     }
 
-    /// Chooses a buffer by its number, from 0. It is refused with `Fault::Nothing` where there is no such
-    /// buffer; the session is then as before. `O(1)`.
+    /// Chooses a buffer by its number, from 0. It is refused with `Fault::Nothing` where there is
+    /// no such buffer; the session is then as before. `O(1)`.
     pub fn choose(&mut self, number: u64) -> Result<(), Fault>
         ensures found { IsOk result ↔ (number < length self.old.state.buffers) }
         ensures ok { OnOk result (self.new ≡ record {
@@ -89,14 +96,15 @@ impl Session {
 
     /// Makes a new buffer of the chosen one's text, without its pattern, and answers the new one's
     /// number, which is how many there were. The chosen one stays chosen. It may be refused with
-    /// `Fault::Memory` alone; the session is then as before. The text is shared: `O(1)`, but for the list
-    /// of buffers, which may be moved as it grows.
+    /// `Fault::Memory` alone; the session is then as before. The text is shared: `O(1)`, but for
+    /// the list of buffers, which may be moved as it grows.
     pub fn fork(&mut self) -> Result<usize, Fault>
         ensures number { IfOk result (λ number. number ≡ length self.old.state.buffers) }
         ensures ok { OnOk result (self.new ≡ record {
           limit = self.old.limit;
           state = record self.old.state {
-            buffers = self.old.state.buffers ++ fresh (current_text (chosen_buffer self.old.state)) ∷ [];
+            buffers = self.old.state.buffers
+                ++ fresh (current_text (chosen_buffer self.old.state)) ∷ [];
           };
         }) }
         ensures fault { IfErr result (λ fault. fault ≡ Fault.Memory) }
@@ -108,12 +116,13 @@ impl Session {
         Ok(number)
     }
 
-    /// Carries out a command on the chosen buffer. A refusal is the first in the order of `Fault`'s numbers
-    /// that applies, but that memory may run out before it is found; the session is then as before.
+    /// Carries out a command on the chosen buffer. A refusal is the first in the order of `Fault`'s
+    /// numbers that applies, but that memory may run out before it is found; the session is then as
+    /// before.
     ///
-    /// `Text` and `Pattern` take time in the bytes of the payload, and where there is a pattern then also
-    /// in those of the text, each line of which is searched anew and counted by `tick`. `Off` lets go of
-    /// the report, a row a line. All others are `O(1)`, but for what `fork` says.
+    /// `Text` and `Pattern` take time in the bytes of the payload, and where there is a pattern
+    /// then also in those of the text, each line of which is searched anew and counted by `tick`.
+    /// `Off` lets go of the report, a row a line. All others are `O(1)`, but for what `fork` says.
     pub fn apply(&mut self, tick: &mut Lines, command: Command<'_>) -> Result<Reply, Fault>
         // What it answers and leaves is a step, for each command that this one stands for.
         ensures step { (order : Order) → Stands self.old.limit command.entry order
@@ -122,7 +131,8 @@ impl Session {
 
         // It makes at most the rows that the command costs.
         ensures rows { (order : Order) (cost : ℕ) → Stands self.old.limit command.entry order
-            → Costs self.old.limit self.old.state order cost → tick.new.count ≤ tick.old.count + cost }
+            → Costs self.old.limit self.old.state order cost
+            → tick.new.count ≤ tick.old.count + cost }
         ensures wholes { (order : Order) → Stands self.old.limit command.entry order
             → tick.new.wholes ≤ tick.old.wholes + whole_searches order }
     {
@@ -149,7 +159,8 @@ impl Session {
             → Step self.old.limit self.old.state (SetText bytes) result self.new.state }
         ensures limit { self.new.limit ≡ self.old.limit }
         ensures rows { (bytes : List ℕ) (cost : ℕ) → StandsFor self.old.limit payload.entry bytes
-            → Costs self.old.limit self.old.state (SetText bytes) cost → tick.new.count ≤ tick.old.count + cost }
+            → Costs self.old.limit self.old.state (SetText bytes) cost
+            → tick.new.count ≤ tick.old.count + cost }
         ensures wholes { tick.new.wholes ≡ tick.old.wholes }
     {
         match payload {
@@ -172,7 +183,8 @@ impl Session {
             → Step self.old.limit self.old.state (SetPattern bytes) result self.new.state }
         ensures limit { self.new.limit ≡ self.old.limit }
         ensures rows { (bytes : List ℕ) (cost : ℕ) → StandsFor pattern_limit payload.entry bytes
-            → Costs self.old.limit self.old.state (SetPattern bytes) cost → tick.new.count ≤ tick.old.count + cost }
+            → Costs self.old.limit self.old.state (SetPattern bytes) cost
+            → tick.new.count ≤ tick.old.count + cost }
         ensures wholes { tick.new.wholes ≡ tick.old.wholes }
     {
         match payload {
@@ -192,7 +204,8 @@ impl Session {
     // Drops the chosen buffer's pattern.
     fn drop_pattern(&mut self) -> Reply
         ensures reply { result ≡ Reply.Done }
-        ensures state { self.new.state ≡ with_chosen self.old.state (with_pattern (chosen_buffer self.old.state) None) }
+        ensures state { self.new.state ≡ with_chosen self.old.state
+            (with_pattern (chosen_buffer self.old.state) None) }
         ensures limit { self.new.limit ≡ self.old.limit }
     {
         self.buffers[self.chosen].off();

@@ -9,15 +9,21 @@ use itoa::Buffer as Digits;
 use rope_search_io::{Broken, Sink, WriteBuffer};
 use ropey::Rope;
 
-/// Puts a text behind the bytes that wait, chunk by chunk. After an error the sink took a front of what
-/// waited and of this.
-fn put_text<W: Sink>(text: &Rope, behind: &mut WriteBuffer, sink: &mut W) -> Result<(), Broken>
+/// Puts a text behind the bytes that wait, chunk by chunk. After an error the sink took a front of
+/// what waited and of this.
+fn put_text<W: Sink>(
+    text: &Rope,
+    write_buffer: &mut WriteBuffer,
+    sink: &mut W,
+) -> Result<(), Broken>
     ensures written { MatchResult result
-        (λ _. Puts behind.old behind.new (W.state sink.old) (W.state sink.new) (bytes_of (text_of text.now)))
-        (λ broken. WritesUntil broken (W.state sink.old) (W.state sink.new) (behind.old ++ bytes_of (text_of text.now))) }
+        (λ _. Puts write_buffer.old write_buffer.new (W.state sink.old) (W.state sink.new)
+            (bytes_of (text_of text.now)))
+        (λ broken. WritesUntil broken (W.state sink.old) (W.state sink.new)
+            (write_buffer.old ++ bytes_of (text_of text.now))) }
 {
     for chunk in text.chunks() {
-        behind.put(sink, chunk.as_bytes())?;
+        write_buffer.put(sink, chunk.as_bytes())?;
     }
     Ok(())
 }
@@ -25,18 +31,20 @@ fn put_text<W: Sink>(text: &Rope, behind: &mut WriteBuffer, sink: &mut W) -> Res
 /// Writes a text: how many bytes it has, and then these. After an error a front of that is written.
 pub fn write_text<W: Sink>(
     text: &Rope,
-    behind: &mut WriteBuffer,
+    write_buffer: &mut WriteBuffer,
     sink: &mut W,
 ) -> Result<(), Broken>
-    requires { behind.old ≡ [] }
-    ensures empty { OnOk result (behind.new ≡ []) }
+    requires { write_buffer.old ≡ [] }
+    ensures empty { OnOk result (write_buffer.new ≡ []) }
     ensures written { MatchResult result
-        (λ _. Writes (W.state sink.old) (W.state sink.new) (shown_text (bytes_of (text_of text.now))))
-        (λ broken. WritesUntil broken (W.state sink.old) (W.state sink.new) (shown_text (bytes_of (text_of text.now)))) }
+        (λ _. Writes (W.state sink.old) (W.state sink.new)
+            (shown_text (bytes_of (text_of text.now))))
+        (λ broken. WritesUntil broken (W.state sink.old) (W.state sink.new)
+            (shown_text (bytes_of (text_of text.now)))) }
 {
     let mut digits = Digits::new();
     let len = digits.format(text.len_bytes()).as_bytes();
-    behind.put_parts(sink, &[b"text ", len, b"\n"])?;
-    put_text(text, behind, sink)?;
-    behind.send_parts(sink, &[b"\n"])
+    write_buffer.put_parts(sink, &[b"text ", len, b"\n"])?;
+    put_text(text, write_buffer, sink)?;
+    write_buffer.send_parts(sink, &[b"\n"])
 }

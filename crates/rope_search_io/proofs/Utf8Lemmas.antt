@@ -73,13 +73,6 @@ IsTrue-not : (b : Bool) → not b ≡ false → IsTrue b
 IsTrue-not true h = search rules
 IsTrue-not false h = absurd (true≢false h)
 
--- one more byte of a character that isn't whole with it
-pub Continues-open : (part : List ℕ) (byte : ℕ) (more : List ℕ)
-    → Continues (record { part = part; dead = false }) (byte ∷ more) ↔ Continues (record { part = part ++ byte ∷ []; dead = false }) more
-Continues-open part byte more =
-    let same : part ++ byte ∷ more ≡ (part ++ byte ∷ []) ++ more = sym (append_assoc part (byte ∷ []) more) in
-    (λ h. (refl, subst IsUtf8 same h.1), λ h. (refl, subst IsUtf8 (sym same) h.1))
-
 -- the last byte of a character, judged with it
 pub Continues-closed : (part : List ℕ) (byte : ℕ) (text : Bool) (more : List ℕ)
     → length (part ++ byte ∷ []) ≡ width_of (get_or (part ++ byte ∷ []) 0 0) → (IsTrue text ↔ IsUtf8 (part ++ byte ∷ []))
@@ -91,10 +84,6 @@ Continues-closed part byte text more width judged =
       λ h. let halves = IsUtf8-split whole more some width (subst IsUtf8 same h.1) in (not-IsTrue text (judged.1 halves.0), halves.1),
       λ h. (refl, subst IsUtf8 (sym same) (IsUtf8-append whole more (judged.0 (IsTrue-not text h.0)) h.1)),
     )
-
--- no byte helps once some can stand in no text
-pub Continues-dead : (part more xs : List ℕ) (byte : ℕ) → Continues (record { part = part; dead = true }) (byte ∷ xs) ↔ Continues (record { part = part; dead = true }) more
-Continues-dead part more xs byte = (λ h. absurd (true≢false h.0), λ h. absurd (true≢false h.0))
 
 same_first : (bytes : List ℕ) (n : ℕ) → 0 < n → get_or (take n bytes) 0 0 ≡ get_or bytes 0 0
 same_first bytes n some = grind (arith, common_steps)

@@ -6,20 +6,21 @@ use Rattle.rope_search_io.specs.declared.faults.Broken.{Broken}
 use Rattle.rope_search_io.specs.declared.faults.Broken.TheVariants.{Read, Write, Turns, Memory}
 
 -- the bytes that were read and not yet taken, and how often the source was read
-pub record Ahead : Type 0 where
+pub record Unread : Type 0 where
   pub bytes : List ℕ
   pub reads : ℕ
 
 -- all bytes that are still to be taken, where they are known
-abbrev pub to_come : Ahead → SourceState → Option (List ℕ)
-to_come ahead source = prepend_known ahead.bytes source.left
+abbrev pub to_come : Unread → SourceState → Option (List ℕ)
+to_come unread source = prepend_known unread.bytes source.left
 
--- a bound on the bytes that can still come: 4,096 of each read that is left, and those that are there
-abbrev pub most_to_come : Ahead → ℕ
-most_to_come ahead = (2 ^ 62 - ahead.reads) * 4097 + length ahead.bytes
+-- a bound on the bytes that can still come: 4,096 of each read that is left, and those that are
+-- there
+abbrev pub most_to_come : Unread → ℕ
+most_to_come unread = (2 ^ 62 - unread.reads) * 4097 + length unread.bytes
 
 -- these bytes were taken from the front, in reads that succeeded
-pub record Takes (old new : Ahead) (source source' : SourceState) (bytes : List ℕ) : Type 0 where
+pub record Takes (old new : Unread) (source source' : SourceState) (bytes : List ℕ) : Type 0 where
   pub consumed : Consumes (to_come old source) (to_come new source') bytes
   pub fewer : most_to_come new + length bytes ≤ most_to_come old
   pub counted : new.reads + source.reads ≡ old.reads + source'.reads
@@ -28,7 +29,8 @@ pub record Takes (old new : Ahead) (source source' : SourceState) (bytes : List 
   pub wide : source'.narrow ≡ source.narrow
 
 -- these bytes were taken, then the source told its end, and nothing is left
-pub record TakesLast (old new : Ahead) (source source' : SourceState) (bytes : List ℕ) : Type 0 where
+pub record TakesLast (old new : Unread) (source source' : SourceState)
+    (bytes : List ℕ) : Type 0 where
   pub consumed : Consumes (to_come old source) (to_come new source') bytes
   pub counted : new.reads + source.reads ≡ old.reads + source'.reads
   pub sound : source'.failures ≡ source.failures
@@ -38,7 +40,8 @@ pub record TakesLast (old new : Ahead) (source source' : SourceState) (bytes : L
   pub wide : source'.narrow ≡ source.narrow
 
 -- these bytes were taken, and then the source failed once
-pub record TakesUntilFailure (old new : Ahead) (source source' : SourceState) (bytes : List ℕ) : Type 0 where
+pub record TakesUntilFailure (old new : Unread) (source source' : SourceState)
+    (bytes : List ℕ) : Type 0 where
   pub consumed : Consumes (to_come old source) (to_come new source') bytes
   pub counted : new.reads + source.reads ≡ old.reads + source'.reads
   pub failed : source'.failures ≡ source.failures + 1
@@ -47,7 +50,8 @@ pub record TakesUntilFailure (old new : Ahead) (source source' : SourceState) (b
   pub empty : new.bytes ≡ []
 
 -- these bytes were taken, and then there were too many reads
-pub record TakesUntilLimit (old new : Ahead) (source source' : SourceState) (bytes : List ℕ) : Type 0 where
+pub record TakesUntilLimit (old new : Unread) (source source' : SourceState)
+    (bytes : List ℕ) : Type 0 where
   pub consumed : Consumes (to_come old source) (to_come new source') bytes
   pub counted : new.reads + source.reads ≡ old.reads + source'.reads
   pub sound : source'.failures ≡ source.failures
@@ -57,7 +61,7 @@ pub record TakesUntilLimit (old new : Ahead) (source source' : SourceState) (byt
   pub many : 2 ^ 62 ≤ new.reads
 
 -- why no more bytes came: the source failed, or was read too often
-abbrev pub TakesUntil : Broken → Ahead → Ahead → SourceState → SourceState → List ℕ → Type 0
+abbrev pub TakesUntil : Broken → Unread → Unread → SourceState → SourceState → List ℕ → Type 0
 TakesUntil Read old new source source' bytes = TakesUntilFailure old new source source' bytes
 TakesUntil Turns old new source source' bytes = TakesUntilLimit old new source source' bytes
 TakesUntil Write old new source source' bytes = ⊥

@@ -1,8 +1,8 @@
 -- What the calls of a source and a sink count.
 use Rattle.std.specs.Prelude.{ℕ, zero, suc, ◌&&◌, List, length, nat_lt, ◌==◌, if◌then◌else◌, Option, None, Some, Result, Ok, Err, is_ok}
 
--- a source: the bytes that it has left, where they are known, its calls, those with little room, those that failed, and those
--- that told its end
+-- a source: the bytes that it has left, where they are known, its calls, those with little room,
+-- those that failed, and those that told its end
 pub record SourceState : Type 0 where
   pub left : Option (List ℕ)
   pub reads : ℕ
@@ -10,8 +10,8 @@ pub record SourceState : Type 0 where
   pub failures : ℕ
   pub ends : ℕ
 
--- a sink: the bytes that it holds, where they are known, its calls of `write` and of `flush`, those that failed, and the writes
--- that it took and hasn't flushed yet
+-- a sink: the bytes that it holds, where they are known, its calls of `write` and of `flush`, those
+-- that failed, and the writes that it took and hasn't flushed yet
 pub record SinkState : Type 0 where
   pub held : Option (List ℕ)
   pub writes : ℕ
@@ -27,7 +27,8 @@ failures_in r = if is_ok r then 0 else 1
 abbrev pub successes_in : {T E : Type 0} → Result T E → ℕ
 successes_in r = if is_ok r then 1 else 0
 
--- how many of so many writes are unflushed after a call of `flush`: none, or all of them where it failed
+-- how many of so many writes are unflushed after a call of `flush`: none, or all of them where it
+-- failed
 abbrev pub left_unflushed : {T E : Type 0} → Result T E → ℕ → ℕ
 left_unflushed r writes = if is_ok r then 0 else writes
 
@@ -47,7 +48,8 @@ burnt (Some zero) = Some zero
 burnt (Some (suc zero)) = None
 burnt (Some (suc (suc n))) = Some (suc n)
 
--- a source over memory: the bytes that it has left, the most that a call gives, the call that is to fail, and its counts
+-- a source over memory: the bytes that it has left, the most that a call gives, the call that is to
+-- fail, and its counts
 pub record Reading : Type 0 where
   pub left : List ℕ
   pub step : ℕ
@@ -57,7 +59,8 @@ pub record Reading : Type 0 where
   pub failures : ℕ
   pub ends : ℕ
 
--- a sink over memory: the bytes that it holds, its room, the most that a call takes, the call that is to fail, and its counts
+-- a sink over memory: the bytes that it holds, its room, the most that a call takes, the call that
+-- is to fail, and its counts
 pub record Writing : Type 0 where
   pub held : List ℕ
   pub room : ℕ

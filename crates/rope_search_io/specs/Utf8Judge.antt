@@ -2,7 +2,8 @@
 use Rattle.std.specs.Prelude.{◌≡◌, ℕ, Bool, false, List, ◌++◌, IsUtf8, ◌+◌, ◌↔◌}
 use Rattle.std.specs.Str.{continuation_len}
 
--- the bytes of a character that isn't whole yet, and whether some bytes before it can stand in no text
+-- the bytes of a character that isn't whole yet, and whether some bytes before it can stand in no
+-- text
 pub record Judging : Type 0 where
   pub part : List ℕ
   pub dead : Bool

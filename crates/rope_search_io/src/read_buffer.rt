@@ -25,9 +25,9 @@ pub struct ReadBuffer {
 
 impl Model for ReadBuffer {
     ghost use Rattle.std.specs.Prelude.{◌-◌, ◌≤◌, ◌^◌, take, drop};
-    ghost use Rattle.rope_search_io.specs.ReadBuffer.{Ahead};
+    ghost use Rattle.rope_search_io.specs.ReadBuffer.{Unread};
 
-    ghost Value = { Ahead };
+    ghost Value = { Unread };
 
     ghost view = { λ buffer. record {
       bytes = take (buffer.to - buffer.from) (drop buffer.from buffer.bytes);

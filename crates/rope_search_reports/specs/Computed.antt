@@ -18,7 +18,8 @@ find_among needle content start (suc n) =
 abbrev pub find : List ℕ → List ℕ → ℕ → Option (ℕ × ℕ)
 find needle content from = find_among needle content from (length content + 1 - from)
 
--- the first find, or the second where the first is a match that ends at this place: found from there on, it is empty
+-- the first find, or the second where the first is a match that ends at this place: found from
+-- there on, it is empty
 abbrev pub unless_empty : ℕ → Option (ℕ × ℕ) → Option (ℕ × ℕ) → Option (ℕ × ℕ)
 unless_empty end None second = None
 unless_empty end (Some span) second = if span.1 == end then second else Some span
@@ -37,9 +38,12 @@ unfoldable pub further : (ℕ → Option (ℕ × ℕ)) → ℕ → ℕ → List 
 further find_from end zero = []
 further find_from end (suc n) = and_after (find_next find_from end) (λ e. further find_from e n)
 
--- all matches of a needle: each further one ends behind the one before, so there are no more than places in the content
+-- all matches of a needle: each further one ends behind the one before, so there are no more than
+-- places in the content
 abbrev pub matches : List ℕ → List ℕ → List (ℕ × ℕ)
-matches needle content = and_after (find needle content 0) (λ end. further (find needle content) end (length content + 1))
+matches needle content =
+    and_after (find needle content 0)
+    (λ end. further (find needle content) end (length content + 1))
 
 -- the row of a pattern in a line: its matches in that line's text as the whole content
 unfoldable pub row_of : List ℕ → List ℕ → List (ℕ × ℕ)

@@ -13,8 +13,10 @@ abbrev pub with_front : List ℕ → List (List ℕ) → List (List ℕ)
 with_front front [] = []
 with_front front (line ∷ lines) = (front ++ line) ∷ lines
 
--- the rows of the lines of a text but the last one, of which this is the text so far; the front of the first line was there before
-pub record AddsLines (pattern front text tail : List ℕ) (old new : List (List (ℕ × ℕ))) : Type 0 where
+-- the rows of the lines of a text but the last one, of which this is the text so far; the front of
+-- the first line was there before
+pub record AddsLines (pattern front text tail : List ℕ)
+    (old new : List (List (ℕ × ℕ))) : Type 0 where
   pub done : List (List ℕ)
   pub added : List (List (ℕ × ℕ))
   pub lines : with_front front (line_texts text) ≡ done ++ tail ∷ []

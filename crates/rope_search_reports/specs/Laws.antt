@@ -12,7 +12,8 @@ HasOneListOfMatches = (pattern content : List ℕ) (spans spans' : List (ℕ × 
 
 -- and one
 abbrev pub HasMatches : Type 0
-HasMatches = (pattern content : List ℕ) → IsMatches pattern content (matches (bytes_of pattern) content)
+HasMatches =
+    (pattern content : List ℕ) → IsMatches pattern content (matches (bytes_of pattern) content)
 
 -- a report has at most one match more than its text has bytes
 abbrev pub HasFewMatches : Type 0

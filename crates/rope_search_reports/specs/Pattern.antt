@@ -1,10 +1,12 @@
--- Which texts are patterns, and what a pattern finds. For now a pattern is a literal: characters that stand for themselves.
+-- Which texts are patterns, and what a pattern finds. For now a pattern is a literal: characters
+-- that stand for themselves.
 use Rattle.std.specs.Prelude.{◌≡◌, ℕ, ◌+◌, ◌<◌, ◌≤◌, Bool, ◌||◌, ◌==◌, List, Option, None, Some, length}
 use Rattle.std.specs.Str.{NonePass}
 use Rattle.memchr.specs.Find.{OccursAt}
 use Rattle.rope_search_reports.specs.Text.{bytes_of}
 
--- meta characters, which have another use in a pattern than to stand for themselves: \ . + * ? ( ) | [ { ^ $
+-- meta characters, which have another use in a pattern than to stand for themselves:
+-- \ . + * ? ( ) | [ { ^ $
 abbrev pub is_meta : ℕ → Bool
 is_meta c =
     (c == 92) || (c == 46) || (c == 43) || (c == 42) || (c == 63) || (c == 40)
@@ -31,11 +33,13 @@ pub record IsSpanOf (needle content : List ℕ) (span : ℕ × ℕ) : Type 0 whe
 pub record IsFirstSpan (needle content : List ℕ) (from : ℕ) (span : ℕ × ℕ) : Type 0 where
   pub is : IsSpanOf needle content span
   pub behind : from ≤ span.0
-  pub none_before : (other : ℕ × ℕ) → IsSpanOf needle content other → from ≤ other.0 → other.0 < span.0 → ⊥
+  pub none_before : (other : ℕ × ℕ) → IsSpanOf needle content other → from ≤ other.0
+      → other.0 < span.0 → ⊥
 
 -- what a search for the needle finds from a place on
 abbrev pub FindsNeedle : List ℕ → List ℕ → ℕ → Option (ℕ × ℕ) → Type 0
-FindsNeedle needle content from None = (span : ℕ × ℕ) → IsSpanOf needle content span → from ≤ span.0 → ⊥
+FindsNeedle needle content from None =
+    (span : ℕ × ℕ) → IsSpanOf needle content span → from ≤ span.0 → ⊥
 FindsNeedle needle content from (Some span) = IsFirstSpan needle content from span
 
 -- what a search for a pattern finds from a place on: its own text is the needle

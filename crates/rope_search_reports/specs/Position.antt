@@ -18,7 +18,8 @@ line_start text line = end_place (break_ends is_break text) line (length (bytes_
 -- how many code units there are from where the place's line starts up to the place
 abbrev pub column_at : List ℕ → ℕ → ℕ
 column_at text place =
-    let start = line_start text (line_at text place) in units (chars (take (place - start) (drop start (bytes_of text))))
+    let start = line_start text (line_at text place) in
+    units (chars (take (place - start) (drop start (bytes_of text))))
 
 -- the position of a boundary: its line and its column
 abbrev pub position : List ℕ → ℕ → ℕ × ℕ
@@ -38,7 +39,8 @@ pub record IsAt (text : List ℕ) (spot : ℕ × ℕ) (place : ℕ) : Type 0 whe
   pub same : spot ≡ position text place
   pub within : place ≤ text_end text spot.0
 
--- the position is at no place: inside a character or a break, behind its line's text, or past the last line
+-- the position is at no place: inside a character or a break, behind its line's text, or past the
+-- last line
 abbrev pub IsNowhere : List ℕ → ℕ × ℕ → Type 0
 IsNowhere text spot = (place : ℕ) → IsAt text spot place → ⊥
 
@@ -59,12 +61,14 @@ pub record EndsInBreak (text : List ℕ) (line : ℕ) (behind : List ℕ) : Type
   pub is : IsBreak is_break one rest
   pub next : line_start text (line + 1) ≡ text_end text line + byte_len one
 
--- from where a line starts to where its text ends stand that text's bytes, and then comes what ends the line
+-- from where a line starts to where its text ends stand that text's bytes, and then comes what ends
+-- the line
 pub record LiesInPlace (text : List ℕ) (line : ℕ) : Type 0 where
   pub before : List ℕ
   pub behind : List ℕ
   pub parts : text ≡ before ++ (line_text text line ++ behind)
   pub starts : line_start text line ≡ byte_len before
   pub ends : text_end text line ≡ byte_len (before ++ line_text text line)
-  pub bytes : take (text_end text line - line_start text line) (drop (line_start text line) (bytes_of text)) ≡ bytes_of (line_text text line)
+  pub bytes : take (text_end text line - line_start text line)
+      (drop (line_start text line) (bytes_of text)) ≡ bytes_of (line_text text line)
   pub ended : IsLastLine text line behind ⊎ EndsInBreak text line behind

@@ -13,8 +13,8 @@ abbrev pub with_first : ℕ → List (List ℕ) → List (List ℕ)
 with_first c [] = (c ∷ []) ∷ []
 with_first c (line ∷ lines) = (c ∷ line) ∷ lines
 
--- The text of each line. No character of the break set is in it, so the CR of a CR LF isn't either. A break has a line
--- before it and one behind it, so there is one more line than breaks.
+-- The text of each line. No character of the break set is in it, so the CR of a CR LF isn't either.
+-- A break has a line before it and one behind it, so there is one more line than breaks.
 unfoldable pub line_texts : List ℕ → List (List ℕ)
 line_texts [] = [] ∷ []
 line_texts (c ∷ rest) =

@@ -1,5 +1,5 @@
-//! The report of a text and a pattern: for each line, where the pattern matches in it; and the count of
-//! the lines that were searched.
+//! The report of a text and a pattern: for each line, where the pattern matches in it; and the
+//! count of the lines that were searched.
 #![tactic(auto)]
 
 pub mod laws;

@@ -32,8 +32,8 @@ impl Draft {
         }
     }
 
-    /// The row of the line that ends with these characters. They are searched in place where they are
-    /// the whole line. It may be refused with `Fault::Memory` alone.
+    /// The row of the line that ends with these characters. They are searched in place where they
+    /// are the whole line. It may be refused with `Fault::Memory` alone.
     fn search(&mut self, tick: &mut Lines, finder: &mut Finder, end: &str) -> Result<Row, Fault>
         ensures row { IfOk result (λ row.
             IsRow finder.old (chars (string_bytes self.old.front) ++ chars end.now) row) }
@@ -56,7 +56,8 @@ impl Draft {
     /// Adds the row of the line that ends with these characters.
     fn end_line(&mut self, tick: &mut Lines, finder: &mut Finder, end: &str) -> Result<(), Fault>
         ensures rows { OnOk result (AddsRow finder.old
-            (chars (string_bytes self.old.front) ++ chars end.now) self.old.rows.items self.new.rows.items) }
+            (chars (string_bytes self.old.front) ++ chars end.now) self.old.rows.items
+            self.new.rows.items) }
         ensures front { OnOk result (string_bytes self.new.front ≡ []) }
         ensures fault { IfErr result (λ fault. fault ≡ Fault.Memory) }
         ensures finder { finder.new ≡ finder.old }
@@ -68,8 +69,8 @@ impl Draft {
         Ok(())
     }
 
-    /// Adds the rows of the lines that end in these characters, and gives back what follows the last of
-    /// their breaks.
+    /// Adds the rows of the lines that end in these characters, and gives back what follows the
+    /// last of their breaks.
     fn end_lines<'a>(
         &mut self,
         tick: &mut Lines,
@@ -120,8 +121,9 @@ impl Draft {
 }
 
 /// The report of a text and a finder's pattern: a row for each line, from the first. A line is
-/// copied for its search where it lies in more than one chunk. It counts at most a row a line, and may
-/// be refused with `Fault::Memory` alone; the finder is then as before. Time is linear in the text.
+/// copied for its search where it lies in more than one chunk. It counts at most a row a line, and
+/// may be refused with `Fault::Memory` alone; the finder is then as before. Time is linear in the
+/// text.
 pub fn report_of(
     tick: &mut Lines,
     alloc: Global,

@@ -10,9 +10,9 @@ use std::alloc::Global;
 use std::marker::Model;
 use str_indices::utf16;
 
-/// Counts the rows that were made, each by a search of one line, and the searches of whole texts. Both
-/// counts begin at 0 and stay at `u64::MAX`. It is made of the runtime alone and can't be copied, so
-/// what is handed one counts in it.
+/// Counts the rows that were made, each by a search of one line, and the searches of whole texts.
+/// Both counts begin at 0 and stay at `u64::MAX`. It is made of the runtime alone and can't be
+/// copied, so what is handed one counts in it.
 #[derive(Drop)]
 pub struct Lines {
     count: u64,
@@ -87,9 +87,10 @@ impl Model for Finder {
 }
 
 impl Finder {
-    /// A finder of this pattern's matches. It is refused with `Fault::Limit` where the pattern has more
-    /// than 65,536 bytes, else with `Fault::Pattern` where it isn't one or more characters that stand
-    /// for themselves, which are all but `\ . + * ? ( ) | [ { ^ $`; and perhaps with `Fault::Memory`.
+    /// A finder of this pattern's matches. It is refused with `Fault::Limit` where the pattern has
+    /// more than 65,536 bytes, else with `Fault::Pattern` where it isn't one or more characters
+    /// that stand for themselves, which are all but `\ . + * ? ( ) | [ { ^ $`; and perhaps with
+    /// `Fault::Memory`.
     pub fn new(alloc: Global, pattern: &str) -> Result<Finder, Fault>
         ensures ok { IfOk result (λ finder. finder ≡ chars pattern.now) }
         ensures is_pattern { IfOk result (λ finder. IsPattern finder) }
@@ -114,9 +115,9 @@ impl Finder {
     }
 }
 
-/// The matches of a pattern in one line, from the left: where each starts and where it ends, in UTF-16
-/// code units from the line's start. Only `search_line` makes one, and it can't be copied, so each one
-/// was counted.
+/// The matches of a pattern in one line, from the left: where each starts and where it ends, in
+/// UTF-16 code units from the line's start. Only `search_line` makes one, and it can't be copied,
+/// so each one was counted.
 #[derive(Drop)]
 pub struct Row {
     matches: Vec<(usize, usize)>,
@@ -139,8 +140,8 @@ impl Row {
     }
 }
 
-/// Searches one line's text for a pattern: the first match from the line's start, and each further one
-/// from the end of the one before. It counts one row, refused or not, and may be refused with
+/// Searches one line's text for a pattern: the first match from the line's start, and each further
+/// one from the end of the one before. It counts one row, refused or not, and may be refused with
 /// `Fault::Memory` alone; the finder is then as before. Time is linear in the line.
 pub fn search_line(tick: &mut Lines, finder: &mut Finder, line: &str) -> Result<Row, Fault>
     ensures row { IfOk result (λ row. IsRow finder.old (chars line.now) row) }

@@ -96,9 +96,6 @@ member_stands member bs k e = by_first (first_character bs) refl e
     by_first None is e = absurd (cc e)
     by_first (Some c) is e = by_member c is (member c) refl e
 
-pub stands_member : (member : ℕ → Bool) (bs : List ℕ) (c : ℕ) → StandsFirst bs c → member c ≡ true → member_len member bs ≡ Some (len_utf8 c)
-stands_member member bs c first is = ap (len_if member) (stands_first bs c first) ∙ ap (λ b. cond b (Some (len_utf8 c)) None) is
-
 -- no character begins with a byte that continues one
 pick : (c n₂ n₃ n₄ : ℕ) (bs₂ bs₃ bs₄ : List ℕ) (p q r : Bool) → (p ≡ true → c < 128)
     → (b : ℕ) × (bs : List ℕ) × (cond p (c ∷ []) (cond q ((192 + n₂) ∷ bs₂) (cond r ((224 + n₃) ∷ bs₃) ((240 + n₄) ∷ bs₄))) ≡ b ∷ bs) × (128 ≤ b → 192 ≤ b)

@@ -7,4 +7,4 @@ use Rattle.rope_search.proofs.command_lines.read_line.Given as goal
 abbrev pub invariant-loop-len : goal.invariant-loop-len
 invariant-loop-len g l =
     (length l.line ≡ 129) × HasNoLf (take l.len l.line)
-    × Takes l.fn.ahead l.ahead (g.R.Source.state l.fn.source) (g.R.Source.state l.source) (take l.len l.line)
+    × Takes l.fn.read_buffer l.read_buffer (g.R.Source.state l.fn.source) (g.R.Source.state l.source) (take l.len l.line)

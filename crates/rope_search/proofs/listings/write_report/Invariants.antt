@@ -8,4 +8,4 @@ use Rattle.rope_search.proofs.listings.write_report.Given as goal
 abbrev pub invariant-loop-row : goal.invariant-loop-row
 invariant-loop-row g l =
     (l.line ≡ l.row-index) × (l.count ≡ match_count (take l.row-index l.rows))
-    × Puts [] l.behind (g.W.Sink.state l.fn.sink) (g.W.Sink.state l.sink) (shown_rows 0 (take l.row-index l.rows))
+    × Puts [] l.write_buffer (g.W.Sink.state l.fn.sink) (g.W.Sink.state l.sink) (shown_rows 0 (take l.row-index l.rows))

@@ -7,7 +7,7 @@ use Rattle.rope_search.proofs.payloads.read_payload.Given as goal
 abbrev pub invariant-loop-left : goal.invariant-loop-left
 invariant-loop-left g l =
     (bytes : List ℕ) × (length bytes + l.left ≡ l.fn.len) × CollectsMore l.fn.collected l.collected bytes
-    × Takes l.fn.ahead l.ahead (g.R.Source.state l.fn.source) (g.R.Source.state l.source) bytes
+    × Takes l.fn.read_buffer l.read_buffer (g.R.Source.state l.fn.source) (g.R.Source.state l.source) bytes
 
 abbrev pub decreases-loop-left : goal.decreases-loop-left
 decreases-loop-left g l = l.left
