@@ -1,5 +1,5 @@
 -- The report of a text in pieces, made line by line.
-use Rattle.std.proofs.Common.{◌≡◌, ℕ, ◌+◌, ◌-◌, ◌<◌, ◌≤◌, Bool, true, false, ◌&&◌, List, [], ◌∷◌, ◌++◌, chars, length, take, drop, refl, sym, ap, subst, ◌∙◌, ◌⊎◌, inl, inr, append-nil, append_assoc, arith, length-append}
+use Rattle.std.proofs.Common.{◌≡◌, ℕ, ◌+◌, ◌-◌, ◌≤◌, Bool, true, false, ◌&&◌, List, [], ◌∷◌, ◌++◌, chars, length, take, drop, refl, sym, ap, subst, ◌∙◌, inl, inr, append-nil, append_assoc, arith, length-append}
 use Rattle.std.proofs.lemmas.List.Folds.{concat-append}
 use Rattle.std.proofs.lemmas.Str.{chars-nil}
 use Rattle.str_indices.specs.Text.{ends_with_cr, breaks, NoCrLfBetween}
@@ -7,7 +7,7 @@ use Rattle.str_indices.specs.FirstBreak.{IsFirstBreak}
 use Rattle.ropey.specs.Chunks.{is_break, text_of}
 use Rattle.ropey.specs.Iter.{CutsNoCrLf}
 use Rattle.rope_search_reports.specs.Ticks.{Ticks}
-use Rattle.rope_search_reports.specs.Report.{line_texts, IsRow, AreRows, IsReport}
+use Rattle.rope_search_reports.specs.Report.{line_texts, AreRows, IsReport}
 use Rattle.rope_search_reports.specs.Drafts.{with_front, AddsRow, AddsLines}
 use Rattle.rope_search_reports.proofs.LineLemmas.{line_texts-nil, lines-counted, lines-cut, line-last, first_line, front-none, join_lines, join-last, join-length, lines-joined}
 

@@ -5,7 +5,7 @@ use Rattle.std.proofs.lemmas.Bool.Decides.{nat_tests}
 use Rattle.memchr.specs.Find.{OccursAt, occurs_at}
 use Rattle.memchr.proofs.lemmas.MatchLemmas.{OccursAt-true, occurs_at-true}
 use Rattle.rope_search_reports.specs.Matches.{IsNext, nothing, at_once, moved, AreFurther, AreMatches}
-use Rattle.rope_search_reports.specs.Pattern.{IsSpanOf, IsFirstSpan, FindsNeedle}
+use Rattle.rope_search_reports.specs.Pattern.{IsSpanOf, FindsNeedle}
 use Rattle.rope_search_reports.specs.Computed.{find_among, find, unless_empty, find_next, and_after, further, matches}
 
 -- ---- at most one list, whatever a search finds

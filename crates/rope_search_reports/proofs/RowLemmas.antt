@@ -14,7 +14,7 @@ use Rattle.str_indices.specs.Text.{units, units_of}
 use Rattle.str_indices.proofs.Joined.{units-add}
 use Rattle.rope_search_reports.specs.Text.{bytes_of}
 use Rattle.rope_search_reports.specs.Matches.{AreMatches}
-use Rattle.rope_search_reports.specs.Pattern.{IsSpanOf, IsFirstSpan, FindsNeedle}
+use Rattle.rope_search_reports.specs.Pattern.{IsFirstSpan, FindsNeedle}
 use Rattle.rope_search_reports.specs.Report.{IsRow, column, columns}
 use Rattle.rope_search_reports.proofs.MatchLemmas.{further-are}
 

@@ -1,5 +1,5 @@
 -- The report of a text and a pattern: for each line, where the pattern matches in it.
-use Rattle.std.specs.Prelude.{◌≡◌, ℕ, List, [], ◌∷◌, ◌++◌, if◌then◌else◌, length, take, map, sum_by, chars}
+use Rattle.std.specs.Prelude.{◌≡◌, ℕ, List, [], ◌∷◌, if◌then◌else◌, length, take, map, sum_by, chars}
 use Rattle.str_indices.specs.Text.{ends_break, units}
 use Rattle.ropey.specs.Chunks.{is_break}
 use Rattle.rope_search_reports.specs.Text.{bytes_of}

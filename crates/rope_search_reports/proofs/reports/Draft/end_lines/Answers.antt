@@ -1,10 +1,10 @@
-use Rattle.std.proofs.Common.{◌≡◌, ◌+◌, ◌-◌, ◌<◌, ◌≤◌, ◌++◌, [], List, ℕ, IsUtf8, length, take, drop, chars, string_bytes, refl, sym, ap, subst, ◌∙◌, arith, length-drop}
+use Rattle.std.proofs.Common.{◌≡◌, ◌-◌, ◌<◌, ◌++◌, List, ℕ, IsUtf8, length, take, drop, chars, string_bytes, refl, sym, ap, subst, ◌∙◌, arith, length-drop}
 use Rattle.std.proofs.lemmas.Str.{chars-nil, IsUtf8-drop}
 use Rattle.std.specs.Prelude.{IsNone}
 use Rattle.str_indices.specs.Text.{breaks}
 use Rattle.ropey.specs.Chunks.{is_break}
 use Rattle.rope_search_reports.specs.Drafts.{AddsRow}
-use Rattle.rope_search_reports.proofs.DraftLemmas.{Ended, Ended-start, Ended-line, Ended-end, first-lines, first-counted}
+use Rattle.rope_search_reports.proofs.DraftLemmas.{Ended-start, Ended-line, Ended-end, first-lines, first-counted}
 use Rattle.rope_search_reports.proofs.reports.Draft.end_lines.Goals as goal
 
 pub loop-at-init : goal.loop-at-init
