@@ -3,14 +3,19 @@ use Rattle.std.specs.Prelude.{ℕ, suc, ◌+◌, List, [], ◌∷◌, map, Optio
 use Rattle.rx_walks.specs.Machines.{Move, ends, goes, reads, Machine}
 use Rattle.rx_walks.specs.Programs.{Node, match, pass, note, look, set, Haystack, only_if, is_within, left_from, note_at}
 
--- what an automaton says of a byte at a state: refused (`None`), the last of a character (`Some None`), or a state to go to
+-- what an automaton says of a byte at a state: refused (`None`), the last of a character (`Some
+-- None`), or a state to go to
 abbrev pub Automaton : Type 0
 Automaton = ℕ → ℕ → Option (Option ℕ)
 
 -- how many bytes it takes from a state on, if it takes a character
 abbrev pub run : Automaton → ℕ → List ℕ → Option ℕ
 run step s [] = None
-run step s (b ∷ bs) = elim (step s b) [ None ↦ None | Some None ↦ Some 1 | Some (Some s') ↦ option_map suc (run step s' bs) ]
+run step s (b ∷ bs) = elim (step s b) [
+  | None ↦ None
+  | Some None ↦ Some 1
+  | Some (Some s') ↦ option_map suc (run step s' bs)
+]
 
 abbrev pub read_on : ℕ → ℕ → ℕ → Option (Option ℕ) → Move (ℕ × ℕ)
 read_on q r i None = goes []
@@ -22,7 +27,8 @@ read_byte step q r s i [] = goes []
 read_byte step q r s i (b ∷ bs) = read_on q r i (step s b)
 
 -- what there is to do at a node and a state of its set's automaton
-abbrev pub by_byte : {L S : Type 0} → (S → Automaton) → Haystack L → ℕ → ℕ → ℕ → Option (Node L S) → Move (ℕ × ℕ)
+abbrev pub by_byte : {L S : Type 0} → (S → Automaton) → Haystack L → ℕ → ℕ → ℕ → Option (Node L S)
+    → Move (ℕ × ℕ)
 by_byte step h i q s None = goes []
 by_byte step h i q s (Some (match k)) = ends k
 by_byte step h i q s (Some (pass rs)) = goes (map (λ r. (r, 0)) rs)
@@ -31,7 +37,8 @@ by_byte step h i q s (Some (look l r)) = only_if (h.holds l i) (goes ((r, 0) ∷
 by_byte step h i q s (Some (set x r)) = read_byte (step x) q r s i (left_from h i)
 
 -- the machine whose reads are single bytes
-abbrev pub over_bytes : {L S N : Type 0} → (ℕ → ℕ → N → N) → (S → Automaton) → List (Node L S) → Haystack L → Machine (ℕ × ℕ) N
+abbrev pub over_bytes : {L S N : Type 0} → (ℕ → ℕ → N → N) → (S → Automaton) → List (Node L S)
+    → Haystack L → Machine (ℕ × ℕ) N
 over_bytes put step nodes h = record {
   move = λ i q. only_if (is_within h.low h.high i) (by_byte step h i q.0 q.1 (slice_get nodes q.0));
   note = λ i q n. note_at put i (slice_get nodes q.0) n;

@@ -4,7 +4,8 @@ use Rattle.std.specs.Str.{IsCharBoundary}
 use Rattle.rx_walks.specs.Machines.{Machine, Outcome}
 use Rattle.rx_walks.specs.Walks.{IsLeast, Reaches}
 
--- where a match may start, and of which patterns: anywhere in the span; at its start alone; there, and of one pattern
+-- where a match may start, and of which patterns: anywhere in the span; at its start alone; there,
+-- and of one pattern
 pub data Anchoring : Type 0 where
   unanchored : Anchoring
   anchored : Anchoring
@@ -15,8 +16,8 @@ is_anchored unanchored = false
 is_anchored anchored = true
 is_anchored (anchored_pattern p) = true
 
--- what is searched. Matches lie in the span, from `start` to `end`; looks see the slice. `utf8_empty` passes over empty
--- matches inside a code point.
+-- what is searched. Matches lie in the span, from `start` to `end`; looks see the slice.
+-- `utf8_empty` passes over empty matches inside a code point.
 pub record Search : Type 0 where
   pub content : List ℕ
   pub slice_start : ℕ
@@ -32,25 +33,29 @@ from_place_on s i = record s { start = i }
 
 -- the place lies inside slice, span and content
 abbrev pub IsInside : Search → ℕ → Type 0
-IsInside s i = (s.slice_start ≤ i) × (i ≤ s.slice_end) × (s.start ≤ i) × (i ≤ s.end) × (i ≤ length s.content)
+IsInside s i =
+    (s.slice_start ≤ i) × (i ≤ s.slice_end) × (s.start ≤ i) × (i ≤ s.end) × (i ≤ length s.content)
 
 -- a match may start there
 abbrev pub IsPossible : Search → ℕ → Type 0
 IsPossible s i = IsInside s i × (IsTrue (is_anchored s.anchoring) → i ≡ s.start)
 
--- a match from this start to this end counts: it isn't empty, or an empty one may stand there, which is at the content's end
--- or before a byte that continues no character
+-- a match from this start to this end counts: it isn't empty, or an empty one may stand there,
+-- which is at the content's end or before a byte that continues no character
 abbrev pub MayEnd : Search → ℕ → ℕ → Type 0
 MayEnd s i e = (e ≡ i → ⊥) ⊎ (IsTrue s.utf8_empty → IsCharBoundary s.content i)
 
--- a start counts, and this is what its least walk comes to; `fresh` are the notes with which a walk from a start begins
-pub record Counts {Q N : Type 0} (m : Machine Q N) (fresh : ℕ → N) (s : Search) (q : Q) (i : ℕ) (t : Outcome N) : Type 0 where
+-- a start counts, and this is what its least walk comes to; `fresh` are the notes with which a walk
+-- from a start begins
+pub record Counts {Q N : Type 0} (m : Machine Q N) (fresh : ℕ → N) (s : Search) (q : Q) (i : ℕ)
+    (t : Outcome N) : Type 0 where
   pub possible : IsPossible s i
   pub least : IsLeast m [] (fresh i) q i t
   pub may_end : MayEnd s i t.end
 
 -- leftmost-first: the least walk of the least start that counts, or none
-pub data IsFind {Q N : Type 0} (m : Machine Q N) (fresh : ℕ → N) (s : Search) (q : Q) : Option (Outcome N) → Type 0 where
+pub data IsFind {Q N : Type 0} (m : Machine Q N) (fresh : ℕ → N) (s : Search)
+    (q : Q) : Option (Outcome N) → Type 0 where
   not_found : ((i : ℕ) (t : Outcome N) → Counts m fresh s q i t → ⊥) → IsFind m fresh s q None
   is_found : {i : ℕ} {t : Outcome N} → Counts m fresh s q i t
       → ((j : ℕ) (u : Outcome N) → j < i → Counts m fresh s q j u → ⊥) → IsFind m fresh s q (Some t)
@@ -68,13 +73,16 @@ pub record IsAtLeast (a b : Span) : Type 0 where
   pub by_pattern : b.end ≡ a.end → b.start ≡ a.start → a.pattern ≤ b.pattern
 
 -- some walk from its start matches its pattern and ends at its end, and counts
-pub record CountsAmongAll {Q N : Type 0} (m : Machine Q N) (fresh : ℕ → N) (s : Search) (q : Q) (a : Span) : Type 0 where
+pub record CountsAmongAll {Q N : Type 0} (m : Machine Q N) (fresh : ℕ → N) (s : Search) (q : Q)
+    (a : Span) : Type 0 where
   pub possible : IsPossible s a.start
   pub reaches : Reaches m [] (fresh a.start) q a.start a.pattern a.end
   pub may_end : MayEnd s a.start a.end
 
--- where all matches are wanted: of all walks the greatest end, the least start with it, and the least pattern with both
-pub data IsFindAll {Q N : Type 0} (m : Machine Q N) (fresh : ℕ → N) (s : Search) (q : Q) : Option Span → Type 0 where
+-- where all matches are wanted: of all walks the greatest end, the least start with it, and the
+-- least pattern with both
+pub data IsFindAll {Q N : Type 0} (m : Machine Q N) (fresh : ℕ → N) (s : Search)
+    (q : Q) : Option Span → Type 0 where
   none_at_all : ((a : Span) → CountsAmongAll m fresh s q a → ⊥) → IsFindAll m fresh s q None
   greatest : {a : Span} → CountsAmongAll m fresh s q a
       → ((b : Span) → CountsAmongAll m fresh s q b → IsAtLeast a b) → IsFindAll m fresh s q (Some a)

@@ -35,7 +35,8 @@ ReadsMembers {S} first step = (x : S) (bs : List ℕ) → run (step x) 0 bs ≡ 
 -- a walk is a path that takes no pair of node and place twice
 abbrev pub WalksTakeNoPairTwice : {Q N : Type 0} → Machine Q N → Type 0
 WalksTakeNoPairTwice {Q} {N} m = IsForward m → (n : N) (q : Q) (i : ℕ) (cs : List ℕ) (t : Outcome N)
-    → Walk m [] n q i cs t ↔ ((pairs : List (Q × ℕ)) × PathThrough m n q i cs pairs t × HasNoRepeat pairs)
+    → Walk m [] n q i cs t
+        ↔ ((pairs : List (Q × ℕ)) × PathThrough m n q i cs pairs t × HasNoRepeat pairs)
 
 -- in a content a program has at most one find
 abbrev pub FindsAtMostOne : {S : Type 0} → (S → ℕ → Bool) → (ℕ → Bool) → Program Look S → Type 0
@@ -51,29 +52,36 @@ abbrev pub MatchesAreOneList : {S : Type 0} → (S → ℕ → Bool) → (ℕ �
 MatchesAreOneList member is_word p = (s : Search) (ms ms' : List (Outcome Notes))
     → ProgramMatches member is_word p s ms → ProgramMatches member is_word p s ms' → ms ≡ ms'
 
-abbrev pub MatchesAllAreOneList : {S : Type 0} → (S → ℕ → Bool) → (ℕ → Bool) → Program Look S → Type 0
+abbrev pub MatchesAllAreOneList : {S : Type 0} → (S → ℕ → Bool) → (ℕ → Bool) → Program Look S
+    → Type 0
 MatchesAllAreOneList member is_word p = (s : Search) (ms ms' : List Span)
     → ProgramMatchesAll member is_word p s ms → ProgramMatchesAll member is_word p s ms' → ms ≡ ms'
 
 -- the first character of bytes is the one whose UTF-8 stands first in them
 abbrev pub FirstCharacterStands : Type 0
-FirstCharacterStands = (bytes : List ℕ) (c : ℕ) → (first_character bytes ≡ Some c) ↔ StandsFirst bytes c
+FirstCharacterStands =
+    (bytes : List ℕ) (c : ℕ) → (first_character bytes ≡ Some c) ↔ StandsFirst bytes c
 
 -- ---- threads
 
 -- one step keeps the best walk: it is the best one of the next place, or the end that is met
 abbrev pub StepsKeepBest : {Q N : Type 0} → Machine Q N → Type 0
-StepsKeepBest {Q} {N} m = (i : ℕ) (seen : List Q) (threads next : List (N × Q)) (met out : Option (Outcome N))
-    → Steps m i seen threads next met → Best m [] (i + 1) next out → Best m seen i threads (either out met)
+StepsKeepBest {Q} {N} m =
+    (i : ℕ) (seen : List Q) (threads next : List (N × Q)) (met out : Option (Outcome N))
+    → Steps m i seen threads next met → Best m [] (i + 1) next out
+        → Best m seen i threads (either out met)
 
 -- the loop over places, by a machine of single steps, finds what the machine that it refines has
 abbrev pub SearchesFind : {C B N : Type 0} → Machine C N → Machine B N → (C → B) → Type 0
-SearchesFind {C} {B} {N} c b f = (s : Search) (fresh : ℕ → N) (q : C) (out : Option (Outcome N)) → Refines c b f
-    → ReadsWhole c s.content → Searches b (Begins s) fresh (f q) s.start [] None out → IsFind c fresh s q out
+SearchesFind {C} {B} {N} c b f =
+    (s : Search) (fresh : ℕ → N) (q : C) (out : Option (Outcome N)) → Refines c b f
+    → ReadsWhole c s.content → Searches b (Begins s) fresh (f q) s.start [] None out
+        → IsFind c fresh s q out
 
 -- without a cut it finds the greatest end
 abbrev pub SearchesFindAll : {C B N : Type 0} → Machine C N → Machine B N → (C → B) → Type 0
-SearchesFindAll {C} {B} {N} c b f = (s : Search) (fresh : ℕ → N) (q : C) (out : Option Span) → Refines c b f
+SearchesFindAll {C} {B} {N} c b f =
+    (s : Search) (fresh : ℕ → N) (q : C) (out : Option Span) → Refines c b f
     → ReadsWhole c s.content → IsForward b → IsTold C → IsTold B
     → SearchesAll b (Begins s) (f q) s.start [] None out → IsFindAll c fresh s q out
 
@@ -81,12 +89,14 @@ SearchesFindAll {C} {B} {N} c b f = (s : Search) (fresh : ℕ → N) (q : C) (ou
 
 -- some path leads to an end exactly where some walk does
 abbrev pub PathsHaveWalks : {Q N : Type 0} → Machine Q N → Type 0
-PathsHaveWalks {Q} {N} m = IsTold Q → (n : N) (q : Q) (i p e : ℕ) → Path m q i p e ↔ Reaches m [] n q i p e
+PathsHaveWalks {Q} {N} m =
+    IsTold Q → (n : N) (q : Q) (i p e : ℕ) → Path m q i p e ↔ Reaches m [] n q i p e
 
 -- the walks of both machines, and their least walks, are equal
 abbrev pub WalksAgree : {C B N : Type 0} → Machine C N → Machine B N → (C → B) → Type 0
 WalksAgree {C} {B} {N} c b f = Refines c b f → (seen : List C) (n : N) (q : C) (i : ℕ)
-    → ((choices : List ℕ) (t : Outcome N) → Walk c seen n q i choices t ↔ Walk b (map f seen) n (f q) i choices t)
+    → ((choices : List ℕ) (t : Outcome N) → Walk c seen n q i choices t
+        ↔ Walk b (map f seen) n (f q) i choices t)
     × ((t : Outcome N) → IsLeast c seen n q i t ↔ IsLeast b (map f seen) n (f q) i t)
 
 -- and so are their paths
@@ -97,25 +107,33 @@ PathsAgree {C} {B} {N} c b f = Refines c b f → IsTold C → IsTold B → N →
 -- ---- programs
 
 -- a program's machine over bytes refines its machine over characters
-abbrev pub BytesRefine : {L S N : Type 0} → (ℕ → ℕ → N → N) → (S → List ℕ → Option ℕ) → (S → Automaton) → List (Node L S) → Haystack L → Type 0
+abbrev pub BytesRefine : {L S N : Type 0} → (ℕ → ℕ → N → N) → (S → List ℕ → Option ℕ)
+    → (S → Automaton) → List (Node L S) → Haystack L → Type 0
 BytesRefine put first step nodes h = ReadsMembers first step
     → Refines (over_characters put first nodes h) (over_bytes put step nodes h) (λ q. (q, 0))
 
 -- the loop over places by a program's bytes finds what its characters have
-abbrev pub ProgramsFind : {L S N : Type 0} → (ℕ → ℕ → N → N) → (S → ℕ → Bool) → (S → Automaton) → List (Node L S) → (L → ℕ → Bool) → Type 0
-ProgramsFind {L} {S} {N} put member step nodes holds = (s : Search) (fresh : ℕ → N) (q : ℕ) (out : Option (Outcome N))
+abbrev pub ProgramsFind : {L S N : Type 0} → (ℕ → ℕ → N → N) → (S → ℕ → Bool) → (S → Automaton)
+    → List (Node L S) → (L → ℕ → Bool) → Type 0
+ProgramsFind {L} {S} {N} put member step nodes holds =
+    (s : Search) (fresh : ℕ → N) (q : ℕ) (out : Option (Outcome N))
     → ReadsMembers (first_by member) step
-    → Searches (over_bytes put step nodes (haystack_of holds s)) (Begins s) fresh (q, 0) s.start [] None out
+    → Searches (over_bytes put step nodes (haystack_of holds s)) (Begins s) fresh
+        (q, 0) s.start [] None out
     → IsFind (over_characters put (first_by member) nodes (haystack_of holds s)) fresh s q out
 
 -- without a cut it finds the greatest end of what its characters have
-abbrev pub ProgramsFindAll : {L S N : Type 0} → (ℕ → ℕ → N → N) → (S → ℕ → Bool) → (S → Automaton) → List (Node L S) → (L → ℕ → Bool) → Type 0
-ProgramsFindAll {L} {S} {N} put member step nodes holds = (s : Search) (fresh : ℕ → N) (q : ℕ) (out : Option Span)
+abbrev pub ProgramsFindAll : {L S N : Type 0} → (ℕ → ℕ → N → N) → (S → ℕ → Bool) → (S → Automaton)
+    → List (Node L S) → (L → ℕ → Bool) → Type 0
+ProgramsFindAll {L} {S} {N} put member step nodes holds =
+    (s : Search) (fresh : ℕ → N) (q : ℕ) (out : Option Span)
     → ReadsMembers (first_by member) step
-    → SearchesAll (over_bytes put step nodes (haystack_of holds s)) (Begins s) (q, 0) s.start [] None out
+    → SearchesAll (over_bytes put step nodes (haystack_of holds s)) (Begins s)
+        (q, 0) s.start [] None out
     → IsFindAll (over_characters put (first_by member) nodes (haystack_of holds s)) fresh s q out
 
 -- both machines of a program read forward
-pub record ProgramsReadForward {L S N : Type 0} (put : ℕ → ℕ → N → N) (member : S → ℕ → Bool) (step : S → Automaton) (nodes : List (Node L S)) (h : Haystack L) : Type 0 where
+pub record ProgramsReadForward {L S N : Type 0} (put : ℕ → ℕ → N → N) (member : S → ℕ → Bool)
+    (step : S → Automaton) (nodes : List (Node L S)) (h : Haystack L) : Type 0 where
   pub characters : IsForward (over_characters put (first_by member) nodes h)
   pub bytes : IsForward (over_bytes put step nodes h)

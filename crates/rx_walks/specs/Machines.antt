@@ -1,8 +1,8 @@
 -- Machines: what a program does at each of its nodes, at each place of a content.
 use Rattle.std.specs.Prelude.{◌≡◌, ℕ, ◌<◌, List}
 
--- what there is to do at a node: a pattern's match ends; or empty edges lead on, the preferred one first; or one edge reads
--- up to a further place. A node without an edge goes to no node.
+-- what there is to do at a node: a pattern's match ends; or empty edges lead on, the preferred one
+-- first; or one edge reads up to a further place. A node without an edge goes to no node.
 pub data Move (Q : Type 0) : Type 0 where
   ends : ℕ → Move Q
   goes : List Q → Move Q

@@ -1,4 +1,5 @@
--- What a program finds in a content. `member` says which characters are in a set, `is_word` which are word characters.
+-- What a program finds in a content. `member` says which characters are in a set, `is_word` which
+-- are word characters.
 use Rattle.std.specs.Prelude.{◌≡◌, ℕ, Bool, List, take, drop, reverse, length, Option, Some, None, slice_get, max, min}
 use Rattle.rx_walks.specs.Machines.{Machine, Outcome}
 use Rattle.rx_walks.specs.Characters.{member_len}
@@ -16,7 +17,8 @@ after_in s i = drop i (take s.slice_end s.content)
 
 -- a look holds at a place in the content cut to the slice
 abbrev pub holds_in : (ℕ → Bool) → ℕ → Search → Look → ℕ → Bool
-holds_in is_word terminator s l i = holds_between is_word terminator l (before_in s i) (after_in s i)
+holds_in is_word terminator s l i =
+    holds_between is_word terminator l (before_in s i) (after_in s i)
 
 -- the first and the last place inside slice, span and content
 abbrev pub lowest : Search → ℕ
@@ -26,15 +28,18 @@ abbrev pub highest : Search → ℕ
 highest s = min (min s.slice_end s.end) (length s.content)
 
 abbrev pub haystack_of : {L : Type 0} → (L → ℕ → Bool) → Search → Haystack L
-haystack_of holds s = record { content = s.content; low = lowest s; high = highest s; holds = holds }
+haystack_of holds s =
+    record { content = s.content; low = lowest s; high = highest s; holds = holds }
 
 -- the bytes that one of a set's characters takes, where one stands first
 abbrev pub first_by : {S : Type 0} → (S → ℕ → Bool) → S → List ℕ → Option ℕ
 first_by member x bytes = member_len (member x) bytes
 
-abbrev pub machine_of : {S : Type 0} → (S → ℕ → Bool) → (ℕ → Bool) → Program Look S → Search → Machine ℕ Notes
+abbrev pub machine_of : {S : Type 0} → (S → ℕ → Bool) → (ℕ → Bool) → Program Look S → Search
+    → Machine ℕ Notes
 machine_of member is_word p s =
-    over_characters put_note (first_by member) p.nodes (haystack_of (holds_in is_word p.line_terminator s) s)
+    over_characters put_note (first_by member) p.nodes
+        (haystack_of (holds_in is_word p.line_terminator s) s)
 
 -- the node from which walks start; an unknown pattern has none
 abbrev pub start_node : {L S : Type 0} → Program L S → Anchoring → Option ℕ
@@ -48,14 +53,17 @@ IfStarts None finds out = out ≡ None
 IfStarts (Some q) finds out = finds q out
 
 -- the least walk of the least start that counts, with its notes
-abbrev pub ProgramFinds : {S : Type 0} → (S → ℕ → Bool) → (ℕ → Bool) → Program Look S → Search → Option (Outcome Notes) → Type 0
+abbrev pub ProgramFinds : {S : Type 0} → (S → ℕ → Bool) → (ℕ → Bool) → Program Look S → Search
+    → Option (Outcome Notes) → Type 0
 ProgramFinds member is_word p s out =
     IfStarts (start_node p s.anchoring) (IsFind (machine_of member is_word p s) fresh_notes s) out
 
 -- where all matches are wanted, the greatest end
-abbrev pub ProgramFindsAll : {S : Type 0} → (S → ℕ → Bool) → (ℕ → Bool) → Program Look S → Search → Option Span → Type 0
+abbrev pub ProgramFindsAll : {S : Type 0} → (S → ℕ → Bool) → (ℕ → Bool) → Program Look S → Search
+    → Option Span → Type 0
 ProgramFindsAll member is_word p s out =
-    IfStarts (start_node p s.anchoring) (IsFindAll (machine_of member is_word p s) fresh_notes s) out
+    IfStarts (start_node p s.anchoring)
+        (IsFindAll (machine_of member is_word p s) fresh_notes s) out
 
 abbrev pub start_of : Outcome Notes → ℕ
 start_of t = t.notes.start
@@ -64,10 +72,14 @@ abbrev pub end_of : Outcome Notes → ℕ
 end_of t = t.end
 
 -- the matches of a program, in order
-abbrev pub ProgramMatches : {S : Type 0} → (S → ℕ → Bool) → (ℕ → Bool) → Program Look S → Search → List (Outcome Notes) → Type 0
+abbrev pub ProgramMatches : {S : Type 0} → (S → ℕ → Bool) → (ℕ → Bool) → Program Look S → Search
+    → List (Outcome Notes) → Type 0
 ProgramMatches member is_word p s ms =
-    Matches (λ i out. ProgramFinds member is_word p (from_place_on s i) out) start_of end_of s.start ms
+    Matches
+        (λ i out. ProgramFinds member is_word p (from_place_on s i) out) start_of end_of s.start ms
 
-abbrev pub ProgramMatchesAll : {S : Type 0} → (S → ℕ → Bool) → (ℕ → Bool) → Program Look S → Search → List Span → Type 0
+abbrev pub ProgramMatchesAll : {S : Type 0} → (S → ℕ → Bool) → (ℕ → Bool) → Program Look S → Search
+    → List Span → Type 0
 ProgramMatchesAll member is_word p s ms =
-    Matches (λ i out. ProgramFindsAll member is_word p (from_place_on s i) out) (λ a. a.start) (λ a. a.end) s.start ms
+    Matches (λ i out. ProgramFindsAll member is_word p (from_place_on s i) out) (λ a. a.start)
+        (λ a. a.end) s.start ms

@@ -15,7 +15,8 @@ pub data Node (L S : Type 0) : Type 0 where
   -- an edge over one character of the set
   set : S → ℕ → Node L S
 
--- a program: its nodes, the number of the node above all patterns, that of each pattern's own, and the byte that ends a line
+-- a program: its nodes, the number of the node above all patterns, that of each pattern's own, and
+-- the byte that ends a line
 pub record Program (L S : Type 0) : Type 0 where
   pub nodes : List (Node L S)
   pub start : ℕ
@@ -27,7 +28,8 @@ pub data IsAbovePatterns {L S : Type 0} (p : Program L S) : Type 0 where
   one_pattern : p.patterns ≡ p.start ∷ [] → IsAbovePatterns p
   several : slice_get p.nodes p.start ≡ Some (pass p.patterns) → IsAbovePatterns p
 
--- a content, the first and the last place where a walk may stand, and the looks that hold at each place
+-- a content, the first and the last place where a walk may stand, and the looks that hold at each
+-- place
 pub record Haystack (L : Type 0) : Type 0 where
   pub content : List ℕ
   pub low : ℕ
@@ -49,8 +51,10 @@ abbrev pub read_up_to : {Q : Type 0} → Q → ℕ → Option ℕ → Move Q
 read_up_to r i None = goes []
 read_up_to r i (Some k) = reads r (i + k)
 
--- what there is to do at a node; `first` tells of a set how many bytes of one of its characters stand first
-abbrev pub by_character : {L S : Type 0} → (S → List ℕ → Option ℕ) → Haystack L → ℕ → Option (Node L S) → Move ℕ
+-- what there is to do at a node; `first` tells of a set how many bytes of one of its characters
+-- stand first
+abbrev pub by_character : {L S : Type 0} → (S → List ℕ → Option ℕ) → Haystack L → ℕ
+    → Option (Node L S) → Move ℕ
 by_character first h i None = goes []
 by_character first h i (Some (match k)) = ends k
 by_character first h i (Some (pass rs)) = goes rs
@@ -63,7 +67,8 @@ note_at put i (Some (note slot r)) n = put slot i n
 note_at put i _ n = n
 
 -- the machine whose reads are whole characters; `put` notes a place in a slot
-abbrev pub over_characters : {L S N : Type 0} → (ℕ → ℕ → N → N) → (S → List ℕ → Option ℕ) → List (Node L S) → Haystack L → Machine ℕ N
+abbrev pub over_characters : {L S N : Type 0} → (ℕ → ℕ → N → N) → (S → List ℕ → Option ℕ)
+    → List (Node L S) → Haystack L → Machine ℕ N
 over_characters put first nodes h = record {
   move = λ i q. only_if (is_within h.low h.high i) (by_character first h i (slice_get nodes q));
   note = λ i q n. note_at put i (slice_get nodes q) n;
