@@ -1,5 +1,5 @@
 -- A search that computes what is found, for worked examples.
-use Rattle.std.proofs.Common.{◌≡◌, ℕ, zero, suc, ◌+◌, ◌-◌, ◌<◌, ◌≤◌, ◌⊎◌, Bool, true, false, not, IsTrue, ◌&&◌, ◌||◌, ◌==◌, nat_le, nat_lt, List, [], ◌∷◌, ◌++◌, map, length, Option, Some, None, Contains, slice_index, refl, sym, ap, ap₂, subst, ◌∙◌, arith, inl, inr}
+use Rattle.std.proofs.Common.{◌≡◌, ℕ, zero, suc, ◌+◌, ◌-◌, ◌<◌, ◌≤◌, Bool, true, false, not, IsTrue, ◌&&◌, ◌||◌, ◌==◌, nat_le, List, [], ◌∷◌, ◌++◌, map, length, Option, Some, None, Contains, slice_index, refl, sym, ap, ap₂, subst, ◌∙◌, arith, inl, inr}
 use Rattle.std.proofs.lemmas.Bool.{eqb-true, eq-eqb, leb-true, le-leb}
 use Rattle.std.proofs.lemmas.Bool.Decides.{leb_tells}
 use Rattle.std.specs.Str.{IsCharBoundary}
@@ -8,7 +8,7 @@ use Rattle.rx_walks.specs.Walks.{IsNew}
 use Rattle.rx_walks.specs.Looks.{Look}
 use Rattle.rx_walks.specs.Finds.{Search, is_anchored, IsFind}
 use Rattle.rx_walks.specs.Programs.{Program, Notes, fresh_notes, put_note}
-use Rattle.rx_walks.specs.ProgramFinds.{start_node, machine_of, first_by, haystack_of, holds_in, IfStarts, ProgramFinds}
+use Rattle.rx_walks.specs.ProgramFinds.{start_node, machine_of, haystack_of, holds_in, IfStarts, ProgramFinds}
 use Rattle.rx_walks.specs.Steps.{Steps, done, passed, met, opened, read, either, Searches, over, started, stepped}
 use Rattle.rx_walks.specs.Laws.{Begins}
 use Rattle.rx_walks.proofs.WalkLaws.{none_seen, Contains-cases, Contains-head, Contains-tail, thins_none, same_some}

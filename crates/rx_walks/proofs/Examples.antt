@@ -5,7 +5,7 @@ use Rattle.std.specs.Str.{is_utf8, chars}
 use Rattle.rx_walks.specs.Machines.{Outcome}
 use Rattle.rx_walks.specs.Looks.{Look, start_line, word_boundary, no_word_boundary}
 use Rattle.rx_walks.specs.Finds.{Search, unanchored}
-use Rattle.rx_walks.specs.Matches.{first, one_more, last, no_more, at_once, moved}
+use Rattle.rx_walks.specs.Matches.{first, one_more, last, at_once, moved}
 use Rattle.rx_walks.specs.Programs.{Node, Program, Notes, match, pass, note, look, set, slot_of}
 use Rattle.rx_walks.specs.ProgramFinds.{ProgramFinds, ProgramMatches, holds_in}
 use Rattle.rx_walks.proofs.Evaluation.{computed}

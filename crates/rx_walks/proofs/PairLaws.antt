@@ -1,5 +1,5 @@
 -- A walk is a path that takes no pair of node and place twice.
-use Rattle.std.proofs.Common.{◌≡◌, ℕ, ◌≤◌, List, [], ◌∷◌, Contains, refl, sym, ap, subst, arith, inl, inr}
+use Rattle.std.proofs.Common.{ℕ, ◌≤◌, List, [], ◌∷◌, Contains, refl, sym, ap, subst, arith, inl, inr}
 use Rattle.rx_walks.specs.Machines.{Machine, Outcome, IsForward}
 use Rattle.rx_walks.specs.Walks.{IsNew, Walk, ended, went, took}
 use Rattle.rx_walks.specs.Paths.{PathThrough, through_end, through_edge, through_read, HasNoRepeat}

@@ -1,12 +1,12 @@
 -- Laws of walks and of what is found by them.
-use Rattle.std.specs.Prelude.{◌≡◌, ℕ, ◌+◌, ◌⊎◌, ◌↔◌, Bool, IsTrue, List, [], map, Option, None, Some, Contains, reverse}
+use Rattle.std.specs.Prelude.{◌≡◌, ℕ, ◌+◌, ◌⊎◌, ◌↔◌, Bool, IsTrue, List, [], map, Option, None, Some}
 use Rattle.std.specs.Str.{IsCharBoundary}
 use Rattle.rx_walks.specs.Machines.{Machine, Outcome, IsForward, reads}
 use Rattle.rx_walks.specs.Walks.{Walk, IsLeast, Reaches}
 use Rattle.rx_walks.specs.Paths.{Path, PathThrough, HasNoRepeat}
-use Rattle.rx_walks.specs.Characters.{first_character, last_character, StandsFirst, StandsLast}
+use Rattle.rx_walks.specs.Characters.{first_character, StandsFirst}
 use Rattle.rx_walks.specs.Looks.{Look}
-use Rattle.rx_walks.specs.Finds.{Search, IsPossible, IsInside, IsFind, IsFindAll, Span}
+use Rattle.rx_walks.specs.Finds.{Search, IsPossible, IsFind, IsFindAll, Span}
 use Rattle.rx_walks.specs.Programs.{Node, Program, Haystack, Notes, over_characters}
 use Rattle.rx_walks.specs.ProgramFinds.{ProgramFinds, ProgramFindsAll, ProgramMatches, ProgramMatchesAll, first_by, haystack_of}
 use Rattle.rx_walks.specs.Bytes.{Automaton, run, over_bytes}

@@ -1,6 +1,6 @@
 -- Looks: what has to stand around a place, in a content that is cut to the slice. What stands
 -- before the place is given from the place back.
-use Rattle.std.specs.Prelude.{ℕ, Bool, true, false, not, ◌&&◌, ◌||◌, ◌==◌, List, [], ◌∷◌, Option, Some, None}
+use Rattle.std.specs.Prelude.{ℕ, Bool, true, false, not, ◌&&◌, ◌==◌, List, [], ◌∷◌, Option, Some, None}
 use Rattle.rx_walks.specs.Characters.{first_character, last_character}
 
 pub data Look : Type 0 where
