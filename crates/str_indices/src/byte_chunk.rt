@@ -1,6 +1,7 @@
 //! Chunks of bytes that are compared and added lane by lane.
 
 ghost use Rattle.std.specs.Prelude.{◌≡◌, ℕ, ◌+◌, ◌-◌, ◌<◌, ◌≤◌, ◌&&◌, ◌==◌, if◌then◌else◌, List, length, sum, slice_index, nat_le, bit_and};
+ghost use Rattle.std.specs.List.{prefix_len};
 ghost use Rattle.str_indices.specs.Lanes.{HasLanes, MarksLanes, LanesUpTo};
 
 mod vector;
@@ -64,6 +65,10 @@ pub trait ByteChunk: Copy {
     fn sum_bytes(self) -> usize
         requires { LanesUpTo MAX_ACC (lanes self) }
         ensures { result ≡ sum (lanes self) };
+
+    /// The index of the first lane that is not 0, and `SIZE` where all are 0.
+    fn first_nonzero(self) -> usize
+        ensures { result ≡ prefix_len (λ lane. lane == 0) (lanes self) };
 
     ghost has_four: { 4 ≤ SIZE };
 

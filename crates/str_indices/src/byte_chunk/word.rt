@@ -139,4 +139,9 @@ impl ByteChunk for usize {
             + g as usize
             + h as usize
     }
+
+    #[inline(always)]
+    fn first_nonzero(self) -> usize {
+        self.trailing_zeros() as usize / 8
+    }
 }
