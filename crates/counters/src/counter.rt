@@ -3,8 +3,8 @@ use std::marker::Model;
 use std::mem;
 use std::snapshot::Snapshot;
 
-/// How often something was done, from 0. It takes no bytes at run time, so it has no last value, and
-/// only a contract can read it.
+/// How often something was done, from 0. It takes no bytes at run time, so it has no last value,
+/// and only a contract can read it.
 #[derive(Drop)]
 pub struct Counter {
     chain: Snapshot<Chain>,

@@ -28,13 +28,6 @@ pieces-le-bytes [] h = omega arith
 pieces-le-bytes (p ∷ []) h = omega (arith, sum_by-cons byte_len p [], h.not_empty)
 pieces-le-bytes (p ∷ q ∷ ps) h = omega (arith, sum_by-cons byte_len p (q ∷ ps), h.0.not_empty, pieces-le-bytes (q ∷ ps) h.2)
 
-pub leaf_tree : (leaf : List ℕ) → IsPiece leaf → IsTree (leaf_view leaf)
-leaf_tree leaf h = record {
-  text = record { cut = h; fits = omega (arith, sum_by-cons byte_len leaf [], h.not_long) };
-  branches = omega arith;
-  many = omega arith;
-}
-
 pub inner_tree : (height : ℕ) (children : List NodeView) → IsInner height children → IsTree (inner_view height children)
 inner_tree height children h =
     let many = many_below h.below children h.nodes in

@@ -27,17 +27,6 @@ no_level height below = record {
   full = inl (All-nil (IsNodeOf height 12));
 }
 
--- at the end
-pub whole_level : (height : ℕ) (below above : List NodeView) (from : ℕ) → 2 ≤ length below → length below ≤ from → IsLevelSoFar height below above from → IsLevelOver height below above
-whole_level height below above from branches end h =
-    let at : from ≡ length below = omega (arith, h.within, end) in
-    record {
-      pieces = h.pieces ∙ ap (λ n. all_pieces (take n below)) at ∙ ap all_pieces (take-length below);
-      some = elim h.some [ inl z ↦ absurd (omega (arith, z, at, branches)) | inr s ↦ s ];
-      fewer = omega (arith, h.few, at, branches);
-      full = elim h.full [ inl all ↦ inl all | inr one ↦ inr one.1 ];
-    }
-
 -- the next node
 module _ (height : ℕ) (below above children : List NodeView) (from to : ℕ) (node : NodeView) (h : IsLevelSoFar height below above from) (inner : IsInner height below)
     (more : from < length below) (taken : take from below ++ children ≡ take to below) (within : to ≤ length below) (two : from + 2 ≤ to) (is : node ≡ inner_view height children)

@@ -64,14 +64,8 @@ breaks-append is_break first second =
       length-ends_from-total (break_count is_break) 0 second,
     )
 
-pub chars-add : AddsUp length
-chars-add first second = length-append first second
-
 pub units-add : AddsUp units
 units-add first second = sum_by-append units_of first second
-
-pub pairs-add : AddsUp surrogate_pairs
-pairs-add first second = sum_by-append (λ c. cond (nat_le 0x1_0000 c) 1 0) first second
 
 pub units-split : UnitsAreCharsAndPairs
 units-split [] = refl

@@ -153,12 +153,6 @@ between_limits x low high =
 pub between_last : (x low : ℕ) → x < 256 → cond {A = ℕ} (nat_le low x) 1 0 ≡ cond (nat_le low x && nat_le x 255) 1 0
 between_last x low small = grind (arith, nat_tests)
 
-pub test_shared : (a b : Bool) → bit_and (cond a 1 0) (cond b 1 0) ≤ cond a 1 0
-test_shared true true = omega arith
-test_shared true false = omega arith
-test_shared false true = omega arith
-test_shared false false = omega arith
-
 -- ---- eight bytes of a list
 abbrev pub eight_bytes : List ℕ → ℕ → List ℕ
 eight_bytes bytes at = get_or bytes at 0 ∷ get_or bytes (at + 1) 0 ∷ get_or bytes (at + 2) 0 ∷ get_or bytes (at + 3) 0 ∷ get_or bytes (at + 4) 0 ∷ get_or bytes (at + 5) 0 ∷ get_or bytes (at + 6) 0 ∷ get_or bytes (at + 7) 0 ∷ []

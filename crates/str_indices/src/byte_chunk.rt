@@ -2,7 +2,7 @@
 
 ghost use Rattle.std.specs.Prelude.{◌≡◌, ℕ, ◌+◌, ◌-◌, ◌<◌, ◌≤◌, ◌&&◌, ◌==◌, if◌then◌else◌, List, length, sum, slice_index, nat_le, bit_and};
 ghost use Rattle.std.specs.List.{prefix_len};
-ghost use Rattle.str_indices.specs.Lanes.{HasLanes, MarksLanes, LanesUpTo};
+ghost use Rattle.str_indices.specs.Lanes.{HasLanes, MarksLanes, is_between, LanesUpTo};
 
 mod vector;
 mod word;
@@ -40,7 +40,7 @@ pub trait ByteChunk: Copy {
     /// 1 in each lane from `low` to `high`, both included, and 0 in the others.
     fn bytes_between(self, low: u8, high: u8) -> Self
         ensures { MarksLanes SIZE (lanes result)
-            (λ i. nat_le low (slice_index (lanes self) i) && nat_le (slice_index (lanes self) i) high) };
+            (λ i. is_between low high (slice_index (lanes self) i)) };
 
     /// The bits that two lanes share.
     fn bitand(self, other: Self) -> Self

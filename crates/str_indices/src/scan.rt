@@ -201,8 +201,8 @@ pub(crate) fn find_past<M: Measure, C: ByteChunk>(
     at
 }
 
-/// Looks for a byte that counts, one by one from `from` to `end`: `Break` with the first such byte, or
-/// `Continue` with `end`.
+/// Looks for a byte that counts, one by one from `from` to `end`: `Break` with the first such byte,
+/// or `Continue` with `end`.
 fn search_bytes<M: Measure>(bytes: &[u8], from: usize, end: usize) -> ControlFlow<usize, usize>
     requires order { from ≤ end }
     requires within { end ≤ length bytes.now }
