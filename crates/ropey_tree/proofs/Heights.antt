@@ -6,9 +6,9 @@ use Rattle.std.proofs.lemmas.List.Elements.{All-head, All-tail}
 use Rattle.std.proofs.lemmas.List.Concat.{flat_map-cons}
 use Rattle.str_indices.specs.Text.{byte_len}
 use Rattle.ropey_tree.specs.Counts.{total}
-use Rattle.ropey_tree.specs.Cutting.{IsPiece, IsCutting}
+use Rattle.ropey_tree.specs.Cutting.{IsCutting}
 use Rattle.ropey_tree.specs.NodeView.{NodeView}
-use Rattle.ropey_tree.specs.Nodes.{all_pieces, AreNodes, IsNodeOf, IsTree, IsInner, leaf_view, inner_view}
+use Rattle.ropey_tree.specs.Nodes.{all_pieces, AreNodes, IsNodeOf, IsTree, IsInner, inner_view}
 
 -- each child has that many pieces at least
 pub many_below : (below : ℕ) (vs : List NodeView) → AreNodes below 12 vs → length vs * 12 ^ below ≤ length (all_pieces vs)
