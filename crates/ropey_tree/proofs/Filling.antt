@@ -58,9 +58,6 @@ module _ (text t rest : List ℕ) (end room : ℕ) (h : IsOpen text) (space : by
       both is_cr full (inr other) = cc
 
 -- ---- leaves before it
-pub before_nothing : IsCutBefore [] []
-before_nothing = record { nodes = All-nil (IsNodeOf 0 12); cut = tt; whole = λ next. refl }
-
 pub before_more : (text t : List ℕ) (leaves : List NodeView) → IsCutBefore text leaves → IsCutBefore (text ++ t) leaves
 before_more text t leaves h = record {
   nodes = h.nodes;

@@ -6,9 +6,9 @@ use Rattle.std.proofs.lemmas.List.Elements.{All-head, All-tail}
 use Rattle.std.proofs.lemmas.List.Concat.{flat_map-cons}
 use Rattle.str_indices.specs.Text.{byte_len}
 use Rattle.ropey_tree.specs.Counts.{total}
-use Rattle.ropey_tree.specs.Cutting.{IsPiece, IsCutting}
+use Rattle.ropey_tree.specs.Cutting.{IsCutting}
 use Rattle.ropey_tree.specs.NodeView.{NodeView}
-use Rattle.ropey_tree.specs.Nodes.{all_pieces, AreNodes, IsNodeOf, IsTree, IsInner, leaf_view, inner_view}
+use Rattle.ropey_tree.specs.Nodes.{all_pieces, AreNodes, IsNodeOf, IsTree, IsInner, inner_view}
 
 -- each child has that many pieces at least
 pub many_below : (below : ℕ) (vs : List NodeView) → AreNodes below 12 vs → length vs * 12 ^ below ≤ length (all_pieces vs)
@@ -27,13 +27,6 @@ pub pieces-le-bytes : (ps : List (List ℕ)) → IsCutting ps → length ps ≤ 
 pieces-le-bytes [] h = omega arith
 pieces-le-bytes (p ∷ []) h = omega (arith, sum_by-cons byte_len p [], h.not_empty)
 pieces-le-bytes (p ∷ q ∷ ps) h = omega (arith, sum_by-cons byte_len p (q ∷ ps), h.0.not_empty, pieces-le-bytes (q ∷ ps) h.2)
-
-pub leaf_tree : (leaf : List ℕ) → IsPiece leaf → IsTree (leaf_view leaf)
-leaf_tree leaf h = record {
-  text = record { cut = h; fits = omega (arith, sum_by-cons byte_len leaf [], h.not_long) };
-  branches = omega arith;
-  many = omega arith;
-}
 
 pub inner_tree : (height : ℕ) (children : List NodeView) → IsInner height children → IsTree (inner_view height children)
 inner_tree height children h =

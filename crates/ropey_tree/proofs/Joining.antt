@@ -146,19 +146,6 @@ leaves_joined l r p q l_is r_is = rw (l_is, r_is) (record {
     leaf_node : (s : List ℕ) → IsNodeOf 0 12 (leaf_view s)
     leaf_node s = record { level = refl; full = omega arith; many = omega arith }
 
--- a root over two nodes
-pub root_inner : (l r : NodeView) (first second : NodeView) → AreJoined l r (first ∷ second ∷ []) → IsText (l.pieces ++ r.pieces) → IsInner (max l.height r.height + 1) (first ∷ second ∷ [])
-root_inner l r first second h text = record {
-  below = max l.height r.height;
-  level = refl;
-  branches = omega arith;
-  nodes = elim h.full [
-    | inl one ↦ absurd (omega (arith, one))
-    | inr many ↦ nodes-weaker (max l.height r.height) h.least 12 (first ∷ second ∷ []) many h.nodes
-  ];
-  text = rw h.pieces text;
-}
-
 -- ---- the same for nodes that are seen whole
 module _ (l r : NodeView) (text : IsText (l.pieces ++ r.pieces)) where
   module _ (front back : List NodeView) (l_is : l ≡ inner_view l.height front) (f : IsInner l.height front) (r_is : r ≡ inner_view r.height back) (b : IsInner r.height back) (same : l.height ≡ r.height) where

@@ -1,10 +1,8 @@
 -- A level of nodes over the level below, node by node.
 use Rattle.std.proofs.Common.{◌≡◌, ℕ, ◌+◌, ◌*◌, ◌<◌, ◌≤◌, ◌⊎◌, inl, inr, List, [], ◌∷◌, ◌++◌, length, take, refl, ap, arith, sym, ◌∙◌, length-append, length-take-le}
-use Rattle.std.proofs.Math.Seq.{take-length}
 use Rattle.std.proofs.lemmas.List.Elements.{All-cons, All-nil, All-append}
 use Rattle.ropey_tree.specs.NodeView.{NodeView}
 use Rattle.ropey_tree.specs.Nodes.{all_pieces, AreNodes, IsNodeOf, IsInner, inner_view}
-use Rattle.ropey_tree.specs.Siblings.{IsLevelOver}
 use Rattle.ropey_tree.proofs.InRow.{all_pieces-append, all_pieces-one}
 use Rattle.ropey_tree.proofs.Packing.{part_inner, node_over}
 
@@ -26,17 +24,6 @@ no_level height below = record {
   left = inl refl;
   full = inl (All-nil (IsNodeOf height 12));
 }
-
--- at the end
-pub whole_level : (height : ℕ) (below above : List NodeView) (from : ℕ) → 2 ≤ length below → length below ≤ from → IsLevelSoFar height below above from → IsLevelOver height below above
-whole_level height below above from branches end h =
-    let at : from ≡ length below = omega (arith, h.within, end) in
-    record {
-      pieces = h.pieces ∙ ap (λ n. all_pieces (take n below)) at ∙ ap all_pieces (take-length below);
-      some = elim h.some [ inl z ↦ absurd (omega (arith, z, at, branches)) | inr s ↦ s ];
-      fewer = omega (arith, h.few, at, branches);
-      full = elim h.full [ inl all ↦ inl all | inr one ↦ inr one.1 ];
-    }
 
 -- the next node
 module _ (height : ℕ) (below above children : List NodeView) (from to : ℕ) (node : NodeView) (h : IsLevelSoFar height below above from) (inner : IsInner height below)

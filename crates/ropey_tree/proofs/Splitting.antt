@@ -126,12 +126,9 @@ piece_split s t some some_back = record {
   before = λ ys text. record { cut = cut_back s t some_back ys text.cut; fits = omega (arith, text.fits, sum_by-cons byte_len t ys, sum_by-cons byte_len (s ++ t) ys, byte_len-append s t) };
 }
 
--- a place at the start, and at the end
+-- a place at the start
 pub split_start : (ps : List (List ℕ)) → IsSplit ps 0 [] ps
 split_start ps = record { text = refl; place = refl; after = λ xs text. text-left (xs ++ []) ps (rw append-nil text); before = λ ys text. text }
-
-pub split_end : (ps : List (List ℕ)) (at : ℕ) → (total ps).bytes ≡ at → IsSplit ps at ps []
-split_end ps at e = record { text = append-nil (concat ps); place = e; after = λ xs text. text; before = λ ys text. text-right ps ys text }
 
 -- ---- the bytes of a piece in two
 pub record LeafParts (bytes front back : List ℕ) (at : ℕ) : Type 0 where

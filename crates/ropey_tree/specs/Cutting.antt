@@ -1,5 +1,5 @@
 -- Texts that are cut into pieces. A text is a list of Unicode scalar values, and pieces are joined by `concat`.
-use Rattle.std.specs.Prelude.{◌≡◌, ℕ, ◌^◌, ◌<◌, ◌≤◌, Bool, true, false, ◌&&◌, List, [], ◌∷◌, ◌++◌}
+use Rattle.std.specs.Prelude.{◌≡◌, ℕ, ◌^◌, ◌<◌, ◌≤◌, true, false, List, [], ◌∷◌, ◌++◌}
 use Rattle.std.specs.Str.{all_scalars}
 use Rattle.str_indices.specs.Text.{byte_len}
 pub use Rattle.str_indices.specs.Text.{cuts_cr_lf}

@@ -11,8 +11,8 @@ use crate::{MAX_CHILDREN, MIN_CHILDREN};
 use std::alloc::{AllocError, Global};
 use std::rc::Rc;
 
-/// How many of the nodes that are left the next node takes: all of them, or so many that both it and
-/// the rest are full.
+/// How many of the nodes that are left the next node takes: all of them, or so many that both it
+/// and the rest are full.
 fn share(left: usize) -> usize
     requires { 2 ≤ left }
     ensures some { 2 ≤ result }

@@ -14,8 +14,8 @@ use arrayvec::ArrayVec;
 use std::marker::Model;
 use std::rc::Rc;
 
-/// Nodes side by side, and beside each what its text counts: the `NodeChildren` of `ropey`. Contracts
-/// see what the nodes are seen as.
+/// Nodes side by side, and beside each what its text counts: the `NodeChildren` of `ropey`.
+/// Contracts see what the nodes are seen as.
 #[cycle(node)]
 #[derive(Drop)]
 pub struct Children {
@@ -116,7 +116,8 @@ impl Children {
         sum
     }
 
-    /// The first up to whose end more than `i` stand in a measure, else the last. No node is entered.
+    /// The first up to whose end more than `i` stand in a measure, else the last. No node is
+    /// entered.
     pub fn choose(&self, by: By, i: usize, visits: &mut Visits) -> Choice
         requires some { 0 < length self.now }
         requires fits { (total (all_pieces self.now)).bytes < 2 ^ 63 }

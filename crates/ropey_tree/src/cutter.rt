@@ -56,8 +56,8 @@ impl Cutter {
         self.alloc
     }
 
-    /// Appends a text. Want of memory leaves the cutter as it was; a text that doesn't fill a leaf takes
-    /// none.
+    /// Appends a text. Want of memory leaves the cutter as it was; a text that doesn't fill a leaf
+    /// takes none.
     pub fn append(&mut self, text: &str) -> Result<(), AllocError>
         ensures text { OnOk result (self.new ≡ self.old ++ chars text.now) }
         ensures kept { OnErr result (self.new ≡ self.old) }
@@ -66,7 +66,8 @@ impl Cutter {
             self.rest.fill(text);
             return Ok(());
         }
-        // A refusal is to leave everything as it was, so what is made lies aside until all is there.
+        // A refusal is to leave everything as it was, so what is made lies aside until all is
+        // there.
         let mut made = Vec::new(self.alloc);
         let mut rest = self.rest.copy();
         let end = rest.fill(text);

@@ -106,8 +106,8 @@ impl LeafBuffer {
         self.text.remaining_capacity()
     }
 
-    /// Takes the front of a text, as much as there is room for but for a part of a character or of a
-    /// CR LF, and answers how many bytes that is.
+    /// Takes the front of a text, as much as there is room for but for a part of a character or of
+    /// a CR LF, and answers how many bytes that is.
     pub fn fill(&mut self, text: &str) -> usize
         ensures within { result ≤ length text.now }
         ensures boundary { IsCharBoundary text.now result }
@@ -138,8 +138,8 @@ impl LeafBuffer {
     }
 }
 
-/// How many bytes of a text go into a room: as many as may be, but no part of a character, and no CR
-/// that would leave no room for an LF after it.
+/// How many bytes of a text go into a room: as many as may be, but no part of a character, and no
+/// CR that would leave no room for an LF after it.
 fn fill_end(text: &str, room: usize) -> usize
     ensures within { result ≤ length text.now }
     ensures fits { result ≤ room }

@@ -1,8 +1,8 @@
 //! Joining any two texts, also where a CR LF lies across the seam.
 //!
 //! Edits stand on this: an insertion splits a tree at its place and appends the text between the
-//! halves; a removal splits at both its ends and appends what is left of the first to what is right of
-//! the second.
+//! halves; a removal splits at both its ends and appends what is left of the first to what is right
+//! of the second.
 
 ghost use Rattle.std.specs.Prelude.{◌≡◌, ◌+◌, ◌<◌, ◌^◌, ◌++◌, IfOk, true};
 ghost use Rattle.std.specs.List.{concat};
@@ -61,9 +61,9 @@ fn append_over_cr_lf(
     Ok(tree)
 }
 
-/// The tree of two texts that are joined, of which neither or either may be empty. Where the first ends
-/// with CR and the second starts with LF, the two get into one leaf. What the trees held before and what
-/// the new one holds, they share. Want of memory is the only refusal.
+/// The tree of two texts that are joined, of which neither or either may be empty. Where the first
+/// ends with CR and the second starts with LF, the two get into one leaf. What the trees held
+/// before and what the new one holds, they share. Want of memory is the only refusal.
 pub fn append(
     alloc: Global,
     left: Option<Rc<Node>>,

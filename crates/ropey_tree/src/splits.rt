@@ -103,8 +103,8 @@ pub fn concat(
 }
 
 /// The texts before and after a byte index that lies between two characters, or at the start or the
-/// end. Between CR and LF the halves count one break more than the whole. The tree stays as it is; what
-/// both it and a half hold, they share.
+/// end. Between CR and LF the halves count one break more than the whole. The tree stays as it is;
+/// what both it and a half hold, they share.
 pub fn split(alloc: Global, node: &Rc<Node>, at: usize) -> Result<Halves, AllocError>
     requires { IsBoundaryOf (concat node.now.value.pieces) at }
     ensures { IfOk result (λ halves. IsSplit node.now.value.pieces at (pieces_in halves.left)

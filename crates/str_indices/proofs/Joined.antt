@@ -7,7 +7,7 @@ use Rattle.std.proofs.lemmas.Bool.Decides.{nat_tests}
 use Rattle.std.proofs.lemmas.List.{length-replicate}
 use Rattle.std.proofs.lemmas.List.Sums.{sum_by-cons, sum_by-append}
 use Rattle.std.proofs.lemmas.Str.{length-encode, length-le-encodes}
-use Rattle.str_indices.specs.Text.{ends_with_cr, is_line_break, is_crlf_break, is_lf_break, ends_from, starts_with_lf, ends_break, breaks, units_of, units, surrogate_pairs}
+use Rattle.str_indices.specs.Text.{ends_with_cr, is_line_break, is_crlf_break, is_lf_break, ends_from, starts_with_lf, ends_break, breaks, units_of, units}
 use Rattle.str_indices.specs.Laws.{JoinsBreaks, AddsUp, UnitsAreCharsAndPairs, FewerBreaks, NoMoreThanBytes}
 
 abbrev break_count : (ℕ → Bool) → ℕ → List ℕ → ℕ
@@ -64,14 +64,8 @@ breaks-append is_break first second =
       length-ends_from-total (break_count is_break) 0 second,
     )
 
-pub chars-add : AddsUp length
-chars-add first second = length-append first second
-
 pub units-add : AddsUp units
 units-add first second = sum_by-append units_of first second
-
-pub pairs-add : AddsUp surrogate_pairs
-pairs-add first second = sum_by-append (λ c. cond (nat_le 0x1_0000 c) 1 0) first second
 
 pub units-split : UnitsAreCharsAndPairs
 units-split [] = refl

@@ -5,6 +5,7 @@ pub mod Indices
 pub mod Vectors
 pub mod Chunks
 pub mod Words
+pub mod FirstLanes
 pub mod Joined
 pub mod Places
 pub mod Units

@@ -1,7 +1,7 @@
 -- The bytes of a number as lanes: what arithmetic on whole numbers does to each byte.
 use Rattle.std.proofs.Common.{◌≡◌, ℕ, zero, suc, ◌+◌, ◌-◌, ◌*◌, ◌/◌, ◌%◌, ◌^◌, ◌<◌, ◌≤◌, List, [], ◌∷◌, length, get_or, refl, ap, sym, ◌∙◌, arith, bit_and, w64, lit<}
 use Rattle.std.proofs.Math.Nat.{pow-suc}
-use Rattle.std.proofs.Common.{Bool, true, false, cond, nat_le, inl, inr}
+use Rattle.std.proofs.Common.{cond, nat_le, inl, inr}
 use Rattle.std.specs.Prelude.{◌&&◌, ◌==◌}
 use Rattle.std.specs.Int.{to_le_bytes, from_le_bytes}
 use Rattle.std.proofs.lemmas.List.{get_or_past}
@@ -152,12 +152,6 @@ between_limits x low high =
 
 pub between_last : (x low : ℕ) → x < 256 → cond {A = ℕ} (nat_le low x) 1 0 ≡ cond (nat_le low x && nat_le x 255) 1 0
 between_last x low small = grind (arith, nat_tests)
-
-pub test_shared : (a b : Bool) → bit_and (cond a 1 0) (cond b 1 0) ≤ cond a 1 0
-test_shared true true = omega arith
-test_shared true false = omega arith
-test_shared false true = omega arith
-test_shared false false = omega arith
 
 -- ---- eight bytes of a list
 abbrev pub eight_bytes : List ℕ → ℕ → List ℕ

@@ -1,5 +1,5 @@
 -- What the bytes of a text count for: one number for each byte. The loops over bytes are stated by these, and the public functions by the words of Text.
-use Rattle.std.specs.Prelude.{ℕ, ◌+◌, ◌<◌, ◌≤◌, Bool, not, ◌&&◌, ◌||◌, if◌then◌else◌, List, [], ◌∷◌, length, map, sum, take, slice_index, nat_le, nat_lt, ◌==◌}
+use Rattle.std.specs.Prelude.{ℕ, ◌+◌, ◌<◌, ◌≤◌, Bool, not, ◌&&◌, ◌||◌, if◌then◌else◌, List, [], ◌∷◌, length, map, sum, take, drop, slice_index, nat_le, nat_lt, ◌==◌}
 use Rattle.str_indices.specs.Text.{starts_with_lf}
 
 -- the first byte of a character: no continuation byte
@@ -26,6 +26,10 @@ unit_weights bytes = map (λ b. (if is_lead b then 1 else 0) + (if is_lead_of_fo
 abbrev pub tested_weights : (ℕ → ℕ → ℕ → List ℕ → Bool) → ℕ → ℕ → List ℕ → List ℕ
 tested_weights test b2 b1 [] = []
 tested_weights test b2 b1 (b ∷ bs) = (if test b2 b1 b bs then 1 else 0) ∷ tested_weights test b1 b bs
+
+-- a test of the byte at a place, with the two bytes before it, each 0 where there is none, and what follows it
+abbrev pub passes_at : (ℕ → ℕ → ℕ → List ℕ → Bool) → List ℕ → ℕ → Bool
+passes_at test bytes at = test (slice_index (0 ∷ 0 ∷ bytes) at) (slice_index (0 ∷ bytes) at) (slice_index bytes at) (drop (at + 1) bytes)
 
 -- the last byte of a break: of one byte and not a CR before an LF; of U+0085, which is C2 85; of U+2028 or U+2029, which are E2 80 A8 and E2 80 A9
 abbrev pub ends_ascii_line : ℕ → Bool → Bool

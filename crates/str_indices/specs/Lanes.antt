@@ -1,5 +1,5 @@
 -- The lanes of a chunk of bytes, which are numbers from 0 to 255.
-use Rattle.std.specs.Prelude.{◌≡◌, ◌≤◌, ◌<◌, ℕ, zero, suc, ◌/◌, ◌%◌, Bool, if◌then◌else◌, List, [], ◌∷◌, length, slice_index}
+use Rattle.std.specs.Prelude.{◌≡◌, ◌≤◌, ◌<◌, ℕ, zero, suc, ◌/◌, ◌%◌, Bool, ◌&&◌, if◌then◌else◌, List, [], ◌∷◌, length, slice_index, nat_le}
 
 -- there are `count` lanes, and lane k holds f k
 pub record HasLanes (count : ℕ) (lanes : List ℕ) (f : ℕ → ℕ) : Type 0 where
@@ -9,6 +9,10 @@ pub record HasLanes (count : ℕ) (lanes : List ℕ) (f : ℕ → ℕ) : Type 0 
 -- lane k is 1 where a test of k passes, and else 0
 abbrev pub MarksLanes : ℕ → List ℕ → (ℕ → Bool) → Type 0
 MarksLanes count lanes test = HasLanes count lanes (λ k. if test k then 1 else 0)
+
+-- a lane from one limit to another, both included
+abbrev pub is_between : ℕ → ℕ → ℕ → Bool
+is_between low high lane = nat_le low lane && nat_le lane high
 
 -- no lane is above a limit
 abbrev pub LanesUpTo : ℕ → List ℕ → Type 0

@@ -1,9 +1,7 @@
 -- Laws of the definitions, for every text.
 use Rattle.std.specs.Prelude.{◌≡◌, ℕ, ◌+◌, ◌-◌, ◌<◌, ◌≤◌, ◌↔◌, ◌⊎◌, Bool, ◌&&◌, if◌then◌else◌, min, List, [], ◌++◌, length, slice_index, slice_index_or, true, encode_utf8_all, map}
 use Rattle.std.specs.Str.{IsCharBoundary, all_scalars}
-use Rattle.str_indices.specs.Text.{cuts_cr_lf, breaks, break_ends, char_ends, units, surrogate_pairs, unit_ends, unit_starts, ends_up_to, end_place}
--- these stand in Text, and are named here for crates that still look for them here
-pub use Rattle.str_indices.specs.Text.{byte_len, ends_with_cr, NoCrLfBetween}
+use Rattle.str_indices.specs.Text.{byte_len, cuts_cr_lf, NoCrLfBetween, breaks, break_ends, char_ends, units, surrogate_pairs, unit_ends, unit_starts, ends_up_to, end_place}
 
 -- ---- joined texts
 -- where CR is a break, one break is lost exactly if the first text ends in CR and the second starts with LF

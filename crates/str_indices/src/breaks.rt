@@ -2,7 +2,7 @@
 
 ghost use Rattle.std.specs.Prelude.{refl, ◌≡◌, ◌+◌, ◌<◌, ◌≤◌, ◌&&◌, ◌||◌, not, ◌==◌, if◌then◌else◌, ◌∷◌, length, drop, slice_index};
 ghost use Rattle.str_indices.specs.Text.{starts_with_lf, is_line_break, is_crlf_break, is_lf_break};
-ghost use Rattle.str_indices.specs.Bytes.{is_cr_lf_end, ends_ascii_line, ends_two_byte_line, ends_three_byte_line, ends_line, ends_crlf_line, line_weights, crlf_line_weights, lf_line_weights};
+ghost use Rattle.str_indices.specs.Bytes.{passes_at, is_cr_lf_end, ends_ascii_line, ends_two_byte_line, ends_three_byte_line, ends_line, ends_crlf_line, line_weights, crlf_line_weights, lf_line_weights};
 ghost use Rattle.str_indices.specs.Weights.{tested_len, tested_small, tested_sum};
 ghost use Rattle.str_indices.specs.BreakBytes.{lines_at_last_bytes, crlf_lines_at_last_bytes, lf_lines_at_last_bytes};
 ghost use Rattle.std.proofs.lemmas.Bool.{false≢true};
@@ -50,8 +50,7 @@ pub(crate) fn ends_cr_lf(bytes: &[u8], at: usize) -> bool
 #[tactic(auto, using(std::proofs::lemmas::Bool::Decides::nat_tests))]
 fn ends_line(bytes: &[u8], at: usize) -> bool
     requires { at < length bytes.now }
-    ensures { result ≡ ends_line (slice_index (0 ∷ 0 ∷ bytes.now) at) (slice_index (0 ∷ bytes.now) at)
-        (slice_index bytes.now at) (drop (at + 1) bytes.now) }
+    ensures { result ≡ passes_at ends_line bytes.now at }
 {
     let byte = bytes[at];
     match byte {
@@ -64,8 +63,8 @@ fn ends_line(bytes: &[u8], at: usize) -> bool
 
 #[inline(always)]
 fn ascii_breaks<C: ByteChunk>(chunk: C, next: C) -> C
-    ensures { MarksLanes C.SIZE (C.lanes result)
-        (λ i. ends_ascii_line (slice_index (C.lanes chunk) i) (slice_index (C.lanes next) i == 10)) }
+    ensures { MarksLanes C.SIZE (C.lanes result) (λ i.
+        ends_ascii_line (slice_index (C.lanes chunk) i) (slice_index (C.lanes next) i == 10)) }
 {
     let split = chunk.cmp_eq_byte(CR).bitand(next.cmp_eq_byte(LF));
     chunk.bytes_between(LF, CR).sub(split)
@@ -142,8 +141,7 @@ fn crlf_breaks<C: ByteChunk>(chunk: C, next: C) -> C
 /// Whether a byte is the last of an LF, a CR or a CR LF.
 fn ends_crlf_line(bytes: &[u8], at: usize) -> bool
     requires { at < length bytes.now }
-    ensures { result ≡ ends_crlf_line (slice_index (0 ∷ 0 ∷ bytes.now) at) (slice_index (0 ∷ bytes.now) at)
-        (slice_index bytes.now at) (drop (at + 1) bytes.now) }
+    ensures { result ≡ passes_at ends_crlf_line bytes.now at }
 {
     bytes[at] == LF || (bytes[at] == CR && !is_before_lf(bytes, at))
 }

@@ -1,7 +1,8 @@
 //! Chunks of bytes that are compared and added lane by lane.
 
 ghost use Rattle.std.specs.Prelude.{◌≡◌, ℕ, ◌+◌, ◌-◌, ◌<◌, ◌≤◌, ◌&&◌, ◌==◌, if◌then◌else◌, List, length, sum, slice_index, nat_le, bit_and};
-ghost use Rattle.str_indices.specs.Lanes.{HasLanes, MarksLanes, LanesUpTo};
+ghost use Rattle.std.specs.List.{prefix_len};
+ghost use Rattle.str_indices.specs.Lanes.{HasLanes, MarksLanes, is_between, LanesUpTo};
 
 mod vector;
 mod word;
@@ -39,7 +40,7 @@ pub trait ByteChunk: Copy {
     /// 1 in each lane from `low` to `high`, both included, and 0 in the others.
     fn bytes_between(self, low: u8, high: u8) -> Self
         ensures { MarksLanes SIZE (lanes result)
-            (λ i. nat_le low (slice_index (lanes self) i) && nat_le (slice_index (lanes self) i) high) };
+            (λ i. is_between low high (slice_index (lanes self) i)) };
 
     /// The bits that two lanes share.
     fn bitand(self, other: Self) -> Self
@@ -64,6 +65,10 @@ pub trait ByteChunk: Copy {
     fn sum_bytes(self) -> usize
         requires { LanesUpTo MAX_ACC (lanes self) }
         ensures { result ≡ sum (lanes self) };
+
+    /// The index of the first lane that is not 0, and `SIZE` where all are 0.
+    fn first_nonzero(self) -> usize
+        ensures { result ≡ prefix_len (λ lane. lane == 0) (lanes self) };
 
     ghost has_four: { 4 ≤ SIZE };
 

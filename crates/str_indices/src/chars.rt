@@ -1,8 +1,8 @@
 //! Characters, which are Unicode scalar values, as the Rust crate `str_indices` counts them: its
 //! `chars::count`, `from_byte_idx` and `to_byte_idx`.
 //!
-//! Each call takes `O(n)` for a text of n bytes, by 16 bytes at a time, and no memory. Every index has
-//! an answer.
+//! Each call takes `O(n)` for a text of n bytes, by 16 bytes at a time, and no memory. Every index
+//! has an answer.
 
 ghost use Rattle.std.specs.Prelude.{◌≡◌, ◌+◌, ◌≤◌, min, length};
 ghost use Rattle.std.specs.Str.{chars};
@@ -22,15 +22,16 @@ pub fn count(text: &str) -> usize
 
 /// The characters before a byte index: how many end at or before it. `O(byte_idx)`.
 ///
-/// A byte inside a character answers the index of that character. An index past the text's length acts
-/// as the length.
+/// A byte inside a character answers the index of that character. An index past the text's length
+/// acts as the length.
 pub fn from_byte_idx(text: &str, byte_idx: usize) -> usize
     ensures { result ≡ ends_up_to byte_idx (char_ends (chars text.now)) }
 {
     char_index::from_byte_idx::<CharStarts>(text, byte_idx)
 }
 
-/// The byte index at which a character starts, characters counted from 0. `O(n)`, up to that character.
+/// The byte index at which a character starts, characters counted from 0. `O(n)`, up to that
+/// character.
 ///
 /// An index past the last character answers the text's length.
 pub fn to_byte_idx(text: &str, char_idx: usize) -> usize

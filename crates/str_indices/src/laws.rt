@@ -15,8 +15,8 @@ pub fn breaks_of_joined_texts()
     ensures lines_lf { LosesNoBreak is_lf_break }
 {}
 
-/// Where no CR LF is cut between two texts, the break ends of both joined are those of the first, and
-/// those of the second past the first one's bytes.
+/// Where no CR LF is cut between two texts, the break ends of both joined are those of the first,
+/// and those of the second past the first one's bytes.
 pub fn break_ends_of_joined_texts()
     ensures { (is_break : ℕ → Bool) → JoinsEnds is_break }
 {}
@@ -87,15 +87,15 @@ pub fn ends_and_places_agree()
     ensures lines { (is_break : ℕ → Bool) → EndsAndPlacesAgree (break_ends is_break) }
 {}
 
-/// A character boundary lies at or before `to_byte_idx` of an index exactly if `from_byte_idx` of it
-/// is no greater than the index.
+/// A character boundary lies at or before `to_byte_idx` of an index exactly if `from_byte_idx` of
+/// it is no greater than the index.
 pub fn boundaries_and_indices_agree()
     ensures chars { CharsAndBoundariesAgree }
     ensures units { UnitsAndBoundariesAgree }
 {}
 
-/// `to_byte_idx` of `from_byte_idx` lies at or before the place and the text's length. For characters
-/// and code units no boundary up to the place lies behind it.
+/// `to_byte_idx` of `from_byte_idx` lies at or before the place and the text's length. For
+/// characters and code units no boundary up to the place lies behind it.
 pub fn place_there_and_back()
     ensures lines { (is_break : ℕ → Bool) → LastEndIsBefore (break_ends is_break) }
     ensures chars { LastEndIsBefore char_ends }
@@ -104,18 +104,20 @@ pub fn place_there_and_back()
     ensures nearest_unit { UnitsGoToLastBoundary }
 {}
 
-/// Ends up to a place in a part of a text are those before the part and those up to the place in it.
-/// For lines no CR LF may be cut at either side of the part.
+/// Ends up to a place in a part of a text are those before the part and those up to the place in
+/// it. For lines no CR LF may be cut at either side of the part.
 pub fn ends_of_a_part()
     ensures chars { EndsAddUp AnyTexts length char_ends }
     ensures units { EndsAddUp AnyTexts units unit_ends }
-    ensures lines { (is_break : ℕ → Bool) → EndsAddUp NoCrLfBetween (breaks is_break) (break_ends is_break) }
+    ensures lines { (is_break : ℕ → Bool)
+        → EndsAddUp NoCrLfBetween (breaks is_break) (break_ends is_break) }
 {}
 
-/// The place of an end in a part of a text is its place in the part, past the bytes before the part.
-/// For lines no CR LF may be cut at either side of the part.
+/// The place of an end in a part of a text is its place in the part, past the bytes before the
+/// part. For lines no CR LF may be cut at either side of the part.
 pub fn places_of_a_part()
     ensures chars { PlacesAddUp AnyTexts length char_ends }
     ensures units { UnitStartsAddUp }
-    ensures lines { (is_break : ℕ → Bool) → PlacesAddUp NoCrLfBetween (breaks is_break) (break_ends is_break) }
+    ensures lines { (is_break : ℕ → Bool)
+        → PlacesAddUp NoCrLfBetween (breaks is_break) (break_ends is_break) }
 {}

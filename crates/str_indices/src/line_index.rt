@@ -53,7 +53,7 @@ pub(crate) fn first_break<M: BreakMeasure>(text: &str) -> Option<Range<usize>>
     ensures first { IfSome result (λ at. IsFirstBreak M.is_break text.now at.start at.end) }
 {
     let bytes = text.as_bytes();
-    let last = uncounted::find_past::<M>(bytes, 0);
+    let last = uncounted::find_first::<M>(bytes);
     if last >= bytes.len() {
         return None;
     }

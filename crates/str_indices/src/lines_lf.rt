@@ -1,8 +1,8 @@
 //! Lines by LF alone, as the Rust crate `str_indices` counts them. A CR before an LF is part of the
 //! line.
 //!
-//! Each call takes `O(n)` for a text of n bytes, by 16 bytes at a time, and no memory. Every index has
-//! an answer.
+//! Each call takes `O(n)` for a text of n bytes, by 16 bytes at a time, and no memory. Every index
+//! has an answer.
 
 ghost use Rattle.std.specs.Prelude.{◌≡◌, ◌+◌, ◌≤◌, ◌↔◌, min, length, IsNone, IfSome};
 ghost use Rattle.std.specs.Str.{chars};
@@ -44,8 +44,9 @@ pub fn to_byte_idx(text: &str, line_idx: usize) -> usize
 /// The bytes of the first break: from where the first line's text ends to where the second line
 /// starts. `None` exactly where there is no break. `O(n)`, up to that break.
 ///
-/// Both ends are character boundaries, so a caller may cut the text there. The breaks of what follows
-/// are the other breaks of the text (`laws::breaks_behind_the_first`). This call is this crate's own.
+/// Both ends are character boundaries, so a caller may cut the text there. The breaks of what
+/// follows are the other breaks of the text (`laws::breaks_behind_the_first`). This call is this
+/// crate's own.
 pub fn first_break(text: &str) -> Option<Range<usize>>
     ensures none { IsNone result ↔ (breaks is_lf_break (chars text.now) ≡ 0) }
     ensures first { IfSome result (λ at. IsFirstBreak is_lf_break text.now at.start at.end) }
@@ -53,8 +54,8 @@ pub fn first_break(text: &str) -> Option<Range<usize>>
     line_index::first_break::<LfBreaks>(text)
 }
 
-/// `count_breaks` by chunks of any type, with at least the first `leading` bytes one by one. `turns`
-/// counts the turns of loops that look at one byte.
+/// `count_breaks` by chunks of any type, with at least the first `leading` bytes one by one.
+/// `turns` counts the turns of loops that look at one byte.
 pub fn count_breaks_impl<C: ByteChunk>(text: &str, leading: usize, turns: &mut Counter) -> usize
     ensures count { result ≡ breaks is_lf_break (chars text.now) }
     ensures one_by_one { turns.old + min leading (length text.now) ≤ turns.new }

@@ -20,7 +20,8 @@ pub(crate) trait Measure {
     fn chunk_weights<C: ByteChunk>(bytes: &[u8], at: usize) -> C
         requires before { 2 ≤ at }
         requires after { at + C.SIZE < length bytes.now }
-        ensures { HasLanes C.SIZE (C.lanes result) (λ i. slice_index (weights bytes.now) (at + i)) };
+        ensures { HasLanes C.SIZE (C.lanes result)
+            (λ i. slice_index (weights bytes.now) (at + i)) };
 
     ghost weights_len: { (bytes : List ℕ) → length (weights bytes) ≡ length bytes };
 

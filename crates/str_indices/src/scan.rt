@@ -2,11 +2,13 @@
 //! them.
 
 ghost use Rattle.std.specs.Prelude.{◌≡◌, ◌⊎◌, ◌+◌, ◌-◌, ◌*◌, ◌<◌, ◌≤◌, min, length, sum, take};
+ghost use Rattle.std.specs.ControlFlow.{ForBreak, ForContinue};
 ghost use Rattle.str_indices.specs.Bytes.{IsFirstPast};
 
 use crate::byte_chunk::ByteChunk;
 use crate::measure::Measure;
 use counters::Counter;
+use std::ops::ControlFlow;
 
 /// How many chunks are summed at a time where a search may have to go back to the first of them.
 const SEARCH_ROUND: usize = 16;
@@ -197,4 +199,72 @@ pub(crate) fn find_past<M: Measure, C: ByteChunk>(
     let (count, at) = skip_chunks::<M, C>(bytes, k, count, at, 1);
     let (_, at) = skip_bytes::<M>(bytes, k, count, at, end, turns);
     at
+}
+
+/// Looks for a byte that counts, one by one from `from` to `end`: `Break` with the first such byte,
+/// or `Continue` with `end`.
+fn search_bytes<M: Measure>(bytes: &[u8], from: usize, end: usize) -> ControlFlow<usize, usize>
+    requires order { from ≤ end }
+    requires within { end ≤ length bytes.now }
+    requires none { sum (take from (M.weights bytes.now)) ≡ 0 }
+    ensures found { ForBreak result (IsFirstPast (M.weights bytes.now) 0) }
+    ensures none { ForContinue result (λ at. sum (take at (M.weights bytes.now)) ≡ 0) }
+    ensures end { ForContinue result (λ at. at ≡ end) }
+{
+    for at in from..end {
+        if M::weight(bytes, at) > 0 {
+            return ControlFlow::Break(at);
+        }
+    }
+    ControlFlow::Continue(end)
+}
+
+/// Looks for a byte that counts, by chunks from `from` on: `Break` with the first such byte, or
+/// `Continue` with the place after the last chunk.
+#[inline(always)]
+fn search_chunks<M: Measure, C: ByteChunk>(bytes: &[u8], from: usize) -> ControlFlow<usize, usize>
+    requires before { min 2 (length bytes.now) ≤ from }
+    requires within { from ≤ length bytes.now }
+    requires none { sum (take from (M.weights bytes.now)) ≡ 0 }
+    ensures found { ForBreak result (IsFirstPast (M.weights bytes.now) 0) }
+    ensures none { ForContinue result (λ at. sum (take at (M.weights bytes.now)) ≡ 0) }
+    ensures low { ForContinue result (λ at. from ≤ at) }
+    ensures high { ForContinue result (λ at. at ≤ length bytes.now) }
+{
+    let last = bytes.len().saturating_sub(1);
+    let mut at = from;
+    while C::SIZE <= last.saturating_sub(at) {
+        let lane = M::chunk_weights::<C>(bytes, at).first_nonzero();
+        if lane < C::SIZE {
+            return ControlFlow::Break(at + lane);
+        }
+        at += C::SIZE;
+    }
+    ControlFlow::Continue(at)
+}
+
+/// Looks for a byte that counts: `Break` with the first one, or `Continue` with the length.
+#[inline(always)]
+fn search<M: Measure, C: ByteChunk>(bytes: &[u8]) -> ControlFlow<usize, usize>
+    ensures found { ForBreak result (IsFirstPast (M.weights bytes.now) 0) }
+    ensures none { ForContinue result (λ at. sum (take at (M.weights bytes.now)) ≡ 0) }
+    ensures end { ForContinue result (λ at. at ≡ length bytes.now) }
+{
+    let end = bytes.len();
+    let at = search_bytes::<M>(bytes, 0, end.min(2))?;
+    let at = search_chunks::<M, C>(bytes, at)?;
+    // Of what is left, less than a chunk, eight bytes may still go at once.
+    let at = search_chunks::<M, usize>(bytes, at)?;
+    search_bytes::<M>(bytes, at, end)
+}
+
+/// The first byte that counts, or the length: `find_past` for 0. Such a byte is often near, so each
+/// chunk is tested by itself.
+#[inline(always)]
+pub(crate) fn find_first<M: Measure, C: ByteChunk>(bytes: &[u8]) -> usize
+    ensures { IsFirstPast (M.weights bytes.now) 0 result }
+{
+    match search::<M, C>(bytes) {
+        ControlFlow::Break(at) | ControlFlow::Continue(at) => at,
+    }
 }

@@ -24,3 +24,10 @@ pub(crate) fn find_past<M: Measure>(bytes: &[u8], k: usize) -> usize
     let mut turns = Counter::new();
     scan::find_past::<M, Chunk>(bytes, k, 0, &mut turns)
 }
+
+/// The first byte that counts, or the length.
+pub(crate) fn find_first<M: Measure>(bytes: &[u8]) -> usize
+    ensures { IsFirstPast (M.weights bytes.now) 0 result }
+{
+    scan::find_first::<M, Chunk>(bytes)
+}

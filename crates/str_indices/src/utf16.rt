@@ -2,8 +2,8 @@
 //! `count_surrogates`, `from_byte_idx` and `to_byte_idx`. A character takes two units, a surrogate
 //! pair, from U+10000 on, and else one. Language servers count columns in them.
 //!
-//! Each call takes `O(n)` for a text of n bytes, by 16 bytes at a time, and no memory. Every index has
-//! an answer.
+//! Each call takes `O(n)` for a text of n bytes, by 16 bytes at a time, and no memory. Every index
+//! has an answer.
 
 ghost use Rattle.std.specs.Prelude.{◌≡◌, ◌+◌, ◌≤◌, min, length, slice_index_or};
 ghost use Rattle.std.specs.Str.{chars};
@@ -39,11 +39,11 @@ pub fn from_byte_idx(text: &str, byte_idx: usize) -> usize
     char_index::from_byte_idx::<Utf16Units>(text, byte_idx)
 }
 
-/// The byte index at which the character starts that holds a code unit, units counted from 0. `O(n)`,
-/// up to that character.
+/// The byte index at which the character starts that holds a code unit, units counted from 0.
+/// `O(n)`, up to that character.
 ///
-/// Both units of a pair answer the start of their character. An index past the last unit answers the
-/// text's length.
+/// Both units of a pair answer the start of their character. An index past the last unit answers
+/// the text's length.
 pub fn to_byte_idx(text: &str, utf16_idx: usize) -> usize
     ensures { result ≡ slice_index_or (unit_starts (chars text.now)) utf16_idx
         (length text.now) }
@@ -51,8 +51,8 @@ pub fn to_byte_idx(text: &str, utf16_idx: usize) -> usize
     char_index::to_byte_idx::<Utf16Units>(text, utf16_idx)
 }
 
-/// `count_surrogates` by chunks of any type, with at least the first `leading` bytes one by one. `turns`
-/// counts the turns of loops that look at one byte.
+/// `count_surrogates` by chunks of any type, with at least the first `leading` bytes one by one.
+/// `turns` counts the turns of loops that look at one byte.
 pub fn count_surrogates_impl<C: ByteChunk>(text: &str, leading: usize, turns: &mut Counter) -> usize
     ensures count { result ≡ surrogate_pairs (chars text.now) }
     ensures one_by_one { turns.old + min leading (length text.now) ≤ turns.new }

@@ -62,7 +62,8 @@ fn first_line(rt: HostRuntime) {
     }
 }
 
-/// A kernel by chunks of 16 bytes, with the first 3 bytes one by one. Only a contract reads `turns`.
+/// A kernel by chunks of 16 bytes, with the first 3 bytes one by one. Only a contract reads
+/// `turns`.
 #[test]
 fn kernel(rt: HostRuntime) {
     let mut turns = Counter::new();
@@ -77,4 +78,14 @@ fn kernel(rt: HostRuntime) {
 fn lanes(rt: HostRuntime) {
     let chunk = usize::load("a\nbc\n\nde".as_bytes(), 0);
     assert_eq!(rt; chunk.cmp_eq_byte(b'\n'), 0x0000_0101_0000_0100);
+    assert_eq!(rt; chunk.cmp_eq_byte(b'\n').first_nonzero(), 1);
+    assert_eq!(rt; chunk.cmp_eq_byte(b'\r').first_nonzero(), usize::SIZE);
+}
+
+/// The first tab of sixteen bytes.
+#[test]
+fn first_lane(rt: HostRuntime) {
+    let chunk = Chunk::load("name\t\tvalue\tunit".as_bytes(), 0);
+    assert_eq!(rt; chunk.cmp_eq_byte(b'\t').first_nonzero(), 4);
+    assert_eq!(rt; chunk.cmp_eq_byte(b'\n').first_nonzero(), Chunk::SIZE);
 }

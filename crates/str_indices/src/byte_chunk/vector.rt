@@ -82,4 +82,14 @@ impl ByteChunk for u8x16 {
     fn sum_bytes(self) -> usize {
         self.cast::<u16>().strict_reduce_sum() as usize
     }
+
+    #[inline(always)]
+    fn first_nonzero(self) -> usize {
+        let mask = self.simd_ne(Simd::splat(0)).to_bitmask();
+        if mask == 0 {
+            Self::SIZE
+        } else {
+            mask.trailing_zeros() as usize
+        }
+    }
 }

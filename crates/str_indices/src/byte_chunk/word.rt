@@ -27,12 +27,13 @@ fn low_bits(word: usize) -> usize
 
 /// 1 in each byte that is at least a limit of up to 128, and 0 in the others.
 ///
-/// What the limit lacks to 128 carries the lower seven bits into the highest one exactly if they reach
-/// the limit, and never past it.
+/// What the limit lacks to 128 carries the lower seven bits into the highest one exactly if they
+/// reach the limit, and never past it.
 #[inline(always)]
 fn at_least_low(word: usize, limit: u8) -> usize
     requires { limit ≤ 128 }
-    ensures { MarksLanes 8 (low_bytes 8 result) (λ i. nat_le limit (slice_index (low_bytes 8 word) i)) }
+    ensures { MarksLanes 8 (low_bytes 8 result)
+        (λ i. nat_le limit (slice_index (low_bytes 8 word) i)) }
 {
     let high = high_bits(word);
     let carried = high_bits(low_bits(word).add(usize::splat(128 - limit)));
@@ -43,7 +44,8 @@ fn at_least_low(word: usize, limit: u8) -> usize
 #[inline(always)]
 fn at_least_high(word: usize, limit: u8) -> usize
     requires { 128 < limit }
-    ensures { MarksLanes 8 (low_bytes 8 result) (λ i. nat_le limit (slice_index (low_bytes 8 word) i)) }
+    ensures { MarksLanes 8 (low_bytes 8 result)
+        (λ i. nat_le limit (slice_index (low_bytes 8 word) i)) }
 {
     let high = high_bits(word);
     let carried = high_bits(low_bits(word).add(usize::splat(255 - limit + 1)));
@@ -52,7 +54,8 @@ fn at_least_high(word: usize, limit: u8) -> usize
 
 #[inline(always)]
 fn at_least(word: usize, limit: u8) -> usize
-    ensures { MarksLanes 8 (low_bytes 8 result) (λ i. nat_le limit (slice_index (low_bytes 8 word) i)) }
+    ensures { MarksLanes 8 (low_bytes 8 result)
+        (λ i. nat_le limit (slice_index (low_bytes 8 word) i)) }
 {
     if limit <= 128 {
         at_least_low(word, limit)
@@ -138,5 +141,10 @@ impl ByteChunk for usize {
             + f as usize
             + g as usize
             + h as usize
+    }
+
+    #[inline(always)]
+    fn first_nonzero(self) -> usize {
+        self.trailing_zeros() as usize / 8
     }
 }
