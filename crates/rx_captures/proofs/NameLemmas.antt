@@ -32,7 +32,7 @@ past_end names zero lt = refl
 past_end names (suc k) lt = ap (λ o. unwrap_or o None) (slice_get_past names k (omega (arith, lt)))
 
 pub none_past_end : (groups : List (Option (String Global))) (g : ℕ) → length groups < g → name_among (names_of groups) g ≡ None
-none_past_end groups g lt = past_end (names_of groups) g (omega (arith, lt, length-map (option_map string_bytes) groups))
+none_past_end groups g lt = past_end (names_of groups) g (omega (arith, lt, length-map groups (option_map string_bytes)))
 
 -- the names of the i-th pattern's groups
 pub named_groups-at : (patterns : List (Vec (Option (String Global)) Global)) (i : ℕ) (pattern : Vec (Option (String Global)) Global) → i < length patterns

@@ -9,7 +9,7 @@ use Rattle.rx_captures.proofs.captures.GroupInfo.new.Goals as goal
 further_len : (patterns : List (Vec (Option (String Global)) Global)) (i len : ℕ) (pattern : Vec (Option (String Global)) Global) → i < length patterns
     → pattern ≡ get_or patterns i pattern → len ≡ pattern.len → len ≡ length (get_or (named_groups patterns) i [])
 further_len patterns i len pattern lt is same =
-    omega (arith, same, pattern.ok.0, length-map (option_map string_bytes) pattern.items, ap length (named_groups-at patterns i pattern lt is))
+    omega (arith, same, pattern.ok.0, length-map pattern.items (option_map string_bytes), ap length (named_groups-at patterns i pattern lt is))
 
 pub overflow_add-slot_len : goal.overflow_add-slot_len
 overflow_add-slot_len c =
@@ -19,7 +19,7 @@ overflow_add-slot_len c =
     let lt = subst (λ (xs : List (Vec (Option (String Global)) Global)). i < length xs) here c.loop-pattern-test.true in
     let is = subst (λ (xs : List (Vec (Option (String Global)) Global)). c.pattern-item.result ≡ get_or xs i c.pattern-item.result) here c.pattern-item.is in
     omega (arith, c.requires.fits, further_len patterns i c.len.result c.pattern-item.result lt is c.len.ensures,
-        next_within (named_groups patterns) i c.loop-pattern.invariant (omega (arith, lt, length-map (λ (pattern : Vec (Option (String Global)) Global). names_of pattern.items) patterns)))
+        next_within (named_groups patterns) i c.loop-pattern.invariant (omega (arith, lt, length-map patterns (λ (pattern : Vec (Option (String Global)) Global). names_of pattern.items))))
 
 pub loop-pattern-preserved : goal.loop-pattern-preserved
 loop-pattern-preserved c =
@@ -29,4 +29,4 @@ loop-pattern-preserved c =
     let lt = subst (λ (xs : List (Vec (Option (String Global)) Global)). i < length xs) here c.loop-pattern-test.true in
     let is = subst (λ (xs : List (Vec (Option (String Global)) Global)). c.pattern-item.result ≡ get_or xs i c.pattern-item.result) here c.pattern-item.is in
     rw (c.in_ok-push.ensures.items, further_len patterns i c.len.result c.pattern-item.result lt is c.len.ensures)
-        (AreStartsUpTo-more (named_groups patterns) i c.loop-pattern.invariant (omega (arith, lt, length-map (λ (pattern : Vec (Option (String Global)) Global). names_of pattern.items) patterns)))
+        (AreStartsUpTo-more (named_groups patterns) i c.loop-pattern.invariant (omega (arith, lt, length-map patterns (λ (pattern : Vec (Option (String Global)) Global). names_of pattern.items))))
