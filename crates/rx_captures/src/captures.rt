@@ -219,7 +219,8 @@ impl GroupInfo {
 }
 
 /// What a search notes: the pattern that matches, and in slots where its groups match. Contracts see
-/// the groups, the pattern, and for each slot a place, which is a byte index, or none.
+/// the groups, the pattern, and for each slot a place, which is a byte index, or none. There are at most
+/// as many slots as the groups have.
 #[derive(Debug, Drop)]
 pub struct Captures {
     group_info: GroupInfo,
@@ -228,11 +229,15 @@ pub struct Captures {
 }
 
 impl Model for Captures {
+    ghost use Rattle.std.specs.Prelude.{◌≤◌, length};
+    ghost use Rattle.rx_captures.specs.Groups.{slot_len};
     ghost use Rattle.rx_captures.specs.Captured.{Captured};
 
     ghost Value = { Captured };
 
     ghost view = { λ caps. record { groups = caps.group_info; pattern = caps.pattern; slots = caps.slots.items } };
+
+    ghost invariant = { λ caps. length caps.slots.items ≤ slot_len caps.group_info };
 }
 
 impl Captures {
@@ -247,6 +252,7 @@ impl Captures {
         group_info: &GroupInfo,
         len: usize,
     ) -> Result<Captures, MatchError>
+        requires few { len ≤ slot_len group_info.now }
         ensures made { IfOk result (λ caps. caps ≡ nothing_noted group_info.now len) }
         ensures refused { IfErr result (λ error. error ≡ MatchError.Memory) }
     {
@@ -351,6 +357,7 @@ impl Captures {
     pub fn slots_mut(&mut self) -> &mut [Option<NonMaxUsize>]
         ensures* writes_back { sem 𝓛 (LendsSlots self.entry result) }
         ensures slots { result.now ≡ self.old.slots }
+        ensures few { length self.old.slots ≤ slot_len self.old.groups }
     {
         self.slots.as_mut_slice()
     }
