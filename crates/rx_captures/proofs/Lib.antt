@@ -1,0 +1,3 @@
+pub mod SparseSetLemmas
+pub mod SlotLemmas
+pub mod NameLemmas
