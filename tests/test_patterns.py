@@ -5,7 +5,7 @@ from harness import MEMORY_PROGRAM, differences, end_of, example_rows, start, te
 
 NODE = re.compile(
     r"(?P<empty>Empty)|Set\(CharacterSet \{ ranges: \[(?P<ranges>.*?)\] \}\)|Look\((?P<look>\w+)\)"
-    r"|Group\((?P<number>\d+), (?:None|Some\(\[(?P<name>.*?)\]\))\)|(?P<row>Concat|Alternation)\((?P<count>\d+)\)"
+    r"|Group\((?P<number>\d+), (?:None|Some\("(?P<name>.*?)"\))\)|(?P<row>Concat|Alternation)\((?P<count>\d+)\)"
     r"|Repeat\(Repetition \{ min: (?P<min>\d+), max: (?:None|Some\((?P<max>\d+)\)), greedy: (?P<greedy>\w+) \}\)"
 )
 
@@ -32,8 +32,8 @@ def tree_of(out):
         inside = ", ".join(trees[len(trees) - below :])
         del trees[len(trees) - below :]
         if node["number"]:
-            name = "".join(re.findall(r"'(.)'", node["name"] or ""))
-            trees.append(f"Group {node['number']}{' ' + name if name else ''}({inside})")
+            name = f" {node['name']}" if node["name"] else ""
+            trees.append(f"Group {node['number']}{name}({inside})")
         elif node["min"]:
             lazy = "" if node["greedy"] == "true" else "?"
             trees.append(f"Repeat{{{node['min']},{node['max'] or ''}}}{lazy}({inside})")

@@ -2,7 +2,7 @@
 use Rattle.std.proofs.Common.{◌≡◌, ℕ, List, ◌∷◌, refl, sym, subst}
 use Rattle.rx_grammar.specs.Settings.{Settings}
 use Rattle.rx_grammar.specs.Trees.{Tree}
-use Rattle.rx_grammar.specs.Classes.{NoClass}
+use Rattle.rx_grammar.specs.Readers.{NoClass}
 use Rattle.rx_grammar.specs.Grammar.{is_literal, PlainAtom, literal, dot, caret, dollar, escape, class}
 use Rattle.rx_grammar.specs.Atoms.{ClassAtom, NoEscape, NoPlainAtom}
 use Rattle.rx_grammar.proofs.InputLemmas.{rest_is, apart, told_apart}

@@ -7,7 +7,8 @@ use Rattle.rx_sets.specs.declared.items.ClassItem.{ClassItem}
 use Rattle.rx_sets.specs.declared.items.ClassItem.TheVariants.{Span, Perl}
 use Rattle.rx_grammar.specs.Input.{Begins}
 use Rattle.rx_grammar.specs.Escapes.{NumberAfter, unbraced, braced, EscapedCharacter, control, itself as escaped_itself, two_digits, four_digits, perl_letter}
-use Rattle.rx_grammar.specs.Classes.{is_class_literal, NoLetterClass, NoItem, NoItems, NoClassBody, NoClass, ItemsAfter, RangeGoesOn, ClassCharacter, itself, escaped, GoesOnAsRange, OneItem, character, range, letter_class, ClassItems, closed, last_hyphen, further, ClassBody, bracket_first, hyphen_first, other_first, Class, plain, negation}
+use Rattle.rx_grammar.specs.Classes.{is_class_literal, ClassCharacter, itself, escaped, GoesOnAsRange, OneItem, character, range, letter_class, ClassItems, closed, last_hyphen, further, ClassBody, bracket_first, hyphen_first, other_first, Class, plain, negation}
+use Rattle.rx_grammar.specs.Readers.{NoLetterClass, NoItem, NoItems, NoClassBody, NoClass, ItemsAfter, RangeGoesOn}
 use Rattle.rx_grammar.proofs.InputLemmas.{first_is, rest_is, apart, told_apart, Begins-from}
 use Rattle.rx_grammar.proofs.EscapeLaws.{escape_unique, perl_letter-unique, perl_letter-no_character}
 

@@ -137,14 +137,6 @@ perl_letter-no_escapable Space false = refl
 perl_letter-no_escapable Word true = refl
 perl_letter-no_escapable Word false = refl
 
-perl_letter-no_number_letter : (k : ClassPerlKind) (n : Bool) → is_number_letter (perl_letter k n) ≡ false
-perl_letter-no_number_letter Digit true = refl
-perl_letter-no_number_letter Digit false = refl
-perl_letter-no_number_letter Space true = refl
-perl_letter-no_number_letter Space false = refl
-perl_letter-no_number_letter Word true = refl
-perl_letter-no_number_letter Word false = refl
-
 perl_letter-not_120 : (k : ClassPerlKind) (n : Bool) → (120 == perl_letter k n) ≡ false
 perl_letter-not_120 Digit true = refl
 perl_letter-not_120 Digit false = refl

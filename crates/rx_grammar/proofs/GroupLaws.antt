@@ -1,14 +1,17 @@
 -- What opens a group, and a setting, have one reading.
-use Rattle.std.proofs.Common.{◌≡◌, ℕ, ◌≤◌, ◌==◌, ◌||◌, Bool, true, false, List, [], ◌∷◌, ◌++◌, length, map, Some, refl, sym, ap, ap₂, subst, ◌∙◌, arith}
+use Rattle.std.proofs.Common.{◌≡◌, ℕ, ◌≤◌, ◌<◌, encode_utf8_all, ◌==◌, ◌||◌, Bool, true, false, List, [], ◌∷◌, ◌++◌, length, map, Some, refl, sym, ap, ap₂, subst, ◌∙◌, arith}
 use Rattle.std.proofs.lemmas.Bool.{eqb-false, or_left}
+use Rattle.std.proofs.lemmas.Bool.Decides.{nat_tests}
+use Rattle.std.proofs.lemmas.Str.{encode_ascii}
 use Rattle.std.specs.List.{AllByRecursion}
 use Rattle.rx_grammar.specs.declared.flags.Flag.{Flag}
 use Rattle.rx_grammar.specs.declared.flags.Flag.TheVariants.{CaseInsensitive, MultiLine, DotMatchesNewLine, SwapGreed}
 use Rattle.rx_grammar.specs.Settings.{Settings, letter_of}
 use Rattle.rx_grammar.specs.Trees.{Name}
-use Rattle.rx_grammar.specs.Input.{Begins, passes}
+use Rattle.rx_grammar.specs.Input.{Begins}
+use Rattle.rx_grammar.specs.Readers.{passes}
 use Rattle.rx_grammar.specs.declared.input.CharacterTest.TheVariants.{NameCharacter}
-use Rattle.rx_grammar.specs.Groups.{is_flag_letter, FlagLetters, Flags, turning_on, turning_off, flagged, Setting, setting, IsName, Capture, numbered, Opening, plain, without_number, with_name, with_short_name, changing}
+use Rattle.rx_grammar.specs.Groups.{is_flag_letter, FlagLetters, Flags, turning_on, turning_off, flagged, Setting, setting, is_name_character, IsName, Capture, numbered, Opening, plain, without_number, with_name, with_short_name, changing}
 use Rattle.rx_grammar.proofs.InputLemmas.{first_is, rest_is, apart, told_apart, Begins-from, fronts}
 
 pub letter_of-passes : (flag : Flag) → is_flag_letter (letter_of flag) ≡ true
@@ -160,3 +163,15 @@ opening_begins (without_number e) = Begins-from e
 opening_begins (with_name e close is) = Begins-from e
 opening_begins (with_short_name e close is) = Begins-from e
 opening_begins (changing e flags close) = Begins-from e
+
+-- the characters of a name are ASCII
+name_character-ascii : (c : ℕ) → is_name_character c ≡ true → c < 128
+name_character-ascii c is = grind (arith, nat_tests)
+
+characters_bytes : (cs : List ℕ) → AllByRecursion (λ c. is_name_character c ≡ true) cs → encode_utf8_all cs ≡ cs
+characters_bytes [] all = refl
+characters_bytes (c ∷ cs) all = ap₂ (λ x y. x ++ y) (encode_ascii c (name_character-ascii c all.0)) (characters_bytes cs all.1)
+
+pub name_bytes : (name : Name) → IsName name → encode_utf8_all name ≡ name
+name_bytes [] is = absurd is
+name_bytes (c ∷ cs) is = characters_bytes (c ∷ cs) is.1

@@ -8,7 +8,8 @@ use Rattle.rx_grammar.specs.declared.flags.Flag.{Flag}
 use Rattle.rx_grammar.specs.declared.flags.Flag.TheVariants.{CaseInsensitive, MultiLine, DotMatchesNewLine, SwapGreed}
 use Rattle.rx_grammar.specs.Settings.{Settings, letter_of}
 use Rattle.rx_grammar.specs.Trees.{Name}
-use Rattle.rx_grammar.specs.Input.{Begins, Stops, SplitsFront, passes}
+use Rattle.rx_grammar.specs.Input.{Begins, Stops}
+use Rattle.rx_grammar.specs.Readers.{SplitsFront, passes}
 use Rattle.rx_grammar.specs.declared.input.CharacterTest.TheVariants.{NameCharacter}
 use Rattle.rx_grammar.specs.Groups.{is_flag_letter, FlagLetters, Flags, turning_on, turning_off, flagged, Setting, setting, is_name_start, IsName, Capture, numbered, unnumbered, Opening, plain, without_number, with_name, with_short_name, changing}
 use Rattle.rx_grammar.specs.Heads.{FlagsAfter, NoFlagsAfter, NoFlagLetter, FlagsChange, NoFlags, NoName, NameOpening, NoNameOpening, NoHead}

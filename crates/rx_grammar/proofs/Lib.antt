@@ -11,9 +11,12 @@ pub mod AtomLaws
 pub mod NameLaws
 pub mod NumberLaws
 pub mod ResumeLaws
+pub mod LimitLaws
 pub mod PatternLaws
+pub mod OutcomeLaws
 pub mod ShorterLaws
 pub mod StackLaws
 pub mod PlaceLaws
 pub mod SubtreeLaws
+pub mod RowLaws
 pub mod WellFormedLaws

@@ -106,19 +106,19 @@ NamesSoFar-twice {names = names} {name = name} nodes i node so_far lt is own fou
     ∙ flat_map-append own_names (map kind_of (take (i + 1) nodes)) (map kind_of (drop (i + 1) nodes)) ∙ ap (λ x. x ++ later) front ∙ append_assoc names (name ∷ []) later in
     AllPairs-behind names later name found.0 name found.1 found.2 (subst (λ l. AllPairs (λ a b. a ≢ b) l) split once)
 
--- a name among names that are kept otherwise
-pub found_at : {B : Type 0} (f : B → Name) (xs : List B) (i : ℕ) (d : B) (name : Name) → i < length xs → f (get_or xs i d) ≡ name → Contains (map f xs) name
+-- something among things that are kept otherwise
+pub found_at : {A B : Type 0} (f : B → A) (xs : List B) (i : ℕ) (d : B) (name : A) → i < length xs → f (get_or xs i d) ≡ name → Contains (map f xs) name
 found_at f xs i d name lt is = (i, within, get_or-map f xs i d name lt ∙ is)
   where
     within : i < length (map f xs)
     within = simp length-map (omega (arith, lt))
 
-pub none_more : {B : Type 0} (f : B → Name) (xs : List B) (i : ℕ) (d : B) (name : Name) → i < length xs → All (λ other. other ≢ name) (map f (take i xs)) → (f (get_or xs i d) ≡ name → ⊥)
+pub none_more : {A B : Type 0} (f : B → A) (xs : List B) (i : ℕ) (d : B) (name : A) → i < length xs → All (λ other. other ≢ name) (map f (take i xs)) → (f (get_or xs i d) ≡ name → ⊥)
     → All (λ other. other ≢ name) (map f (take (i + 1) xs))
-none_more f xs i d name lt none other =
+none_more {A = A} f xs i d name lt none other =
     let within : i < length (map f xs) = simp length-map (omega (arith, lt)) in
     subst (λ l. All (λ other. other ≢ name) l) (take-map f (i + 1) xs)
     (All-more (λ other. other ≢ name) (map f xs) i name within (subst (λ l. All (λ other. other ≢ name) l) (sym (take-map f i xs)) none) (λ e. other (sym (get_or-map f xs i d name lt) ∙ e)))
 
-pub none_all : {B : Type 0} (f : B → Name) (xs : List B) (i : ℕ) (name : Name) → length xs ≤ i → All (λ other. other ≢ name) (map f (take i xs)) → All (λ other. other ≢ name) (map f xs)
+pub none_all : {A B : Type 0} (f : B → A) (xs : List B) (i : ℕ) (name : A) → length xs ≤ i → All (λ other. other ≢ name) (map f (take i xs)) → All (λ other. other ≢ name) (map f xs)
 none_all f xs i name over none = subst (λ l. All (λ other. other ≢ name) (map f l)) (take_all i xs over) none

@@ -6,7 +6,8 @@ use Rattle.rx_grammar.specs.declared.hir.Node.{Node}
 use Rattle.rx_grammar.specs.Settings.{Settings}
 use Rattle.rx_grammar.specs.Trees.{Tree, in_a_row, concat_of, alternation_of, numbers_of, all_numbers_of}
 use Rattle.rx_grammar.specs.Subtrees.{NodeKind, an_empty, a_set, a_look, a_group, a_concat, an_alternation, a_repetition}
-use Rattle.rx_grammar.specs.Postorder.{alternate, after_node, after_nodes, trees_of, own_groups}
+use Rattle.rx_grammar.specs.Postorder.{alternate, after_node, after_nodes, trees_of}
+use Rattle.rx_grammar.specs.Rows.{own_groups}
 use Rattle.rx_grammar.specs.Nodes.{kind_of}
 use Rattle.rx_grammar.specs.Repetitions.{Postfixes, ended as no_more, further}
 use Rattle.rx_grammar.specs.Groups.{numbered, unnumbered}

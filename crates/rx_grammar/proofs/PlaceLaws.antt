@@ -1,5 +1,5 @@
 -- How the parser's place goes on with what it reads.
-use Rattle.std.proofs.Common.{◌≡◌, ℕ, ◌+◌, ◌≤◌, ◌<◌, Bool, List, [], ◌∷◌, ◌++◌, length, reverse, max, Result, Ok, Err, MatchResult, IsErrAnd, refl, sym, ap, subst, ◌∙◌, arith, length-append}
+use Rattle.std.proofs.Common.{◌≡◌, ℕ, ◌+◌, ◌≤◌, ◌<◌, List, [], ◌∷◌, ◌++◌, length, reverse, min, max, ◌-◌, ◌^◌, Result, Ok, Err, MatchResult, IsErrAnd, refl, sym, ap, ap₂, subst, ◌∙◌, arith, length-append}
 use Rattle.std.proofs.lemmas.List.{reverse-append, length-reverse}
 use Rattle.rx_grammar.specs.declared.error.SyntaxError.{SyntaxError}
 use Rattle.rx_grammar.specs.declared.error.SyntaxError.TheVariants.{TooLong, Nesting, Outside, Memory}
@@ -13,16 +13,16 @@ use Rattle.rx_grammar.specs.Groups.{Setting, Capture, numbered, unnumbered, Open
 use Rattle.rx_grammar.specs.Grammar.{PlainAtom, plain_atom}
 use Rattle.rx_grammar.specs.Heads.{NoHead, capture_of}
 use Rattle.rx_grammar.specs.Atoms.{NoPlainAtom}
-use Rattle.rx_grammar.specs.Stacks.{captured, IsRefusal, PostfixesTooDeep}
+use Rattle.rx_grammar.specs.Weights.{held}
+use Rattle.rx_grammar.specs.Stacks.{captured, IsRefusal, NoPostfixes}
 use Rattle.rx_grammar.specs.Resuming.{Level, OpenGroup, Place, no_level, with_item, with_branch, tree_at, Resumes, NoEnds}
 use Rattle.rx_grammar.specs.Places.{IsLevel, Surround, outermost, further, IsAt, item_at, opened_at, ItemRead, PartRead, IsAtomPlace}
 use Rattle.rx_grammar.proofs.ShorterLaws.{plain_shorter, postfixes_shorter}
-use Rattle.rx_grammar.proofs.RepetitionLaws.{postfixes_along}
-use Rattle.rx_grammar.proofs.ResumeLaws.{setting_on, setting_back, item_on, item_back, branch_on, branch_back, open_on, open_back, close_on, close_back, postfixes_deep, no_item, no_close, no_open_group, no_head, no_atom}
+use Rattle.rx_grammar.proofs.ResumeLaws.{setting_on, setting_back, item_on, item_back, branch_on, branch_back, open_on, open_back, close_on, close_back, no_item, no_close, no_open_group, no_head, no_atom}
 
 pub refusal_map : {P Q : Type 0} (e : SyntaxError) → (P → Q) → IsRefusal e P → IsRefusal e Q
 refusal_map TooLong f h = h
-refusal_map Nesting f h = f h
+refusal_map Nesting f h = h
 refusal_map Outside f h = f h
 refusal_map Memory f h = h
 
@@ -35,35 +35,38 @@ pub err_map : {T : Type 0} (P : T → Type 0) (Q : Type 0) (r : Result T SyntaxE
 err_map P Q (Ok x) h = absurd h
 err_map P Q (Err e) h = subst (λ x. IsRefusal x Q) (sym h) tt
 
+-- depths as they are kept
+pub held-max : (a b : ℕ) → max (held a) (held b) ≡ held (max a b)
+held-max a b = grind arith
+
+pub held-next : (a : ℕ) → min (held a + 1) (2 ^ 64 - 1) ≡ held (a + 1)
+held-next a = grind arith
+
 -- levels
-pub group_within : {heights : Heights} {limit : ℕ} {level : Level} {trees below : List Tree} → IsLevel heights limit level trees below → heights.group ≤ length trees
+pub group_within : {heights : Heights} {level : Level} {trees below : List Tree} → IsLevel heights level trees below → heights.group ≤ length trees
 group_within {level = level} {below = below} is =
     omega (arith, is.group_is, ap length is.trees_are, length-append (reverse level.items) (reverse level.branches ++ below), length-append (reverse level.branches) below)
 
-pub branch_within : {heights : Heights} {limit : ℕ} {level : Level} {trees below : List Tree} → IsLevel heights limit level trees below → heights.branch ≤ length trees
+pub branch_within : {heights : Heights} {level : Level} {trees below : List Tree} → IsLevel heights level trees below → heights.branch ≤ length trees
 branch_within {level = level} {below = below} is =
     omega (arith, is.branch_is, ap length is.trees_are, length-append (reverse level.items) (reverse level.branches ++ below))
 
-pub level_none : (trees : List Tree) (limit n : ℕ) → n ≡ length trees → IsLevel (record { group = n; branch = n; depth = 0 }) limit no_level trees trees
-level_none trees limit n is = record { trees_are = refl; group_is = is; branch_is = is; depth_is = refl; depth_fits = omega arith }
+pub level_none : (trees : List Tree) (n : ℕ) → n ≡ length trees → IsLevel (record { group = n; branch = n; depth = 0 }) no_level trees trees
+level_none trees n is = record { trees_are = refl; group_is = is; branch_is = is; depth_is = refl }
 
-pub level_item : {heights heights' : Heights} {limit deep : ℕ} {level : Level} {trees below : List Tree} (made : Tree) → IsLevel heights limit level trees below
-    → heights'.group ≡ heights.group → heights'.branch ≡ heights.branch → heights'.depth ≡ max heights.depth deep → deep ≤ limit
-    → IsLevel heights' limit (with_item level made deep) (made ∷ trees) below
-level_item {limit = limit} {deep = deep} {level = level} {below = below} made is group branch depth fits = record {
+pub level_item : {heights heights' : Heights} {kept : ℕ} {level : Level} {trees below : List Tree} (made : Tree) (deep : ℕ) → IsLevel heights level trees below
+    → heights'.group ≡ heights.group → heights'.branch ≡ heights.branch → heights'.depth ≡ max heights.depth kept → kept ≡ held deep
+    → IsLevel heights' (with_item level made deep) (made ∷ trees) below
+level_item {level = level} {below = below} made deep is group branch depth kept_is = record {
   trees_are = ap (λ x. made ∷ x) is.trees_are ∙ ap (λ x. x ++ (reverse level.branches ++ below)) (sym (reverse-append level.items (made ∷ [])));
   group_is = group ∙ is.group_is;
   branch_is = branch ∙ is.branch_is;
-  depth_is = depth ∙ ap (λ x. max x deep) is.depth_is;
-  depth_fits = both is.depth_fits;
+  depth_is = depth ∙ ap₂ (λ x y. max x y) is.depth_is kept_is ∙ held-max level.depth deep;
 }
-  where
-    both : level.depth ≤ limit → max level.depth deep ≤ limit
-    both within = omega (arith, within, fits)
 
-pub level_branch : {heights heights' : Heights} {limit : ℕ} {level : Level} {trees trees' below : List Tree} → IsLevel heights limit level trees below
+pub level_branch : {heights heights' : Heights} {level : Level} {trees trees' below : List Tree} → IsLevel heights level trees below
     → heights'.group ≡ heights.group → heights'.depth ≡ heights.depth → heights'.branch ≡ length trees' → trees' ≡ concat_of level.items ∷ (reverse level.branches ++ below)
-    → IsLevel heights' limit (with_branch level) trees' below
+    → IsLevel heights' (with_branch level) trees' below
 level_branch {level = level} {below = below} is group depth branch trees =
     let turned = ap (λ x. x ++ below) (sym (reverse-append level.branches (concat_of level.items ∷ []))) in
     record {
@@ -71,25 +74,24 @@ level_branch {level = level} {below = below} is group depth branch trees =
       group_is = group ∙ is.group_is;
       branch_is = branch ∙ ap length (trees ∙ turned);
       depth_is = depth ∙ is.depth_is;
-      depth_fits = is.depth_fits;
     }
 
 -- the groups around a place
-pub record Innermost (limit : ℕ) (around : Around) (arounds : List Around) (groups : List OpenGroup) (trees : List Tree) : Type 0 where
+pub record Innermost (around : Around) (arounds : List Around) (groups : List OpenGroup) (trees : List Tree) : Type 0 where
   pub group : OpenGroup
   pub others : List OpenGroup
   pub below : List Tree
   pub groups_are : groups ≡ group ∷ others
-  pub level : IsLevel around.heights limit group.level trees below
+  pub level : IsLevel around.heights group.level trees below
   pub settings : around.config ≡ group.settings
   pub number : around.number ≡ opened group.groups group.capture
   pub captures : capture_of around.captures ≡ group.capture
-  pub rest : Surround limit arounds others below
+  pub rest : Surround arounds others below
 
-pub innermost : {limit : ℕ} {around : Around} {arounds all : List Around} {groups : List OpenGroup} {trees : List Tree} → all ≡ around ∷ arounds → Surround limit all groups trees
-    → Innermost limit around arounds groups trees
+pub innermost : {around : Around} {arounds all : List Around} {groups : List OpenGroup} {trees : List Tree} → all ≡ around ∷ arounds → Surround all groups trees
+    → Innermost around arounds groups trees
 innermost e outermost = absurd (cc)
-innermost {limit = limit} {around = around} {arounds = arounds} {groups = groups} {trees = trees} e (further {group = group} {arounds = arounds'} {groups = others} {below = below} level settings number captures rest) =
+innermost {around = around} {arounds = arounds} {groups = groups} {trees = trees} e (further {group = group} {arounds = arounds'} {groups = others} {below = below} level settings number captures rest) =
     let head = first_of e in
     let tail = rest_of e in
     record {
@@ -97,11 +99,11 @@ innermost {limit = limit} {around = around} {arounds = arounds} {groups = groups
       others = others;
       below = below;
       groups_are = refl;
-      level = subst (λ x. IsLevel x.heights limit group.level trees below) head level;
+      level = subst (λ x. IsLevel x.heights group.level trees below) head level;
       settings = ap (λ x. x.config) (sym head) ∙ settings;
       number = ap (λ x. x.number) (sym head) ∙ number;
       captures = ap (λ x. capture_of x.captures) (sym head) ∙ captures;
-      rest = subst (λ x. Surround limit x others below) tail rest;
+      rest = subst (λ x. Surround x others below) tail rest;
     }
   where
     first_of : {a b : Around} {xs ys : List Around} → a ∷ xs ≡ b ∷ ys → a ≡ b
@@ -110,22 +112,22 @@ innermost {limit = limit} {around = around} {arounds = arounds} {groups = groups
     rest_of : {a b : Around} {xs ys : List Around} → a ∷ xs ≡ b ∷ ys → xs ≡ ys
     rest_of e = cc
 
-pub none_around : {limit : ℕ} {all : List Around} {groups : List OpenGroup} {trees : List Tree} → all ≡ [] → Surround limit all groups trees → groups ≡ []
+pub none_around : {all : List Around} {groups : List OpenGroup} {trees : List Tree} → all ≡ [] → Surround all groups trees → groups ≡ []
 none_around e outermost = refl
 none_around e (further level settings number captures rest) = absurd (cc)
 
-pub no_arounds : {limit : ℕ} {groups : List OpenGroup} {trees : List Tree} (items : List Around) → length items ≡ 0 → Surround limit (reverse items) groups trees → groups ≡ []
+pub no_arounds : {groups : List OpenGroup} {trees : List Tree} (items : List Around) → length items ≡ 0 → Surround (reverse items) groups trees → groups ≡ []
 no_arounds [] none surround = none_around refl surround
 no_arounds (item ∷ items) none surround = absurd (omega arith)
 
-pub some_arounds : {limit : ℕ} {groups : List OpenGroup} {trees : List Tree} (items : List Around) → (length items ≡ 0 → ⊥) → Surround limit (reverse items) groups trees → groups ≡ [] → ⊥
-some_arounds {limit = limit} {trees = trees} items some surround none = at (reverse items) (λ e. some (sym (length-reverse items) ∙ ap length e)) surround none
+pub some_arounds : {groups : List OpenGroup} {trees : List Tree} (items : List Around) → (length items ≡ 0 → ⊥) → Surround (reverse items) groups trees → groups ≡ [] → ⊥
+some_arounds {trees = trees} items some surround none = at (reverse items) (λ e. some (sym (length-reverse items) ∙ ap length e)) surround none
   where
-    at : {groups' : List OpenGroup} (all : List Around) → (all ≡ [] → ⊥) → Surround limit all groups' trees → groups' ≡ [] → ⊥
+    at : {groups' : List OpenGroup} (all : List Around) → (all ≡ [] → ⊥) → Surround all groups' trees → groups' ≡ [] → ⊥
     at [] some' found e = some' refl
     at (x ∷ xs) some' (further level settings number captures rest) e = absurd (cc)
 
-pub nothing_below : {limit : ℕ} {all : List Around} {groups : List OpenGroup} {trees : List Tree} → Surround limit all groups trees → groups ≡ [] → trees ≡ []
+pub nothing_below : {all : List Around} {groups : List OpenGroup} {trees : List Tree} → Surround all groups trees → groups ≡ [] → trees ≡ []
 nothing_below outermost e = refl
 nothing_below (further level settings number captures rest) e = absurd (cc)
 
@@ -139,86 +141,77 @@ captured_grouped number n unnumbered tree e = refl
 
 -- reads
 pub setting_read : {before after : Parser} {t u : List ℕ} {s' : Settings} (place : Place) → Setting place.settings t s' u → IsAt after [] (record place { settings = s' }) → length u < length t
-    → after.limit ≡ before.limit → after.groups ≡ before.groups → PartRead before after place t u
-setting_read {s' = s'} place one stands shorter limit groups = record {
+    → after.groups ≡ before.groups → PartRead before after place t u
+setting_read {s' = s'} place one stands shorter groups = record {
   next = record place { settings = s' };
   stands = stands;
   same = record { on = λ tree depth r. setting_on one r; back = λ tree depth r. setting_back one r };
-  limit = limit;
   shorter = shorter;
   groups = omega (arith, groups, shorter);
 }
 
 pub opening_read : {before after : Parser} {t u : List ℕ} {s' : Settings} {k : Capture} (place : Place) → Opening place.settings t s' k u → IsAt after [] (opened_at place s' k) → length u < length t
-    → after.limit ≡ before.limit → after.groups ≤ before.groups + 1 → PartRead before after place t u
-opening_read {s' = s'} {k = k} place one stands shorter limit groups = record {
+    → after.groups ≤ before.groups + 1 → PartRead before after place t u
+opening_read {s' = s'} {k = k} place one stands shorter groups = record {
   next = opened_at place s' k;
   stands = stands;
   same = record { on = λ tree depth r. open_on one r; back = λ tree depth r. open_back one r };
-  limit = limit;
   shorter = shorter;
   groups = omega (arith, groups, shorter);
 }
 
 pub branch_read : {before after : Parser} {t u : List ℕ} (place : Place) → t ≡ 124 ∷ u → IsAt after [] (record place { level = with_branch place.level })
-    → after.limit ≡ before.limit → after.groups ≡ before.groups → PartRead before after place t u
-branch_read place e stands limit groups = record {
+    → after.groups ≡ before.groups → PartRead before after place t u
+branch_read place e stands groups = record {
   next = record place { level = with_branch place.level };
   stands = stands;
   same = record { on = λ tree depth r. branch_on e r; back = λ tree depth r. branch_back e r };
-  limit = limit;
   shorter = omega (arith, ap length e);
   groups = omega (arith, groups, ap length e);
 }
 
 pub atom_read : {before middle after : Parser} {t v u : List ℕ} {h : Tree} (place : Place) → PlainAtom place.settings t h v → ItemRead middle after place h 0 v u
-    → middle.limit ≡ before.limit → middle.groups ≡ before.groups → PartRead before after place t u
-atom_read place one read limit groups = record {
+    → middle.groups ≡ before.groups → PartRead before after place t u
+atom_read place one read groups = record {
   next = item_at place read.made read.deep;
   stands = read.stands;
   same = record { on = λ tree depth r. item_on (plain_atom one) read.postfixes r; back = λ tree depth r. item_back (plain_atom one) read.postfixes r };
-  limit = read.limit ∙ limit;
   shorter = omega (arith, plain_shorter one, postfixes_shorter read.postfixes);
   groups = omega (arith, read.groups, groups, plain_shorter one, postfixes_shorter read.postfixes);
 }
 
-pub atom_refused : {t v : List ℕ} {h : Tree} {limit : ℕ} (place : Place) → PlainAtom place.settings t h v → PostfixesTooDeep place.settings.swap_greed h 0 v limit → NoEnds place t limit
-atom_refused place one none = λ tree depth r fits. no_item (plain_atom one) none r fits
+pub atom_refused : {t v : List ℕ} {h : Tree} (place : Place) → PlainAtom place.settings t h v → NoPostfixes place.settings.swap_greed h 0 v → NoEnds place t
+atom_refused place one none = λ tree depth r. no_item (plain_atom one) none r
 
-pub no_atom_here : {t : List ℕ} (limit : ℕ) (place : Place) → IsAtomPlace t → NoPlainAtom place.settings t → NoEnds place t limit
-no_atom_here limit place at none = λ tree depth r fits. no_atom at.no_group at.inside none r
+pub no_atom_here : {t : List ℕ} (place : Place) → IsAtomPlace t → NoPlainAtom place.settings t → NoEnds place t
+no_atom_here place at none = λ tree depth r. no_atom at.no_group at.inside none r
 
-pub no_head_here : {t : List ℕ} (limit : ℕ) (place : Place) → Begins 40 t → NoHead place.settings t → NoEnds place t limit
-no_head_here limit place begins none = λ tree depth r fits. no_head begins none r
+pub no_head_here : {t : List ℕ} (place : Place) → Begins 40 t → NoHead place.settings t → NoEnds place t
+no_head_here place begins none = λ tree depth r. no_head begins none r
 
 -- the place after a group
 abbrev pub behind_group : Place → OpenGroup → List OpenGroup → Place
 behind_group place group others = record { settings = group.settings; groups = place.groups; level = group.level; around = others }
 
-pub close_read : {before middle after : Parser} {v u : List ℕ} {o : OpenGroup} {os : List OpenGroup} (place : Place) (depth : ℕ) → depth ≡ place.level.depth + 1 → place.around ≡ o ∷ os
-    → ItemRead middle after (behind_group place o os) (grouped o.groups o.capture (tree_at place.level)) depth v u
-    → middle.limit ≡ before.limit → middle.groups ≡ before.groups → PartRead before after place (41 ∷ v) u
-close_read {v = v} {o = o} {os = os} place depth deep is read limit groups = record {
+pub close_read : {before middle after : Parser} {v u : List ℕ} {o : OpenGroup} {os : List OpenGroup} (place : Place) → place.around ≡ o ∷ os
+    → ItemRead middle after (behind_group place o os) (grouped o.groups o.capture (tree_at place.level)) (place.level.depth + 1) v u
+    → middle.groups ≡ before.groups → PartRead before after place (41 ∷ v) u
+close_read {v = v} {o = o} {os = os} place is read groups = record {
   next = item_at (behind_group place o os) read.made read.deep;
   stands = read.stands;
   same = record {
-    on = λ tree n r. close_on refl (postfixes_along refl (sym deep) refl read.postfixes) (subst (λ x. Resumes x place.level place.settings place.groups (41 ∷ v) tree n) is r);
-    back = λ tree n r. subst (λ x. Resumes x place.level place.settings place.groups (41 ∷ v) tree n) (sym is) (close_back refl (postfixes_along refl (sym deep) refl read.postfixes) r);
+    on = λ tree n r. close_on refl read.postfixes (subst (λ x. Resumes x place.level place.settings place.groups (41 ∷ v) tree n) is r);
+    back = λ tree n r. subst (λ x. Resumes x place.level place.settings place.groups (41 ∷ v) tree n) (sym is) (close_back refl read.postfixes r);
   };
-  limit = read.limit ∙ limit;
   shorter = omega (arith, postfixes_shorter read.postfixes);
   groups = omega (arith, read.groups, groups, postfixes_shorter read.postfixes);
 }
 
-pub close_refused : {v : List ℕ} {o : OpenGroup} {os : List OpenGroup} (limit : ℕ) (place : Place) (depth : ℕ) → depth ≡ place.level.depth + 1 → place.around ≡ o ∷ os
-    → PostfixesTooDeep o.settings.swap_greed (grouped o.groups o.capture (tree_at place.level)) depth v limit → NoEnds place (41 ∷ v) limit
-close_refused {v = v} limit place depth deep is none = λ tree n r fits.
-    no_close refl (λ g e w postfixes within. none g e w (postfixes_along refl deep refl postfixes) within) (subst (λ x. Resumes x place.level place.settings place.groups (41 ∷ v) tree n) is r) fits
+pub close_refused : {v : List ℕ} {o : OpenGroup} {os : List OpenGroup} (place : Place) → place.around ≡ o ∷ os
+    → NoPostfixes o.settings.swap_greed (grouped o.groups o.capture (tree_at place.level)) (place.level.depth + 1) v → NoEnds place (41 ∷ v)
+close_refused {v = v} place is none = λ tree n r.
+    no_close refl none (subst (λ x. Resumes x place.level place.settings place.groups (41 ∷ v) tree n) is r)
 
-pub close_unopened : (v : List ℕ) (limit : ℕ) (place : Place) → place.around ≡ [] → NoEnds place (41 ∷ v) limit
-close_unopened v limit place is = λ tree depth r fits.
+pub close_unopened : (v : List ℕ) (place : Place) → place.around ≡ [] → NoEnds place (41 ∷ v)
+close_unopened v place is = λ tree depth r.
     no_open_group refl (subst (λ x. Resumes x place.level place.settings place.groups (41 ∷ v) tree depth) is r)
-
--- postfixes are no shallower than what they stand after
-pub too_deep : {swap : Bool} {h : Tree} {d limit : ℕ} {t : List ℕ} → limit < d → PostfixesTooDeep swap h d t limit
-too_deep deeper = λ made deep u postfixes fits. absurd (omega (arith, deeper, fits, postfixes_deep postfixes))

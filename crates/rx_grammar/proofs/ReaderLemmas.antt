@@ -4,7 +4,8 @@ use Rattle.std.proofs.lemmas.Bool.{cond-true, cond-false}
 use Rattle.std.proofs.lemmas.List.{take_at, drop_at}
 use Rattle.std.specs.Char.{is_ascii_digit, is_ascii_hexdigit}
 use Rattle.rx_grammar.specs.declared.input.CharacterTest.TheVariants.{Digit, HexDigit}
-use Rattle.rx_grammar.specs.Input.{Begins, SplitsFront}
+use Rattle.rx_grammar.specs.Input.{Begins}
+use Rattle.rx_grammar.specs.Readers.{SplitsFront}
 use Rattle.rx_grammar.specs.Escapes.{control_of, is_escapable, escaped_by, SpellsScalar, NumberOfLength, NumberInBraces, NumberAfter, unbraced, braced, EscapedCharacter, control, itself, two_digits, four_digits}
 use Rattle.rx_grammar.specs.Repetitions.{decimal_after, Number}
 use Rattle.rx_grammar.proofs.InputLemmas.{first_is, rest_is, apart, told_apart, Begins-from, fronts}

@@ -75,9 +75,6 @@ count_unique (in_braces e inside) (plus e') = absurd (apart e e' refl)
 count_unique (in_braces e inside) (question e') = absurd (apart e e' refl)
 count_unique (in_braces e inside) (in_braces e' inside') = in_braces_unique inside (in_braces_along (rest_is e e') inside')
 
-count_along : {t u u' : List ℕ} {n : ℕ} {m : Option ℕ} → u ≡ u' → Count t n m u → Count t n m u'
-count_along {t = t} {n = n} {m = m} e count = subst (λ x. Count t n m x) e count
-
 pub postfix_unique : {swap : Bool} {t u u' : List ℕ} {r r' : Repetition} → Postfix swap t r u → Postfix swap t r' u' → (r ≡ r') × (u ≡ u')
 postfix_unique {swap = swap} (alone count stop) (alone count' stop') =
     let same = count_unique count count' in (ap₂ (λ n m. repetition n m (not swap)) same.0 same.1, same.2)

@@ -1,12 +1,11 @@
 -- How each part of a pattern brings the place in it further.
-use Rattle.std.proofs.Common.{◌≡◌, ℕ, ◌+◌, ◌≤◌, Bool, false, List, [], ◌∷◌, ◌++◌, append-nil, append_assoc, max, refl, sym, ap, ap₂, subst, ◌∙◌, arith}
+use Rattle.std.proofs.Common.{◌≡◌, ℕ, ◌+◌, Bool, false, List, [], ◌∷◌, ◌++◌, append-nil, append_assoc, max, refl, sym, ap, ap₂, subst, ◌∙◌, arith}
 use Rattle.std.proofs.lemmas.Bool.Decides.{nat_tests}
 use Rattle.rx_grammar.specs.Settings.{Settings}
 use Rattle.rx_grammar.specs.Trees.{Tree, concat_of, alternation_of}
 use Rattle.rx_grammar.specs.Postorder.{alternate}
 use Rattle.rx_grammar.specs.Input.{Begins, Stops}
-use Rattle.rx_grammar.specs.Repetitions.{Postfixes, Postfix}
-use Rattle.rx_grammar.specs.Repetitions as repetitions
+use Rattle.rx_grammar.specs.Repetitions.{Postfixes}
 use Rattle.rx_grammar.specs.Groups.{Setting, Capture, Opening, opened, grouped}
 use Rattle.rx_grammar.specs.Grammar.{PlainAtom, Atom, plain_atom, group, Items, ended, setting, item, Branches, goes_on, goes_on_in_branches}
 use Rattle.rx_grammar.specs.Grammar as grammar
@@ -425,19 +424,6 @@ pub close_back : {o : OpenGroup} {os : List OpenGroup} {l : Level} {s : Settings
 close_back {l = l} {s = s} {m = m} {v = v} is postfixes resumes =
     within (ends_here l s m (Stops-from goes_on_in_branches is refl)) (record { behind = v; parenthesis = is; postfixes = postfixes }) resumes
 
--- what was read is no deeper than the whole
-pub postfixes_deep : {swap : Bool} {h g : Tree} {d e : ℕ} {t u : List ℕ} → Postfixes swap h d t g e u → d ≤ e
-postfixes_deep (repetitions.ended stops) = omega arith
-postfixes_deep (repetitions.further one others) = omega (arith, postfixes_deep others)
-
-pub resumes_deep : {os : List OpenGroup} {l : Level} {s : Settings} {m depth : ℕ} {t : List ℕ} {tree : Tree} → Resumes os l s m t tree depth → l.depth ≤ depth
-resumes_deep (whole ends) = omega (arith, ends.depth_is)
-resumes_deep {l = l} (within {around = o} {depth = depth} {d = d} {e = e} ends closes after) =
-    let rest : max o.level.depth e ≤ depth = resumes_deep after in
-    let inner : d + 1 ≤ e = postfixes_deep closes.postfixes in
-    let here : d ≡ max l.depth ends.deep = ends.depth_is in
-    omega (arith, rest, inner, here)
-
 -- refusals
 record FirstPostfixes (swap : Bool) (h : Tree) (d : ℕ) (v : List ℕ) : Type 0 where
   g : Tree
@@ -452,22 +438,18 @@ first_postfixes atom (item atom' postfixes' items) =
     let same = atom_unique atom atom' in
     record { g = _; e = _; w = _; postfixes = postfixes_along same.0 same.1 same.3 postfixes' }
 
-pub no_item : {os : List OpenGroup} {l : Level} {s : Settings} {m k d depth limit : ℕ} {t v : List ℕ} {h tree : Tree} → Atom s m t h d k v
-    → ((g : Tree) (e : ℕ) (w : List ℕ) → Postfixes s.swap_greed h d v g e w → e ≤ limit → ⊥) → Resumes os l s m t tree depth → depth ≤ limit → ⊥
-no_item {l = l} {depth = depth} {limit = limit} atom none resumes fits =
+pub no_item : {os : List OpenGroup} {l : Level} {s : Settings} {m k d depth : ℕ} {t v : List ℕ} {h tree : Tree} → Atom s m t h d k v
+    → ((g : Tree) (e : ℕ) (w : List ℕ) → Postfixes s.swap_greed h d v g e w → ⊥) → Resumes os l s m t tree depth → ⊥
+no_item atom none resumes =
     let first = first_postfixes atom (items_of resumes).items in
-    let deep : max l.depth first.e ≤ depth = resumes_deep (item_on atom first.postfixes resumes) in
-    let inside : first.e ≤ limit = omega (arith, deep, fits) in
-    none first.g first.e first.w first.postfixes inside
+    none first.g first.e first.w first.postfixes
 
-pub no_close : {o : OpenGroup} {os : List OpenGroup} {l : Level} {s : Settings} {m depth limit : ℕ} {t v : List ℕ} {tree : Tree} → t ≡ 41 ∷ v
-    → ((g : Tree) (e : ℕ) (w : List ℕ) → Postfixes o.settings.swap_greed (grouped o.groups o.capture (tree_at l)) (l.depth + 1) v g e w → e ≤ limit → ⊥)
-    → Resumes (o ∷ os) l s m t tree depth → depth ≤ limit → ⊥
-no_close {o = o} {depth = depth} {limit = limit} is none resumes fits =
+pub no_close : {o : OpenGroup} {os : List OpenGroup} {l : Level} {s : Settings} {m depth : ℕ} {t v : List ℕ} {tree : Tree} → t ≡ 41 ∷ v
+    → ((g : Tree) (e : ℕ) (w : List ℕ) → Postfixes o.settings.swap_greed (grouped o.groups o.capture (tree_at l)) (l.depth + 1) v g e w → ⊥)
+    → Resumes (o ∷ os) l s m t tree depth → ⊥
+no_close is none resumes =
     let found = parts resumes in
-    let deep : max o.level.depth found.e ≤ depth = resumes_deep found.after in
-    let inside : found.e ≤ limit = omega (arith, deep, fits) in
-    none found.g found.e found.v (closes_with is found.ends found.closes) inside
+    none found.g found.e found.v (closes_with is found.ends found.closes)
 
 -- the end of a group where none is open
 pub no_open_group : {l : Level} {s : Settings} {m depth : ℕ} {t v : List ℕ} {tree : Tree} → t ≡ 41 ∷ v → Resumes [] l s m t tree depth → ⊥

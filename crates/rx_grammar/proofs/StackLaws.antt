@@ -11,12 +11,13 @@ use Rattle.rx_grammar.specs.Subtrees.{NodeKind, an_empty, a_set, a_look, a_group
 use Rattle.rx_grammar.specs.Postorder.{after_node, after_nodes, trees_of}
 use Rattle.rx_grammar.specs.Nodes.{kind_of}
 use Rattle.rx_grammar.specs.Input.{Stops}
-use Rattle.rx_grammar.specs.Repetitions.{Postfix, NoPostfix, Postfixes, is_postfix_start}
+use Rattle.rx_grammar.specs.Repetitions.{Postfix, Postfixes, is_postfix_start}
+use Rattle.rx_grammar.specs.Readers.{NoPostfix}
 use Rattle.rx_grammar.specs.Repetitions as repetitions
 use Rattle.rx_grammar.specs.Heads.{capture_of}
-use Rattle.rx_grammar.specs.Stacks.{captured, PostfixesRead, PostfixesTooDeep}
+use Rattle.rx_grammar.specs.Weights.{held}
+use Rattle.rx_grammar.specs.Stacks.{captured, PostfixesRead, NoPostfixes}
 use Rattle.rx_grammar.proofs.RepetitionLaws.{postfix_unique, postfix_starts, postfixes_along}
-use Rattle.rx_grammar.proofs.ResumeLaws.{postfixes_deep}
 
 after_nodes-append : (trees : List Tree) (xs ys : List NodeKind) → after_nodes trees (xs ++ ys) ≡ after_nodes (after_nodes trees xs) ys
 after_nodes-append trees [] ys = refl
@@ -97,24 +98,18 @@ PostfixesSoFar-more {swap = swap} {v = v} {r = r} so_far one is e = record {
   back = λ g e w postfixes. subst (λ x. Postfixes swap (repeated r so_far.made) x v g e w) (sym is) (first_postfix one (so_far.back g e w postfixes));
 }
 
-pub PostfixesSoFar-end : {swap : Bool} {tree : Tree} {depth deep limit : ℕ} {t u : List ℕ} {trees below : List Tree} → PostfixesSoFar swap tree depth t trees below deep u
-    → Stops is_postfix_start u → deep ≤ limit → PostfixesRead swap tree depth t trees below limit deep u
-PostfixesSoFar-end so_far stops fits = record { made = so_far.made; postfixes = so_far.on _ _ _ (repetitions.ended stops); trees_are = so_far.trees_are; fits = fits }
+pub PostfixesSoFar-end : {swap : Bool} {tree : Tree} {depth deep kept : ℕ} {t u : List ℕ} {trees below : List Tree} → PostfixesSoFar swap tree depth t trees below deep u
+    → Stops is_postfix_start u → kept ≡ held deep → PostfixesRead swap tree depth t trees below kept u
+PostfixesSoFar-end so_far stops is = record { made = so_far.made; deep = _; postfixes = so_far.on _ _ _ (repetitions.ended stops); trees_are = so_far.trees_are; kept_is = is }
 
 -- where a postfix should stand, none does
-pub PostfixesSoFar-none_here : {swap : Bool} {tree : Tree} {depth deep limit : ℕ} {t u : List ℕ} {trees below : List Tree} → PostfixesSoFar swap tree depth t trees below deep u
-    → (Stops is_postfix_start u → ⊥) → NoPostfix swap u → PostfixesTooDeep swap tree depth t limit
-PostfixesSoFar-none_here {swap = swap} {u = u} so_far starts none = λ made deep w postfixes fits. no_more (so_far.back made deep w postfixes)
+pub PostfixesSoFar-none_here : {swap : Bool} {tree : Tree} {depth deep : ℕ} {t u : List ℕ} {trees below : List Tree} → PostfixesSoFar swap tree depth t trees below deep u
+    → (Stops is_postfix_start u → ⊥) → NoPostfix swap u → NoPostfixes swap tree depth t
+PostfixesSoFar-none_here {swap = swap} {u = u} so_far starts none = λ made deep w postfixes. no_more (so_far.back made deep w postfixes)
   where
     no_more : {h g : Tree} {d e : ℕ} {w : List ℕ} → Postfixes swap h d u g e w → ⊥
     no_more (repetitions.ended stops) = starts stops
     no_more (repetitions.further one others) = none _ _ one
-
--- one more postfix is too deep
-pub PostfixesSoFar-too_deep : {swap : Bool} {tree : Tree} {depth deep limit : ℕ} {t u v : List ℕ} {trees below : List Tree} {r : Repetition} → PostfixesSoFar swap tree depth t trees below deep u
-    → Postfix swap u r v → limit ≤ deep → PostfixesTooDeep swap tree depth t limit
-PostfixesSoFar-too_deep so_far one over = λ made last w postfixes fits.
-    absurd (omega (arith, over, fits, postfixes_deep (first_postfix one (so_far.back made last w postfixes))))
 
 -- nodes over one tree
 abbrev pub IsOver : Node → Type 0

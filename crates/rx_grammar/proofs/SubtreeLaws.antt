@@ -3,9 +3,12 @@ use Rattle.std.proofs.Common.{◌≡◌, ℕ, ◌+◌, ◌≤◌, List, [], ◌�
 use Rattle.std.specs.List.{flat_map}
 use Rattle.std.proofs.lemmas.List.{reverse-append, take-append-drop, map-append, length-reverse, length-take-le}
 use Rattle.std.proofs.lemmas.List.Concat.{flat_map-append}
+use Rattle.rx_grammar.specs.declared.properties.Properties.{Properties}
 use Rattle.rx_grammar.specs.Trees.{Tree, empty, one_of, look_at, group, concat, alternation, repeated, in_a_row, concat_of}
 use Rattle.rx_grammar.specs.Subtrees.{NodeKind, an_empty, a_set, a_look, a_group, a_concat, an_alternation, a_repetition, width_of, how_many, root_of, subtrees_of, all_subtrees_of, IsWellFormed}
-use Rattle.rx_grammar.specs.Postorder.{alternate, after_node, trees_of, first_of, tree_of, row_subtrees, MayFollow, AreStacked, AreNodesOf}
+use Rattle.rx_grammar.specs.Postorder.{alternate, after_node, trees_of, first_of, tree_of}
+use Rattle.rx_grammar.specs.Rows.{row_subtrees, MayFollow, AreStacked, AreNodesOf}
+use Rattle.rx_grammar.specs.Nodes.{properties_of}
 use Rattle.rx_grammar.proofs.StackLaws.{trees_of-push}
 
 pub all_subtrees : (first second : Tree) (others : List Tree) → all_subtrees_of (in_a_row first second others) ≡ flat_map subtrees_of (first ∷ second ∷ others)
@@ -16,12 +19,12 @@ how_many-in_a_row : (first second : Tree) (others : List Tree) → how_many (in_
 how_many-in_a_row first second [] = refl
 how_many-in_a_row first second (third ∷ others) = omega (arith, how_many-in_a_row second third others)
 
-subtrees_of-concat : (items : List Tree) → 2 ≤ length items → subtrees_of (concat_of items) ≡ flat_map subtrees_of items ++ concat_of items ∷ []
+pub subtrees_of-concat : (items : List Tree) → 2 ≤ length items → subtrees_of (concat_of items) ≡ flat_map subtrees_of items ++ concat_of items ∷ []
 subtrees_of-concat [] some = absurd (omega arith)
 subtrees_of-concat (item ∷ []) some = absurd (omega arith)
 subtrees_of-concat (first ∷ second ∷ others) some = ap (λ x. x ++ concat (in_a_row first second others) ∷ []) (all_subtrees first second others)
 
-subtrees_of-alternation : (branches : List Tree) → 2 ≤ length branches → subtrees_of (alternate branches) ≡ flat_map subtrees_of branches ++ alternate branches ∷ []
+pub subtrees_of-alternation : (branches : List Tree) → 2 ≤ length branches → subtrees_of (alternate branches) ≡ flat_map subtrees_of branches ++ alternate branches ∷ []
 subtrees_of-alternation [] some = absurd (omega arith)
 subtrees_of-alternation (branch ∷ []) some = absurd (omega arith)
 subtrees_of-alternation (first ∷ second ∷ others) some = ap (λ x. x ++ alternation (in_a_row first second others) ∷ []) (all_subtrees first second others)
@@ -36,17 +39,17 @@ root_of-alternation [] some = absurd (omega arith)
 root_of-alternation (branch ∷ []) some = absurd (omega arith)
 root_of-alternation (first ∷ second ∷ others) some = ap an_alternation (how_many-in_a_row first second others)
 
-row_subtrees-cons : (tree : Tree) (trees : List Tree) → row_subtrees (tree ∷ trees) ≡ row_subtrees trees ++ subtrees_of tree
+pub row_subtrees-cons : (tree : Tree) (trees : List Tree) → row_subtrees (tree ∷ trees) ≡ row_subtrees trees ++ subtrees_of tree
 row_subtrees-cons tree trees =
     ap (flat_map subtrees_of) (reverse-append (tree ∷ []) trees) ∙ flat_map-append subtrees_of (reverse trees) (tree ∷ [])
     ∙ ap (λ x. row_subtrees trees ++ x) (append-nil (subtrees_of tree))
 
-row_subtrees-split : (n : ℕ) (trees : List Tree) → row_subtrees (drop n trees) ++ row_subtrees (take n trees) ≡ row_subtrees trees
+pub row_subtrees-split : (n : ℕ) (trees : List Tree) → row_subtrees (drop n trees) ++ row_subtrees (take n trees) ≡ row_subtrees trees
 row_subtrees-split n trees =
     sym (flat_map-append subtrees_of (reverse (drop n trees)) (reverse (take n trees)))
     ∙ ap (flat_map subtrees_of) (sym (reverse-append (take n trees) (drop n trees)) ∙ ap reverse (take-append-drop n trees))
 
-length-last : (n : ℕ) (trees : List Tree) → n ≤ length trees → length (reverse (take n trees)) ≡ n
+pub length-last : (n : ℕ) (trees : List Tree) → n ≤ length trees → length (reverse (take n trees)) ≡ n
 length-last n trees fits = length-reverse (take n trees) ∙ length-take-le n trees fits
 
 joined_subtrees : (tree : Tree) (n : ℕ) (trees : List Tree) → subtrees_of tree ≡ row_subtrees (take n trees) ++ tree ∷ [] → row_subtrees (tree ∷ drop n trees) ≡ row_subtrees trees ++ tree ∷ []
@@ -60,7 +63,7 @@ over_subtrees made tree trees is =
     ∙ ap (λ x. x ++ made ∷ []) (sym (row_subtrees-cons tree trees))
 
 -- a node adds the tree that it makes to the parts
-after_node-subtrees : (trees : List Tree) (node : NodeKind) → MayFollow trees node → row_subtrees (after_node trees node) ≡ row_subtrees trees ++ first_of (after_node trees node) ∷ []
+pub after_node-subtrees : (trees : List Tree) (node : NodeKind) → MayFollow trees node → row_subtrees (after_node trees node) ≡ row_subtrees trees ++ first_of (after_node trees node) ∷ []
 after_node-subtrees trees an_empty may = row_subtrees-cons empty trees
 after_node-subtrees trees (a_set ranges) may = row_subtrees-cons (one_of ranges) trees
 after_node-subtrees trees (a_look look) may = row_subtrees-cons (look_at look) trees
@@ -107,9 +110,9 @@ after_node-length [] (a_repetition repetition) may = absurd (omega (arith, may.f
 after_node-length (tree ∷ trees) (a_repetition repetition) may = omega arith
 
 -- a stack of trees with one node more
-pub AreStacked-push : (nodes : List NodeKind) (node : NodeKind) (height height' : ℕ) → AreStacked nodes height → MayFollow (trees_of nodes) node
-    → height' + width_of node ≡ height + 1 → AreStacked (nodes ++ node ∷ []) height'
-AreStacked-push nodes node height height' stacked may counted =
+pub AreStacked-push : (nodes : List NodeKind) (node : NodeKind) (properties : List Properties) (own : Properties) (height height' : ℕ) → AreStacked nodes properties height → MayFollow (trees_of nodes) node
+    → height' + width_of node ≡ height + 1 → own ≡ properties_of (first_of (after_node (trees_of nodes) node)) → AreStacked (nodes ++ node ∷ []) (properties ++ own ∷ []) height'
+AreStacked-push nodes node properties own height height' stacked may counted known =
     let trees = trees_of nodes in
     let all = nodes ++ node ∷ [] in
     let pushed : trees_of all ≡ after_node trees node = trees_of-push nodes node in
@@ -118,13 +121,17 @@ AreStacked-push nodes node height height' stacked may counted =
       counted = omega (arith, counted, stacked.counted, ap length pushed, after_node-length trees node may);
       exact = ap₂ (λ x y. x ++ y ∷ []) stacked.exact (sym (after_node-root trees node may))
           ∙ sym (map-append root_of (row_subtrees trees) (made ∷ [])) ∙ ap (map root_of) (sym (after_node-subtrees trees node may)) ∙ ap (λ x. map root_of (row_subtrees x)) (sym pushed);
+      known = ap₂ (λ x y. x ++ y ∷ []) stacked.known known
+          ∙ sym (map-append properties_of (row_subtrees trees) (made ∷ [])) ∙ ap (map properties_of) (sym (after_node-subtrees trees node may)) ∙ ap (λ x. map properties_of (row_subtrees x)) (sym pushed);
     }
 
 -- a stack of one tree has its nodes
-pub AreNodesOf-stacked : (nodes : List NodeKind) (height : ℕ) (tree : Tree) → AreStacked nodes height → trees_of nodes ≡ tree ∷ [] → IsWellFormed tree → AreNodesOf (tree_of nodes) nodes
-AreNodesOf-stacked nodes height tree stacked one well_formed =
-    subst (λ x. AreNodesOf x nodes) (sym (ap first_of one)) (record {
+pub AreNodesOf-stacked : (nodes : List NodeKind) (properties : List Properties) (height : ℕ) (tree : Tree) → AreStacked nodes properties height → trees_of nodes ≡ tree ∷ [] → IsWellFormed tree
+    → AreNodesOf (tree_of nodes) nodes properties
+AreNodesOf-stacked nodes properties height tree stacked one well_formed =
+    subst (λ x. AreNodesOf x nodes properties) (sym (ap first_of one)) (record {
       made = one;
       exact = stacked.exact ∙ ap (λ x. map root_of (row_subtrees x)) one ∙ ap (map root_of) (append-nil (subtrees_of tree));
       well_formed = well_formed;
+      known = stacked.known ∙ ap (λ x. map properties_of (row_subtrees x)) one ∙ ap (map properties_of) (append-nil (subtrees_of tree));
     })

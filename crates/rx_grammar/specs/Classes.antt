@@ -1,5 +1,5 @@
 -- What stands between brackets.
-use Rattle.std.specs.Prelude.{◌≡◌, ℕ, ◌≤◌, Bool, true, false, not, ◌==◌, ◌||◌, List, [], ◌∷◌, ◌++◌}
+use Rattle.std.specs.Prelude.{◌≡◌, ℕ, ◌≤◌, Bool, true, false, not, ◌==◌, ◌||◌, List, [], ◌∷◌}
 use Rattle.rx_sets.specs.declared.items.ClassPerlKind.{ClassPerlKind}
 use Rattle.rx_sets.specs.declared.items.ClassItem.{ClassItem}
 use Rattle.rx_sets.specs.declared.items.ClassItem.TheVariants.{Span, Perl}
@@ -57,33 +57,3 @@ pub data Class : List ℕ → Bool → List ClassItem → List ℕ → Type 0 wh
 -- what a class stands for: under `i` it is closed under folding, before it is negated
 abbrev pub InClass : Settings → Bool → List ClassItem → ℕ → Type 0
 InClass settings negated items c = named.InClass settings.case_insensitive negated items c
-
--- no such thing stands at the start of the text
-abbrev pub NoClassCharacter : List ℕ → Type 0
-NoClassCharacter t = (c : ℕ) (u : List ℕ) → ClassCharacter t c u → ⊥
-
-abbrev pub NoLetterClass : List ℕ → Type 0
-NoLetterClass t = (kind : ClassPerlKind) (negated : Bool) (u : List ℕ) → t ≡ 92 ∷ perl_letter kind negated ∷ u → ⊥
-
-abbrev pub NoItem : List ℕ → Type 0
-NoItem t = (item : ClassItem) (u : List ℕ) → OneItem t item u → ⊥
-
-abbrev pub NoItems : List ℕ → Type 0
-NoItems t = (items : List ClassItem) (u : List ℕ) → ClassItems t items u → ⊥
-
-abbrev pub NoClassBody : List ℕ → Type 0
-NoClassBody t = (items : List ClassItem) (u : List ℕ) → ClassBody t items u → ⊥
-
-abbrev pub NoClass : List ℕ → Type 0
-NoClass t = (negated : Bool) (items : List ClassItem) (u : List ℕ) → Class t negated items u → ⊥
-
--- the text spells items, which stand after others in a list
-pub record ItemsAfter (before all : List ClassItem) (t u : List ℕ) : Type 0 where
-  pub items : List ClassItem
-  pub whole : all ≡ before ++ items
-  pub reads : ClassItems t items u
-
--- a - with another end of a range after it
-pub record RangeGoesOn (t u : List ℕ) : Type 0 where
-  pub hyphen : t ≡ 45 ∷ u
-  pub open_end : Begins 93 u → ⊥

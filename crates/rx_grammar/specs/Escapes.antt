@@ -65,19 +65,6 @@ pub data EscapedCharacter : List ℕ → ℕ → List ℕ → Type 0 where
   -- \uHHHH and \u{H..}
   four_digits : {t u v : List ℕ} {c : ℕ} → t ≡ 117 ∷ v → NumberAfter 4 v c u → EscapedCharacter t c u
 
--- the text spells no character
-abbrev pub SpellsNoCharacter : List ℕ → Type 0
-SpellsNoCharacter t = (c : ℕ) (u : List ℕ) → EscapedCharacter t c u → ⊥
-
-abbrev pub NoNumberOfLength : ℕ → List ℕ → Type 0
-NoNumberOfLength count t = (c : ℕ) (u : List ℕ) → NumberOfLength count t c u → ⊥
-
-abbrev pub NoNumberInBraces : List ℕ → Type 0
-NoNumberInBraces t = (c : ℕ) (u : List ℕ) → NumberInBraces t c u → ⊥
-
-abbrev pub NoNumberAfter : ℕ → List ℕ → Type 0
-NoNumberAfter count t = (c : ℕ) (u : List ℕ) → NumberAfter count t c u → ⊥
-
 -- what one character after a backslash spells by itself
 abbrev pub escaped_by : ℕ → Option ℕ
 escaped_by c = if is_escapable c then Some c else control_of c
@@ -96,7 +83,3 @@ look_of c =
     else if c == 98 then Some WordUnicode
     else if c == 66 then Some WordUnicodeNegate
     else None
-
--- the letter names no letter class
-abbrev pub IsNoClassLetter : ℕ → Type 0
-IsNoClassLetter letter = (kind : ClassPerlKind) (negated : Bool) → letter ≡ perl_letter kind negated → ⊥

@@ -86,3 +86,18 @@ pub record Spells (text : List ℕ) (settings : Settings) (tree : Tree) : Type 0
 -- the text spells no tree
 abbrev pub SpellsNothing : List ℕ → Settings → Type 0
 SpellsNothing text settings = (tree : Tree) → Spells text settings tree → ⊥
+
+-- the same settings, but for how deep groups and repetitions may stand in one another
+abbrev pub with_limit : ℕ → Settings → Settings
+with_limit limit settings = record settings { nest_limit = limit }
+
+-- the text spells no tree, however deep groups and repetitions may stand in one another
+abbrev pub NeverSpells : List ℕ → Settings → Type 0
+NeverSpells text settings = (limit : ℕ) → SpellsNothing text (with_limit limit settings)
+
+-- the text spells no tree, but it would where groups and repetitions might stand deeper in one another
+pub record IsTooDeep (text : List ℕ) (settings : Settings) : Type 0 where
+  pub nothing : SpellsNothing text settings
+  pub limit : ℕ
+  pub tree : Tree
+  pub spells : Spells text (with_limit limit settings) tree

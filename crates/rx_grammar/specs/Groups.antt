@@ -1,12 +1,11 @@
 -- What a group or a setting opens with.
 use Rattle.std.specs.Prelude.{◌≡◌, ◌≢◌, ℕ, ◌+◌, ◌≤◌, Bool, true, false, ◌==◌, ◌||◌, List, [], ◌∷◌, ◌++◌, length, map, codes, Option, Some, None, AllPairs}
-use Rattle.std.specs.Char.{is_ascii_alphabetic}
+use Rattle.std.specs.Char.{is_ascii_alphabetic, is_ascii_alphanumeric}
 use Rattle.std.specs.List.{AllByRecursion}
 use Rattle.rx_grammar.specs.declared.flags.Flag.{Flag}
 use Rattle.rx_grammar.specs.Settings.{Settings, letter_of, with_flags}
 use Rattle.rx_grammar.specs.Trees.{Name, Tree, group}
-use Rattle.rx_grammar.specs.Input.{Begins, Stops, passes}
-use Rattle.rx_grammar.specs.declared.input.CharacterTest.TheVariants.{NameCharacter}
+use Rattle.rx_grammar.specs.Input.{Begins, Stops}
 
 -- i, m, s or U
 abbrev pub is_flag_letter : ℕ → Bool
@@ -33,9 +32,12 @@ pub data Setting : Settings → List ℕ → Settings → List ℕ → Type 0 wh
 abbrev pub is_name_start : ℕ → Bool
 is_name_start c = is_ascii_alphabetic c || (c == 95)
 
+abbrev pub is_name_character : ℕ → Bool
+is_name_character c = is_ascii_alphanumeric c || (c == 95)
+
 abbrev pub IsName : Name → Type 0
 IsName [] = ⊥
-IsName (first ∷ others) = (is_name_start first ≡ true) × AllByRecursion (λ c. passes NameCharacter c ≡ true) (first ∷ others)
+IsName (first ∷ others) = (is_name_start first ≡ true) × AllByRecursion (λ c. is_name_character c ≡ true) (first ∷ others)
 
 -- a group has a number, and perhaps a name, or it has none
 pub data Capture : Type 0 where

@@ -1,5 +1,6 @@
 -- What a reader of flags, of a name and of the head of a group finds.
 use Rattle.std.specs.Prelude.{◌≡◌, ◌≢◌, ◌⊎◌, ℕ, List, ◌∷◌, ◌++◌, Some, None, AllPairs}
+use Rattle.std.specs.String.{string_bytes}
 use Rattle.rx_grammar.specs.declared.flags.Flag.{Flag}
 use Rattle.rx_grammar.specs.declared.groups.GroupKind.{GroupKind}
 use Rattle.rx_grammar.specs.declared.groups.GroupKind.TheVariants.{Numbered, Unnumbered}
@@ -32,7 +33,7 @@ NameOpening t u = (t ≡ 80 ∷ 60 ∷ u) ⊎ (t ≡ 60 ∷ u)
 
 abbrev pub capture_of : GroupKind → Capture
 capture_of (Numbered None) = numbered None
-capture_of (Numbered (Some name)) = numbered (Some name.items)
+capture_of (Numbered (Some name)) = numbered (Some (string_bytes name))
 capture_of Unnumbered = unnumbered
 
 -- the text begins with a setting or the head of a group, and u comes then

@@ -6,6 +6,7 @@ use Rattle.rx_grammar.specs.declared.parser.Parser.{Parser}
 use Rattle.rx_grammar.specs.Settings.{Settings}
 use Rattle.rx_grammar.specs.Trees.{Tree}
 use Rattle.rx_grammar.specs.Subtrees.{NodeKind}
+use Rattle.rx_grammar.specs.Weights.{held}
 use Rattle.rx_grammar.specs.Postorder.{trees_of}
 use Rattle.rx_grammar.specs.Input.{Begins, Stops}
 use Rattle.rx_grammar.specs.Repetitions.{Postfixes}
@@ -15,29 +16,28 @@ use Rattle.rx_grammar.specs.Heads.{capture_of}
 use Rattle.rx_grammar.specs.Resuming.{Level, OpenGroup, Place, SameEnds, no_level, with_item, tree_at}
 
 -- the trees of a level stand above those of the levels around it, the last one first
-pub record IsLevel (heights : Heights) (limit : ℕ) (level : Level) (trees below : List Tree) : Type 0 where
+pub record IsLevel (heights : Heights) (level : Level) (trees below : List Tree) : Type 0 where
   pub trees_are : trees ≡ reverse level.items ++ (reverse level.branches ++ below)
   pub group_is : heights.group ≡ length below
   pub branch_is : heights.branch ≡ length (reverse level.branches ++ below)
-  pub depth_is : heights.depth ≡ level.depth
-  pub depth_fits : level.depth ≤ limit
+  pub depth_is : heights.depth ≡ held level.depth
 
 -- the groups around a place, the innermost one first
-pub data Surround (limit : ℕ) : List Around → List OpenGroup → List Tree → Type 0 where
-  outermost : Surround limit [] [] []
+pub data Surround : List Around → List OpenGroup → List Tree → Type 0 where
+  outermost : Surround [] [] []
   further : {around : Around} {group : OpenGroup} {arounds : List Around} {groups : List OpenGroup} {trees below : List Tree}
-      → IsLevel around.heights limit group.level trees below → around.config ≡ group.settings → around.number ≡ opened group.groups group.capture
-      → capture_of around.captures ≡ group.capture → Surround limit arounds groups below → Surround limit (around ∷ arounds) (group ∷ groups) trees
+      → IsLevel around.heights group.level trees below → around.config ≡ group.settings → around.number ≡ opened group.groups group.capture
+      → capture_of around.captures ≡ group.capture → Surround arounds groups below → Surround (around ∷ arounds) (group ∷ groups) trees
 
 -- the parser stands at a place, with more trees that are no items yet, the last one first
 pub record IsAt (parser : Parser) (pending : List Tree) (place : Place) : Type 0 where
   pub trees : List Tree
   pub below : List Tree
   pub trees_are : trees_of parser.trees ≡ pending ++ trees
-  pub level : IsLevel parser.heights parser.limit place.level trees below
+  pub level : IsLevel parser.heights place.level trees below
   pub settings : parser.config ≡ place.settings
   pub groups : parser.groups ≡ place.groups
-  pub around : Surround parser.limit (reverse parser.around.items) place.around below
+  pub around : Surround (reverse parser.around.items) place.around below
 
 abbrev pub IsAtSomePlace : Parser → Type 0
 IsAtSomePlace parser = (place : Place) × IsAt parser [] place
@@ -63,18 +63,15 @@ pub record ItemRead (before after : Parser) (place : Place) (tree : Tree) (depth
   pub deep : ℕ
   pub postfixes : Postfixes place.settings.swap_greed tree depth t made deep u
   pub stands : IsAt after [] (item_at place made deep)
-  pub limit : after.limit ≡ before.limit
   pub groups : after.groups ≡ before.groups
 
 -- the branches of the level are one tree, and all else is as before
 pub record EndsLevel (before after : Parser) (place : Place) : Type 0 where
   pub below : List Tree
   pub trees_are : trees_of after.trees ≡ tree_at place.level ∷ below
-  pub depth_is : after.heights.depth ≡ place.level.depth
-  pub depth_fits : place.level.depth ≤ after.limit
-  pub around : Surround after.limit (reverse after.around.items) place.around below
+  pub depth_is : after.heights.depth ≡ held place.level.depth
+  pub around : Surround (reverse after.around.items) place.around below
   pub groups_are : after.groups ≡ place.groups
-  pub limit : after.limit ≡ before.limit
   pub groups : after.groups ≡ before.groups
 
 -- a part of the text was read, and the rest completes the pattern as before
@@ -82,7 +79,6 @@ pub record PartRead (before after : Parser) (place : Place) (t u : List ℕ) : T
   pub next : Place
   pub stands : IsAt after [] next
   pub same : SameEnds place t next u
-  pub limit : after.limit ≡ before.limit
   pub shorter : length u < length t
   pub groups : after.groups + length u ≤ before.groups + length t
 
@@ -92,14 +88,13 @@ pub record IsAtomPlace (t : List ℕ) : Type 0 where
   pub inside : Stops goes_on t → ⊥
 
 -- the whole text was read
-pub record TextRead (before after : Parser) (place : Place) (t : List ℕ) : Type 0 where
+pub record TextRead (after : Parser) (place : Place) (t : List ℕ) : Type 0 where
   pub next : Place
   pub stands : IsAt after [] next
   pub same : SameEnds place t next []
-  pub limit : after.limit ≡ before.limit
 
--- no group is open, and the tree is what was read
-pub record IsFinished (place : Place) (nodes : List NodeKind) (limit : ℕ) : Type 0 where
+-- no group is open, and the tree and its depth are what was read
+pub record IsFinished (place : Place) (nodes : List NodeKind) (depth : ℕ) : Type 0 where
   pub nothing_open : place.around ≡ []
   pub tree_is : trees_of nodes ≡ tree_at place.level ∷ []
-  pub fits : place.level.depth ≤ limit
+  pub depth_is : depth ≡ held place.level.depth

@@ -1,7 +1,7 @@
 -- Trees that are made of nodes, each node after what stands below it.
-use Rattle.std.specs.Prelude.{◌≡◌, ℕ, ◌≤◌, List, [], ◌∷◌, length, map, reverse, take, drop, flat_map, Some}
+use Rattle.std.specs.Prelude.{List, [], ◌∷◌, reverse, take, drop, flat_map, Some}
 use Rattle.rx_grammar.specs.Trees.{Name, Tree, empty, one_of, look_at, group, repeated, concat_of, alternation_of}
-use Rattle.rx_grammar.specs.Subtrees.{NodeKind, an_empty, a_set, a_look, a_group, a_concat, an_alternation, a_repetition, width_of, root_of, subtrees_of, nodes_of, IsWellFormed}
+use Rattle.rx_grammar.specs.Subtrees.{NodeKind, an_empty, a_set, a_look, a_group, a_concat, an_alternation, a_repetition}
 
 -- branches beside one another
 abbrev pub alternate : List Tree → Tree
@@ -44,34 +44,3 @@ own_names _ = []
 -- the names of the groups among the nodes, in their order
 abbrev pub names_in : List NodeKind → List Name
 names_in nodes = flat_map own_names nodes
-
--- how many groups a node is by itself, without those below it
-abbrev pub own_groups : NodeKind → ℕ
-own_groups (a_group number name) = 1
-own_groups _ = 0
-
--- the parts of trees in a row, of which the last one stands first
-abbrev pub row_subtrees : List Tree → List Tree
-row_subtrees trees = flat_map subtrees_of (reverse trees)
-
--- concatenations and alternations stand over two trees or more
-abbrev pub IsOverTwo : NodeKind → Type 0
-IsOverTwo (a_concat count) = 2 ≤ count
-IsOverTwo (an_alternation count) = 2 ≤ count
-IsOverTwo _ = Unit {0}
-
--- the node may follow the trees
-pub record MayFollow (trees : List Tree) (node : NodeKind) : Type 0 where
-  pub fits : width_of node ≤ length trees
-  pub over_two : IsOverTwo node
-
--- the nodes are exactly those of the trees that they make, and this is the number of trees
-pub record AreStacked (nodes : List NodeKind) (height : ℕ) : Type 0 where
-  pub counted : height ≡ length (trees_of nodes)
-  pub exact : nodes ≡ map root_of (row_subtrees (trees_of nodes))
-
--- the nodes are exactly those of the tree, which is one that a text may spell
-pub record AreNodesOf (tree : Tree) (nodes : List NodeKind) : Type 0 where
-  pub made : trees_of nodes ≡ tree ∷ []
-  pub exact : nodes ≡ nodes_of tree
-  pub well_formed : IsWellFormed tree

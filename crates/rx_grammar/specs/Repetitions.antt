@@ -53,16 +53,3 @@ is_postfix_start c = (c == 42) || (c == 43) || (c == 63) || (c == 123)
 pub data Postfixes : Bool → Tree → ℕ → List ℕ → Tree → ℕ → List ℕ → Type 0 where
   ended : {swap : Bool} {h : Tree} {d : ℕ} {t : List ℕ} → Stops is_postfix_start t → Postfixes swap h d t h d t
   further : {swap : Bool} {h g : Tree} {d e : ℕ} {t u v : List ℕ} {r : Repetition} → Postfix swap t r v → Postfixes swap (repeated r h) (d + 1) v g e u → Postfixes swap h d t g e u
-
--- no such thing stands at the start of the text
-abbrev pub NoNumber : List ℕ → Type 0
-NoNumber t = (n : ℕ) (u : List ℕ) → Number t n u → ⊥
-
-abbrev pub NoCountInBraces : List ℕ → Type 0
-NoCountInBraces t = (n : ℕ) (m : Option ℕ) (u : List ℕ) → CountInBraces t n m u → ⊥
-
-abbrev pub NoCount : List ℕ → Type 0
-NoCount t = (n : ℕ) (m : Option ℕ) (u : List ℕ) → Count t n m u → ⊥
-
-abbrev pub NoPostfix : Bool → List ℕ → Type 0
-NoPostfix swap t = (r : Repetition) (u : List ℕ) → Postfix swap t r u → ⊥

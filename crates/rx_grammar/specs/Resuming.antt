@@ -1,5 +1,5 @@
 -- What is known of a pattern that is read in part: how the rest of the text completes it.
-use Rattle.std.specs.Prelude.{◌≡◌, ℕ, ◌+◌, ◌≤◌, List, [], ◌∷◌, ◌++◌, max}
+use Rattle.std.specs.Prelude.{◌≡◌, ℕ, ◌+◌, List, [], ◌∷◌, ◌++◌, max}
 use Rattle.rx_grammar.specs.Settings.{Settings}
 use Rattle.rx_grammar.specs.Trees.{Tree, concat_of}
 use Rattle.rx_grammar.specs.Postorder.{alternate}
@@ -85,6 +85,6 @@ pub record SameEnds (place : Place) (t : List ℕ) (place' : Place) (t' : List �
   pub on : (tree : Tree) (depth : ℕ) → Completes place t tree depth → Completes place' t' tree depth
   pub back : (tree : Tree) (depth : ℕ) → Completes place' t' tree depth → Completes place t tree depth
 
--- the text completes the pattern to no tree that is within the limit
-abbrev pub NoEnds : Place → List ℕ → ℕ → Type 0
-NoEnds place t limit = (tree : Tree) (depth : ℕ) → Completes place t tree depth → depth ≤ limit → ⊥
+-- the text completes the pattern to no tree
+abbrev pub NoEnds : Place → List ℕ → Type 0
+NoEnds place t = (tree : Tree) (depth : ℕ) → Completes place t tree depth → ⊥

@@ -1,5 +1,5 @@
 -- The parts of a tree, and its nodes: what each part is by itself.
-use Rattle.std.specs.Prelude.{◌≡◌, ◌≢◌, ℕ, ◌+◌, ◌≤◌, ◌<◌, List, [], ◌∷◌, ◌++◌, map, length, get_or, All, AllPairs, Option, Some, None}
+use Rattle.std.specs.Prelude.{◌≡◌, ◌≢◌, ℕ, ◌+◌, ◌≤◌, ◌<◌, List, [], ◌∷◌, ◌++◌, map, length, get_or, All, AllPairs, Contains, Option, Some, None}
 use Rattle.rx_grammar.specs.declared.hir.Look.{Look}
 use Rattle.rx_grammar.specs.declared.hir.Repetition.{Repetition}
 use Rattle.rx_grammar.specs.Sets.{Range}
@@ -58,6 +58,10 @@ abbrev mutual
 -- a tree's nodes, each after those that stand below it
 abbrev pub nodes_of : Tree → List NodeKind
 nodes_of tree = map root_of (subtrees_of tree)
+
+-- a group of the tree has this number and this name
+abbrev pub HasName : Tree → ℕ → Name → Type 0
+HasName tree number name = Contains (nodes_of tree) (a_group number (Some name))
 
 -- a greatest number of times is at least the least one, and at most 65,535
 abbrev pub IsMost : ℕ → Option ℕ → Type 0

@@ -5,7 +5,7 @@ use Rattle.rx_grammar.specs.declared.hir.Look.{Look}
 use Rattle.rx_grammar.specs.declared.hir.Repetition.{Repetition}
 use Rattle.rx_grammar.specs.Sets.{Range}
 
--- the name of a group, as its characters
+-- the name of a group, as its characters: these are ASCII, and so its bytes too
 abbrev pub Name : Type 0
 Name = List ℕ
 

@@ -3,7 +3,7 @@
 ghost use Rattle.std.specs.Prelude.{◌≡◌, ◌∷◌, ◌↔◌, IsTrue, MatchOption, IfOk};
 ghost use Rattle.rx_grammar.specs.Escapes.{look_of};
 ghost use Rattle.rx_grammar.specs.Grammar.{is_literal, IsDotAllowed, Escape, PlainAtom};
-ghost use Rattle.rx_grammar.specs.Classes.{NoClass};
+ghost use Rattle.rx_grammar.specs.Readers.{NoClass};
 ghost use Rattle.rx_grammar.specs.Atoms.{atom_tree, ClassAtom, NoEscape, NoPlainAtom};
 
 use crate::classes::{class, letter_named};
@@ -25,7 +25,8 @@ pub(crate) enum AtomTree {
     Look(Look),
 }
 
-/// Whether the character stands for itself: any but `\`, `.`, `+`, `*`, `?`, `(`, `)`, `|`, `[`, `{`, `^` and `$`.
+/// Whether the character stands for itself: any but `\`, `.`, `+`, `*`, `?`, `(`, `)`, `|`, `[`,
+/// `{`, `^` and `$`.
 fn is_literal(c: char) -> bool
     ensures { result ≡ is_literal c }
 {
@@ -132,7 +133,8 @@ fn literal<'a>(
     Ok(Some((AtomTree::Set(set), rest)))
 }
 
-/// The atom at the start of the text, where it is no group, and the rest of the text. `None` where there is none.
+/// The atom at the start of the text, where it is no group, and the rest of the text. `None` where
+/// there is none.
 pub(crate) fn plain_atom<'a>(
     alloc: Global,
     sets: &mut AtomSets,

@@ -2,15 +2,17 @@
 
 ghost use Rattle.std.specs.Prelude.{◌≡◌, ◌∷◌, MatchOption, IfOk, MatchBool, true, false, IsTrue, ◌↔◌};
 ghost use Rattle.rx_grammar.specs.Input.{Begins};
-ghost use Rattle.rx_grammar.specs.Escapes.{perl_letter, IsNoClassLetter};
-ghost use Rattle.rx_grammar.specs.Classes.{is_class_literal, doubles, ClassCharacter, NoClassCharacter, NoLetterClass, GoesOnAsRange, RangeGoesOn, OneItem, NoItem, NoItems, ItemsAfter, ClassBody, NoClassBody, Class, NoClass};
+ghost use Rattle.rx_grammar.specs.Escapes.{perl_letter};
+ghost use Rattle.rx_grammar.specs.Readers.{IsNoClassLetter, NoClassCharacter, NoLetterClass, RangeGoesOn, NoItem, NoItems, ItemsAfter, NoClassBody, NoClass};
+ghost use Rattle.rx_grammar.specs.Classes.{is_class_literal, doubles, ClassCharacter, GoesOnAsRange, OneItem, ClassBody, Class};
 
 use crate::escapes::escaped_character;
 use crate::input::{eat, first};
 use rx_sets::{ClassItem, ClassPerlKind};
 use std::alloc::{AllocError, Global};
 
-/// Whether the character stands for itself in a class wherever it stands: any but `\`, `[`, `]` and `-`.
+/// Whether the character stands for itself in a class wherever it stands: any but `\`, `[`, `]` and
+/// `-`.
 fn is_class_literal(c: char) -> bool
     ensures { result ≡ is_class_literal c }
 {
@@ -115,7 +117,8 @@ pub(crate) fn class_item(text: &[char]) -> Option<(ClassItem, &[char])>
     Some((ClassItem::Span(low, high), last))
 }
 
-/// The items up to the `]` that closes the class, appended to `items`. A `-` before that `]` stands for itself.
+/// The items up to the `]` that closes the class, appended to `items`. A `-` before that `]` stands
+/// for itself.
 fn class_items(
     text: &[char],
     mut items: Vec<ClassItem>,
@@ -163,8 +166,8 @@ fn class_body(alloc: Global, text: &[char]) -> Result<Option<(Vec<ClassItem>, &[
     }
 }
 
-/// A class after its `[`: whether `^` negates it, its items in order, and the text after its `]`. `None` where the
-/// text spells no class. The only error is want of memory.
+/// A class after its `[`: whether `^` negates it, its items in order, and the text after its `]`.
+/// `None` where the text spells no class. The only error is want of memory.
 pub(crate) fn class(
     alloc: Global,
     text: &[char],

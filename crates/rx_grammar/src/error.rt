@@ -12,10 +12,11 @@ pub enum SyntaxError {
     /// The text has more than 65,536 bytes. This is asked first.
     #[error("the pattern has more than 65,536 bytes")]
     TooLong,
-    /// The text spells nothing: its groups and repetitions stand deeper in one another than the nest limit.
+    /// The text spells nothing, but at a greater nest limit it would: its groups and repetitions
+    /// stand too deep in one another.
     #[error("the pattern is nested too deeply")]
     Nesting,
-    /// The text spells nothing: it isn't in the grammar.
+    /// The text spells nothing at any nest limit: it isn't in the grammar.
     #[error("the pattern isn't in the grammar")]
     Outside,
     /// There was no memory for what the text may spell.

@@ -1,12 +1,14 @@
 //! What a backslash spells with the characters after it.
 
 ghost use Rattle.std.specs.Prelude.{◌≡◌, ◌≤◌, length, MatchOption, ℕ};
-ghost use Rattle.rx_grammar.specs.Escapes.{SpellsScalar, EscapedCharacter, SpellsNoCharacter, NumberOfLength, NoNumberOfLength, NumberInBraces, NoNumberInBraces, NumberAfter, NoNumberAfter, escaped_by};
+ghost use Rattle.rx_grammar.specs.Escapes.{SpellsScalar, EscapedCharacter, NumberOfLength, NumberInBraces, NumberAfter, escaped_by};
+ghost use Rattle.rx_grammar.specs.Readers.{SpellsNoCharacter, NoNumberOfLength, NoNumberInBraces, NoNumberAfter};
 
 use crate::input::{CharacterTest, eat, first, split_front};
 
-/// The character that one character after a backslash spells by itself: a control character for `a`, `f`, `t`,
-/// `n`, `r` and `v`, and itself for any ASCII character but letters, digits, `<` and `>`.
+/// The character that one character after a backslash spells by itself: a control character for
+/// `a`, `f`, `t`, `n`, `r` and `v`, and itself for any ASCII character but letters, digits, `<` and
+/// `>`.
 pub(crate) fn escaped_by(c: char) -> Option<char>
     ensures { result ≡ escaped_by c }
 {

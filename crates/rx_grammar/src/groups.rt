@@ -14,7 +14,7 @@ use std::alloc::{AllocError, Global};
 #[derive(Debug, Drop)]
 pub(crate) enum GroupKind {
     /// The group has a number, and perhaps a name.
-    Numbered(Option<Vec<char>>),
+    Numbered(Option<String>),
     /// The group has no number.
     Unnumbered,
 }
@@ -56,7 +56,8 @@ fn flag_letter(text: &[char]) -> Option<(Flag, &[char])>
     }
 }
 
-/// The flags that the text's letters spell, appended to `flags`, and `None` where a flag would stand there twice.
+/// The flags that the text's letters spell, appended to `flags`, and `None` where a flag would
+/// stand there twice.
 fn flag_letters(
     text: &[char],
     mut flags: Vec<Flag>,
@@ -182,11 +183,12 @@ fn marked_head<'a>(
     let Some((name, rest)) = group_name(inside) else {
         return Ok(None);
     };
-    let captures = GroupKind::Numbered(Some(Vec::from_slice(alloc, name)?));
+    let captures = GroupKind::Numbered(Some(name.iter().copied().collect(alloc)?));
     Ok(Some((Head::Group(config.copied(), captures), rest)))
 }
 
-/// What a parenthesis begins, and `None` where the text doesn't begin with a setting or the head of a group.
+/// What a parenthesis begins, and `None` where the text doesn't begin with a setting or the head of
+/// a group.
 pub(crate) fn group_head<'a>(
     alloc: Global,
     text: &'a [char],

@@ -1,11 +1,14 @@
 //! What a pattern spells.
 
-ghost use Rattle.std.specs.Prelude.{◌≡◌, ◌≤◌, [], ◌∷◌, length, map, MatchOption};
-ghost use Rattle.rx_grammar.specs.Trees.{numbers_of};
-ghost use Rattle.rx_grammar.specs.Subtrees.{nodes_of, width_of, IsWellFormed};
-ghost use Rattle.rx_grammar.specs.Postorder.{own_names, own_groups, tree_of, AreNodesOf};
-ghost use Rattle.rx_grammar.specs.Nodes.{kind_of};
+ghost use Rattle.std.specs.Prelude.{◌≡◌, ◌≤◌, [], ◌∷◌, length, map, Some, MatchOption};
+ghost use Rattle.rx_grammar.specs.Trees.{Name, numbers_of};
+ghost use Rattle.rx_grammar.specs.Subtrees.{a_group, nodes_of, subtrees_of, width_of, HasName, IsWellFormed};
+ghost use Rattle.rx_grammar.specs.Postorder.{own_names, tree_of};
+ghost use Rattle.rx_grammar.specs.Rows.{own_groups, AreNodesOf};
+ghost use Rattle.rx_grammar.specs.Weights.{pattern_weight, held};
+ghost use Rattle.rx_grammar.specs.Nodes.{kind_of, properties_of};
 
+use crate::properties::Properties;
 use rx_sets::CharacterSet;
 use std::marker::Model;
 use std::rc::Rc;
@@ -48,7 +51,7 @@ pub enum Node {
     /// A place, which takes no character.
     Look(Look),
     /// A group with a number, and perhaps a name, around one tree.
-    Group(u32, Option<Vec<char>>),
+    Group(u32, Option<String>),
     /// So many trees, two or more, one after the other.
     Concat(usize),
     /// So many trees, two or more, of which the first that matches is taken.
@@ -59,12 +62,30 @@ pub enum Node {
 
 impl Node {
     /// The name of a group that has one.
-    pub fn name(&self) -> Option<&[char]>
+    pub fn name(&self) -> Option<&str>
         ensures { MatchOption result (own_names (kind_of self.now) ≡ [])
             (λ name. own_names (kind_of self.now) ≡ name.now ∷ []) }
     {
         match self {
-            Node::Group(_, Some(name)) => Some(name),
+            Node::Group(_, Some(name)) => Some(name.as_str()),
+            _ => None,
+        }
+    }
+
+    /// The name of a group with this number that has one.
+    fn name_as(&self, number: usize) -> Option<&str>
+        ensures { MatchOption result
+            ((name : Name) → kind_of self.now ≡ a_group number (Some name) → ⊥)
+            (λ name. kind_of self.now ≡ a_group number (Some name.now)) }
+    {
+        match self {
+            Node::Group(own, Some(name)) => {
+                if *own as usize == number {
+                    Some(name.as_str())
+                } else {
+                    None
+                }
+            }
             _ => None,
         }
     }
@@ -92,17 +113,20 @@ impl Node {
     }
 }
 
-/// What a pattern spells: a tree, with nothing in it simplified. It comes from `parse` alone. Contracts see it as
-/// its nodes, each after what stands below it: these are exactly the nodes of the tree that they make.
+/// What a pattern spells: a tree, with nothing in it simplified. It comes from `parse` alone.
+/// Contracts see it as its nodes, each after what stands below it: these are exactly the nodes of
+/// the tree that they make.
 #[derive(Debug, Drop)]
 pub struct Hir {
     nodes: Vec<Node>,
+    properties: Vec<Properties>,
 }
 
 impl Model for Hir {
     ghost use Rattle.std.specs.Prelude.{List, map};
     ghost use Rattle.rx_grammar.specs.Subtrees.{NodeKind};
-    ghost use Rattle.rx_grammar.specs.Postorder.{tree_of, AreNodesOf};
+    ghost use Rattle.rx_grammar.specs.Postorder.{tree_of};
+    ghost use Rattle.rx_grammar.specs.Rows.{AreNodesOf};
 
     ghost Value = { List NodeKind };
 
@@ -110,12 +134,12 @@ impl Model for Hir {
 
     ghost view = { λ h. map kind_of h.nodes.items };
 
-    ghost invariant = { λ h. AreNodesOf (tree_of (map kind_of h.nodes.items)) (map kind_of h.nodes.items) };
+    ghost invariant = { λ h. AreNodesOf (tree_of (map kind_of h.nodes.items)) (map kind_of h.nodes.items) h.properties.items };
 }
 
 impl Hir {
-    /// The nodes of the tree, each after what stands below it, so that the last one is the root. What stands
-    /// below a node are the last trees before it that stand below no other.
+    /// The nodes of the tree, each after what stands below it, so that the last one is the root.
+    /// What stands below a node are the last trees before it that stand below no other.
     pub fn nodes(&self) -> &[Node]
         ensures nodes { map kind_of result.now ≡ self.now }
         ensures exact { self.now ≡ nodes_of (tree_of self.now) }
@@ -124,8 +148,42 @@ impl Hir {
         &self.nodes
     }
 
-    /// How many groups with a number there are: the greatest number of a group. The whole match, which is called
-    /// group 0 elsewhere, isn't counted. `O(n)` in the number of nodes.
+    /// What is known of the part of the tree that each node is the root of, in the order of the
+    /// nodes.
+    pub fn properties(&self) -> &[Properties]
+        ensures { result.now ≡ map properties_of (subtrees_of (tree_of self.now)) }
+    {
+        &self.properties
+    }
+
+    /// What the pattern weighs, with the group of the whole match, and `usize::MAX` where it weighs
+    /// more. `O(1)`.
+    pub fn weight(&self) -> usize
+        ensures { result ≡ held (pattern_weight (tree_of self.now)) }
+    {
+        match self.properties.last() {
+            Some(whole) => whole.weight.saturating_add(3),
+            None => 3,
+        }
+    }
+
+    /// The name of the group with this number, and `None` where there is no such group or it has no
+    /// name. `O(n)` in the number of nodes.
+    pub fn group_name(&self, number: usize) -> Option<&str>
+        ensures { MatchOption result
+            ((name : Name) → HasName (tree_of self.now) number name → ⊥)
+            (λ name. HasName (tree_of self.now) number name.now) }
+    {
+        for node in &self.nodes {
+            if let Some(name) = node.name_as(number) {
+                return Some(name);
+            }
+        }
+        None
+    }
+
+    /// How many groups with a number there are: the greatest number of a group. The whole match,
+    /// which is called group 0 elsewhere, isn't counted. `O(n)` in the number of nodes.
     pub fn group_count(&self) -> usize
         ensures count { result ≡ length (numbers_of (tree_of self.now)) }
         ensures well_formed { IsWellFormed (tree_of self.now) }
@@ -138,10 +196,11 @@ impl Hir {
     }
 }
 
-/// The tree with these nodes.
-pub(crate) fn tree_with(nodes: Vec<Node>) -> Hir
-    requires { AreNodesOf (tree_of (map kind_of nodes.items)) (map kind_of nodes.items) }
+/// The tree with these nodes, of which this is known.
+pub(crate) fn tree_with(nodes: Vec<Node>, properties: Vec<Properties>) -> Hir
+    requires { AreNodesOf (tree_of (map kind_of nodes.items)) (map kind_of nodes.items)
+        properties.items }
     ensures { result ≡ map kind_of nodes.items }
 {
-    Hir { nodes }
+    Hir { nodes, properties }
 }

@@ -1,8 +1,9 @@
-//! The start of a pattern's text: each reader here and in the modules beside it takes a text, and answers what
-//! stands at its start with what is left of the text.
+//! The start of a pattern's text: each reader here and in the modules beside it takes a text, and
+//! answers what stands at its start with what is left of the text.
 
 ghost use Rattle.std.specs.Prelude.{◌≡◌, [], ◌∷◌, MatchOption};
-ghost use Rattle.rx_grammar.specs.Input.{passes, Begins, SplitsFront};
+ghost use Rattle.rx_grammar.specs.Input.{Begins};
+ghost use Rattle.rx_grammar.specs.Readers.{passes, SplitsFront};
 
 /// A test of a character.
 #[derive(Debug, Clone, Copy, PartialEq, Eq)]

@@ -1,5 +1,5 @@
-//! Laws of what a pattern spells. Each function here does nothing: its contract is a law of the definitions by
-//! which the other contracts speak, proved.
+//! Laws of what a pattern spells. Each function here does nothing: its contract is a law of the
+//! definitions by which the other contracts speak, proved.
 
 ghost use Rattle.std.specs.Prelude.{ℕ, List};
 ghost use Rattle.rx_grammar.specs.Settings.{Settings};

@@ -2,7 +2,8 @@
 
 ghost use Rattle.std.specs.Prelude.{ℕ, ◌≡◌, ◌+◌, ◌≤◌, ◌<◌, ◌^◌, [], ◌∷◌, length, OnOk, MatchResult};
 ghost use Rattle.rx_grammar.specs.Trees.{Tree};
-ghost use Rattle.rx_grammar.specs.Stacks.{IsRefusal, PostfixesTooDeep};
+ghost use Rattle.rx_grammar.specs.Stacks.{IsRefusal, NoPostfixes};
+ghost use Rattle.rx_grammar.specs.Weights.{held};
 ghost use Rattle.rx_grammar.specs.Resuming.{Place, NoEnds, with_branch};
 ghost use Rattle.rx_grammar.specs.Input.{Begins};
 ghost use Rattle.rx_grammar.specs.Heads.{capture_of};
@@ -13,16 +14,17 @@ use crate::error::SyntaxError;
 use crate::groups::{GroupKind, Head, group_head};
 use crate::input::first;
 use crate::syntax::Config;
-use crate::trees::{TreeStack, deeper};
+use crate::trees::TreeStack;
 use rx_sets::AtomSets;
 use std::alloc::{AllocError, Global};
 
-/// The heights at which the trees of a group begin, and those of its last branch, and how deep its items are.
+/// The heights at which the trees of a group begin, and those of its last branch, and how deep its
+/// items are, held at `usize::MAX`.
 #[derive(Debug, Drop)]
 pub(crate) struct Heights {
     group: usize,
     branch: usize,
-    depth: u32,
+    depth: usize,
 }
 
 /// What a group stands in, and what it captures: its number is the number of groups up to it.
@@ -38,7 +40,6 @@ pub(crate) struct Around {
 #[derive(Drop)]
 pub(crate) struct Parser {
     alloc: Global,
-    limit: u32,
     config: Config,
     groups: u32,
     heights: Heights,
@@ -51,12 +52,10 @@ impl Parser {
     /// Nothing is read yet.
     pub(crate) fn new(alloc: Global, config: &Config) -> Parser
         ensures stands { IsAt result [] (start_of config.now) }
-        ensures limit { result.limit ≡ config.now.nest_limit }
         ensures groups { result.groups ≡ 0 }
     {
         Parser {
             alloc,
-            limit: config.get_nest_limit(),
             config: config.copied(),
             groups: 0,
             heights: Heights {
@@ -70,20 +69,21 @@ impl Parser {
         }
     }
 
-    /// The postfixes after an atom of this depth, which is an item with them. Answers the text after it.
-    fn finish_item<'a>(&mut self, text: &'a [char], depth: u32) -> Result<&'a [char], SyntaxError>
+    /// The postfixes after an atom of this depth, which is an item with them. Answers the text
+    /// after it.
+    fn finish_item<'a>(
+        &mut self,
+        text: &'a [char],
+        depth: usize,
+    ) -> Result<&'a [char], SyntaxError>
         requires stands { (place : Place) × (tree : Tree) × IsAt self.old (tree ∷ []) place }
-        requires depth { depth ≤ self.old.limit }
-        ensures reads { (place : Place) (tree : Tree) → IsAt self.old (tree ∷ []) place
-            → MatchResult result
-            (λ rest. ItemRead self.old self.new place tree depth text.now rest.now)
-            (λ e. IsRefusal e
-            (PostfixesTooDeep place.settings.swap_greed tree depth text.now self.old.limit)) }
+        ensures reads { (place : Place) (tree : Tree) (deep : ℕ)
+            → IsAt self.old (tree ∷ []) place → depth ≡ held deep → MatchResult result
+            (λ rest. ItemRead self.old self.new place tree deep text.now rest.now)
+            (λ e. IsRefusal e (NoPostfixes place.settings.swap_greed tree deep text.now)) }
     {
         let swap_greed = self.config.get_swap_greed();
-        let (deep, rest) = self
-            .trees
-            .read_postfixes(text, depth, self.limit, swap_greed)?;
+        let (deep, rest) = self.trees.read_postfixes(text, depth, swap_greed)?;
         self.heights.depth = self.heights.depth.max(deep);
         Ok(rest)
     }
@@ -94,7 +94,7 @@ impl Parser {
         requires atom { IsAtomPlace text.now }
         ensures reads { (place : Place) → IsAt self.old [] place → MatchResult result
             (λ rest. PartRead self.old self.new place text.now rest.now)
-            (λ e. IsRefusal e (NoEnds place text.now self.old.limit)) }
+            (λ e. IsRefusal e (NoEnds place text.now)) }
     {
         let Some((tree, behind)) = plain_atom(self.alloc, &mut self.sets, text, &self.config)?
         else {
@@ -109,7 +109,7 @@ impl Parser {
         requires stands { IsAtSomePlace self.old }
         ensures ends { (place : Place) → IsAt self.old [] place → OnOk result
             (IsAt self.new [] (record place { level = with_branch place.level })) }
-        ensures kept { (self.new.limit ≡ self.old.limit) × (self.new.groups ≡ self.old.groups) }
+        ensures kept { self.new.groups ≡ self.old.groups }
     {
         self.trees.join_items(self.heights.branch)?;
         self.heights.branch = self.trees.height();
@@ -134,7 +134,7 @@ impl Parser {
         requires room { self.old.groups + length text.now < 2 ^ 32 }
         ensures reads { (place : Place) → IsAt self.old [] place → MatchResult result
             (λ rest. PartRead self.old self.new place text.now rest.now)
-            (λ e. IsRefusal e (NoEnds place text.now self.old.limit)) }
+            (λ e. IsRefusal e (NoEnds place text.now)) }
     {
         let Some((head, rest)) = group_head(self.alloc, text, &self.config)? else {
             return Err(SyntaxError::Outside);
@@ -158,7 +158,6 @@ impl Parser {
         ensures opens { (place : Place) → IsAt self.old [] place → OnOk result
             (IsAt self.new [] (opened_at place config (capture_of captures))) }
         ensures groups { OnOk result (self.new.groups ≤ self.old.groups + 1) }
-        ensures limit { self.new.limit ≡ self.old.limit }
     {
         self.groups += captures.count();
         let height = self.trees.height();
@@ -182,7 +181,7 @@ impl Parser {
         requires stands { IsAtSomePlace self.old }
         ensures reads { (place : Place) → IsAt self.old [] place → MatchResult result
             (λ rest'. PartRead self.old self.new place (41 ∷ rest.now) rest'.now)
-            (λ e. IsRefusal e (NoEnds place (41 ∷ rest.now) self.old.limit)) }
+            (λ e. IsRefusal e (NoEnds place (41 ∷ rest.now))) }
     {
         self.end_level()?;
         let Some(
@@ -196,9 +195,7 @@ impl Parser {
         else {
             return Err(SyntaxError::Outside);
         };
-        let Some(depth) = deeper(self.heights.depth, self.limit) else {
-            return Err(SyntaxError::Nesting);
-        };
+        let depth = self.heights.depth.saturating_add(1);
         self.heights = heights;
         self.config = outside;
         self.trees.push_group(number, captures)?;
@@ -217,7 +214,7 @@ impl Parser {
         requires room { self.old.groups + length text.now < 2 ^ 32 }
         ensures reads { (place : Place) → IsAt self.old [] place → MatchResult result
             (λ after. PartRead self.old self.new place text.now after.now)
-            (λ e. IsRefusal e (NoEnds place text.now self.old.limit)) }
+            (λ e. IsRefusal e (NoEnds place text.now)) }
     {
         match c {
             '|' => {
@@ -235,8 +232,8 @@ impl Parser {
         requires stands { IsAtSomePlace self.old }
         requires room { self.old.groups + length text.now < 2 ^ 32 }
         ensures reads { (place : Place) → IsAt self.old [] place → MatchResult result
-            (λ _. TextRead self.old self.new place text.now)
-            (λ e. IsRefusal e (NoEnds place text.now self.old.limit)) }
+            (λ _. TextRead self.new place text.now)
+            (λ e. IsRefusal e (NoEnds place text.now)) }
     {
         let mut rest = text;
         while let Some((c, behind)) = first(rest) {
@@ -245,17 +242,17 @@ impl Parser {
         Ok(())
     }
 
-    /// The tree of the pattern, alone on its stack, where no group is open.
-    pub(crate) fn finish(mut self) -> Result<TreeStack, SyntaxError>
+    /// The tree of the pattern, alone on its stack, where no group is open, and its depth, held at
+    /// `usize::MAX`.
+    pub(crate) fn finish(mut self) -> Result<(TreeStack, usize), SyntaxError>
         requires stands { IsAtSomePlace self }
         ensures ends { (place : Place) → IsAt self [] place → MatchResult result
-            (λ trees. IsFinished place trees self.limit)
-            (λ e. IsRefusal e (NoEnds place [] self.limit)) }
+            (λ r. IsFinished place r.0 r.1) (λ e. IsRefusal e (NoEnds place [])) }
     {
         if !self.around.is_empty() {
             return Err(SyntaxError::Outside);
         }
         self.end_level()?;
-        Ok(self.trees)
+        Ok((self.trees, self.heights.depth))
     }
 }

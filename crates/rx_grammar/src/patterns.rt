@@ -2,9 +2,9 @@
 
 ghost use Rattle.std.specs.Prelude.{◌≡◌, ◌≢◌, ◌<◌, ◌≤◌, ◌↔◌, All, AllPairs, Contains, MatchBool, length, chars, encode_utf8_all, map, IfOk, IfErr};
 ghost use Rattle.rx_grammar.specs.Postorder.{tree_of, names_in};
-ghost use Rattle.rx_grammar.specs.Grammar.{Spells, SpellsNothing};
+ghost use Rattle.rx_grammar.specs.Grammar.{Spells, NeverSpells, IsTooDeep};
 ghost use Rattle.rx_grammar.specs.Nodes.{kind_of};
-ghost use Rattle.rx_grammar.specs.Stacks.{IsRefusal};
+ghost use Rattle.rx_grammar.specs.Stacks.{IsReason};
 
 use crate::error::SyntaxError;
 use crate::hir::{Hir, Node};
@@ -16,7 +16,7 @@ use std::alloc::{AllocError, Global};
 const MAX_BYTES: usize = 65_536;
 
 /// Whether the name stands among the names.
-fn stands_in(name: &[char], names: &[&[char]]) -> bool
+fn stands_in(name: &str, names: &[&str]) -> bool
     ensures { MatchBool result (Contains (map (λ name. name.now) names.now) name.now)
         (All (λ other. other ≢ name.now) (map (λ name. name.now) names.now)) }
 {
@@ -34,7 +34,7 @@ fn has_distinct_names(alloc: Global, nodes: &[Node]) -> Result<bool, AllocError>
         (AllPairs (λ a b. a ≢ b) (names_in (map kind_of nodes.now)))
         (AllPairs (λ a b. a ≢ b) (names_in (map kind_of nodes.now)) → ⊥)) }
 {
-    let mut names: Vec<&[char]> = Vec::new(alloc);
+    let mut names: Vec<&str> = Vec::new(alloc);
     for node in nodes {
         if let Some(name) = node.name() {
             if stands_in(name, &names) {
@@ -51,27 +51,33 @@ fn parse_characters(alloc: Global, text: &[char], config: &Config) -> Result<Hir
     requires size { length (encode_utf8_all text.now) ≤ 65536 }
     requires short { length text.now ≤ 65536 }
     ensures spells { IfOk result (λ hir. Spells text.now config.now (tree_of hir)) }
-    ensures refused { IfErr result (λ e. IsRefusal e (SpellsNothing text.now config.now)) }
+    ensures refused { IfErr result (λ e. IsReason e text.now config.now) }
 {
     let mut parser = Parser::new(alloc, config);
     parser.read(text)?;
-    let trees = parser.finish()?;
+    let (trees, depth) = parser.finish()?;
     let distinct = has_distinct_names(alloc, trees.nodes())?;
-    if distinct {
-        Ok(trees.into_hir())
-    } else {
-        Err(SyntaxError::Outside)
+    if !distinct {
+        return Err(SyntaxError::Outside);
     }
+    if depth > config.get_nest_limit() as usize {
+        return Err(SyntaxError::Nesting);
+    }
+    Ok(trees.into_hir())
 }
 
-/// What a pattern spells under these settings, exactly where it spells anything. Else the pattern is refused as
-/// `TooLong` where it has more than 65,536 bytes, and as `Outside` or `Nesting` where it has no more and spells
-/// nothing. `Memory` may stand in place of a tree and of the last two.
+/// What a pattern spells under these settings, exactly where it spells anything. Else the pattern
+/// is refused: as `TooLong` exactly where it has more than 65,536 bytes, as `Nesting` exactly where
+/// it would spell something at a greater nest limit, and as `Outside` exactly where it has no more
+/// bytes and spells nothing at any nest limit. `Memory` may stand in place of a tree and of the
+/// last two.
 pub fn parse(alloc: Global, text: &str, config: &Config) -> Result<Hir, SyntaxError>
     ensures spells { IfOk result (λ hir. Spells (chars text.now) config.now (tree_of hir)) }
-    ensures refused { IfErr result (λ e. e ≢ SyntaxError.TooLong → IsRefusal e
-        (SpellsNothing (chars text.now) config.now)) }
     ensures too_long { (result ≡ Err SyntaxError.TooLong) ↔ (65536 < length text.now) }
+    ensures nesting { result ≢ Err SyntaxError.Memory
+        → (result ≡ Err SyntaxError.Nesting) ↔ IsTooDeep (chars text.now) config.now }
+    ensures outside { result ≢ Err SyntaxError.Memory → (result ≡ Err SyntaxError.Outside)
+        ↔ ((length text.now ≤ 65536) × NeverSpells (chars text.now) config.now) }
 {
     if text.len() > MAX_BYTES {
         return Err(SyntaxError::TooLong);

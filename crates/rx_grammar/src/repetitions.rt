@@ -3,7 +3,8 @@
 ghost use Rattle.std.specs.Prelude.{◌≡◌, ◌≤◌, ◌<◌, true, MatchOption};
 ghost use Rattle.std.specs.Char.{is_ascii_digit};
 ghost use Rattle.std.specs.List.{AllByRecursion};
-ghost use Rattle.rx_grammar.specs.Repetitions.{Number, NoNumber, decimal_after, CountInBraces, NoCountInBraces, Count, NoCount, Postfix, NoPostfix};
+ghost use Rattle.rx_grammar.specs.Repetitions.{Number, decimal_after, CountInBraces, Count, Postfix};
+ghost use Rattle.rx_grammar.specs.Readers.{NoNumber, NoCountInBraces, NoCount, NoPostfix};
 
 use crate::hir::Repetition;
 use crate::input::{CharacterTest, eat, first, split_front};
@@ -89,7 +90,8 @@ pub(crate) fn count(text: &[char]) -> Option<(Bounds, &[char])>
     }
 }
 
-/// A count, and whether it is greedy: not with a `?` straight after it. `swap_greed` turns that round.
+/// A count, and whether it is greedy: not with a `?` straight after it. `swap_greed` turns that
+/// round.
 pub(crate) fn postfix(text: &[char], swap_greed: bool) -> Option<(Repetition, &[char])>
     ensures { MatchOption result (NoPostfix swap_greed text.now)
         (λ r. Postfix swap_greed text.now r.0 r.1.now) }

@@ -7,7 +7,8 @@ use crate::flags::Flag;
 use crate::hir::Look;
 use std::marker::Model;
 
-/// The settings that a pattern is read under. Flags in the pattern change the first four for a part of it.
+/// The settings that a pattern is read under. Flags in the pattern change the first four for a part
+/// of it.
 #[derive(Debug, Clone, Drop)]
 pub struct Config {
     case_insensitive: bool,
@@ -81,7 +82,8 @@ impl Config {
         self
     }
 
-    /// The byte that `.` doesn't match. A pattern that spells such a `.` is refused where the byte is 128 or more.
+    /// The byte that `.` doesn't match. A pattern that spells such a `.` is refused where the byte
+    /// is 128 or more.
     pub fn line_terminator(mut self, byte: u8) -> Config
         ensures { result ≡ record self { line_terminator = byte } }
     {

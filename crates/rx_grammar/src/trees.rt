@@ -1,21 +1,24 @@
 //! Trees that grow: nodes, each after what stands below it, and how many trees they make.
 
-ghost use Rattle.std.specs.Prelude.{ℕ, ◌≡◌, ◌+◌, ◌≤◌, List, [], ◌∷◌, ◌++◌, length, map, reverse, OnOk, MatchBool, MatchOption, MatchResult};
+ghost use Rattle.std.specs.Prelude.{ℕ, ◌≡◌, ◌+◌, ◌≤◌, ◌<◌, ◌^◌, List, [], ◌∷◌, ◌++◌, length, map, reverse, take, OnOk, MatchBool, MatchOption, MatchResult};
 ghost use Rattle.rx_grammar.specs.Trees.{Tree, concat_of};
 ghost use Rattle.rx_grammar.specs.Subtrees.{IsWellFormed};
-ghost use Rattle.rx_grammar.specs.Postorder.{after_node, alternate, trees_of, MayFollow};
+ghost use Rattle.rx_grammar.specs.Postorder.{after_node, alternate, trees_of};
+ghost use Rattle.rx_grammar.specs.Rows.{MayFollow, IsRowOf};
+ghost use Rattle.rx_grammar.specs.Weights.{held};
 ghost use Rattle.rx_grammar.specs.Nodes.{kind_of};
 ghost use Rattle.rx_grammar.specs.Input.{Stops};
 ghost use Rattle.rx_grammar.specs.Repetitions.{is_postfix_start};
 ghost use Rattle.rx_grammar.specs.Heads.{capture_of};
 ghost use Rattle.rx_grammar.specs.Atoms.{atom_tree};
-ghost use Rattle.rx_grammar.specs.Stacks.{captured, IsRefusal, PostfixesRead, PostfixesTooDeep};
+ghost use Rattle.rx_grammar.specs.Stacks.{captured, IsRefusal, PostfixesRead, NoPostfixes};
 
 use crate::atoms::AtomTree;
 use crate::error::SyntaxError;
 use crate::groups::GroupKind;
 use crate::hir::{Hir, Node, tree_with};
 use crate::input::first;
+use crate::properties::{Properties, RowProperties};
 use crate::repetitions::postfix;
 use std::alloc::{AllocError, Global};
 use std::marker::Model;
@@ -25,21 +28,23 @@ use std::marker::Model;
 #[derive(Debug, Drop)]
 pub(crate) struct TreeStack {
     nodes: Vec<Node>,
+    properties: Vec<Properties>,
     height: usize,
 }
 
 impl Model for TreeStack {
     ghost use Rattle.std.specs.Prelude.{List, map};
     ghost use Rattle.rx_grammar.specs.Subtrees.{NodeKind};
-    ghost use Rattle.rx_grammar.specs.Postorder.{AreStacked};
+    ghost use Rattle.rx_grammar.specs.Rows.{AreStacked};
 
     ghost Value = { List NodeKind };
 
-    ghost use Rattle.rx_grammar.specs.Nodes.{kind_of};
+    ghost use Rattle.rx_grammar.specs.Weights.{held};
+ghost use Rattle.rx_grammar.specs.Nodes.{kind_of};
 
     ghost view = { λ s. map kind_of s.nodes.items };
 
-    ghost invariant = { λ s. AreStacked (map kind_of s.nodes.items) s.height };
+    ghost invariant = { λ s. AreStacked (map kind_of s.nodes.items) s.properties.items s.height };
 }
 
 /// Whether a postfix begins with the character.
@@ -60,13 +65,6 @@ fn begins_postfix(text: &[char]) -> bool
     }
 }
 
-/// One level deeper, and `None` where that is deeper than the limit.
-pub(crate) fn deeper(depth: u32, limit: u32) -> Option<u32>
-    ensures { MatchOption result (limit ≤ depth) (λ deep. (deep ≡ depth + 1) × (deep ≤ limit)) }
-{
-    if depth < limit { Some(depth + 1) } else { None }
-}
-
 impl TreeStack {
     /// No tree.
     pub(crate) fn new(alloc: Global) -> TreeStack
@@ -74,6 +72,7 @@ impl TreeStack {
     {
         TreeStack {
             nodes: Vec::new(alloc),
+            properties: Vec::new(alloc),
             height: 0,
         }
     }
@@ -97,7 +96,21 @@ impl TreeStack {
         requires { (tree : Tree) × (trees_of self ≡ tree ∷ []) × IsWellFormed tree }
         ensures { result ≡ self }
     {
-        tree_with(self.nodes)
+        tree_with(self.nodes, self.properties)
+    }
+
+    /// What is known of the last trees, so many of them.
+    fn last_row(&self, count: usize) -> RowProperties
+        requires { count ≤ length (trees_of self.now) }
+        ensures row { IsRowOf result (take count (trees_of self.now)) }
+        ensures room { result.extent + 1 < 2 ^ 64 }
+    {
+        let mut row = RowProperties::none();
+        for _ in 0..count {
+            let root = self.properties.len() - row.extent - 1;
+            row = row.with(self.properties[root]);
+        }
+        row
     }
 
     /// Appends a node, below which the last trees are to stand.
@@ -106,7 +119,10 @@ impl TreeStack {
         ensures { OnOk result (trees_of self.new ≡ after_node (trees_of self.old) (kind_of node)) }
     {
         let width = node.width();
+        let properties = node.properties(self.last_row(width));
+        self.properties.reserve(1)?; // so that both lists grow or none does
         self.nodes.push(node)?;
+        self.properties.push(properties)?;
         self.height = self.height - width + 1;
         Ok(())
     }
@@ -136,8 +152,8 @@ impl TreeStack {
     /// The trees above this height become one: items in a row.
     pub(crate) fn join_items(&mut self, height: usize) -> Result<(), AllocError>
         requires { height ≤ length (trees_of self.old) }
-        ensures { (items below : List Tree) → trees_of self.old ≡ reverse items ++ below → length below ≡ height
-            → OnOk result (trees_of self.new ≡ concat_of items ∷ below) }
+        ensures { (items below : List Tree) → trees_of self.old ≡ reverse items ++ below
+            → length below ≡ height → OnOk result (trees_of self.new ≡ concat_of items ∷ below) }
     {
         let count = self.height() - height;
         match count {
@@ -161,31 +177,26 @@ impl TreeStack {
         }
     }
 
-    /// The postfixes at the start of the text, for the last tree, which has this depth: the depth with them, and
-    /// the text after them.
+    /// The postfixes at the start of the text, for the last tree, which has this depth: the depth
+    /// with them, held at `usize::MAX`, and the text after them.
     pub(crate) fn read_postfixes<'a>(
         &mut self,
         text: &'a [char],
-        mut depth: u32,
-        limit: u32,
+        mut depth: usize,
         swap_greed: bool,
-    ) -> Result<(u32, &'a [char]), SyntaxError>
+    ) -> Result<(usize, &'a [char]), SyntaxError>
         requires tree { 1 ≤ length (trees_of self.old) }
-        requires depth { depth ≤ limit }
-        ensures reads { (tree : Tree) (below : List Tree) → trees_of self.old ≡ tree ∷ below → MatchResult result
-            (λ r. PostfixesRead swap_greed tree depth text.now (trees_of self.new)
-            below limit r.0 r.1.now)
-            (λ e. IsRefusal e (PostfixesTooDeep swap_greed tree depth text.now limit)) }
+        ensures reads { (tree : Tree) (below : List Tree) (deep : ℕ)
+            → trees_of self.old ≡ tree ∷ below → depth ≡ held deep → MatchResult result
+            (λ r. PostfixesRead swap_greed tree deep text.now (trees_of self.new) below r.0 r.1.now)
+            (λ e. IsRefusal e (NoPostfixes swap_greed tree deep text.now)) }
     {
         let mut rest = text;
         while begins_postfix(rest) {
             let Some((repetition, behind)) = postfix(rest, swap_greed) else {
                 return Err(SyntaxError::Outside);
             };
-            let Some(deep) = deeper(depth, limit) else {
-                return Err(SyntaxError::Nesting);
-            };
-            depth = deep;
+            depth = depth.saturating_add(1);
             self.push(Node::Repeat(repetition))?;
             rest = behind;
         }

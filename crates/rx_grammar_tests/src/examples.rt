@@ -2,8 +2,8 @@
 
 use rx_grammar::syntax::Config;
 use rx_grammar::{
-    CharacterSet, ClassItem, ClassPerlKind, Hir, Look, Node, Repetition, SyntaxError, ordinal,
-    parse,
+    CharacterSet, ClassItem, ClassPerlKind, Hir, Look, Node, Properties, Repetition, SyntaxError,
+    ordinal, parse,
 };
 use rx_sets::AtomSets;
 use std::test::Fail;
@@ -24,7 +24,7 @@ fn hir(rt: HostRuntime) -> Result<(), Fail> {
             assert_eq!(rt; *look, Look::Start);
             assert_eq!(rt; set.contains(ordinal('a')), true);
             assert_eq!(rt; *number, 1);
-            assert_eq!(rt; name.as_slice(), ['w', 'o', 'r', 'd'].as_slice());
+            assert_eq!(rt; name.as_str(), "word");
             assert_eq!(rt;
                 *repetition,
                 Repetition {
@@ -36,6 +36,28 @@ fn hir(rt: HostRuntime) -> Result<(), Fail> {
         }
         _ => assert!(rt; false),
     }
+    assert_eq!(rt; hir.group_name(1), Some("word"));
+    assert_eq!(rt; hir.group_name(0), None);
+    assert_eq!(rt; hir.group_name(2), None);
+    Ok(())
+}
+
+/// What is known of each part of a tree: here of the `a` and of all of it.
+#[test]
+fn properties(rt: HostRuntime) -> Result<(), Fail> {
+    let hir = parse(rt.alloc(), "a*", &Config::new())?;
+    let letter = Properties {
+        extent: 1,
+        weight: 2,
+        may_be_empty: false,
+    };
+    let all = Properties {
+        extent: 2,
+        weight: 3,
+        may_be_empty: true,
+    };
+    assert_eq!(rt; hir.properties(), [letter, all].as_slice());
+    assert_eq!(rt; hir.weight(), 6);
     Ok(())
 }
 

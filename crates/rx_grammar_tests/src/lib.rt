@@ -1,4 +1,4 @@
-//! Tests of `rx_sets` and `rx_grammar`: sets, patterns, and an example for each public type.
+//! Tests of `rx_sets` and `rx_grammar`: sets, patterns, weights, and an example for each public type.
 #![tactic(auto)]
 
 #[cfg(test)]
@@ -7,3 +7,5 @@ mod examples;
 mod patterns;
 #[cfg(test)]
 mod sets;
+#[cfg(test)]
+mod weights;

@@ -217,6 +217,8 @@ fn nesting(rt: HostRuntime) -> Result<(), Fail> {
     assert!(rt; size(alloc, &groups, &config)? == Ok(251));
     let groups = around(alloc, 251, "(", "a", ")")?;
     assert!(rt; size(alloc, &groups, &config)? == Err(SyntaxError::Nesting));
+    let outside = around(alloc, 251, "(", "*", ")")?;
+    assert!(rt; size(alloc, &outside, &config)? == Err(SyntaxError::Outside));
     let postfixes = around(alloc, 250, "", "a", "*")?;
     assert!(rt; size(alloc, &postfixes, &config)? == Ok(251));
     let postfixes = around(alloc, 251, "", "a", "*")?;

@@ -1,6 +1,6 @@
 use Rattle.std.proofs.Common.{◌≡◌, true, take}
 use Rattle.std.specs.List.{AllByRecursion}
-use Rattle.rx_grammar.specs.Input.{passes}
+use Rattle.rx_grammar.specs.Readers.{passes}
 use Rattle.rx_grammar.proofs.input.split_front.Given as goal
 
 -- the characters so far pass

@@ -16,10 +16,8 @@ returns c = record {
         below = s.below;
         trees_are = c.in_ok-join_branches.ensures (with_branch place.level).branches s.below (s.trees_are ∙ s.level.trees_are) (sym s.level.group_is);
         depth_is = s.level.depth_is;
-        depth_fits = s.level.depth_fits;
         around = s.around;
         groups_are = s.groups;
-        limit = c.in_ok-end_branch.ensures.kept.0;
-        groups = c.in_ok-end_branch.ensures.kept.1;
+        groups = c.in_ok-end_branch.ensures.kept;
       };
 }

@@ -9,7 +9,7 @@ pub returns-then-not-is_empty : goal.returns-then-not-is_empty
 returns-then-not-is_empty c = record {
   ends = λ place stands.
       let around = c.args.self.around in
-      group_open_at_end place c.args.self.limit (some_arounds around.items (λ none. eqb-false (vec_len around) 0 (sym c.if-not-is_empty.ensures) (omega (arith, none, around.ok.0))) stands.around);
+      group_open_at_end place (some_arounds around.items (λ none. eqb-false (vec_len around) 0 (sym c.if-not-is_empty.ensures) (omega (arith, none, around.ok.0))) stands.around);
 }
 
 pub returns : goal.returns
@@ -22,6 +22,6 @@ returns c = record {
       record {
         nothing_open = closed;
         tree_is = e.trees_are ∙ ap (λ x. tree_at place.level ∷ x) (nothing_below e.around closed);
-        fits = omega (arith, e.depth_fits, e.limit);
+        depth_is = e.depth_is;
       };
 }

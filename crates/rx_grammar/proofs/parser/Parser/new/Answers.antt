@@ -8,8 +8,8 @@ returns-clause-stands c = record {
   trees = [];
   below = [];
   trees_are = c.new-2.ensures;
-  level = level_none [] c.get_nest_limit.result 0 refl;
+  level = level_none [] 0 refl;
   settings = c.copied.ensures;
   groups = refl;
-  around = subst (λ x. Surround c.get_nest_limit.result x [] []) (sym (ap reverse c.new.ensures.items)) outermost;
+  around = subst (λ x. Surround x [] []) (sym (ap reverse c.new.ensures.items)) outermost;
 }

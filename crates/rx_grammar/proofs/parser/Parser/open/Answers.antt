@@ -9,7 +9,6 @@ use Rattle.rx_grammar.proofs.parser.Parser.open.Goals as goal
 pub returns-clause-opens : goal.returns-clause-opens
 returns-clause-opens c = λ place stands.
     let k = capture_of c.args.captures in
-    let limit = c.args.self.now.limit in
     let trees = stands.trees in
     let height = c.height-height.ensures ∙ ap length stands.trees_are in
     let groups = ap₂ (λ a b. a + b) stands.groups c.count.ensures ∙ sym (opened_by place.groups k) in
@@ -18,9 +17,9 @@ returns-clause-opens c = λ place stands.
       trees = trees;
       below = trees;
       trees_are = stands.trees_are;
-      level = subst (λ x. IsLevel x limit no_level trees trees) (sym c.replace.ensures.after) (level_none trees limit c.height-height.result height);
+      level = subst (λ x. IsLevel x no_level trees trees) (sym c.replace.ensures.after) (level_none trees c.height-height.result height);
       settings = c.replace-2.ensures.after;
       groups = groups;
-      around = subst (λ x. Surround limit x (opened_at place c.args.config k).around trees) (sym turned)
-          (further (subst (λ x. IsLevel x limit place.level trees stands.below) (sym c.replace.ensures.value) stands.level) (c.replace-2.ensures.value ∙ stands.settings) groups refl stands.around);
+      around = subst (λ x. Surround x (opened_at place c.args.config k).around trees) (sym turned)
+          (further (subst (λ x. IsLevel x place.level trees stands.below) (sym c.replace.ensures.value) stands.level) (c.replace-2.ensures.value ∙ stands.settings) groups refl stands.around);
     }

@@ -1,6 +1,5 @@
-use Rattle.std.proofs.Common.{subst, arith}
+use Rattle.std.proofs.Common.{arith}
 use Rattle.std.proofs.lemmas.Result.{err_from_is_err_and}
-use Rattle.rx_grammar.specs.Resuming.{NoEnds}
 use Rattle.rx_grammar.proofs.PlaceLaws.{refusal_map}
 use Rattle.rx_grammar.proofs.PatternLaws.{NoEnds-before, ReadSoFar-more, ReadSoFar-end}
 use Rattle.rx_grammar.proofs.parser.Parser.read.Goals as goal
@@ -14,7 +13,7 @@ returns-in_err-rest c = record {
       let so_far = c.loop-c.invariant.so_far place stands in
       let h = c.in_err-rest.ensures.reads so_far.next so_far.stands in
       let p = err_from_is_err_and c.from_residual.result c.from_residual.ensures.1 in
-      rw (p.1, p.2) (refusal_map c.in_err-rest.field-0.0 (λ none. NoEnds-before so_far.same (subst (λ x. NoEnds so_far.next c.loop-c.rest.now x) so_far.limit none)) h);
+      rw (p.1, p.2) (refusal_map c.in_err-rest.field-0.0 (λ none. NoEnds-before so_far.same none) h);
 }
 
 pub loop-c-smaller : goal.loop-c-smaller

@@ -7,7 +7,7 @@ use Rattle.rx_grammar.proofs.parser.Parser.read.Given as goal
 abbrev pub invariant-loop-c : goal.invariant-loop-c
 invariant-loop-c l = record {
   room : l.self.groups + length l.rest < 2 ^ 32;
-  so_far : (place : Place) → IsAt l.fn.self [] place → ReadSoFar l.fn.self l.self place l.text l.rest;
+  so_far : (place : Place) → IsAt l.fn.self [] place → ReadSoFar l.self place l.text l.rest;
 }
 
 abbrev pub decreases-loop-c : goal.decreases-loop-c

@@ -1,0 +1,62 @@
+-- Trees in a row, of which the last ones may become parts of another one, and what is known of them.
+use Rattle.std.specs.Prelude.{◌≡◌, ℕ, ◌+◌, ◌≤◌, Bool, true, false, ◌&&◌, ◌||◌, List, [], ◌∷◌, length, map, reverse, flat_map}
+use Rattle.rx_grammar.specs.declared.properties.Properties.{Properties}
+use Rattle.rx_grammar.specs.declared.properties.RowProperties.{RowProperties}
+use Rattle.rx_grammar.specs.Trees.{Tree}
+use Rattle.rx_grammar.specs.Subtrees.{NodeKind, a_group, a_concat, an_alternation, width_of, root_of, subtrees_of, nodes_of, IsWellFormed}
+use Rattle.rx_grammar.specs.Weights.{may_be_empty, weight_of, held}
+use Rattle.rx_grammar.specs.Postorder.{trees_of}
+use Rattle.rx_grammar.specs.Nodes.{properties_of}
+
+-- how many groups a node is by itself, without those below it
+abbrev pub own_groups : NodeKind → ℕ
+own_groups (a_group number name) = 1
+own_groups _ = 0
+
+-- the parts of trees in a row, of which the last one stands first
+abbrev pub row_subtrees : List Tree → List Tree
+row_subtrees trees = flat_map subtrees_of (reverse trees)
+
+-- concatenations and alternations stand over two trees or more
+abbrev pub IsOverTwo : NodeKind → Type 0
+IsOverTwo (a_concat count) = 2 ≤ count
+IsOverTwo (an_alternation count) = 2 ≤ count
+IsOverTwo _ = Unit {0}
+
+-- the node may follow the trees
+pub record MayFollow (trees : List Tree) (node : NodeKind) : Type 0 where
+  pub fits : width_of node ≤ length trees
+  pub over_two : IsOverTwo node
+
+abbrev pub weights_in : List Tree → ℕ
+weights_in [] = 0
+weights_in (tree ∷ trees) = weight_of tree + weights_in trees
+
+abbrev pub all_empty_in : List Tree → Bool
+all_empty_in [] = true
+all_empty_in (tree ∷ trees) = may_be_empty tree && all_empty_in trees
+
+abbrev pub any_empty_in : List Tree → Bool
+any_empty_in [] = false
+any_empty_in (tree ∷ trees) = may_be_empty tree || any_empty_in trees
+
+-- this is known of the trees
+pub record IsRowOf (row : RowProperties) (trees : List Tree) : Type 0 where
+  pub extent : row.extent ≡ length (row_subtrees trees)
+  pub weight : row.weight ≡ held (weights_in trees)
+  pub all : row.all_may_be_empty ≡ all_empty_in trees
+  pub any : row.any_may_be_empty ≡ any_empty_in trees
+
+-- the nodes are exactly those of the trees that they make, this is what is known of each, and this is the number
+-- of trees
+pub record AreStacked (nodes : List NodeKind) (properties : List Properties) (height : ℕ) : Type 0 where
+  pub counted : height ≡ length (trees_of nodes)
+  pub exact : nodes ≡ map root_of (row_subtrees (trees_of nodes))
+  pub known : properties ≡ map properties_of (row_subtrees (trees_of nodes))
+
+-- the nodes are exactly those of the tree, which is one that a text may spell, and this is what is known of each
+pub record AreNodesOf (tree : Tree) (nodes : List NodeKind) (properties : List Properties) : Type 0 where
+  pub made : trees_of nodes ≡ tree ∷ []
+  pub exact : nodes ≡ nodes_of tree
+  pub well_formed : IsWellFormed tree
+  pub known : properties ≡ map properties_of (subtrees_of tree)

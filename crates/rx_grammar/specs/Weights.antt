@@ -1,0 +1,58 @@
+-- How much a pattern weighs: how large the program is that stands for it.
+use Rattle.std.specs.Prelude.{ℕ, zero, suc, ◌+◌, ◌*◌, ◌-◌, ◌^◌, Bool, true, false, ◌==◌, ◌&&◌, ◌||◌, length, min, Option, Some, None}
+use Rattle.rx_grammar.specs.Trees.{Tree, Trees, empty, one_of, look_at, group, concat, alternation, repeated, two, more}
+
+-- some path through a tree's program takes no character, whatever looks stand on it
+abbrev mutual
+  pub may_be_empty : Tree → Bool
+  may_be_empty empty = true
+  may_be_empty (one_of ranges) = false
+  may_be_empty (look_at look) = true
+  may_be_empty (group number name tree) = may_be_empty tree
+  may_be_empty (concat trees) = all_may_be_empty trees
+  may_be_empty (alternation trees) = any_may_be_empty trees
+  may_be_empty (repeated repetition tree) = (repetition.min == 0) || may_be_empty tree
+
+  pub all_may_be_empty : Trees → Bool
+  all_may_be_empty (two first second) = may_be_empty first && may_be_empty second
+  all_may_be_empty (more first others) = may_be_empty first && all_may_be_empty others
+
+  pub any_may_be_empty : Trees → Bool
+  any_may_be_empty (two first second) = may_be_empty first || may_be_empty second
+  any_may_be_empty (more first others) = may_be_empty first || any_may_be_empty others
+
+-- what a repetition weighs: its least and greatest number, then the weight of what is repeated, and whether that
+-- may be empty
+abbrev pub repeated_weight : ℕ → Option ℕ → ℕ → Bool → ℕ
+-- h{0}: as no item
+repeated_weight n (Some zero) w may = 1
+-- h{n,m}: n copies, then m - n optional copies, each inside the one before
+repeated_weight n (Some (suc m)) w may = n * w + (suc m - n) * (1 + w)
+-- h*, h{0,}: a loop
+repeated_weight zero None w false = 1 + w
+-- where h may be empty: an optional loop
+repeated_weight zero None w true = 2 + w
+-- h+, h{n,}: n copies, and a way back to the last one
+repeated_weight (suc n) None w may = suc n * w + 1
+
+abbrev mutual
+  pub weight_of : Tree → ℕ
+  weight_of empty = 1
+  weight_of (one_of ranges) = 1 + length ranges
+  weight_of (look_at look) = 1
+  weight_of (group number name tree) = 2 + weight_of tree
+  weight_of (concat trees) = all_weights_of trees
+  weight_of (alternation trees) = 1 + all_weights_of trees
+  weight_of (repeated repetition tree) = repeated_weight repetition.min repetition.max (weight_of tree) (may_be_empty tree)
+
+  pub all_weights_of : Trees → ℕ
+  all_weights_of (two first second) = weight_of first + weight_of second
+  all_weights_of (more first others) = weight_of first + all_weights_of others
+
+-- what a whole pattern weighs: with the group of the whole match, and the end
+abbrev pub pattern_weight : Tree → ℕ
+pattern_weight tree = 3 + weight_of tree
+
+-- a number as it is kept: numbers above the greatest one that is kept stay at that
+abbrev pub held : ℕ → ℕ
+held n = min n (2 ^ 64 - 1)

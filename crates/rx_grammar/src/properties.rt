@@ -1,0 +1,138 @@
+//! What is known of each part of a tree.
+
+ghost use Rattle.std.specs.Prelude.{ℕ, ◌≡◌, ◌+◌, ◌<◌, ◌^◌, List, [], ◌∷◌, ◌++◌, take};
+ghost use Rattle.rx_grammar.specs.Trees.{Tree};
+ghost use Rattle.rx_grammar.specs.Subtrees.{width_of};
+ghost use Rattle.rx_grammar.specs.Weights.{may_be_empty, weight_of, repeated_weight, held};
+ghost use Rattle.rx_grammar.specs.Postorder.{first_of, after_node};
+ghost use Rattle.rx_grammar.specs.Rows.{MayFollow, IsRowOf};
+ghost use Rattle.rx_grammar.specs.Nodes.{kind_of, properties_of};
+
+use crate::hir::{Node, Repetition};
+
+/// What is known of a part of a tree: of a node with all that stands below it.
+#[derive(Debug, Clone, Copy, PartialEq, Eq)]
+pub struct Properties {
+    /// How many nodes the part has. They stand in a row, and the part's own node is the last of
+    /// them.
+    pub extent: usize,
+    /// What the part weighs, and `usize::MAX` where it weighs more.
+    pub weight: usize,
+    /// Whether some path through the part's program takes no character, whatever looks stand on it.
+    pub may_be_empty: bool,
+}
+
+/// What is known of parts in a row.
+#[derive(Debug, Clone, Copy, PartialEq, Eq)]
+pub(crate) struct RowProperties {
+    pub(crate) extent: usize,
+    weight: usize,
+    all_may_be_empty: bool,
+    any_may_be_empty: bool,
+}
+
+impl RowProperties {
+    /// What is known of no part.
+    pub(crate) fn none() -> RowProperties
+        ensures { IsRowOf result [] }
+    {
+        RowProperties {
+            extent: 0,
+            weight: 0,
+            all_may_be_empty: true,
+            any_may_be_empty: false,
+        }
+    }
+
+    /// What is known with one part more.
+    pub(crate) fn with(self, part: Properties) -> RowProperties
+        requires { self.extent + part.extent < 2 ^ 64 }
+        ensures { (trees : List Tree) (tree : Tree) → IsRowOf self trees → part ≡ properties_of tree
+            → IsRowOf result (trees ++ tree ∷ []) }
+    {
+        RowProperties {
+            extent: self.extent + part.extent,
+            weight: self.weight.saturating_add(part.weight),
+            all_may_be_empty: self.all_may_be_empty && part.may_be_empty,
+            any_may_be_empty: self.any_may_be_empty || part.may_be_empty,
+        }
+    }
+}
+
+impl Repetition {
+    /// What the repetition weighs, where what it stands after weighs so much.
+    fn weight(self, weight: usize, may_be_empty: bool) -> usize
+        ensures { (w : ℕ) → weight ≡ held w
+            → result ≡ held (repeated_weight self.min self.max w may_be_empty) }
+    {
+        let least = self.min as usize;
+        match self.max {
+            Some(most) => {
+                if most == 0 {
+                    return 1;
+                }
+                let further = (most as usize).saturating_sub(least);
+                least
+                    .saturating_mul(weight)
+                    .saturating_add(further.saturating_mul(weight.saturating_add(1)))
+            }
+            None => {
+                if least > 0 {
+                    least.saturating_mul(weight).saturating_add(1)
+                } else if may_be_empty {
+                    weight.saturating_add(2)
+                } else {
+                    weight.saturating_add(1)
+                }
+            }
+        }
+    }
+}
+
+impl Node {
+    /// What the node weighs, with what stands below it.
+    fn weight(&self, below: RowProperties) -> usize
+        ensures { (trees : List Tree) → MayFollow trees (kind_of self.now)
+            → IsRowOf below (take (width_of (kind_of self.now)) trees)
+            → result ≡ held (weight_of (first_of (after_node trees (kind_of self.now)))) }
+    {
+        match self {
+            Node::Empty | Node::Look(_) => 1,
+            Node::Set(set) => 1 + set.ranges().len(),
+            Node::Group(_, _) => below.weight.saturating_add(2),
+            Node::Concat(_) => below.weight,
+            Node::Alternation(_) => below.weight.saturating_add(1),
+            Node::Repeat(repetition) => repetition.weight(below.weight, below.all_may_be_empty),
+        }
+    }
+
+    /// Whether the node may be empty, with what stands below it.
+    fn may_be_empty(&self, below: RowProperties) -> bool
+        ensures { (trees : List Tree) → MayFollow trees (kind_of self.now)
+            → IsRowOf below (take (width_of (kind_of self.now)) trees)
+            → result ≡ may_be_empty (first_of (after_node trees (kind_of self.now))) }
+    {
+        match self {
+            Node::Empty | Node::Look(_) => true,
+            Node::Set(_) => false,
+            Node::Group(_, _) => below.all_may_be_empty,
+            Node::Concat(_) => below.all_may_be_empty,
+            Node::Alternation(_) => below.any_may_be_empty,
+            Node::Repeat(repetition) => repetition.min == 0 || below.all_may_be_empty,
+        }
+    }
+
+    /// What is known of the node with what stands below it.
+    pub(crate) fn properties(&self, below: RowProperties) -> Properties
+        requires { below.extent + 1 < 2 ^ 64 }
+        ensures { (trees : List Tree) → MayFollow trees (kind_of self.now)
+            → IsRowOf below (take (width_of (kind_of self.now)) trees)
+            → result ≡ properties_of (first_of (after_node trees (kind_of self.now))) }
+    {
+        Properties {
+            extent: below.extent + 1,
+            weight: self.weight(below),
+            may_be_empty: self.may_be_empty(below),
+        }
+    }
+}

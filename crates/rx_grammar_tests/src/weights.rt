@@ -1,0 +1,82 @@
+//! What patterns weigh, and what is known of their parts.
+
+use rx_grammar::syntax::Config;
+use rx_grammar::{Properties, SyntaxError, parse};
+use std::alloc::Global;
+use std::test::Fail;
+
+/// What the text weighs as a pattern.
+fn weight(alloc: Global, text: &str) -> Result<usize, SyntaxError> {
+    Ok(parse(alloc, text, &Config::new())?.weight())
+}
+
+#[test]
+fn weights(rt: HostRuntime) -> Result<(), Fail> {
+    let alloc = rt.alloc();
+    let table = [
+        ("", 4),
+        ("a", 5),
+        ("^", 4),
+        (".", 6),
+        ("[^\\s\\S]", 4),
+        ("[\\x{D7FF}-\\x{E000}]", 5),
+        ("(a)|b", 10),
+        ("[a-c]{2,4}", 13),
+        ("a?", 6),
+        ("a*", 6),
+        ("(?:a*)*", 8),
+        ("(?:a?)*", 8),
+        ("(?:\\b)*", 6),
+        ("a+", 6),
+        ("a{3,}", 10),
+        ("a{3}", 9),
+        ("a{65535}{65535}{0}", 4),
+        ("^a{65535}a{65535}", 262_144),
+        ("^^a{65535}a{65535}", 262_145),
+        ("a{65535}{65535}{65535}{65535}", usize::MAX),
+        ("(?:a{65535}{65535}{65535}{65535}){0}", 4),
+    ];
+    for (text, wanted) in table {
+        assert!(rt; weight(alloc, text)? == wanted, "{text}");
+    }
+    Ok(())
+}
+
+/// A part that takes characters.
+fn part(extent: usize, weight: usize) -> Properties {
+    Properties {
+        extent,
+        weight,
+        may_be_empty: false,
+    }
+}
+
+#[test]
+fn parts(rt: HostRuntime) -> Result<(), Fail> {
+    let hir = parse(rt.alloc(), "(a)|bc", &Config::new())?;
+    let wanted = [
+        part(1, 2),
+        part(2, 4),
+        part(1, 2),
+        part(1, 2),
+        part(3, 4),
+        part(6, 9),
+    ];
+    assert_eq!(rt; hir.properties(), wanted.as_slice());
+    Ok(())
+}
+
+#[test]
+fn empty_parts(rt: HostRuntime) -> Result<(), Fail> {
+    let hir = parse(rt.alloc(), "(?:\\b|a)+", &Config::new())?;
+    match hir.properties() {
+        [look, letter, branches, all] => {
+            assert_eq!(rt; look.may_be_empty, true);
+            assert_eq!(rt; letter.may_be_empty, false);
+            assert_eq!(rt; branches.may_be_empty, true);
+            assert_eq!(rt; all.may_be_empty, true);
+        }
+        _ => assert!(rt; false),
+    }
+    Ok(())
+}
