@@ -223,7 +223,7 @@ next_part trees k d below =
     let inside : length own - 1 < length (map properties_of own) = omega (arith, some, length-map own properties_of) in (
       omega (arith, lengths, some),
       ap₂ (λ l i. get_or l i d) mapped at ∙ get_or-append-add (map properties_of rest) (map properties_of own ++ map properties_of last) (length own - 1) d
-      ∙ get_or_append_left (map properties_of own) (map properties_of last) d (length own - 1) inside ∙ last_part tree d,
+          ∙ get_or_append_left (map properties_of own) (map properties_of last) d (length own - 1) inside ∙ last_part tree d,
       omega (arith, lengths),
     )
 

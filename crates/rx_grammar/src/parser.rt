@@ -71,11 +71,7 @@ impl Parser {
 
     /// The postfixes after an atom of this depth, which is an item with them. Answers the text
     /// after it.
-    fn finish_item<'a>(
-        &mut self,
-        text: &'a [char],
-        depth: usize,
-    ) -> Result<&'a [char], SyntaxError>
+    fn finish_item<'a>(&mut self, text: &'a [char], depth: usize) -> Result<&'a [char], SyntaxError>
         requires stands { (place : Place) × (tree : Tree) × IsAt self.old (tree ∷ []) place }
         ensures reads { (place : Place) (tree : Tree) (deep : ℕ)
             → IsAt self.old (tree ∷ []) place → depth ≡ held deep → MatchResult result

@@ -40,7 +40,7 @@ impl Model for TreeStack {
     ghost Value = { List NodeKind };
 
     ghost use Rattle.rx_grammar.specs.Weights.{held};
-ghost use Rattle.rx_grammar.specs.Nodes.{kind_of};
+    ghost use Rattle.rx_grammar.specs.Nodes.{kind_of};
 
     ghost view = { λ s. map kind_of s.nodes.items };
 

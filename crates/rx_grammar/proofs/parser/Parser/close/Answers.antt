@@ -29,17 +29,19 @@ finish_item-requires c =
     let k = capture_of c.in-Some.field-0.captures in
     let made = c.in_ok-push_group.ensures (tree_at place.level) e.below e.trees_are in
     let same = captured_grouped c.in-Some.field-0.number inner.group.groups k (tree_at place.level) (inner.number ∙ ap (opened inner.group.groups) (sym inner.captures)) ∙ ap (λ x. grouped inner.group.groups x (tree_at place.level)) inner.captures in record {
-      stands = (behind_group place inner.group inner.others,
-      grouped inner.group.groups inner.group.capture (tree_at place.level),
-      record {
-        trees = e.below;
-        below = inner.below;
-        trees_are = made ∙ ap (λ x. x ∷ e.below) same;
-        level = inner.level;
-        settings = inner.settings;
-        groups = e.groups_are;
-        around = inner.rest;
-      });
+      stands = (
+        behind_group place inner.group inner.others,
+        grouped inner.group.groups inner.group.capture (tree_at place.level),
+        record {
+          trees = e.below;
+          below = inner.below;
+          trees_are = made ∙ ap (λ x. x ∷ e.below) same;
+          level = inner.level;
+          settings = inner.settings;
+          groups = e.groups_are;
+          around = inner.rest;
+        },
+      );
     }
 
 pub returns : goal.returns

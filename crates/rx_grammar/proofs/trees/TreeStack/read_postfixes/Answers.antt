@@ -24,8 +24,10 @@ loop-rest-preserved c =
       so_far = λ tree below deep e kept.
           let so_far = inv.so_far tree below deep e kept in (
             so_far.0 + 1,
-            (c.saturating_add-depth.ensures ∙ ap (λ n. min (n + 1) (2 ^ 64 - 1)) so_far.1.0 ∙ held-next so_far.0,
-            PostfixesSoFar-more so_far.1.1 c.in-Some.ensures refl c.in_ok-push.ensures),
+            (
+              c.saturating_add-depth.ensures ∙ ap (λ n. min (n + 1) (2 ^ 64 - 1)) so_far.1.0 ∙ held-next so_far.0,
+              PostfixesSoFar-more so_far.1.1 c.in-Some.ensures refl c.in_ok-push.ensures,
+            ),
           );
     }
 
