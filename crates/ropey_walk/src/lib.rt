@@ -1,0 +1,6 @@
+//! Parts of a rope that act as texts of their own, as the slices of the Rust crate `ropey` do.
+#![tactic(auto)]
+
+pub mod slice;
+
+pub use crate::slice::RopeSlice;
