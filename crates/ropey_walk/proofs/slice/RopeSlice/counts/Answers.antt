@@ -1,0 +1,10 @@
+use Rattle.std.proofs.Common.{◌+◌, ap, sym, ◌∙◌}
+use Rattle.ropey_tree.specs.Counts.{counts_of}
+use Rattle.ropey_walk.specs.Parts.{pieces_under}
+use Rattle.ropey_walk.proofs.Clipping.{text-clip}
+use Rattle.ropey_walk.proofs.slice.RopeSlice.counts.Goals as goal
+
+pub returns : goal.returns
+returns c =
+    let s = c.args.self.now in
+    s.counted ∙ ap counts_of (sym (text-clip s.start.chars (s.start.chars + s.len.chars) (pieces_under s.node)))
