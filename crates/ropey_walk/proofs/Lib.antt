@@ -1,1 +1,9 @@
+pub mod Cuts
+pub mod Shows
+pub mod Placing
+pub mod Reading
 pub mod Clipping
+pub mod Counting
+pub mod Clipped
+pub mod Reaching
+pub mod Slices

@@ -4,7 +4,7 @@ use Rattle.ropey_walk.specs.Parts.{pieces_under}
 use Rattle.ropey_walk.proofs.Clipping.{text-clip}
 use Rattle.ropey_walk.proofs.slice.RopeSlice.counts.Goals as goal
 
-pub returns : goal.returns
-returns c =
+pub returns-clause-counts : goal.returns-clause-counts
+returns-clause-counts c =
     let s = c.args.self.now in
     s.counted ∙ ap counts_of (sym (text-clip s.start.chars (s.start.chars + s.len.chars) (pieces_under s.node)))
