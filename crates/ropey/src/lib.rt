@@ -5,7 +5,6 @@ mod chunks;
 mod conversions;
 pub mod iter;
 pub mod laws;
-mod places;
 mod rope;
 mod rope_builder;
 
@@ -13,3 +12,4 @@ pub use crate::rope::Rope;
 pub use crate::rope_builder::RopeBuilder;
 pub use ropey_tree::breaks;
 pub use ropey_tree::error::Error;
+pub use ropey_walk::RopeSlice;

@@ -7,3 +7,4 @@ pub mod Counting
 pub mod Clipped
 pub mod Reaching
 pub mod Slices
+pub mod OnePiece
