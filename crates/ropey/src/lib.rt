@@ -12,4 +12,3 @@ pub use crate::rope::Rope;
 pub use crate::rope_builder::RopeBuilder;
 pub use ropey_tree::breaks;
 pub use ropey_tree::error::Error;
-pub use ropey_walk::RopeSlice;
