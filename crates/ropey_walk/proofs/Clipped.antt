@@ -117,6 +117,7 @@ clip-all ps h = ap (pieces_from_char 0) (to-all ps h) ∙ from-none ps h
         let rest : n - length p ≡ length (concat ps) = omega (arith, sum) in
         to-here n p ps (omega (arith, sum, some_chars p (first_piece p ps h).not_empty)) ∙ ap (λ q. q ∷ pieces_to_char (n - length p) ps) (take_all n p (omega (arith, sum)))
         ∙ ap (λ k. p ∷ pieces_to_char k ps) rest ∙ ap (λ qs. p ∷ qs) (to-all ps (rest_cut p ps h))
+
     from-none : (ps : List (List ℕ)) → IsCutting ps → pieces_from_char 0 ps ≡ ps
     from-none [] h = refl
     from-none (p ∷ ps) h = from-here 0 p ps (some_chars p (first_piece p ps h).not_empty)

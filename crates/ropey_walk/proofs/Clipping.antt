@@ -170,18 +170,18 @@ to-from m a [] = refl
 to-from m a (p ∷ ps) = elim (cases_lt a (length p)) [
   | inl here ↦ inside m refl here
   | inr past ↦ elim (cases_lt 0 (a + m)) [
-      | inl some ↦
-          let same : a - length p + m ≡ a + m - length p = omega (arith, past) in
-          ap (pieces_to_char m) (from-past a p ps past)
-          ∙ to-from m (a - length p) ps
-          ∙ ap (λ n. pieces_from_char (a - length p) (pieces_to_char n ps)) same
-          ∙ sym (ap (pieces_from_char a) (to-here (a + m) p ps some ∙ ap (λ q. q ∷ pieces_to_char (a + m - length p) ps) (take_all (a + m) p (omega (arith, past)))) ∙ from-past a p (pieces_to_char (a + m - length p) ps) past)
-      | inr none ↦
-          let no_m : m ≡ 0 = omega (arith, none) in
-          let no_sum : a + m ≡ 0 = omega (arith, none) in
-          ap (λ n. pieces_to_char n (pieces_from_char a (p ∷ ps))) no_m ∙ to-none (pieces_from_char a (p ∷ ps))
-          ∙ sym (ap (λ n. pieces_from_char a (pieces_to_char n (p ∷ ps))) no_sum)
-    ]
+    | inl some ↦
+        let same : a - length p + m ≡ a + m - length p = omega (arith, past) in
+        ap (pieces_to_char m) (from-past a p ps past)
+        ∙ to-from m (a - length p) ps
+        ∙ ap (λ n. pieces_from_char (a - length p) (pieces_to_char n ps)) same
+        ∙ sym (ap (pieces_from_char a) (to-here (a + m) p ps some ∙ ap (λ q. q ∷ pieces_to_char (a + m - length p) ps) (take_all (a + m) p (omega (arith, past)))) ∙ from-past a p (pieces_to_char (a + m - length p) ps) past)
+    | inr none ↦
+        let no_m : m ≡ 0 = omega (arith, none) in
+        let no_sum : a + m ≡ 0 = omega (arith, none) in
+        ap (λ n. pieces_to_char n (pieces_from_char a (p ∷ ps))) no_m ∙ to-none (pieces_from_char a (p ∷ ps))
+        ∙ sym (ap (λ n. pieces_from_char a (pieces_to_char n (p ∷ ps))) no_sum)
+  ]
 ]
   where
     inside : (n : ℕ) → n ≡ m → a < length p → pieces_to_char m (pieces_from_char a (p ∷ ps)) ≡ pieces_from_char a (pieces_to_char (a + m) (p ∷ ps))

@@ -164,6 +164,7 @@ module _ (law : BreaksOfParts) where
     where
       bytes : byte_len (take m t) ≤ byte_len (take a t)
       bytes = omega (arith, ap byte_len (take-parts m a t h), byte_len-append (take m t) (between m a t))
+
       up : (by : By) → amount by (standing t m) ≤ amount by (standing t a)
       up Bytes = bytes
       up Chars = h

@@ -190,16 +190,16 @@ module _ (law : BreaksOfParts) (counted : CountsAreOfTheText) (pieces : List (Li
         | inr past ↦
             let more = ap counts_of (between-parts a e (length l) t (omega arith) past part.within) in
             absurd (
-              omega (
-                arith,
-                inside,
-                f.not_past,
-                ap (amount by) f.stands_before,
-                from_start by l f.low (omega (arith, past)),
-                ap (amount by) more,
-                amount-front law by (between a e t) (between e (length l) t),
-                ap (amount by) part.counted,
-              )
+            omega (
+              arith,
+              inside,
+              f.not_past,
+              ap (amount by) f.stands_before,
+              from_start by l f.low (omega (arith, past)),
+              ap (amount by) more,
+              amount-front law by (between a e t) (between e (length l) t),
+              ap (amount by) part.counted,
+            )
             )
       ]
 
@@ -209,9 +209,9 @@ module _ (law : BreaksOfParts) (counted : CountsAreOfTheText) (pieces : List (Li
       elim (cases_lt start.chars (length m)) [
         | inl p ↦ p
         | inr past ↦ elim f.passed [
-            | inl p ↦ absurd (omega (arith, p, up_to_start by m f.high past))
-            | inr all ↦ absurd (omega (arith, all, past, part.within, some))
-          ]
+          | inl p ↦ absurd (omega (arith, p, up_to_start by m f.high past))
+          | inr all ↦ absurd (omega (arith, all, past, part.within, some))
+        ]
       ]
 
   pub reached-within : (leaf : List ℕ) (by : By) (i : ℕ) (before : Counts) → i < amount by len → LiesIn pieces (leaf ∷ []) by (amount by start + i) before → IsReached pieces start len by i leaf before
@@ -359,10 +359,13 @@ some_clipped a e l leaf there low some high = omega (arith, there, low, some, hi
 module _ (law : BreaksOfParts) (pieces : List (List ℕ)) (text : IsText pieces) (start len : Counts) (part : IsPart (text_of pieces) start len) (some : 0 < len.chars) (by : By) (i : ℕ) (leaf : List ℕ) (before : Counts) (r : IsReached pieces start len by i leaf before) where
   abbrev whole : List ℕ
   whole = text_of pieces
+
   abbrev l : List ℕ
   l = text_of r.left
+
   abbrev a : ℕ
   a = start.chars
+
   abbrev e : ℕ
   e = start.chars + len.chars
 
@@ -420,18 +423,18 @@ module _ (law : BreaksOfParts) (pieces : List (List ℕ)) (text : IsText pieces)
   passed : (i < amount by (counts_of (text_of (pieces_from_char a r.left) ++ leaf_cut))) ⊎ (pieces_to_char (e - length l - length leaf) r.right ≡ [])
   passed = elim (cases_lt (length (l ++ leaf)) e) [
     | inl short ↦ elim r.passed [
-        | inl p ↦
-            inl (
-              omega (
-                arith,
-                p,
-                ap (amount by) (from_part (l ++ leaf) high (omega (arith, r.ends))),
-                amount-plus law by start (counts_of (drop a (l ++ leaf))),
-                ap (λ s. amount by (counts_of s)) (through short),
-              )
-            )
-        | inr q ↦ absurd (omega (arith, short, q))
-      ]
+      | inl p ↦
+          inl (
+          omega (
+            arith,
+            p,
+            ap (amount by) (from_part (l ++ leaf) high (omega (arith, r.ends))),
+            amount-plus law by start (counts_of (drop a (l ++ leaf))),
+            ap (λ s. amount by (counts_of s)) (through short),
+          )
+          )
+      | inr q ↦ absurd (omega (arith, short, q))
+    ]
     | inr done ↦
         let none : e - length l - length leaf ≡ 0 = omega (arith, done, length-append l leaf) in
         inr (ap (λ k. pieces_to_char k r.right) none ∙ to-none r.right)

@@ -95,7 +95,7 @@ module _ (law : BreaksOfParts) where
       record {
         within = omega (arith, within, size, s.within);
         starts = ap (λ c. plus s.start c) (starts ∙ ap (λ u. standing u k) text) ∙ ap (λ c. plus c (standing (between a e t) k)) s.starts
-                 ∙ sym (standing-part law t a e k (omega arith) s.within (omega (arith, within, size, some)));
+            ∙ sym (standing-part law t a e k (omega arith) s.within (omega (arith, within, size, some)));
         counted = counted ∙ ap (λ u. counts_of (between k (k + n) u)) text ∙ ap counts_of (between-between k n a e t (omega arith) (omega (arith, within, size)));
       }
 
