@@ -6,8 +6,6 @@ ghost use Rattle.str_indices.specs.Text.{byte_len};
 ghost use Rattle.ropey.specs.Chunks.{text_of, line_breaks, ShowsChunk};
 
 use crate::rope::Rope;
-use ropey_tree::counts::By;
-use str_indices::chars;
 
 impl Rope {
     /// The byte at an index. The byte index is below `len_bytes`. `O(log n)`.
@@ -15,8 +13,7 @@ impl Rope {
         requires { byte_idx < byte_len (text_of self.now) }
         ensures { result ≡ slice_index (encode_utf8_all (text_of self.now)) byte_idx }
     {
-        let chunk = self.chunk(By::Bytes, byte_idx);
-        chunk.text.as_bytes()[byte_idx - chunk.start.bytes]
+        self.whole().byte(byte_idx)
     }
 
     /// `byte`, and none from `len_bytes` on. `O(log n)`.
@@ -24,11 +21,7 @@ impl Rope {
         ensures { SomeIff result (byte_idx < byte_len (text_of self.now))
             (slice_index (encode_utf8_all (text_of self.now)) byte_idx) }
     {
-        if byte_idx < self.len_bytes() {
-            Some(self.byte(byte_idx))
-        } else {
-            None
-        }
+        self.whole().get_byte(byte_idx)
     }
 
     /// The character at an index. The character index is below `len_chars`. `O(log n)`.
@@ -36,17 +29,7 @@ impl Rope {
         requires { char_idx < length (text_of self.now) }
         ensures { result ≡ slice_index (text_of self.now) char_idx }
     {
-        // Laws, for the proof alone.
-        str_indices::laws::to_byte_idx_is_a_boundary();
-        str_indices::laws::boundaries_and_indices_agree();
-        str_indices::laws::place_there_and_back();
-        str_indices::laws::ends_of_a_part();
-        let chunk = self.chunk(By::Chars, char_idx);
-        let at = chars::to_byte_idx(chunk.text, char_idx - chunk.start.chars);
-        match chunk.text[at..].chars().next() {
-            Some(character) => character,
-            None => unreachable!(),
-        }
+        self.whole().char(char_idx)
     }
 
     /// `char`, and none from `len_chars` on. `O(log n)`.
@@ -54,11 +37,7 @@ impl Rope {
         ensures { SomeIff result (char_idx < length (text_of self.now))
             (slice_index (text_of self.now) char_idx) }
     {
-        if char_idx < self.len_chars() {
-            Some(self.char(char_idx))
-        } else {
-            None
-        }
+        self.whole().get_char(char_idx)
     }
 
     /// The chunk that holds a character, and then the byte, the character and the line at which the
@@ -70,13 +49,7 @@ impl Rope {
             result.3 }
         ensures utf8 { IsUtf8 result.0.now }
     {
-        let chunk = self.chunk(By::Chars, char_idx);
-        (
-            chunk.text,
-            chunk.start.bytes,
-            chunk.start.chars,
-            chunk.start.breaks,
-        )
+        self.whole().chunk_at_char(char_idx)
     }
 
     /// `chunk_at_char`, and none past `len_chars`. `O(log n)`.
@@ -86,11 +59,7 @@ impl Rope {
             (chars shown.0.now) shown.1 shown.2 shown.3) }
         ensures utf8 { IfSome result (λ shown. IsUtf8 shown.0.now) }
     {
-        if char_idx <= self.len_chars() {
-            Some(self.chunk_at_char(char_idx))
-        } else {
-            None
-        }
+        self.whole().get_chunk_at_char(char_idx)
     }
 
     /// The first chunk by whose end so many line breaks have ended, and then the byte, the character and
@@ -105,13 +74,7 @@ impl Rope {
             result.2 result.3 }
         ensures utf8 { IsUtf8 result.0.now }
     {
-        let chunk = self.chunk_of_break(line_break_idx);
-        (
-            chunk.text,
-            chunk.start.bytes,
-            chunk.start.chars,
-            chunk.start.breaks,
-        )
+        self.whole().chunk_at_line_break(line_break_idx)
     }
 
     /// `chunk_at_line_break`, and none past `len_lines`. `O(log n)`.
@@ -128,10 +91,6 @@ impl Rope {
             (chars shown.0.now) shown.1 shown.2 shown.3) }
         ensures utf8 { IfSome result (λ shown. IsUtf8 shown.0.now) }
     {
-        if line_break_idx <= self.len_lines() {
-            Some(self.chunk_at_line_break(line_break_idx))
-        } else {
-            None
-        }
+        self.whole().get_chunk_at_line_break(line_break_idx)
     }
 }

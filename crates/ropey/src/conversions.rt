@@ -5,11 +5,11 @@
 //! exactly past that, and tells the index and the length. Each call goes one way from the root to a
 //! leaf: it costs `O(log n)` and takes no memory.
 
-ghost use Rattle.std.specs.Prelude.{◌≡◌, ◌+◌, ◌<◌, ◌≤◌, length, OkIff, IfErr, MatchResult};
+ghost use Rattle.std.specs.Prelude.{◌≡◌, ◌+◌, ◌<◌, ◌≤◌, length, OkIff, IfErr};
 ghost use Rattle.str_indices.specs.Text.{units};
 ghost use Rattle.str_indices.specs.Text.{byte_len};
 ghost use Rattle.ropey.specs.Chunks.{text_of, line_breaks};
-ghost use Rattle.ropey.specs.Conversions.{char_of_byte, unit_of_byte, line_of_byte, byte_of_char, byte_of_unit, byte_of_line};
+ghost use Rattle.ropey_walk.specs.Conversions.{char_of_byte, unit_of_byte, line_of_byte, byte_of_char, byte_of_unit, byte_of_line};
 
 use crate::rope::Rope;
 use ropey_tree::error::Error;
@@ -22,7 +22,7 @@ impl Rope {
         requires { byte_idx ≤ byte_len (text_of self.now) }
         ensures { result ≡ char_of_byte (text_of self.now) byte_idx }
     {
-        self.char_of(&self.place_of_byte(byte_idx))
+        self.whole().byte_to_char(byte_idx)
     }
 
     /// The index of the line in which a byte lies: the number of line breaks that end at or before it.
@@ -32,7 +32,7 @@ impl Rope {
         requires { byte_idx ≤ byte_len (text_of self.now) }
         ensures { result ≡ line_of_byte (text_of self.now) byte_idx }
     {
-        self.line_of(&self.place_of_byte(byte_idx))
+        self.whole().byte_to_line(byte_idx)
     }
 
     /// The byte index at which a character starts, or the text's end for `len_chars`. The character
@@ -41,7 +41,7 @@ impl Rope {
         requires { char_idx ≤ length (text_of self.now) }
         ensures { result ≡ byte_of_char (text_of self.now) char_idx }
     {
-        self.byte_of(&self.place_of_char(char_idx))
+        self.whole().char_to_byte(char_idx)
     }
 
     /// The index of the line in which a character lies, or of the last line for `len_chars`. The
@@ -51,7 +51,7 @@ impl Rope {
         ensures { result ≡ line_of_byte (text_of self.now)
             (byte_of_char (text_of self.now) char_idx) }
     {
-        self.line_of(&self.place_of_char(char_idx))
+        self.whole().char_to_line(char_idx)
     }
 
     /// The UTF-16 code unit index at which a character starts: how many units the characters before it
@@ -61,7 +61,7 @@ impl Rope {
         ensures { result ≡ unit_of_byte (text_of self.now)
             (byte_of_char (text_of self.now) char_idx) }
     {
-        self.unit_of(&self.place_of_char(char_idx))
+        self.whole().char_to_utf16_cu(char_idx)
     }
 
     /// The index of the character that holds a UTF-16 code unit, or the number of characters for
@@ -72,7 +72,7 @@ impl Rope {
         ensures { result ≡ char_of_byte (text_of self.now)
             (byte_of_unit (text_of self.now) utf16_cu_idx) }
     {
-        self.char_of(&self.place_of_unit(utf16_cu_idx))
+        self.whole().utf16_cu_to_char(utf16_cu_idx)
     }
 
     /// The byte index at which a line starts, or the text's end for `len_lines`. The line index is at
@@ -81,7 +81,7 @@ impl Rope {
         requires { line_idx ≤ line_breaks (text_of self.now) + 1 }
         ensures { result ≡ byte_of_line (text_of self.now) line_idx }
     {
-        self.byte_of(&self.place_of_line(line_idx))
+        self.whole().line_to_byte(line_idx)
     }
 
     /// The index of the character with which a line starts, or the number of characters for
@@ -91,59 +91,7 @@ impl Rope {
         ensures { result ≡ char_of_byte (text_of self.now)
             (byte_of_line (text_of self.now) line_idx) }
     {
-        self.char_of(&self.place_of_line(line_idx))
-    }
-
-    fn within_bytes(&self, byte_idx: usize) -> Result<(), Error>
-        ensures { MatchResult result (λ _. byte_idx ≤ byte_len (text_of self.now))
-            (λ error. (byte_len (text_of self.now) < byte_idx) ×
-            (error ≡ Error.ByteIndexOutOfBounds byte_idx (byte_len (text_of self.now)))) }
-    {
-        let len = self.len_bytes();
-        if byte_idx <= len {
-            Ok(())
-        } else {
-            Err(Error::ByteIndexOutOfBounds(byte_idx, len))
-        }
-    }
-
-    fn within_chars(&self, char_idx: usize) -> Result<(), Error>
-        ensures { MatchResult result (λ _. char_idx ≤ length (text_of self.now))
-            (λ error. (length (text_of self.now) < char_idx) ×
-            (error ≡ Error.CharIndexOutOfBounds char_idx (length (text_of self.now)))) }
-    {
-        let len = self.len_chars();
-        if char_idx <= len {
-            Ok(())
-        } else {
-            Err(Error::CharIndexOutOfBounds(char_idx, len))
-        }
-    }
-
-    fn within_units(&self, utf16_cu_idx: usize) -> Result<(), Error>
-        ensures { MatchResult result (λ _. utf16_cu_idx ≤ units (text_of self.now))
-            (λ error. (units (text_of self.now) < utf16_cu_idx) ×
-            (error ≡ Error.Utf16IndexOutOfBounds utf16_cu_idx (units (text_of self.now)))) }
-    {
-        let len = self.len_utf16_cu();
-        if utf16_cu_idx <= len {
-            Ok(())
-        } else {
-            Err(Error::Utf16IndexOutOfBounds(utf16_cu_idx, len))
-        }
-    }
-
-    fn within_lines(&self, line_idx: usize) -> Result<(), Error>
-        ensures { MatchResult result (λ _. line_idx ≤ line_breaks (text_of self.now) + 1)
-            (λ error. (line_breaks (text_of self.now) + 1 < line_idx) ×
-            (error ≡ Error.LineIndexOutOfBounds line_idx (line_breaks (text_of self.now) + 1))) }
-    {
-        let len = self.len_lines();
-        if line_idx <= len {
-            Ok(())
-        } else {
-            Err(Error::LineIndexOutOfBounds(line_idx, len))
-        }
+        self.whole().line_to_char(line_idx)
     }
 
     /// `byte_to_char`, and past the length the error
@@ -154,8 +102,7 @@ impl Rope {
         ensures refused { IfErr result (λ error. error ≡
             Error.ByteIndexOutOfBounds byte_idx (byte_len (text_of self.now))) }
     {
-        self.within_bytes(byte_idx)?;
-        Ok(self.byte_to_char(byte_idx))
+        self.whole().try_byte_to_char(byte_idx)
     }
 
     /// `byte_to_line`, and past the length the error
@@ -166,8 +113,7 @@ impl Rope {
         ensures refused { IfErr result (λ error. error ≡
             Error.ByteIndexOutOfBounds byte_idx (byte_len (text_of self.now))) }
     {
-        self.within_bytes(byte_idx)?;
-        Ok(self.byte_to_line(byte_idx))
+        self.whole().try_byte_to_line(byte_idx)
     }
 
     /// `char_to_byte`, and past the number of characters the error
@@ -178,8 +124,7 @@ impl Rope {
         ensures refused { IfErr result (λ error. error ≡
             Error.CharIndexOutOfBounds char_idx (length (text_of self.now))) }
     {
-        self.within_chars(char_idx)?;
-        Ok(self.char_to_byte(char_idx))
+        self.whole().try_char_to_byte(char_idx)
     }
 
     /// `char_to_line`, and past the number of characters the error
@@ -190,8 +135,7 @@ impl Rope {
         ensures refused { IfErr result (λ error. error ≡
             Error.CharIndexOutOfBounds char_idx (length (text_of self.now))) }
     {
-        self.within_chars(char_idx)?;
-        Ok(self.char_to_line(char_idx))
+        self.whole().try_char_to_line(char_idx)
     }
 
     /// `char_to_utf16_cu`, and past the number of characters the error
@@ -202,8 +146,7 @@ impl Rope {
         ensures refused { IfErr result (λ error. error ≡
             Error.CharIndexOutOfBounds char_idx (length (text_of self.now))) }
     {
-        self.within_chars(char_idx)?;
-        Ok(self.char_to_utf16_cu(char_idx))
+        self.whole().try_char_to_utf16_cu(char_idx)
     }
 
     /// `utf16_cu_to_char`, and past the number of code units the error
@@ -214,8 +157,7 @@ impl Rope {
         ensures refused { IfErr result (λ error. error ≡
             Error.Utf16IndexOutOfBounds utf16_cu_idx (units (text_of self.now))) }
     {
-        self.within_units(utf16_cu_idx)?;
-        Ok(self.utf16_cu_to_char(utf16_cu_idx))
+        self.whole().try_utf16_cu_to_char(utf16_cu_idx)
     }
 
     /// `line_to_byte`, and past the number of lines the error
@@ -226,8 +168,7 @@ impl Rope {
         ensures refused { IfErr result (λ error. error ≡
             Error.LineIndexOutOfBounds line_idx (line_breaks (text_of self.now) + 1)) }
     {
-        self.within_lines(line_idx)?;
-        Ok(self.line_to_byte(line_idx))
+        self.whole().try_line_to_byte(line_idx)
     }
 
     /// `line_to_char`, and past the number of lines the error
@@ -238,7 +179,6 @@ impl Rope {
         ensures refused { IfErr result (λ error. error ≡
             Error.LineIndexOutOfBounds line_idx (line_breaks (text_of self.now) + 1)) }
     {
-        self.within_lines(line_idx)?;
-        Ok(self.line_to_char(line_idx))
+        self.whole().try_line_to_char(line_idx)
     }
 }

@@ -1,5 +1,5 @@
 -- What texts count, in the four measures: bytes of UTF-8, characters, UTF-16 code units and line breaks.
-use Rattle.std.specs.Prelude.{ℕ, ◌+◌, List, length, sum_by}
+use Rattle.std.specs.Prelude.{ℕ, ◌+◌, ◌-◌, List, length, sum_by}
 use Rattle.str_indices.specs.Text.{breaks, units, byte_len}
 use Rattle.ropey_tree.specs.Breaks.{is_break}
 use Rattle.ropey_tree.specs.declared.counts.Counts.{Counts}
@@ -16,6 +16,10 @@ zero_counts = record { bytes = 0; chars = 0; units = 0; breaks = 0 }
 
 abbrev pub plus : Counts → Counts → Counts
 plus c d = record { bytes = c.bytes + d.bytes; chars = c.chars + d.chars; units = c.units + d.units; breaks = c.breaks + d.breaks }
+
+-- the differences, and 0 where the second is greater
+abbrev pub minus : Counts → Counts → Counts
+minus c d = record { bytes = c.bytes - d.bytes; chars = c.chars - d.chars; units = c.units - d.units; breaks = c.breaks - d.breaks }
 
 -- the count in one measure
 abbrev pub amount : By → Counts → ℕ

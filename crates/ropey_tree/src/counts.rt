@@ -34,7 +34,7 @@ pub struct Counts {
 }
 
 impl Counts {
-    ghost use Rattle.ropey_tree.specs.Counts.{counts_of, zero_counts, plus, amount};
+    ghost use Rattle.ropey_tree.specs.Counts.{counts_of, zero_counts, plus, minus, amount};
 
     /// What the empty text counts.
     pub const fn zero() -> Self
@@ -74,6 +74,19 @@ impl Counts {
             chars: self.chars + other.chars,
             units: self.units + other.units,
             breaks: self.breaks + other.breaks,
+        }
+    }
+
+    /// The differences, measure by measure, and 0 where the other is greater.
+    #[inline]
+    pub fn saturating_sub(self, other: Self) -> Self
+        ensures { result ≡ minus self other }
+    {
+        Counts {
+            bytes: self.bytes.saturating_sub(other.bytes),
+            chars: self.chars.saturating_sub(other.chars),
+            units: self.units.saturating_sub(other.units),
+            breaks: self.breaks.saturating_sub(other.breaks),
         }
     }
 

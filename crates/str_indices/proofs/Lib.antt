@@ -11,5 +11,6 @@ pub mod Places
 pub mod Units
 pub mod Order
 pub mod Parts
+pub mod Behind
 pub mod FirstBreaks
 mod Examples

@@ -59,7 +59,7 @@ starts-joined count at next (c ∷ cs) second h e =
     ∙ sym (append_assoc (replicate (count c cs) at) (starts_from count (at + n) cs) (starts_from count next second))
 
 -- ---- the same text further on
-up_to-moved : (count : ℕ → List ℕ → ℕ) (d at b at' b' : ℕ) (text : List ℕ) → at' ≡ d + at → b' ≡ d + b → ends_up_to b' (ends_from count at' text) ≡ ends_up_to b (ends_from count at text)
+pub up_to-moved : (count : ℕ → List ℕ → ℕ) (d at b at' b' : ℕ) (text : List ℕ) → at' ≡ d + at → b' ≡ d + b → ends_up_to b' (ends_from count at' text) ≡ ends_up_to b (ends_from count at text)
 up_to-moved count d at b at' b' [] p q = refl
 up_to-moved count d at b at' b' (c ∷ cs) p q =
     let n = len_utf8 c in

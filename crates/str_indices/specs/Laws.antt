@@ -117,3 +117,8 @@ PlacesAddUp may_meet count ends = (before part after : List ℕ) (k : ℕ) → m
 abbrev pub UnitStartsAddUp : Type 0
 UnitStartsAddUp = (before part after : List ℕ) (k : ℕ) → units before ≤ k → (k < units (before ++ part)) ⊎ (after ≡ [])
     → slice_index_or (unit_starts (before ++ part ++ after)) k (byte_len (before ++ part ++ after)) ≡ byte_len before + slice_index_or (unit_starts part) (k - units before) (byte_len part)
+
+-- behind a place between two texts come the ends of the second one, whatever stands before it: also the end of a CR LF that the place cuts
+abbrev pub EndsBehind : (List ℕ → List ℕ) → Type 0
+EndsBehind ends = (before rest : List ℕ) (place : ℕ) → byte_len before ≤ place
+    → ends_up_to place (ends (before ++ rest)) ≡ ends_up_to (byte_len before) (ends (before ++ rest)) + ends_up_to (place - byte_len before) (ends rest)

@@ -4,7 +4,7 @@
 ghost use Rattle.std.specs.Prelude.{ℕ, Bool, length};
 ghost use Rattle.str_indices.specs.Text.{NoCrLfBetween, is_line_break, is_crlf_break, is_lf_break, breaks, break_ends, char_ends, unit_ends, units, surrogate_pairs};
 ghost use Rattle.str_indices.specs.FirstBreak.{GoesOnBehindFirstBreak};
-ghost use Rattle.str_indices.specs.Laws.{JoinsEnds, JoinsBreaks, LosesBreakInCrLf, LosesNoBreak, AddsUp, UnitsAreCharsAndPairs, FewerBreaks, NoMoreThanBytes, RisesWithPlace, RisesWithIndex, UnitStartsRise, EndsAreBoundaries, UnitStartsAreBoundaries, ComesBack, SecondUnitComesBackToFirst, OtherUnitsComeBack, EndsAndPlacesAgree, LastEndIsBefore, LastUnitStartIsBefore, CharsAndBoundariesAgree, UnitsAndBoundariesAgree, CharsGoToLastBoundary, UnitsGoToLastBoundary, AnyTexts, EndsAddUp, PlacesAddUp, UnitStartsAddUp};
+ghost use Rattle.str_indices.specs.Laws.{JoinsEnds, JoinsBreaks, LosesBreakInCrLf, LosesNoBreak, AddsUp, UnitsAreCharsAndPairs, FewerBreaks, NoMoreThanBytes, RisesWithPlace, RisesWithIndex, UnitStartsRise, EndsAreBoundaries, UnitStartsAreBoundaries, ComesBack, SecondUnitComesBackToFirst, OtherUnitsComeBack, EndsAndPlacesAgree, LastEndIsBefore, LastUnitStartIsBefore, CharsAndBoundariesAgree, UnitsAndBoundariesAgree, CharsGoToLastBoundary, UnitsGoToLastBoundary, AnyTexts, EndsAddUp, PlacesAddUp, UnitStartsAddUp, EndsBehind};
 
 /// Breaks of two texts joined are the sum, less one exactly if the first ends in CR and the second
 /// starts with LF, in a scheme where CR is a break.
@@ -120,4 +120,12 @@ pub fn places_of_a_part()
     ensures units { UnitStartsAddUp }
     ensures lines { (is_break : ℕ → Bool)
         → PlacesAddUp NoCrLfBetween (breaks is_break) (break_ends is_break) }
+{}
+
+/// Ends up to a place behind a character boundary are those up to the boundary and those of the text
+/// that starts there. A CR LF that the boundary cuts ends behind it, as its LF alone does.
+pub fn ends_behind_a_boundary()
+    ensures chars { EndsBehind char_ends }
+    ensures units { EndsBehind unit_ends }
+    ensures lines { (is_break : ℕ → Bool) → EndsBehind (break_ends is_break) }
 {}

@@ -1,0 +1,22 @@
+-- Texts that a rope is made of.
+use Rattle.std.proofs.Common.{◌≡◌, ℕ, ◌^◌, ◌<◌, List, [], ◌∷◌, ◌++◌, length, ap, arith, ◌∙◌}
+use Rattle.std.specs.List.{concat}
+use Rattle.std.specs.Borrow.{Bor}
+use Rattle.std.specs.Str.{IsUtf8, chars}
+use Rattle.std.proofs.lemmas.Grind.{flat_map-append}
+use Rattle.std.proofs.lemmas.List.{append-nil}
+use Rattle.std.proofs.lemmas.List.Concat.{flat_map-cons}
+use Rattle.std.proofs.lemmas.Str.{encodes-chars}
+use Rattle.str_indices.specs.Text.{byte_len}
+use Rattle.ropey_tree.specs.Cutting.{IsCutting, IsText}
+use Rattle.ropey_walk.proofs.Cuts.{bytes-concat}
+use Rattle.ropey.specs.Chunks.{joined}
+
+-- pieces of a text that fits
+pub fits_in : (ps : List (List ℕ)) (text : List ℕ) → IsCutting ps → concat ps ≡ chars text → IsUtf8 text → length text < 2 ^ 63 → IsText ps
+fits_in ps text cut joined utf8 fits = record { cut = cut; fits = omega (arith, bytes-concat ps, ap byte_len joined, ap length (encodes-chars text utf8), fits) }
+
+-- one part more
+pub joined-last : (parts : List (Bor (List ℕ))) (part : Bor (List ℕ)) → joined (parts ++ part ∷ []) ≡ joined parts ++ chars part.now
+joined-last parts part =
+    flat_map-append (λ p. chars p.now) parts (part ∷ []) ∙ ap (λ t. joined parts ++ t) (flat_map-cons (λ p. chars p.now) part [] ∙ append-nil (chars part.now))

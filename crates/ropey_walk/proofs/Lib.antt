@@ -1,0 +1,10 @@
+pub mod Cuts
+pub mod Shows
+pub mod Placing
+pub mod Reading
+pub mod Clipping
+pub mod Counting
+pub mod Clipped
+pub mod Reaching
+pub mod Slices
+pub mod OnePiece

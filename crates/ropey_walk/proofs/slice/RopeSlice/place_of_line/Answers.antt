@@ -1,0 +1,23 @@
+use Rattle.std.specs.Str.{chars}
+use Rattle.ropey_walk.specs.Chunks.{is_break}
+use Rattle.ropey_walk.specs.Slices.{slice_pieces}
+use Rattle.ropey_walk.proofs.Placing.{line_placed, line_low}
+use Rattle.ropey_walk.proofs.slice.RopeSlice.place_of_line.Goals as goal
+
+pub overflow_sub-line_idx : goal.overflow_sub-line_idx
+overflow_sub-line_idx c =
+    let r = c.chunk_of_break-chunk.result in
+    let e = c.chunk_of_break-chunk.ensures in
+    line_low (slice_pieces c.args.self.now) (chars r.text.now) r.start c.args.line_idx e.first e.later
+
+pub returns-clause-stands : goal.returns-clause-stands
+returns-clause-stands c =
+    let r = c.chunk_of_break-chunk.result in
+    let e = c.chunk_of_break-chunk.ensures in
+    rw c.to_byte_idx.ensures (line_placed (slice_pieces c.args.self.now) r.text.now r.start e.utf8 e.cut (c.places_of_a_part.ensures.lines is_break) (c.to_byte_idx_is_a_boundary.ensures.lines is_break) c.args.line_idx e.first e.later).stands
+
+pub returns-clause-place : goal.returns-clause-place
+returns-clause-place c =
+    let r = c.chunk_of_break-chunk.result in
+    let e = c.chunk_of_break-chunk.ensures in
+    rw c.to_byte_idx.ensures (line_placed (slice_pieces c.args.self.now) r.text.now r.start e.utf8 e.cut (c.places_of_a_part.ensures.lines is_break) (c.to_byte_idx_is_a_boundary.ensures.lines is_break) c.args.line_idx e.first e.later).place_is

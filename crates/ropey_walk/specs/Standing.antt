@@ -1,0 +1,28 @@
+-- A chunk inside a text that is cut into pieces, with what stands before it in all four measures.
+use Rattle.std.specs.Prelude.{◌≡◌, ℕ, ◌^◌, ◌<◌, ◌≤◌, ◌⊎◌, List, [], ◌++◌}
+use Rattle.str_indices.specs.Text.{byte_len, NoCrLfBetween}
+use Rattle.ropey_tree.specs.declared.counts.Counts.{Counts}
+use Rattle.ropey_tree.specs.declared.counts.By.{By}
+use Rattle.ropey_tree.specs.Counts.{counts_of, amount}
+use Rattle.ropey_walk.specs.Chunks.{text_of, piece_of}
+
+-- the chunk in which place i of a measure lies, as `ShowsChunk` has it
+pub record StandsAt (pieces : List (List ℕ)) (by : By) (i : ℕ) (chunk : List ℕ) (start : Counts) : Type 0 where
+  pub before : List (List ℕ)
+  pub after : List (List ℕ)
+  pub parts : pieces ≡ before ++ piece_of chunk ++ after
+  pub some : chunk ≡ [] → pieces ≡ []
+  pub start_is : start ≡ counts_of (text_of before)
+  pub not_past : amount by (counts_of (text_of before)) ≤ i
+  pub passed : (i < amount by (counts_of (text_of before ++ chunk))) ⊎ (after ≡ [])
+
+-- a chunk of a text, cut through no CR LF, with what stands before it, and a place in it
+pub record IsPlaceIn (text chunk : List ℕ) (start : Counts) (at : ℕ) : Type 0 where
+  pub before : List ℕ
+  pub after : List ℕ
+  pub parts : text ≡ before ++ chunk ++ after
+  pub start_is : start ≡ counts_of before
+  pub whole_before : NoCrLfBetween before chunk
+  pub whole_after : NoCrLfBetween (before ++ chunk) after
+  pub within : at ≤ byte_len chunk
+  pub fits : byte_len text < 2 ^ 63

@@ -1,0 +1,190 @@
+//! Bytes, characters and chunks by index.
+
+ghost use Rattle.std.specs.Prelude.{◌≡◌, ◌+◌, ◌-◌, ◌<◌, ◌≤◌, ◌↔◌, length, slice_index, SomeIff, IfSome, IsSome, IsNone, IfOk, IfErr, IsOk, encode_utf8_all};
+ghost use Rattle.std.specs.Str.{chars, IsUtf8};
+ghost use Rattle.str_indices.specs.Text.{byte_len};
+ghost use Rattle.ropey_walk.specs.Chunks.{line_breaks, IsText, ShowsChunk};
+
+use crate::slice::RopeSlice;
+use ropey_tree::counts::By;
+use ropey_tree::error::Error;
+use str_indices::chars;
+
+impl<'a> RopeSlice<'a> {
+    ghost use Rattle.ropey_walk.specs.Slices.{slice_pieces, slice_text};
+
+    /// The byte at an index. The byte index is below `len_bytes`. `O(log n)`.
+    pub fn byte(&self, byte_idx: usize) -> u8
+        requires { byte_idx < byte_len (slice_text self.now) }
+        ensures { result ≡ slice_index (encode_utf8_all (slice_text self.now)) byte_idx }
+    {
+        let chunk = self.chunk(By::Bytes, byte_idx);
+        chunk.text.as_bytes()[byte_idx - chunk.start.bytes]
+    }
+
+    /// `byte`, and none from `len_bytes` on. `O(log n)`.
+    pub fn get_byte(&self, byte_idx: usize) -> Option<u8>
+        ensures { SomeIff result (byte_idx < byte_len (slice_text self.now))
+            (slice_index (encode_utf8_all (slice_text self.now)) byte_idx) }
+    {
+        if byte_idx < self.len_bytes() {
+            Some(self.byte(byte_idx))
+        } else {
+            None
+        }
+    }
+
+    /// The character at an index. The character index is below `len_chars`. `O(log n)`.
+    pub fn char(&self, char_idx: usize) -> char
+        requires { char_idx < length (slice_text self.now) }
+        ensures { result ≡ slice_index (slice_text self.now) char_idx }
+    {
+        // Laws, for the proof alone.
+        str_indices::laws::to_byte_idx_is_a_boundary();
+        str_indices::laws::boundaries_and_indices_agree();
+        str_indices::laws::place_there_and_back();
+        str_indices::laws::ends_of_a_part();
+        let chunk = self.chunk(By::Chars, char_idx);
+        let at = chars::to_byte_idx(chunk.text, char_idx - chunk.start.chars);
+        match chunk.text[at..].chars().next() {
+            Some(character) => character,
+            None => unreachable!(),
+        }
+    }
+
+    /// `char`, and none from `len_chars` on. `O(log n)`.
+    pub fn get_char(&self, char_idx: usize) -> Option<char>
+        ensures { SomeIff result (char_idx < length (slice_text self.now))
+            (slice_index (slice_text self.now) char_idx) }
+    {
+        if char_idx < self.len_chars() {
+            Some(self.char(char_idx))
+        } else {
+            None
+        }
+    }
+
+    /// The chunk that holds a byte, and then the byte, the character and the line at which the chunk
+    /// starts. The byte index is at most `len_bytes`, and there it is the last chunk; an empty text
+    /// shows an empty one at 0, 0, 0. `O(log n)`.
+    pub fn chunk_at_byte(&self, byte_idx: usize) -> (&'a str, usize, usize, usize)
+        requires { byte_idx ≤ byte_len (slice_text self.now) }
+        ensures chunk { ShowsChunk (slice_pieces self.now) byte_len byte_idx (chars result.0.now)
+            result.1 result.2 result.3 }
+        ensures utf8 { IsUtf8 result.0.now }
+        ensures cut { IsText (slice_pieces self.now) }
+    {
+        let chunk = self.chunk(By::Bytes, byte_idx);
+        (
+            chunk.text,
+            chunk.start.bytes,
+            chunk.start.chars,
+            chunk.start.breaks,
+        )
+    }
+
+    /// `chunk_at_byte`, and past the length the error `ByteIndexOutOfBounds`, with the index and that
+    /// length. `O(log n)`.
+    pub fn try_chunk_at_byte(
+        &self,
+        byte_idx: usize,
+    ) -> Result<(&'a str, usize, usize, usize), Error>
+        ensures ok { IsOk result ↔ (byte_idx ≤ byte_len (slice_text self.now)) }
+        ensures refused { IfErr result (λ error. error ≡
+            Error.ByteIndexOutOfBounds byte_idx (byte_len (slice_text self.now))) }
+        ensures chunk { IfOk result (λ shown. ShowsChunk (slice_pieces self.now) byte_len byte_idx
+            (chars shown.0.now) shown.1 shown.2 shown.3) }
+        ensures utf8 { IfOk result (λ shown. IsUtf8 shown.0.now) }
+    {
+        self.within_bytes(byte_idx)?;
+        Ok(self.chunk_at_byte(byte_idx))
+    }
+
+    /// The whole text, exactly where the slice has at most one chunk. `O(log n)`.
+    pub fn as_str(&self) -> Option<&'a str>
+        ensures one { IsSome result ↔ (length (slice_pieces self.now) ≤ 1) }
+        ensures text { IfSome result (λ text. chars text.now ≡ slice_text self.now) }
+        ensures utf8 { IfSome result (λ text. IsUtf8 text.now) }
+    {
+        let chunk = self.chunk(By::Bytes, 0);
+        if chunk.text.len() == self.len_bytes() {
+            Some(chunk.text)
+        } else {
+            None
+        }
+    }
+
+    /// The chunk that holds a character, and then the byte, the character and the line at which the
+    /// chunk starts. The character index is at most `len_chars`, and there it is the last chunk; an
+    /// empty text shows an empty one at 0, 0, 0. `O(log n)`.
+    pub fn chunk_at_char(&self, char_idx: usize) -> (&'a str, usize, usize, usize)
+        requires { char_idx ≤ length (slice_text self.now) }
+        ensures chunk { ShowsChunk (slice_pieces self.now) length char_idx (chars result.0.now) result.1 result.2
+            result.3 }
+        ensures utf8 { IsUtf8 result.0.now }
+    {
+        let chunk = self.chunk(By::Chars, char_idx);
+        (
+            chunk.text,
+            chunk.start.bytes,
+            chunk.start.chars,
+            chunk.start.breaks,
+        )
+    }
+
+    /// `chunk_at_char`, and none past `len_chars`. `O(log n)`.
+    pub fn get_chunk_at_char(&self, char_idx: usize) -> Option<(&'a str, usize, usize, usize)>
+        ensures none { IsNone result ↔ (length (slice_text self.now) < char_idx) }
+        ensures chunk { IfSome result (λ shown. ShowsChunk (slice_pieces self.now) length char_idx
+            (chars shown.0.now) shown.1 shown.2 shown.3) }
+        ensures utf8 { IfSome result (λ shown. IsUtf8 shown.0.now) }
+    {
+        if char_idx <= self.len_chars() {
+            Some(self.chunk_at_char(char_idx))
+        } else {
+            None
+        }
+    }
+
+    /// The first chunk by whose end so many line breaks have ended, and then the byte, the character and
+    /// the line at which the chunk starts. The number is at most `len_lines`, and there it is the last
+    /// chunk; an empty text shows an empty one at 0, 0, 0. `O(log n)`.
+    pub fn chunk_at_line_break(&self, line_break_idx: usize) -> (&'a str, usize, usize, usize)
+        requires { line_break_idx ≤ line_breaks (slice_text self.now) + 1 }
+        ensures first { line_break_idx ≡ 0 →
+            ShowsChunk (slice_pieces self.now) byte_len 0 (chars result.0.now) result.1 result.2 result.3 }
+        ensures later { 0 < line_break_idx →
+            ShowsChunk (slice_pieces self.now) line_breaks (line_break_idx - 1) (chars result.0.now) result.1
+            result.2 result.3 }
+        ensures utf8 { IsUtf8 result.0.now }
+    {
+        let chunk = self.chunk_of_break(line_break_idx);
+        (
+            chunk.text,
+            chunk.start.bytes,
+            chunk.start.chars,
+            chunk.start.breaks,
+        )
+    }
+
+    /// `chunk_at_line_break`, and none past `len_lines`. `O(log n)`.
+    pub fn get_chunk_at_line_break(
+        &self,
+        line_break_idx: usize,
+    ) -> Option<(&'a str, usize, usize, usize)>
+        ensures none { IsNone result ↔ (line_breaks (slice_text self.now) + 1 < line_break_idx) }
+        ensures first { line_break_idx ≡ 0 →
+            IfSome result (λ shown. ShowsChunk (slice_pieces self.now) byte_len 0 (chars shown.0.now) shown.1
+            shown.2 shown.3) }
+        ensures later { 0 < line_break_idx →
+            IfSome result (λ shown. ShowsChunk (slice_pieces self.now) line_breaks (line_break_idx - 1)
+            (chars shown.0.now) shown.1 shown.2 shown.3) }
+        ensures utf8 { IfSome result (λ shown. IsUtf8 shown.0.now) }
+    {
+        if line_break_idx <= self.len_lines() {
+            Some(self.chunk_at_line_break(line_break_idx))
+        } else {
+            None
+        }
+    }
+}

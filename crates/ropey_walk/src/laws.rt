@@ -1,0 +1,19 @@
+//! Laws of the definitions that the contracts of this crate cite. Each function does nothing: its
+//! contract is the law.
+
+ghost use Rattle.ropey_walk.specs.Laws.{NoCuttingCutsCrLf, BreaksOfParts};
+
+/// No CR LF is cut between the pieces of a rope or a slice.
+pub fn chunks_cut_no_cr_lf()
+    ensures { NoCuttingCutsCrLf }
+{}
+
+/// The breaks of a rope are of a scheme in which CR LF is one break: how they add up over joined texts.
+pub(crate) fn breaks_of_parts()
+    ensures { BreaksOfParts }
+{
+    str_indices::laws::breaks_of_joined_texts();
+    str_indices::laws::ends_of_a_part();
+    str_indices::laws::ends_behind_a_boundary();
+    str_indices::laws::from_byte_idx_is_monotone();
+}

@@ -1,0 +1,10 @@
+//! Parts of a rope that act as texts of their own, as the slices of the Rust crate `ropey` do.
+#![tactic(auto)]
+
+mod chunks;
+mod conversions;
+pub mod laws;
+mod places;
+pub mod slice;
+
+pub use crate::slice::RopeSlice;

@@ -1,0 +1,158 @@
+//! Places in a rope: a chunk, and a byte index in it.
+
+ghost use Rattle.std.specs.Prelude.{◌≡◌, ◌+◌, ◌-◌, ◌<◌, ◌≤◌, length};
+ghost use Rattle.std.specs.Str.{chars, IsUtf8};
+ghost use Rattle.str_indices.specs.Text.{units};
+ghost use Rattle.str_indices.specs.Text.{byte_len};
+ghost use Rattle.ropey_tree.specs.Cutting.{IsText};
+ghost use Rattle.ropey_walk.specs.Chunks.{line_breaks};
+ghost use Rattle.ropey_walk.specs.Conversions.{char_of_byte, unit_of_byte, line_of_byte, byte_of_char, byte_of_unit, byte_of_line};
+ghost use Rattle.ropey_walk.specs.Standing.{StandsAt, IsPlaceIn};
+
+use crate::slice::{Chunk, RopeSlice};
+use ropey_tree::breaks;
+use ropey_tree::counts::{By, Counts};
+use str_indices::{chars, utf16};
+
+/// A byte index in a chunk, with what stands before the chunk.
+#[derive(Clone, Copy)]
+pub(crate) struct Place<'a> {
+    text: &'a str,
+    start: Counts,
+    at: usize,
+}
+
+impl<'a> RopeSlice<'a> {
+    ghost use Rattle.ropey_walk.specs.Slices.{slice_pieces, slice_text};
+
+    /// The place of a byte.
+    pub(crate) fn place_of_byte(&self, byte_idx: usize) -> Place<'a>
+        requires { byte_idx ≤ byte_len (slice_text self.now) }
+        ensures stands { IsPlaceIn (slice_text self.now) (chars result.text.now) result.start
+            result.at }
+        ensures place { result.start.bytes + result.at ≡ byte_idx }
+    {
+        let chunk = self.chunk(By::Bytes, byte_idx);
+        Place {
+            text: chunk.text,
+            start: chunk.start,
+            at: byte_idx - chunk.start.bytes,
+        }
+    }
+
+    /// The place where a character starts, or the text's end.
+    pub(crate) fn place_of_char(&self, char_idx: usize) -> Place<'a>
+        ensures stands { IsPlaceIn (slice_text self.now) (chars result.text.now) result.start
+            result.at }
+        ensures place { result.start.bytes + result.at ≡ byte_of_char (slice_text self.now) char_idx }
+    {
+        // Laws, for the proof alone.
+        str_indices::laws::places_of_a_part();
+        str_indices::laws::to_byte_idx_is_a_boundary();
+        let chunk = self.chunk(By::Chars, char_idx.saturating_sub(1));
+        Place {
+            text: chunk.text,
+            start: chunk.start,
+            at: chars::to_byte_idx(chunk.text, char_idx - chunk.start.chars),
+        }
+    }
+
+    /// The place where the character starts that holds a code unit, or the text's end.
+    pub(crate) fn place_of_unit(&self, utf16_cu_idx: usize) -> Place<'a>
+        ensures stands { IsPlaceIn (slice_text self.now) (chars result.text.now) result.start
+            result.at }
+        ensures place { result.start.bytes + result.at ≡
+            byte_of_unit (slice_text self.now) utf16_cu_idx }
+    {
+        // Laws, for the proof alone.
+        str_indices::laws::places_of_a_part();
+        str_indices::laws::to_byte_idx_is_a_boundary();
+        let chunk = self.chunk(By::Units, utf16_cu_idx);
+        Place {
+            text: chunk.text,
+            start: chunk.start,
+            at: utf16::to_byte_idx(chunk.text, utf16_cu_idx - chunk.start.units),
+        }
+    }
+
+    /// The first chunk by whose end so many line breaks have ended, else the last.
+    pub(crate) fn chunk_of_break(&self, line_break_idx: usize) -> Chunk<'a>
+        ensures first { line_break_idx ≡ 0 →
+            StandsAt (slice_pieces self.now) By.Bytes 0 (chars result.text.now) result.start }
+        ensures later { 0 < line_break_idx →
+            StandsAt (slice_pieces self.now) By.Breaks (line_break_idx - 1) (chars result.text.now) result.start }
+        ensures cut { IsText (slice_pieces self.now) }
+        ensures utf8 { IsUtf8 result.text.now }
+    {
+        if line_break_idx == 0 {
+            self.chunk(By::Bytes, 0)
+        } else {
+            self.chunk(By::Breaks, line_break_idx - 1)
+        }
+    }
+
+    /// The place where a line starts, or the text's end.
+    pub(crate) fn place_of_line(&self, line_idx: usize) -> Place<'a>
+        ensures stands { IsPlaceIn (slice_text self.now) (chars result.text.now) result.start
+            result.at }
+        ensures place { result.start.bytes + result.at ≡ byte_of_line (slice_text self.now) line_idx }
+    {
+        // Laws, for the proof alone.
+        str_indices::laws::places_of_a_part();
+        str_indices::laws::to_byte_idx_is_a_boundary();
+        let chunk = self.chunk_of_break(line_idx);
+        Place {
+            text: chunk.text,
+            start: chunk.start,
+            at: breaks::to_byte_idx(chunk.text, line_idx - chunk.start.breaks),
+        }
+    }
+
+    /// The byte index of a place.
+    pub(crate) fn byte_of(&self, place: &Place<'_>) -> usize
+        requires { IsPlaceIn (slice_text self.now) (chars place.now.text.now) place.now.start
+            place.now.at }
+        ensures { result ≡ place.now.start.bytes + place.now.at }
+    {
+        place.start.bytes + place.at
+    }
+
+    /// The character in which a place lies.
+    pub(crate) fn char_of(&self, place: &Place<'_>) -> usize
+        requires { IsPlaceIn (slice_text self.now) (chars place.now.text.now) place.now.start
+            place.now.at }
+        ensures { result ≡ char_of_byte (slice_text self.now) (place.now.start.bytes + place.now.at) }
+    {
+        // Laws, for the proof alone.
+        str_indices::laws::ends_of_a_part();
+        str_indices::laws::from_byte_idx_is_monotone();
+        str_indices::laws::counts_are_at_most_bytes();
+        place.start.chars + chars::from_byte_idx(place.text, place.at)
+    }
+
+    /// The code units of the characters that end at or before a place.
+    pub(crate) fn unit_of(&self, place: &Place<'_>) -> usize
+        requires { IsPlaceIn (slice_text self.now) (chars place.now.text.now) place.now.start
+            place.now.at }
+        ensures { result ≡ unit_of_byte (slice_text self.now) (place.now.start.bytes + place.now.at) }
+    {
+        // Laws, for the proof alone.
+        str_indices::laws::ends_of_a_part();
+        str_indices::laws::from_byte_idx_is_monotone();
+        str_indices::laws::counts_are_at_most_bytes();
+        place.start.units + utf16::from_byte_idx(place.text, place.at)
+    }
+
+    /// The line in which a place lies.
+    pub(crate) fn line_of(&self, place: &Place<'_>) -> usize
+        requires { IsPlaceIn (slice_text self.now) (chars place.now.text.now) place.now.start
+            place.now.at }
+        ensures { result ≡ line_of_byte (slice_text self.now) (place.now.start.bytes + place.now.at) }
+    {
+        // Laws, for the proof alone.
+        str_indices::laws::ends_of_a_part();
+        str_indices::laws::from_byte_idx_is_monotone();
+        str_indices::laws::counts_are_at_most_bytes();
+        place.start.breaks + breaks::from_byte_idx(place.text, place.at)
+    }
+}
