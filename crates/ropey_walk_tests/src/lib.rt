@@ -1,0 +1,5 @@
+//! Tests of `ropey_walk`, apart from it since a crate with tests is proved twice.
+#![tactic(auto)]
+
+#[cfg(test)]
+mod iterators;
