@@ -1,5 +1,2 @@
-pub mod Cuts
-pub mod Shows
+pub mod Making
 pub mod Walks
-pub mod Placing
-pub mod Reading

@@ -17,9 +17,9 @@ use Rattle.ropey_tree.specs.Cutting.{IsCutting, IsText}
 use Rattle.ropey.specs.Chunks.{text_of, piece_of, ShowsChunk}
 use Rattle.ropey.specs.Iter.{GivesChunk, CutsNoCrLf, pieces_from, IsWalk}
 use Rattle.ropey.specs.Laws.{NextChunkFollows}
-use Rattle.ropey.specs.Standing.{StandsAt}
-use Rattle.ropey.proofs.Cuts.{byte_len-append, first_piece, rest_cut, text_fits, whole_seams}
-use Rattle.ropey.proofs.Shows.{shown}
+use Rattle.ropey_walk.specs.Standing.{StandsAt}
+use Rattle.ropey_walk.proofs.Cuts.{byte_len-append, first_piece, rest_cut, text_fits, whole_seams}
+use Rattle.ropey_walk.proofs.Shows.{shown}
 
 -- of two ways to part pieces, those are equal of which the one's front ends inside the other's first piece
 same_front : (front rest before : List (List ℕ)) (chunk : List ℕ) (after : List (List ℕ)) → IsCutting (front ++ rest) → front ++ rest ≡ before ++ chunk ∷ after

@@ -1,39 +1,15 @@
 -- The text of a rope, and the chunks that its calls show.
-use Rattle.std.specs.Prelude.{◌≡◌, ℕ, ◌<◌, ◌≤◌, ◌⊎◌, List, [], ◌∷◌, ◌++◌, length}
-use Rattle.std.specs.List.{concat, flat_map}
+use Rattle.std.specs.Prelude.{ℕ, List}
+use Rattle.std.specs.List.{flat_map}
 use Rattle.std.specs.Str.{chars}
 use Rattle.std.specs.Borrow.{Bor}
-use Rattle.str_indices.specs.Text.{breaks, byte_len}
+-- they are those of a slice
+pub use Rattle.ropey_walk.specs.Chunks.{text_of, line_breaks, piece_of, ShowsChunk}
 -- how a rope is cut, in the words of the tree
 pub use Rattle.ropey_tree.specs.Cutting.{IsPiece, IsCutting, IsText}
 -- which characters break its lines
 pub use Rattle.ropey_tree.specs.Breaks.{is_break}
 
--- the text that pieces make together
-abbrev pub text_of : List (List ℕ) → List ℕ
-text_of pieces = concat pieces
-
 -- the characters of parts of a text, joined
 abbrev pub joined : List (Bor (List ℕ)) → List ℕ
 joined parts = flat_map (λ part. chars part.now) parts
-
--- how many line breaks a text has, CR LF as one
-abbrev pub line_breaks : List ℕ → ℕ
-line_breaks text = breaks is_break text
-
--- a piece by itself; an empty text has none
-abbrev pub piece_of : List ℕ → List (List ℕ)
-piece_of [] = []
-piece_of (c ∷ cs) = (c ∷ cs) ∷ []
-
--- The chunk in which place i of a measure lies, with the byte, the character and the line at which it starts: the first up to whose end more than i stand, else the last. A text without pieces shows an empty chunk.
-pub record ShowsChunk (pieces : List (List ℕ)) (count : List ℕ → ℕ) (i : ℕ) (chunk : List ℕ) (byte char line : ℕ) : Type 0 where
-  pub before : List (List ℕ)
-  pub after : List (List ℕ)
-  pub parts : pieces ≡ before ++ piece_of chunk ++ after
-  pub some : chunk ≡ [] → pieces ≡ []
-  pub byte_is : byte ≡ byte_len (text_of before)
-  pub char_is : char ≡ length (text_of before)
-  pub line_is : line ≡ line_breaks (text_of before)
-  pub not_past : count (text_of before) ≤ i
-  pub passed : (i < count (text_of before ++ chunk)) ⊎ (after ≡ [])

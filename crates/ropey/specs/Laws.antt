@@ -1,12 +1,11 @@
 -- Laws of the definitions, for every rope.
-use Rattle.std.specs.Prelude.{◌≡◌, ℕ, ◌<◌, false, List, ◌∷◌, ◌++◌}
+use Rattle.std.specs.Prelude.{◌≡◌, ℕ, ◌<◌, List, ◌∷◌, ◌++◌}
 use Rattle.str_indices.specs.Text.{byte_len}
-use Rattle.ropey_tree.specs.Cutting.{IsCutting, cuts_cr_lf}
+use Rattle.ropey_tree.specs.Cutting.{IsCutting}
 use Rattle.ropey.specs.Chunks.{text_of, ShowsChunk}
 
 -- no CR LF is cut between the pieces of a cutting
-abbrev pub NoCuttingCutsCrLf : Type 0
-NoCuttingCutsCrLf = (front rest : List (List ℕ)) → IsCutting (front ++ rest) → cuts_cr_lf (text_of front) (text_of rest) ≡ false
+pub use Rattle.ropey_walk.specs.Laws.{NoCuttingCutsCrLf}
 
 -- the chunk is the first of the pieces that are left, and starts where those before it end
 pub record IsNextChunk (front rest : List (List ℕ)) (chunk : List ℕ) (byte : ℕ) : Type 0 where

@@ -5,7 +5,6 @@ mod chunks;
 mod conversions;
 pub mod iter;
 pub mod laws;
-mod places;
 mod rope;
 mod rope_builder;
 

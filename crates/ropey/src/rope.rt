@@ -6,22 +6,23 @@ ghost use Rattle.std.specs.Iterator.{Drains, IsFiniteIterable, Yields};
 ghost use Rattle.std.specs.Borrow.{Bor};
 ghost use Rattle.str_indices.specs.Text.{units};
 ghost use Rattle.str_indices.specs.Text.{byte_len};
-ghost use Rattle.ropey_tree.specs.Counts.{counts_of};
 ghost use Rattle.ropey_tree.specs.Cutting.{IsText};
 ghost use Rattle.ropey_tree.specs.Nodes.{AreNodes, all_pieces};
 ghost use Rattle.ropey_tree.specs.Siblings.{views};
 ghost use Rattle.ropey.specs.Chunks.{text_of, joined, line_breaks, ShowsChunk};
 ghost use Rattle.ropey.specs.Iter.{CutsNoCrLf};
-ghost use Rattle.ropey.specs.Standing.{StandsAt};
+ghost use Rattle.ropey_walk.specs.Slices.{slice_pieces};
+ghost use Rattle.ropey_walk.specs.Standing.{StandsAt};
 
 use crate::iter::Chunks;
 use crate::rope_builder::RopeBuilder;
 use ropey_tree::MAX_BYTES;
 use ropey_tree::builds::build;
-use ropey_tree::counts::{By, Counts};
+use ropey_tree::counts::By;
 use ropey_tree::cutter::leaves_of;
 use ropey_tree::error::Error;
-use ropey_tree::node::{Node, leaf_at};
+use ropey_tree::node::Node;
+use ropey_walk::slice::{Chunk, RopeSlice};
 use std::alloc::{AllocError, Global};
 use std::marker::Model;
 use std::rc::Rc;
@@ -68,15 +69,6 @@ impl Clone for Rope {
             }
         }
     }
-}
-
-/// A chunk, with what stands before it.
-#[derive(Clone, Copy)]
-pub(crate) struct Chunk<'a> {
-    /// Its text.
-    pub(crate) text: &'a str,
-    /// What stands before it.
-    pub(crate) start: Counts,
 }
 
 impl Rope {
@@ -147,16 +139,17 @@ impl Rope {
         })
     }
 
-    /// What the text counts.
-    fn counts(&self) -> Counts
-        ensures counts { result ≡ counts_of (text_of self.now) }
+    /// The slice of the whole text.
+    pub(crate) fn whole(&self) -> RopeSlice<'_>
+        ensures pieces { slice_pieces result ≡ self.now }
         ensures cut { IsText self.now }
     {
-        // A law, for the proof alone.
-        ropey_tree::laws::counts_of_a_cutting();
         match &self.root {
-            None => Counts::zero(),
-            Some(node) => node.counts(),
+            None => RopeSlice::new(None),
+            Some(root) => {
+                let node: &Node = root;
+                RopeSlice::new(Some(node))
+            }
         }
     }
 
@@ -166,30 +159,28 @@ impl Rope {
         ensures fits { result < 2 ^ 63 }
         ensures cut { IsText self.now }
     {
-        self.counts().bytes
+        self.whole().len_bytes()
     }
 
     /// How many characters, Unicode scalar values, the text has. `O(1)`.
     pub fn len_chars(&self) -> usize
         ensures { result ≡ length (text_of self.now) }
     {
-        self.counts().chars
+        self.whole().len_chars()
     }
 
     /// How many UTF-16 code units the text takes. `O(1)`.
     pub fn len_utf16_cu(&self) -> usize
         ensures { result ≡ units (text_of self.now) }
     {
-        self.counts().units
+        self.whole().len_utf16_cu()
     }
 
     /// How many lines the text has: one more than line breaks, CR LF as one. `O(1)`.
     pub fn len_lines(&self) -> usize
         ensures { result ≡ line_breaks (text_of self.now) + 1 }
     {
-        // A law, for the proof alone.
-        str_indices::laws::counts_are_at_most_bytes();
-        self.counts().breaks + 1
+        self.whole().len_lines()
     }
 
     /// The chunk in which place `i` of a measure lies.
@@ -198,21 +189,7 @@ impl Rope {
         ensures cut { IsText self.now }
         ensures utf8 { IsUtf8 result.text.now }
     {
-        // A law, for the proof alone.
-        ropey_tree::laws::counts_of_a_cutting();
-        match &self.root {
-            None => Chunk {
-                text: "",
-                start: Counts::zero(),
-            },
-            Some(node) => {
-                let found = leaf_at(node, by, i);
-                Chunk {
-                    text: found.leaf.as_str(),
-                    start: found.before,
-                }
-            }
-        }
+        self.whole().chunk(by, i)
     }
 
     /// The chunk that holds a byte, and then the byte, the character and the line at which the chunk
@@ -225,13 +202,7 @@ impl Rope {
         ensures utf8 { IsUtf8 result.0.now }
         ensures cut { IsText self.now }
     {
-        let chunk = self.chunk(By::Bytes, byte_idx);
-        (
-            chunk.text,
-            chunk.start.bytes,
-            chunk.start.chars,
-            chunk.start.breaks,
-        )
+        self.whole().chunk_at_byte(byte_idx)
     }
 
     /// `chunk_at_byte`, and none past `len_bytes`. `O(log n)`.

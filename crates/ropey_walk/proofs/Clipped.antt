@@ -1,16 +1,16 @@
 -- A clip of a cutting is one.
-use Rattle.std.proofs.Common.{◌≡◌, ℕ, zero, suc, ◌+◌, ◌-◌, ◌^◌, ◌<◌, ◌≤◌, inl, inr, Bool, true, false, ◌&&◌, List, [], ◌∷◌, ◌++◌, length, take, drop, refl, ap, arith, sym, ◌∙◌, subst, length-append, length-take, length-drop}
+use Rattle.std.proofs.Common.{◌≡◌, ℕ, zero, suc, ◌+◌, ◌-◌, ◌<◌, ◌≤◌, inl, inr, true, false, ◌&&◌, List, [], ◌∷◌, ◌++◌, length, take, drop, refl, ap, arith, sym, ◌∙◌, subst, length-append, length-take, length-drop}
 use Rattle.std.specs.List.{concat}
 use Rattle.std.specs.Str.{all_scalars}
 use Rattle.std.proofs.lemmas.Bool.{cases_lt, and_parts, and_from}
 use Rattle.std.proofs.lemmas.List.{take-append-drop, take_all}
 use Rattle.std.proofs.lemmas.Str.{length-le-encodes}
-use Rattle.str_indices.specs.Text.{byte_len, cuts_cr_lf, starts_with_lf, ends_with_cr, NoCrLfBetween}
+use Rattle.str_indices.specs.Text.{byte_len, cuts_cr_lf, starts_with_lf, ends_with_cr}
 use Rattle.ropey_tree.specs.Cutting.{IsPiece, IsCutting, IsText}
 use Rattle.ropey_walk.specs.Chunks.{text_of}
 use Rattle.ropey_walk.specs.Clips.{between, pieces_from_char, pieces_to_char, clip}
 use Rattle.ropey_walk.proofs.Cuts.{byte_len-append, first_piece, rest_cut, bytes-concat, text_fits}
-use Rattle.ropey_walk.proofs.Clipping.{from-here, from-past, to-here, to-none, text-clip}
+use Rattle.ropey_walk.proofs.Clipping.{from-here, from-past, to-here, text-clip}
 use Rattle.ropey_walk.proofs.Counting.{back_whole}
 
 -- scalar values in parts

@@ -1,11 +1,9 @@
 -- Clips of pieces: their text, and how they go over a piece.
-use Rattle.std.proofs.Common.{◌≡◌, ℕ, zero, suc, ◌+◌, ◌-◌, ◌<◌, ◌≤◌, inl, inr, Bool, true, false, ◌&&◌, List, [], ◌∷◌, ◌++◌, length, take, drop, refl, ap, arith, sym, ◌∙◌, length-append, length-take, length-drop}
+use Rattle.std.proofs.Common.{◌≡◌, ℕ, zero, suc, ◌+◌, ◌-◌, ◌<◌, ◌≤◌, inl, inr, List, [], ◌∷◌, ◌++◌, length, take, drop, refl, ap, arith, sym, ◌∙◌, length-append, length-take, length-drop}
 use Rattle.std.specs.Prelude.{if◌then◌else◌}
 use Rattle.std.specs.List.{concat}
-use Rattle.std.proofs.lemmas.List.{append-nil, append_assoc, take-append-drop, take_all, take_at, drop_at, drop-drop, take-append-le, drop-append-le, length-take-le, take-take}
-use Rattle.std.proofs.Math.ListN.{drop_of_length-le}
-use Rattle.std.proofs.lemmas.List.Folds.{concat-append}
-use Rattle.std.proofs.lemmas.Bool.{cases_lt, lt-ltb, le-ltb, eq-eqb, ne_eqb}
+use Rattle.std.proofs.lemmas.List.{append-nil, take_all, drop_at, drop-drop, take-append-le, drop-append-le, take-take}
+use Rattle.std.proofs.lemmas.Bool.{cases_lt, lt-ltb, le-ltb, ne_eqb}
 use Rattle.ropey_walk.specs.Chunks.{text_of}
 use Rattle.ropey_walk.specs.Clips.{between, pieces_from_char, pieces_to_char, clip}
 
@@ -160,7 +158,7 @@ no-drop : (k : ℕ) → drop {A = ℕ} k [] ≡ []
 no-drop zero = refl
 no-drop (suc k) = refl
 
-drop-of-take : (a m : ℕ) (p : List ℕ) → drop a (take (a + m) p) ≡ take m (drop a p)
+pub drop-of-take : (a m : ℕ) (p : List ℕ) → drop a (take (a + m) p) ≡ take m (drop a p)
 drop-of-take zero m p = let same : 0 + m ≡ m = omega arith in ap (λ k. take k p) same
 drop-of-take (suc a) m [] = ap (drop (suc a)) (no-take (suc a + m)) ∙ sym (no-take m)
 drop-of-take (suc a) m (c ∷ p) =

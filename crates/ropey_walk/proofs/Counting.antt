@@ -1,15 +1,14 @@
 -- What parts of a text count.
-use Rattle.std.proofs.Common.{◌≡◌, ℕ, ◌+◌, ◌-◌, ◌<◌, ◌≤◌, inl, inr, Bool, true, false, true≢false, cond, ◌&&◌, List, [], ◌∷◌, ◌++◌, length, take, drop, refl, ap, arith, sym, ◌∙◌, subst, length-append, length-take, length-drop, length-take-le}
-use Rattle.std.specs.Prelude.{◌==◌}
+use Rattle.std.proofs.Common.{◌≡◌, ℕ, ◌+◌, ◌-◌, ◌<◌, ◌≤◌, inl, inr, Bool, true, false, true≢false, cond, ◌&&◌, List, [], ◌∷◌, ◌++◌, length, take, drop, refl, ap, arith, sym, ◌∙◌, subst, length-append, length-drop, length-take-le}
 use Rattle.std.proofs.lemmas.Bool.{cases_Bool, and_parts, eqb-true}
 use Rattle.std.proofs.lemmas.List.{append-nil, append_assoc, take-append-drop, take-take}
 use Rattle.std.proofs.lemmas.List.Sums.{sum_by-append}
-use Rattle.str_indices.specs.Text.{byte_len, units, units_of, breaks, break_ends, ends_up_to, ends_with_cr, starts_with_lf, cuts_cr_lf, NoCrLfBetween}
+use Rattle.str_indices.specs.Text.{byte_len, units, units_of, ends_up_to, ends_with_cr, starts_with_lf, cuts_cr_lf, NoCrLfBetween}
 use Rattle.ropey_tree.specs.declared.counts.Counts.{Counts}
 use Rattle.ropey_tree.specs.declared.counts.By.{By}
 use Rattle.ropey_tree.specs.declared.counts.By.TheVariants.{Bytes, Chars, Units, Breaks}
 use Rattle.ropey_tree.specs.Counts.{counts_of, plus, amount}
-use Rattle.ropey_walk.specs.Chunks.{line_breaks, is_break}
+use Rattle.ropey_walk.specs.Chunks.{line_breaks}
 use Rattle.ropey_walk.specs.Clips.{between}
 use Rattle.ropey_walk.specs.Conversions.{line_of_byte}
 use Rattle.ropey_walk.specs.Parts.{standing}

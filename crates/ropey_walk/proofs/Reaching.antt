@@ -1,30 +1,30 @@
 -- The leaf into which a part of a text reaches, and what of it lies in the part.
-use Rattle.std.proofs.Common.{◌≡◌, ℕ, zero, suc, ◌+◌, ◌-◌, ◌^◌, ◌<◌, ◌≤◌, ◌⊎◌, inl, inr, Bool, true, false, ◌&&◌, List, [], ◌∷◌, ◌++◌, length, take, drop, min, refl, ap, arith, sym, ◌∙◌, subst, length-append, length-take, length-drop, length-take-le}
+use Rattle.std.proofs.Common.{◌≡◌, ℕ, ◌+◌, ◌-◌, ◌^◌, ◌<◌, ◌≤◌, ◌⊎◌, inl, inr, Bool, true, false, ◌&&◌, List, [], ◌∷◌, ◌++◌, length, take, drop, min, refl, ap, arith, sym, ◌∙◌, subst, length-append, length-take, length-drop, length-take-le}
 use Rattle.std.specs.Prelude.{encode_utf8_all}
 use Rattle.std.specs.List.{concat}
-use Rattle.std.specs.Str.{all_scalars, chars, IsUtf8, IsCharBoundary}
+use Rattle.std.specs.Str.{all_scalars, chars, IsCharBoundary}
 use Rattle.std.proofs.lemmas.Bool.{cases_lt}
 use Rattle.std.proofs.lemmas.List.{append-nil, append_assoc, take-append-drop, take_all, take_at, drop_at, take-append-le, drop-append-le}
 use Rattle.std.proofs.lemmas.List.Folds.{concat-append}
 use Rattle.std.proofs.lemmas.Str.{length-le-encodes, encodes-append, chars-encodes, IsCharBoundary-at_seam}
 use Rattle.std.proofs.Math.ListN.{drop_of_length-le}
-use Rattle.str_indices.specs.Text.{byte_len, units, ends_with_cr, NoCrLfBetween}
+use Rattle.str_indices.specs.Text.{byte_len, ends_with_cr, NoCrLfBetween}
 use Rattle.ropey_tree.specs.declared.counts.Counts.{Counts}
 use Rattle.ropey_tree.specs.declared.counts.By.{By}
 use Rattle.ropey_tree.specs.declared.counts.By.TheVariants.{Bytes, Chars, Units, Breaks}
-use Rattle.ropey_tree.specs.Counts.{counts_of, zero_counts, total, plus, minus, amount}
+use Rattle.ropey_tree.specs.Counts.{counts_of, zero_counts, plus, minus, amount}
 use Rattle.ropey_tree.specs.Cutting.{IsCutting, IsText}
 use Rattle.ropey_tree.specs.Nodes.{LiesIn}
 use Rattle.ropey_tree.specs.Laws.{CountsAreOfTheText}
 use Rattle.ropey_tree.proofs.Pieces.{cut-right}
 use Rattle.ropey_tree.proofs.Totals.{units-le-bytes, breaks-le-bytes}
-use Rattle.ropey_walk.specs.Chunks.{text_of, piece_of}
+use Rattle.ropey_walk.specs.Chunks.{text_of}
 use Rattle.ropey_walk.specs.Clips.{between, pieces_from_char, pieces_to_char, clip}
 use Rattle.ropey_walk.specs.Conversions.{line_of_byte}
 use Rattle.ropey_walk.specs.Parts.{standing, IsReached}
 use Rattle.ropey_walk.specs.Standing.{StandsAt}
 use Rattle.ropey_walk.specs.Laws.{BreaksOfParts}
-use Rattle.ropey_walk.proofs.Cuts.{byte_len-append, first_piece, cut-left, whole_seams, text_fits}
+use Rattle.ropey_walk.proofs.Cuts.{byte_len-append, first_piece, cut-left, whole_seams}
 use Rattle.ropey_walk.proofs.Shows.{piece_by_itself}
 use Rattle.ropey_walk.proofs.Clipping.{drop-past, take-past, text-from, clip-around, to-none}
 use Rattle.ropey_walk.proofs.Clipped.{some_chars, clip-all, scalars-take, scalars-drop}
@@ -64,7 +64,7 @@ amount-below Chars t = length-le-encodes t
 amount-below Units t = units-le-bytes t
 amount-below Breaks t = breaks-le-bytes t
 
-bytes-part : (a e : ℕ) (t : List ℕ) → byte_len (between a e t) ≤ byte_len t
+pub bytes-part : (a e : ℕ) (t : List ℕ) → byte_len (between a e t) ≤ byte_len t
 bytes-part a e t =
     omega (
       arith,
@@ -107,7 +107,7 @@ module _ (law : BreaksOfParts) where
       let whole : NoCrLfBetween (take (length f) t) (drop (length f) t) = subst (λ (s : List ℕ). NoCrLfBetween s (drop (length f) t)) (sym taken) (subst (NoCrLfBetween f) (sym left) (whole_seams front rest cut)) in
       record { within = within; taken = taken; whole = whole; stands = standing-front law t (length f) within whole ∙ ap counts_of taken }
 
-  start-fits : (by : By) (t : List ℕ) (start len : Counts) → IsPart t start len → amount by start ≤ byte_len t
+  pub start-fits : (by : By) (t : List ℕ) (start len : Counts) → IsPart t start len → amount by start ≤ byte_len t
   start-fits by t start len h =
       let n = length t in
       let all : standing t n ≡ counts_of t =

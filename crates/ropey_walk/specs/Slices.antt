@@ -1,9 +1,5 @@
 -- What a slice is seen as: the pieces of its rope, clipped.
-use Rattle.std.specs.Prelude.{ℕ, ◌+◌, List, [], take, Option, Some, None}
-use Rattle.std.specs.Borrow.{Bor}
-use Rattle.str_indices.specs.Text.{byte_len, units}
-use Rattle.ropey_tree.specs.declared.counts.Counts.{Counts}
-use Rattle.ropey_tree.specs.NodeView.{NodeView}
+use Rattle.std.specs.Prelude.{ℕ, ◌+◌, List}
 use Rattle.ropey_walk.specs.declared.slice.RopeSlice.{RopeSlice}
 use Rattle.ropey_walk.specs.Chunks.{text_of}
 use Rattle.ropey_walk.specs.Clips.{clip}

@@ -1,12 +1,13 @@
-//! Bytes, characters and chunks of a rope by index.
+//! Bytes, characters and chunks by index.
 
-ghost use Rattle.std.specs.Prelude.{◌≡◌, ◌+◌, ◌-◌, ◌<◌, ◌≤◌, ◌↔◌, length, slice_index, SomeIff, IfSome, IsNone, encode_utf8_all};
+ghost use Rattle.std.specs.Prelude.{◌≡◌, ◌+◌, ◌-◌, ◌<◌, ◌≤◌, ◌↔◌, length, slice_index, SomeIff, IfSome, IsSome, IsNone, IfOk, IfErr, IsOk, encode_utf8_all};
 ghost use Rattle.std.specs.Str.{chars, IsUtf8};
 ghost use Rattle.str_indices.specs.Text.{byte_len};
-ghost use Rattle.ropey_walk.specs.Chunks.{line_breaks, ShowsChunk};
+ghost use Rattle.ropey_walk.specs.Chunks.{line_breaks, IsText, ShowsChunk};
 
 use crate::slice::RopeSlice;
 use ropey_tree::counts::By;
+use ropey_tree::error::Error;
 use str_indices::chars;
 
 impl<'a> RopeSlice<'a> {
@@ -58,6 +59,56 @@ impl<'a> RopeSlice<'a> {
     {
         if char_idx < self.len_chars() {
             Some(self.char(char_idx))
+        } else {
+            None
+        }
+    }
+
+    /// The chunk that holds a byte, and then the byte, the character and the line at which the chunk
+    /// starts. The byte index is at most `len_bytes`, and there it is the last chunk; an empty text
+    /// shows an empty one at 0, 0, 0. `O(log n)`.
+    pub fn chunk_at_byte(&self, byte_idx: usize) -> (&'a str, usize, usize, usize)
+        requires { byte_idx ≤ byte_len (slice_text self.now) }
+        ensures chunk { ShowsChunk (slice_pieces self.now) byte_len byte_idx (chars result.0.now)
+            result.1 result.2 result.3 }
+        ensures utf8 { IsUtf8 result.0.now }
+        ensures cut { IsText (slice_pieces self.now) }
+    {
+        let chunk = self.chunk(By::Bytes, byte_idx);
+        (
+            chunk.text,
+            chunk.start.bytes,
+            chunk.start.chars,
+            chunk.start.breaks,
+        )
+    }
+
+    /// `chunk_at_byte`, and past the length the error `ByteIndexOutOfBounds`, with the index and that
+    /// length. `O(log n)`.
+    pub fn try_chunk_at_byte(
+        &self,
+        byte_idx: usize,
+    ) -> Result<(&'a str, usize, usize, usize), Error>
+        ensures ok { IsOk result ↔ (byte_idx ≤ byte_len (slice_text self.now)) }
+        ensures refused { IfErr result (λ error. error ≡
+            Error.ByteIndexOutOfBounds byte_idx (byte_len (slice_text self.now))) }
+        ensures chunk { IfOk result (λ shown. ShowsChunk (slice_pieces self.now) byte_len byte_idx
+            (chars shown.0.now) shown.1 shown.2 shown.3) }
+        ensures utf8 { IfOk result (λ shown. IsUtf8 shown.0.now) }
+    {
+        self.within_bytes(byte_idx)?;
+        Ok(self.chunk_at_byte(byte_idx))
+    }
+
+    /// The whole text, exactly where the slice has at most one chunk. `O(log n)`.
+    pub fn as_str(&self) -> Option<&'a str>
+        ensures one { IsSome result ↔ (length (slice_pieces self.now) ≤ 1) }
+        ensures text { IfSome result (λ text. chars text.now ≡ slice_text self.now) }
+        ensures utf8 { IfSome result (λ text. IsUtf8 text.now) }
+    {
+        let chunk = self.chunk(By::Bytes, 0);
+        if chunk.text.len() == self.len_bytes() {
+            Some(chunk.text)
         } else {
             None
         }

@@ -96,7 +96,7 @@ impl<'a> RopeSlice<'a> {
         self.char_of(&self.place_of_line(line_idx))
     }
 
-    fn within_bytes(&self, byte_idx: usize) -> Result<(), Error>
+    pub(crate) fn within_bytes(&self, byte_idx: usize) -> Result<(), Error>
         ensures { MatchResult result (λ _. byte_idx ≤ byte_len (slice_text self.now))
             (λ error. (byte_len (slice_text self.now) < byte_idx) ×
             (error ≡ Error.ByteIndexOutOfBounds byte_idx (byte_len (slice_text self.now)))) }

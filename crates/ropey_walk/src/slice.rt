@@ -1,6 +1,7 @@
 //! A part of a rope that acts as a text of its own.
 
 ghost use Rattle.std.specs.Prelude.{◌≡◌, ◌+◌, ◌<◌, ◌≤◌, ◌^◌, length};
+ghost use Rattle.str_indices.specs.Text.{byte_len};
 ghost use Rattle.ropey_tree.specs.Counts.{counts_of};
 ghost use Rattle.ropey_tree.specs.Cutting.{IsText};
 ghost use Rattle.ropey_walk.specs.Chunks.{text_of};
@@ -28,7 +29,7 @@ pub struct RopeSlice<'a> {
     ghost starts: { start ≡ standing (text_of (pieces_under node)) start.chars },
     ghost counted: { len ≡ counts_of (between start.chars (start.chars + len.chars)
         (text_of (pieces_under node))) },
-    ghost fits: { len.bytes < 2 ^ 63 },
+    ghost fits: { byte_len (text_of (pieces_under node)) < 2 ^ 63 },
 }
 
 /// A chunk, with what stands before it.
@@ -77,7 +78,7 @@ fn counts_under(node: Option<&Node>) -> Counts
 
 impl<'a> RopeSlice<'a> {
     ghost use Rattle.std.specs.Str.{chars, IsUtf8};
-    ghost use Rattle.str_indices.specs.Text.{byte_len, units};
+    ghost use Rattle.str_indices.specs.Text.{units};
     ghost use Rattle.ropey_walk.specs.Chunks.{line_breaks};
     ghost use Rattle.ropey_walk.specs.Clips.{clip};
     ghost use Rattle.ropey_walk.specs.Parts.{IsReached};
@@ -94,6 +95,27 @@ impl<'a> RopeSlice<'a> {
         RopeSlice {
             node,
             start: Counts::zero(),
+            len,
+        }
+    }
+
+    /// The part of a slice that starts where `start` stands before it, and counts `len`. `O(1)`.
+    pub fn part(&self, start: Counts, len: Counts) -> Self
+        requires within { start.chars + len.chars ≤ length (slice_text self.now) }
+        requires starts { start ≡ standing (slice_text self.now) start.chars }
+        requires counted { len ≡ counts_of (between start.chars (start.chars + len.chars)
+            (slice_text self.now)) }
+        ensures { slice_pieces result ≡ clip start.chars (start.chars + len.chars)
+            (slice_pieces self.now) }
+    {
+        // A law, for the proof alone.
+        laws::breaks_of_parts();
+        if len.chars == 0 {
+            return RopeSlice::new(None);
+        }
+        RopeSlice {
+            node: self.node,
+            start: self.start.plus(start),
             len,
         }
     }

@@ -3,3 +3,5 @@
 
 #[cfg(test)]
 mod iterators;
+#[cfg(test)]
+mod slices;

@@ -1,6 +1,6 @@
 use Rattle.std.proofs.Common.{◌≡◌, length, inl, ap, ◌∙◌, arith}
 use Rattle.std.proofs.lemmas.Iterator.Consumers.{count_from_yields_List}
-use Rattle.ropey.proofs.Cuts.{text_fits}
+use Rattle.ropey_walk.proofs.Cuts.{text_fits}
 use Rattle.ropey.proofs.Walks.{chunks_given, pieces-le-bytes}
 use Rattle.ropey.proofs.rope.Rope.capacity.Goals as goal
 

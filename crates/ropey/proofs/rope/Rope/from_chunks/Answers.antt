@@ -5,7 +5,7 @@ use Rattle.std.proofs.iter.Next.{Yields-more}
 use Rattle.str_indices.specs.Text.{byte_len}
 use Rattle.ropey_tree.specs.declared.error.Error.TheVariants.{Size}
 use Rattle.ropey.specs.Chunks.{joined}
-use Rattle.ropey.proofs.Cuts.{joined-last}
+use Rattle.ropey.proofs.Making.{joined-last}
 use Rattle.ropey.proofs.rope.Rope.from_chunks.Goals as goal
 
 pub returns-in_err-append_part-clause-size : goal.returns-in_err-append_part-clause-size

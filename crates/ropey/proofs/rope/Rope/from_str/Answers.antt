@@ -1,7 +1,7 @@
 use Rattle.std.proofs.Common.{◌^◌, ◌<◌, length, arith}
 use Rattle.ropey_tree.specs.Nodes.{all_pieces}
 use Rattle.ropey_tree.specs.Siblings.{views}
-use Rattle.ropey.proofs.Cuts.{fits_in}
+use Rattle.ropey.proofs.Making.{fits_in}
 use Rattle.ropey.proofs.rope.Rope.from_str.Goals as goal
 
 pub from_leaves-requires-clause-text : goal.from_leaves-requires-clause-text

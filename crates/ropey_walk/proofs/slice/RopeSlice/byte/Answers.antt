@@ -1,5 +1,5 @@
 use Rattle.std.proofs.Common.{ap, arith, length}
-use Rattle.ropey_walk.specs.Slices.{slice_pieces, slice_text}
+use Rattle.ropey_walk.specs.Slices.{slice_pieces}
 use Rattle.ropey_walk.proofs.Reading.{byte_read}
 use Rattle.ropey_walk.proofs.slice.RopeSlice.byte.Goals as goal
 

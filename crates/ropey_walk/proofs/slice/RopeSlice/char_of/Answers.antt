@@ -1,6 +1,6 @@
 use Rattle.std.proofs.Common.{arith}
 use Rattle.std.specs.Str.{chars}
-use Rattle.ropey_walk.specs.Slices.{slice_pieces, slice_text}
+use Rattle.ropey_walk.specs.Slices.{slice_text}
 use Rattle.ropey_walk.proofs.Placing.{tells_chars}
 use Rattle.ropey_walk.proofs.slice.RopeSlice.char_of.Goals as goal
 

@@ -1,9 +1,4 @@
-use Rattle.std.proofs.Common.{◌≡◌, ◌+◌, [], List, ℕ, ap, sym, ◌∙◌, subst, arith}
-use Rattle.std.specs.Str.{chars}
-use Rattle.ropey_walk.specs.Clips.{clip}
-use Rattle.ropey_walk.specs.Parts.{pieces_under}
 use Rattle.ropey_walk.specs.Slices.{slice_pieces}
-use Rattle.ropey_walk.specs.declared.slice.RopeSlice.{RopeSlice}
 use Rattle.ropey_walk.proofs.Slices.{nothing_in, no_tree, no_text}
 use Rattle.ropey_walk.proofs.Shows.{nothing_stands}
 use Rattle.ropey_walk.proofs.slice.RopeSlice.chunk.Goals as goal

@@ -1,14 +1,9 @@
-use Rattle.std.proofs.Common.{◌≡◌, ◌+◌, List, ℕ, length, ap, sym, ◌∙◌, subst, arith}
-use Rattle.std.specs.Prelude.{encode_utf8_all}
+use Rattle.std.proofs.Common.{◌+◌, List, ℕ, length, ap, sym, ◌∙◌, subst, arith}
 use Rattle.std.specs.Str.{chars}
-use Rattle.std.proofs.lemmas.Str.{IsUtf8-between}
 use Rattle.ropey_tree.specs.declared.counts.By.TheVariants.{Bytes}
 use Rattle.ropey_tree.specs.Cutting.{IsText}
 use Rattle.ropey_walk.specs.Chunks.{text_of}
-use Rattle.ropey_walk.specs.Clips.{clip}
 use Rattle.ropey_walk.specs.Parts.{pieces_under}
-use Rattle.ropey_walk.specs.Standing.{StandsAt}
-use Rattle.ropey_walk.specs.Slices.{slice_pieces}
 use Rattle.ropey_walk.proofs.Cuts.{text_fits}
 use Rattle.ropey_walk.proofs.Clipped.{text-is}
 use Rattle.ropey_walk.proofs.Reaching.{IsCutAt, clipped_leaf, leaf_stands_in, leaf_cut_at, ends_behind, sum-fits}

@@ -1,10 +1,19 @@
-use Rattle.std.proofs.Common.{◌+◌, ap, sym, ◌∙◌}
+use Rattle.std.proofs.Common.{◌+◌, refl, ap, sym, ◌∙◌}
+use Rattle.ropey_tree.specs.declared.counts.By.TheVariants.{Bytes}
 use Rattle.ropey_tree.specs.Counts.{counts_of}
+use Rattle.ropey_walk.specs.Chunks.{text_of}
 use Rattle.ropey_walk.specs.Parts.{pieces_under}
 use Rattle.ropey_walk.proofs.Clipping.{text-clip}
+use Rattle.ropey_walk.proofs.Reaching.{len-fits}
+use Rattle.ropey_walk.proofs.Slices.{part_of}
 use Rattle.ropey_walk.proofs.slice.RopeSlice.counts.Goals as goal
 
 pub returns-clause-counts : goal.returns-clause-counts
 returns-clause-counts c =
     let s = c.args.self.now in
     s.counted ∙ ap counts_of (sym (text-clip s.start.chars (s.start.chars + s.len.chars) (pieces_under s.node)))
+
+pub returns-clause-fits : goal.returns-clause-fits
+returns-clause-fits c =
+    let s = c.args.self.now in
+    len-fits Bytes (text_of (pieces_under s.node)) s.start s.len (part_of s (pieces_under s.node) refl) s.fits

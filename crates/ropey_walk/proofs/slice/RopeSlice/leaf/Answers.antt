@@ -1,9 +1,6 @@
-use Rattle.std.proofs.Common.{◌≡◌, ◌+◌, ◌-◌, ◌∷◌, [], List, ℕ, ap, sym, ◌∙◌, subst, arith}
+use Rattle.std.proofs.Common.{arith}
 use Rattle.ropey_tree.specs.declared.counts.By.TheVariants.{Bytes}
-use Rattle.ropey_tree.specs.Cutting.{IsText}
-use Rattle.ropey_tree.specs.Nodes.{LiesIn}
 use Rattle.ropey_walk.specs.Chunks.{text_of}
-use Rattle.ropey_walk.specs.Parts.{pieces_under}
 use Rattle.ropey_walk.proofs.Reaching.{reached-within, reached-last, sum-fits, some_bytes}
 use Rattle.ropey_walk.proofs.Cuts.{text_fits}
 use Rattle.ropey_walk.proofs.Slices.{part_of}

@@ -1,7 +1,7 @@
 use Rattle.std.proofs.Common.{arith}
 use Rattle.std.specs.Str.{chars}
 use Rattle.ropey_walk.specs.Chunks.{is_break}
-use Rattle.ropey_walk.specs.Slices.{slice_pieces, slice_text}
+use Rattle.ropey_walk.specs.Slices.{slice_text}
 use Rattle.ropey_walk.proofs.Placing.{tells_lines}
 use Rattle.ropey_walk.proofs.slice.RopeSlice.line_of.Goals as goal
 

@@ -1,4 +1,3 @@
-use Rattle.std.proofs.Common.{ap, arith}
 use Rattle.ropey_walk.specs.Parts.{pieces_under}
 use Rattle.ropey_walk.proofs.Cuts.{text_fits}
 use Rattle.ropey_walk.proofs.Reaching.{whole_part, whole_clip}
@@ -7,7 +6,7 @@ use Rattle.ropey_walk.proofs.slice.RopeSlice.new.Goals as goal
 pub invariant_of-result : goal.invariant_of-result
 invariant_of-result c =
     let whole = whole_part c.breaks_of_parts.ensures (pieces_under c.args.node) c.zero.result c.counts_under-len.result c.zero.ensures c.counts_under-len.ensures.counts in
-    let fits = omega (arith, ap (λ n. n.bytes) c.counts_under-len.ensures.counts, text_fits (pieces_under c.args.node) c.counts_under-len.ensures.cut) in
+    let fits = text_fits (pieces_under c.args.node) c.counts_under-len.ensures.cut in
     record { within = whole.within; starts = whole.starts; counted = whole.counted; fits = fits }
 
 pub returns : goal.returns

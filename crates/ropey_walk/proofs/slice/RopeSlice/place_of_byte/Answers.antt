@@ -1,5 +1,5 @@
 use Rattle.std.specs.Str.{chars}
-use Rattle.ropey_walk.specs.Slices.{slice_pieces, slice_text}
+use Rattle.ropey_walk.specs.Slices.{slice_pieces}
 use Rattle.ropey_walk.proofs.Placing.{byte_placed}
 use Rattle.ropey_walk.proofs.slice.RopeSlice.place_of_byte.Goals as goal
 

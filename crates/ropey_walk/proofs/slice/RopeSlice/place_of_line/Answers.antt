@@ -1,6 +1,6 @@
 use Rattle.std.specs.Str.{chars}
 use Rattle.ropey_walk.specs.Chunks.{is_break}
-use Rattle.ropey_walk.specs.Slices.{slice_pieces, slice_text}
+use Rattle.ropey_walk.specs.Slices.{slice_pieces}
 use Rattle.ropey_walk.proofs.Placing.{line_placed, line_low}
 use Rattle.ropey_walk.proofs.slice.RopeSlice.place_of_line.Goals as goal
 

@@ -1,4 +1,4 @@
-use Rattle.ropey_walk.specs.Slices.{slice_pieces, slice_text}
+use Rattle.ropey_walk.specs.Slices.{slice_pieces}
 use Rattle.ropey_walk.proofs.Placing.{unit_placed}
 use Rattle.ropey_walk.proofs.slice.RopeSlice.place_of_unit.Goals as goal
 

@@ -1,0 +1,45 @@
+use Rattle.std.proofs.Common.{◌≡◌, ◌+◌, ap, sym, ◌∙◌, arith}
+use Rattle.ropey_tree.specs.declared.counts.By.TheVariants.{Bytes, Chars, Units, Breaks}
+use Rattle.ropey_tree.specs.Counts.{counts_of}
+use Rattle.ropey_walk.specs.Chunks.{text_of}
+use Rattle.ropey_walk.specs.Clips.{between, clip}
+use Rattle.ropey_walk.specs.Parts.{pieces_under, standing}
+use Rattle.ropey_walk.specs.Slices.{slice_pieces}
+use Rattle.ropey_walk.proofs.Clipping.{clip-nothing}
+use Rattle.ropey_walk.proofs.Slices.{in_part, parts_fit, deeper_pieces}
+use Rattle.ropey_walk.proofs.slice.RopeSlice.part.Goals as goal
+
+pub plus-requires-clause-bytes : goal.plus-requires-clause-bytes
+plus-requires-clause-bytes c = parts_fit c.breaks_of_parts.ensures Bytes c.args.self.now c.args.start c.args.len c.requires.within c.requires.starts c.requires.counted
+
+pub plus-requires-clause-chars : goal.plus-requires-clause-chars
+plus-requires-clause-chars c = parts_fit c.breaks_of_parts.ensures Chars c.args.self.now c.args.start c.args.len c.requires.within c.requires.starts c.requires.counted
+
+pub plus-requires-clause-units : goal.plus-requires-clause-units
+plus-requires-clause-units c = parts_fit c.breaks_of_parts.ensures Units c.args.self.now c.args.start c.args.len c.requires.within c.requires.starts c.requires.counted
+
+pub plus-requires-clause-breaks : goal.plus-requires-clause-breaks
+plus-requires-clause-breaks c = parts_fit c.breaks_of_parts.ensures Breaks c.args.self.now c.args.start c.args.len c.requires.within c.requires.starts c.requires.counted
+
+pub invariant_of-result : goal.invariant_of-result
+invariant_of-result c =
+    let s = c.args.self.now in
+    let deeper = in_part c.breaks_of_parts.ensures s c.args.start c.args.len c.requires.within c.requires.starts c.requires.counted (omega (arith, c.if-len-eq0.false)) in
+    let t = text_of (pieces_under s.node) in
+    let e = c.plus.ensures in
+    record {
+      within = omega (arith, deeper.within, ap (λ n. n.chars) e);
+      starts = e ∙ deeper.starts ∙ ap (λ n. standing t n.chars) (sym e);
+      counted = deeper.counted ∙ ap (λ n. counts_of (between n.chars (n.chars + c.args.len.chars) t)) (sym e);
+      fits = s.fits;
+    }
+
+pub returns-then-len-eq0 : goal.returns-then-len-eq0
+returns-then-len-eq0 c =
+    let same : c.args.start.chars + c.args.len.chars ≡ c.args.start.chars = omega (arith, c.if-len-eq0.true) in
+    c.new.ensures ∙ sym (ap (λ n. clip c.args.start.chars n (slice_pieces c.args.self.now)) same ∙ clip-nothing c.args.start.chars (slice_pieces c.args.self.now))
+
+pub returns : goal.returns
+returns c =
+    let s = c.args.self.now in
+    ap (λ n. clip n.chars (n.chars + c.args.len.chars) (pieces_under s.node)) c.plus.ensures ∙ deeper_pieces s c.args.start c.args.len c.requires.within
