@@ -154,6 +154,7 @@ none_ahead pieces byte h cut e =
     cut-right : (ps qs : List (List ℕ)) → IsCutting (ps ++ qs) → IsCutting qs
     cut-right [] qs cut = cut
     cut-right (p ∷ ps) qs cut = cut-right ps qs (rest_cut p (ps ++ qs) cut)
+
     no_piece : (rest : List (List ℕ)) → IsCutting rest → byte_len (concat rest) ≤ 0 → rest ≡ []
     no_piece [] cut low = refl
     no_piece (p ∷ ps) cut low = absurd (omega (arith, low, (first_piece p ps cut).not_empty, byte_len-append p (concat ps)))

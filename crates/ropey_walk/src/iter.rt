@@ -19,11 +19,10 @@ mod bytes;
 mod chars;
 mod chunks;
 
+use crate::slice::RopeSlice;
 pub use bytes::Bytes;
 pub use chars::Chars;
 pub use chunks::Chunks;
-
-use crate::slice::RopeSlice;
 use ropey_tree::counts::By;
 use ropey_tree::error::Error;
 use std::alloc::Global;

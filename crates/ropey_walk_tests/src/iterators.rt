@@ -296,7 +296,9 @@ fn check_chunks(
                 Some((chunks, bytes, chars, lines)) => {
                     let stands = chunks_stand_at(&chunks, &all, place)?;
                     assert!(rt; stands, "chunks at byte {byte} of {place}");
-                    assert!(rt; (bytes, chars, lines) == (before.bytes, before.chars, before.breaks));
+                    assert!(rt;
+                        (bytes, chars, lines) == (before.bytes, before.chars, before.breaks)
+                    );
                 }
             }
         }
@@ -313,7 +315,11 @@ fn check_chunks(
             assert!(rt; (bytes, chars, lines) == (before.bytes, before.chars, before.breaks));
         }
     }
-    assert!(rt; slice.get_chunks_at_byte(text.len().saturating_add(1)).is_none());
+    assert!(rt;
+        slice
+            .get_chunks_at_byte(text.len().saturating_add(1))
+            .is_none()
+    );
     Ok(())
 }
 

@@ -53,11 +53,7 @@ fn place_in_chunk_of<'a>(slice: &RopeSlice<'a>, in_char: usize, char_idx: usize)
 
 /// The place, in a chunk that goes on behind it.
 #[inline]
-fn place_to_go_on<'a>(
-    slice: &RopeSlice<'a>,
-    place: CharPlace<'a>,
-    char_idx: usize,
-) -> CharPlace<'a>
+fn place_to_go_on<'a>(slice: &RopeSlice<'a>, place: CharPlace<'a>, char_idx: usize) -> CharPlace<'a>
     requires place { IsCharPlace (slice_text slice.now) char_idx place.chunk.now place.at }
     requires more { char_idx < length (slice_text slice.now) }
     ensures place { IsCharPlace (slice_text slice.now) char_idx result.chunk.now result.at }
