@@ -2,6 +2,4 @@
 #![tactic(auto)]
 
 #[cfg(test)]
-mod iterators;
-#[cfg(test)]
 mod slices;
