@@ -8,3 +8,7 @@ pub mod Clipped
 pub mod Reaching
 pub mod Slices
 pub mod OnePiece
+pub mod TwoWay
+pub mod ChunkWalks
+pub mod ByteWalks
+pub mod CharWalks

@@ -47,7 +47,7 @@ byte_read pieces i bytes start utf8 h text inside =
 
 -- ---- a character
 -- so many characters end where they end
-place_of_front : EndsAddUp AnyTexts length char_ends → CharsAndBoundariesAgree → LastEndIsBefore char_ends → (front back : List ℕ)
+pub place_of_front : EndsAddUp AnyTexts length char_ends → CharsAndBoundariesAgree → LastEndIsBefore char_ends → (front back : List ℕ)
     → end_place (char_ends (front ++ back)) (length front) (byte_len (front ++ back)) ≡ byte_len front
 place_of_front law agree last front back =
     let d = byte_len front in

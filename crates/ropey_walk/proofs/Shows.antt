@@ -61,7 +61,7 @@ shown pieces by i chunk start h = record {
 }
 
 -- an empty text shows an empty chunk
-amount-nothing : (by : By) → amount by (counts_of []) ≡ 0
+pub amount-nothing : (by : By) → amount by (counts_of []) ≡ 0
 amount-nothing Bytes = refl
 amount-nothing Chars = refl
 amount-nothing Units = refl

@@ -5,3 +5,5 @@ pub mod Laws
 pub mod Clips
 pub mod Parts
 pub mod Slices
+pub mod TwoWay
+pub mod Iter

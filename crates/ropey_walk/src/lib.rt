@@ -3,6 +3,7 @@
 
 mod chunks;
 mod conversions;
+pub mod iter;
 pub mod laws;
 mod places;
 pub mod slice;

@@ -132,8 +132,16 @@ impl<'a> RopeSlice<'a> {
     pub fn len_bytes(&self) -> usize
         ensures bytes { result ≡ byte_len (slice_text self.now) }
         ensures fits { result < 2 ^ 63 }
+        ensures cut { IsText (slice_pieces self.now) }
     {
-        self.counts().bytes
+        match self.node {
+            None => self.counts().bytes,
+            Some(node) => {
+                // For its facts alone.
+                let _ = node.height();
+                self.counts().bytes
+            }
+        }
     }
 
     /// How many characters, Unicode scalar values, the text has. `O(1)`.

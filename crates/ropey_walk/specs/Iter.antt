@@ -1,0 +1,67 @@
+-- What the iterators over a text give.
+use Rattle.std.specs.Prelude.{◌≡◌, ℕ, suc, ◌+◌, ◌-◌, ◌<◌, ◌≤◌, List, [], ◌∷◌, ◌++◌, length, take, drop, Option, IfSome, if◌then◌else◌, ◌==◌}
+use Rattle.std.specs.Str.{chars, IsUtf8, IsCharBoundary}
+use Rattle.std.specs.Borrow.{Bor}
+use Rattle.str_indices.specs.Text.{byte_len, NoCrLfBetween}
+use Rattle.ropey_walk.specs.Chunks.{text_of, line_breaks}
+use Rattle.ropey_walk.specs.TwoWay.{TwoWay, before_item, GivesNext}
+
+-- ---- chunks
+-- a step that gives a chunk, of which the list has the characters
+abbrev pub GivesChunk : TwoWay (List ℕ) → Option (Bor (List ℕ)) → TwoWay (List ℕ) → Type 0
+GivesChunk old given new = GivesNext (λ chunk. chars chunk.now) old given new × IfSome given (λ chunk. IsUtf8 chunk.now)
+
+-- how many pieces stand before a byte at which one starts
+abbrev pub pieces_before : ℕ → List (List ℕ) → ℕ
+pieces_before byte [] = 0
+pieces_before byte (p ∷ ps) = if byte == 0 then 0 else suc (pieces_before (byte - byte_len p) ps)
+
+-- a byte at which one of the pieces starts, or their end
+pub record IsBetweenPieces (pieces : List (List ℕ)) (byte : ℕ) : Type 0 where
+  pub front : List (List ℕ)
+  pub rest : List (List ℕ)
+  pub parts : pieces ≡ front ++ rest
+  pub place : byte ≡ byte_len (text_of front)
+
+-- ---- bytes and characters
+-- a step that gives a byte or a character, as the list has it
+abbrev pub GivesItem : TwoWay ℕ → Option ℕ → TwoWay ℕ → Type 0
+GivesItem old given new = GivesNext (λ item. item) old given new
+
+-- a part of a list, and where it starts
+pub record IsPartAt (start : ℕ) (part items : List ℕ) : Type 0 where
+  pub before : List ℕ
+  pub after : List ℕ
+  pub parts : items ≡ before ++ part ++ after
+  pub starts : start ≡ length before
+
+-- the place before a character of a text, between the characters of one of its chunks
+pub record IsCharPlace (text : List ℕ) (char_idx : ℕ) (chunk : List ℕ) (at : ℕ) : Type 0 where
+  pub utf8 : IsUtf8 chunk
+  pub boundary : IsCharBoundary chunk at
+  pub before : List ℕ
+  pub after : List ℕ
+  pub parts : text ≡ before ++ chars (take at chunk) ++ (chars (drop at chunk) ++ after)
+  pub char_is : char_idx ≡ length (before ++ chars (take at chunk))
+
+-- ---- chunks from a place
+-- more than i of a measure stand up to the end of the first piece, if there is one
+abbrev pub PassesFirst : (List ℕ → ℕ) → ℕ → List (List ℕ) → List (List ℕ) → Type 0
+PassesFirst count i before [] = Unit {0}
+PassesFirst count i before (chunk ∷ after) = i < count (text_of before ++ chunk)
+
+-- The place before the chunk in which place i of a measure lies, as `ShowsChunk` has it, or behind the last chunk where no more than i stand in all; with the byte, the character and the line there.
+pub record StandsBefore (pieces : List (List ℕ)) (count : List ℕ → ℕ) (i : ℕ) (chunks : TwoWay (List ℕ)) (byte char line : ℕ) : Type 0 where
+  pub before : List (List ℕ)
+  pub after : List (List ℕ)
+  pub parts : pieces ≡ before ++ after
+  pub stands : chunks ≡ before_item (length before) pieces
+  pub byte_is : byte ≡ byte_len (text_of before)
+  pub char_is : char ≡ length (text_of before)
+  pub line_is : line ≡ line_breaks (text_of before)
+  pub not_past : count (text_of before) ≤ i
+  pub passed : PassesFirst count i before after
+
+-- no CR LF is cut between any front of the pieces and the rest
+abbrev pub CutsNoCrLf : List (List ℕ) → Type 0
+CutsNoCrLf pieces = (front rest : List (List ℕ)) → pieces ≡ front ++ rest → NoCrLfBetween (text_of front) (text_of rest)

@@ -1,0 +1,167 @@
+//! The bytes of a text, both ways.
+
+ghost use Rattle.std.specs.Prelude.{◌≡◌, ◌+◌, ◌≤◌, length, encode_utf8_all, ⊤};
+ghost use Rattle.str_indices.specs.Text.{byte_len};
+ghost use Rattle.ropey_walk.specs.TwoWay.{turned, before_item, GivesPrev};
+ghost use Rattle.ropey_walk.specs.Iter.{GivesItem};
+ghost use Rattle.ropey_walk.specs.Slices.{slice_text};
+
+use crate::slice::RopeSlice;
+use ropey_tree::counts::By;
+use std::alloc::AllocError;
+use std::iter::{ExactSizeIterator, FusedIterator};
+use std::marker::Model;
+
+/// The bytes of a text's UTF-8, both ways. Contracts see those ahead and those behind.
+///
+/// A step costs `O(1)` inside a chunk, and `O(log n)` from one to the next.
+#[derive(Drop)]
+pub struct Bytes<'a> {
+    slice: RopeSlice<'a>,
+    // A chunk, and the byte index at which it starts.
+    chunk: &'a str,
+    start: usize,
+    // Where in the chunk the place is, or at its end.
+    at: usize,
+    // The length of the text in bytes.
+    len: usize,
+    is_reversed: bool,
+}
+
+impl<'a> Model for Bytes<'a> {
+    ghost use Rattle.std.specs.Prelude.{◌≡◌, ℕ, ◌+◌, ◌^◌, ◌<◌, ◌≤◌, length, encode_utf8_all};
+    ghost use Rattle.ropey_walk.specs.TwoWay.{TwoWay, facing};
+    ghost use Rattle.ropey_walk.specs.Iter.{IsPartAt};
+    ghost use Rattle.ropey_walk.specs.Slices.{slice_text};
+
+    ghost Value = { TwoWay ℕ };
+
+    ghost view = { λ bytes. facing bytes.is_reversed (bytes.start + bytes.at)
+        (encode_utf8_all (slice_text bytes.slice)) };
+
+    ghost invariant = { λ bytes.
+        IsPartAt bytes.start bytes.chunk.now (encode_utf8_all (slice_text bytes.slice)) ×
+        (bytes.at ≤ length bytes.chunk.now) ×
+        (bytes.len ≡ length (encode_utf8_all (slice_text bytes.slice))) × (bytes.len < 2 ^ 63) };
+}
+
+impl<'a> Bytes<'a> {
+    /// The bytes of a text, from the place before one of them, or from the end.
+    pub(crate) fn at(slice: RopeSlice<'a>, byte_idx: usize) -> Self
+        requires { byte_idx ≤ byte_len (slice_text slice) }
+        ensures { result ≡ before_item byte_idx (encode_utf8_all (slice_text slice.entry)) }
+    {
+        let chunk = slice.chunk(By::Bytes, byte_idx);
+        Bytes {
+            slice,
+            chunk: chunk.text,
+            start: chunk.start.bytes,
+            at: byte_idx - chunk.start.bytes,
+            len: slice.len_bytes(),
+            is_reversed: false,
+        }
+    }
+
+    /// Turns the iterator round: `next` gives what `prev` gave, and `prev` what `next` gave.
+    pub fn reverse(&mut self)
+        ensures { self.new ≡ turned self.old }
+    {
+        self.is_reversed = !self.is_reversed;
+    }
+
+    /// The iterator turned round, as by `reverse`.
+    pub fn reversed(mut self) -> Self
+        ensures { result ≡ turned self.entry }
+    {
+        self.reverse();
+        self
+    }
+
+    /// The byte behind the place, which moves before it; none where none is, and the iterator stays.
+    #[inline]
+    pub fn prev(&mut self) -> Option<u8>
+        ensures { GivesPrev GivesItem self.old result self.new }
+    {
+        self.reverse();
+        let byte = self.next();
+        self.reverse();
+        byte
+    }
+}
+
+impl<'a> Iterator for Bytes<'a> {
+    type Item = u8;
+
+    ghost use Rattle.std.specs.Iterator.{item_count};
+
+    ghost next_gives = { GivesItem };
+
+    ghost remaining = { item_count (λ bytes. bytes.ahead) };
+
+    #[inline]
+    fn next(&mut self) -> Option<u8> {
+        if self.is_reversed {
+            if self.at == 0 {
+                if self.start == 0 {
+                    return None;
+                }
+                let byte_idx = self.start - 1;
+                let chunk = self.slice.chunk(By::Bytes, byte_idx);
+                let at = byte_idx - chunk.start.bytes;
+                self.chunk = chunk.text;
+                self.start = chunk.start.bytes;
+                self.at = at;
+                return Some(chunk.text.as_bytes()[at]);
+            }
+            let at = self.at - 1;
+            self.at = at;
+            Some(self.chunk.as_bytes()[at])
+        } else {
+            if self.at == self.chunk.len() {
+                let byte_idx = self.start + self.at;
+                if byte_idx == self.len {
+                    return None;
+                }
+                let chunk = self.slice.chunk(By::Bytes, byte_idx);
+                let at = byte_idx - chunk.start.bytes;
+                self.chunk = chunk.text;
+                self.start = chunk.start.bytes;
+                self.at = at + 1;
+                return Some(chunk.text.as_bytes()[at]);
+            }
+            let at = self.at;
+            self.at = at + 1;
+            Some(self.chunk.as_bytes()[at])
+        }
+    }
+}
+
+impl<'a> ExactSizeIterator for Bytes<'a> {
+    fn len(&self) -> usize {
+        let place = self.start + self.at;
+        if self.is_reversed {
+            place
+        } else {
+            self.len - place
+        }
+    }
+}
+
+impl<'a> FusedIterator for Bytes<'a> {}
+
+impl<'a> Clone for Bytes<'a> {
+    ghost is_clone = { λ bytes copy. copy ≡ bytes };
+
+    ghost is_infallible = { λ _. ⊤ };
+
+    fn clone(&self) -> Result<Bytes<'a>, AllocError> {
+        Ok(Bytes {
+            slice: self.slice,
+            chunk: self.chunk,
+            start: self.start,
+            at: self.at,
+            len: self.len,
+            is_reversed: self.is_reversed,
+        })
+    }
+}

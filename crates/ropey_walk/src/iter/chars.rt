@@ -1,0 +1,262 @@
+//! The characters of a text, both ways.
+
+ghost use Rattle.std.specs.Prelude.{◌≡◌, ◌+◌, ◌<◌, ◌≤◌, ◌++◌, length, drop, encode_utf8, ⊤};
+ghost use Rattle.std.specs.Str.{IsCharBoundary};
+ghost use Rattle.ropey_walk.specs.TwoWay.{turned, before_item, GivesPrev};
+ghost use Rattle.ropey_walk.specs.Iter.{GivesItem, IsCharPlace};
+ghost use Rattle.ropey_walk.specs.Slices.{slice_text};
+
+use crate::slice::RopeSlice;
+use ropey_tree::counts::By;
+use std::alloc::AllocError;
+use std::iter::{ExactSizeIterator, FusedIterator};
+use std::marker::Model;
+use str_indices::chars;
+
+/// A place between the characters of a chunk, at its start or at its end.
+#[derive(Clone, Copy)]
+struct CharPlace<'a> {
+    chunk: &'a str,
+    // The byte index of the place in the chunk.
+    at: usize,
+}
+
+/// A character beside a place, and the byte index of the place on its other side.
+#[derive(Clone, Copy)]
+struct Read {
+    character: char,
+    at: usize,
+}
+
+/// The place before character `char_idx` in the chunk in which character `in_char` lies, which is that
+/// one or the one before it.
+fn place_in_chunk_of<'a>(slice: &RopeSlice<'a>, in_char: usize, char_idx: usize) -> CharPlace<'a>
+    requires low { in_char ≤ char_idx }
+    requires high { char_idx ≤ in_char + 1 }
+    requires within { char_idx ≤ length (slice_text slice.now) }
+    ensures place { IsCharPlace (slice_text slice.now) char_idx result.chunk.now result.at }
+    ensures ahead { in_char ≡ char_idx → char_idx < length (slice_text slice.now) →
+        result.at < length result.chunk.now }
+    ensures behind { in_char < char_idx → 0 < result.at }
+{
+    // Laws, for the proof alone.
+    str_indices::laws::to_byte_idx_is_a_boundary();
+    str_indices::laws::boundaries_and_indices_agree();
+    str_indices::laws::place_there_and_back();
+    str_indices::laws::ends_of_a_part();
+    let chunk = slice.chunk(By::Chars, in_char);
+    CharPlace {
+        chunk: chunk.text,
+        at: chars::to_byte_idx(chunk.text, char_idx - chunk.start.chars),
+    }
+}
+
+/// The place, in a chunk that goes on behind it.
+#[inline]
+fn place_to_go_on<'a>(slice: &RopeSlice<'a>, place: CharPlace<'a>, char_idx: usize) -> CharPlace<'a>
+    requires place { IsCharPlace (slice_text slice.now) char_idx place.chunk.now place.at }
+    requires more { char_idx < length (slice_text slice.now) }
+    ensures place { IsCharPlace (slice_text slice.now) char_idx result.chunk.now result.at }
+    ensures ahead { result.at < length result.chunk.now }
+{
+    if place.at < place.chunk.len() {
+        return place;
+    }
+    place_in_chunk_of(slice, char_idx, char_idx)
+}
+
+/// The place, in a chunk that starts before it.
+#[inline]
+fn place_to_go_back<'a>(
+    slice: &RopeSlice<'a>,
+    place: CharPlace<'a>,
+    char_idx: usize,
+) -> CharPlace<'a>
+    requires place { IsCharPlace (slice_text slice.now) char_idx place.chunk.now place.at }
+    requires more { 0 < char_idx }
+    requires within { char_idx ≤ length (slice_text slice.now) }
+    ensures place { IsCharPlace (slice_text slice.now) char_idx result.chunk.now result.at }
+    ensures behind { 0 < result.at }
+{
+    if place.at > 0 {
+        return place;
+    }
+    place_in_chunk_of(slice, char_idx - 1, char_idx)
+}
+
+/// The character that starts at a byte of a text.
+#[inline]
+fn read_on(chunk: &str, at: usize) -> Read
+    requires boundary { IsCharBoundary chunk.now at }
+    requires more { at < length chunk.now }
+    ensures reads { drop at chunk.now ≡ encode_utf8 result.character ++ drop result.at chunk.now }
+    ensures boundary { IsCharBoundary chunk.now result.at }
+{
+    let mut rest = chunk[at..].chars();
+    match rest.next() {
+        Some(character) => Read {
+            character,
+            at: chunk.len() - rest.as_str().len(),
+        },
+        None => unreachable!(),
+    }
+}
+
+/// The character that ends at a byte of a text.
+#[inline]
+fn read_back(chunk: &str, at: usize) -> Read
+    requires boundary { IsCharBoundary chunk.now at }
+    requires more { 0 < at }
+    ensures reads { drop result.at chunk.now ≡ encode_utf8 result.character ++ drop at chunk.now }
+    ensures boundary { IsCharBoundary chunk.now result.at }
+{
+    let mut rest = chunk[..at].chars();
+    match rest.next_back() {
+        Some(character) => Read {
+            character,
+            at: rest.as_str().len(),
+        },
+        None => unreachable!(),
+    }
+}
+
+/// The characters of a text, which are Unicode scalar values, both ways. Contracts see those ahead and
+/// those behind.
+///
+/// A step costs `O(1)` inside a chunk, and `O(log n)` from one to the next.
+#[derive(Drop)]
+pub struct Chars<'a> {
+    slice: RopeSlice<'a>,
+    place: CharPlace<'a>,
+    // The character index of the place.
+    char_idx: usize,
+    // How many characters the text has.
+    len: usize,
+    is_reversed: bool,
+}
+
+impl<'a> Model for Chars<'a> {
+    ghost use Rattle.std.specs.Prelude.{◌≡◌, ℕ, ◌≤◌, length};
+    ghost use Rattle.ropey_walk.specs.TwoWay.{TwoWay, facing};
+    ghost use Rattle.ropey_walk.specs.Iter.{IsCharPlace};
+    ghost use Rattle.ropey_walk.specs.Slices.{slice_text};
+
+    ghost Value = { TwoWay ℕ };
+
+    ghost view = { λ chars. facing chars.is_reversed chars.char_idx (slice_text chars.slice) };
+
+    ghost invariant = { λ chars.
+        IsCharPlace (slice_text chars.slice) chars.char_idx chars.place.chunk.now chars.place.at ×
+        (chars.char_idx ≤ length (slice_text chars.slice)) ×
+        (chars.len ≡ length (slice_text chars.slice)) };
+}
+
+impl<'a> Chars<'a> {
+    /// The characters of a text, from the place before one of them, or from the end.
+    pub(crate) fn at(slice: RopeSlice<'a>, char_idx: usize) -> Self
+        requires { char_idx ≤ length (slice_text slice) }
+        ensures { result ≡ before_item char_idx (slice_text slice.entry) }
+    {
+        Chars {
+            slice,
+            place: place_in_chunk_of(&slice, char_idx, char_idx),
+            char_idx,
+            len: slice.counts().chars,
+            is_reversed: false,
+        }
+    }
+
+    /// Turns the iterator round: `next` gives what `prev` gave, and `prev` what `next` gave.
+    pub fn reverse(&mut self)
+        ensures { self.new ≡ turned self.old }
+    {
+        self.is_reversed = !self.is_reversed;
+    }
+
+    /// The iterator turned round, as by `reverse`.
+    pub fn reversed(mut self) -> Self
+        ensures { result ≡ turned self.entry }
+    {
+        self.reverse();
+        self
+    }
+
+    /// The character behind the place, which moves before it; none where none is, and the iterator
+    /// stays.
+    #[inline]
+    pub fn prev(&mut self) -> Option<char>
+        ensures { GivesPrev GivesItem self.old result self.new }
+    {
+        self.reverse();
+        let character = self.next();
+        self.reverse();
+        character
+    }
+}
+
+impl<'a> Iterator for Chars<'a> {
+    type Item = char;
+
+    ghost use Rattle.std.specs.Iterator.{item_count};
+
+    ghost next_gives = { GivesItem };
+
+    ghost remaining = { item_count (λ chars. chars.ahead) };
+
+    #[inline]
+    fn next(&mut self) -> Option<char> {
+        if self.is_reversed {
+            if self.char_idx == 0 {
+                return None;
+            }
+            let place = place_to_go_back(&self.slice, self.place, self.char_idx);
+            let read = read_back(place.chunk, place.at);
+            self.place = CharPlace {
+                chunk: place.chunk,
+                at: read.at,
+            };
+            self.char_idx -= 1;
+            Some(read.character)
+        } else {
+            if self.char_idx == self.len {
+                return None;
+            }
+            let place = place_to_go_on(&self.slice, self.place, self.char_idx);
+            let read = read_on(place.chunk, place.at);
+            self.place = CharPlace {
+                chunk: place.chunk,
+                at: read.at,
+            };
+            self.char_idx += 1;
+            Some(read.character)
+        }
+    }
+}
+
+impl<'a> ExactSizeIterator for Chars<'a> {
+    fn len(&self) -> usize {
+        if self.is_reversed {
+            self.char_idx
+        } else {
+            self.len - self.char_idx
+        }
+    }
+}
+
+impl<'a> FusedIterator for Chars<'a> {}
+
+impl<'a> Clone for Chars<'a> {
+    ghost is_clone = { λ chars copy. copy ≡ chars };
+
+    ghost is_infallible = { λ _. ⊤ };
+
+    fn clone(&self) -> Result<Chars<'a>, AllocError> {
+        Ok(Chars {
+            slice: self.slice,
+            place: self.place,
+            char_idx: self.char_idx,
+            len: self.len,
+            is_reversed: self.is_reversed,
+        })
+    }
+}

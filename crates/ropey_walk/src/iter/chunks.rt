@@ -1,0 +1,132 @@
+//! The chunks of a text, both ways.
+
+ghost use Rattle.std.specs.Prelude.{◌≡◌, ⊤};
+ghost use Rattle.ropey_walk.specs.Chunks.{IsText};
+ghost use Rattle.ropey_walk.specs.TwoWay.{turned, before_item, GivesPrev};
+ghost use Rattle.ropey_walk.specs.Iter.{GivesChunk, IsBetweenPieces, pieces_before};
+ghost use Rattle.ropey_walk.specs.Slices.{slice_pieces};
+
+use crate::slice::RopeSlice;
+use ropey_tree::counts::By;
+use std::alloc::AllocError;
+use std::iter::FusedIterator;
+use std::marker::Model;
+
+/// The chunks of a text, both ways. Contracts see those ahead and those behind, as texts.
+///
+/// No chunk is empty, each has 984 bytes at most, and together they are the text; a text of no
+/// characters has none. A step goes down from the root to a leaf, in `O(log n)`.
+#[derive(Drop)]
+pub struct Chunks<'a> {
+    slice: RopeSlice<'a>,
+    // The byte index of the place between two chunks.
+    byte_idx: usize,
+    // The length of the text in bytes.
+    len: usize,
+    is_reversed: bool,
+}
+
+impl<'a> Model for Chunks<'a> {
+    ghost use Rattle.std.specs.Prelude.{◌≡◌, ℕ, List};
+    ghost use Rattle.str_indices.specs.Text.{byte_len};
+    ghost use Rattle.ropey_walk.specs.Chunks.{text_of, IsText};
+    ghost use Rattle.ropey_walk.specs.TwoWay.{TwoWay, facing};
+    ghost use Rattle.ropey_walk.specs.Iter.{IsBetweenPieces, pieces_before};
+    ghost use Rattle.ropey_walk.specs.Slices.{slice_pieces};
+
+    ghost Value = { TwoWay (List ℕ) };
+
+    ghost view = { λ chunks. facing chunks.is_reversed
+        (pieces_before chunks.byte_idx (slice_pieces chunks.slice)) (slice_pieces chunks.slice) };
+
+    ghost invariant = { λ chunks. IsBetweenPieces (slice_pieces chunks.slice) chunks.byte_idx ×
+        (chunks.len ≡ byte_len (text_of (slice_pieces chunks.slice))) ×
+        IsText (slice_pieces chunks.slice) };
+}
+
+impl<'a> Chunks<'a> {
+    /// The chunks of a text, from the place at a byte at which a chunk starts, or at the end.
+    pub(crate) fn at(slice: RopeSlice<'a>, byte_idx: usize) -> Self
+        requires { IsBetweenPieces (slice_pieces slice) byte_idx }
+        ensures place { result ≡ before_item (pieces_before byte_idx (slice_pieces slice.entry))
+            (slice_pieces slice.entry) }
+        ensures cut { IsText (slice_pieces slice.entry) }
+    {
+        Chunks {
+            slice,
+            byte_idx,
+            len: slice.len_bytes(),
+            is_reversed: false,
+        }
+    }
+
+    /// Turns the iterator round: `next` gives what `prev` gave, and `prev` what `next` gave.
+    pub fn reverse(&mut self)
+        ensures { self.new ≡ turned self.old }
+    {
+        self.is_reversed = !self.is_reversed;
+    }
+
+    /// The iterator turned round, as by `reverse`.
+    pub fn reversed(mut self) -> Self
+        ensures { result ≡ turned self.entry }
+    {
+        self.reverse();
+        self
+    }
+
+    /// The chunk behind the place, which moves before it; none where none is, and the iterator stays.
+    pub fn prev(&mut self) -> Option<&'a str>
+        ensures { GivesPrev GivesChunk self.old result self.new }
+    {
+        self.reverse();
+        let chunk = self.next();
+        self.reverse();
+        chunk
+    }
+}
+
+impl<'a> Iterator for Chunks<'a> {
+    type Item = &'a str;
+
+    ghost use Rattle.std.specs.Iterator.{item_count};
+
+    ghost next_gives = { GivesChunk };
+
+    ghost remaining = { item_count (λ chunks. chunks.ahead) };
+
+    fn next(&mut self) -> Option<&'a str> {
+        if self.is_reversed {
+            if self.byte_idx == 0 {
+                return None;
+            }
+            let chunk = self.slice.chunk(By::Bytes, self.byte_idx - 1);
+            self.byte_idx = chunk.start.bytes;
+            Some(chunk.text)
+        } else {
+            if self.byte_idx == self.len {
+                return None;
+            }
+            let chunk = self.slice.chunk(By::Bytes, self.byte_idx);
+            self.byte_idx += chunk.text.len();
+            Some(chunk.text)
+        }
+    }
+}
+
+impl<'a> FusedIterator for Chunks<'a> {}
+
+impl<'a> Clone for Chunks<'a> {
+    ghost is_clone = { λ chunks copy. copy ≡ chunks };
+
+    ghost is_infallible = { λ _. ⊤ };
+
+    fn clone(&self) -> Result<Chunks<'a>, AllocError> {
+        Ok(Chunks {
+            slice: self.slice,
+            byte_idx: self.byte_idx,
+            len: self.len,
+            is_reversed: self.is_reversed,
+        })
+    }
+}
