@@ -1,12 +1,113 @@
-//! An example for each small type of `rx_captures`, and for sets of states.
+//! An example for each public type of `rx_captures`, which calls all that takes memory.
 
 use rx_captures::{
-    Anchored, HalfMatch, Match, MatchError, MatchKind, NonMaxUsize, PatternID, SparseSet, Span,
-    StateID, WhichCaptures,
+    Anchored, Captures, GroupInfo, HalfMatch, Match, MatchError, MatchKind, NonMaxUsize,
+    PatternID, SparseSet, Span, StateID, WhichCaptures,
 };
-use std::alloc::AllocError;
+use std::alloc::{AllocError, Global};
 use std::ops::Range;
 use std::test::Fail;
+
+/// The groups of two patterns: `(?<year>a)(b)` and `(?<year>c)`.
+fn two_patterns(alloc: Global) -> Result<Vec<Vec<Option<String>>>, AllocError> {
+    let mut first = Vec::new(alloc);
+    first.push(Some(String::from_str(alloc, "year")?))?;
+    first.push(None)?;
+    let mut second = Vec::new(alloc);
+    second.push(Some(String::from_str(alloc, "year")?))?;
+    let mut names = Vec::new(alloc);
+    names.push(first)?;
+    names.push(second)?;
+    Ok(names)
+}
+
+/// The groups of patterns, and where their slots lie.
+#[test]
+fn group_info(rt: HostRuntime) -> Result<(), Fail> {
+    let names = two_patterns(rt.alloc())?;
+    let first = PatternID::ZERO;
+    let second = PatternID::new(1);
+    let unknown = PatternID::new(2);
+    let info = GroupInfo::new(rt.alloc(), names)?.clone()?;
+    assert_eq!(rt; info.pattern_len(), 2);
+    assert_eq!(rt; info.group_len(first), 3);
+    assert_eq!(rt; info.group_len(second), 2);
+    assert_eq!(rt; info.group_len(unknown), 0);
+    assert_eq!(rt; info.slot_len(), 10);
+    assert_eq!(rt; info.implicit_slot_len(), 4);
+    assert_eq!(rt; info.to_index(first, "year"), Some(1));
+    assert_eq!(rt; info.to_index(first, "day"), None);
+    assert_eq!(rt; info.to_name(second, 1), Some("year"));
+    assert_eq!(rt; info.to_name(first, 0), None);
+    assert_eq!(rt; info.to_name(first, 2), None);
+    assert_eq!(rt; info.slots(first, 0), Some((0, 1)));
+    assert_eq!(rt; info.slots(second, 0), Some((2, 3)));
+    assert_eq!(rt; info.slots(first, 1), Some((4, 5)));
+    assert_eq!(rt; info.slots(first, 2), Some((6, 7)));
+    assert_eq!(rt; info.slot(second, 1), Some(8));
+    assert_eq!(rt; info.slot(second, 2), None);
+    Ok(())
+}
+
+/// What a search notes: here of the second pattern, whose group `year` matches too.
+fn noted(alloc: Global) -> Result<Captures, MatchError> {
+    let info = GroupInfo::new(alloc, two_patterns(alloc)?)?;
+    let mut caps = Captures::all(alloc, &info)?;
+    caps.set_pattern(Some(PatternID::new(1)));
+    let places = [0, 0, 3, 5, 0, 0, 0, 0, 4, 5];
+    for (slot, place) in caps.slots_mut().iter_mut().zip(places) {
+        *slot = NonMaxUsize::new(place);
+    }
+    Ok(caps)
+}
+
+/// What a search notes, for all groups.
+#[test]
+fn captures(rt: HostRuntime) -> Result<(), Fail> {
+    let caps = noted(rt.alloc())?.clone()?;
+    assert_eq!(rt; caps.is_match(), true);
+    assert_eq!(rt; caps.pattern(), Some(PatternID::new(1)));
+    assert_eq!(rt; caps.get_group(0), Some(Span { start: 3, end: 5 }));
+    assert_eq!(rt; caps.get_group(1), Some(Span { start: 4, end: 5 }));
+    assert_eq!(rt; caps.get_group(2), None);
+    Ok(())
+}
+
+/// Groups by name, and the groups of captures.
+#[test]
+fn captures_by_name(rt: HostRuntime) -> Result<(), Fail> {
+    let caps = noted(rt.alloc())?;
+    assert_eq!(rt; caps.get_group_by_name("year"), Some(Span { start: 4, end: 5 }));
+    assert_eq!(rt; caps.get_group_by_name("day"), None);
+    assert_eq!(rt; caps.group_info().pattern_len(), 2);
+    Ok(())
+}
+
+/// The whole match, where its places don't fall.
+#[test]
+fn whole_match(rt: HostRuntime) -> Result<(), Fail> {
+    let caps = noted(rt.alloc())?;
+    let Some(span) = caps.get_group(0) else {
+        assert!(rt; false);
+        return Ok(());
+    };
+    if span.start <= span.end {
+        assert_eq!(rt; caps.get_match().map_or(0, |found| found.len()), 2);
+    }
+    Ok(())
+}
+
+/// What a search notes, for the whole matches alone.
+#[test]
+fn captures_of_matches(rt: HostRuntime) -> Result<(), Fail> {
+    let info = GroupInfo::new(rt.alloc(), two_patterns(rt.alloc())?)?;
+    let mut caps = Captures::matches(rt.alloc(), &info)?;
+    assert_eq!(rt; caps.is_match(), false);
+    assert_eq!(rt; caps.slots_mut().len(), 4);
+    caps.set_pattern(Some(PatternID::ZERO));
+    assert_eq!(rt; caps.get_group(1), None);
+    Ok(())
+}
 
 /// Numbers of patterns and of states, and places.
 #[test]
