@@ -1,5 +1,8 @@
 //! An example for each public type of `rx_captures`, which calls all that takes memory.
 
+ghost use Rattle.std.specs.Prelude.{◌≡◌, IfOk};
+ghost use Rattle.rx_captures.specs.Groups.{HasDistinctNames, named_groups, slot_len};
+
 use rx_captures::{
     Anchored, Captures, GroupInfo, HalfMatch, Match, MatchError, MatchKind, NonMaxUsize,
     PatternID, SparseSet, Span, StateID, WhichCaptures,
@@ -9,7 +12,10 @@ use std::ops::Range;
 use std::test::Fail;
 
 /// The groups of two patterns: `(?<year>a)(b)` and `(?<year>c)`.
-fn two_patterns(alloc: Global) -> Result<Vec<Vec<Option<String>>>, AllocError> {
+fn two_patterns(alloc: Global) -> Result<Vec<Vec<Option<String>>>, AllocError>
+    ensures distinct { IfOk result (λ names. HasDistinctNames (named_groups names.items)) }
+    ensures few { IfOk result (λ names. slot_len (named_groups names.items) ≡ 10) }
+{
     let mut first = Vec::new(alloc);
     first.push(Some(String::from_str(alloc, "year")?))?;
     first.push(None)?;
