@@ -11,7 +11,8 @@ use std::alloc::{AllocError, Global};
 use std::marker::Model;
 use std::rc::Rc;
 
-/// Which groups a program notes. What is spelled in a pattern keeps its number and its name in any case.
+/// Which groups a program notes. What is spelled in a pattern keeps its number and its name in
+/// any case.
 #[derive(Clone, Copy, Debug, PartialEq, Eq, Hash)]
 pub enum WhichCaptures {
     /// All groups.
@@ -77,13 +78,13 @@ fn name_of_group(groups: &[Option<String>], group: usize) -> Option<&str>
     text_of(&groups[group - 1])
 }
 
-/// The groups of patterns: how many there are, their names, and the slots in which a search notes them.
-/// Contracts see, for each pattern, the names of its groups from group 1 on. Group 0 is the whole match,
-/// which has no name.
+/// The groups of patterns: how many there are, their names, and the slots in which a search notes
+/// them. Contracts see, for each pattern, the names of its groups from group 1 on. Group 0 is the
+/// whole match, which has no name.
 ///
-/// Each group has two slots, one for the place where it starts and one for that where it ends. Those of
-/// the groups 0 stand first, pattern by pattern, then those of the further groups, pattern by pattern.
-/// A clone shares its source, and takes `O(1)`.
+/// Each group has two slots, one for the place where it starts and one for that where it ends.
+/// Those of the groups 0 stand first, pattern by pattern, then those of the further groups,
+/// pattern by pattern. A clone shares its source, and takes `O(1)`.
 #[derive(Debug, Drop)]
 pub struct GroupInfo {
     inner: Rc<GroupInfoInner>,
@@ -110,9 +111,9 @@ impl Clone for GroupInfo {
 }
 
 impl GroupInfo {
-    /// The groups of patterns, given for each pattern the names of its groups from group 1 on. No two
-    /// groups of a pattern have one name, and the number of slots fits a `usize`. `O(n)` in the number
-    /// of patterns.
+    /// The groups of patterns, given for each pattern the names of its groups from group 1 on. No
+    /// two groups of a pattern have one name, and the number of slots fits a `usize`. `O(n)` in
+    /// the number of patterns.
     pub fn new(
         alloc: Global,
         names: Vec<Vec<Option<String>>>,
@@ -154,7 +155,8 @@ impl GroupInfo {
         self.inner.names.len()
     }
 
-    /// How many groups a pattern has, group 0 among them: none where there is no such pattern. `O(1)`.
+    /// How many groups a pattern has, group 0 among them: none where there is no such pattern.
+    /// `O(1)`.
     pub fn group_len(&self, pid: PatternID) -> usize
         ensures { result ≡ group_len self.now pid }
     {
@@ -182,7 +184,8 @@ impl GroupInfo {
     /// The index of a pattern's group with this name, if there is one. `O(n)` in the number of the
     /// pattern's groups.
     pub fn to_index(&self, pid: PatternID, name: &str) -> Option<usize>
-        ensures { (group : ℕ) → (result ≡ Some group) ↔ (name_of self.now pid group ≡ Some name.now) }
+        ensures { (group : ℕ) → (result ≡ Some group) ↔
+            (name_of self.now pid group ≡ Some name.now) }
     {
         group_named(self.further_names(pid)?, name)
     }
@@ -194,7 +197,8 @@ impl GroupInfo {
         name_of_group(self.further_names(pid)?, group_index)
     }
 
-    /// The first slot of a pattern's group, if there is the group. The second one is the next. `O(1)`.
+    /// The first slot of a pattern's group, if there is the group. The second one is the next.
+    /// `O(1)`.
     pub fn slot(&self, pid: PatternID, group_index: usize) -> Option<usize>
         ensures slot { result ≡ first_slot self.now pid group_index }
         ensures in_range { (slot : ℕ) → result ≡ Some slot → slot + 1 < slot_len self.now }
@@ -211,16 +215,17 @@ impl GroupInfo {
 
     /// The two slots of a pattern's group, if there is the group. `O(1)`.
     pub fn slots(&self, pid: PatternID, group_index: usize) -> Option<(usize, usize)>
-        ensures { result ≡ option_map (λ slot. (slot, slot + 1)) (first_slot self.now pid group_index) }
+        ensures { result ≡
+            option_map (λ slot. (slot, slot + 1)) (first_slot self.now pid group_index) }
     {
         let slot = self.slot(pid, group_index)?;
         Some((slot, slot + 1))
     }
 }
 
-/// What a search notes: the pattern that matches, and in slots where its groups match. Contracts see
-/// the groups, the pattern, and for each slot a place, which is a byte index, or none. There are at most
-/// as many slots as the groups have.
+/// What a search notes: the pattern that matches, and in slots where its groups match. Contracts
+/// see the groups, the pattern, and for each slot a place, which is a byte index, or none. There
+/// are at most as many slots as the groups have.
 #[derive(Debug, Drop)]
 pub struct Captures {
     group_info: GroupInfo,
@@ -241,10 +246,9 @@ impl Model for Captures {
 }
 
 impl Captures {
-    ghost use Rattle.rx_captures.specs.Captured.{nothing_noted, group_span, group_name, match_found};
-    ghost use Rattle.rx_captures.specs.Lending.{LendsSlots};
-    ghost use Rattle.rx_captures.specs.Captured.{place_in};
     ghost use Rattle.std.specs.Borrow.{sem};
+    ghost use Rattle.rx_captures.specs.Captured.{nothing_noted, place_in, group_span, group_name, match_found};
+    ghost use Rattle.rx_captures.specs.Lending.{LendsSlots};
 
     /// Nothing noted yet, with so many slots.
     fn with_slots(
@@ -268,16 +272,18 @@ impl Captures {
     /// Nothing noted yet, with slots for all groups. The groups are shared. The one refusal is
     /// `Memory`. `O(n)` in the number of slots.
     pub fn all(alloc: Global, group_info: &GroupInfo) -> Result<Captures, MatchError>
-        ensures made { IfOk result (λ caps. caps ≡ nothing_noted group_info.now (slot_len group_info.now)) }
+        ensures made { IfOk result (λ caps. caps ≡
+            nothing_noted group_info.now (slot_len group_info.now)) }
         ensures refused { IfErr result (λ error. error ≡ MatchError.Memory) }
     {
         Captures::with_slots(alloc, group_info, group_info.slot_len())
     }
 
-    /// Nothing noted yet, with slots for the whole match of each pattern. The groups are shared. The one
-    /// refusal is `Memory`. `O(n)` in the number of patterns.
+    /// Nothing noted yet, with slots for the whole match of each pattern. The groups are shared.
+    /// The one refusal is `Memory`. `O(n)` in the number of patterns.
     pub fn matches(alloc: Global, group_info: &GroupInfo) -> Result<Captures, MatchError>
-        ensures made { IfOk result (λ caps. caps ≡ nothing_noted group_info.now (2 * length group_info.now)) }
+        ensures made { IfOk result (λ caps. caps ≡
+            nothing_noted group_info.now (2 * length group_info.now)) }
         ensures refused { IfErr result (λ error. error ≡ MatchError.Memory) }
     {
         Captures::with_slots(alloc, group_info, group_info.implicit_slot_len())
@@ -314,8 +320,9 @@ impl Captures {
         }
     }
 
-    /// The whole match: the pattern, and the span of group 0. There is none where no pattern matches or
-    /// one of the two places isn't noted. The second of them must not lie before the first. `O(1)`.
+    /// The whole match: the pattern, and the span of group 0. There is none where no pattern
+    /// matches or one of the two places isn't noted. The second of them must not lie before the
+    /// first. `O(1)`.
     pub fn get_match(&self) -> Option<Match>
         requires { ForSome (group_span self.now 0) (λ span. span.start ≤ span.end) }
         ensures { result ≡ match_found self.now }
@@ -325,8 +332,9 @@ impl Captures {
         Some(Match::new(pattern, span))
     }
 
-    /// What a group of the pattern that matches has matched. There is none where no pattern matches, the
-    /// pattern has no such group, or one of the group's two places isn't noted. `O(1)`.
+    /// What a group of the pattern that matches has matched. There is none where no pattern
+    /// matches, the pattern has no such group, or one of the group's two places isn't noted.
+    /// `O(1)`.
     pub fn get_group(&self, index: usize) -> Option<Span>
         ensures { result ≡ group_span self.now index }
     {
@@ -338,16 +346,19 @@ impl Captures {
 
     /// The number of the group with this name, of the pattern that matches.
     fn group_named(&self, name: &str) -> Option<usize>
-        ensures { (group : ℕ) → (result ≡ Some group) ↔ (group_name self.now group ≡ Some name.now) }
+        ensures { (group : ℕ) → (result ≡ Some group) ↔
+            (group_name self.now group ≡ Some name.now) }
     {
         self.group_info.to_index(self.pattern?, name)
     }
 
-    /// What the group with this name, of the pattern that matches, has matched. There is none also where
-    /// the pattern has no such name. `O(n)` in the number of the pattern's groups.
+    /// What the group with this name, of the pattern that matches, has matched. There is none
+    /// also where the pattern has no such name. `O(n)` in the number of the pattern's groups.
     pub fn get_group_by_name(&self, name: &str) -> Option<Span>
-        ensures named { (group : ℕ) → group_name self.now group ≡ Some name.now → result ≡ group_span self.now group }
-        ensures unnamed { ((group : ℕ) → group_name self.now group ≡ Some name.now → ⊥) → result ≡ None }
+        ensures named { (group : ℕ) → group_name self.now group ≡ Some name.now →
+            result ≡ group_span self.now group }
+        ensures unnamed { ((group : ℕ) → group_name self.now group ≡ Some name.now → ⊥) →
+            result ≡ None }
     {
         let index = self.group_named(name)?;
         self.get_group(index)
@@ -369,8 +380,8 @@ impl Captures {
         &self.group_info
     }
 
-    /// The same, noted in slots of its own. The groups are shared. The one refusal is `Memory`. `O(n)`
-    /// in the number of slots.
+    /// The same, noted in slots of its own. The groups are shared. The one refusal is `Memory`.
+    /// `O(n)` in the number of slots.
     pub fn clone(&self) -> Result<Captures, MatchError>
         ensures same { IfOk result (λ caps. caps ≡ self.now) }
         ensures refused { IfErr result (λ error. error ≡ MatchError.Memory) }

@@ -1,4 +1,5 @@
-//! What a search is asked for and what it tells: small types, groups and their slots, and sets of states.
+//! What a search is asked for and what it tells: small types, groups and their slots, and sets of
+//! states.
 #![tactic(auto)]
 
 pub mod captures;

@@ -146,8 +146,8 @@ impl Match {
     }
 }
 
-/// The pattern that matches, and one end of the match: the end, or where a search goes backwards, the
-/// start.
+/// The pattern that matches, and one end of the match: the end, or where a search goes backwards,
+/// the start.
 #[derive(Clone, Copy, Debug, PartialEq, Eq, Hash)]
 pub struct HalfMatch {
     pattern: PatternID,
@@ -195,7 +195,8 @@ pub enum Anchored {
     No,
     /// At the start of the span alone, and of any pattern.
     Yes,
-    /// At the start of the span alone, and of this pattern. A pattern that isn't there matches nowhere.
+    /// At the start of the span alone, and of this pattern. A pattern that isn't there matches
+    /// nowhere.
     Pattern(PatternID),
 }
 

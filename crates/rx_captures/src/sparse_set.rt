@@ -17,7 +17,8 @@ use std::mem::size_of;
 /// To insert, to look up and to empty the set takes `O(1)` and no memory. It keeps its allocator.
 #[derive(Debug, Drop)]
 pub struct SparseSet {
-    // The members, in order of insertion, are its first `len`; what stands after them has no meaning.
+    // The members, in order of insertion, are its first `len`; what stands after them has no
+    // meaning.
     dense: Vec<StateID>,
     // By state, where it stands in `dense` if it is a member; else any number.
     sparse: Vec<usize>,
@@ -36,8 +37,8 @@ impl Model for SparseSet {
 }
 
 impl SparseSet {
-    /// The empty set, with room for the states below `capacity`. The one refusal is `Memory`. `O(n)` in
-    /// the capacity.
+    /// The empty set, with room for the states below `capacity`. The one refusal is `Memory`.
+    /// `O(n)` in the capacity.
     pub fn new(alloc: Global, capacity: usize) -> Result<SparseSet, MatchError>
         ensures made { IfOk result (λ set. (set.capacity ≡ capacity) × (set.members ≡ [])) }
         ensures refused { IfErr result (λ error. error ≡ MatchError.Memory) }
@@ -51,12 +52,13 @@ impl SparseSet {
         Ok(set)
     }
 
-    /// Empties the set, and gives it another capacity. The one refusal is `Memory`, and the set then
-    /// stays as it was. `O(n)` in what the capacity grows by.
+    /// Empties the set, and gives it another capacity. The one refusal is `Memory`, and the set
+    /// then stays as it was. `O(n)` in what the capacity grows by.
     pub fn resize(&mut self, new_capacity: usize) -> Result<(), MatchError>
         ensures capacity { OnOk result (self.new.capacity ≡ new_capacity) }
         ensures members { OnOk result (self.new.members ≡ []) }
-        ensures refused { IfErr result (λ error. (error ≡ MatchError.Memory) × (self.new ≡ self.old)) }
+        ensures refused { IfErr result (λ error. (error ≡ MatchError.Memory) ×
+            (self.new ≡ self.old)) }
     {
         if self.dense.len() < new_capacity {
             self.dense.resize(new_capacity, StateID::ZERO)?;
@@ -88,8 +90,8 @@ impl SparseSet {
         self.len == 0
     }
 
-    /// Adds a state as the last member, if it is none yet, and tells whether it was none. The state is
-    /// below the capacity. `O(1)`.
+    /// Adds a state as the last member, if it is none yet, and tells whether it was none. The
+    /// state is below the capacity. `O(1)`.
     pub fn insert(&mut self, id: StateID) -> bool
         requires in_range { id < self.old.capacity }
         ensures added { IsTrue result ↔ (Contains self.old.members id → ⊥) }
