@@ -1,0 +1,104 @@
+//! An example for each iterator over a slice, and the chunks of a long text both ways.
+
+use ropey_tree::builds::build;
+use ropey_tree::cutter::leaves_of;
+use ropey_tree::leaf::Leaf;
+use ropey_tree::node::Node;
+use ropey_walk::RopeSlice;
+use ropey_walk::iter::Chunks;
+use std::test::Fail;
+
+#[test]
+fn bytes(rt: HostRuntime) -> Result<(), Fail> {
+    let node = Node::from_leaf(Leaf::new("aé"));
+    let slice = RopeSlice::new(Some(&node));
+    let mut bytes = slice.bytes();
+    assert_eq!(rt; bytes.len(), 3);
+    assert_eq!(rt; bytes.prev(), None);
+    assert_eq!(rt; bytes.next(), Some(b'a'));
+    let mut copy = bytes.clone()?;
+    assert_eq!(rt; copy.next(), Some(0xC3));
+    assert_eq!(rt; bytes.len(), 2);
+    bytes.reverse();
+    assert_eq!(rt; bytes.next(), Some(b'a'));
+    assert_eq!(rt; bytes.next(), None);
+    assert_eq!(rt; slice.bytes_at(3).prev(), Some(0xA9));
+    assert!(rt; slice.get_bytes_at(4).is_none());
+    Ok(())
+}
+
+#[test]
+fn chars(rt: HostRuntime) -> Result<(), Fail> {
+    let node = Node::from_leaf(Leaf::new("aé🐸"));
+    let slice = RopeSlice::new(Some(&node));
+    let mut chars = slice.chars_at(1);
+    assert_eq!(rt; chars.next(), Some('é'));
+    let mut turned = chars.clone()?.reversed();
+    assert_eq!(rt; turned.next(), Some('é'));
+    assert_eq!(rt; turned.len(), 1);
+    assert_eq!(rt; chars.next(), Some('🐸'));
+    assert_eq!(rt; chars.next(), None);
+    assert_eq!(rt; chars.prev(), Some('🐸'));
+    assert_eq!(rt; slice.chars().len(), 3);
+    assert!(rt; slice.get_chars_at(4).is_none());
+    Ok(())
+}
+
+#[test]
+fn texts(rt: HostRuntime) -> Result<(), Fail> {
+    let node = Node::from_leaf(Leaf::new("one\r\ntwo"));
+    let slice = RopeSlice::new(Some(&node));
+    assert!(rt; slice.to_text(rt.alloc())?.as_str() == "one\r\ntwo");
+    assert!(rt; RopeSlice::new(None).to_text(rt.alloc())?.is_empty());
+    assert!(rt; RopeSlice::new(None).chunks().next().is_none());
+    let (mut chunks, byte, char, line) = slice.chunks_at_byte(8);
+    assert!(rt; (byte, char, line) == (8, 8, 1));
+    assert!(rt; chunks.prev() == Some("one\r\ntwo"));
+    Ok(())
+}
+
+/// Whether these chunks come, and then none.
+fn come(chunks: &mut Chunks<'_>, expected: &[&str]) -> bool {
+    for chunk in expected {
+        if chunks.next() != Some(*chunk) {
+            return false;
+        }
+    }
+    chunks.next().is_none() && chunks.next().is_none()
+}
+
+/// Whether these chunks lie behind, the last one nearest, and before them none.
+fn go_back(chunks: &mut Chunks<'_>, expected: &[&str]) -> bool {
+    for chunk in expected.iter().rev() {
+        if chunks.prev() != Some(*chunk) {
+            return false;
+        }
+    }
+    chunks.prev().is_none() && chunks.prev().is_none()
+}
+
+#[test]
+fn chunks_of_a_long_text(rt: HostRuntime) -> Result<(), Fail> {
+    let mut text = String::new(rt.alloc());
+    for _ in 0..5_000 {
+        text.push_str("abc")?;
+    }
+    // The law for the proof that what is built fits.
+    ropey_tree::laws::counts_of_a_cutting();
+    let leaves = leaves_of(rt.alloc(), &text)?;
+    assert!(rt; !leaves.is_empty());
+    let node = build(rt.alloc(), leaves)?;
+    let slice = RopeSlice::new(Some(&node));
+    let mut pieces: Vec<&str> = Vec::new(rt.alloc());
+    let mut joined = String::new(rt.alloc());
+    for chunk in slice.chunks() {
+        pieces.push(chunk)?;
+        joined.push_str(chunk)?;
+    }
+    assert!(rt; joined == text);
+    let mut chunks = slice.chunks();
+    assert!(rt; come(&mut chunks, &pieces));
+    assert!(rt; go_back(&mut chunks, &pieces));
+    assert!(rt; come(&mut chunks, &pieces));
+    Ok(())
+}
