@@ -29,7 +29,7 @@ abbrev pub Run : ℕ → State → List Order → List ℕ → ℕ → State →
 Run limit old [] out cost new = (out ≡ []) × (cost ≡ 0) × (new ≡ old)
 Run limit old (order ∷ orders) out cost new =
     Turn limit old order out cost
-        (λ mid later later_cost. Run limit mid orders later later_cost new)
+    (λ mid later later_cost. Run limit mid orders later later_cost new)
 
 -- an input that ends so may be answered by this output, at this cost
 pub record Answers (limit : ℕ) (input : List ℕ) (ending : Ended) (output : List ℕ)

@@ -20,14 +20,14 @@ abbrev pub HasOneReading : List ℕ → Type 0
 HasOneReading input =
     ((orders : List Order) × (ending : Ended) × Reads input orders ending)
     × ((orders others : List Order) (ending other : Ended) → Reads input orders ending
-        → Reads input others other → (orders ≡ others) × (ending ≡ other))
+    → Reads input others other → (orders ≡ others) × (ending ≡ other))
 
 -- apart from want of memory, this command has some answer with a session after it, and no other
 abbrev pub HasOneStep : ℕ → State → Order → Type 0
 HasOneStep limit old order =
     ((answer : Answer) × (new : State) × (answer ≢ Err Memory) × Step limit old order answer new)
     × ((answer other : Answer) (new new' : State) → Step limit old order answer new
-        → Step limit old order other new'
+    → Step limit old order other new'
     → answer ≢ Err Memory → other ≢ Err Memory → (answer ≡ other) × (new ≡ new'))
 
 -- this command has some cost, and no other
@@ -40,8 +40,8 @@ HasOneCost limit old order =
 abbrev pub EndsAtBadLine : ℕ → List ℕ → Type 0
 EndsAtBadLine limit input =
     (orders : List Order) → Reads input orders Command → (more output : List ℕ) (cost : ℕ)
-        → Answers limit input Command output cost
-        ↔ Answers limit (input ++ more) Command output cost
+    → Answers limit input Command output cost
+    ↔ Answers limit (input ++ more) Command output cost
 
 -- these bytes end in some way, and may then be answered
 abbrev pub HasAnswer : ℕ → List ℕ → Type 0
@@ -53,7 +53,7 @@ abbrev pub HasOneShow : State → Answer → Type 0
 HasOneShow session answer =
     ((bytes : List ℕ) × Shows session answer bytes)
     × ((bytes other : List ℕ) → Shows session answer bytes → Shows session answer other
-        → bytes ≡ other)
+    → bytes ≡ other)
 
 -- this command, with what was kept of its payload, stands for some command of the definition
 abbrev pub StandsForSome : ℕ → CommandOf Payload → Type 0

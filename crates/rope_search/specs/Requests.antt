@@ -30,7 +30,7 @@ TakesLine (Ok (Part len)) line old new source source' =
     (len ≤ 128) × HasNoLf (take len line) × TakesLast old new source source' (take len line)
 TakesLine (Err broken) line old new source source' =
     (bytes : List ℕ) × (length bytes ≤ 128) × HasNoLf bytes
-        × TakesUntil broken old new source source' bytes
+    × TakesUntil broken old new source source' bytes
 
 -- of a payload with this many bytes in all, what is kept of those before; it is judged alone
 -- exactly where it is over the limit
@@ -51,7 +51,7 @@ abbrev pub TakesPayload : Result Bool Broken → ℕ → Collected → Collected
     → SourceState → SourceState → Type 0
 TakesPayload (Ok true) len kept kept' old new source source' =
     (bytes : List ℕ) × (length bytes ≡ len) × CollectsMore kept kept' bytes
-        × Takes old new source source' bytes
+    × Takes old new source source' bytes
 TakesPayload (Ok false) len kept kept' old new source source' =
     (bytes : List ℕ) × (length bytes < len) × TakesLast old new source source' bytes
 TakesPayload (Err broken) len kept kept' old new source source' =
@@ -63,7 +63,7 @@ abbrev pub TakesCollected : Result (Option Collected) Broken → ℕ → ℕ →
     → SourceState → Type 0
 TakesCollected (Ok (Some collected)) limit len old new source source' =
     (bytes : List ℕ) × (length bytes ≡ len) × Collects limit len collected bytes
-        × Takes old new source source' bytes
+    × Takes old new source source' bytes
 TakesCollected (Ok None) limit len old new source source' =
     (bytes : List ℕ) × (length bytes < len) × TakesLast old new source source' bytes
 TakesCollected (Err broken) limit len old new source source' =

@@ -91,7 +91,7 @@ pub record StopsReading (limit : ℕ) (broken : Broken) (source source' : Source
 abbrev pub IsMet : Ended → SourceState → SourceState → List ℕ → Type 0
 IsMet ending source source' line =
     ((line ≡ []) × (source'.ends ≡ source.ends))
-        ⊎ ((line ≡ closing ending) × TellsEnd ending source source')
+    ⊎ ((line ≡ closing ending) × TellsEnd ending source source')
 
 -- of the replies to the commands that were read whole, and the ending's line where that was met, a
 -- front was written, and then the sink failed

@@ -166,8 +166,9 @@ impl Buffer {
     pub fn fork(&self) -> Result<Buffer, Fault>
         ensures ok { IfOk result (λ buffer.
             buffer ≡ record {
-                limit = self.now.limit;
-                state = fresh (current_text self.now.state) }) }
+              limit = self.now.limit;
+              state = fresh (current_text self.now.state);
+            }) }
         ensures err { IfErr result (λ fault. fault ≡ Fault.Memory) }
     {
         let text = self.text.clone()?;

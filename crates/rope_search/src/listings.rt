@@ -18,9 +18,9 @@ fn put_match<W: Sink>(
 ) -> Result<(), Broken>
     ensures written { MatchResult result
         (λ _. Puts write_buffer.old write_buffer.new (W.state sink.old) (W.state sink.new)
-            (shown_match line span))
+        (shown_match line span))
         (λ broken. WritesUntil broken (W.state sink.old) (W.state sink.new)
-            (write_buffer.old ++ shown_match line span)) }
+        (write_buffer.old ++ shown_match line span)) }
 {
     let (mut line_digits, mut start_digits, mut end_digits) = (
         Digits::new(),
@@ -43,9 +43,9 @@ fn put_row<W: Sink>(
 ) -> Result<(), Broken>
     ensures written { MatchResult result
         (λ _. Puts write_buffer.old write_buffer.new (W.state sink.old) (W.state sink.new)
-            (flat_map (shown_match line) matches.now))
+        (flat_map (shown_match line) matches.now))
         (λ broken. WritesUntil broken (W.state sink.old) (W.state sink.new)
-            (write_buffer.old ++ flat_map (shown_match line) matches.now)) }
+        (write_buffer.old ++ flat_map (shown_match line) matches.now)) }
 {
     for span in matches {
         put_match(line, *span, write_buffer, sink)?;
@@ -65,8 +65,8 @@ pub fn write_report<W: Sink>(
     ensures empty { OnOk result (write_buffer.new ≡ []) }
     ensures written { MatchResult result
         (λ _. Writes (W.state sink.old) (W.state sink.new) (shown_report rows.now))
-        (λ broken. WritesUntil broken (W.state sink.old) (W.state sink.new) 
-            (shown_report rows.now)) }
+        (λ broken. WritesUntil broken (W.state sink.old) (W.state sink.new)
+        (shown_report rows.now)) }
 {
     let mut line = 0;
     let mut count = 0;

@@ -38,7 +38,7 @@ impl Model for Session {
 
     ghost invariant = { λ s. (s.chosen < vec_len s.buffers)
         × All (λ (b : LimitedBuffer). b.limit ≡ limit_in s.buffers.items s.chosen)
-            s.buffers.items };
+        s.buffers.items };
 }
 
 impl Session {
@@ -58,8 +58,9 @@ impl Session {
     /// The chosen buffer. `O(1)`.
     pub fn buffer(&self) -> &Buffer
         ensures { result.now ≡ record {
-            limit = self.now.limit;
-            state = chosen_buffer self.now.state } }
+          limit = self.now.limit;
+          state = chosen_buffer self.now.state;
+        } }
     {
         &self.buffers[self.chosen]
     }

@@ -18,9 +18,9 @@ fn put_text<W: Sink>(
 ) -> Result<(), Broken>
     ensures written { MatchResult result
         (λ _. Puts write_buffer.old write_buffer.new (W.state sink.old) (W.state sink.new)
-            (bytes_of (text_of text.now)))
+        (bytes_of (text_of text.now)))
         (λ broken. WritesUntil broken (W.state sink.old) (W.state sink.new)
-            (write_buffer.old ++ bytes_of (text_of text.now))) }
+        (write_buffer.old ++ bytes_of (text_of text.now))) }
 {
     for chunk in text.chunks() {
         write_buffer.put(sink, chunk.as_bytes())?;
@@ -38,9 +38,9 @@ pub fn write_text<W: Sink>(
     ensures empty { OnOk result (write_buffer.new ≡ []) }
     ensures written { MatchResult result
         (λ _. Writes (W.state sink.old) (W.state sink.new)
-            (shown_text (bytes_of (text_of text.now))))
+        (shown_text (bytes_of (text_of text.now))))
         (λ broken. WritesUntil broken (W.state sink.old) (W.state sink.new)
-            (shown_text (bytes_of (text_of text.now)))) }
+        (shown_text (bytes_of (text_of text.now)))) }
 {
     let mut digits = Digits::new();
     let len = digits.format(text.len_bytes()).as_bytes();

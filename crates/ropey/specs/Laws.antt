@@ -3,7 +3,6 @@ use Rattle.std.specs.Prelude.{◌≡◌, ℕ, ◌<◌, List, ◌∷◌, ◌++◌
 use Rattle.str_indices.specs.Text.{byte_len}
 use Rattle.ropey_tree.specs.Cutting.{IsCutting}
 use Rattle.ropey.specs.Chunks.{text_of, ShowsChunk}
-
 -- no CR LF is cut between the pieces of a cutting
 pub use Rattle.ropey_walk.specs.Laws.{NoCuttingCutsCrLf}
 

@@ -19,7 +19,7 @@ pub further_at : (groups : List (Option (String Global))) (k : ℕ) (group : Opt
 further_at groups k group lt is =
     name_among-further (names_of groups) k
     ∙ ap (λ o. unwrap_or o None) (slice_get-map (option_map string_bytes) groups k
-        ∙ ap (option_map (option_map string_bytes)) (slice_get-get_or groups k group lt ∙ ap Some (sym is)))
+    ∙ ap (option_map (option_map string_bytes)) (slice_get-get_or groups k group lt ∙ ap Some (sym is)))
 
 pub name_at : (groups : List (Option (String Global))) (g : ℕ) (group : Option (String Global)) → (g ≡ 0 → ⊥) → g ≤ length groups
     → group ≡ get_or groups (g - 1) group → name_among (names_of groups) g ≡ option_map string_bytes group
@@ -66,6 +66,7 @@ pub named_exactly : (groups : Groups) (p : ℕ) (names : List (Option Name)) (na
 named_exactly groups p names name None distinct here none g =
     (λ is. absurd (none_is_not_some is), λ named. absurd (none g (sym (ap (option_and_then (λ names. name_among names g)) here) ∙ named)))
 named_exactly groups p names name (Some k) distinct here named g =
-    let known : name_of groups p k ≡ Some name = ap (option_and_then (λ names. name_among names k)) here ∙ named in
-    ( λ is. subst (λ j. name_of groups p j ≡ Some name) (ap (λ o. unwrap_or o 0) is) known
-    , λ also. ap Some (distinct p k g name known also))
+    let known : name_of groups p k ≡ Some name = ap (option_and_then (λ names. name_among names k)) here ∙ named in (
+      λ is. subst (λ j. name_of groups p j ≡ Some name) (ap (λ o. unwrap_or o 0) is) known,
+      λ also. ap Some (distinct p k g name known also),
+    )

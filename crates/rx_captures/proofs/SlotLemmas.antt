@@ -72,7 +72,7 @@ pub group_is : (groups : Groups) (p g : ℕ) → g < group_len groups p → IsGr
 group_is groups p g lt = elim (cases_lt p (length groups)) [
   | inl known ↦
       let len : group_len groups p ≡ length (get_or groups p []) + 1 =
-          ap (λ o. option_map_or (λ names. length names + 1) o 0) (slice_get-get_or groups p [] known) in
+      ap (λ o. option_map_or (λ names. length names + 1) o 0) (slice_get-get_or groups p [] known) in
       record { pattern = known; group = omega (arith, lt, len) }
   | inr unknown ↦
       let none : group_len groups p ≡ 0 = ap (λ o. option_map_or (λ names. length names + 1) o 0) (slice_get_past groups p unknown) in

@@ -32,9 +32,9 @@ members_are_a_set {dense = dense} {sparse = sparse} {len = len} set = record {
 few_members : (capacity : ℕ) (members : List ℕ) → All (λ id. id < capacity) members → AllPairs (λ a b. a ≢ b) members → length members ≤ capacity
 few_members capacity members below apart =
     length-le_from_distinct_below members capacity (IsDistinct-from_AllPairs Decides-eqb members apart)
-        (λ q any.
-            let at = Contains-from_any {eq = eqb} (λ x y. (Decides-eqb x y).0) q members any in
-            subst (λ x. x < capacity) at.2 (below at.0 q at.1))
+    (λ q any.
+    let at = Contains-from_any {eq = eqb} (λ x y. (Decides-eqb x y).0) q members any in
+    subst (λ x. x < capacity) at.2 (below at.0 q at.1))
 
 -- while a state is no member, there is room for it
 pub has_room : {dense sparse : List ℕ} {len id : ℕ} → IsIndexed dense sparse len → id < length sparse → (Contains (take len dense) id → ⊥) → len < length dense
@@ -42,8 +42,8 @@ has_room {dense = dense} {sparse = sparse} {len = len} {id = id} set in_range ne
     let members = take len dense in
     let is = members_are_a_set set in
     let more : length (members ++ id ∷ []) ≤ length sparse =
-        few_members (length sparse) (members ++ id ∷ []) (All-push (λ x. x < length sparse) members id is.below in_range)
-            (all_pairs_push (λ a b. a ≢ b) members id is.apart (λ k d lt same. new (k, lt, get_or_default members k id d lt ∙ same))) in
+    few_members (length sparse) (members ++ id ∷ []) (All-push (λ x. x < length sparse) members id is.below in_range)
+    (all_pairs_push (λ a b. a ≢ b) members id is.apart (λ k d lt same. new (k, lt, get_or_default members k id d lt ∙ same))) in
     omega (arith, more, length_push members id, length-take-le len dense set.filled, set.room)
 
 slice_get-set_same : (xs : List ℕ) (i y : ℕ) → i < length xs → slice_get (set xs i y) i ≡ Some y
@@ -71,14 +71,14 @@ IsIndexed-insert {dense = dense} {sparse = sparse} {len = len} {id = id} old in_
             let other : i ≢ len = λ is. omega (arith, is, before) in
             let was : slice_get dense i ≡ Some x = sym (slice_get-set_other dense len i id other) ∙ at in
             let member : Contains (take len dense) x =
-                (i, omega (arith, before, length-take-le len dense old.filled), get_or-take len dense i x before ∙ get_or_from_slice_get dense i x x was) in
+            (i, omega (arith, before, length-take-le len dense old.filled), get_or-take len dense i x before ∙ get_or_from_slice_get dense i x x was) in
             slice_get-set_other sparse id x len (λ is. new (subst (Contains (take len dense)) is member)) ∙ old.indexed i x before was
         | inr behind ↦
             let last : i ≡ len = omega (arith, lt, behind) in
             let there : slice_get (set dense len id) i ≡ Some id = subst (λ k. slice_get (set dense len id) k ≡ Some id) (sym last) (slice_get-set_same dense len id room) in
             let is : x ≡ id = ap (λ o. unwrap_or o 0) (sym at ∙ there) in
             subst (λ y. slice_get (set sparse id len) y ≡ Some i) (sym is)
-                (slice_get-set_same sparse id len in_range ∙ ap Some (sym last))
+            (slice_get-set_same sparse id len in_range ∙ ap Some (sym last))
       ];
     }
 

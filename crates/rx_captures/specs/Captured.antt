@@ -29,7 +29,7 @@ span_between None end = None
 abbrev pub group_span : Captured → ℕ → Option Span
 group_span c group =
     option_and_then (λ slot. span_between (place_in c.slots slot) (place_in c.slots (slot + 1)))
-        (option_and_then (λ p. first_slot c.groups p group) c.pattern)
+    (option_and_then (λ p. first_slot c.groups p group) c.pattern)
 
 -- the name of a group of the pattern that matches
 abbrev pub group_name : Captured → ℕ → Option Name

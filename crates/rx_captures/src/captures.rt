@@ -114,10 +114,7 @@ impl GroupInfo {
     /// The groups of patterns, given for each pattern the names of its groups from group 1 on. No
     /// two groups of a pattern have one name, and the number of slots fits a `usize`. `O(n)` in
     /// the number of patterns.
-    pub fn new(
-        alloc: Global,
-        names: Vec<Vec<Option<String>>>,
-    ) -> Result<GroupInfo, AllocError>
+    pub fn new(alloc: Global, names: Vec<Vec<Option<String>>>) -> Result<GroupInfo, AllocError>
         requires distinct { HasDistinctNames (named_groups names.items) }
         requires fits { slot_len (named_groups names.items) < 2 ^ 64 }
         ensures { IfOk result (λ info. info ≡ named_groups names.items) }
@@ -251,11 +248,7 @@ impl Captures {
     ghost use Rattle.rx_captures.specs.Lending.{LendsSlots};
 
     /// Nothing noted yet, with so many slots.
-    fn with_slots(
-        alloc: Global,
-        group_info: &GroupInfo,
-        len: usize,
-    ) -> Result<Captures, MatchError>
+    fn with_slots(alloc: Global, group_info: &GroupInfo, len: usize) -> Result<Captures, MatchError>
         requires few { len ≤ slot_len group_info.now }
         ensures made { IfOk result (λ caps. caps ≡ nothing_noted group_info.now len) }
         ensures refused { IfErr result (λ error. error ≡ MatchError.Memory) }

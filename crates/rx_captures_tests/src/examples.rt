@@ -4,8 +4,8 @@ ghost use Rattle.std.specs.Prelude.{◌≡◌, IfOk};
 ghost use Rattle.rx_captures.specs.Groups.{HasDistinctNames, named_groups, slot_len};
 
 use rx_captures::{
-    Anchored, Captures, GroupInfo, HalfMatch, Match, MatchError, MatchKind, NonMaxUsize,
-    PatternID, SparseSet, Span, StateID, WhichCaptures,
+    Anchored, Captures, GroupInfo, HalfMatch, Match, MatchError, MatchKind, NonMaxUsize, PatternID,
+    Span, SparseSet, StateID, WhichCaptures,
 };
 use std::alloc::{AllocError, Global};
 use std::ops::Range;
@@ -83,7 +83,10 @@ fn captures(rt: HostRuntime) -> Result<(), Fail> {
 #[test]
 fn captures_by_name(rt: HostRuntime) -> Result<(), Fail> {
     let caps = noted(rt.alloc())?;
-    assert_eq!(rt; caps.get_group_by_name("year"), Some(Span { start: 4, end: 5 }));
+    assert_eq!(rt;
+        caps.get_group_by_name("year"),
+        Some(Span { start: 4, end: 5 })
+    );
     assert_eq!(rt; caps.get_group_by_name("day"), None);
     assert_eq!(rt; caps.group_info().pattern_len(), 2);
     Ok(())
@@ -160,7 +163,12 @@ fn searches(rt: HostRuntime) -> Result<(), Fail> {
     assert_eq!(rt; MatchKind::default(), MatchKind::LeftmostFirst);
     assert!(rt; WhichCaptures::All != WhichCaptures::Implicit);
     assert!(rt; MatchError::UnsupportedAnchored { mode } != MatchError::Memory);
-    assert!(rt; MatchError::Quit { byte: 200, offset: 3 } != MatchError::GaveUp { offset: 3 });
+    assert!(rt;
+        MatchError::Quit {
+            byte: 200,
+            offset: 3
+        } != MatchError::GaveUp { offset: 3 }
+    );
     assert_eq!(rt; MatchError::from(AllocError), MatchError::Memory);
     Ok(())
 }

@@ -36,7 +36,7 @@ ReadsMembers {S} first step = (x : S) (bs : List ℕ) → run (step x) 0 bs ≡ 
 abbrev pub WalksTakeNoPairTwice : {Q N : Type 0} → Machine Q N → Type 0
 WalksTakeNoPairTwice {Q} {N} m = IsForward m → (n : N) (q : Q) (i : ℕ) (cs : List ℕ) (t : Outcome N)
     → Walk m [] n q i cs t
-        ↔ ((pairs : List (Q × ℕ)) × PathThrough m n q i cs pairs t × HasNoRepeat pairs)
+    ↔ ((pairs : List (Q × ℕ)) × PathThrough m n q i cs pairs t × HasNoRepeat pairs)
 
 -- in a content a program has at most one find
 abbrev pub FindsAtMostOne : {S : Type 0} → (S → ℕ → Bool) → (ℕ → Bool) → Program Look S → Type 0
@@ -69,14 +69,14 @@ abbrev pub StepsKeepBest : {Q N : Type 0} → Machine Q N → Type 0
 StepsKeepBest {Q} {N} m =
     (i : ℕ) (seen : List Q) (threads next : List (N × Q)) (met out : Option (Outcome N))
     → Steps m i seen threads next met → Best m [] (i + 1) next out
-        → Best m seen i threads (either out met)
+    → Best m seen i threads (either out met)
 
 -- the loop over places, by a machine of single steps, finds what the machine that it refines has
 abbrev pub SearchesFind : {C B N : Type 0} → Machine C N → Machine B N → (C → B) → Type 0
 SearchesFind {C} {B} {N} c b f =
     (s : Search) (fresh : ℕ → N) (q : C) (out : Option (Outcome N)) → Refines c b f
     → ReadsWhole c s.content → Searches b (Begins s) fresh (f q) s.start [] None out
-        → IsFind c fresh s q out
+    → IsFind c fresh s q out
 
 -- without a cut it finds the greatest end
 abbrev pub SearchesFindAll : {C B N : Type 0} → Machine C N → Machine B N → (C → B) → Type 0
@@ -96,7 +96,7 @@ PathsHaveWalks {Q} {N} m =
 abbrev pub WalksAgree : {C B N : Type 0} → Machine C N → Machine B N → (C → B) → Type 0
 WalksAgree {C} {B} {N} c b f = Refines c b f → (seen : List C) (n : N) (q : C) (i : ℕ)
     → ((choices : List ℕ) (t : Outcome N) → Walk c seen n q i choices t
-        ↔ Walk b (map f seen) n (f q) i choices t)
+    ↔ Walk b (map f seen) n (f q) i choices t)
     × ((t : Outcome N) → IsLeast c seen n q i t ↔ IsLeast b (map f seen) n (f q) i t)
 
 -- and so are their paths
@@ -119,7 +119,7 @@ ProgramsFind {L} {S} {N} put member step nodes holds =
     (s : Search) (fresh : ℕ → N) (q : ℕ) (out : Option (Outcome N))
     → ReadsMembers (first_by member) step
     → Searches (over_bytes put step nodes (haystack_of holds s)) (Begins s) fresh
-        (q, 0) s.start [] None out
+    (q, 0) s.start [] None out
     → IsFind (over_characters put (first_by member) nodes (haystack_of holds s)) fresh s q out
 
 -- without a cut it finds the greatest end of what its characters have
@@ -129,7 +129,7 @@ ProgramsFindAll {L} {S} {N} put member step nodes holds =
     (s : Search) (fresh : ℕ → N) (q : ℕ) (out : Option Span)
     → ReadsMembers (first_by member) step
     → SearchesAll (over_bytes put step nodes (haystack_of holds s)) (Begins s)
-        (q, 0) s.start [] None out
+    (q, 0) s.start [] None out
     → IsFindAll (over_characters put (first_by member) nodes (haystack_of holds s)) fresh s q out
 
 -- both machines of a program read forward

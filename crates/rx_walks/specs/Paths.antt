@@ -21,11 +21,11 @@ pub data PathThrough {Q N : Type 0} (m : Machine Q N) : N → Q → ℕ → List
       (rs : List Q) (r : Q)
       → m.move i q ≡ goes rs → slice_get rs k ≡ Some r
       → PathThrough m (m.note i q n) r i cs pairs t
-          → PathThrough m n q i (k ∷ cs) ((q, i) ∷ pairs) t
+      → PathThrough m n q i (k ∷ cs) ((q, i) ∷ pairs) t
   through_read : {n : N} {q : Q} {i : ℕ} {cs : List ℕ} {pairs : List (Q × ℕ)} {t : Outcome N}
       (r : Q) (j : ℕ)
       → m.move i q ≡ reads r j → PathThrough m n r j cs pairs t
-          → PathThrough m n q i cs ((q, i) ∷ pairs) t
+      → PathThrough m n q i cs ((q, i) ∷ pairs) t
 
 -- none stands there twice
 abbrev pub HasNoRepeat : {X : Type 0} → List X → Type 0

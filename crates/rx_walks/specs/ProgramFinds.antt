@@ -39,7 +39,7 @@ abbrev pub machine_of : {S : Type 0} → (S → ℕ → Bool) → (ℕ → Bool)
     → Machine ℕ Notes
 machine_of member is_word p s =
     over_characters put_note (first_by member) p.nodes
-        (haystack_of (holds_in is_word p.line_terminator s) s)
+    (haystack_of (holds_in is_word p.line_terminator s) s)
 
 -- the node from which walks start; an unknown pattern has none
 abbrev pub start_node : {L S : Type 0} → Program L S → Anchoring → Option ℕ
@@ -63,7 +63,7 @@ abbrev pub ProgramFindsAll : {S : Type 0} → (S → ℕ → Bool) → (ℕ → 
     → Option Span → Type 0
 ProgramFindsAll member is_word p s out =
     IfStarts (start_node p s.anchoring)
-        (IsFindAll (machine_of member is_word p s) fresh_notes s) out
+    (IsFindAll (machine_of member is_word p s) fresh_notes s) out
 
 abbrev pub start_of : Outcome Notes → ℕ
 start_of t = t.notes.start
@@ -76,10 +76,10 @@ abbrev pub ProgramMatches : {S : Type 0} → (S → ℕ → Bool) → (ℕ → B
     → List (Outcome Notes) → Type 0
 ProgramMatches member is_word p s ms =
     Matches
-        (λ i out. ProgramFinds member is_word p (from_place_on s i) out) start_of end_of s.start ms
+    (λ i out. ProgramFinds member is_word p (from_place_on s i) out) start_of end_of s.start ms
 
 abbrev pub ProgramMatchesAll : {S : Type 0} → (S → ℕ → Bool) → (ℕ → Bool) → Program Look S → Search
     → List Span → Type 0
 ProgramMatchesAll member is_word p s ms =
     Matches (λ i out. ProgramFindsAll member is_word p (from_place_on s i) out) (λ a. a.start)
-        (λ a. a.end) s.start ms
+    (λ a. a.end) s.start ms

@@ -29,7 +29,7 @@ pub data Steps {Q N : Type 0} (m : Machine Q N) (i : ℕ) : List Q → List (N �
       (rs : List Q)
       → IsNew seen q → m.move i q ≡ goes rs
       → Steps m i (q ∷ seen) (map (λ r. (m.note i q n, r)) rs ++ others) next met
-          → Steps m i seen ((n, q) ∷ others) next met
+      → Steps m i seen ((n, q) ∷ others) next met
   read : {seen : List Q} {n : N} {q : Q} {others next : List (N × Q)} {met : Option (Outcome N)}
       (r : Q)
       → IsNew seen q → m.move i q ≡ reads r (i + 1)
@@ -41,7 +41,7 @@ abbrev pub StepsSoFar : {Q N : Type 0} → Machine Q N → ℕ → List (N × Q)
     → List (N × Q) → Type 0
 StepsSoFar {Q} {N} m i threads seen stack out =
     (next : List (N × Q)) (met : Option (Outcome N)) → Steps m i seen stack next met
-        → Steps m i [] threads (out ++ next) met
+    → Steps m i [] threads (out ++ next) met
 
 -- the same threads without some at a node that stood before
 pub data Thins {Q N : Type 0} : List Q → List (N × Q) → List (N × Q) → Type 0 where
@@ -64,7 +64,7 @@ pub data FindsFrom {Q N : Type 0} (m : Machine Q N) (begins : ℕ → Type 0) (f
       → FindsFrom m begins fresh q i None
   found : {t : Outcome N} (j : ℕ) → i ≤ j → begins j → IsLeast m [] (fresh j) q j t
       → ((k : ℕ) → i ≤ k → k < j → begins k → HasNoWalk m [] (fresh k) q k)
-          → FindsFrom m begins fresh q i (Some t)
+      → FindsFrom m begins fresh q i (Some t)
 
 -- the loop over places, with the live threads and the last end that was met: while none was, each
 -- place where a start begins adds a thread after the others
@@ -79,4 +79,4 @@ pub data Searches {Q N : Type 0} (m : Machine Q N) (begins : ℕ → Type 0) (fr
       → (met ≡ None → begins i → ⊥)
       → Steps m i [] live next ended → Thins [] next thin
       → Searches m begins fresh q (i + 1) thin (either ended met) out
-          → Searches m begins fresh q i live met out
+      → Searches m begins fresh q i live met out

@@ -12,8 +12,8 @@ pub data FindsAll {Q N : Type 0} (m : Machine Q N) (begins : ℕ → Type 0) (q 
       → FindsAll m begins q i None
   found : {a : Span} → i ≤ a.start → begins a.start → Path m q a.start a.pattern a.end
       →
-          ((b : Span) → i ≤ b.start → begins b.start → Path m q b.start b.pattern b.end
-          → IsAtLeast a b)
+      ((b : Span) → i ≤ b.start → begins b.start → Path m q b.start b.pattern b.end
+      → IsAtLeast a b)
       → FindsAll m begins q i (Some a)
 
 -- One step: threads, each a node with the start that it came from, give those at the next place,
@@ -32,11 +32,11 @@ pub data StepsAll {Q N : Type 0} (m : Machine Q N) (i : ℕ) : List Q → List (
       (rs : List Q)
       → IsNew seen q → m.move i q ≡ goes rs
       → StepsAll m i (q ∷ seen) (map (λ r. (s, r)) rs ++ others) next met
-          → StepsAll m i seen ((s, q) ∷ others) next met
+      → StepsAll m i seen ((s, q) ∷ others) next met
   read : {seen : List Q} {s : ℕ} {q : Q} {others next : List (ℕ × Q)} {met : List (ℕ × ℕ)} (r : Q)
       → IsNew seen q → m.move i q ≡ reads r (i + 1)
       → StepsAll m i (q ∷ seen) others next met
-          → StepsAll m i seen ((s, q) ∷ others) ((s, r) ∷ next) met
+      → StepsAll m i seen ((s, q) ∷ others) ((s, r) ∷ next) met
 
 -- starts that do not fall, from low up to high
 pub data RiseFrom {Q : Type 0} (high : ℕ) : ℕ → List (ℕ × Q) → Type 0 where

@@ -81,14 +81,14 @@ pub fn bytes_refine<L, S, N>()
 pub fn programs_find<L, S, N>()
     ensures { (put : ℕ → ℕ → N → N) (member : S → ℕ → Bool) (step : S → Automaton)
         (nodes : List (Node L S)) (holds : L → ℕ → Bool)
-            → ProgramsFind put member step nodes holds }
+        → ProgramsFind put member step nodes holds }
 {}
 
 /// Without a cut the loop over places by a program's bytes finds the greatest end.
 pub fn programs_find_all<L, S, N>()
     ensures { (put : ℕ → ℕ → N → N) (member : S → ℕ → Bool) (step : S → Automaton)
         (nodes : List (Node L S)) (holds : L → ℕ → Bool)
-            → ProgramsFindAll put member step nodes holds }
+        → ProgramsFindAll put member step nodes holds }
 {}
 
 /// Both machines of a program read forward.

@@ -10,7 +10,7 @@ returns-then-is_named c =
 pub loop-k-preserved : goal.loop-k-preserved
 loop-k-preserved c =
     not_yet (names_of c.args.groups.now) c.args.name.now c.loop-k.k c.loop-k.invariant
-        (λ named. true≢false (sym (c.is_named.ensures.1 (sym (further_at c.args.groups.now c.loop-k.k c.index-groups-k.result c.loop-k-test.true c.index-groups-k.is) ∙ named)) ∙ c.if-is_named.false))
+    (λ named. true≢false (sym (c.is_named.ensures.1 (sym (further_at c.args.groups.now c.loop-k.k c.index-groups-k.result c.loop-k-test.true c.index-groups-k.is) ∙ named)) ∙ c.if-is_named.false))
 
 pub returns : goal.returns
 returns c = none_named c.args.groups.now c.args.name.now c.loop-k.k c.loop-k.invariant (omega (arith, c.loop-k-test.false))

@@ -9,8 +9,15 @@ captured groups pattern slots = record { groups = groups; pattern = pattern; slo
 
 pub returns : goal.returns
 returns c =
-    let old = c.self.inside in
-    ( (refl, λ w. ap (λ n. captured old.group_info old.pattern (take n (w ++ drop (length w) old.slots.items))) old.slots.ok.0
-          ∙ ap (λ v. with_slots v w) c.self.view_is)
-    , record { writes_back = tt; slots = c.as_mut_slice.ensures.value ∙ ap (λ v. v.slots) c.self.view_is;
-          few = subst (λ v. length v.slots ≤ slot_len v.groups) c.self.view_is c.self.invariant })
+    let old = c.self.inside in (
+      (
+        refl,
+        λ w. ap (λ n. captured old.group_info old.pattern (take n (w ++ drop (length w) old.slots.items))) old.slots.ok.0
+            ∙ ap (λ v. with_slots v w) c.self.view_is,
+      ),
+      record {
+        writes_back = tt;
+        slots = c.as_mut_slice.ensures.value ∙ ap (λ v. v.slots) c.self.view_is;
+        few = subst (λ v. length v.slots ≤ slot_len v.groups) c.self.view_is c.self.invariant;
+      },
+    )

@@ -18,8 +18,12 @@ overflow_add-slot_len c =
     let here = c.deref-pattern-items.ensures.value in
     let lt = subst (λ (xs : List (Vec (Option (String Global)) Global)). i < length xs) here c.loop-pattern-test.true in
     let is = subst (λ (xs : List (Vec (Option (String Global)) Global)). c.pattern-item.result ≡ get_or xs i c.pattern-item.result) here c.pattern-item.is in
-    omega (arith, c.requires.fits, further_len patterns i c.len.result c.pattern-item.result lt is c.len.ensures,
-        next_within (named_groups patterns) i c.loop-pattern.invariant (omega (arith, lt, length-map patterns (λ (pattern : Vec (Option (String Global)) Global). names_of pattern.items))))
+    omega (
+      arith,
+      c.requires.fits,
+      further_len patterns i c.len.result c.pattern-item.result lt is c.len.ensures,
+      next_within (named_groups patterns) i c.loop-pattern.invariant (omega (arith, lt, length-map patterns (λ (pattern : Vec (Option (String Global)) Global). names_of pattern.items))),
+    )
 
 pub loop-pattern-preserved : goal.loop-pattern-preserved
 loop-pattern-preserved c =
@@ -29,4 +33,4 @@ loop-pattern-preserved c =
     let lt = subst (λ (xs : List (Vec (Option (String Global)) Global)). i < length xs) here c.loop-pattern-test.true in
     let is = subst (λ (xs : List (Vec (Option (String Global)) Global)). c.pattern-item.result ≡ get_or xs i c.pattern-item.result) here c.pattern-item.is in
     rw (c.in_ok-push.ensures.items, further_len patterns i c.len.result c.pattern-item.result lt is c.len.ensures)
-        (AreStartsUpTo-more (named_groups patterns) i c.loop-pattern.invariant (omega (arith, lt, length-map patterns (λ (pattern : Vec (Option (String Global)) Global). names_of pattern.items))))
+    (AreStartsUpTo-more (named_groups patterns) i c.loop-pattern.invariant (omega (arith, lt, length-map patterns (λ (pattern : Vec (Option (String Global)) Global). names_of pattern.items))))

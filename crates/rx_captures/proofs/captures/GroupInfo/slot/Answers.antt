@@ -23,39 +23,39 @@ slot_of_further groups starts len p g start laid lt further read =
 pub overflow_mul-result-2 : goal.overflow_mul-result-2
 overflow_mul-result-2 c =
     let answer =
-        slot_of_further c.args.self.now c.self.inside.inner.value.starts.items c.self.inside.inner.value.slot_len c.args.pid c.args.group_index c.index.result.now
-            (subst (λ g. IsLaidOut g c.self.inside.inner.value.starts.items c.self.inside.inner.value.slot_len) c.self.view_is c.self.invariant)
-            (omega (arith, c.if-group_index-group_len.false, c.group_len.ensures)) c.if-group_index-eq0.false
-            (c.index.ensures ∙ ap (λ k. get_or c.deref.result.now.starts.items k c.index.result.now) c.as_usize-2.ensures
-            ∙ ap (λ (v : GroupInfoInner). get_or v.starts.items c.args.pid c.index.result.now) c.deref.ensures) in
+    slot_of_further c.args.self.now c.self.inside.inner.value.starts.items c.self.inside.inner.value.slot_len c.args.pid c.args.group_index c.index.result.now
+    (subst (λ g. IsLaidOut g c.self.inside.inner.value.starts.items c.self.inside.inner.value.slot_len) c.self.view_is c.self.invariant)
+    (omega (arith, c.if-group_index-group_len.false, c.group_len.ensures)) c.if-group_index-eq0.false
+    (c.index.ensures ∙ ap (λ k. get_or c.deref.result.now.starts.items k c.index.result.now) c.as_usize-2.ensures
+    ∙ ap (λ (v : GroupInfoInner). get_or v.starts.items c.args.pid c.index.result.now) c.deref.ensures) in
     omega (arith, answer.within, answer.fits)
 
 pub overflow_add-result : goal.overflow_add-result
 overflow_add-result c =
     let answer =
-        slot_of_further c.args.self.now c.self.inside.inner.value.starts.items c.self.inside.inner.value.slot_len c.args.pid c.args.group_index c.index.result.now
-            (subst (λ g. IsLaidOut g c.self.inside.inner.value.starts.items c.self.inside.inner.value.slot_len) c.self.view_is c.self.invariant)
-            (omega (arith, c.if-group_index-group_len.false, c.group_len.ensures)) c.if-group_index-eq0.false
-            (c.index.ensures ∙ ap (λ k. get_or c.deref.result.now.starts.items k c.index.result.now) c.as_usize-2.ensures
-            ∙ ap (λ (v : GroupInfoInner). get_or v.starts.items c.args.pid c.index.result.now) c.deref.ensures) in
+    slot_of_further c.args.self.now c.self.inside.inner.value.starts.items c.self.inside.inner.value.slot_len c.args.pid c.args.group_index c.index.result.now
+    (subst (λ g. IsLaidOut g c.self.inside.inner.value.starts.items c.self.inside.inner.value.slot_len) c.self.view_is c.self.invariant)
+    (omega (arith, c.if-group_index-group_len.false, c.group_len.ensures)) c.if-group_index-eq0.false
+    (c.index.ensures ∙ ap (λ k. get_or c.deref.result.now.starts.items k c.index.result.now) c.as_usize-2.ensures
+    ∙ ap (λ (v : GroupInfoInner). get_or v.starts.items c.args.pid c.index.result.now) c.deref.ensures) in
     omega (arith, answer.within, answer.fits)
 
 pub returns-clause-slot : goal.returns-clause-slot
 returns-clause-slot c =
     let answer =
-        slot_of_further c.args.self.now c.self.inside.inner.value.starts.items c.self.inside.inner.value.slot_len c.args.pid c.args.group_index c.index.result.now
-            (subst (λ g. IsLaidOut g c.self.inside.inner.value.starts.items c.self.inside.inner.value.slot_len) c.self.view_is c.self.invariant)
-            (omega (arith, c.if-group_index-group_len.false, c.group_len.ensures)) c.if-group_index-eq0.false
-            (c.index.ensures ∙ ap (λ k. get_or c.deref.result.now.starts.items k c.index.result.now) c.as_usize-2.ensures
-            ∙ ap (λ (v : GroupInfoInner). get_or v.starts.items c.args.pid c.index.result.now) c.deref.ensures) in
+    slot_of_further c.args.self.now c.self.inside.inner.value.starts.items c.self.inside.inner.value.slot_len c.args.pid c.args.group_index c.index.result.now
+    (subst (λ g. IsLaidOut g c.self.inside.inner.value.starts.items c.self.inside.inner.value.slot_len) c.self.view_is c.self.invariant)
+    (omega (arith, c.if-group_index-group_len.false, c.group_len.ensures)) c.if-group_index-eq0.false
+    (c.index.ensures ∙ ap (λ k. get_or c.deref.result.now.starts.items k c.index.result.now) c.as_usize-2.ensures
+    ∙ ap (λ (v : GroupInfoInner). get_or v.starts.items c.args.pid c.index.result.now) c.deref.ensures) in
     ap Some answer.is ∙ sym (first_slot-of_group c.args.self.now c.args.pid c.args.group_index (omega (arith, c.if-group_index-group_len.false, c.group_len.ensures)))
 
 pub returns-clause-in_range : goal.returns-clause-in_range
 returns-clause-in_range c =
     let answer =
-        slot_of_further c.args.self.now c.self.inside.inner.value.starts.items c.self.inside.inner.value.slot_len c.args.pid c.args.group_index c.index.result.now
-            (subst (λ g. IsLaidOut g c.self.inside.inner.value.starts.items c.self.inside.inner.value.slot_len) c.self.view_is c.self.invariant)
-            (omega (arith, c.if-group_index-group_len.false, c.group_len.ensures)) c.if-group_index-eq0.false
-            (c.index.ensures ∙ ap (λ k. get_or c.deref.result.now.starts.items k c.index.result.now) c.as_usize-2.ensures
-            ∙ ap (λ (v : GroupInfoInner). get_or v.starts.items c.args.pid c.index.result.now) c.deref.ensures) in
+    slot_of_further c.args.self.now c.self.inside.inner.value.starts.items c.self.inside.inner.value.slot_len c.args.pid c.args.group_index c.index.result.now
+    (subst (λ g. IsLaidOut g c.self.inside.inner.value.starts.items c.self.inside.inner.value.slot_len) c.self.view_is c.self.invariant)
+    (omega (arith, c.if-group_index-group_len.false, c.group_len.ensures)) c.if-group_index-eq0.false
+    (c.index.ensures ∙ ap (λ k. get_or c.deref.result.now.starts.items k c.index.result.now) c.as_usize-2.ensures
+    ∙ ap (λ (v : GroupInfoInner). get_or v.starts.items c.args.pid c.index.result.now) c.deref.ensures) in
     λ slot is. subst (λ k. k + 1 < slot_len c.args.self.now) (ap (λ o. unwrap_or o 0) is) answer.within

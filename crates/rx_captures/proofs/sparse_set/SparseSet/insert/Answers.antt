@@ -4,16 +4,20 @@ use Rattle.rx_captures.proofs.sparse_set.SparseSet.insert.Goals as goal
 
 pub index_mut-requires : goal.index_mut-requires
 index_mut-requires c =
-    omega (arith, c.self.inside.dense.ok.0, has_room c.self.invariant (subst (λ v. c.args.id < v.capacity) (sym c.self.view_is) c.requires.in_range)
-        (λ has. true≢false (sym (c.if-contains.ensures.1 (subst (λ v. Contains v.members c.args.id) c.self.view_is has)))))
+    omega (
+      arith,
+      c.self.inside.dense.ok.0,
+      has_room c.self.invariant (subst (λ v. c.args.id < v.capacity) (sym c.self.view_is) c.requires.in_range)
+          (λ has. true≢false (sym (c.if-contains.ensures.1 (subst (λ v. Contains v.members c.args.id) c.self.view_is has)))),
+    )
 
 pub invariant_of-self : goal.invariant_of-self
 invariant_of-self c =
     rw c.as_usize.ensures (IsIndexed-insert c.self.invariant (subst (λ v. c.args.id < v.capacity) (sym c.self.view_is) c.requires.in_range)
-        (λ has. true≢false (sym (c.if-contains.ensures.1 (subst (λ v. Contains v.members c.args.id) c.self.view_is has)))))
+    (λ has. true≢false (sym (c.if-contains.ensures.1 (subst (λ v. Contains v.members c.args.id) c.self.view_is has)))))
 
 pub returns-clause-members : goal.returns-clause-members
 returns-clause-members c =
     members-insert c.self.invariant (subst (λ v. c.args.id < v.capacity) (sym c.self.view_is) c.requires.in_range)
-        (λ has. true≢false (sym (c.if-contains.ensures.1 (subst (λ v. Contains v.members c.args.id) c.self.view_is has))))
+    (λ has. true≢false (sym (c.if-contains.ensures.1 (subst (λ v. Contains v.members c.args.id) c.self.view_is has))))
     ∙ ap (λ v. v.members ++ c.args.id ∷ []) c.self.view_is
