@@ -1,7 +1,6 @@
 //! An example for each iterator over a slice, and the chunks of a long text both ways.
 
-use ropey_tree::builds::build;
-use ropey_tree::cutter::leaves_of;
+use crate::slices::tree_of;
 use ropey_tree::leaf::Leaf;
 use ropey_tree::node::Node;
 use ropey_walk::RopeSlice;
@@ -83,12 +82,9 @@ fn chunks_of_a_long_text(rt: HostRuntime) -> Result<(), Fail> {
     for _ in 0..5_000 {
         text.push_str("abc")?;
     }
-    // The law for the proof that what is built fits.
-    ropey_tree::laws::counts_of_a_cutting();
-    let leaves = leaves_of(rt.alloc(), &text)?;
-    assert!(rt; !leaves.is_empty());
-    let node = build(rt.alloc(), leaves)?;
-    let slice = RopeSlice::new(Some(&node));
+    let tree = tree_of(&rt, rt.alloc(), &text)?;
+    let node: &Node = &tree;
+    let slice = RopeSlice::new(Some(node));
     let mut pieces: Vec<&str> = Vec::new(rt.alloc());
     let mut joined = String::new(rt.alloc());
     for chunk in slice.chunks() {

@@ -14,7 +14,8 @@ use std::process::Abort;
 use std::rc::Rc;
 use std::test::Fail;
 
-fn tree_of(rt: &impl Abort, alloc: Global, text: &str) -> Result<Rc<Node>, Fail>
+/// The tree of a text that has some character.
+pub(crate) fn tree_of(rt: &impl Abort, alloc: Global, text: &str) -> Result<Rc<Node>, Fail>
     ensures { IfOk result (λ node. concat node.value.pieces ≡ chars text.now) }
 {
     // The law for the proof that what is built fits.
