@@ -5,7 +5,7 @@ from harness import MEMORY_PROGRAM, differences, end_of, example_rows, start, te
 
 NODE = re.compile(
     r"(?P<empty>Empty)|Set\(CharacterSet \{ ranges: \[(?P<ranges>.*?)\] \}\)|Look\((?P<look>\w+)\)"
-    r"|Group\((?P<number>\d+), (?:None|Some\("(?P<name>.*?)"\))\)|(?P<row>Concat|Alternation)\((?P<count>\d+)\)"
+    r'|Group\((?P<number>\d+), (?:None|Some\("(?P<name>.*?)"\))\)|(?P<row>Concat|Alternation)\((?P<count>\d+)\)'
     r"|Repeat\(Repetition \{ min: (?P<min>\d+), max: (?:None|Some\((?P<max>\d+)\)), greedy: (?P<greedy>\w+) \}\)"
 )
 
