@@ -49,8 +49,8 @@ fn read_rest<R: Source>(
     limits: Limits,
     header: Header,
 ) -> Result<Request, Broken>
-    ensures { TakesRest limits.text header result read_buffer.old read_buffer.new (R.state source.old)
-        (R.state source.new) }
+    ensures { TakesRest limits.text header result read_buffer.old read_buffer.new
+        (R.state source.old) (R.state source.new) }
 {
     let most = header.payload_limit(limits);
     match collect(read_buffer, source, alloc, header.payload_len(), most)? {

@@ -74,8 +74,8 @@ fn the_report_of_a_buffer(rt: HostRuntime) -> Result<(), Fail> {
     Ok(())
 }
 
-/// A text of four lines, of which the first and the last have this many characters more than two and
-/// than one. Both may lie across chunks.
+/// A text of four lines, of which the first and the last have this many characters more than two
+/// and than one. Both may lie across chunks.
 fn long_lines(alloc: Global, len: usize) -> Result<String, Fail> {
     let mut text = String::new(alloc);
     for _ in 0..len {

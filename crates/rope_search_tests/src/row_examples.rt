@@ -2,8 +2,8 @@
 use rope_search::{Fault, Finder, Lines, search_line};
 use std::test::Fail;
 
-/// A finder is made once for a pattern and searches many lines. A row has the columns of the matches,
-/// in UTF-16 code units: the frog has two.
+/// A finder is made once for a pattern and searches many lines. A row has the columns of the
+/// matches, in UTF-16 code units: the frog has two.
 #[test]
 fn one_finder_for_many_lines(rt: HostRuntime) -> Result<(), Fail> {
     let mut tick = Lines::new(&rt);

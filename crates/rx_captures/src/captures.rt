@@ -98,7 +98,8 @@ impl Model for GroupInfo {
 
     ghost view = { λ info. named_groups info.inner.value.names.items };
 
-    ghost invariant = { λ info. IsLaidOut (named_groups info.inner.value.names.items) info.inner.value.starts.items info.inner.value.slot_len };
+    ghost invariant = { λ info. IsLaidOut (named_groups info.inner.value.names.items)
+        info.inner.value.starts.items info.inner.value.slot_len };
 }
 
 impl Clone for GroupInfo {
@@ -237,7 +238,11 @@ impl Model for Captures {
 
     ghost Value = { Captured };
 
-    ghost view = { λ caps. record { groups = caps.group_info; pattern = caps.pattern; slots = caps.slots.items } };
+    ghost view = { λ caps. record {
+      groups = caps.group_info;
+      pattern = caps.pattern;
+      slots = caps.slots.items;
+    } };
 
     ghost invariant = { λ caps. length caps.slots.items ≤ slot_len caps.group_info };
 }

@@ -31,7 +31,10 @@ impl Model for SparseSet {
 
     ghost Value = { StateSet };
 
-    ghost view = { λ set. record { capacity = length set.sparse.items; members = take set.len set.dense.items } };
+    ghost view = { λ set. record {
+      capacity = length set.sparse.items;
+      members = take set.len set.dense.items;
+    } };
 
     ghost invariant = { λ set. IsIndexed set.dense.items set.sparse.items set.len };
 }

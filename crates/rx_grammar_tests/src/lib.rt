@@ -1,4 +1,5 @@
-//! Tests of `rx_sets` and `rx_grammar`: sets, patterns, weights, and an example for each public type.
+//! Tests of `rx_sets` and `rx_grammar`: sets, patterns, weights, and an example for each public
+//! type.
 #![tactic(auto)]
 
 #[cfg(test)]

@@ -1,5 +1,5 @@
-//! Patterns that are accepted and refused, known from the grammar of `regex-syntax` with Unicode on. Those of the
-//! page on patterns aren't repeated here.
+//! Patterns that are accepted and refused, known from the grammar of `regex-syntax` with Unicode
+//! on. Those of the page on patterns aren't repeated here.
 
 use rx_grammar::syntax::Config;
 use rx_grammar::{Hir, Look, Node, SyntaxError, from_ordinal, ordinal, parse};

@@ -1,5 +1,5 @@
-//! Sets, and those of atoms, against answers that are known from outside. U+212A is the kelvin sign, and U+017F the
-//! long s.
+//! Sets, and those of atoms, against answers that are known from outside. U+212A is the kelvin
+//! sign, and U+017F the long s.
 
 use rx_sets::{AtomSets, CharacterSet, ClassItem, ClassPerlKind, Range, from_ordinal, ordinal};
 use std::alloc::{AllocError, Global};

@@ -93,8 +93,8 @@ impl CharacterSet {
         &self.ranges
     }
 
-    /// What is in any of the ranges. These come in any order; one that ends before it begins is empty, and
-    /// ordinals of no scalar value are left out.
+    /// What is in any of the ranges. These come in any order; one that ends before it begins is
+    /// empty, and ordinals of no scalar value are left out.
     pub fn from_ranges(mut ranges: Vec<Range>) -> Result<CharacterSet, AllocError>
         ensures canonical { IfOk result IsCanonical }
         ensures members { IfOk result (λ set. HasExactly set (in_ranges ranges.items)) }

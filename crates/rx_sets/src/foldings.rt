@@ -52,8 +52,8 @@ fn push_second(
     Ok(())
 }
 
-/// Appends the second part of each pair of scalar values, unless it is from `low` to `high` itself. So ranges
-/// that are closed already stay short.
+/// Appends the second part of each pair of scalar values, unless it is from `low` to `high` itself.
+/// So ranges that are closed already stay short.
 fn push_seconds(
     ranges: &mut Vec<Range>,
     low: char,

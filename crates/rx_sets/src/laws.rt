@@ -1,5 +1,5 @@
-//! A law of the definitions that the contracts of this crate cite. The function does nothing: its contract is the
-//! law, proved.
+//! A law of the definitions that the contracts of this crate cite. The function does nothing: its
+//! contract is the law, proved.
 
 ghost use Rattle.std.specs.Prelude.{List};
 ghost use Rattle.rx_sets.specs.Sets.{Range};

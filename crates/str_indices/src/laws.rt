@@ -122,8 +122,8 @@ pub fn places_of_a_part()
         → PlacesAddUp NoCrLfBetween (breaks is_break) (break_ends is_break) }
 {}
 
-/// Ends up to a place behind a character boundary are those up to the boundary and those of the text
-/// that starts there. A CR LF that the boundary cuts ends behind it, as its LF alone does.
+/// Ends up to a place behind a character boundary are those up to the boundary and those of the
+/// text that starts there. A CR LF that the boundary cuts ends behind it, as its LF alone does.
 pub fn ends_behind_a_boundary()
     ensures chars { EndsBehind char_ends }
     ensures units { EndsBehind unit_ends }
