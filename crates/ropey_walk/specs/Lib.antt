@@ -7,3 +7,4 @@ pub mod Parts
 pub mod Slices
 pub mod TwoWay
 pub mod Iter
+pub mod Ranges
