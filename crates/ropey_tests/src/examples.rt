@@ -55,7 +55,11 @@ fn rope_slice(rt: HostRuntime) -> Result<(), Fail> {
     assert!(rt; slice.as_str() == Some("\ntwo🐸"));
     let copy = slice;
     assert!(rt; copy.get_char(4) == Some('🐸'));
-    assert!(rt; slice.get_slice(1..=3).is_some_and(|part| part.as_str() == Some("two")));
+    assert!(rt;
+        slice
+            .get_slice(1..=3)
+            .is_some_and(|part| part.as_str() == Some("two"))
+    );
     assert!(rt; rope.get_slice(4..10).is_none());
     assert!(rt; rope.get_byte_slice(9..).is_none());
 
@@ -72,8 +76,14 @@ fn lines(rt: HostRuntime) -> Result<(), Fail> {
     let rope = Rope::from_str(rt.alloc(), "one\r\ntwo\n")?;
     assert_eq!(rt; rope.len_lines(), 3);
     assert!(rt; rope.line(0).as_str() == Some("one\r\n"));
-    assert!(rt; rope.get_line(1).is_some_and(|line| line.as_str() == Some("two\n")));
-    assert!(rt; rope.get_line(2).is_some_and(|line| line.as_str() == Some("")));
+    assert!(rt;
+        rope.get_line(1)
+            .is_some_and(|line| line.as_str() == Some("two\n"))
+    );
+    assert!(rt;
+        rope.get_line(2)
+            .is_some_and(|line| line.as_str() == Some(""))
+    );
     assert!(rt; rope.get_line(3).is_none());
     Ok(())
 }
