@@ -18,7 +18,7 @@ use Rattle.ropey_walk.proofs.Reading.{place_of_front}
 use Rattle.ropey_walk.proofs.TwoWay.{Crosses, crosses}
 
 -- ---- over one character of a chunk
-chars_cut : (chunk : List ℕ) (at : ℕ) → IsUtf8 chunk → IsCharBoundary chunk at → chars chunk ≡ chars (take at chunk) ++ chars (drop at chunk)
+pub chars_cut : (chunk : List ℕ) (at : ℕ) → IsUtf8 chunk → IsCharBoundary chunk at → chars chunk ≡ chars (take at chunk) ++ chars (drop at chunk)
 chars_cut chunk at utf8 boundary =
     ap chars (sym (take-append-drop at chunk)) ∙ chars-append (take at chunk) (drop at chunk) (IsUtf8-take chunk at utf8 boundary)
 

@@ -12,3 +12,4 @@ pub mod TwoWay
 pub mod ChunkWalks
 pub mod ByteWalks
 pub mod CharWalks
+pub mod Edges

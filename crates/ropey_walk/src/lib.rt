@@ -7,5 +7,6 @@ pub mod iter;
 pub mod laws;
 mod places;
 pub mod slice;
+mod slicing;
 
 pub use crate::slice::RopeSlice;
