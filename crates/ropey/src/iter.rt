@@ -1,4 +1,4 @@
-//! Iterators over a rope: its bytes, its characters and its chunks.
+//! Iterators over a rope: its bytes, its characters, its lines and its chunks.
 //!
 //! An iterator stands between two items, or before the first or behind the last. `next` gives the item
 //! ahead and moves behind it, `prev` gives the item behind and moves before it, and `reverse` turns the
@@ -10,10 +10,10 @@
 ghost use Rattle.std.specs.Prelude.{◌≡◌, ◌+◌, ◌-◌, ◌<◌, ◌≤◌, ◌↔◌, length, SomeIff, IfSome, IsNone, encode_utf8_all};
 ghost use Rattle.str_indices.specs.Text.{byte_len};
 ghost use Rattle.ropey.specs.Chunks.{text_of, line_breaks, IsText};
-ghost use Rattle.ropey.specs.Iter.{before_item, StandsBefore, CutsNoCrLf};
+ghost use Rattle.ropey.specs.Iter.{before_item, lines_of, StandsBefore, CutsNoCrLf};
 
 use crate::rope::Rope;
-pub use ropey_walk::iter::{Bytes, Chars, Chunks};
+pub use ropey_walk::iter::{Bytes, Chars, Chunks, Lines};
 
 impl Rope {
     /// The bytes, from the first on.
@@ -62,6 +62,31 @@ impl Rope {
             (before_item char_idx (text_of self.now)) }
     {
         self.whole().get_chars_at(char_idx)
+    }
+
+    /// The lines, from the first on: `len_lines` slices, each with the break that ends it. The last has
+    /// no break, and may be empty. `O(log n)`.
+    pub fn lines(&self) -> Lines<'_>
+        ensures { result ≡ before_item 0 (lines_of self.now) }
+    {
+        self.whole().lines()
+    }
+
+    /// The lines, from the place before one of them; at `len_lines` from behind the last. The line index
+    /// is at most `len_lines`. `O(log n)`.
+    pub fn lines_at(&self, line_idx: usize) -> Lines<'_>
+        requires { line_idx ≤ line_breaks (text_of self.now) + 1 }
+        ensures { result ≡ before_item line_idx (lines_of self.now) }
+    {
+        self.whole().lines_at(line_idx)
+    }
+
+    /// `lines_at`, and none past `len_lines`. `O(log n)`.
+    pub fn get_lines_at(&self, line_idx: usize) -> Option<Lines<'_>>
+        ensures { SomeIff result (line_idx ≤ line_breaks (text_of self.now) + 1)
+            (before_item line_idx (lines_of self.now)) }
+    {
+        self.whole().get_lines_at(line_idx)
     }
 
     /// The chunks, from the first on: texts of 1 to 984 bytes, which are the text together, with no
