@@ -1,25 +1,30 @@
 -- Places between two characters, where parts of a text start and end.
 use Rattle.std.proofs.Common.{◌≡◌, ℕ, ◌+◌, ◌-◌, ◌^◌, ◌<◌, ◌≤◌, Bool, true, false, cond, ◌&&◌, List, [], ◌∷◌, ◌++◌, length, get_or, take, drop, refl, ap, arith, sym, ◌∙◌, subst, append_assoc, length-append, length-drop, length-take-le, take-append-drop}
 use Rattle.std.specs.Prelude.{encode_utf8_all}
-use Rattle.std.specs.Str.{chars, IsUtf8, IsCharBoundary}
+use Rattle.std.specs.List.{concat}
+use Rattle.std.specs.Str.{all_scalars, chars, IsUtf8, IsCharBoundary}
+use Rattle.std.proofs.lemmas.Bool.{and_parts, and_from}
 use Rattle.std.proofs.lemmas.List.{take_at, get_or_append_left, get_or-append_right}
-use Rattle.std.proofs.lemmas.Str.{encodes-chars, encodes-append, scalars-chars, IsUtf8-take}
+use Rattle.std.proofs.lemmas.Str.{encodes-chars, encodes-append, scalars-chars, IsUtf8-take, IsCharBoundary-at_seam}
 use Rattle.str_indices.specs.Text.{byte_len, units, char_ends, unit_ends, end_place, ends_with_cr, cuts_cr_lf, NoCrLfBetween}
-use Rattle.str_indices.specs.Laws.{AnyTexts, EndsAddUp, EndsAreBoundaries}
+use Rattle.str_indices.specs.Laws.{AnyTexts, EndsAddUp, EndsAreBoundaries, CharsAndBoundariesAgree, LastEndIsBefore}
 use Rattle.ropey_tree.specs.declared.counts.Counts.{Counts}
 use Rattle.ropey_tree.specs.declared.counts.By.{By}
 use Rattle.ropey_tree.specs.declared.counts.By.TheVariants.{Bytes, Chars, Units, Breaks}
 use Rattle.ropey_tree.specs.Counts.{counts_of, plus, minus, amount}
+use Rattle.ropey_tree.specs.Cutting.{IsCutting}
 use Rattle.ropey_walk.specs.Chunks.{line_breaks}
 use Rattle.ropey_walk.specs.Clips.{between}
-use Rattle.ropey_walk.specs.Conversions.{char_of_byte, unit_of_byte, line_of_byte}
+use Rattle.ropey_walk.specs.Conversions.{char_of_byte, unit_of_byte, line_of_byte, byte_of_char}
 use Rattle.ropey_walk.specs.Parts.{standing}
 use Rattle.ropey_walk.specs.Standing.{IsPlaceIn}
 use Rattle.ropey_walk.specs.Laws.{BreaksOfParts}
-use Rattle.ropey_walk.proofs.Cuts.{byte_len-append}
+use Rattle.ropey_walk.proofs.Cuts.{byte_len-append, first_piece, rest_cut}
 use Rattle.ropey_walk.proofs.Placing.{whole_front, whole_chars}
 use Rattle.ropey_walk.proofs.Counting.{units-append, amount-plus, front_breaks, take-parts, whole-parts, length-between}
 use Rattle.ropey_walk.proofs.CharWalks.{chars_cut}
+use Rattle.ropey_walk.proofs.Clipped.{scalars-append}
+use Rattle.ropey_walk.proofs.Reading.{place_of_front}
 use Rattle.ropey_walk.proofs.Reaching.{amount-below}
 
 -- ---- a text up to a place between two characters of a chunk
@@ -132,6 +137,39 @@ boundary_in text bytes start at place utf8 h e boundary =
         let leads : 192 ≤ get_or (encode_utf8_all text) place 0 = boundary.1 (omega (arith, sizes, starts, e, inside)) (omega (arith, high, there)) in
         omega (arith, leads, there)
     )
+
+-- the texts of a cutting are of scalar values
+scalars-both : (s t : List ℕ) → all_scalars s ≡ true → all_scalars t ≡ true → all_scalars (s ++ t) ≡ true
+scalars-both [] t h k = k
+scalars-both (c ∷ cs) t h k =
+    let both = and_parts _ _ h in
+    and_from _ _ both.0 (scalars-both cs t both.1 k)
+
+pub cutting-scalars : (ps : List (List ℕ)) → IsCutting ps → all_scalars (concat ps) ≡ true
+cutting-scalars [] h = refl
+cutting-scalars (p ∷ ps) h = scalars-both p (concat ps) (first_piece p ps h).scalars (cutting-scalars ps (rest_cut p ps h))
+
+-- and between two of the chunk is between two of the text
+pub boundary_out : (text bytes : List ℕ) (start : Counts) (at place : ℕ) → IsUtf8 bytes → IsPlaceIn text (chars bytes) start at → start.bytes + at ≡ place → all_scalars text ≡ true → IsCharBoundary bytes at
+    → IsCharBoundary (encode_utf8_all text) place
+boundary_out text bytes start at place utf8 h e scalars boundary =
+    let front = chars (take at bytes) in
+    let f = front_at text bytes start at utf8 h boundary in
+    let upto = f.before ++ front in
+    let rest = (scalars-append upto f.after (ap all_scalars (sym f.parts) ∙ scalars)).1 in
+    let spelled : encode_utf8_all text ≡ encode_utf8_all upto ++ encode_utf8_all f.after = ap encode_utf8_all f.parts ∙ encodes-append upto f.after in
+    let there : byte_len upto ≡ place = sym (place_is text start at front f) ∙ e in
+    subst (IsCharBoundary (encode_utf8_all text)) there (IsCharBoundary-at_seam (encode_utf8_all text) (encode_utf8_all upto) (encode_utf8_all f.after) spelled (f.after, (rest, refl)))
+
+-- a character's place leads back to it
+pub char_there_and_back : EndsAddUp AnyTexts length char_ends → CharsAndBoundariesAgree → LastEndIsBefore char_ends → (text : List ℕ) (k : ℕ) → k ≤ length text → char_of_byte text (byte_of_char text k) ≡ k
+char_there_and_back law agree last text k inside =
+    let front = take k text in
+    let back = drop k text in
+    let whole : text ≡ front ++ back = sym (take-append-drop k text) in
+    let size : length front ≡ k = length-take-le k text inside in
+    let place : byte_of_char text k ≡ byte_len front = ap (λ t. byte_of_char t k) whole ∙ ap (byte_of_char (front ++ back)) (sym size) ∙ place_of_front law agree last front back in
+    ap (char_of_byte text) place ∙ ap (λ t. char_of_byte t (byte_len front)) whole ∙ whole_chars law front back ∙ size
 
 -- what the text up to a place counts
 pub record IsCounted (text : List ℕ) (place : ℕ) (sum : Counts) : Type 0 where

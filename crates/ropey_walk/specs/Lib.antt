@@ -8,3 +8,4 @@ pub mod Slices
 pub mod Lines
 pub mod TwoWay
 pub mod Iter
+pub mod Ranges

@@ -1,6 +1,6 @@
 //! Places in a rope: a chunk, and a byte index in it.
 
-ghost use Rattle.std.specs.Prelude.{◌≡◌, ◌+◌, ◌-◌, ◌<◌, ◌≤◌, length, take, encode_utf8_all};
+ghost use Rattle.std.specs.Prelude.{◌≡◌, ◌+◌, ◌-◌, ◌<◌, ◌≤◌, ◌↔◌, length, take, IsTrue, encode_utf8_all};
 ghost use Rattle.std.specs.Str.{chars, IsUtf8, IsCharBoundary};
 ghost use Rattle.str_indices.specs.Text.{units};
 ghost use Rattle.str_indices.specs.Text.{byte_len};
@@ -25,6 +25,15 @@ pub(crate) struct Place<'a> {
     pub(crate) at: usize,
 }
 
+impl<'a> Place<'a> {
+    /// It lies between two characters, or at an end of its chunk.
+    pub(crate) fn is_boundary(&self) -> bool
+        ensures { IsTrue result ↔ IsCharBoundary self.now.text.now self.now.at }
+    {
+        self.text.is_char_boundary(self.at)
+    }
+}
+
 impl<'a> RopeSlice<'a> {
     ghost use Rattle.ropey_walk.specs.Slices.{slice_pieces, slice_text};
 
@@ -34,7 +43,7 @@ impl<'a> RopeSlice<'a> {
         ensures stands { IsPlaceIn (slice_text self.now) (chars result.text.now) result.start
             result.at }
         ensures place { result.start.bytes + result.at ≡ byte_idx }
-        ensures boundary { IsCharBoundary (encode_utf8_all (slice_text self.now)) byte_idx →
+        ensures boundary { IsCharBoundary (encode_utf8_all (slice_text self.now)) byte_idx ↔
             IsCharBoundary result.text.now result.at }
         ensures utf8 { IsUtf8 result.text.now }
     {

@@ -1,4 +1,3 @@
-use Rattle.std.proofs.Common.{ap}
 use Rattle.std.specs.Str.{chars}
 use Rattle.std.proofs.Common.{take}
 use Rattle.ropey_walk.specs.Slices.{slice_text}
