@@ -12,7 +12,8 @@ ghost use Rattle.str_indices.specs.Text.{byte_len};
 ghost use Rattle.ropey_tree.specs.Counts.{counts_of};
 ghost use Rattle.ropey_walk.specs.Chunks.{line_breaks};
 ghost use Rattle.ropey_walk.specs.Clips.{clip};
-ghost use Rattle.ropey_walk.specs.Conversions.{char_of_byte, char_of_line};
+ghost use Rattle.ropey_walk.specs.Conversions.{char_of_byte};
+ghost use Rattle.ropey_walk.specs.Lines.{line_pieces};
 ghost use Rattle.ropey_walk.specs.Parts.{standing};
 ghost use Rattle.ropey_walk.specs.Ranges.{start_of, end_of, IsRangeIn, IsByteRangeIn, RefusesChars, RefusesBytes};
 ghost use Rattle.ropey_walk.specs.Standing.{IsPlaceIn};
@@ -67,8 +68,7 @@ impl<'a> RopeSlice<'a> {
     /// A line, with the break that ends it. The line index is below `len_lines`. `O(log n)`.
     pub fn line(&self, line_idx: usize) -> Self
         requires { line_idx < line_breaks (slice_text self.now) + 1 }
-        ensures { slice_pieces result ≡ clip (char_of_line (slice_text self.now) line_idx)
-            (char_of_line (slice_text self.now) (line_idx + 1)) (slice_pieces self.now) }
+        ensures { slice_pieces result ≡ line_pieces (slice_pieces self.now) line_idx }
     {
         // Laws, for the proof alone.
         str_indices::laws::to_byte_idx_is_monotone();
@@ -82,8 +82,7 @@ impl<'a> RopeSlice<'a> {
     pub fn get_line(&self, line_idx: usize) -> Option<Self>
         ensures none { IsNone result ↔ (line_breaks (slice_text self.now) + 1 ≤ line_idx) }
         ensures line { IfSome result (λ line. slice_pieces line ≡
-            clip (char_of_line (slice_text self.now) line_idx)
-            (char_of_line (slice_text self.now) (line_idx + 1)) (slice_pieces self.now)) }
+            line_pieces (slice_pieces self.now) line_idx) }
     {
         if line_idx < self.len_lines() {
             Some(self.line(line_idx))
