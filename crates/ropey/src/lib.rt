@@ -13,5 +13,5 @@ pub use crate::rope::Rope;
 pub use crate::rope_builder::RopeBuilder;
 pub use ropey_tree::breaks;
 pub use ropey_tree::error::Error;
-pub use ropey_walk::ranges::TextRange;
+pub use ropey_walk::ranges::{Ends, TextRange};
 pub use ropey_walk::slice::RopeSlice;

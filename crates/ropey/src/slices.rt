@@ -3,12 +3,11 @@
 //! A part is a `RopeSlice`, which borrows the rope and takes no memory. The plain form has the line or
 //! the range inside the text as its condition; the `get_` form answers none exactly where it isn't.
 
-ghost use Rattle.std.specs.Prelude.{◌≡◌, ◌+◌, ◌<◌, ◌≤◌, ◌↔◌, length, IfSome, IsSome, IsNone};
-ghost use Rattle.str_indices.specs.Text.{byte_len};
+ghost use Rattle.std.specs.Prelude.{◌≡◌, ◌+◌, ◌<◌, ◌≤◌, ◌↔◌, length};
+ghost use Rattle.std.specs.Prelude.{IfSome, IsSome, IsNone};
 ghost use Rattle.ropey.specs.Chunks.{text_of, line_breaks};
-ghost use Rattle.ropey_walk.specs.Clips.{clip};
-ghost use Rattle.ropey_walk.specs.Conversions.{char_of_byte, char_of_line};
-ghost use Rattle.ropey_walk.specs.Ranges.{start_of, end_of, IsRangeIn, IsByteRangeIn};
+ghost use Rattle.ropey_walk.specs.Lines.{line_pieces};
+ghost use Rattle.ropey_walk.specs.Ranges.{chars_in, bytes_in, IsRangeIn, IsByteRangeIn};
 ghost use Rattle.ropey_walk.specs.Slices.{slice_pieces};
 
 use crate::rope::Rope;
@@ -19,8 +18,7 @@ impl Rope {
     /// A line, with the break that ends it. The line index is below `len_lines`. `O(log n)`.
     pub fn line(&self, line_idx: usize) -> RopeSlice<'_>
         requires { line_idx < line_breaks (text_of self.now) + 1 }
-        ensures { slice_pieces result ≡ clip (char_of_line (text_of self.now) line_idx)
-            (char_of_line (text_of self.now) (line_idx + 1)) self.now }
+        ensures { slice_pieces result ≡ line_pieces self.now line_idx }
     {
         self.whole().line(line_idx)
     }
@@ -28,9 +26,7 @@ impl Rope {
     /// `line`, and none from `len_lines` on. `O(log n)`.
     pub fn get_line(&self, line_idx: usize) -> Option<RopeSlice<'_>>
         ensures none { IsNone result ↔ (line_breaks (text_of self.now) + 1 ≤ line_idx) }
-        ensures line { IfSome result (λ line. slice_pieces line ≡
-            clip (char_of_line (text_of self.now) line_idx)
-            (char_of_line (text_of self.now) (line_idx + 1)) self.now) }
+        ensures line { IfSome result (λ line. slice_pieces line ≡ line_pieces self.now line_idx) }
     {
         self.whole().get_line(line_idx)
     }
@@ -39,8 +35,7 @@ impl Rope {
     /// most at `len_chars`. `O(log n)`.
     pub fn slice<R: TextRange>(&self, char_range: R) -> RopeSlice<'_>
         requires { IsRangeIn (length (text_of self.now)) (R.ends char_range) }
-        ensures { slice_pieces result ≡ clip (start_of (R.ends char_range))
-            (end_of (R.ends char_range) (length (text_of self.now))) self.now }
+        ensures { slice_pieces result ≡ chars_in (R.ends char_range) self.now }
     {
         self.whole().slice(char_range)
     }
@@ -48,8 +43,8 @@ impl Rope {
     /// `slice`, and none where the range doesn't lie inside the text. `O(log n)`.
     pub fn get_slice<R: TextRange>(&self, char_range: R) -> Option<RopeSlice<'_>>
         ensures some { IsSome result ↔ IsRangeIn (length (text_of self.now)) (R.ends char_range) }
-        ensures slice { IfSome result (λ slice. slice_pieces slice ≡ clip (start_of (R.ends char_range))
-            (end_of (R.ends char_range) (length (text_of self.now))) self.now) }
+        ensures slice { IfSome result (λ slice. slice_pieces slice ≡
+            chars_in (R.ends char_range) self.now) }
     {
         self.whole().get_slice(char_range)
     }
@@ -58,9 +53,7 @@ impl Rope {
     /// `len_bytes`, and neither inside a character. `O(log n)`.
     pub fn byte_slice<R: TextRange>(&self, byte_range: R) -> RopeSlice<'_>
         requires { IsByteRangeIn (text_of self.now) (R.ends byte_range) }
-        ensures { slice_pieces result ≡ clip (char_of_byte (text_of self.now) (start_of (R.ends byte_range)))
-            (char_of_byte (text_of self.now) (end_of (R.ends byte_range) (byte_len (text_of self.now))))
-            self.now }
+        ensures { slice_pieces result ≡ bytes_in (R.ends byte_range) self.now }
     {
         self.whole().byte_slice(byte_range)
     }
@@ -70,9 +63,7 @@ impl Rope {
     pub fn get_byte_slice<R: TextRange>(&self, byte_range: R) -> Option<RopeSlice<'_>>
         ensures some { IsSome result ↔ IsByteRangeIn (text_of self.now) (R.ends byte_range) }
         ensures slice { IfSome result (λ slice. slice_pieces slice ≡
-            clip (char_of_byte (text_of self.now) (start_of (R.ends byte_range)))
-            (char_of_byte (text_of self.now) (end_of (R.ends byte_range) (byte_len (text_of self.now))))
-            self.now) }
+            bytes_in (R.ends byte_range) self.now) }
     {
         self.whole().get_byte_slice(byte_range)
     }

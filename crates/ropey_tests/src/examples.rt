@@ -1,6 +1,6 @@
 //! Each public type of `ropey` in use.
 
-use ropey::{Error, Rope, RopeBuilder, RopeSlice, TextRange};
+use ropey::{Ends, Error, Rope, RopeBuilder, RopeSlice, TextRange};
 use std::test::Fail;
 
 #[test]
@@ -33,6 +33,36 @@ fn rope_builder(rt: HostRuntime) -> Result<(), Fail> {
 }
 
 #[test]
+fn bytes(rt: HostRuntime) -> Result<(), Fail> {
+    let rope = Rope::from_str(rt.alloc(), "aé")?;
+    let mut bytes = rope.bytes();
+    assert_eq!(rt; bytes.len(), 3);
+    assert_eq!(rt; bytes.next(), Some(b'a'));
+    assert_eq!(rt; bytes.next(), Some(0xC3));
+    assert_eq!(rt; bytes.prev(), Some(0xC3));
+    let mut all = rope.bytes_at(rope.len_bytes()).reversed();
+    assert_eq!(rt; all.next(), Some(0xA9));
+    assert!(rt; rope.get_bytes_at(3).is_some());
+    assert!(rt; rope.get_bytes_at(4).is_none());
+    Ok(())
+}
+
+#[test]
+fn chars(rt: HostRuntime) -> Result<(), Fail> {
+    let rope = Rope::from_str(rt.alloc(), "aé🐸")?;
+    let mut chars = rope.chars();
+    assert_eq!(rt; chars.next(), Some('a'));
+    let mut back = chars.clone()?.reversed();
+    assert_eq!(rt; back.next(), Some('a'));
+    assert_eq!(rt; back.next(), None);
+    assert_eq!(rt; chars.next(), Some('é'));
+    assert_eq!(rt; rope.chars_at(rope.len_chars()).prev(), Some('🐸'));
+    assert!(rt; rope.get_chars_at(3).is_some());
+    assert!(rt; rope.get_chars_at(4).is_none());
+    Ok(())
+}
+
+#[test]
 fn chunks(rt: HostRuntime) -> Result<(), Fail> {
     let rope = Rope::from_chunks(rt.alloc(), ["one\r\n", "two"])?;
     let mut text = String::new(rt.alloc());
@@ -40,6 +70,15 @@ fn chunks(rt: HostRuntime) -> Result<(), Fail> {
         text.push_str(chunk)?;
     }
     assert!(rt; text.as_str() == "one\r\ntwo");
+    let (mut behind, byte, char, line) = rope.chunks_at_byte(rope.len_bytes());
+    assert!(rt; (byte, char, line) == (8, 8, 1));
+    assert!(rt; behind.prev() == Some("one\r\ntwo"));
+    let mut ahead = rope.chunks_at_char(0).0;
+    assert!(rt; ahead.next() == Some("one\r\ntwo"));
+    assert!(rt; rope.chunks_at_line_break(rope.len_lines()).1 == 8);
+    assert!(rt; rope.get_chunks_at_byte(9).is_none());
+    assert!(rt; rope.get_chunks_at_char(9).is_none());
+    assert!(rt; rope.get_chunks_at_line_break(3).is_none());
     let empty = Rope::new(rt.alloc());
     assert!(rt; empty.chunks().next().is_none());
     Ok(())
@@ -103,6 +142,15 @@ fn text_range(rt: HostRuntime) -> Result<(), Fail> {
     assert!(rt; first_char(&rope, ..=2) == Some('o'));
     assert!(rt; first_char(&rope, ..) == Some('o'));
     assert!(rt; first_char(&rope, ..=3).is_none());
+
+    // What a range tells of its ends.
+    let ends = (1..=2).ends();
+    assert!(rt; ends.start == Some(1) && ends.end == Some(3));
+    let open = Ends {
+        start: None,
+        end: None,
+    };
+    assert!(rt; (..).ends() == open);
     Ok(())
 }
 

@@ -13,3 +13,5 @@ pub mod ChunkWalks
 pub mod ByteWalks
 pub mod CharWalks
 pub mod Edges
+pub mod LineStarts
+pub mod LineWalks

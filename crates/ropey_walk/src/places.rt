@@ -20,9 +20,9 @@ use str_indices::{chars, utf16};
 /// A byte index in a chunk, with what stands before the chunk.
 #[derive(Clone, Copy)]
 pub(crate) struct Place<'a> {
-    text: &'a str,
-    start: Counts,
-    at: usize,
+    pub(crate) text: &'a str,
+    pub(crate) start: Counts,
+    pub(crate) at: usize,
 }
 
 impl<'a> Place<'a> {

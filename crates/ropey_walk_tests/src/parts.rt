@@ -42,7 +42,7 @@ fn with_leaf(
 }
 
 /// The tree of a text that is cut behind each character whose bit in `cuts` is set.
-fn tree_of_parts(
+pub(crate) fn tree_of_parts(
     rt: &impl Abort,
     alloc: Global,
     chars: &[char],
@@ -65,7 +65,7 @@ fn tree_of_parts(
     Ok(tree)
 }
 
-fn slice_over(tree: &Option<Rc<Node>>) -> RopeSlice<'_> {
+pub(crate) fn slice_over(tree: &Option<Rc<Node>>) -> RopeSlice<'_> {
     match tree {
         None => RopeSlice::new(None),
         Some(node) => {
@@ -76,7 +76,7 @@ fn slice_over(tree: &Option<Rc<Node>>) -> RopeSlice<'_> {
 }
 
 /// The text of `len` characters with this number among those of CR, LF, `a` and `é`.
-fn small_text(alloc: Global, len: usize, number: usize) -> Result<Vec<char>, Fail> {
+pub(crate) fn small_text(alloc: Global, len: usize, number: usize) -> Result<Vec<char>, Fail> {
     let mut chars = Vec::new(alloc);
     let mut rest = number;
     for _ in 0..len {
