@@ -10,19 +10,15 @@ ghost use Rattle.ropey_tree.specs.Cutting.{IsText};
 ghost use Rattle.ropey_tree.specs.Nodes.{AreNodes, all_pieces};
 ghost use Rattle.ropey_tree.specs.Siblings.{views};
 ghost use Rattle.ropey.specs.Chunks.{text_of, joined, line_breaks, ShowsChunk};
-ghost use Rattle.ropey.specs.Iter.{CutsNoCrLf};
 ghost use Rattle.ropey_walk.specs.Slices.{slice_pieces};
-ghost use Rattle.ropey_walk.specs.Standing.{StandsAt};
 
-use crate::iter::Chunks;
 use crate::rope_builder::RopeBuilder;
 use ropey_tree::MAX_BYTES;
 use ropey_tree::builds::build;
-use ropey_tree::counts::By;
 use ropey_tree::cutter::leaves_of;
 use ropey_tree::error::Error;
 use ropey_tree::node::Node;
-use ropey_walk::slice::{Chunk, RopeSlice};
+use ropey_walk::slice::RopeSlice;
 use std::alloc::{AllocError, Global};
 use std::marker::Model;
 use std::rc::Rc;
@@ -183,15 +179,6 @@ impl Rope {
         self.whole().len_lines()
     }
 
-    /// The chunk in which place `i` of a measure lies.
-    pub(crate) fn chunk(&self, by: By, i: usize) -> Chunk<'_>
-        ensures stands { StandsAt self.now by i (chars result.text.now) result.start }
-        ensures cut { IsText self.now }
-        ensures utf8 { IsUtf8 result.text.now }
-    {
-        self.whole().chunk(by, i)
-    }
-
     /// The chunk that holds a byte, and then the byte, the character and the line at which the chunk
     /// starts. The byte index is at most `len_bytes`, and there it is the last chunk; an empty text
     /// shows an empty one at 0, 0, 0. `O(log n)`.
@@ -219,27 +206,13 @@ impl Rope {
         }
     }
 
-    /// The chunks, from the first on: texts of 1 to 984 bytes, which are the text together, with no
-    /// character and no CR LF cut between them. It takes no memory; a step costs `O(log n)`.
-    pub fn chunks(&self) -> Chunks<'_>
-        ensures pieces { result ≡ self.now }
-        ensures cut { IsText self.now }
-        ensures whole { CutsNoCrLf self.now }
-    {
-        Chunks::new(self)
-    }
-
     /// The whole text. The one refusal is `Memory`, and the rope stays as it is. `O(n)`.
     pub fn to_text(&self) -> Result<String, Error>
         ensures text { IfOk result (λ text. string_bytes text ≡
             encode_utf8_all (text_of self.now)) }
         ensures refused { IfErr result (λ error. error ≡ Error.Memory) }
     {
-        let mut text = String::with_capacity(self.alloc, self.len_bytes())?;
-        for chunk in self.chunks() {
-            text.push_str(chunk)?;
-        }
-        Ok(text)
+        self.whole().to_text(self.alloc)
     }
 
     /// How many bytes the rope has room for without a new chunk: `MAX_BYTES` for each, and

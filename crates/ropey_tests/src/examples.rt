@@ -1,6 +1,6 @@
 //! Each public type of `ropey` in use.
 
-use ropey::{Error, Rope, RopeBuilder};
+use ropey::{Ends, Error, Rope, RopeBuilder, RopeSlice, TextRange};
 use std::test::Fail;
 
 #[test]
@@ -33,6 +33,36 @@ fn rope_builder(rt: HostRuntime) -> Result<(), Fail> {
 }
 
 #[test]
+fn bytes(rt: HostRuntime) -> Result<(), Fail> {
+    let rope = Rope::from_str(rt.alloc(), "aé")?;
+    let mut bytes = rope.bytes();
+    assert_eq!(rt; bytes.len(), 3);
+    assert_eq!(rt; bytes.next(), Some(b'a'));
+    assert_eq!(rt; bytes.next(), Some(0xC3));
+    assert_eq!(rt; bytes.prev(), Some(0xC3));
+    let mut all = rope.bytes_at(rope.len_bytes()).reversed();
+    assert_eq!(rt; all.next(), Some(0xA9));
+    assert!(rt; rope.get_bytes_at(3).is_some());
+    assert!(rt; rope.get_bytes_at(4).is_none());
+    Ok(())
+}
+
+#[test]
+fn chars(rt: HostRuntime) -> Result<(), Fail> {
+    let rope = Rope::from_str(rt.alloc(), "aé🐸")?;
+    let mut chars = rope.chars();
+    assert_eq!(rt; chars.next(), Some('a'));
+    let mut back = chars.clone()?.reversed();
+    assert_eq!(rt; back.next(), Some('a'));
+    assert_eq!(rt; back.next(), None);
+    assert_eq!(rt; chars.next(), Some('é'));
+    assert_eq!(rt; rope.chars_at(rope.len_chars()).prev(), Some('🐸'));
+    assert!(rt; rope.get_chars_at(3).is_some());
+    assert!(rt; rope.get_chars_at(4).is_none());
+    Ok(())
+}
+
+#[test]
 fn chunks(rt: HostRuntime) -> Result<(), Fail> {
     let rope = Rope::from_chunks(rt.alloc(), ["one\r\n", "two"])?;
     let mut text = String::new(rt.alloc());
@@ -40,8 +70,87 @@ fn chunks(rt: HostRuntime) -> Result<(), Fail> {
         text.push_str(chunk)?;
     }
     assert!(rt; text.as_str() == "one\r\ntwo");
+    let (mut behind, byte, char, line) = rope.chunks_at_byte(rope.len_bytes());
+    assert!(rt; (byte, char, line) == (8, 8, 1));
+    assert!(rt; behind.prev() == Some("one\r\ntwo"));
+    let mut ahead = rope.chunks_at_char(0).0;
+    assert!(rt; ahead.next() == Some("one\r\ntwo"));
+    assert!(rt; rope.chunks_at_line_break(rope.len_lines()).1 == 8);
+    assert!(rt; rope.get_chunks_at_byte(9).is_none());
+    assert!(rt; rope.get_chunks_at_char(9).is_none());
+    assert!(rt; rope.get_chunks_at_line_break(3).is_none());
     let empty = Rope::new(rt.alloc());
     assert!(rt; empty.chunks().next().is_none());
+    Ok(())
+}
+
+#[test]
+fn rope_slice(rt: HostRuntime) -> Result<(), Fail> {
+    let rope = Rope::from_str(rt.alloc(), "one\r\ntwo🐸")?;
+    // A slice counts its own text: this one starts with the LF, which is a break for it.
+    let slice = rope.get_slice(4..).unwrap_or(RopeSlice::new(None));
+    assert_eq!(rt; slice.len_chars(), 5);
+    assert_eq!(rt; slice.len_lines(), 2);
+    assert!(rt; slice.as_str() == Some("\ntwo🐸"));
+    let copy = slice;
+    assert!(rt; copy.get_char(4) == Some('🐸'));
+    assert!(rt;
+        slice
+            .get_slice(1..=3)
+            .is_some_and(|part| part.as_str() == Some("two"))
+    );
+    assert!(rt; rope.get_slice(4..10).is_none());
+    assert!(rt; rope.get_byte_slice(9..).is_none());
+
+    // Where a `get_` form answers a slice, the plain form has its condition.
+    if rope.get_slice(..5).is_some() && rope.get_byte_slice(8..).is_some() {
+        assert!(rt; rope.slice(..5).as_str() == Some("one\r\n"));
+        assert!(rt; rope.byte_slice(8..).as_str() == Some("🐸"));
+    }
+    Ok(())
+}
+
+#[test]
+fn lines(rt: HostRuntime) -> Result<(), Fail> {
+    let rope = Rope::from_str(rt.alloc(), "one\r\ntwo\n")?;
+    assert_eq!(rt; rope.len_lines(), 3);
+    assert!(rt; rope.line(0).as_str() == Some("one\r\n"));
+    assert!(rt;
+        rope.get_line(1)
+            .is_some_and(|line| line.as_str() == Some("two\n"))
+    );
+    assert!(rt;
+        rope.get_line(2)
+            .is_some_and(|line| line.as_str() == Some(""))
+    );
+    assert!(rt; rope.get_line(3).is_none());
+    Ok(())
+}
+
+/// The first character of a range.
+fn first_char<R: TextRange>(rope: &Rope, char_range: R) -> Option<char> {
+    rope.get_slice(char_range)?.get_char(0)
+}
+
+#[test]
+fn text_range(rt: HostRuntime) -> Result<(), Fail> {
+    let rope = Rope::from_str(rt.alloc(), "one")?;
+    assert!(rt; first_char(&rope, 1..2) == Some('n'));
+    assert!(rt; first_char(&rope, 1..=2) == Some('n'));
+    assert!(rt; first_char(&rope, 2..) == Some('e'));
+    assert!(rt; first_char(&rope, ..2) == Some('o'));
+    assert!(rt; first_char(&rope, ..=2) == Some('o'));
+    assert!(rt; first_char(&rope, ..) == Some('o'));
+    assert!(rt; first_char(&rope, ..=3).is_none());
+
+    // What a range tells of its ends.
+    let ends = (1..=2).ends();
+    assert!(rt; ends.start == Some(1) && ends.end == Some(3));
+    let open = Ends {
+        start: None,
+        end: None,
+    };
+    assert!(rt; (..).ends() == open);
     Ok(())
 }
 

@@ -21,6 +21,24 @@ pub enum Error {
     /// A UTF-16 code unit index past the number of units: the index, and the number.
     #[error("UTF-16 code unit index {0} is past the {1} units of the text")]
     Utf16IndexOutOfBounds(usize, usize),
+    /// A range of characters that starts above its end: the start, and the end, exclusive.
+    #[error("character range starts at {0}, above its end at {1}")]
+    CharRangeInvalid(usize, usize),
+    /// A range of bytes that starts above its end: the start, and the end, exclusive.
+    #[error("byte range starts at {0}, above its end at {1}")]
+    ByteRangeInvalid(usize, usize),
+    /// A range of characters that goes past the number of characters: the start and the end,
+    /// exclusive, each none where it is open, and the number.
+    #[error("character range goes past the {2} characters of the text")]
+    CharRangeOutOfBounds(Option<usize>, Option<usize>, usize),
+    /// A range of bytes that goes past the text's length in bytes: the start and the end,
+    /// exclusive, each none where it is open, and the length.
+    #[error("byte range goes past the {2} bytes of the text")]
+    ByteRangeOutOfBounds(Option<usize>, Option<usize>, usize),
+    /// A range of bytes that starts or ends inside a character: the start and the end, exclusive,
+    /// each none where it is open.
+    #[error("byte range starts or ends inside a character")]
+    ByteRangeNotCharBoundary(Option<usize>, Option<usize>),
     /// Memory was refused.
     #[error("out of memory")]
     Memory,

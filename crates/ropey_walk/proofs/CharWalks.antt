@@ -1,5 +1,5 @@
 -- The characters of a text, read in a chunk.
-use Rattle.std.proofs.Common.{◌≡◌, ℕ, ◌+◌, ◌-◌, ◌<◌, ◌≤◌, inl, inr, List, [], ◌∷◌, ◌++◌, length, take, drop, refl, ap, arith, sym, ◌∙◌, subst, append_assoc, length-append, length-drop, take-append-drop, length-take-le}
+use Rattle.std.proofs.Common.{◌≡◌, ℕ, ◌+◌, ◌-◌, ◌<◌, ◌≤◌, inl, inr, List, [], ◌∷◌, ◌++◌, length, take, drop, refl, ap, arith, sym, ◌∙◌, subst, append_assoc, length-append, take-append-drop, length-take-le}
 use Rattle.std.specs.Prelude.{encode_utf8_all, encode_utf8}
 use Rattle.std.specs.Str.{IsUtf8, chars, IsCharBoundary}
 use Rattle.std.proofs.lemmas.List.{append_cancel_right, drop_at, take_at}
@@ -18,7 +18,7 @@ use Rattle.ropey_walk.proofs.Reading.{place_of_front}
 use Rattle.ropey_walk.proofs.TwoWay.{Crosses, crosses}
 
 -- ---- over one character of a chunk
-chars_cut : (chunk : List ℕ) (at : ℕ) → IsUtf8 chunk → IsCharBoundary chunk at → chars chunk ≡ chars (take at chunk) ++ chars (drop at chunk)
+pub chars_cut : (chunk : List ℕ) (at : ℕ) → IsUtf8 chunk → IsCharBoundary chunk at → chars chunk ≡ chars (take at chunk) ++ chars (drop at chunk)
 chars_cut chunk at utf8 boundary =
     ap chars (sym (take-append-drop at chunk)) ∙ chars-append (take at chunk) (drop at chunk) (IsUtf8-take chunk at utf8 boundary)
 

@@ -12,3 +12,6 @@ pub mod TwoWay
 pub mod ChunkWalks
 pub mod ByteWalks
 pub mod CharWalks
+pub mod Edges
+pub mod LineStarts
+pub mod LineWalks

@@ -182,14 +182,17 @@ whole_count may_meet count ends law meets none text =
     ap (λ t. ends_up_to d (ends t)) (sym whole) ∙ law text [] [] d (meets text) (meets (text ++ [])) (omega arith) long
     ∙ ap (λ n. count text + ends_up_to n (ends [])) same ∙ omega (arith, none)
 
--- and so does the front of a text
-pub whole_chars : EndsAddUp AnyTexts length char_ends → (front back : List ℕ) → ends_up_to (byte_len front) (char_ends (front ++ back)) ≡ length front
-whole_chars law front back =
+-- and so does the front of a text, for characters and code units
+pub whole_front : (count : List ℕ → ℕ) (ends : List ℕ → List ℕ) → EndsAddUp AnyTexts count ends → ends_up_to 0 (ends []) ≡ 0 → (front back : List ℕ) → ends_up_to (byte_len front) (ends (front ++ back)) ≡ count front
+whole_front count ends law none front back =
     let d = byte_len front in
     let long : d ≤ byte_len (front ++ []) = omega (arith, byte_len-append front []) in
     let whole : front ++ [] ++ back ≡ front ++ back = ap (λ t. t ++ back) (append-nil front) in
     let same : d - d ≡ 0 = omega arith in
-    ap (λ t. ends_up_to d (char_ends t)) (sym whole) ∙ law front [] back d tt tt (omega arith) long ∙ ap (λ n. length front + ends_up_to n []) same ∙ omega arith
+    ap (λ t. ends_up_to d (ends t)) (sym whole) ∙ law front [] back d tt tt (omega arith) long ∙ ap (λ n. count front + ends_up_to n (ends [])) same ∙ omega (arith, none)
+
+pub whole_chars : EndsAddUp AnyTexts length char_ends → (front back : List ℕ) → ends_up_to (byte_len front) (char_ends (front ++ back)) ≡ length front
+whole_chars law = whole_front length char_ends law refl
 
 -- a count of what ends up to a place, and that it fits
 pub record Tells (result count : ℕ) : Type 0 where

@@ -58,7 +58,7 @@ whole_clip pieces start len e h text =
     ap (λ n. clip n (start.chars + len.chars) pieces) first ∙ ap (λ n. clip 0 n pieces) end ∙ clip-all pieces text.cut
 
 -- ---- no measure is above the bytes
-amount-below : (by : By) (t : List ℕ) → amount by (counts_of t) ≤ byte_len t
+pub amount-below : (by : By) (t : List ℕ) → amount by (counts_of t) ≤ byte_len t
 amount-below Bytes t = omega arith
 amount-below Chars t = length-le-encodes t
 amount-below Units t = units-le-bytes t

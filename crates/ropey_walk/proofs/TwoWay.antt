@@ -1,8 +1,10 @@
 -- A place between the items of a list.
-use Rattle.std.proofs.Common.{◌≡◌, ℕ, suc, ◌+◌, List, [], ◌∷◌, ◌++◌, ◌<◌, length, take, drop, get_or, refl, ap, arith, sym, ◌∙◌, length-append, append_assoc, take-append-drop, length-take-le}
+use Rattle.std.proofs.Common.{◌≡◌, ℕ, suc, ◌+◌, List, [], ◌∷◌, ◌++◌, ◌-◌, ◌<◌, ◌≤◌, length, take, drop, map, get_or, refl, ap, arith, sym, ◌∙◌, length-append, length-drop, append_assoc, take-append-drop, length-take-le}
 use Rattle.std.proofs.Math.Seq.{drop-cons}
-use Rattle.std.specs.Prelude.{reverse, Bool, true, false, if◌then◌else◌}
-use Rattle.std.proofs.lemmas.List.{drop_at, take_at, reverse-append, append-nil}
+use Rattle.std.specs.Prelude.{reverse, Bool, true, false}
+use Rattle.std.specs.List.{range_with_len}
+use Rattle.std.proofs.lemmas.List.{drop_at, take_at, reverse-append, append-nil, length-reverse}
+use Rattle.std.proofs.lemmas.List.FromFn.{length-map-range_with_len, get_or-map-range_with_len}
 use Rattle.ropey_walk.specs.TwoWay.{TwoWay, turned, before_item, facing}
 
 pub ahead_of : {A : Type 0} → (items front rest : List A) (n : ℕ) → items ≡ front ++ rest → n ≡ length front → (before_item n items).ahead ≡ rest
@@ -54,15 +56,32 @@ crosses_back is_reversed n m items item seen back is over =
     }
 
 -- ---- at an index
-pub crosses_at : (items : List ℕ) (n m : ℕ) (item : ℕ) → n < length items → item ≡ get_or items n 0 → m ≡ n + 1 → Crosses item (before_item n items) (before_item m items)
-crosses_at items n m item within is next =
+pub crosses_item : {A : Type 0} → (items : List A) (n m : ℕ) (item d : A) → n < length items → item ≡ get_or items n d → m ≡ n + 1 → Crosses item (before_item n items) (before_item m items)
+crosses_item items n m item d within is next =
     let rest = drop (suc n) items in
-    let parts : items ≡ take n items ++ item ∷ rest = sym (take-append-drop n items) ∙ ap (λ xs. take n items ++ xs) (drop-cons items n 0 within ∙ ap (λ x. x ∷ rest) (sym is)) in
+    let parts : items ≡ take n items ++ item ∷ rest = sym (take-append-drop n items) ∙ ap (λ xs. take n items ++ xs) (drop-cons items n d within ∙ ap (λ x. x ∷ rest) (sym is)) in
     let len : n ≡ length (take n items) = sym (length-take-le n items (omega (arith, within))) in
     crosses items (take n items) item rest n m parts len (next ∙ ap (λ k. k + 1) len)
+
+pub crosses_at : (items : List ℕ) (n m : ℕ) (item : ℕ) → n < length items → item ≡ get_or items n 0 → m ≡ n + 1 → Crosses item (before_item n items) (before_item m items)
+crosses_at items n m item within is next = crosses_item items n m item 0 within is next
+
+-- the items by their numbers
+pub crosses_mapped : {A : Type 0} → (item_of : ℕ → A) (count n m : ℕ) → n < count → m ≡ n + 1
+    → Crosses (item_of n) (before_item n (map item_of (range_with_len 0 count))) (before_item m (map item_of (range_with_len 0 count)))
+crosses_mapped item_of count n m within next =
+    let items = map item_of (range_with_len 0 count) in
+    crosses_item items n m (item_of n) (item_of 0) (omega (arith, within, length-map-range_with_len item_of 0 count)) (sym (get_or-map-range_with_len item_of 0 count n n (item_of 0) within (omega arith))) next
 
 pub none_ahead : {A : Type 0} → (items : List A) (n : ℕ) → n ≡ length items → (before_item n items).ahead ≡ []
 none_ahead items n e = ahead_of items items [] n (sym (append-nil items)) e
 
 pub none_behind : {A : Type 0} → (items : List A) (n : ℕ) → n ≡ 0 → (before_item n items).behind ≡ []
 none_behind items n e = behind_of items [] items n refl e
+
+-- ---- how many there are
+pub ahead_count : {A : Type 0} → (items : List A) (n : ℕ) → length (before_item n items).ahead ≡ length items - n
+ahead_count items n = length-drop n items
+
+pub behind_count : {A : Type 0} → (items : List A) (n : ℕ) → n ≤ length items → length (before_item n items).behind ≡ n
+behind_count items n within = length-reverse (take n items) ∙ length-take-le n items within

@@ -26,3 +26,7 @@ byte_of_unit text unit = slice_index_or (unit_starts text) unit (byte_len text)
 -- where a line starts, and the text's end past the last
 abbrev pub byte_of_line : List ℕ → ℕ → ℕ
 byte_of_line text line = end_place (break_ends is_break text) line (byte_len text)
+
+-- the character with which a line starts, and the number of characters past the last line
+abbrev pub char_of_line : List ℕ → ℕ → ℕ
+char_of_line text line = char_of_byte text (byte_of_line text line)

@@ -4,7 +4,13 @@ use Rattle.std.specs.Str.{chars, IsUtf8, IsCharBoundary}
 use Rattle.std.specs.Borrow.{Bor}
 use Rattle.str_indices.specs.Text.{byte_len, NoCrLfBetween}
 use Rattle.ropey_walk.specs.Chunks.{text_of, line_breaks}
+use Rattle.ropey_walk.specs.Conversions.{byte_of_line, char_of_line}
+use Rattle.ropey_walk.specs.Standing.{IsPlaceIn}
+use Rattle.ropey_walk.specs.Slices.{slice_pieces}
 use Rattle.ropey_walk.specs.TwoWay.{TwoWay, before_item, GivesNext}
+use Rattle.ropey_walk.specs.declared.slice.RopeSlice.{RopeSlice}
+use Rattle.ropey_walk.specs.declared.iter.lines.LinePlace.{LinePlace}
+use Rattle.ropey_tree.specs.Counts.{counts_of}
 
 -- ---- chunks
 -- a step that gives a chunk, of which the list has the characters
@@ -43,6 +49,19 @@ pub record IsCharPlace (text : List ℕ) (char_idx : ℕ) (chunk : List ℕ) (at
   pub after : List ℕ
   pub parts : text ≡ before ++ chars (take at chunk) ++ (chars (drop at chunk) ++ after)
   pub char_is : char_idx ≡ length (before ++ chars (take at chunk))
+
+-- ---- lines
+-- a step that gives a line, of which the list has the pieces
+abbrev pub GivesLine : TwoWay (List (List ℕ)) → Option RopeSlice → TwoWay (List (List ℕ)) → Type 0
+GivesLine old given new = GivesNext slice_pieces old given new
+
+-- the place where a line of a text starts, or the text's end, in a chunk
+pub record IsLinePlace (text : List ℕ) (line : LinePlace) : Type 0 where
+  pub utf8 : IsUtf8 line.place.text.now
+  pub boundary : IsCharBoundary line.place.text.now line.place.at
+  pub place : IsPlaceIn text (chars line.place.text.now) line.place.start line.place.at
+  pub starts : line.place.start.bytes + line.place.at ≡ byte_of_line text line.line_idx
+  pub counted : line.before ≡ counts_of (take (char_of_line text line.line_idx) text)
 
 -- ---- chunks from a place
 -- more than i of a measure stand up to the end of the first piece, if there is one

@@ -1,7 +1,7 @@
 -- Laws of the definitions, for every text that is cut into pieces.
-use Rattle.std.specs.Prelude.{◌≡◌, ℕ, false, List, ◌++◌}
-use Rattle.str_indices.specs.Text.{breaks, break_ends, NoCrLfBetween}
-use Rattle.str_indices.specs.Laws.{LosesBreakInCrLf, EndsAddUp, EndsBehind, RisesWithPlace}
+use Rattle.std.specs.Prelude.{◌≡◌, ℕ, false, List, ◌++◌, length}
+use Rattle.str_indices.specs.Text.{breaks, break_ends, char_ends, NoCrLfBetween}
+use Rattle.str_indices.specs.Laws.{LosesBreakInCrLf, JoinsEnds, ComesBack, AnyTexts, EndsAddUp, PlacesAddUp, EndsAreBoundaries, EndsBehind, RisesWithPlace, RisesWithIndex}
 use Rattle.ropey_tree.specs.Breaks.{is_break}
 use Rattle.ropey_tree.specs.Cutting.{IsCutting, cuts_cr_lf}
 use Rattle.ropey_walk.specs.Chunks.{text_of}
@@ -16,3 +16,14 @@ pub record BreaksOfParts : Type 0 where
   pub whole : EndsAddUp NoCrLfBetween (breaks is_break) (break_ends is_break)
   pub behind : EndsBehind (break_ends is_break)
   pub rises : RisesWithPlace (break_ends is_break)
+
+-- what is known of the places where lines start
+pub record LineStarts : Type 0 where
+  pub breaks_are : BreaksOfParts
+  pub joined : JoinsEnds is_break
+  pub comes_back : ComesBack (break_ends is_break)
+  pub rises : RisesWithIndex (break_ends is_break)
+  pub boundaries : EndsAreBoundaries (break_ends is_break)
+  pub part : PlacesAddUp NoCrLfBetween (breaks is_break) (break_ends is_break)
+  pub chars : EndsAddUp AnyTexts length char_ends
+  pub chars_rise : RisesWithPlace char_ends

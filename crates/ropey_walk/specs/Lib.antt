@@ -5,5 +5,7 @@ pub mod Laws
 pub mod Clips
 pub mod Parts
 pub mod Slices
+pub mod Lines
 pub mod TwoWay
 pub mod Iter
+pub mod Ranges

@@ -1,4 +1,4 @@
-//! Iterators over a text: its bytes, its characters and its chunks.
+//! Iterators over a text: its bytes, its characters, its lines and its chunks.
 //!
 //! An iterator stands between two items, or before the first or behind the last. `next` gives the item
 //! ahead and moves behind it, `prev` gives the item behind and moves before it, and `reverse` turns the
@@ -13,16 +13,19 @@ ghost use Rattle.ropey_tree.specs.Counts.{counts_of, amount};
 ghost use Rattle.ropey_walk.specs.Chunks.{line_breaks, IsText};
 ghost use Rattle.ropey_walk.specs.TwoWay.{before_item};
 ghost use Rattle.ropey_walk.specs.Iter.{StandsBefore, CutsNoCrLf};
+ghost use Rattle.ropey_walk.specs.Lines.{lines_of};
 ghost use Rattle.ropey_walk.specs.Slices.{slice_pieces, slice_text};
 
 mod bytes;
 mod chars;
 mod chunks;
+mod lines;
 
 use crate::slice::RopeSlice;
 pub use bytes::Bytes;
 pub use chars::Chars;
 pub use chunks::Chunks;
+pub use lines::Lines;
 use ropey_tree::counts::By;
 use ropey_tree::error::Error;
 use std::alloc::Global;
@@ -79,6 +82,35 @@ impl<'a> RopeSlice<'a> {
     {
         if char_idx <= self.counts().chars {
             Some(self.chars_at(char_idx))
+        } else {
+            None
+        }
+    }
+
+    /// The lines, from the first on: `len_lines` slices, each with the break that ends it. The last has
+    /// no break, and may be empty. `O(log n)`.
+    pub fn lines(&self) -> Lines<'a>
+        ensures { result ≡ before_item 0 (lines_of (slice_pieces self.now)) }
+    {
+        Lines::at(*self, 0)
+    }
+
+    /// The lines, from the place before one of them; at `len_lines` from behind the last. The line index
+    /// is at most `len_lines`. `O(log n)`.
+    pub fn lines_at(&self, line_idx: usize) -> Lines<'a>
+        requires { line_idx ≤ line_breaks (slice_text self.now) + 1 }
+        ensures { result ≡ before_item line_idx (lines_of (slice_pieces self.now)) }
+    {
+        Lines::at(*self, line_idx)
+    }
+
+    /// `lines_at`, and none past `len_lines`. `O(log n)`.
+    pub fn get_lines_at(&self, line_idx: usize) -> Option<Lines<'a>>
+        ensures { SomeIff result (line_idx ≤ line_breaks (slice_text self.now) + 1)
+            (before_item line_idx (lines_of (slice_pieces self.now))) }
+    {
+        if line_idx <= self.len_lines() {
+            Some(self.lines_at(line_idx))
         } else {
             None
         }

@@ -1,7 +1,7 @@
 //! Laws of the definitions that the contracts of this crate cite. Each function does nothing: its
 //! contract is the law.
 
-ghost use Rattle.ropey_walk.specs.Laws.{NoCuttingCutsCrLf, BreaksOfParts};
+ghost use Rattle.ropey_walk.specs.Laws.{NoCuttingCutsCrLf, BreaksOfParts, LineStarts};
 
 /// No CR LF is cut between the pieces of a rope or a slice.
 pub fn chunks_cut_no_cr_lf()
@@ -15,5 +15,19 @@ pub(crate) fn breaks_of_parts()
     str_indices::laws::breaks_of_joined_texts();
     str_indices::laws::ends_of_a_part();
     str_indices::laws::ends_behind_a_boundary();
+    str_indices::laws::from_byte_idx_is_monotone();
+}
+
+/// Where the lines of a rope start: in joined texts and in a part of a text, and by index.
+pub(crate) fn line_starts()
+    ensures { LineStarts }
+{
+    breaks_of_parts();
+    str_indices::laws::break_ends_of_joined_texts();
+    str_indices::laws::conversion_there_and_back();
+    str_indices::laws::to_byte_idx_is_monotone();
+    str_indices::laws::to_byte_idx_is_a_boundary();
+    str_indices::laws::places_of_a_part();
+    str_indices::laws::ends_of_a_part();
     str_indices::laws::from_byte_idx_is_monotone();
 }

@@ -6,6 +6,9 @@ mod conversions;
 pub mod iter;
 pub mod laws;
 mod places;
+pub mod ranges;
 pub mod slice;
+mod slicing;
 
+pub use crate::ranges::TextRange;
 pub use crate::slice::RopeSlice;

@@ -1,14 +1,17 @@
 //! Places in a rope: a chunk, and a byte index in it.
 
-ghost use Rattle.std.specs.Prelude.{◌≡◌, ◌+◌, ◌-◌, ◌<◌, ◌≤◌, length};
-ghost use Rattle.std.specs.Str.{chars, IsUtf8};
+ghost use Rattle.std.specs.Prelude.{◌≡◌, ◌+◌, ◌-◌, ◌<◌, ◌≤◌, ◌↔◌, length, take, IsTrue, encode_utf8_all};
+ghost use Rattle.std.specs.Str.{chars, IsUtf8, IsCharBoundary};
 ghost use Rattle.str_indices.specs.Text.{units};
 ghost use Rattle.str_indices.specs.Text.{byte_len};
+ghost use Rattle.ropey_tree.specs.Counts.{counts_of};
 ghost use Rattle.ropey_tree.specs.Cutting.{IsText};
 ghost use Rattle.ropey_walk.specs.Chunks.{line_breaks};
 ghost use Rattle.ropey_walk.specs.Conversions.{char_of_byte, unit_of_byte, line_of_byte, byte_of_char, byte_of_unit, byte_of_line};
+ghost use Rattle.ropey_walk.specs.Parts.{standing};
 ghost use Rattle.ropey_walk.specs.Standing.{StandsAt, IsPlaceIn};
 
+use crate::laws;
 use crate::slice::{Chunk, RopeSlice};
 use ropey_tree::breaks;
 use ropey_tree::counts::{By, Counts};
@@ -17,9 +20,18 @@ use str_indices::{chars, utf16};
 /// A byte index in a chunk, with what stands before the chunk.
 #[derive(Clone, Copy)]
 pub(crate) struct Place<'a> {
-    text: &'a str,
-    start: Counts,
-    at: usize,
+    pub(crate) text: &'a str,
+    pub(crate) start: Counts,
+    pub(crate) at: usize,
+}
+
+impl<'a> Place<'a> {
+    /// It lies between two characters, or at an end of its chunk.
+    pub(crate) fn is_boundary(&self) -> bool
+        ensures { IsTrue result ↔ IsCharBoundary self.now.text.now self.now.at }
+    {
+        self.text.is_char_boundary(self.at)
+    }
 }
 
 impl<'a> RopeSlice<'a> {
@@ -31,6 +43,9 @@ impl<'a> RopeSlice<'a> {
         ensures stands { IsPlaceIn (slice_text self.now) (chars result.text.now) result.start
             result.at }
         ensures place { result.start.bytes + result.at ≡ byte_idx }
+        ensures boundary { IsCharBoundary (encode_utf8_all (slice_text self.now)) byte_idx ↔
+            IsCharBoundary result.text.now result.at }
+        ensures utf8 { IsUtf8 result.text.now }
     {
         let chunk = self.chunk(By::Bytes, byte_idx);
         Place {
@@ -45,6 +60,8 @@ impl<'a> RopeSlice<'a> {
         ensures stands { IsPlaceIn (slice_text self.now) (chars result.text.now) result.start
             result.at }
         ensures place { result.start.bytes + result.at ≡ byte_of_char (slice_text self.now) char_idx }
+        ensures boundary { IsCharBoundary result.text.now result.at }
+        ensures utf8 { IsUtf8 result.text.now }
     {
         // Laws, for the proof alone.
         str_indices::laws::places_of_a_part();
@@ -96,6 +113,8 @@ impl<'a> RopeSlice<'a> {
         ensures stands { IsPlaceIn (slice_text self.now) (chars result.text.now) result.start
             result.at }
         ensures place { result.start.bytes + result.at ≡ byte_of_line (slice_text self.now) line_idx }
+        ensures boundary { IsCharBoundary result.text.now result.at }
+        ensures utf8 { IsUtf8 result.text.now }
     {
         // Laws, for the proof alone.
         str_indices::laws::places_of_a_part();
@@ -154,5 +173,43 @@ impl<'a> RopeSlice<'a> {
         str_indices::laws::from_byte_idx_is_monotone();
         str_indices::laws::counts_are_at_most_bytes();
         place.start.breaks + breaks::from_byte_idx(place.text, place.at)
+    }
+
+    /// What stands before a place between two characters.
+    pub(crate) fn standing_at(&self, place: &Place<'_>) -> Counts
+        requires place { IsPlaceIn (slice_text self.now) (chars place.now.text.now) place.now.start
+            place.now.at }
+        requires boundary { IsCharBoundary place.now.text.now place.now.at }
+        requires utf8 { IsUtf8 place.now.text.now }
+        ensures chars { result.chars ≡
+            char_of_byte (slice_text self.now) (place.now.start.bytes + place.now.at) }
+        ensures stands { result ≡ standing (slice_text self.now) result.chars }
+    {
+        // Laws, for the proof alone.
+        str_indices::laws::ends_of_a_part();
+        Counts {
+            bytes: self.byte_of(place),
+            chars: self.char_of(place),
+            units: self.unit_of(place),
+            breaks: self.line_of(place),
+        }
+    }
+
+    /// What the text up to a place between two characters counts by itself: of a CR LF that the place
+    /// cuts, the CR is a break.
+    pub(crate) fn counted_to(&self, place: &Place<'_>) -> Counts
+        requires place { IsPlaceIn (slice_text self.now) (chars place.now.text.now) place.now.start
+            place.now.at }
+        requires boundary { IsCharBoundary place.now.text.now place.now.at }
+        requires utf8 { IsUtf8 place.now.text.now }
+        ensures chars { result.chars ≡
+            char_of_byte (slice_text self.now) (place.now.start.bytes + place.now.at) }
+        ensures within { result.chars ≤ length (slice_text self.now) }
+        ensures counted { result ≡ counts_of (take result.chars (slice_text self.now)) }
+    {
+        // Laws, for the proof alone.
+        str_indices::laws::ends_of_a_part();
+        laws::breaks_of_parts();
+        place.start.plus(Counts::of(&place.text[..place.at]))
     }
 }

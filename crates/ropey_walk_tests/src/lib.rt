@@ -4,4 +4,8 @@
 #[cfg(test)]
 mod iterators;
 #[cfg(test)]
+mod parts;
+#[cfg(test)]
+mod plain;
+#[cfg(test)]
 mod slices;

@@ -17,7 +17,7 @@ loop-chunk-init c =
     let start : P text [] [] = Drafted-start pattern text ticks in (
       IsUtf8-nil,
       (
-        subst (λ left. P left (chars (string_bytes c.new-draft.result.front) ++ chars []) c.new-draft.result.rows.items) (sym (c.into_iter-chunk-iterator.ensures.into_iter_gives ∙ c.chunks-chunk-items.ensures.pieces))
+        subst (λ left. P left (chars (string_bytes c.new-draft.result.front) ++ chars []) c.new-draft.result.rows.items) (sym (ap (λ chunks. chunks.ahead) (c.into_iter-chunk-iterator.ensures.into_iter_gives ∙ c.chunks-chunk-items.ensures.pieces)))
             (subst (λ tail. P text tail c.new-draft.result.rows.items) (sym none) (subst (P text []) (sym c.new-draft.ensures.rows) start)),
         refl,
       ),
@@ -29,7 +29,7 @@ returns-in_err-carry-clause-count c =
 
 pub returns-in_err-part-clause-count : goal.returns-in_err-part-clause-count
 returns-in_err-part-clause-count c =
-    let room = Drafted-room _ _ _ _ _ _ _ _ _ c.loop-chunk.invariant.1.0 c.chunks-chunk-items.ensures.whole c.in-Some.ensures.steps.0 in
+    let room = Drafted-room _ _ _ _ _ _ _ _ _ c.loop-chunk.invariant.1.0 c.chunks-chunk-items.ensures.whole c.in-Some.ensures.steps.0.0 in
     omega (arith, room, c.end_lines.ensures.count)
 
 pub loop-chunk-preserved : goal.loop-chunk-preserved
@@ -42,7 +42,7 @@ loop-chunk-preserved c =
     (subst (λ pattern. P pattern c.carry.new.self.rows.items) c.loop-chunk.invariant.1.1 c.in_ok-part.ensures.rows) in (
       search rules,
       (
-        Drafted-more _ _ _ _ _ _ _ _ _ _ front _ _ c.loop-chunk.invariant.1.0 c.chunks-chunk-items.ensures.whole c.in-Some.ensures.steps.0 c.in_ok-carry.ensures.front adds
+        Drafted-more _ _ _ _ _ _ _ _ _ _ front _ _ c.loop-chunk.invariant.1.0 c.chunks-chunk-items.ensures.whole c.in-Some.ensures.steps.0.0 c.in_ok-carry.ensures.front adds
             c.end_lines.ensures.count c.end_lines.ensures.wholes,
         c.end_lines.ensures.finder ∙ c.loop-chunk.invariant.1.1,
       ),
@@ -53,7 +53,7 @@ returns-clause-rows c =
     let tail = chars (string_bytes c.loop-chunk.draft.front) ++ chars c.loop-chunk.part.now in
     let P : List ℕ → List (List (ℕ × ℕ)) → Type 0 = λ pattern rows. AddsRow pattern tail c.loop-chunk.draft.rows.items rows in
     IfOk-weaker c.finish.result (λ rows. P c.loop-chunk.finder rows.items) _
-    (λ rows adds. Drafted-end _ _ _ _ _ _ _ _ c.loop-chunk.invariant.1.0 c.in-None.ensures.steps.0
+    (λ rows adds. Drafted-end _ _ _ _ _ _ _ _ c.loop-chunk.invariant.1.0 c.in-None.ensures.steps.0.0
     (subst (λ pattern. P pattern rows.items) c.loop-chunk.invariant.1.1 adds))
     c.finish.ensures.rows
 
@@ -63,7 +63,7 @@ returns-clause-few c =
     let P : List ℕ → List (List (ℕ × ℕ)) → Type 0 = λ pattern rows. AddsRow pattern tail c.loop-chunk.draft.rows.items rows in
     IfOk-weaker c.finish.result (λ rows. P c.loop-chunk.finder rows.items) _
     (λ rows adds. pieces-few c.args.text.now c.args.finder.now rows.items c.chunks-chunk-items.ensures.cut.fits
-    (Drafted-end _ _ _ _ _ _ _ _ c.loop-chunk.invariant.1.0 c.in-None.ensures.steps.0 (subst (λ pattern. P pattern rows.items) c.loop-chunk.invariant.1.1 adds)))
+    (Drafted-end _ _ _ _ _ _ _ _ c.loop-chunk.invariant.1.0 c.in-None.ensures.steps.0.0 (subst (λ pattern. P pattern rows.items) c.loop-chunk.invariant.1.1 adds)))
     c.finish.ensures.rows
 
 pub returns-clause-count : goal.returns-clause-count

@@ -1,6 +1,3 @@
-use Rattle.std.proofs.Common.{◌-◌, length}
-use Rattle.std.specs.Str.{chars}
-use Rattle.str_indices.specs.Text.{char_ends, end_place}
 use Rattle.ropey_walk.specs.Slices.{slice_pieces, slice_text}
 use Rattle.ropey_walk.proofs.CharWalks.{HoldsChar, char_held}
 use Rattle.ropey_walk.proofs.iter.chars.place_in_chunk_of.Goals as goal

@@ -1,4 +1,4 @@
-use Rattle.std.proofs.Common.{length, ap, sym, ◌∙◌, ◌++◌}
+use Rattle.std.proofs.Common.{ap, sym, ◌∙◌, ◌++◌}
 use Rattle.std.specs.Prelude.{encode_utf8}
 use Rattle.ropey_walk.proofs.CharWalks.{boundary_behind}
 use Rattle.ropey_walk.proofs.iter.chars.read_on.Goals as goal

@@ -1,4 +1,4 @@
-use Rattle.std.proofs.Common.{◌<◌, ap, sym, ◌∙◌, arith}
+use Rattle.std.proofs.Common.{◌<◌, ap, arith}
 use Rattle.ropey_tree.specs.Counts.{counts_of, amount}
 use Rattle.ropey_walk.specs.Slices.{slice_pieces, slice_text}
 use Rattle.ropey_walk.proofs.ChunkWalks.{all_parts, chunk_parts, stands_before, stands_behind}

@@ -1,4 +1,4 @@
-use Rattle.std.proofs.Common.{◌+◌, ap, sym, ◌∙◌, subst}
+use Rattle.std.proofs.Common.{◌+◌, ap, sym, subst}
 use Rattle.ropey_tree.specs.Cutting.{IsText}
 use Rattle.ropey_walk.specs.Parts.{pieces_under}
 use Rattle.ropey_walk.specs.Slices.{slice_pieces}

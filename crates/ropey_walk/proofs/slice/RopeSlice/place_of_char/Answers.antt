@@ -7,6 +7,7 @@ use Rattle.ropey_walk.specs.Slices.{slice_pieces, slice_text}
 use Rattle.ropey_walk.specs.Conversions.{byte_of_char}
 use Rattle.ropey_walk.specs.Standing.{StandsAt}
 use Rattle.ropey_walk.proofs.Placing.{char_placed, IsPlaced}
+use Rattle.ropey_walk.proofs.Edges.{end_is_boundary}
 use Rattle.ropey_walk.proofs.slice.RopeSlice.place_of_char.Goals as goal
 use Rattle.ropey_walk.proofs.slice.RopeSlice.place_of_char.Goals.{After-to_byte_idx}
 
@@ -24,3 +25,8 @@ returns-clause-stands c = rw c.to_byte_idx.ensures (placed (goal.at.returns-clau
 
 pub returns-clause-place : goal.returns-clause-place
 returns-clause-place c = rw c.to_byte_idx.ensures (placed (goal.at.returns-clause-place c).After-to_byte_idx).place_is
+
+pub returns-clause-boundary : goal.returns-clause-boundary
+returns-clause-boundary c =
+    let r = c.chunk-chunk.result in
+    rw c.to_byte_idx.ensures (end_is_boundary char_ends c.to_byte_idx_is_a_boundary.ensures.chars r.text.now c.chunk-chunk.ensures.utf8 (c.args.char_idx - r.start.chars))

@@ -1,4 +1,3 @@
-use Rattle.std.proofs.Common.{arith, ◌∙◌}
 use Rattle.ropey_walk.specs.Slices.{slice_pieces}
 use Rattle.ropey_walk.proofs.ByteWalks.{chunk_at_byte}
 use Rattle.ropey_walk.proofs.iter.bytes.Bytes.at.Goals as goal

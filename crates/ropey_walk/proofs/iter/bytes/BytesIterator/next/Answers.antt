@@ -1,8 +1,7 @@
-use Rattle.std.proofs.Common.{◌≡◌, ◌≢◌, ◌+◌, ◌-◌, ◌<◌, ℕ, List, length, get_or, refl, ap, sym, ◌∙◌, arith}
+use Rattle.std.proofs.Common.{◌≢◌, ◌+◌, ◌-◌, ◌<◌, ℕ, length, get_or, refl, sym, ◌∙◌, arith}
 use Rattle.std.specs.Prelude.{encode_utf8_all}
 use Rattle.ropey_walk.specs.Slices.{slice_pieces, slice_text}
-use Rattle.ropey_walk.specs.TwoWay.{facing}
-use Rattle.ropey_walk.proofs.TwoWay.{Crosses, crosses_on, crosses_back, faces_on, faces_back, none_ahead, none_behind}
+use Rattle.ropey_walk.proofs.TwoWay.{crosses_on, crosses_back}
 use Rattle.ropey_walk.proofs.ByteWalks.{HoldsByte, chunk_at_byte, crosses_in, part_within}
 use Rattle.ropey_walk.proofs.iter.bytes.BytesIterator.next.Goals as goal
 use Rattle.ropey_walk.proofs.iter.bytes.BytesIterator.next.Goals.{After-chunk-chunk, After-chunk-chunk-then-self-2}

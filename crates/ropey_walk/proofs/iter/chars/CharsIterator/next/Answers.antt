@@ -1,4 +1,4 @@
-use Rattle.std.proofs.Common.{◌≡◌, ◌≢◌, ◌+◌, ◌-◌, ◌≤◌, length, refl, ap, sym, ◌∙◌, arith}
+use Rattle.std.proofs.Common.{◌≢◌, ◌+◌, ◌-◌, length, refl, sym, ◌∙◌, arith}
 use Rattle.ropey_walk.specs.Slices.{slice_text}
 use Rattle.ropey_walk.proofs.TwoWay.{crosses_on, crosses_back}
 use Rattle.ropey_walk.proofs.CharWalks.{char_passed, char_unpassed, char_crossed}

@@ -1,4 +1,4 @@
-use Rattle.std.proofs.Common.{◌≡◌, ◌≢◌, ◌+◌, ℕ, length, refl, ap, sym, ◌∙◌, arith}
+use Rattle.std.proofs.Common.{◌≢◌, ◌+◌, length, refl, ap, sym, ◌∙◌, arith}
 use Rattle.std.specs.Str.{chars}
 use Rattle.std.proofs.lemmas.Str.{encodes-chars}
 use Rattle.str_indices.specs.Text.{byte_len}
@@ -7,8 +7,8 @@ use Rattle.ropey_walk.specs.Slices.{slice_pieces}
 use Rattle.ropey_walk.specs.TwoWay.{facing}
 use Rattle.ropey_walk.specs.Iter.{pieces_before}
 use Rattle.ropey_walk.proofs.Cuts.{text_fits}
-use Rattle.ropey_walk.proofs.TwoWay.{Crosses, crosses_on, crosses_back, faces_on, faces_back}
-use Rattle.ropey_walk.proofs.ChunkWalks.{CrossesChunk, next_chunk, chunk_before, none_ahead, none_behind}
+use Rattle.ropey_walk.proofs.TwoWay.{Crosses, crosses_on, crosses_back, faces_on}
+use Rattle.ropey_walk.proofs.ChunkWalks.{CrossesChunk, next_chunk, chunk_before, none_ahead}
 use Rattle.ropey_walk.proofs.iter.chunks.ChunksIterator.next.Goals as goal
 use Rattle.ropey_walk.proofs.iter.chunks.ChunksIterator.next.Goals.{After-chunk-chunk, After-chunk-chunk-else-self}
 

@@ -1,7 +1,0 @@
-use Rattle.std.proofs.Common.{◌≡◌, ◌++◌, string_bytes}
-use Rattle.std.specs.Prelude.{encode_utf8_all}
-use Rattle.ropey.specs.Chunks.{text_of}
-use Rattle.ropey.proofs.rope.Rope.to_text.Given as goal
-
-abbrev pub invariant-loop-chunk : goal.invariant-loop-chunk
-invariant-loop-chunk l = string_bytes l.text ++ encode_utf8_all (text_of l.chunk-iterator) ≡ encode_utf8_all (text_of l.self)

@@ -1,0 +1,251 @@
+//! The lines of a text, both ways.
+
+ghost use Rattle.std.specs.Prelude.{◌≡◌, ◌+◌, ◌<◌, ◌≤◌, ⊤};
+ghost use Rattle.ropey_walk.specs.Chunks.{line_breaks};
+ghost use Rattle.ropey_walk.specs.Lines.{line_pieces, lines_of};
+ghost use Rattle.ropey_walk.specs.TwoWay.{turned, before_item, GivesPrev};
+ghost use Rattle.ropey_walk.specs.Iter.{GivesLine, IsLinePlace};
+ghost use Rattle.ropey_walk.specs.Slices.{slice_pieces, slice_text};
+
+use crate::laws;
+use crate::places::Place;
+use crate::slice::RopeSlice;
+use ropey_tree::breaks;
+use ropey_tree::counts::Counts;
+use std::alloc::AllocError;
+use std::iter::{ExactSizeIterator, FusedIterator};
+use std::marker::Model;
+use str_indices::{chars, utf16};
+
+/// The place where a line of a text starts, or its end.
+#[derive(Clone, Copy)]
+struct LinePlace<'a> {
+    // The line index, or the number of lines at the end.
+    line_idx: usize,
+    // Where it is in a chunk.
+    place: Place<'a>,
+    // What the text before it counts.
+    before: Counts,
+}
+
+impl<'a> LinePlace<'a> {
+    /// The place where a line starts, or the text's end, looked up in the tree.
+    fn look_up(slice: &RopeSlice<'a>, line_idx: usize) -> Self
+        ensures place { IsLinePlace (slice_text slice.now) result }
+        ensures line { result.line_idx ≡ line_idx }
+    {
+        let place = slice.place_of_line(line_idx);
+        LinePlace {
+            line_idx,
+            place,
+            before: slice.counted_to(&place),
+        }
+    }
+
+    /// The end of the line that starts here. Inside the chunk it takes no look-up.
+    fn next(self, slice: &RopeSlice<'a>) -> Self
+        requires here { IsLinePlace (slice_text slice.now) self }
+        requires some { self.line_idx < line_breaks (slice_text slice.now) + 1 }
+        ensures place { IsLinePlace (slice_text slice.now) result }
+        ensures line { result.line_idx ≡ self.entry.line_idx + 1 }
+    {
+        // A law, for the proof alone.
+        laws::line_starts();
+        let Place { text, start, at } = self.place;
+        let rest = &text[at..];
+        let line_idx = self.line_idx + 1;
+        match breaks::first_break(rest) {
+            None => LinePlace::look_up(slice, line_idx),
+            Some(found) => {
+                let line = &rest[..found.end];
+                LinePlace {
+                    line_idx,
+                    place: Place {
+                        text,
+                        start,
+                        at: at + found.end,
+                    },
+                    before: Counts {
+                        bytes: self.before.bytes + found.end,
+                        chars: self.before.chars + chars::count(line),
+                        units: self.before.units + utf16::count(line),
+                        breaks: line_idx,
+                    },
+                }
+            }
+        }
+    }
+
+    /// The start of the line that ends here. Inside the chunk it takes no look-up.
+    fn prev(self, slice: &RopeSlice<'a>) -> Self
+        requires here { IsLinePlace (slice_text slice.now) self }
+        requires some { 0 < self.line_idx }
+        requires within { self.line_idx ≤ line_breaks (slice_text slice.now) + 1 }
+        ensures place { IsLinePlace (slice_text slice.now) result }
+        ensures line { result.line_idx + 1 ≡ self.entry.line_idx }
+    {
+        // A law, for the proof alone.
+        laws::line_starts();
+        let Place { text, start, at } = self.place;
+        let line_idx = self.line_idx - 1;
+        if line_idx <= start.breaks {
+            return LinePlace::look_up(slice, line_idx);
+        }
+        let line_start = breaks::to_byte_idx(text, line_idx - start.breaks);
+        let line = &text[line_start..at];
+        LinePlace {
+            line_idx,
+            place: Place {
+                text,
+                start,
+                at: line_start,
+            },
+            before: Counts {
+                bytes: self.before.bytes - line.len(),
+                chars: self.before.chars - chars::count(line),
+                units: self.before.units - utf16::count(line),
+                breaks: line_idx,
+            },
+        }
+    }
+
+    /// The line from here to its end.
+    fn line_to(self, end: Self, slice: &RopeSlice<'a>) -> RopeSlice<'a>
+        requires here { IsLinePlace (slice_text slice.now) self }
+        requires there { IsLinePlace (slice_text slice.now) end }
+        requires next { end.line_idx ≡ self.line_idx + 1 }
+        ensures { slice_pieces result ≡ line_pieces (slice_pieces slice.now) self.entry.line_idx }
+    {
+        // A law, for the proof alone.
+        laws::line_starts();
+        slice.between(self.before, end.before)
+    }
+}
+
+/// The lines of a text, each a slice with the break that ends it, both ways. Contracts see those ahead
+/// and those behind, as pieces.
+///
+/// There are `len_lines`: the last has no break, and may be empty. Inside a chunk a step costs `O(m)`
+/// forwards for a line of m bytes and is bounded by the chunk backwards; from one chunk to another it
+/// costs `O(log n)`.
+#[derive(Drop)]
+pub struct Lines<'a> {
+    slice: RopeSlice<'a>,
+    place: LinePlace<'a>,
+    // How many lines the text has.
+    len: usize,
+    is_reversed: bool,
+}
+
+impl<'a> Model for Lines<'a> {
+    ghost use Rattle.std.specs.Prelude.{◌≡◌, ℕ, ◌+◌, ◌≤◌, List};
+    ghost use Rattle.ropey_walk.specs.Chunks.{line_breaks};
+    ghost use Rattle.ropey_walk.specs.Lines.{lines_of};
+    ghost use Rattle.ropey_walk.specs.TwoWay.{TwoWay, facing};
+    ghost use Rattle.ropey_walk.specs.Iter.{IsLinePlace};
+    ghost use Rattle.ropey_walk.specs.Slices.{slice_pieces, slice_text};
+
+    ghost Value = { TwoWay (List (List ℕ)) };
+
+    ghost view = { λ lines. facing lines.is_reversed lines.place.line_idx
+        (lines_of (slice_pieces lines.slice)) };
+
+    ghost invariant = { λ lines. IsLinePlace (slice_text lines.slice) lines.place ×
+        (lines.place.line_idx ≤ lines.len) ×
+        (lines.len ≡ line_breaks (slice_text lines.slice) + 1) };
+}
+
+impl<'a> Lines<'a> {
+    /// The lines of a text, from the place before one of them, or from behind the last.
+    pub(crate) fn at(slice: RopeSlice<'a>, line_idx: usize) -> Self
+        requires { line_idx ≤ line_breaks (slice_text slice) + 1 }
+        ensures { result ≡ before_item line_idx (lines_of (slice_pieces slice.entry)) }
+    {
+        Lines {
+            slice,
+            place: LinePlace::look_up(&slice, line_idx),
+            len: slice.len_lines(),
+            is_reversed: false,
+        }
+    }
+
+    /// Turns the iterator round: `next` gives what `prev` gave, and `prev` what `next` gave.
+    pub fn reverse(&mut self)
+        ensures { self.new ≡ turned self.old }
+    {
+        self.is_reversed = !self.is_reversed;
+    }
+
+    /// The iterator turned round, as by `reverse`.
+    pub fn reversed(mut self) -> Self
+        ensures { result ≡ turned self.entry }
+    {
+        self.reverse();
+        self
+    }
+
+    /// The line behind the place, which moves before it; none where none is, and the iterator stays.
+    pub fn prev(&mut self) -> Option<RopeSlice<'a>>
+        ensures { GivesPrev GivesLine self.old result self.new }
+    {
+        self.reverse();
+        let line = self.next();
+        self.reverse();
+        line
+    }
+}
+
+impl<'a> Iterator for Lines<'a> {
+    type Item = RopeSlice<'a>;
+
+    ghost use Rattle.std.specs.Iterator.{item_count};
+
+    ghost next_gives = { GivesLine };
+
+    ghost remaining = { item_count (λ lines. lines.ahead) };
+
+    fn next(&mut self) -> Option<RopeSlice<'a>> {
+        if self.is_reversed {
+            if self.place.line_idx == 0 {
+                return None;
+            }
+            let end = self.place;
+            self.place = end.prev(&self.slice);
+            Some(self.place.line_to(end, &self.slice))
+        } else {
+            if self.place.line_idx == self.len {
+                return None;
+            }
+            let start = self.place;
+            self.place = start.next(&self.slice);
+            Some(start.line_to(self.place, &self.slice))
+        }
+    }
+}
+
+impl<'a> ExactSizeIterator for Lines<'a> {
+    fn len(&self) -> usize {
+        if self.is_reversed {
+            self.place.line_idx
+        } else {
+            self.len - self.place.line_idx
+        }
+    }
+}
+
+impl<'a> FusedIterator for Lines<'a> {}
+
+impl<'a> Clone for Lines<'a> {
+    ghost is_clone = { λ lines copy. copy ≡ lines };
+
+    ghost is_infallible = { λ _. ⊤ };
+
+    fn clone(&self) -> Result<Lines<'a>, AllocError> {
+        Ok(Lines {
+            slice: self.slice,
+            place: self.place,
+            len: self.len,
+            is_reversed: self.is_reversed,
+        })
+    }
+}

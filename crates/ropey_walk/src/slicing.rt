@@ -1,0 +1,238 @@
+//! Parts of a slice: its lines, and ranges of its characters and of its bytes.
+//!
+//! A part is a slice as well, and takes no memory. An index counts from the start of the slice that
+//! the call is made on. The plain form has the range inside the text as its condition; the `get_`
+//! form answers none exactly where a range is refused, and the `try_` form tells why: a range that
+//! starts above its end is refused first, then one that goes past the length, then one of bytes
+//! that starts or ends inside a character.
+
+ghost use Rattle.std.specs.Prelude.{◌≡◌, ◌+◌, ◌<◌, ◌≤◌, ◌↔◌, length, take, MatchResult};
+ghost use Rattle.std.specs.Prelude.{IfSome, IsSome, IsNone, IfOk, IfErr, IsOk, encode_utf8_all};
+ghost use Rattle.std.specs.Str.{chars, IsUtf8, IsCharBoundary};
+ghost use Rattle.str_indices.specs.Text.{byte_len};
+ghost use Rattle.ropey_tree.specs.Counts.{counts_of};
+ghost use Rattle.ropey_walk.specs.Chunks.{line_breaks};
+ghost use Rattle.ropey_walk.specs.Clips.{clip};
+ghost use Rattle.ropey_walk.specs.Conversions.{char_of_byte};
+ghost use Rattle.ropey_walk.specs.Lines.{line_pieces};
+ghost use Rattle.ropey_walk.specs.Parts.{standing};
+ghost use Rattle.ropey_walk.specs.Ranges.{start_of, end_of, chars_in, bytes_in};
+ghost use Rattle.ropey_walk.specs.Ranges.{IsRangeIn, IsByteRangeIn, RefusesChars, RefusesBytes};
+ghost use Rattle.ropey_walk.specs.Standing.{IsPlaceIn};
+
+use crate::laws;
+use crate::places::Place;
+use crate::ranges::{Ends, TextRange};
+use crate::slice::RopeSlice;
+use ropey_tree::counts::Counts;
+use ropey_tree::error::Error;
+
+impl<'a> RopeSlice<'a> {
+    ghost use Rattle.ropey_walk.specs.Slices.{slice_pieces, slice_text};
+
+    /// The part from where `start` stands before it up to where `end` is what the text up to there
+    /// counts by itself. `O(1)`.
+    pub(crate) fn between(&self, start: Counts, end: Counts) -> Self
+        requires order { start.chars ≤ end.chars }
+        requires within { end.chars ≤ length (slice_text self.now) }
+        requires starts { start ≡ standing (slice_text self.now) start.chars }
+        requires ends { end ≡ counts_of (take end.chars (slice_text self.now)) }
+        ensures { slice_pieces result ≡ clip start.chars end.chars (slice_pieces self.now) }
+    {
+        // A law, for the proof alone.
+        laws::breaks_of_parts();
+        if start.chars == end.chars {
+            return RopeSlice::new(None);
+        }
+        self.part(start, end.saturating_sub(start))
+    }
+
+    /// The part from one place between two characters to another.
+    fn between_places(&self, from: &Place<'_>, to: &Place<'_>) -> Self
+        requires from { IsPlaceIn (slice_text self.now) (chars from.now.text.now) from.now.start
+            from.now.at }
+        requires from_boundary { IsCharBoundary from.now.text.now from.now.at }
+        requires from_utf8 { IsUtf8 from.now.text.now }
+        requires to { IsPlaceIn (slice_text self.now) (chars to.now.text.now) to.now.start
+            to.now.at }
+        requires to_boundary { IsCharBoundary to.now.text.now to.now.at }
+        requires to_utf8 { IsUtf8 to.now.text.now }
+        requires order { from.now.start.bytes + from.now.at ≤ to.now.start.bytes + to.now.at }
+        ensures { slice_pieces result ≡
+            clip (char_of_byte (slice_text self.now) (from.now.start.bytes + from.now.at))
+            (char_of_byte (slice_text self.now) (to.now.start.bytes + to.now.at))
+            (slice_pieces self.now) }
+    {
+        // A law, for the proof alone.
+        str_indices::laws::from_byte_idx_is_monotone();
+        self.between(self.standing_at(from), self.counted_to(to))
+    }
+
+    /// A line, with the break that ends it. The line index is below `len_lines`. `O(log n)`.
+    pub fn line(&self, line_idx: usize) -> Self
+        requires { line_idx < line_breaks (slice_text self.now) + 1 }
+        ensures { slice_pieces result ≡ line_pieces (slice_pieces self.now) line_idx }
+    {
+        // Laws, for the proof alone.
+        str_indices::laws::to_byte_idx_is_monotone();
+        str_indices::laws::counts_are_at_most_bytes();
+        let start = self.place_of_line(line_idx);
+        let end = self.place_of_line(line_idx + 1);
+        self.between_places(&start, &end)
+    }
+
+    /// `line`, and none from `len_lines` on. `O(log n)`.
+    pub fn get_line(&self, line_idx: usize) -> Option<Self>
+        ensures none { IsNone result ↔ (line_breaks (slice_text self.now) + 1 ≤ line_idx) }
+        ensures line { IfSome result (λ line. slice_pieces line ≡
+            line_pieces (slice_pieces self.now) line_idx) }
+    {
+        if line_idx < self.len_lines() {
+            Some(self.line(line_idx))
+        } else {
+            None
+        }
+    }
+
+    /// The part from one character up to another.
+    fn chars_between(&self, start: usize, end: usize) -> Self
+        requires order { start ≤ end }
+        requires within { end ≤ length (slice_text self.now) }
+        ensures { slice_pieces result ≡ clip start end (slice_pieces self.now) }
+    {
+        // Laws, for the proof alone.
+        str_indices::laws::to_byte_idx_is_monotone();
+        str_indices::laws::ends_of_a_part();
+        str_indices::laws::boundaries_and_indices_agree();
+        str_indices::laws::place_there_and_back();
+        let from = self.place_of_char(start);
+        let to = self.place_of_char(end);
+        self.between_places(&from, &to)
+    }
+
+    /// Where a range of characters starts and ends, or why it is refused.
+    fn char_indices(&self, ends: Ends) -> Result<(usize, usize), Error>
+        ensures { MatchResult result
+            (λ indices. IsRangeIn (length (slice_text self.now)) ends ×
+            (indices.0 ≡ start_of ends) ×
+            (indices.1 ≡ end_of ends (length (slice_text self.now))))
+            (λ error. (¬ (IsRangeIn (length (slice_text self.now)) ends)) ×
+            RefusesChars (slice_text self.now) ends error) }
+    {
+        let len = self.len_chars();
+        let start = ends.start.unwrap_or(0);
+        let end = ends.end.unwrap_or(len);
+        if ends.is_backwards() {
+            return Err(Error::CharRangeInvalid(start, end));
+        }
+        if start > len || end > len {
+            return Err(Error::CharRangeOutOfBounds(ends.start, ends.end, len));
+        }
+        Ok((start, end))
+    }
+
+    /// A range of characters. It lies inside the text: it starts no later than it ends, and ends at
+    /// most at `len_chars`. `O(log n)`.
+    pub fn slice<R: TextRange>(&self, char_range: R) -> Self
+        requires { IsRangeIn (length (slice_text self.now)) (R.ends char_range) }
+        ensures { slice_pieces result ≡ chars_in (R.ends char_range) (slice_pieces self.now) }
+    {
+        let ends = char_range.ends();
+        let end = ends.end.unwrap_or(self.len_chars());
+        self.chars_between(ends.start.unwrap_or(0), end)
+    }
+
+    /// `slice`, or why the range is refused: `CharRangeInvalid` where it starts above its end, else
+    /// `CharRangeOutOfBounds` where it goes past `len_chars`. `O(log n)`.
+    pub fn try_slice<R: TextRange>(&self, char_range: R) -> Result<Self, Error>
+        ensures ok { IsOk result ↔ IsRangeIn (length (slice_text self.now)) (R.ends char_range) }
+        ensures slice { IfOk result (λ slice. slice_pieces slice ≡
+            chars_in (R.ends char_range) (slice_pieces self.now)) }
+        ensures refused { IfErr result (λ error.
+            RefusesChars (slice_text self.now) (R.ends char_range) error) }
+    {
+        let (start, end) = self.char_indices(char_range.ends())?;
+        Ok(self.chars_between(start, end))
+    }
+
+    /// `slice`, and none where the range doesn't lie inside the text. `O(log n)`.
+    pub fn get_slice<R: TextRange>(&self, char_range: R) -> Option<Self>
+        ensures some { IsSome result ↔
+            IsRangeIn (length (slice_text self.now)) (R.ends char_range) }
+        ensures slice { IfSome result (λ slice. slice_pieces slice ≡
+            chars_in (R.ends char_range) (slice_pieces self.now)) }
+    {
+        match self.try_slice(char_range) {
+            Ok(slice) => Some(slice),
+            Err(_) => None,
+        }
+    }
+
+    /// Where a range of bytes starts and ends, or why it is refused: as in `try_byte_slice`, but
+    /// not for a character that it cuts.
+    fn byte_indices(&self, ends: Ends) -> Result<(usize, usize), Error>
+        ensures { MatchResult result
+            (λ indices. IsRangeIn (byte_len (slice_text self.now)) ends ×
+            (indices.0 ≡ start_of ends) ×
+            (indices.1 ≡ end_of ends (byte_len (slice_text self.now))))
+            (λ error. (¬ (IsRangeIn (byte_len (slice_text self.now)) ends)) ×
+            RefusesBytes (slice_text self.now) ends error) }
+    {
+        let len = self.len_bytes();
+        let start = ends.start.unwrap_or(0);
+        let end = ends.end.unwrap_or(len);
+        if ends.is_backwards() {
+            return Err(Error::ByteRangeInvalid(start, end));
+        }
+        if start > len || end > len {
+            return Err(Error::ByteRangeOutOfBounds(ends.start, ends.end, len));
+        }
+        Ok((start, end))
+    }
+
+    /// A range of bytes. It lies inside the text: it starts no later than it ends, ends at most at
+    /// `len_bytes`, and neither inside a character. `O(log n)`.
+    pub fn byte_slice<R: TextRange>(&self, byte_range: R) -> Self
+        requires { IsByteRangeIn (slice_text self.now) (R.ends byte_range) }
+        ensures { slice_pieces result ≡ bytes_in (R.ends byte_range) (slice_pieces self.now) }
+    {
+        let ends = byte_range.ends();
+        let end = ends.end.unwrap_or(self.len_bytes());
+        let from = self.place_of_byte(ends.start.unwrap_or(0));
+        let to = self.place_of_byte(end);
+        self.between_places(&from, &to)
+    }
+
+    /// `byte_slice`, or why the range is refused: `ByteRangeInvalid` where it starts above its end,
+    /// else `ByteRangeOutOfBounds` where it goes past `len_bytes`, else `ByteRangeNotCharBoundary`
+    /// where it starts or ends inside a character. `O(log n)`.
+    pub fn try_byte_slice<R: TextRange>(&self, byte_range: R) -> Result<Self, Error>
+        ensures ok { IsOk result ↔ IsByteRangeIn (slice_text self.now) (R.ends byte_range) }
+        ensures slice { IfOk result (λ slice. slice_pieces slice ≡
+            bytes_in (R.ends byte_range) (slice_pieces self.now)) }
+        ensures refused { IfErr result (λ error.
+            RefusesBytes (slice_text self.now) (R.ends byte_range) error) }
+    {
+        let ends = byte_range.ends();
+        let (start, end) = self.byte_indices(ends)?;
+        let from = self.place_of_byte(start);
+        let to = self.place_of_byte(end);
+        if !from.is_boundary() || !to.is_boundary() {
+            return Err(Error::ByteRangeNotCharBoundary(ends.start, ends.end));
+        }
+        Ok(self.between_places(&from, &to))
+    }
+
+    /// `byte_slice`, and none where the range doesn't lie inside the text, or cuts a character.
+    /// `O(log n)`.
+    pub fn get_byte_slice<R: TextRange>(&self, byte_range: R) -> Option<Self>
+        ensures some { IsSome result ↔ IsByteRangeIn (slice_text self.now) (R.ends byte_range) }
+        ensures slice { IfSome result (λ slice. slice_pieces slice ≡
+            bytes_in (R.ends byte_range) (slice_pieces self.now)) }
+    {
+        match self.try_byte_slice(byte_range) {
+            Ok(slice) => Some(slice),
+            Err(_) => None,
+        }
+    }
+}
