@@ -7,8 +7,8 @@ use Rattle.rx_walks.specs.Paths.{Path, PathThrough, HasNoRepeat}
 use Rattle.rx_walks.specs.Characters.{first_character, StandsFirst}
 use Rattle.rx_walks.specs.Looks.{Look}
 use Rattle.rx_walks.specs.Finds.{Search, IsPossible, IsFind, IsFindAll, Span}
-use Rattle.rx_walks.specs.Programs.{Node, set, Program, Haystack, Notes, over_characters}
-use Rattle.rx_walks.specs.ProgramFinds.{ProgramFinds, ProgramFindsAll, ProgramMatches, ProgramMatchesAll, first_by, haystack_of}
+use Rattle.rx_walks.specs.Programs.{Node, set, Program, Haystack, Notes, put_note, over_characters}
+use Rattle.rx_walks.specs.ProgramFinds.{ProgramFinds, ProgramFindsAll, ProgramMatches, ProgramMatchesAll, first_by, haystack_of, holds_in, machine_of}
 use Rattle.rx_walks.specs.Bytes.{Automaton, run, over_bytes}
 use Rattle.rx_walks.specs.Steps.{Best, Steps, Searches, either}
 use Rattle.rx_walks.specs.StepsAll.{SearchesAll}
@@ -113,6 +113,28 @@ abbrev pub BytesRefine : {L S N : Type 0} → (ℕ → ℕ → N → N) → (S �
     → (ℕ → Automaton) → List (Node L S) → Haystack L → Type 0
 BytesRefine put first step nodes h = ReadsMembers first step nodes
     → Refines (over_characters put first nodes h) (over_bytes put step nodes h) (λ q. (q, 0))
+
+-- the walks from each node at each place, the least ones, and the paths: those of both machines are
+-- the same
+pub record HasWalksOf {C B N : Type 0} (c : Machine C N) (b : Machine B N)
+    (f : C → B) : Type 0 where
+  pub walks : (n : N) (q : C) (i : ℕ) (choices : List ℕ) (t : Outcome N)
+      → Walk c [] n q i choices t ↔ Walk b [] n (f q) i choices t
+  pub least : (n : N) (q : C) (i : ℕ) (t : Outcome N)
+      → IsLeast c [] n q i t ↔ IsLeast b [] n (f q) i t
+  pub paths : (q : C) (i p e : ℕ) → Path c q i p e ↔ Path b (f q) i p e
+
+-- the machine of a search whose reads are single bytes
+abbrev pub byte_machine_of : {S : Type 0} → (ℕ → Bool) → Program Look S → (ℕ → Automaton) → Search
+    → Machine (ℕ × ℕ) Notes
+byte_machine_of is_word p step s =
+    over_bytes put_note step p.nodes (haystack_of (holds_in is_word p.line_terminator s) s)
+
+-- in each search a program over bytes has the walks of the one over characters
+abbrev pub ProgramWalksAgree : {S : Type 0} → (S → ℕ → Bool) → (ℕ → Bool) → Program Look S
+    → (ℕ → Automaton) → Type 0
+ProgramWalksAgree member is_word p step = ReadsMembers (first_by member) step p.nodes → (s : Search)
+    → HasWalksOf (machine_of member is_word p s) (byte_machine_of is_word p step s) (λ q. (q, 0))
 
 -- the loop over places by a program's bytes finds what its characters have
 abbrev pub ProgramsFind : {L S N : Type 0} → (ℕ → ℕ → N → N) → (S → ℕ → Bool) → (ℕ → Automaton)

@@ -1,6 +1,6 @@
 //! Laws of walks and of what is found by them. Each function does nothing: its contract is the law.
 
-ghost use Rattle.rx_walks.specs.Laws.{BytesRefine, FindsAllAtMostOne, FindsAtMostOne, FirstCharacterStands, MatchesAllAreOneList, MatchesAreOneList, PathsAgree, PathsHaveWalks, ProgramsFind, ProgramsFindAll, ProgramsReadForward, SearchesFind, SearchesFindAll, StepsKeepBest, WalksAgree, WalksTakeNoPairTwice};
+ghost use Rattle.rx_walks.specs.Laws.{BytesRefine, FindsAllAtMostOne, FindsAtMostOne, FirstCharacterStands, MatchesAllAreOneList, MatchesAreOneList, PathsAgree, PathsHaveWalks, ProgramWalksAgree, ProgramsFind, ProgramsFindAll, ProgramsReadForward, SearchesFind, SearchesFindAll, StepsKeepBest, WalksAgree, WalksTakeNoPairTwice};
 ghost use Rattle.rx_walks.specs.Machines.{Machine};
 ghost use Rattle.rx_walks.specs.Programs.{Haystack, Node, Program};
 ghost use Rattle.rx_walks.specs.Looks.{Look};
@@ -75,6 +75,12 @@ pub fn paths_agree<C, B, N>()
 pub fn bytes_refine<L, S, N>()
     ensures { (put : ℕ → ℕ → N → N) (first : S → List ℕ → Option ℕ) (step : ℕ → Automaton)
         (nodes : List (Node L S)) (h : Haystack L) → BytesRefine put first step nodes h }
+{}
+
+/// In each search the walks of a program over bytes are those of the program over characters.
+pub fn program_walks_agree<S>()
+    ensures { (member : S → ℕ → Bool) (is_word : ℕ → Bool) (p : Program Look S)
+        (step : ℕ → Automaton) → ProgramWalksAgree member is_word p step }
 {}
 
 /// The loop over places by a program's bytes finds what its characters have.
