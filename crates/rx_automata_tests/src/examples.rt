@@ -35,6 +35,6 @@ fn byte_range(rt: HostRuntime) -> Result<(), Fail> {
     };
     assert_eq!(rt; automaton.row(0).first(), Some(&ascii));
     assert_eq!(rt; automaton.row(0).len(), 10);
-    assert_eq!(rt; automaton.state_count(), 7);
+    assert_eq!(rt; automaton.state_count(), 8);
     Ok(())
 }
