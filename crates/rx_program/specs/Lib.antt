@@ -1,0 +1,5 @@
+pub mod Code
+pub mod Sizes
+pub mod Errors
+pub mod Programs
+pub mod Jobs
