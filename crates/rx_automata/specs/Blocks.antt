@@ -64,7 +64,8 @@ Extends rows more = (length rows ≤ length more)
 abbrev pub any_next : Option ℕ → List ByteRange
 any_next t = record { first = 128; last = 191; next = t } ∷ []
 
--- the first state's row is written last; the states 1, 2 and 3 read as many bytes, whatever they are
+-- the first state's row is written last; the states 1, 2 and 3 read as many bytes, whatever they
+-- are
 abbrev pub prepared : List (List ByteRange)
 prepared = [] ∷ any_next None ∷ any_next (Some 1) ∷ any_next (Some 2) ∷ []
 

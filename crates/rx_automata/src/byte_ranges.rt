@@ -37,7 +37,8 @@ pub(crate) fn look_up(row: &[ByteRange], byte: u8) -> Option<Option<usize>>
     None
 }
 
-/// Appends a byte that leads to this state. A range that ends before it and leads there takes it in.
+/// Appends a byte that leads to this state. A range that ends right before it and leads there takes
+/// it in.
 pub(crate) fn push_byte(
     row: &mut Vec<ByteRange>,
     byte: u8,

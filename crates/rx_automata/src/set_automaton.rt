@@ -71,7 +71,8 @@ impl Model for SetAutomaton {
 
     ghost view = { λ a. record { ranges = a.set.value; rows = rows_of a.rows.items } };
 
-    ghost invariant = { λ a. IsReader (record { ranges = a.set.value; rows = rows_of a.rows.items }) };
+    ghost invariant = { λ a.
+        IsReader (record { ranges = a.set.value; rows = rows_of a.rows.items }) };
 }
 
 impl SetAutomaton {

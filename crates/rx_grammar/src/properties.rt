@@ -65,8 +65,8 @@ impl RowProperties {
 }
 
 impl Repetition {
-    /// What the repetition weighs, where what it stands after weighs so much. The same with sizes in
-    /// place of weights.
+    /// What the repetition weighs, where what it stands after weighs so much. The same with sizes
+    /// in place of weights.
     fn weight(self, weight: usize, may_be_empty: bool) -> usize
         ensures { (w : ℕ) → weight ≡ held w
             → result ≡ held (repeated_weight self.min self.max w may_be_empty) }

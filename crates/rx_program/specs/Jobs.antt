@@ -18,7 +18,8 @@ part_at parts root = get_or parts root empty
 abbrev pub trees_before : List Tree → ℕ → ℕ → List Tree
 trees_before parts zero root = []
 trees_before parts (suc count) root =
-    trees_before parts count (root - length (subtrees_of (part_at parts root))) ++ part_at parts root ∷ []
+    trees_before parts count (root - length (subtrees_of (part_at parts root)))
+    ++ part_at parts root ∷ []
 
 abbrev pub sizes_of : List Tree → ℕ
 sizes_of [] = 0
@@ -28,11 +29,13 @@ sizes_of (tree ∷ trees) = size_of tree + sizes_of trees
 abbrev pub in_row : List Tree → ℕ → ℕ → Code
 in_row [] at next = []
 in_row (tree ∷ trees) at next =
-    code_of 0 tree at (entry_of (length trees) (at + size_of tree) next) ++ in_row trees (at + size_of tree) next
+    code_of 0 tree at (entry_of (length trees) (at + size_of tree) next)
+    ++ in_row trees (at + size_of tree) next
 
 abbrev pub in_branches : List Tree → ℕ → ℕ → Code
 in_branches [] at next = []
-in_branches (tree ∷ trees) at next = code_of 0 tree at next ++ in_branches trees (at + size_of tree) next
+in_branches (tree ∷ trees) at next =
+    code_of 0 tree at next ++ in_branches trees (at + size_of tree) next
 
 abbrev pub starts_of : List Tree → ℕ → List ℕ
 starts_of [] at = []
@@ -43,7 +46,8 @@ abbrev pub job_code : List Tree → Job → ℕ → Code
 job_code parts (job.Part root next) at = code_of 0 (part_at parts root) at next
 job_code parts (job.State state) at = node_of state ∷ []
 job_code parts (job.Row count root size next) at = in_row (trees_before parts count root) at next
-job_code parts (job.Branches count root next) at = in_branches (trees_before parts count root) at next
+job_code parts (job.Branches count root next) at =
+    in_branches (trees_before parts count root) at next
 job_code parts (job.Copies count root next) at =
     copies (size_of (part_at parts root)) (code_of 0 (part_at parts root)) count at next
 job_code parts (job.Optional greedy count root next) at =
@@ -61,7 +65,8 @@ job_size parts (job.Optional greedy count root next) = count * (1 + size_of (par
 -- what jobs become, the first one of the list first
 abbrev pub jobs_code : List Tree → List Job → ℕ → Code
 jobs_code parts [] at = []
-jobs_code parts (job ∷ jobs) at = job_code parts job at ++ jobs_code parts jobs (at + job_size parts job)
+jobs_code parts (job ∷ jobs) at =
+    job_code parts job at ++ jobs_code parts jobs (at + job_size parts job)
 
 abbrev pub jobs_size : List Tree → List Job → ℕ
 jobs_size parts [] = 0

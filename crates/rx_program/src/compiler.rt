@@ -21,8 +21,8 @@ pub(crate) enum Job {
     /// So many parts, one after the other: how many, the root of the last one, how many states they
     /// have, and the state that they go on to.
     Row(usize, usize, usize, usize),
-    /// So many parts beside one another: how many, the root of the last one, and the state that they
-    /// go on to.
+    /// So many parts beside one another: how many, the root of the last one, and the state that
+    /// they go on to.
     Branches(usize, usize, usize),
     /// So many copies of a part: how many, its root, and the state that they go on to.
     Copies(usize, usize, usize),

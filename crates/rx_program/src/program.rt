@@ -26,7 +26,12 @@ impl Model for Program {
 
     ghost Value = { ByteProgram };
 
-    ghost view = { λ p. record { states = p.states.items; start = p.start; patterns = p.patterns.items; line_terminator = p.line_terminator } };
+    ghost view = { λ p. record {
+      states = p.states.items;
+      start = p.start;
+      patterns = p.patterns.items;
+      line_terminator = p.line_terminator;
+    } };
 
     ghost invariant = { λ p. All ReadsItsSet p.states.items };
 }
@@ -79,7 +84,12 @@ pub(crate) fn program_of_one(
     line_terminator: u8,
 ) -> Program
     requires { All ReadsItsSet states.items }
-    ensures { result ≡ record { states = states.items; start = 0; patterns = patterns.items; line_terminator = line_terminator } }
+    ensures { result ≡ record {
+      states = states.items;
+      start = 0;
+      patterns = patterns.items;
+      line_terminator = line_terminator;
+    } }
 {
     Program {
         states,

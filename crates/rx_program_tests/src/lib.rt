@@ -1,4 +1,4 @@
-//! Tests of `rx_program`: limits, the states of small patterns, and an example for each public type.
+//! Tests of `rx_program`: limits, the states of small patterns, an example for each public type.
 #![tactic(auto)]
 
 #[cfg(test)]

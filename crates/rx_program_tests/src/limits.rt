@@ -1,7 +1,7 @@
 //! Which patterns are refused as too large.
 
-use rx_grammar::{SyntaxError, parse};
 use rx_grammar::syntax::Config;
+use rx_grammar::{SyntaxError, parse};
 use rx_program::{BuildError, Program, compile};
 use std::alloc::Global;
 use std::test::Fail;
