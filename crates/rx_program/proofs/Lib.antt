@@ -12,3 +12,4 @@ pub mod RepeatLaws
 pub mod StartLaws
 pub mod NodeLaws
 pub mod PatternLaws
+pub mod ClosedLaws

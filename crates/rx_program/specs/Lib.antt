@@ -3,3 +3,4 @@ pub mod Sizes
 pub mod Errors
 pub mod Programs
 pub mod Jobs
+pub mod Closed

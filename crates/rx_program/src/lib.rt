@@ -4,6 +4,7 @@
 mod automata;
 mod compiler;
 mod error;
+pub mod laws;
 mod parts;
 mod patterns;
 mod program;
