@@ -8,10 +8,10 @@ use Rattle.rx_grammar.specs.declared.properties.Properties.{Properties}
 use Rattle.rx_grammar.specs.declared.properties.RowProperties.{RowProperties}
 use Rattle.rx_grammar.specs.Trees.{Tree, Name, empty, one_of, look_at, group, concat, alternation, repeated, in_a_row, concat_of}
 use Rattle.rx_grammar.specs.Subtrees.{NodeKind, an_empty, a_set, a_look, a_group, a_concat, an_alternation, a_repetition, width_of, subtrees_of, all_subtrees_of}
-use Rattle.rx_grammar.specs.Weights.{may_be_empty, all_may_be_empty, any_may_be_empty, weight_of, all_weights_of, pattern_weight, held}
+use Rattle.rx_grammar.specs.Weights.{may_be_empty, all_may_be_empty, any_may_be_empty, weight_of, all_weights_of, size_of, all_sizes_of, pattern_weight, held}
 use Rattle.rx_grammar.specs.Postorder.{alternate, after_node, first_of}
 use Rattle.rx_grammar.specs.Nodes.{properties_of}
-use Rattle.rx_grammar.specs.Rows.{row_subtrees, MayFollow, weights_in, all_empty_in, any_empty_in, IsRowOf}
+use Rattle.rx_grammar.specs.Rows.{row_subtrees, MayFollow, weights_in, sizes_in, all_empty_in, any_empty_in, IsRowOf}
 use Rattle.rx_grammar.proofs.SubtreeLaws.{row_subtrees-cons, row_subtrees-split, length-last, subtrees_of-concat, subtrees_of-alternation}
 
 pub held-sum : (a b : ℕ) → min (held a + held b) (2 ^ 64 - 1) ≡ held (a + b)
@@ -21,6 +21,10 @@ held-sum a b = grind arith
 weights_in-append : (xs ys : List Tree) → weights_in (xs ++ ys) ≡ weights_in xs + weights_in ys
 weights_in-append [] ys = omega arith
 weights_in-append (x ∷ xs) ys = omega (arith, weights_in-append xs ys)
+
+sizes_in-append : (xs ys : List Tree) → sizes_in (xs ++ ys) ≡ sizes_in xs + sizes_in ys
+sizes_in-append [] ys = omega arith
+sizes_in-append (x ∷ xs) ys = omega (arith, sizes_in-append xs ys)
 
 all_empty_in-append : (xs ys : List Tree) → all_empty_in (xs ++ ys) ≡ (all_empty_in xs && all_empty_in ys)
 all_empty_in-append [] ys = refl
@@ -35,6 +39,12 @@ weights_in-reverse [] = refl
 weights_in-reverse (x ∷ xs) =
     let e = ap weights_in (reverse-append (x ∷ []) xs) ∙ weights_in-append (reverse xs) (x ∷ []) in
     omega (arith, e, weights_in-reverse xs)
+
+sizes_in-reverse : (xs : List Tree) → sizes_in (reverse xs) ≡ sizes_in xs
+sizes_in-reverse [] = refl
+sizes_in-reverse (x ∷ xs) =
+    let e = ap sizes_in (reverse-append (x ∷ []) xs) ∙ sizes_in-append (reverse xs) (x ∷ []) in
+    omega (arith, e, sizes_in-reverse xs)
 
 and_true : (b : Bool) → (b && true) ≡ b
 and_true true = refl
@@ -59,9 +69,10 @@ any_empty_in-reverse (x ∷ xs) =
 -- a row with one tree more
 pub IsRowOf-more : {row row' : RowProperties} {part : Properties} {trees : List Tree} (tree : Tree) → IsRowOf row trees → part ≡ properties_of tree
     → row'.extent ≡ row.extent + part.extent → row'.weight ≡ min (row.weight + part.weight) (2 ^ 64 - 1)
+    → row'.size ≡ min (row.size + part.size) (2 ^ 64 - 1)
     → row'.all_may_be_empty ≡ (row.all_may_be_empty && part.may_be_empty) → row'.any_may_be_empty ≡ (row.any_may_be_empty || part.may_be_empty)
     → IsRowOf row' (trees ++ tree ∷ [])
-IsRowOf-more {row = row} {row' = row'} {part = part} {trees = trees} tree is known extent weight all any = record {
+IsRowOf-more {row = row} {row' = row'} {part = part} {trees = trees} tree is known extent weight size all any = record {
   extent =
       let turned : row_subtrees (trees ++ tree ∷ []) ≡ subtrees_of tree ++ row_subtrees trees = ap (flat_map subtrees_of) (reverse-append trees (tree ∷ [])) in
       let sum = ap length turned ∙ length-append (subtrees_of tree) (row_subtrees trees) in
@@ -69,6 +80,8 @@ IsRowOf-more {row = row} {row' = row'} {part = part} {trees = trees} tree is kno
       omega (arith, extent, sum, own, is.extent);
   weight = weight ∙ ap₂ (λ a b. min (a + b) (2 ^ 64 - 1)) is.weight (ap (λ (p : Properties). p.weight) known) ∙ held-sum (weights_in trees) (weight_of tree)
       ∙ ap held (omega (arith, weights_in-append trees (tree ∷ [])));
+  size = size ∙ ap₂ (λ a b. min (a + b) (2 ^ 64 - 1)) is.size (ap (λ (p : Properties). p.size) known) ∙ held-sum (sizes_in trees) (size_of tree)
+      ∙ ap held (omega (arith, sizes_in-append trees (tree ∷ [])));
   all = all ∙ ap₂ (λ a b. a && b) is.all (ap (λ (p : Properties). p.may_be_empty) known ∙ sym (and_true (may_be_empty tree))) ∙ sym (all_empty_in-append trees (tree ∷ []));
   any = any ∙ ap₂ (λ a b. a || b) is.any (ap (λ (p : Properties). p.may_be_empty) known ∙ sym (or_false (may_be_empty tree))) ∙ sym (any_empty_in-append trees (tree ∷ []));
 }
@@ -77,6 +90,10 @@ IsRowOf-more {row = row} {row' = row'} {part = part} {trees = trees} tree is kno
 all_weights : (first second : Tree) (others : List Tree) → all_weights_of (in_a_row first second others) ≡ weights_in (first ∷ second ∷ others)
 all_weights first second [] = omega arith
 all_weights first second (third ∷ others) = ap (λ n. weight_of first + n) (all_weights second third others)
+
+all_sizes : (first second : Tree) (others : List Tree) → all_sizes_of (in_a_row first second others) ≡ sizes_in (first ∷ second ∷ others)
+all_sizes first second [] = omega arith
+all_sizes first second (third ∷ others) = ap (λ n. size_of first + n) (all_sizes second third others)
 
 all_empty : (first second : Tree) (others : List Tree) → all_may_be_empty (in_a_row first second others) ≡ all_empty_in (first ∷ second ∷ others)
 all_empty first second [] = ap (λ b. may_be_empty first && b) (sym (and_true (may_be_empty second)))
@@ -95,6 +112,16 @@ weight_of-alternation : (branches : List Tree) → 2 ≤ length branches → wei
 weight_of-alternation [] some = absurd (omega arith)
 weight_of-alternation (branch ∷ []) some = absurd (omega arith)
 weight_of-alternation (first ∷ second ∷ others) some = ap (λ n. 1 + n) (all_weights first second others)
+
+size_of-concat : (items : List Tree) → 2 ≤ length items → size_of (concat_of items) ≡ sizes_in items
+size_of-concat [] some = absurd (omega arith)
+size_of-concat (item ∷ []) some = absurd (omega arith)
+size_of-concat (first ∷ second ∷ others) some = all_sizes first second others
+
+size_of-alternation : (branches : List Tree) → 2 ≤ length branches → size_of (alternate branches) ≡ 1 + sizes_in branches
+size_of-alternation [] some = absurd (omega arith)
+size_of-alternation (branch ∷ []) some = absurd (omega arith)
+size_of-alternation (first ∷ second ∷ others) some = ap (λ n. 1 + n) (all_sizes first second others)
 
 may_be_empty-concat : (items : List Tree) → 2 ≤ length items → may_be_empty (concat_of items) ≡ all_empty_in items
 may_be_empty-concat [] some = absurd (omega arith)
@@ -115,6 +142,12 @@ concat-weight trees count may is =
     let last = take count trees in
     is.weight ∙ ap held (sym (weights_in-reverse last) ∙ sym (weight_of-concat (reverse last) (some_last count trees may.fits may.over_two)))
 
+pub concat-size : {row : RowProperties} (trees : List Tree) (count : ℕ) → MayFollow trees (a_concat count) → IsRowOf row (take count trees)
+    → row.size ≡ held (size_of (first_of (after_node trees (a_concat count))))
+concat-size trees count may is =
+    let last = take count trees in
+    is.size ∙ ap held (sym (sizes_in-reverse last) ∙ sym (size_of-concat (reverse last) (some_last count trees may.fits may.over_two)))
+
 pub concat-empty : {row : RowProperties} (trees : List Tree) (count : ℕ) → MayFollow trees (a_concat count) → IsRowOf row (take count trees)
     → row.all_may_be_empty ≡ may_be_empty (first_of (after_node trees (a_concat count)))
 concat-empty trees count may is =
@@ -127,6 +160,16 @@ alternation-weight trees count may is =
     let last = take count trees in
     ap (λ n. min (n + 1) (2 ^ 64 - 1)) is.weight ∙ more (weights_in last)
     ∙ ap held (ap (λ n. 1 + n) (sym (weights_in-reverse last)) ∙ sym (weight_of-alternation (reverse last) (some_last count trees may.fits may.over_two)))
+  where
+    more : (w : ℕ) → min (held w + 1) (2 ^ 64 - 1) ≡ held (1 + w)
+    more w = grind arith
+
+pub alternation-size : {row : RowProperties} (trees : List Tree) (count : ℕ) → MayFollow trees (an_alternation count) → IsRowOf row (take count trees)
+    → min (row.size + 1) (2 ^ 64 - 1) ≡ held (size_of (first_of (after_node trees (an_alternation count))))
+alternation-size trees count may is =
+    let last = take count trees in
+    ap (λ n. min (n + 1) (2 ^ 64 - 1)) is.size ∙ more (sizes_in last)
+    ∙ ap held (ap (λ n. 1 + n) (sym (sizes_in-reverse last)) ∙ sym (size_of-alternation (reverse last) (some_last count trees may.fits may.over_two)))
   where
     more : (w : ℕ) → min (held w + 1) (2 ^ 64 - 1) ≡ held (1 + w)
     more w = grind arith
@@ -166,6 +209,11 @@ pub concat-weight-at : {row : RowProperties} {node : NodeKind} (trees : List Tre
 concat-weight-at {row = row} trees count e =
     subst (λ n. MayFollow trees n → IsRowOf row (take (width_of n) trees) → row.weight ≡ held (weight_of (first_of (after_node trees n)))) (sym e) (concat-weight trees count)
 
+pub concat-size-at : {row : RowProperties} {node : NodeKind} (trees : List Tree) (count : ℕ) → node ≡ a_concat count → MayFollow trees node → IsRowOf row (take (width_of node) trees)
+    → row.size ≡ held (size_of (first_of (after_node trees node)))
+concat-size-at {row = row} trees count e =
+    subst (λ n. MayFollow trees n → IsRowOf row (take (width_of n) trees) → row.size ≡ held (size_of (first_of (after_node trees n)))) (sym e) (concat-size trees count)
+
 pub concat-empty-at : {row : RowProperties} {node : NodeKind} (trees : List Tree) (count : ℕ) → node ≡ a_concat count → MayFollow trees node → IsRowOf row (take (width_of node) trees)
     → row.all_may_be_empty ≡ may_be_empty (first_of (after_node trees node))
 concat-empty-at {row = row} trees count e =
@@ -175,6 +223,11 @@ pub alternation-weight-at : {row : RowProperties} {node : NodeKind} (trees : Lis
     → min (row.weight + 1) (2 ^ 64 - 1) ≡ held (weight_of (first_of (after_node trees node)))
 alternation-weight-at {row = row} trees count e =
     subst (λ n. MayFollow trees n → IsRowOf row (take (width_of n) trees) → min (row.weight + 1) (2 ^ 64 - 1) ≡ held (weight_of (first_of (after_node trees n)))) (sym e) (alternation-weight trees count)
+
+pub alternation-size-at : {row : RowProperties} {node : NodeKind} (trees : List Tree) (count : ℕ) → node ≡ an_alternation count → MayFollow trees node → IsRowOf row (take (width_of node) trees)
+    → min (row.size + 1) (2 ^ 64 - 1) ≡ held (size_of (first_of (after_node trees node)))
+alternation-size-at {row = row} trees count e =
+    subst (λ n. MayFollow trees n → IsRowOf row (take (width_of n) trees) → min (row.size + 1) (2 ^ 64 - 1) ≡ held (size_of (first_of (after_node trees n)))) (sym e) (alternation-size trees count)
 
 pub alternation-empty-at : {row : RowProperties} {node : NodeKind} (trees : List Tree) (count : ℕ) → node ≡ an_alternation count → MayFollow trees node → IsRowOf row (take (width_of node) trees)
     → row.any_may_be_empty ≡ may_be_empty (first_of (after_node trees node))
@@ -231,11 +284,13 @@ pub IsRowOf-next : {row row' : RowProperties} {part : Properties} (trees : List 
     → ((list : List Tree) (tree : Tree) → IsRowOf row list → part ≡ properties_of tree → IsRowOf row' (list ++ tree ∷ [])) → IsRowOf row' (take (k + 1) trees)
 IsRowOf-next {row' = row'} trees k below is known more = subst (IsRowOf row') (sym (take_more trees k empty below)) (more (take k trees) (get_or trees k empty) is known)
 
-abbrev known : ℕ → ℕ → Bool → Properties
-known extent weight may_be_empty = record { extent = extent; weight = weight; may_be_empty = may_be_empty }
+abbrev known : ℕ → ℕ → ℕ → Bool → Properties
+known extent weight size may_be_empty = record { extent = extent; weight = weight; size = size; may_be_empty = may_be_empty }
 
-pub known_by : (tree : Tree) (extent weight : ℕ) (may : Bool) → extent ≡ length (subtrees_of tree) → weight ≡ held (weight_of tree) → may ≡ may_be_empty tree → known extent weight may ≡ properties_of tree
-known_by tree extent weight may a b c = ap₂ (λ x y. known x y may) a b ∙ ap (λ z. known (length (subtrees_of tree)) (held (weight_of tree)) z) c
+pub known_by : (tree : Tree) (extent weight size : ℕ) (may : Bool) → extent ≡ length (subtrees_of tree) → weight ≡ held (weight_of tree) → size ≡ held (size_of tree) → may ≡ may_be_empty tree
+    → known extent weight size may ≡ properties_of tree
+known_by tree extent weight size may a b c d =
+    ap₂ (λ x y. known x y size may) a b ∙ ap₂ (λ x y. known (length (subtrees_of tree)) (held (weight_of tree)) x y) c d
 
 pub part_known : (trees : List Tree) (k : ℕ) (items : List Properties) (len extent : ℕ) (part : Properties) → k < length trees → items ≡ map properties_of (row_subtrees trees) → len ≡ length items
     → extent ≡ length (row_subtrees (take k trees)) → part ≡ get_or items (len - extent - 1) part → part ≡ properties_of (get_or trees k empty)

@@ -4,7 +4,7 @@ use Rattle.rx_grammar.specs.declared.properties.Properties.{Properties}
 use Rattle.rx_grammar.specs.declared.properties.RowProperties.{RowProperties}
 use Rattle.rx_grammar.specs.Trees.{Tree}
 use Rattle.rx_grammar.specs.Subtrees.{NodeKind, a_group, a_concat, an_alternation, width_of, root_of, subtrees_of, nodes_of, IsWellFormed}
-use Rattle.rx_grammar.specs.Weights.{may_be_empty, weight_of, held}
+use Rattle.rx_grammar.specs.Weights.{may_be_empty, weight_of, size_of, held}
 use Rattle.rx_grammar.specs.Postorder.{trees_of}
 use Rattle.rx_grammar.specs.Nodes.{properties_of}
 
@@ -32,6 +32,10 @@ abbrev pub weights_in : List Tree → ℕ
 weights_in [] = 0
 weights_in (tree ∷ trees) = weight_of tree + weights_in trees
 
+abbrev pub sizes_in : List Tree → ℕ
+sizes_in [] = 0
+sizes_in (tree ∷ trees) = size_of tree + sizes_in trees
+
 abbrev pub all_empty_in : List Tree → Bool
 all_empty_in [] = true
 all_empty_in (tree ∷ trees) = may_be_empty tree && all_empty_in trees
@@ -44,6 +48,7 @@ any_empty_in (tree ∷ trees) = may_be_empty tree || any_empty_in trees
 pub record IsRowOf (row : RowProperties) (trees : List Tree) : Type 0 where
   pub extent : row.extent ≡ length (row_subtrees trees)
   pub weight : row.weight ≡ held (weights_in trees)
+  pub size : row.size ≡ held (sizes_in trees)
   pub all : row.all_may_be_empty ≡ all_empty_in trees
   pub any : row.any_may_be_empty ≡ any_empty_in trees
 

@@ -21,8 +21,8 @@ abbrev mutual
   any_may_be_empty (two first second) = may_be_empty first || may_be_empty second
   any_may_be_empty (more first others) = may_be_empty first || any_may_be_empty others
 
--- what a repetition weighs: its least and greatest number, then the weight of what is repeated, and whether that
--- may be empty
+-- what a repetition weighs: its least and greatest number, then the weight of what is repeated, and
+-- whether that may be empty; the same with sizes in place of weights
 abbrev pub repeated_weight : ℕ → Option ℕ → ℕ → Bool → ℕ
 -- h{0}: as no item
 repeated_weight n (Some zero) w may = 1
@@ -48,6 +48,21 @@ abbrev mutual
   pub all_weights_of : Trees → ℕ
   all_weights_of (two first second) = weight_of first + weight_of second
   all_weights_of (more first others) = weight_of first + all_weights_of others
+
+-- how many nodes the program has that stands for a tree: what it weighs, but for the ranges of sets
+abbrev mutual
+  pub size_of : Tree → ℕ
+  size_of empty = 1
+  size_of (one_of ranges) = 1
+  size_of (look_at look) = 1
+  size_of (group number name tree) = 2 + size_of tree
+  size_of (concat trees) = all_sizes_of trees
+  size_of (alternation trees) = 1 + all_sizes_of trees
+  size_of (repeated repetition tree) = repeated_weight repetition.min repetition.max (size_of tree) (may_be_empty tree)
+
+  pub all_sizes_of : Trees → ℕ
+  all_sizes_of (two first second) = size_of first + size_of second
+  all_sizes_of (more first others) = size_of first + all_sizes_of others
 
 -- what a whole pattern weighs: with the group of the whole match, and the end
 abbrev pub pattern_weight : Tree → ℕ

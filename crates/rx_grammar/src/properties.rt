@@ -3,7 +3,7 @@
 ghost use Rattle.std.specs.Prelude.{ℕ, ◌≡◌, ◌+◌, ◌<◌, ◌^◌, List, [], ◌∷◌, ◌++◌, take};
 ghost use Rattle.rx_grammar.specs.Trees.{Tree};
 ghost use Rattle.rx_grammar.specs.Subtrees.{width_of};
-ghost use Rattle.rx_grammar.specs.Weights.{may_be_empty, weight_of, repeated_weight, held};
+ghost use Rattle.rx_grammar.specs.Weights.{may_be_empty, weight_of, size_of, repeated_weight, held};
 ghost use Rattle.rx_grammar.specs.Postorder.{first_of, after_node};
 ghost use Rattle.rx_grammar.specs.Rows.{MayFollow, IsRowOf};
 ghost use Rattle.rx_grammar.specs.Nodes.{kind_of, properties_of};
@@ -18,6 +18,8 @@ pub struct Properties {
     pub extent: usize,
     /// What the part weighs, and `usize::MAX` where it weighs more.
     pub weight: usize,
+    /// How many nodes the part's program has, and `usize::MAX` where it has more.
+    pub size: usize,
     /// Whether some path through the part's program takes no character, whatever looks stand on it.
     pub may_be_empty: bool,
 }
@@ -27,6 +29,7 @@ pub struct Properties {
 pub(crate) struct RowProperties {
     pub(crate) extent: usize,
     weight: usize,
+    size: usize,
     all_may_be_empty: bool,
     any_may_be_empty: bool,
 }
@@ -39,6 +42,7 @@ impl RowProperties {
         RowProperties {
             extent: 0,
             weight: 0,
+            size: 0,
             all_may_be_empty: true,
             any_may_be_empty: false,
         }
@@ -53,6 +57,7 @@ impl RowProperties {
         RowProperties {
             extent: self.extent + part.extent,
             weight: self.weight.saturating_add(part.weight),
+            size: self.size.saturating_add(part.size),
             all_may_be_empty: self.all_may_be_empty && part.may_be_empty,
             any_may_be_empty: self.any_may_be_empty || part.may_be_empty,
         }
@@ -60,7 +65,8 @@ impl RowProperties {
 }
 
 impl Repetition {
-    /// What the repetition weighs, where what it stands after weighs so much.
+    /// What the repetition weighs, where what it stands after weighs so much. The same with sizes
+    /// in place of weights.
     fn weight(self, weight: usize, may_be_empty: bool) -> usize
         ensures { (w : ℕ) → weight ≡ held w
             → result ≡ held (repeated_weight self.min self.max w may_be_empty) }
@@ -106,6 +112,21 @@ impl Node {
         }
     }
 
+    /// How many nodes the program has of the node with what stands below it.
+    fn size(&self, below: RowProperties) -> usize
+        ensures { (trees : List Tree) → MayFollow trees (kind_of self.now)
+            → IsRowOf below (take (width_of (kind_of self.now)) trees)
+            → result ≡ held (size_of (first_of (after_node trees (kind_of self.now)))) }
+    {
+        match self {
+            Node::Empty | Node::Set(_) | Node::Look(_) => 1,
+            Node::Group(_, _) => below.size.saturating_add(2),
+            Node::Concat(_) => below.size,
+            Node::Alternation(_) => below.size.saturating_add(1),
+            Node::Repeat(repetition) => repetition.weight(below.size, below.all_may_be_empty),
+        }
+    }
+
     /// Whether the node may be empty, with what stands below it.
     fn may_be_empty(&self, below: RowProperties) -> bool
         ensures { (trees : List Tree) → MayFollow trees (kind_of self.now)
@@ -132,6 +153,7 @@ impl Node {
         Properties {
             extent: below.extent + 1,
             weight: self.weight(below),
+            size: self.size(below),
             may_be_empty: self.may_be_empty(below),
         }
     }

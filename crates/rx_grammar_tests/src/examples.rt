@@ -49,11 +49,13 @@ fn properties(rt: HostRuntime) -> Result<(), Fail> {
     let letter = Properties {
         extent: 1,
         weight: 2,
+        size: 1,
         may_be_empty: false,
     };
     let all = Properties {
         extent: 2,
         weight: 3,
+        size: 2,
         may_be_empty: true,
     };
     assert_eq!(rt; hir.properties(), [letter, all].as_slice());

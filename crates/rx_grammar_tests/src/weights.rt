@@ -43,10 +43,11 @@ fn weights(rt: HostRuntime) -> Result<(), Fail> {
 }
 
 /// A part that takes characters.
-fn part(extent: usize, weight: usize) -> Properties {
+fn part(extent: usize, weight: usize, size: usize) -> Properties {
     Properties {
         extent,
         weight,
+        size,
         may_be_empty: false,
     }
 }
@@ -55,14 +56,46 @@ fn part(extent: usize, weight: usize) -> Properties {
 fn parts(rt: HostRuntime) -> Result<(), Fail> {
     let hir = parse(rt.alloc(), "(a)|bc", &Config::new())?;
     let wanted = [
-        part(1, 2),
-        part(2, 4),
-        part(1, 2),
-        part(1, 2),
-        part(3, 4),
-        part(6, 9),
+        part(1, 2, 1),
+        part(2, 4, 3),
+        part(1, 2, 1),
+        part(1, 2, 1),
+        part(3, 4, 2),
+        part(6, 9, 6),
     ];
     assert_eq!(rt; hir.properties(), wanted.as_slice());
+    Ok(())
+}
+
+/// How many nodes the whole tree's program has.
+fn size(alloc: Global, text: &str) -> Result<usize, SyntaxError> {
+    let hir = parse(alloc, text, &Config::new())?;
+    match hir.properties() {
+        [.., whole] => Ok(whole.size),
+        [] => Ok(0),
+    }
+}
+
+#[test]
+fn sizes(rt: HostRuntime) -> Result<(), Fail> {
+    let alloc = rt.alloc();
+    let table = [
+        ("", 1),
+        ("[a-cx]", 1),
+        ("$", 1),
+        ("(a)|b", 5),
+        ("[a-c]{2,4}", 6),
+        ("a?", 2),
+        ("\\w*", 2),
+        ("(?:a*)*", 4),
+        ("a{3,}", 4),
+        ("a{65535}{65535}{0}", 1),
+        ("a{65535}{65535}{65535}{65535}", 18_445_618_199_572_250_625),
+        ("a{65535}{65535}{65535}{65535}{2}", usize::MAX),
+    ];
+    for (text, wanted) in table {
+        assert!(rt; size(alloc, text)? == wanted, "{text}");
+    }
     Ok(())
 }
 

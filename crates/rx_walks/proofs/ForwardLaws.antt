@@ -27,16 +27,16 @@ read_byte_forward : {j : ℕ} {t : ℕ × ℕ} (step : Automaton) (q r s i : ℕ
 read_byte_forward step q r s i [] e = absurd (cc e)
 read_byte_forward step q r s i (b ∷ bs) e = read_on_forward q r i (step s b) e
 
-by_byte_forward : {L S : Type 0} {j : ℕ} {t : ℕ × ℕ} (step : S → Automaton) (h : Haystack L) (i q s : ℕ) (inside : Bool) (a_node : Option (Node L S)) → only_if inside (by_byte step h i q s a_node) ≡ reads t j → i < j
+by_byte_forward : {L S : Type 0} {j : ℕ} {t : ℕ × ℕ} (step : ℕ → Automaton) (h : Haystack L) (i q s : ℕ) (inside : Bool) (a_node : Option (Node L S)) → only_if inside (by_byte step h i q s a_node) ≡ reads t j → i < j
 by_byte_forward step h i q s false a_node e = absurd (cc e)
 by_byte_forward step h i q s true None e = absurd (cc e)
 by_byte_forward step h i q s true (Some (match k)) e = absurd (cc e)
 by_byte_forward step h i q s true (Some (pass rs)) e = absurd (cc e)
 by_byte_forward step h i q s true (Some (note slot r)) e = absurd (cc e)
 by_byte_forward step h i q s true (Some (look l r)) e = not_goes i (h.holds l i) ((r, 0) ∷ []) e
-by_byte_forward step h i q s true (Some (set x r)) e = read_byte_forward (step x) q r s i (left_from h i) e
+by_byte_forward step h i q s true (Some (set x r)) e = read_byte_forward (step q) q r s i (left_from h i) e
 
-pub bytes_forward : {L S N : Type 0} (put : ℕ → ℕ → N → N) (step : S → Automaton) (nodes : List (Node L S)) (h : Haystack L) → IsForward (over_bytes put step nodes h)
+pub bytes_forward : {L S N : Type 0} (put : ℕ → ℕ → N → N) (step : ℕ → Automaton) (nodes : List (Node L S)) (h : Haystack L) → IsForward (over_bytes put step nodes h)
 bytes_forward put step nodes h i j q r e = by_byte_forward step h i q.0 q.1 (is_within h.low h.high i) (slice_get nodes q.0) e
 
 pub number_told : (a b : ℕ) → (a ≡ b) ⊎ (a ≡ b → ⊥)

@@ -36,22 +36,22 @@ read_as m q r s i others None e on = at_once e
 read_as m q r s i others (Some None) e on = last e
 read_as m q r s i others (Some (Some s')) e on = one_more_read m q r s s' i (others s') e (on s')
 
-module _ {L S N : Type 0} (put : ℕ → ℕ → N → N) (step : S → ℕ → ℕ → Option (Option ℕ)) (nodes : List (Node L S)) (p : Haystack L) where
+module _ {L S N : Type 0} (put : ℕ → ℕ → N → N) (step : ℕ → ℕ → ℕ → Option (Option ℕ)) (nodes : List (Node L S)) (p : Haystack L) where
   set_move : (q s i r : ℕ) (x : S) (xs : List ℕ) → slice_get nodes q ≡ Some (set x r) → is_within p.low p.high i ≡ true → left_from p i ≡ xs
-      → (over_bytes put step nodes p).move i (q, s) ≡ read_byte (step x) q r s i xs
-  set_move q s i r x xs at is e = ap (λ z. only_if z (by_byte step p i q s (slice_get nodes q))) is ∙ ap (λ z. by_byte step p i q s z) at ∙ ap (λ z. read_byte (step x) q r s i z) e
+      → (over_bytes put step nodes p).move i (q, s) ≡ read_byte (step q) q r s i xs
+  set_move q s i r x xs at is e = ap (λ z. only_if z (by_byte step p i q s (slice_get nodes q))) is ∙ ap (λ z. by_byte step p i q s z) at ∙ ap (λ z. read_byte (step q) q r s i z) e
 
-  runs : (q r : ℕ) (x : S) → slice_get nodes q ≡ Some (set x r) → (xs : List ℕ) (s i : ℕ) → is_within p.low p.high i ≡ true → left_from p i ≡ xs → Result (over_bytes put step nodes p) q r s i (run (step x) s xs)
+  runs : (q r : ℕ) (x : S) → slice_get nodes q ≡ Some (set x r) → (xs : List ℕ) (s i : ℕ) → is_within p.low p.high i ≡ true → left_from p i ≡ xs → Result (over_bytes put step nodes p) q r s i (run (step q) s xs)
   runs q r x at [] s i is e = at_once (set_move q s i r x [] at is e)
-  runs q r x at (b ∷ bs) s i is e = read_as (over_bytes put step nodes p) q r s i (λ s'. run (step x) s' bs) (step x s b) (set_move q s i r x (b ∷ bs) at is e)
+  runs q r x at (b ∷ bs) s i is e = read_as (over_bytes put step nodes p) q r s i (λ s'. run (step q) s' bs) (step q s b) (set_move q s i r x (b ∷ bs) at is e)
       (λ s'. runs q r x at bs s' (i + 1) (inside_next p.low p.high i is (inside_before p i b bs e)) (drop_more i (take p.high p.content) b bs e))
 
 -- what a node does over characters and over bytes
 abbrev at_zero : ℕ → ℕ × ℕ
 at_zero q = (q, 0)
 
-module _ {L S N : Type 0} (put : ℕ → ℕ → N → N) (first : S → List ℕ → Option ℕ) (step : S → ℕ → ℕ → Option (Option ℕ)) (nodes : List (Node L S)) (p : Haystack L) where
-  node_agrees : ((x : S) (bs : List ℕ) → run (step x) 0 bs ≡ first x bs) → (i q : ℕ) → is_within p.low p.high i ≡ true → (a_node : Option (Node L S)) → slice_get nodes q ≡ a_node
+module _ {L S N : Type 0} (put : ℕ → ℕ → N → N) (first : S → List ℕ → Option ℕ) (step : ℕ → ℕ → ℕ → Option (Option ℕ)) (nodes : List (Node L S)) (p : Haystack L) where
+  node_agrees : ((q r : ℕ) (x : S) → slice_get nodes q ≡ Some (set x r) → (bs : List ℕ) → run (step q) 0 bs ≡ first x bs) → (i q : ℕ) → is_within p.low p.high i ≡ true → (a_node : Option (Node L S)) → slice_get nodes q ≡ a_node
       → Agrees (over_characters put first nodes p) (over_bytes put step nodes p) at_zero i q
   node_agrees reads_members i q is a_node at = does a_node at
     where
@@ -77,9 +77,9 @@ module _ {L S N : Type 0} (put : ℕ → ℕ → N → N) (first : S → List �
       does (Some (note slot r)) at = both_go {rs = r ∷ []} (in_characters _ at) (in_bytes _ at)
       does (Some (look l r)) at = looks l r at (p.holds l i) refl
       does (Some (set x r)) at = sets x r at (first x (left_from p i)) refl
-          (subst (λ o. Result (over_bytes put step nodes p) q r 0 i o) (reads_members x (left_from p i)) (runs put step nodes p q r x at (left_from p i) 0 i is refl))
+          (subst (λ o. Result (over_bytes put step nodes p) q r 0 i o) (reads_members q r x at (left_from p i)) (runs put step nodes p q r x at (left_from p i) 0 i is refl))
 
-  pub bytes_refine : ((x : S) (bs : List ℕ) → run (step x) 0 bs ≡ first x bs) → Refines (over_characters put first nodes p) (over_bytes put step nodes p) at_zero
+  pub bytes_refine : ((q r : ℕ) (x : S) → slice_get nodes q ≡ Some (set x r) → (bs : List ℕ) → run (step q) 0 bs ≡ first x bs) → Refines (over_characters put first nodes p) (over_bytes put step nodes p) at_zero
   bytes_refine reads_members = record { apart = λ q r e. ap (λ z. z.0) e; notes = λ i q n. refl; agrees = λ i q. inside_or_not i q (is_within p.low p.high i) refl }
     where
       inside_or_not : (i q : ℕ) (b : Bool) → is_within p.low p.high i ≡ b → Agrees (over_characters put first nodes p) (over_bytes put step nodes p) at_zero i q

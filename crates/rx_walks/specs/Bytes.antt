@@ -1,4 +1,4 @@
--- The machine that reads a set's characters byte by byte, through an automaton of the set.
+-- The machine that reads characters byte by byte. Each node over a set has an automaton.
 use Rattle.std.specs.Prelude.{ℕ, suc, ◌+◌, List, [], ◌∷◌, map, Option, Some, None, option_map, slice_get}
 use Rattle.rx_walks.specs.Machines.{Move, ends, goes, reads, Machine}
 use Rattle.rx_walks.specs.Programs.{Node, match, pass, note, look, set, Haystack, only_if, is_within, left_from, note_at}
@@ -26,18 +26,18 @@ abbrev pub read_byte : Automaton → ℕ → ℕ → ℕ → ℕ → List ℕ �
 read_byte step q r s i [] = goes []
 read_byte step q r s i (b ∷ bs) = read_on q r i (step s b)
 
--- what there is to do at a node and a state of its set's automaton
-abbrev pub by_byte : {L S : Type 0} → (S → Automaton) → Haystack L → ℕ → ℕ → ℕ → Option (Node L S)
+-- what there is to do at a node and a state of its automaton
+abbrev pub by_byte : {L S : Type 0} → (ℕ → Automaton) → Haystack L → ℕ → ℕ → ℕ → Option (Node L S)
     → Move (ℕ × ℕ)
 by_byte step h i q s None = goes []
 by_byte step h i q s (Some (match k)) = ends k
 by_byte step h i q s (Some (pass rs)) = goes (map (λ r. (r, 0)) rs)
 by_byte step h i q s (Some (note slot r)) = goes ((r, 0) ∷ [])
 by_byte step h i q s (Some (look l r)) = only_if (h.holds l i) (goes ((r, 0) ∷ []))
-by_byte step h i q s (Some (set x r)) = read_byte (step x) q r s i (left_from h i)
+by_byte step h i q s (Some (set x r)) = read_byte (step q) q r s i (left_from h i)
 
--- the machine whose reads are single bytes
-abbrev pub over_bytes : {L S N : Type 0} → (ℕ → ℕ → N → N) → (S → Automaton) → List (Node L S)
+-- the machine whose reads are single bytes; `step` tells the automaton of each node over a set
+abbrev pub over_bytes : {L S N : Type 0} → (ℕ → ℕ → N → N) → (ℕ → Automaton) → List (Node L S)
     → Haystack L → Machine (ℕ × ℕ) N
 over_bytes put step nodes h = record {
   move = λ i q. only_if (is_within h.low h.high i) (by_byte step h i q.0 q.1 (slice_get nodes q.0));

@@ -1,5 +1,5 @@
 -- Laws of walks and of what is found by them.
-use Rattle.std.specs.Prelude.{◌≡◌, ℕ, ◌+◌, ◌⊎◌, ◌↔◌, Bool, IsTrue, List, [], map, Option, None, Some}
+use Rattle.std.specs.Prelude.{◌≡◌, ℕ, ◌+◌, ◌⊎◌, ◌↔◌, Bool, IsTrue, List, [], map, Option, None, Some, slice_get}
 use Rattle.std.specs.Str.{IsCharBoundary}
 use Rattle.rx_walks.specs.Machines.{Machine, Outcome, IsForward, reads}
 use Rattle.rx_walks.specs.Walks.{Walk, IsLeast, Reaches}
@@ -7,8 +7,8 @@ use Rattle.rx_walks.specs.Paths.{Path, PathThrough, HasNoRepeat}
 use Rattle.rx_walks.specs.Characters.{first_character, StandsFirst}
 use Rattle.rx_walks.specs.Looks.{Look}
 use Rattle.rx_walks.specs.Finds.{Search, IsPossible, IsFind, IsFindAll, Span}
-use Rattle.rx_walks.specs.Programs.{Node, Program, Haystack, Notes, over_characters}
-use Rattle.rx_walks.specs.ProgramFinds.{ProgramFinds, ProgramFindsAll, ProgramMatches, ProgramMatchesAll, first_by, haystack_of}
+use Rattle.rx_walks.specs.Programs.{Node, set, Program, Haystack, Notes, put_note, over_characters}
+use Rattle.rx_walks.specs.ProgramFinds.{ProgramFinds, ProgramFindsAll, ProgramMatches, ProgramMatchesAll, first_by, haystack_of, holds_in, machine_of}
 use Rattle.rx_walks.specs.Bytes.{Automaton, run, over_bytes}
 use Rattle.rx_walks.specs.Steps.{Best, Steps, Searches, either}
 use Rattle.rx_walks.specs.StepsAll.{SearchesAll}
@@ -26,9 +26,11 @@ IsTold Q = (a b : Q) → (a ≡ b) ⊎ (a ≡ b → ⊥)
 abbrev pub ReadsWhole : {Q N : Type 0} → Machine Q N → List ℕ → Type 0
 ReadsWhole {Q} m content = (i j : ℕ) (q r : Q) → m.move i q ≡ reads r j → IsCharBoundary content i
 
--- an automaton takes the characters of each set, and nothing else
-abbrev pub ReadsMembers : {S : Type 0} → (S → List ℕ → Option ℕ) → (S → Automaton) → Type 0
-ReadsMembers {S} first step = (x : S) (bs : List ℕ) → run (step x) 0 bs ≡ first x bs
+-- the automaton of each node over a set takes the set's characters, and nothing else
+abbrev pub ReadsMembers : {L S : Type 0} → (S → List ℕ → Option ℕ) → (ℕ → Automaton)
+    → List (Node L S) → Type 0
+ReadsMembers {L} {S} first step nodes = (q r : ℕ) (x : S) → slice_get nodes q ≡ Some (set x r)
+    → (bs : List ℕ) → run (step q) 0 bs ≡ first x bs
 
 -- ---- the definitions
 
@@ -108,32 +110,54 @@ PathsAgree {C} {B} {N} c b f = Refines c b f → IsTold C → IsTold B → N →
 
 -- a program's machine over bytes refines its machine over characters
 abbrev pub BytesRefine : {L S N : Type 0} → (ℕ → ℕ → N → N) → (S → List ℕ → Option ℕ)
-    → (S → Automaton) → List (Node L S) → Haystack L → Type 0
-BytesRefine put first step nodes h = ReadsMembers first step
+    → (ℕ → Automaton) → List (Node L S) → Haystack L → Type 0
+BytesRefine put first step nodes h = ReadsMembers first step nodes
     → Refines (over_characters put first nodes h) (over_bytes put step nodes h) (λ q. (q, 0))
 
+-- the walks from each node at each place, the least ones, and the paths: those of both machines are
+-- the same
+pub record HasWalksOf {C B N : Type 0} (c : Machine C N) (b : Machine B N)
+    (f : C → B) : Type 0 where
+  pub walks : (n : N) (q : C) (i : ℕ) (choices : List ℕ) (t : Outcome N)
+      → Walk c [] n q i choices t ↔ Walk b [] n (f q) i choices t
+  pub least : (n : N) (q : C) (i : ℕ) (t : Outcome N)
+      → IsLeast c [] n q i t ↔ IsLeast b [] n (f q) i t
+  pub paths : (q : C) (i p e : ℕ) → Path c q i p e ↔ Path b (f q) i p e
+
+-- the machine of a search whose reads are single bytes
+abbrev pub byte_machine_of : {S : Type 0} → (ℕ → Bool) → Program Look S → (ℕ → Automaton) → Search
+    → Machine (ℕ × ℕ) Notes
+byte_machine_of is_word p step s =
+    over_bytes put_note step p.nodes (haystack_of (holds_in is_word p.line_terminator s) s)
+
+-- in each search a program over bytes has the walks of the one over characters
+abbrev pub ProgramWalksAgree : {S : Type 0} → (S → ℕ → Bool) → (ℕ → Bool) → Program Look S
+    → (ℕ → Automaton) → Type 0
+ProgramWalksAgree member is_word p step = ReadsMembers (first_by member) step p.nodes → (s : Search)
+    → HasWalksOf (machine_of member is_word p s) (byte_machine_of is_word p step s) (λ q. (q, 0))
+
 -- the loop over places by a program's bytes finds what its characters have
-abbrev pub ProgramsFind : {L S N : Type 0} → (ℕ → ℕ → N → N) → (S → ℕ → Bool) → (S → Automaton)
+abbrev pub ProgramsFind : {L S N : Type 0} → (ℕ → ℕ → N → N) → (S → ℕ → Bool) → (ℕ → Automaton)
     → List (Node L S) → (L → ℕ → Bool) → Type 0
 ProgramsFind {L} {S} {N} put member step nodes holds =
     (s : Search) (fresh : ℕ → N) (q : ℕ) (out : Option (Outcome N))
-    → ReadsMembers (first_by member) step
+    → ReadsMembers (first_by member) step nodes
     → Searches (over_bytes put step nodes (haystack_of holds s)) (Begins s) fresh
     (q, 0) s.start [] None out
     → IsFind (over_characters put (first_by member) nodes (haystack_of holds s)) fresh s q out
 
 -- without a cut it finds the greatest end of what its characters have
-abbrev pub ProgramsFindAll : {L S N : Type 0} → (ℕ → ℕ → N → N) → (S → ℕ → Bool) → (S → Automaton)
+abbrev pub ProgramsFindAll : {L S N : Type 0} → (ℕ → ℕ → N → N) → (S → ℕ → Bool) → (ℕ → Automaton)
     → List (Node L S) → (L → ℕ → Bool) → Type 0
 ProgramsFindAll {L} {S} {N} put member step nodes holds =
     (s : Search) (fresh : ℕ → N) (q : ℕ) (out : Option Span)
-    → ReadsMembers (first_by member) step
+    → ReadsMembers (first_by member) step nodes
     → SearchesAll (over_bytes put step nodes (haystack_of holds s)) (Begins s)
     (q, 0) s.start [] None out
     → IsFindAll (over_characters put (first_by member) nodes (haystack_of holds s)) fresh s q out
 
 -- both machines of a program read forward
 pub record ProgramsReadForward {L S N : Type 0} (put : ℕ → ℕ → N → N) (member : S → ℕ → Bool)
-    (step : S → Automaton) (nodes : List (Node L S)) (h : Haystack L) : Type 0 where
+    (step : ℕ → Automaton) (nodes : List (Node L S)) (h : Haystack L) : Type 0 where
   pub characters : IsForward (over_characters put (first_by member) nodes h)
   pub bytes : IsForward (over_bytes put step nodes h)

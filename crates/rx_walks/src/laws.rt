@@ -1,6 +1,6 @@
 //! Laws of walks and of what is found by them. Each function does nothing: its contract is the law.
 
-ghost use Rattle.rx_walks.specs.Laws.{BytesRefine, FindsAllAtMostOne, FindsAtMostOne, FirstCharacterStands, MatchesAllAreOneList, MatchesAreOneList, PathsAgree, PathsHaveWalks, ProgramsFind, ProgramsFindAll, ProgramsReadForward, SearchesFind, SearchesFindAll, StepsKeepBest, WalksAgree, WalksTakeNoPairTwice};
+ghost use Rattle.rx_walks.specs.Laws.{BytesRefine, FindsAllAtMostOne, FindsAtMostOne, FirstCharacterStands, MatchesAllAreOneList, MatchesAreOneList, PathsAgree, PathsHaveWalks, ProgramWalksAgree, ProgramsFind, ProgramsFindAll, ProgramsReadForward, SearchesFind, SearchesFindAll, StepsKeepBest, WalksAgree, WalksTakeNoPairTwice};
 ghost use Rattle.rx_walks.specs.Machines.{Machine};
 ghost use Rattle.rx_walks.specs.Programs.{Haystack, Node, Program};
 ghost use Rattle.rx_walks.specs.Looks.{Look};
@@ -73,26 +73,32 @@ pub fn paths_agree<C, B, N>()
 
 /// A program's machine over bytes reads in smaller steps what its machine over characters reads.
 pub fn bytes_refine<L, S, N>()
-    ensures { (put : ℕ → ℕ → N → N) (first : S → List ℕ → Option ℕ) (step : S → Automaton)
+    ensures { (put : ℕ → ℕ → N → N) (first : S → List ℕ → Option ℕ) (step : ℕ → Automaton)
         (nodes : List (Node L S)) (h : Haystack L) → BytesRefine put first step nodes h }
+{}
+
+/// In each search the walks of a program over bytes are those of the program over characters.
+pub fn program_walks_agree<S>()
+    ensures { (member : S → ℕ → Bool) (is_word : ℕ → Bool) (p : Program Look S)
+        (step : ℕ → Automaton) → ProgramWalksAgree member is_word p step }
 {}
 
 /// The loop over places by a program's bytes finds what its characters have.
 pub fn programs_find<L, S, N>()
-    ensures { (put : ℕ → ℕ → N → N) (member : S → ℕ → Bool) (step : S → Automaton)
+    ensures { (put : ℕ → ℕ → N → N) (member : S → ℕ → Bool) (step : ℕ → Automaton)
         (nodes : List (Node L S)) (holds : L → ℕ → Bool)
         → ProgramsFind put member step nodes holds }
 {}
 
 /// Without a cut the loop over places by a program's bytes finds the greatest end.
 pub fn programs_find_all<L, S, N>()
-    ensures { (put : ℕ → ℕ → N → N) (member : S → ℕ → Bool) (step : S → Automaton)
+    ensures { (put : ℕ → ℕ → N → N) (member : S → ℕ → Bool) (step : ℕ → Automaton)
         (nodes : List (Node L S)) (holds : L → ℕ → Bool)
         → ProgramsFindAll put member step nodes holds }
 {}
 
 /// Both machines of a program read forward.
 pub fn programs_read_forward<L, S, N>()
-    ensures { (put : ℕ → ℕ → N → N) (member : S → ℕ → Bool) (step : S → Automaton)
+    ensures { (put : ℕ → ℕ → N → N) (member : S → ℕ → Bool) (step : ℕ → Automaton)
         (nodes : List (Node L S)) (h : Haystack L) → ProgramsReadForward put member step nodes h }
 {}

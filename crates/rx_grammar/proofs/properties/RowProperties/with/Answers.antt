@@ -9,7 +9,7 @@ returns-then-self-2 c = λ trees tree is known.
       | then-self w ↦ w.result-is ∙ sym (ap (λ b. b && c.args.part.may_be_empty) w.if-self.true)
       | else-self w ↦ w.result-is ∙ w.if-self.false ∙ sym (ap (λ b. b && c.args.part.may_be_empty) w.if-self.false)
     ] in
-    IsRowOf-more tree is known refl c.saturating_add.ensures all (c.if-self-2.true ∙ sym (ap (λ b. b || c.args.part.may_be_empty) c.if-self-2.true))
+    IsRowOf-more tree is known refl c.saturating_add.ensures c.saturating_add-2.ensures all (c.if-self-2.true ∙ sym (ap (λ b. b || c.args.part.may_be_empty) c.if-self-2.true))
 
 pub returns-else-self-2 : goal.returns-else-self-2
 returns-else-self-2 c = λ trees tree is known.
@@ -17,4 +17,4 @@ returns-else-self-2 c = λ trees tree is known.
       | then-self w ↦ w.result-is ∙ sym (ap (λ b. b && c.args.part.may_be_empty) w.if-self.true)
       | else-self w ↦ w.result-is ∙ w.if-self.false ∙ sym (ap (λ b. b && c.args.part.may_be_empty) w.if-self.false)
     ] in
-    IsRowOf-more tree is known refl c.saturating_add.ensures all (sym (ap (λ b. b || c.args.part.may_be_empty) c.if-self-2.false))
+    IsRowOf-more tree is known refl c.saturating_add.ensures c.saturating_add-2.ensures all (sym (ap (λ b. b || c.args.part.may_be_empty) c.if-self-2.false))

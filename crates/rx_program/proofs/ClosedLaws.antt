@@ -1,0 +1,191 @@
+-- The edges of a pattern's program lead to its nodes.
+use Rattle.std.proofs.Common.{◌≡◌, ℕ, zero, suc, ◌+◌, ◌-◌, ◌*◌, ◌<◌, ◌≤◌, Bool, true, false, List, [], ◌∷◌, ◌++◌, length, Option, Some, None, refl, sym, ap, ap₂, subst, ◌∙◌, arith, length-append}
+use Rattle.std.specs.List.{All}
+use Rattle.std.proofs.lemmas.List.Elements.{All-cons, All-nil, All-append}
+use Rattle.rx_sets.specs.Sets.{Range}
+use Rattle.rx_grammar.specs.Trees.{Tree, Trees, empty, one_of, look_at, group, concat, alternation, repeated, two, more}
+use Rattle.rx_grammar.specs.Weights.{may_be_empty, size_of, all_sizes_of, repeated_weight}
+use Rattle.rx_walks.specs.Looks as walks
+use Rattle.rx_walks.specs.Programs.{Node, match, pass, note, look, set}
+use Rattle.rx_program.specs.Code.{Code, place_of, fork, entry_of, copies, optional, repetition_code, branch_starts, code_of, row_code, branches_code, pattern_code, program_of}
+use Rattle.rx_program.specs.Closed.{LeadsBelow, IsClosed, PatternIsClosed}
+
+-- a part has a node
+some_times : (n : ℕ) (most : Option ℕ) (s : ℕ) (may : Bool) → 1 ≤ s → 1 ≤ repeated_weight n most s may
+some_times n (Some zero) s may some = omega arith
+some_times zero (Some (suc m)) s may some = let e : suc m - 0 ≡ suc m = omega arith in omega (arith, ap (λ k. k * (1 + s)) e)
+some_times (suc n) (Some (suc m)) s may some = omega (arith, some)
+some_times zero None s false some = omega arith
+some_times zero None s true some = omega arith
+some_times (suc n) None s may some = omega arith
+
+mutual
+  pub some_nodes : (tree : Tree) → 1 ≤ size_of tree
+  some_nodes empty = omega arith
+  some_nodes (one_of ranges) = omega arith
+  some_nodes (look_at asked) = omega arith
+  some_nodes (group number name tree) = omega arith
+  some_nodes (concat trees) = some_row trees
+  some_nodes (alternation trees) = omega arith
+  some_nodes (repeated rep tree) = some_times rep.min rep.max (size_of tree) (may_be_empty tree) (some_nodes tree)
+
+  some_row : (trees : Trees) → 1 ≤ all_sizes_of trees
+  some_row (two first second) = omega (arith, some_nodes first)
+  some_row (more first others) = omega (arith, some_nodes first)
+
+-- and exactly as many as its size is
+copies_length : (s : ℕ) (h : ℕ → ℕ → Code) → ((at next : ℕ) → length (h at next) ≡ s) → (n at next : ℕ) → length (copies s h n at next) ≡ n * s
+copies_length s h is zero at next = omega arith
+copies_length s h is (suc n) at next =
+    omega (arith, length-append (h at (entry_of n (at + s) next)) (copies s h n (at + s) next), is at (entry_of n (at + s) next), copies_length s h is n (at + s) next)
+
+optional_length : (g : Bool) (s : ℕ) (h : ℕ → ℕ → Code) → ((at next : ℕ) → length (h at next) ≡ s) → (n at next : ℕ) → length (optional g s h n at next) ≡ n * (1 + s)
+optional_length g s h is zero at next = omega arith
+optional_length g s h is (suc n) at next =
+    omega (arith, length-append (h (at + 1) (entry_of n (at + 1 + s) next)) (optional g s h n (at + 1 + s) next), is (at + 1) (entry_of n (at + 1 + s) next), optional_length g s h is n (at + 1 + s) next)
+
+repetition_length : (g : Bool) (n : ℕ) (most : Option ℕ) (s : ℕ) (may : Bool) (h : ℕ → ℕ → Code) → ((at next : ℕ) → length (h at next) ≡ s) → (at next : ℕ)
+    → length (repetition_code g n most s may h at next) ≡ repeated_weight n most s may
+repetition_length g n (Some zero) s may h is at next = refl
+repetition_length g n (Some (suc m)) s may h is at next =
+    let on = entry_of (suc m - n) (at + n * s) next in
+    length-append (copies s h n at on) (optional g s h (suc m - n) (at + n * s) next) ∙ ap₂ (λ a b. a + b) (copies_length s h is n at on) (optional_length g s h is (suc m - n) (at + n * s) next)
+repetition_length g zero None s false h is at next = omega (arith, is (at + 1) at)
+repetition_length g zero None s true h is at next = omega (arith, length-append (h (at + 1) (at + 1 + s)) (fork g (at + 1) next ∷ []), is (at + 1) (at + 1 + s))
+repetition_length g (suc n) None s may h is at next =
+    omega (arith, length-append (copies s h (suc n) at (at + suc n * s)) (fork g (at + n * s) next ∷ []), copies_length s h is (suc n) at (at + suc n * s))
+
+mutual
+  pub code_length : (tree : Tree) (at next : ℕ) → length (code_of 0 tree at next) ≡ size_of tree
+  code_length empty at next = refl
+  code_length (one_of ranges) at next = refl
+  code_length (look_at asked) at next = refl
+  code_length (group number name tree) at next =
+      omega (arith, length-append (code_of 0 tree (at + 1) (at + 1 + size_of tree)) (note (0 + 2 * number + 1) next ∷ []), code_length tree (at + 1) (at + 1 + size_of tree))
+  code_length (concat trees) at next = row_length trees at next
+  code_length (alternation trees) at next = omega (arith, branches_length trees (at + 1) next)
+  code_length (repeated rep tree) at next =
+      repetition_length rep.greedy rep.min rep.max (size_of tree) (may_be_empty tree) (code_of 0 tree) (λ a b. code_length tree a b) at next
+
+  row_length : (trees : Trees) (at next : ℕ) → length (row_code 0 trees at next) ≡ all_sizes_of trees
+  row_length (two first second) at next =
+      omega (arith, length-append (code_of 0 first at (at + size_of first)) (code_of 0 second (at + size_of first) next), code_length first at (at + size_of first), code_length second (at + size_of first) next)
+  row_length (more first others) at next =
+      omega (arith, length-append (code_of 0 first at (at + size_of first)) (row_code 0 others (at + size_of first) next), code_length first at (at + size_of first), row_length others (at + size_of first) next)
+
+  branches_length : (trees : Trees) (at next : ℕ) → length (branches_code 0 trees at next) ≡ all_sizes_of trees
+  branches_length (two first second) at next =
+      omega (arith, length-append (code_of 0 first at next) (code_of 0 second (at + size_of first) next), code_length first at next, code_length second (at + size_of first) next)
+  branches_length (more first others) at next =
+      omega (arith, length-append (code_of 0 first at next) (branches_code 0 others (at + size_of first) next), code_length first at next, branches_length others (at + size_of first) next)
+
+-- edges
+module _ (n : ℕ) where
+  abbrev Below : List (Node walks.Look (List Range)) → Type 0
+  Below nodes = All (LeadsBelow n) nodes
+
+  one_node : (node : Node walks.Look (List Range)) → LeadsBelow n node → Below (node ∷ [])
+  one_node node h = All-cons (LeadsBelow n) node [] h (All-nil (LeadsBelow n))
+
+  one_edge : (r : ℕ) → r < n → All (λ r. r < n) (r ∷ [])
+  one_edge r h = All-cons (λ r. r < n) r [] h (All-nil (λ r. r < n))
+
+  two_edges : (r q : ℕ) → r < n → q < n → All (λ r. r < n) (r ∷ q ∷ [])
+  two_edges r q h i = All-cons (λ r. r < n) r (q ∷ []) h (one_edge q i)
+
+  fork_below : (g : Bool) (into on : ℕ) → into < n → on < n → LeadsBelow n (fork g into on)
+  fork_below true into on h i = two_edges into on h i
+  fork_below false into on h i = two_edges on into i h
+
+  before : (node : Node walks.Look (List Range)) (nodes : List (Node walks.Look (List Range))) → LeadsBelow n node → Below nodes → Below (node ∷ nodes)
+  before node nodes h all = All-cons (LeadsBelow n) node nodes h all
+
+  beside : (xs ys : List (Node walks.Look (List Range))) → Below xs → Below ys → Below (xs ++ ys)
+  beside xs ys a b = All-append (LeadsBelow n) xs ys a b
+
+  entry_below : (k at next : ℕ) (s : ℕ) → 1 ≤ s → at + k * s ≤ n → next < n → entry_of k at next < n
+  entry_below zero at next s some fits below = below
+  entry_below (suc k) at next s some fits below = omega (arith, some, fits)
+
+  abbrev Fitting : ℕ → (ℕ → ℕ → Code) → Type 0
+  Fitting s h = (at next : ℕ) → at + s ≤ n → next < n → Below (h at next)
+
+  copies_below : (s : ℕ) (h : ℕ → ℕ → Code) → 1 ≤ s → Fitting s h → (k at next : ℕ) → at + k * s ≤ n → next < n → Below (copies s h k at next)
+  copies_below s h some fit zero at next fits below = All-nil (LeadsBelow n)
+  copies_below s h some fit (suc k) at next fits below = beside (h at (entry_of k (at + s) next)) (copies s h k (at + s) next)
+      (fit at (entry_of k (at + s) next) (omega (arith, fits)) (entry_below k (at + s) next s some (omega (arith, fits)) below))
+      (copies_below s h some fit k (at + s) next (omega (arith, fits)) below)
+
+  optional_below : (g : Bool) (s : ℕ) (h : ℕ → ℕ → Code) → 1 ≤ s → Fitting s h → (k at next : ℕ) → at + k * (1 + s) ≤ n → next < n → Below (optional g s h k at next)
+  optional_below g s h some fit zero at next fits below = All-nil (LeadsBelow n)
+  optional_below g s h some fit (suc k) at next fits below = before (fork g (at + 1) next) _ (fork_below g (at + 1) next (omega (arith, fits, some)) below)
+      (beside (h (at + 1) (entry_of k (at + 1 + s) next)) (optional g s h k (at + 1 + s) next)
+      (fit (at + 1) (entry_of k (at + 1 + s) next) (omega (arith, fits)) (entry_below k (at + 1 + s) next (1 + s) (omega (arith, some)) (omega (arith, fits)) below))
+      (optional_below g s h some fit k (at + 1 + s) next (omega (arith, fits)) below))
+
+  repetition_below : (g : Bool) (k : ℕ) (most : Option ℕ) (s : ℕ) (may : Bool) (h : ℕ → ℕ → Code) → 1 ≤ s → Fitting s h → (at next : ℕ) → at + repeated_weight k most s may ≤ n → next < n
+      → Below (repetition_code g k most s may h at next)
+  repetition_below g k (Some zero) s may h some fit at next fits below = one_node (pass (next ∷ [])) (one_edge next below)
+  repetition_below g k (Some (suc m)) s may h some fit at next fits below =
+      let on = entry_of (suc m - k) (at + k * s) next in
+      beside (copies s h k at on) (optional g s h (suc m - k) (at + k * s) next)
+      (copies_below s h some fit k at on (omega (arith, fits)) (entry_below (suc m - k) (at + k * s) next (1 + s) (omega (arith, some)) (omega (arith, fits)) below))
+      (optional_below g s h some fit (suc m - k) (at + k * s) next (omega (arith, fits)) below)
+  repetition_below g zero None s false h some fit at next fits below =
+      before (fork g (at + 1) next) (h (at + 1) at) (fork_below g (at + 1) next (omega (arith, fits, some)) below) (fit (at + 1) at (omega (arith, fits)) (omega (arith, fits)))
+  repetition_below g zero None s true h some fit at next fits below =
+      before (fork g (at + 1) next) _ (fork_below g (at + 1) next (omega (arith, fits)) below)
+      (beside (h (at + 1) (at + 1 + s)) (fork g (at + 1) next ∷ []) (fit (at + 1) (at + 1 + s) (omega (arith, fits)) (omega (arith, fits)))
+      (one_node (fork g (at + 1) next) (fork_below g (at + 1) next (omega (arith, fits)) below)))
+  repetition_below g (suc k) None s may h some fit at next fits below =
+      beside (copies s h (suc k) at (at + suc k * s)) (fork g (at + k * s) next ∷ [])
+      (copies_below s h some fit (suc k) at (at + suc k * s) (omega (arith, fits)) (omega (arith, fits)))
+      (one_node (fork g (at + k * s) next) (fork_below g (at + k * s) next (omega (arith, fits, some)) below))
+
+  starts_below : (trees : Trees) (at : ℕ) → at + all_sizes_of trees ≤ n → All (λ r. r < n) (branch_starts trees at)
+  starts_below (two first second) at fits = two_edges at (at + size_of first) (omega (arith, fits, some_nodes first)) (omega (arith, fits, some_nodes second))
+  starts_below (more first others) at fits =
+      All-cons (λ r. r < n) at (branch_starts others (at + size_of first)) (omega (arith, fits, some_nodes first)) (starts_below others (at + size_of first) (omega (arith, fits)))
+
+  mutual
+    code_below : (tree : Tree) (at next : ℕ) → at + size_of tree ≤ n → next < n → Below (code_of 0 tree at next)
+    code_below empty at next fits below = one_node (pass (next ∷ [])) (one_edge next below)
+    code_below (one_of ranges) at next fits below = one_node (set ranges next) below
+    code_below (look_at asked) at next fits below = one_node (look (place_of asked) next) below
+    code_below (group number name tree) at next fits below = before (note (0 + 2 * number) (at + 1)) _ (omega (arith, fits))
+        (beside (code_of 0 tree (at + 1) (at + 1 + size_of tree)) (note (0 + 2 * number + 1) next ∷ []) (code_below tree (at + 1) (at + 1 + size_of tree) (omega (arith, fits)) (omega (arith, fits)))
+        (one_node (note (0 + 2 * number + 1) next) below))
+    code_below (concat trees) at next fits below = row_below trees at next fits below
+    code_below (alternation trees) at next fits below =
+        before (pass (branch_starts trees (at + 1))) _ (starts_below trees (at + 1) (omega (arith, fits))) (branches_below trees (at + 1) next (omega (arith, fits)) below)
+    code_below (repeated rep tree) at next fits below =
+        repetition_below rep.greedy rep.min rep.max (size_of tree) (may_be_empty tree) (code_of 0 tree) (some_nodes tree) (λ a b. code_below tree a b) at next fits below
+
+    row_below : (trees : Trees) (at next : ℕ) → at + all_sizes_of trees ≤ n → next < n → Below (row_code 0 trees at next)
+    row_below (two first second) at next fits below =
+        beside (code_of 0 first at (at + size_of first)) (code_of 0 second (at + size_of first) next)
+        (code_below first at (at + size_of first) (omega (arith, fits)) (omega (arith, fits, some_nodes second))) (code_below second (at + size_of first) next (omega (arith, fits)) below)
+    row_below (more first others) at next fits below =
+        beside (code_of 0 first at (at + size_of first)) (row_code 0 others (at + size_of first) next)
+        (code_below first at (at + size_of first) (omega (arith, fits)) (omega (arith, fits, some_row others))) (row_below others (at + size_of first) next (omega (arith, fits)) below)
+
+    branches_below : (trees : Trees) (at next : ℕ) → at + all_sizes_of trees ≤ n → next < n → Below (branches_code 0 trees at next)
+    branches_below (two first second) at next fits below =
+        beside (code_of 0 first at next) (code_of 0 second (at + size_of first) next) (code_below first at next (omega (arith, fits)) below) (code_below second (at + size_of first) next (omega (arith, fits)) below)
+    branches_below (more first others) at next fits below =
+        beside (code_of 0 first at next) (branches_code 0 others (at + size_of first) next) (code_below first at next (omega (arith, fits)) below) (branches_below others (at + size_of first) next (omega (arith, fits)) below)
+
+pub pattern_is_closed : PatternIsClosed
+pattern_is_closed tree terminator =
+    let s = size_of tree in
+    let code = code_of 0 tree 1 (0 + 1 + s) in
+    let end = note 1 (0 + 2 + s) ∷ match 0 ∷ [] in
+    let count : length (pattern_code 0 0 tree 0) ≡ 3 + s = omega (arith, length-append code end, code_length tree 1 (0 + 1 + s)) in
+    let edges : All (LeadsBelow (3 + s)) (pattern_code 0 0 tree 0) =
+    before (3 + s) (note 0 1) _ (omega arith) (beside (3 + s) code end (code_below (3 + s) tree 1 (0 + 1 + s) (omega arith) (omega arith))
+    (before (3 + s) (note 1 (0 + 2 + s)) (match 0 ∷ []) (omega arith) (one_node (3 + s) (match 0) tt))) in
+    record {
+      edges = subst (λ n. All (LeadsBelow n) (pattern_code 0 0 tree 0)) (sym count) edges;
+      start = omega (arith, count);
+      patterns = All-cons (λ r. r < length (pattern_code 0 0 tree 0)) 0 [] (omega (arith, count)) (All-nil (λ r. r < length (pattern_code 0 0 tree 0)));
+    }

@@ -1,0 +1,15 @@
+pub mod JobLaws
+pub mod PartLaws
+pub mod RowLaws
+pub mod CaseLaws
+pub mod TimesLaws
+pub mod ProgramLaws
+pub mod FactLaws
+pub mod ShapeLaws
+pub mod SizeLaws
+pub mod DoneLaws
+pub mod RepeatLaws
+pub mod StartLaws
+pub mod NodeLaws
+pub mod PatternLaws
+pub mod ClosedLaws

@@ -1,0 +1,46 @@
+-- The automata of a program's states read the characters of its nodes.
+use Rattle.std.proofs.Common.{◌≡◌, ℕ, zero, suc, ◌<◌, List, [], ◌∷◌, length, map, get_or, Some, slice_get, refl, ap, subst, ◌∙◌, arith}
+use Rattle.std.specs.List.{All}
+use Rattle.std.proofs.lemmas.List.Elements.{All-get_or}
+use Rattle.rx_sets.specs.Sets.{Range}
+use Rattle.rx_automata.specs.Automata.{is_in}
+use Rattle.rx_walks.specs.Characters.{member_len}
+use Rattle.rx_walks.specs.Bytes.{run}
+use Rattle.rx_walks.specs.Looks as walks
+use Rattle.rx_walks.specs.Programs.{Node, set}
+use Rattle.rx_program.specs.declared.states.State.{State}
+use Rattle.rx_program.specs.declared.states.State.TheVariants as state
+use Rattle.rx_program.specs.Programs.{node_of, automaton_of, ReadsItsSet, ByteProgram, IsByteProgram}
+
+-- a state whose node is over a set
+of_state : (s : State) (x : List Range) (r : ℕ) → ReadsItsSet s → node_of s ≡ set x r → (bytes : List ℕ) → run (automaton_of (Some s)) 0 bytes ≡ member_len (is_in x) bytes
+of_state (state.Ranges automaton next) x r reads e bytes = reads.reads bytes ∙ ap (λ ranges. member_len (is_in ranges) bytes) (cc e)
+of_state (state.Look asked next) x r reads e bytes = absurd (cc e)
+of_state (state.Empty next) x r reads e bytes = absurd (cc e)
+of_state (state.BinaryUnion first second) x r reads e bytes = absurd (cc e)
+of_state (state.Union alternates) x r reads e bytes = absurd (cc e)
+of_state (state.Capture slot next) x r reads e bytes = absurd (cc e)
+of_state (state.Match pattern) x r reads e bytes = absurd (cc e)
+
+same_some : {X : Type 0} {x y : X} → Some x ≡ Some y → x ≡ y
+same_some e = cc e
+
+-- the state of a node
+record StateAt (states : List State) (q : ℕ) (node : Node walks.Look (List Range)) : Type 0 where
+  state : State
+  at : slice_get states q ≡ Some state
+  is : node_of state ≡ node
+  below : q < length states
+  found : get_or states q state ≡ state
+
+state_at : (states : List State) (q : ℕ) (node : Node walks.Look (List Range)) → slice_get (map node_of states) q ≡ Some node → StateAt states q node
+state_at [] q node e = absurd (cc e)
+state_at (s ∷ states) zero node e = record { state = s; at = refl; is = same_some e; below = omega arith; found = refl }
+state_at (s ∷ states) (suc q) node e =
+    let on = state_at states q node e in record { state = on.state; at = on.at; is = on.is; below = omega (arith, on.below); found = on.found }
+
+pub reads_members : (p : ByteProgram) → All ReadsItsSet p.states → IsByteProgram p
+reads_members p all q r x e bytes =
+    let on = state_at p.states q (set x r) e in
+    let reads : ReadsItsSet on.state = subst ReadsItsSet on.found (All-get_or ReadsItsSet p.states q on.state on.below all) in
+    ap (λ o. run (automaton_of o) 0 bytes) on.at ∙ of_state on.state x r reads on.is bytes

@@ -1,0 +1,6 @@
+pub mod Code
+pub mod Sizes
+pub mod Errors
+pub mod Programs
+pub mod Jobs
+pub mod Closed

@@ -1,0 +1,165 @@
+//! Compiling one part of a tree after the other, with a stack of what is left to be done.
+
+ghost use Rattle.std.specs.Prelude.{◌≡◌, ◌+◌, ◌<◌, ◌^◌, [], length, OnOk};
+ghost use Rattle.rx_grammar.specs.Subtrees.{subtrees_of};
+ghost use Rattle.rx_grammar.specs.Postorder.{tree_of};
+ghost use Rattle.rx_program.specs.Code.{entry_of};
+ghost use Rattle.rx_program.specs.Jobs.{IsJob, job_size, DoesJob};
+
+use crate::automata::Automata;
+use crate::states::State;
+use rx_grammar::Hir;
+use std::alloc::{AllocError, Global};
+
+/// What is to be done. A part is named by the number of its root among the tree's nodes.
+#[derive(Drop)]
+pub(crate) enum Job {
+    /// The part with this root, which goes on to a state.
+    Part(usize, usize),
+    /// One state.
+    State(State),
+    /// So many parts, one after the other: how many, the root of the last one, how many states they
+    /// have, and the state that they go on to.
+    Row(usize, usize, usize, usize),
+    /// So many parts beside one another: how many, the root of the last one, and the state that
+    /// they go on to.
+    Branches(usize, usize, usize),
+    /// So many copies of a part: how many, its root, and the state that they go on to.
+    Copies(usize, usize, usize),
+    /// So many optional copies of a part, each inside the one before: whether they are greedy, how
+    /// many, its root, and the state that they go on to.
+    Optional(bool, usize, usize, usize),
+}
+
+/// A program that grows. The last job is done first.
+#[derive(Drop)]
+pub(crate) struct Compiler {
+    pub(crate) alloc: Global,
+    pub(crate) states: Vec<State>,
+    pub(crate) jobs: Vec<Job>,
+    pub(crate) automata: Automata,
+}
+
+/// Where a row of so many parts is entered: at its first one; with none in it, at what comes next.
+pub(crate) fn entry_of(count: usize, at: usize, next: usize) -> usize
+    ensures { result ≡ entry_of count at next }
+{
+    if count == 0 { next } else { at }
+}
+
+impl Compiler {
+    /// Nothing is done yet.
+    pub(crate) fn new(alloc: Global) -> Compiler
+        ensures states { result.states.items ≡ [] }
+        ensures jobs { result.jobs.items ≡ [] }
+    {
+        Compiler {
+            alloc,
+            states: Vec::new(alloc),
+            jobs: Vec::new(alloc),
+            automata: Automata::new(alloc),
+        }
+    }
+
+    /// Parts in a row: the last one, and before it the others.
+    pub(crate) fn row(
+        &mut self,
+        hir: &Hir,
+        count: usize,
+        root: usize,
+        size: usize,
+        next: usize,
+    ) -> Result<(), AllocError>
+        requires job { IsJob (subtrees_of (tree_of hir.now)) (Job.Row count root size next) }
+        requires room { length self.old.states.items + size + 1 < 2 ^ 64 }
+        ensures { OnOk result (DoesJob (subtrees_of (tree_of hir.now))
+            (Job.Row count root size next) self.old.states.items self.new.states.items
+            self.old.jobs.items self.new.jobs.items) }
+    {
+        if count == 0 {
+            return Ok(());
+        }
+        let part = hir.properties()[root];
+        let before = size - part.size;
+        let start = self.states.len() + before;
+        self.jobs.push(Job::Part(root, next))?;
+        self.jobs.push(Job::Row(count - 1, root.saturating_sub(part.extent), before, start))?;
+        Ok(())
+    }
+
+    /// Parts beside one another: the last one, and before it the others.
+    pub(crate) fn branches(
+        &mut self,
+        hir: &Hir,
+        count: usize,
+        root: usize,
+        next: usize,
+    ) -> Result<(), AllocError>
+        requires { IsJob (subtrees_of (tree_of hir.now)) (Job.Branches count root next) }
+        ensures { OnOk result (DoesJob (subtrees_of (tree_of hir.now))
+            (Job.Branches count root next) self.old.states.items self.new.states.items
+            self.old.jobs.items self.new.jobs.items) }
+    {
+        if count == 0 {
+            return Ok(());
+        }
+        let part = hir.properties()[root];
+        self.jobs.push(Job::Part(root, next))?;
+        self.jobs.push(Job::Branches(count - 1, root.saturating_sub(part.extent), next))?;
+        Ok(())
+    }
+
+    /// Copies of a part: one, and then the others.
+    pub(crate) fn copies(
+        &mut self,
+        hir: &Hir,
+        count: usize,
+        root: usize,
+        next: usize,
+    ) -> Result<(), AllocError>
+        requires root { root < length (subtrees_of (tree_of hir.now)) }
+        requires room { length self.old.states.items
+            + job_size (subtrees_of (tree_of hir.now)) (Job.Copies count root next) + 1 < 2 ^ 64 }
+        ensures { OnOk result (DoesJob (subtrees_of (tree_of hir.now))
+            (Job.Copies count root next) self.old.states.items self.new.states.items
+            self.old.jobs.items self.new.jobs.items) }
+    {
+        if count == 0 {
+            return Ok(());
+        }
+        let after = self.states.len() + hir.properties()[root].size;
+        self.jobs.push(Job::Copies(count - 1, root, next))?;
+        self.jobs
+            .push(Job::Part(root, entry_of(count - 1, after, next)))?;
+        Ok(())
+    }
+
+    /// Optional copies of a part: the first one, and inside of it the others.
+    pub(crate) fn optional(
+        &mut self,
+        hir: &Hir,
+        greedy: bool,
+        count: usize,
+        root: usize,
+        next: usize,
+    ) -> Result<(), AllocError>
+        requires root { root < length (subtrees_of (tree_of hir.now)) }
+        requires room { length self.old.states.items + job_size (subtrees_of (tree_of hir.now))
+            (Job.Optional greedy count root next) + 1 < 2 ^ 64 }
+        ensures { OnOk result (DoesJob (subtrees_of (tree_of hir.now))
+            (Job.Optional greedy count root next) self.old.states.items self.new.states.items
+            self.old.jobs.items self.new.jobs.items) }
+    {
+        if count == 0 {
+            return Ok(());
+        }
+        let inside = self.states.len() + 1;
+        let after = inside + hir.properties()[root].size;
+        self.states.push(State::fork(greedy, inside, next))?;
+        self.jobs
+            .push(Job::Optional(greedy, count - 1, root, next))?;
+        self.jobs
+            .push(Job::Part(root, entry_of(count - 1, after, next)))?;
+        Ok(())
+    }
+}

@@ -1,0 +1,161 @@
+//! Compiling a part of a tree: its own states, and jobs for the parts right below it.
+
+ghost use Rattle.std.specs.Prelude.{◌≡◌, ◌+◌, ◌-◌, ◌<◌, ◌^◌, length, OnOk, IfOk};
+ghost use Rattle.rx_grammar.specs.Trees.{repeated};
+ghost use Rattle.rx_grammar.specs.Subtrees.{subtrees_of};
+ghost use Rattle.rx_grammar.specs.Postorder.{tree_of};
+ghost use Rattle.rx_grammar.specs.Weights.{size_of};
+ghost use Rattle.rx_grammar.specs.Nodes.{properties_of};
+ghost use Rattle.rx_program.specs.Jobs.{DoesJob, IsJob, job_size, HasRow, part_at, sizes_of, starts_of, trees_before};
+
+use crate::compiler::{Compiler, Job, entry_of};
+use crate::states::State;
+use rx_captures::StateID;
+use rx_grammar::{Hir, Node, Properties, Repetition};
+use std::alloc::{AllocError, Global};
+
+/// What is known of the part with this root.
+fn known_of(hir: &Hir, root: usize) -> Properties
+    requires { root < length (subtrees_of (tree_of hir.now)) }
+    ensures { result ≡ properties_of (part_at (subtrees_of (tree_of hir.now)) root) }
+{
+    hir.properties()[root]
+}
+
+/// The states by which parts beside one another are entered: so many, up to the one with this root,
+/// of which the states end at `end`.
+fn branch_starts(
+    alloc: Global,
+    hir: &Hir,
+    count: usize,
+    mut root: usize,
+    mut end: usize,
+) -> Result<Vec<StateID>, AllocError>
+    requires row { HasRow (subtrees_of (tree_of hir.now)) count root }
+    requires room { sizes_of (trees_before (subtrees_of (tree_of hir.now)) count root) < end }
+    ensures { let trees = trees_before (subtrees_of (tree_of hir.now)) count root in
+        IfOk result (λ starts. starts.items ≡ starts_of trees (end - sizes_of trees)) }
+{
+    let mut starts = Vec::new(alloc);
+    for _ in 0..count {
+        let part = known_of(hir, root);
+        end -= part.size;
+        starts.push(StateID::new(end))?;
+        root = root.saturating_sub(part.extent);
+    }
+    starts.reverse();
+    Ok(starts)
+}
+
+impl Compiler {
+    /// A repetition of the part with this root.
+    fn repetition(
+        &mut self,
+        hir: &Hir,
+        repetition: Repetition,
+        root: usize,
+        next: usize,
+    ) -> Result<(), AllocError>
+        requires root { root + 1 < length (subtrees_of (tree_of hir.now)) }
+        requires is { part_at (subtrees_of (tree_of hir.now)) (root + 1)
+            ≡ repeated repetition (part_at (subtrees_of (tree_of hir.now)) root) }
+        requires room { length self.old.states.items
+            + size_of (part_at (subtrees_of (tree_of hir.now)) (root + 1)) + 1 < 2 ^ 64 }
+        ensures { OnOk result (DoesJob (subtrees_of (tree_of hir.now))
+            (Job.Part (root + 1) next) self.old.states.items self.new.states.items
+            self.old.jobs.items self.new.jobs.items) }
+    {
+        let at = self.states.len();
+        let part = hir.properties()[root];
+        let least = repetition.min as usize;
+        match repetition.max {
+            Some(0) => self.states.push(State::Empty(StateID::new(next)))?,
+            Some(most) => {
+                let further = (most as usize).saturating_sub(least);
+                let on = entry_of(further, at + least * part.size, next);
+                self.jobs
+                    .push(Job::Optional(repetition.greedy, further, root, next))?;
+                self.jobs.push(Job::Copies(least, root, on))?;
+            }
+            None if least > 0 => {
+                let last = at + (least - 1) * part.size;
+                let end = at + least * part.size;
+                let back = State::fork(repetition.greedy, last, next);
+                self.jobs.push(Job::State(back))?;
+                self.jobs.push(Job::Copies(least, root, end))?;
+            }
+            None if part.may_be_empty => {
+                self.states
+                    .push(State::fork(repetition.greedy, at + 1, next))?;
+                let back = State::fork(repetition.greedy, at + 1, next);
+                self.jobs.push(Job::State(back))?;
+                self.jobs.push(Job::Part(root, at + 1 + part.size))?;
+            }
+            None => {
+                self.states
+                    .push(State::fork(repetition.greedy, at + 1, next))?;
+                self.jobs.push(Job::Part(root, at))?;
+            }
+        }
+        Ok(())
+    }
+
+    /// The part with this root.
+    fn part(&mut self, hir: &Hir, root: usize, next: usize) -> Result<(), AllocError>
+        requires root { root < length (subtrees_of (tree_of hir.now)) }
+        requires room { length self.old.states.items
+            + size_of (part_at (subtrees_of (tree_of hir.now)) root) + 1 < 2 ^ 64 }
+        ensures { OnOk result (DoesJob (subtrees_of (tree_of hir.now)) (Job.Part root next)
+            self.old.states.items self.new.states.items self.old.jobs.items self.new.jobs.items) }
+    {
+        let at = self.states.len();
+        let size = hir.properties()[root].size;
+        let on = StateID::new(next);
+        match &hir.nodes()[root] {
+            Node::Empty => self.states.push(State::Empty(on))?,
+            Node::Look(look) => self.states.push(State::Look(*look, on))?,
+            Node::Set(set) => {
+                let automaton = self.automata.automaton(set)?;
+                self.states.push(State::Ranges(automaton, on))?;
+            }
+            Node::Group(number, _) => {
+                let slot = 2 * *number as usize;
+                self.states
+                    .push(State::Capture(slot, StateID::new(at + 1)))?;
+                self.jobs.push(Job::State(State::Capture(slot + 1, on)))?;
+                self.jobs.push(Job::Part(root - 1, at + size - 1))?;
+            }
+            Node::Concat(count) => self.jobs.push(Job::Row(*count, root - 1, size, next))?,
+            Node::Alternation(count) => {
+                let starts = branch_starts(self.alloc, hir, *count, root - 1, at + size)?;
+                self.states.push(State::Union(starts))?;
+                self.jobs.push(Job::Branches(*count, root - 1, next))?;
+            }
+            Node::Repeat(repetition) => self.repetition(hir, *repetition, root - 1, next)?,
+        }
+        Ok(())
+    }
+
+    /// One job.
+    pub(crate) fn run(&mut self, hir: &Hir, job: Job) -> Result<(), AllocError>
+        requires job { IsJob (subtrees_of (tree_of hir.now)) job }
+        requires room { length self.old.states.items
+            + job_size (subtrees_of (tree_of hir.now)) job + 1 < 2 ^ 64 }
+        ensures { OnOk result (DoesJob (subtrees_of (tree_of hir.now)) job
+            self.old.states.items self.new.states.items self.old.jobs.items self.new.jobs.items) }
+    {
+        match job {
+            Job::Part(root, next) => self.part(hir, root, next),
+            Job::State(state) => {
+                self.states.push(state)?;
+                Ok(())
+            }
+            Job::Row(count, root, size, next) => self.row(hir, count, root, size, next),
+            Job::Branches(count, root, next) => self.branches(hir, count, root, next),
+            Job::Copies(count, root, next) => self.copies(hir, count, root, next),
+            Job::Optional(greedy, count, root, next) => {
+                self.optional(hir, greedy, count, root, next)
+            }
+        }
+    }
+}

@@ -1,0 +1,100 @@
+//! Compiled programs.
+
+ghost use Rattle.std.specs.Prelude.{◌≡◌, All};
+ghost use Rattle.rx_program.specs.Programs.{ReadsItsSet, characters_of, IsByteProgram, HasWalksOfProgram};
+
+use crate::states::State;
+use rx_captures::StateID;
+use rx_sets::CharacterSet;
+use rx_walks::laws::program_walks_agree;
+use std::marker::Model;
+
+/// Patterns compiled to states over bytes. It comes from `compile` alone. Contracts see its
+/// states, where walks start, and the byte that ends a line (`ByteProgram`); `characters_of` is the
+/// program over characters that it stands for.
+#[derive(Debug, Drop)]
+pub struct Program {
+    states: Vec<State>,
+    start: StateID,
+    patterns: Vec<StateID>,
+    line_terminator: u8,
+}
+
+impl Model for Program {
+    ghost use Rattle.std.specs.Prelude.{All};
+    ghost use Rattle.rx_program.specs.Programs.{ByteProgram, ReadsItsSet};
+
+    ghost Value = { ByteProgram };
+
+    ghost view = { λ p. record {
+      states = p.states.items;
+      start = p.start;
+      patterns = p.patterns.items;
+      line_terminator = p.line_terminator;
+    } };
+
+    ghost invariant = { λ p. All ReadsItsSet p.states.items };
+}
+
+impl Program {
+    /// The states, by number.
+    pub fn states(&self) -> &[State]
+        ensures states { result.now ≡ self.now.states }
+        ensures reads { All ReadsItsSet result.now }
+    {
+        &self.states
+    }
+
+    /// The state that walks start from where no pattern is asked for.
+    pub fn start(&self) -> StateID
+        ensures { result ≡ self.now.start }
+    {
+        self.start
+    }
+
+    /// The state that walks of each pattern start from.
+    pub fn patterns(&self) -> &[StateID]
+        ensures { result.now ≡ self.now.patterns }
+    {
+        &self.patterns
+    }
+
+    /// The byte that ends a line.
+    pub fn line_terminator(&self) -> u8
+        ensures { result ≡ self.now.line_terminator }
+    {
+        self.line_terminator
+    }
+
+    /// A law, for the proof alone: in each search of any content the walks of the program over
+    /// bytes are those of the program over characters.
+    pub fn walks_are_those_of_characters(&self)
+        ensures reads { IsByteProgram self.now }
+        ensures walks { HasWalksOfProgram self.now (characters_of self.now) }
+    {
+        let _states = self.states();
+        program_walks_agree::<CharacterSet>();
+    }
+}
+
+/// A program of one pattern.
+pub(crate) fn program_of_one(
+    states: Vec<State>,
+    patterns: Vec<StateID>,
+    line_terminator: u8,
+) -> Program
+    requires { All ReadsItsSet states.items }
+    ensures { result ≡ record {
+      states = states.items;
+      start = 0;
+      patterns = patterns.items;
+      line_terminator = line_terminator;
+    } }
+{
+    Program {
+        states,
+        start: StateID::ZERO,
+        patterns,
+        line_terminator,
+    }
+}

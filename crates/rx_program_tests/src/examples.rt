@@ -1,0 +1,60 @@
+//! An example for each public type.
+
+use rx_captures::{PatternID, StateID};
+use rx_grammar::syntax::Config;
+use rx_grammar::{SyntaxError, parse};
+use rx_program::{BuildError, State, compile};
+use std::test::Fail;
+
+/// A program: the note of the start, a fork, a letter, the note of the end, and the end.
+#[test]
+fn program(rt: HostRuntime) -> Result<(), Fail> {
+    let alloc = rt.alloc();
+    let hir = parse(alloc, "a*", &Config::new())?;
+    let program = compile(alloc, &[&hir], b'\n', None)?;
+    assert_eq!(rt; program.start(), StateID::new(0));
+    assert_eq!(rt; program.patterns(), [StateID::new(0)].as_slice());
+    assert_eq!(rt; program.line_terminator(), b'\n');
+    assert_eq!(rt; program.states().len(), 5);
+    Ok(())
+}
+
+/// A state: greedy prefers the edge into what is repeated.
+#[test]
+fn state(rt: HostRuntime) -> Result<(), Fail> {
+    let alloc = rt.alloc();
+    let hir = parse(alloc, "a*", &Config::new())?;
+    let program = compile(alloc, &[&hir], b'\n', None)?;
+    match program.states().get(1) {
+        Some(State::BinaryUnion(first, second)) => {
+            assert_eq!(rt; first.as_usize(), 2);
+            assert_eq!(rt; second.as_usize(), 3);
+        }
+        _ => assert!(rt; false),
+    }
+    Ok(())
+}
+
+/// Why patterns are refused.
+#[test]
+fn build_error(rt: HostRuntime) -> Result<(), Fail> {
+    let alloc = rt.alloc();
+    let hir = parse(alloc, "a", &Config::new())?;
+    match compile(alloc, &[&hir], b'\n', Some(199)) {
+        Ok(_) => assert!(rt; false),
+        Err(error) => {
+            assert_eq!(rt; error, BuildError::Size { limit: 199 });
+            assert_eq!(rt; error.size_limit(), Some(199));
+            assert_eq!(rt; error.pattern(), None);
+        }
+    }
+    let error = BuildError::Syntax {
+        pattern: PatternID::new(2),
+        error: SyntaxError::Nesting,
+    };
+    assert_eq!(rt; error.pattern(), Some(PatternID::new(2)));
+    assert_eq!(rt; error.syntax_error(), Some(SyntaxError::Nesting));
+    assert_eq!(rt; error.is_memory(), false);
+    assert_eq!(rt; BuildError::Memory.is_memory(), true);
+    Ok(())
+}
