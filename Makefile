@@ -47,6 +47,7 @@ bench: $(program)
 	@bench/list_matches
 	@RT='$(RT)' sh bench/indices.sh
 	@RT='$(RT)' sh bench/ropes.sh
+	@RT='$(RT)' sh bench/slices.sh
 	@RT='$(RT)' sh bench/patterns.sh
 
 clean:

@@ -98,6 +98,16 @@ def test_all():
         if arguments[0] == "build" and len("".join(parts).encode()) > 1968 and not seen - {"finish"}:
             yield "no refusal reached a part"
 
+    def copies(arguments, whole, count):
+        seen = set()
+        for place, _, ended in refusals(arguments, count):
+            seen.add(ended.out)
+            out = ended.out if ended.out in (b"no memory\n", b"no copy\n") else whole
+            for line in differences(ended, out, 0):
+                yield f"{place}: {line}"
+        if b"no copy\n" not in seen:
+            yield "no refusal reached the copy of a slice"
+
     for arguments in PATTERNS:
         name = short(" ".join(arguments).encode()[:60])
         ended, count, _ = call(arguments)
@@ -113,6 +123,15 @@ def test_all():
         test(f"{name}, nothing refused", wrong + differences(ended, ended.out, 0))
         test(f"{name}, with each of its {count} requests refused, alone and with all that follow", builds(arguments, parts, count))
 
+    def check_slice(text):
+        arguments, whole = ["slice", text], text.replace("|", "")[1:].encode() + b"\n"
+        name = f"slice of {short(text.encode()[:40])}"
+        ended, count, _ = call(arguments)
+        test(f"{name}, nothing refused", differences(ended, whole, 0))
+        test(f"{name}, with each of its {count} requests refused, alone and with all that follow", copies(arguments, whole, count))
+
+    for parts in PARTS[1:]:
+        check_slice("|".join(parts))
     for parts in PARTS:
         check_rope(["build", *parts], parts)
         check_rope(["chunks", "|".join(parts)], parts)

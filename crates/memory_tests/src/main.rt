@@ -12,7 +12,8 @@ use std::{env, io};
 /// `parse PATTERN` and `fold PATTERN` write the tree of a pattern, `fold` where letters match in
 /// each case, or why there is none. `build PART..` appends the parts to a builder and writes the
 /// rope: a line for each part that was refused, then each chunk's length and all of its text.
-/// `chunks TEXT` makes a rope of the parts of a text between its `|`, and writes it likewise.
+/// `chunks TEXT` makes a rope of the parts of a text between its `|`, and writes it likewise. `slice
+/// TEXT` makes it too, and writes a copy of its slice behind the first character.
 fn main(rt: HostRuntime) -> io::Result<()> {
     let mut args = env::args(&rt)?.skip(1);
     let Some(mode) = args.next() else {
@@ -22,6 +23,7 @@ fn main(rt: HostRuntime) -> io::Result<()> {
         "build" => build(&rt, args),
         mode => match args.next() {
             Some(text) if mode == "chunks" => gather(&rt, text.as_str()),
+            Some(text) if mode == "slice" => copy(&rt, text.as_str()),
             Some(pattern) => tell_tree(&rt, mode == "fold", pattern.as_str()),
             None => Ok(()),
         },
@@ -61,6 +63,20 @@ fn gather(rt: &HostRuntime, text: &str) -> io::Result<()> {
     match Rope::from_chunks(rt.alloc(), text.split('|')) {
         Ok(rope) => tell_rope(rt, &rope),
         Err(_) => println!(rt; "no memory"),
+    }
+}
+
+/// Makes a rope of the parts of a text, and a copy of its slice behind the first character.
+fn copy(rt: &HostRuntime, text: &str) -> io::Result<()> {
+    let Ok(rope) = Rope::from_chunks(rt.alloc(), text.split('|')) else {
+        return println!(rt; "no memory");
+    };
+    let Some(slice) = rope.get_slice(1..) else {
+        return println!(rt; "no slice");
+    };
+    match slice.to_text(rt.alloc()) {
+        Ok(copy) => println!(rt; "{}", copy.as_str()),
+        Err(_) => println!(rt; "no copy"),
     }
 }
 

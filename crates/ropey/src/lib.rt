@@ -7,8 +7,11 @@ pub mod iter;
 pub mod laws;
 mod rope;
 mod rope_builder;
+mod slices;
 
 pub use crate::rope::Rope;
 pub use crate::rope_builder::RopeBuilder;
 pub use ropey_tree::breaks;
 pub use ropey_tree::error::Error;
+pub use ropey_walk::ranges::{Ends, TextRange};
+pub use ropey_walk::slice::RopeSlice;

@@ -10,4 +10,6 @@ mod examples;
 #[cfg(test)]
 mod lookups;
 #[cfg(test)]
+mod slices;
+#[cfg(test)]
 mod texts;

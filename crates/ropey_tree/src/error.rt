@@ -31,12 +31,12 @@ pub enum Error {
     /// exclusive, each none where it is open, and the number.
     #[error("character range goes past the {2} characters of the text")]
     CharRangeOutOfBounds(Option<usize>, Option<usize>, usize),
-    /// A range of bytes that goes past the text's length in bytes: the start and the end, exclusive,
-    /// each none where it is open, and the length.
+    /// A range of bytes that goes past the text's length in bytes: the start and the end,
+    /// exclusive, each none where it is open, and the length.
     #[error("byte range goes past the {2} bytes of the text")]
     ByteRangeOutOfBounds(Option<usize>, Option<usize>, usize),
-    /// A range of bytes that starts or ends inside a character: the start and the end, exclusive, each
-    /// none where it is open.
+    /// A range of bytes that starts or ends inside a character: the start and the end, exclusive,
+    /// each none where it is open.
     #[error("byte range starts or ends inside a character")]
     ByteRangeNotCharBoundary(Option<usize>, Option<usize>),
     /// Memory was refused.

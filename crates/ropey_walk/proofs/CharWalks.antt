@@ -1,5 +1,5 @@
 -- The characters of a text, read in a chunk.
-use Rattle.std.proofs.Common.{◌≡◌, ℕ, ◌+◌, ◌-◌, ◌<◌, ◌≤◌, inl, inr, List, [], ◌∷◌, ◌++◌, length, take, drop, refl, ap, arith, sym, ◌∙◌, subst, append_assoc, length-append, length-drop, take-append-drop, length-take-le}
+use Rattle.std.proofs.Common.{◌≡◌, ℕ, ◌+◌, ◌-◌, ◌<◌, ◌≤◌, inl, inr, List, [], ◌∷◌, ◌++◌, length, take, drop, refl, ap, arith, sym, ◌∙◌, subst, append_assoc, length-append, take-append-drop, length-take-le}
 use Rattle.std.specs.Prelude.{encode_utf8_all, encode_utf8}
 use Rattle.std.specs.Str.{IsUtf8, chars, IsCharBoundary}
 use Rattle.std.proofs.lemmas.List.{append_cancel_right, drop_at, take_at}

@@ -1,5 +1,5 @@
 -- Places between two characters, where parts of a text start and end.
-use Rattle.std.proofs.Common.{◌≡◌, ℕ, ◌+◌, ◌-◌, ◌^◌, ◌<◌, ◌≤◌, Bool, true, false, cond, ◌&&◌, List, [], ◌∷◌, ◌++◌, length, get_or, take, drop, refl, ap, arith, sym, ◌∙◌, subst, append_assoc, length-append, length-drop, length-take-le, take-append-drop}
+use Rattle.std.proofs.Common.{◌≡◌, ℕ, ◌+◌, ◌-◌, ◌^◌, ◌<◌, ◌≤◌, Bool, true, false, cond, ◌&&◌, List, [], ◌∷◌, ◌++◌, length, get_or, take, drop, refl, ap, arith, sym, ◌∙◌, subst, append_assoc, length-append, length-take-le, take-append-drop}
 use Rattle.std.specs.Prelude.{encode_utf8_all}
 use Rattle.std.specs.List.{concat}
 use Rattle.std.specs.Str.{all_scalars, chars, IsUtf8, IsCharBoundary}
@@ -10,7 +10,6 @@ use Rattle.str_indices.specs.Text.{byte_len, units, char_ends, unit_ends, end_pl
 use Rattle.str_indices.specs.Laws.{AnyTexts, EndsAddUp, EndsAreBoundaries, CharsAndBoundariesAgree, LastEndIsBefore}
 use Rattle.ropey_tree.specs.declared.counts.Counts.{Counts}
 use Rattle.ropey_tree.specs.declared.counts.By.{By}
-use Rattle.ropey_tree.specs.declared.counts.By.TheVariants.{Bytes, Chars, Units, Breaks}
 use Rattle.ropey_tree.specs.Counts.{counts_of, plus, minus, amount}
 use Rattle.ropey_tree.specs.Cutting.{IsCutting}
 use Rattle.ropey_walk.specs.Chunks.{line_breaks}
@@ -127,15 +126,14 @@ boundary_in text bytes start at place utf8 h e boundary =
     ap encode_utf8_all h.parts ∙ encodes-append (h.before ++ chars bytes) h.after ∙ ap (λ bs. bs ++ after) (encodes-append h.before (chars bytes) ∙ ap (λ bs. before ++ bs) (encodes-chars bytes utf8)) in
     let low : length before ≤ place = omega (arith, starts, e) in
     let same : place - length before ≡ at = omega (arith, starts, e) in
-    let sizes : length (encode_utf8_all text) ≡ length before + length bytes + length after = ap length all ∙ length-append (before ++ bytes) after ∙ ap (λ n. n + length after) (length-append before bytes) in
-    (
+    let sizes : length (encode_utf8_all text) ≡ length before + length bytes + length after = ap length all ∙ length-append (before ++ bytes) after ∙ ap (λ n. n + length after) (length-append before bytes) in (
       omega (arith, h.within, len),
       λ inside high.
-        let front : place < length (before ++ bytes) = omega (arith, starts, e, inside, length-append before bytes) in
-        let there : get_or (encode_utf8_all text) place 0 ≡ get_or bytes at 0 =
-        ap (λ bs. get_or bs place 0) all ∙ get_or_append_left (before ++ bytes) after 0 place front ∙ get_or-append_right before bytes (length before) place 0 refl low ∙ ap (λ n. get_or bytes n 0) same in
-        let leads : 192 ≤ get_or (encode_utf8_all text) place 0 = boundary.1 (omega (arith, sizes, starts, e, inside)) (omega (arith, high, there)) in
-        omega (arith, leads, there)
+          let front : place < length (before ++ bytes) = omega (arith, starts, e, inside, length-append before bytes) in
+          let there : get_or (encode_utf8_all text) place 0 ≡ get_or bytes at 0 =
+          ap (λ bs. get_or bs place 0) all ∙ get_or_append_left (before ++ bytes) after 0 place front ∙ get_or-append_right before bytes (length before) place 0 refl low ∙ ap (λ n. get_or bytes n 0) same in
+          let leads : 192 ≤ get_or (encode_utf8_all text) place 0 = boundary.1 (omega (arith, sizes, starts, e, inside)) (omega (arith, high, there)) in
+          omega (arith, leads, there),
     )
 
 -- the texts of a cutting are of scalar values

@@ -1,12 +1,12 @@
 -- Where the lines of a text start.
-use Rattle.std.proofs.Common.{◌≡◌, ℕ, zero, suc, ◌+◌, ◌≤◌, ◌==◌, min, Bool, true, false, true≢false, cond, not, ◌&&◌, inl, inr, List, [], ◌∷◌, ◌++◌, length, get_or, take, drop, refl, ap, arith, sym, ◌∙◌, subst, length-append, append-nil, replicate}
+use Rattle.std.proofs.Common.{◌≡◌, ℕ, zero, suc, ◌+◌, ◌==◌, min, Bool, true, false, true≢false, cond, not, ◌&&◌, inl, inr, List, [], ◌∷◌, ◌++◌, length, get_or, take, drop, refl, ap, arith, sym, ◌∙◌, subst, length-append, replicate}
 use Rattle.std.proofs.Math.Utf8.{encode}
 use Rattle.std.specs.Prelude.{encode_utf8_all}
 use Rattle.std.specs.Char.{len_utf8}
 use Rattle.std.proofs.lemmas.Bool.{cases_Bool, cond-true, cond-false, and_parts}
 use Rattle.std.proofs.lemmas.List.{take_at, drop_at}
 use Rattle.std.proofs.lemmas.Str.{length-encode}
-use Rattle.str_indices.specs.Text.{byte_len, ends_break, ends_from, starts_with_lf, ends_with_cr, cuts_cr_lf, NoCrLfBetween}
+use Rattle.str_indices.specs.Text.{byte_len, ends_break, ends_from, starts_with_lf, cuts_cr_lf, NoCrLfBetween}
 use Rattle.ropey_walk.specs.Chunks.{is_break, line_breaks}
 use Rattle.ropey_walk.specs.Conversions.{char_of_byte, line_of_byte, byte_of_line, char_of_line}
 use Rattle.ropey_walk.specs.Laws.{LineStarts}

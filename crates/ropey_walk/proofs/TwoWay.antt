@@ -1,7 +1,7 @@
 -- A place between the items of a list.
 use Rattle.std.proofs.Common.{◌≡◌, ℕ, suc, ◌+◌, List, [], ◌∷◌, ◌++◌, ◌-◌, ◌<◌, ◌≤◌, length, take, drop, map, get_or, refl, ap, arith, sym, ◌∙◌, length-append, length-drop, append_assoc, take-append-drop, length-take-le}
 use Rattle.std.proofs.Math.Seq.{drop-cons}
-use Rattle.std.specs.Prelude.{reverse, Bool, true, false, if◌then◌else◌}
+use Rattle.std.specs.Prelude.{reverse, Bool, true, false}
 use Rattle.std.specs.List.{range_with_len}
 use Rattle.std.proofs.lemmas.List.{drop_at, take_at, reverse-append, append-nil, length-reverse}
 use Rattle.std.proofs.lemmas.List.FromFn.{length-map-range_with_len, get_or-map-range_with_len}

@@ -1,7 +1,8 @@
 //! Ranges of indices, as a caller writes them.
 
 ghost use Rattle.std.specs.Prelude.{◌≡◌, ◌↔◌, Option, Some, None, IsTrue};
-ghost use Rattle.std.specs.Range.{range_inclusive_start, range_inclusive_end, range_inclusive_exhausted};
+ghost use Rattle.std.specs.Range.{range_inclusive_start, range_inclusive_end};
+ghost use Rattle.std.specs.Range.{range_inclusive_exhausted};
 ghost use Rattle.ropey_walk.specs.Ranges.{IsBackwards, end_behind, end_of_inclusive};
 ghost use Rattle.ropey_walk.specs.declared.ranges.Ends.{Ends};
 
@@ -33,9 +34,9 @@ impl Ends {
 pub trait TextRange: Drop {
     ghost ends: { Self → Ends };
 
-    /// The range's ends. Behind the greatest `usize` there is no index, and a range up to and with it
-    /// ends there, which no text reaches. A range `a..=b` that was iterated to its end is empty and
-    /// lies before `b`.
+    /// The range's ends. Behind the greatest `usize` there is no index, and a range up to and with
+    /// it ends there, which no text reaches. A range `a..=b` that was iterated to its end is empty
+    /// and lies before `b`.
     fn ends(&self) -> Ends
         ensures { result ≡ ends self.now };
 }
@@ -74,15 +75,21 @@ impl TextRange for RangeTo<usize> {
 }
 
 impl TextRange for RangeInclusive<usize> {
-    ghost ends = { λ range. record { start = Some (range_inclusive_start range);
-        end = Some (end_of_inclusive (range_inclusive_start range) (range_inclusive_end range)
-        (range_inclusive_exhausted range)) } };
+    ghost ends = { λ range. record {
+      start = Some (range_inclusive_start range);
+      end = Some (end_of_inclusive (range_inclusive_start range) (range_inclusive_end range)
+          (range_inclusive_exhausted range));
+    } };
 
     fn ends(&self) -> Ends {
         let start = *self.start();
         let last = *self.end();
         let is_spent = start <= last && self.is_empty();
-        let end = if is_spent { last } else { last.saturating_add(1) };
+        let end = if is_spent {
+            last
+        } else {
+            last.saturating_add(1)
+        };
         Ends {
             start: Some(start),
             end: Some(end),

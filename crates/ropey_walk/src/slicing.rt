@@ -1,12 +1,13 @@
 //! Parts of a slice: its lines, and ranges of its characters and of its bytes.
 //!
-//! A part is a slice as well, and takes no memory. An index counts from the start of the slice that the
-//! call is made on. The plain form has the range inside the text as its condition; the `get_` form
-//! answers none exactly where a range is refused, and the `try_` form tells why: a range that starts
-//! above its end is refused first, then one that goes past the length, then one of bytes that starts
-//! or ends inside a character.
+//! A part is a slice as well, and takes no memory. An index counts from the start of the slice that
+//! the call is made on. The plain form has the range inside the text as its condition; the `get_`
+//! form answers none exactly where a range is refused, and the `try_` form tells why: a range that
+//! starts above its end is refused first, then one that goes past the length, then one of bytes
+//! that starts or ends inside a character.
 
-ghost use Rattle.std.specs.Prelude.{◌≡◌, ◌+◌, ◌<◌, ◌≤◌, ◌↔◌, length, take, IfSome, IsSome, IsNone, IfOk, IfErr, IsOk, MatchResult, encode_utf8_all};
+ghost use Rattle.std.specs.Prelude.{◌≡◌, ◌+◌, ◌<◌, ◌≤◌, ◌↔◌, length, take, MatchResult};
+ghost use Rattle.std.specs.Prelude.{IfSome, IsSome, IsNone, IfOk, IfErr, IsOk, encode_utf8_all};
 ghost use Rattle.std.specs.Str.{chars, IsUtf8, IsCharBoundary};
 ghost use Rattle.str_indices.specs.Text.{byte_len};
 ghost use Rattle.ropey_tree.specs.Counts.{counts_of};
@@ -15,7 +16,8 @@ ghost use Rattle.ropey_walk.specs.Clips.{clip};
 ghost use Rattle.ropey_walk.specs.Conversions.{char_of_byte};
 ghost use Rattle.ropey_walk.specs.Lines.{line_pieces};
 ghost use Rattle.ropey_walk.specs.Parts.{standing};
-ghost use Rattle.ropey_walk.specs.Ranges.{start_of, end_of, IsRangeIn, IsByteRangeIn, RefusesChars, RefusesBytes};
+ghost use Rattle.ropey_walk.specs.Ranges.{start_of, end_of, chars_in, bytes_in};
+ghost use Rattle.ropey_walk.specs.Ranges.{IsRangeIn, IsByteRangeIn, RefusesChars, RefusesBytes};
 ghost use Rattle.ropey_walk.specs.Standing.{IsPlaceIn};
 
 use crate::laws;
@@ -51,7 +53,8 @@ impl<'a> RopeSlice<'a> {
             from.now.at }
         requires from_boundary { IsCharBoundary from.now.text.now from.now.at }
         requires from_utf8 { IsUtf8 from.now.text.now }
-        requires to { IsPlaceIn (slice_text self.now) (chars to.now.text.now) to.now.start to.now.at }
+        requires to { IsPlaceIn (slice_text self.now) (chars to.now.text.now) to.now.start
+            to.now.at }
         requires to_boundary { IsCharBoundary to.now.text.now to.now.at }
         requires to_utf8 { IsUtf8 to.now.text.now }
         requires order { from.now.start.bytes + from.now.at ≤ to.now.start.bytes + to.now.at }
@@ -110,7 +113,8 @@ impl<'a> RopeSlice<'a> {
     /// Where a range of characters starts and ends, or why it is refused.
     fn char_indices(&self, ends: Ends) -> Result<(usize, usize), Error>
         ensures { MatchResult result
-            (λ indices. IsRangeIn (length (slice_text self.now)) ends × (indices.0 ≡ start_of ends) ×
+            (λ indices. IsRangeIn (length (slice_text self.now)) ends ×
+            (indices.0 ≡ start_of ends) ×
             (indices.1 ≡ end_of ends (length (slice_text self.now))))
             (λ error. (¬ (IsRangeIn (length (slice_text self.now)) ends)) ×
             RefusesChars (slice_text self.now) ends error) }
@@ -131,8 +135,7 @@ impl<'a> RopeSlice<'a> {
     /// most at `len_chars`. `O(log n)`.
     pub fn slice<R: TextRange>(&self, char_range: R) -> Self
         requires { IsRangeIn (length (slice_text self.now)) (R.ends char_range) }
-        ensures { slice_pieces result ≡ clip (start_of (R.ends char_range))
-            (end_of (R.ends char_range) (length (slice_text self.now))) (slice_pieces self.now) }
+        ensures { slice_pieces result ≡ chars_in (R.ends char_range) (slice_pieces self.now) }
     {
         let ends = char_range.ends();
         let end = ends.end.unwrap_or(self.len_chars());
@@ -143,8 +146,8 @@ impl<'a> RopeSlice<'a> {
     /// `CharRangeOutOfBounds` where it goes past `len_chars`. `O(log n)`.
     pub fn try_slice<R: TextRange>(&self, char_range: R) -> Result<Self, Error>
         ensures ok { IsOk result ↔ IsRangeIn (length (slice_text self.now)) (R.ends char_range) }
-        ensures slice { IfOk result (λ slice. slice_pieces slice ≡ clip (start_of (R.ends char_range))
-            (end_of (R.ends char_range) (length (slice_text self.now))) (slice_pieces self.now)) }
+        ensures slice { IfOk result (λ slice. slice_pieces slice ≡
+            chars_in (R.ends char_range) (slice_pieces self.now)) }
         ensures refused { IfErr result (λ error.
             RefusesChars (slice_text self.now) (R.ends char_range) error) }
     {
@@ -154,9 +157,10 @@ impl<'a> RopeSlice<'a> {
 
     /// `slice`, and none where the range doesn't lie inside the text. `O(log n)`.
     pub fn get_slice<R: TextRange>(&self, char_range: R) -> Option<Self>
-        ensures some { IsSome result ↔ IsRangeIn (length (slice_text self.now)) (R.ends char_range) }
-        ensures slice { IfSome result (λ slice. slice_pieces slice ≡ clip (start_of (R.ends char_range))
-            (end_of (R.ends char_range) (length (slice_text self.now))) (slice_pieces self.now)) }
+        ensures some { IsSome result ↔
+            IsRangeIn (length (slice_text self.now)) (R.ends char_range) }
+        ensures slice { IfSome result (λ slice. slice_pieces slice ≡
+            chars_in (R.ends char_range) (slice_pieces self.now)) }
     {
         match self.try_slice(char_range) {
             Ok(slice) => Some(slice),
@@ -164,11 +168,12 @@ impl<'a> RopeSlice<'a> {
         }
     }
 
-    /// Where a range of bytes starts and ends, or why it is refused: as in `try_byte_slice`, but not
-    /// for a character that it cuts.
+    /// Where a range of bytes starts and ends, or why it is refused: as in `try_byte_slice`, but
+    /// not for a character that it cuts.
     fn byte_indices(&self, ends: Ends) -> Result<(usize, usize), Error>
         ensures { MatchResult result
-            (λ indices. IsRangeIn (byte_len (slice_text self.now)) ends × (indices.0 ≡ start_of ends) ×
+            (λ indices. IsRangeIn (byte_len (slice_text self.now)) ends ×
+            (indices.0 ≡ start_of ends) ×
             (indices.1 ≡ end_of ends (byte_len (slice_text self.now))))
             (λ error. (¬ (IsRangeIn (byte_len (slice_text self.now)) ends)) ×
             RefusesBytes (slice_text self.now) ends error) }
@@ -189,10 +194,7 @@ impl<'a> RopeSlice<'a> {
     /// `len_bytes`, and neither inside a character. `O(log n)`.
     pub fn byte_slice<R: TextRange>(&self, byte_range: R) -> Self
         requires { IsByteRangeIn (slice_text self.now) (R.ends byte_range) }
-        ensures { slice_pieces result ≡
-            clip (char_of_byte (slice_text self.now) (start_of (R.ends byte_range)))
-            (char_of_byte (slice_text self.now)
-            (end_of (R.ends byte_range) (byte_len (slice_text self.now)))) (slice_pieces self.now) }
+        ensures { slice_pieces result ≡ bytes_in (R.ends byte_range) (slice_pieces self.now) }
     {
         let ends = byte_range.ends();
         let end = ends.end.unwrap_or(self.len_bytes());
@@ -201,15 +203,13 @@ impl<'a> RopeSlice<'a> {
         self.between_places(&from, &to)
     }
 
-    /// `byte_slice`, or why the range is refused: `ByteRangeInvalid` where it starts above its end, else
-    /// `ByteRangeOutOfBounds` where it goes past `len_bytes`, else `ByteRangeNotCharBoundary` where it
-    /// starts or ends inside a character. `O(log n)`.
+    /// `byte_slice`, or why the range is refused: `ByteRangeInvalid` where it starts above its end,
+    /// else `ByteRangeOutOfBounds` where it goes past `len_bytes`, else `ByteRangeNotCharBoundary`
+    /// where it starts or ends inside a character. `O(log n)`.
     pub fn try_byte_slice<R: TextRange>(&self, byte_range: R) -> Result<Self, Error>
         ensures ok { IsOk result ↔ IsByteRangeIn (slice_text self.now) (R.ends byte_range) }
         ensures slice { IfOk result (λ slice. slice_pieces slice ≡
-            clip (char_of_byte (slice_text self.now) (start_of (R.ends byte_range)))
-            (char_of_byte (slice_text self.now)
-            (end_of (R.ends byte_range) (byte_len (slice_text self.now)))) (slice_pieces self.now)) }
+            bytes_in (R.ends byte_range) (slice_pieces self.now)) }
         ensures refused { IfErr result (λ error.
             RefusesBytes (slice_text self.now) (R.ends byte_range) error) }
     {
@@ -228,9 +228,7 @@ impl<'a> RopeSlice<'a> {
     pub fn get_byte_slice<R: TextRange>(&self, byte_range: R) -> Option<Self>
         ensures some { IsSome result ↔ IsByteRangeIn (slice_text self.now) (R.ends byte_range) }
         ensures slice { IfSome result (λ slice. slice_pieces slice ≡
-            clip (char_of_byte (slice_text self.now) (start_of (R.ends byte_range)))
-            (char_of_byte (slice_text self.now)
-            (end_of (R.ends byte_range) (byte_len (slice_text self.now)))) (slice_pieces self.now)) }
+            bytes_in (R.ends byte_range) (slice_pieces self.now)) }
     {
         match self.try_byte_slice(byte_range) {
             Ok(slice) => Some(slice),

@@ -16,8 +16,7 @@ returns-clause-boundary c =
     let r = c.chunk-chunk.result in
     let e = c.chunk-chunk.ensures in
     let at : ℕ = c.args.byte_idx - r.start.bytes in
-    let placed = byte_placed (slice_pieces c.args.self.now) c.args.byte_idx (chars r.text.now) r.start e.stands e.cut c.requires in
-    (
+    let placed = byte_placed (slice_pieces c.args.self.now) c.args.byte_idx (chars r.text.now) r.start e.stands e.cut c.requires in (
       boundary_in t r.text.now r.start at c.args.byte_idx e.utf8 placed.stands placed.place_is,
-      boundary_out t r.text.now r.start at c.args.byte_idx e.utf8 placed.stands placed.place_is (cutting-scalars (slice_pieces c.args.self.now) e.cut.cut)
+      boundary_out t r.text.now r.start at c.args.byte_idx e.utf8 placed.stands placed.place_is (cutting-scalars (slice_pieces c.args.self.now) e.cut.cut),
     )

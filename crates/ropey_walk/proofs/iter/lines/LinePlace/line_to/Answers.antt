@@ -1,4 +1,4 @@
-use Rattle.std.proofs.Common.{◌≡◌, ◌+◌, ◌≤◌, ap, ◌∙◌, arith}
+use Rattle.std.proofs.Common.{◌≡◌, ◌+◌, ap, ◌∙◌, arith}
 use Rattle.ropey_walk.specs.Clips.{clip}
 use Rattle.ropey_walk.specs.Conversions.{char_of_line}
 use Rattle.ropey_walk.specs.Slices.{slice_pieces, slice_text}

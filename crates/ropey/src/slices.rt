@@ -1,0 +1,70 @@
+//! Parts of a rope: its lines, and ranges of its characters and of its bytes.
+//!
+//! A part is a `RopeSlice`, which borrows the rope and takes no memory. The plain form has the line or
+//! the range inside the text as its condition; the `get_` form answers none exactly where it isn't.
+
+ghost use Rattle.std.specs.Prelude.{◌≡◌, ◌+◌, ◌<◌, ◌≤◌, ◌↔◌, length};
+ghost use Rattle.std.specs.Prelude.{IfSome, IsSome, IsNone};
+ghost use Rattle.ropey.specs.Chunks.{text_of, line_breaks};
+ghost use Rattle.ropey_walk.specs.Lines.{line_pieces};
+ghost use Rattle.ropey_walk.specs.Ranges.{chars_in, bytes_in, IsRangeIn, IsByteRangeIn};
+ghost use Rattle.ropey_walk.specs.Slices.{slice_pieces};
+
+use crate::rope::Rope;
+use ropey_walk::ranges::TextRange;
+use ropey_walk::slice::RopeSlice;
+
+impl Rope {
+    /// A line, with the break that ends it. The line index is below `len_lines`. `O(log n)`.
+    pub fn line(&self, line_idx: usize) -> RopeSlice<'_>
+        requires { line_idx < line_breaks (text_of self.now) + 1 }
+        ensures { slice_pieces result ≡ line_pieces self.now line_idx }
+    {
+        self.whole().line(line_idx)
+    }
+
+    /// `line`, and none from `len_lines` on. `O(log n)`.
+    pub fn get_line(&self, line_idx: usize) -> Option<RopeSlice<'_>>
+        ensures none { IsNone result ↔ (line_breaks (text_of self.now) + 1 ≤ line_idx) }
+        ensures line { IfSome result (λ line. slice_pieces line ≡ line_pieces self.now line_idx) }
+    {
+        self.whole().get_line(line_idx)
+    }
+
+    /// A range of characters. It lies inside the text: it starts no later than it ends, and ends at
+    /// most at `len_chars`. `O(log n)`.
+    pub fn slice<R: TextRange>(&self, char_range: R) -> RopeSlice<'_>
+        requires { IsRangeIn (length (text_of self.now)) (R.ends char_range) }
+        ensures { slice_pieces result ≡ chars_in (R.ends char_range) self.now }
+    {
+        self.whole().slice(char_range)
+    }
+
+    /// `slice`, and none where the range doesn't lie inside the text. `O(log n)`.
+    pub fn get_slice<R: TextRange>(&self, char_range: R) -> Option<RopeSlice<'_>>
+        ensures some { IsSome result ↔ IsRangeIn (length (text_of self.now)) (R.ends char_range) }
+        ensures slice { IfSome result (λ slice. slice_pieces slice ≡
+            chars_in (R.ends char_range) self.now) }
+    {
+        self.whole().get_slice(char_range)
+    }
+
+    /// A range of bytes. It lies inside the text: it starts no later than it ends, ends at most at
+    /// `len_bytes`, and neither inside a character. `O(log n)`.
+    pub fn byte_slice<R: TextRange>(&self, byte_range: R) -> RopeSlice<'_>
+        requires { IsByteRangeIn (text_of self.now) (R.ends byte_range) }
+        ensures { slice_pieces result ≡ bytes_in (R.ends byte_range) self.now }
+    {
+        self.whole().byte_slice(byte_range)
+    }
+
+    /// `byte_slice`, and none where the range doesn't lie inside the text, or cuts a character.
+    /// `O(log n)`.
+    pub fn get_byte_slice<R: TextRange>(&self, byte_range: R) -> Option<RopeSlice<'_>>
+        ensures some { IsSome result ↔ IsByteRangeIn (text_of self.now) (R.ends byte_range) }
+        ensures slice { IfSome result (λ slice. slice_pieces slice ≡
+            bytes_in (R.ends byte_range) self.now) }
+    {
+        self.whole().get_byte_slice(byte_range)
+    }
+}
