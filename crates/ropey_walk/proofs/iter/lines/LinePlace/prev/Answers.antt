@@ -1,4 +1,4 @@
-use Rattle.std.proofs.Common.{◌≡◌, ◌+◌, ◌-◌, ◌<◌, ◌≤◌, length, refl, ap, sym, ◌∙◌, arith}
+use Rattle.std.proofs.Common.{◌≡◌, ◌+◌, ◌-◌, ◌<◌, length, refl, ap, ◌∙◌, arith}
 use Rattle.std.specs.Str.{chars}
 use Rattle.str_indices.specs.Text.{units}
 use Rattle.ropey_walk.specs.Slices.{slice_text}
