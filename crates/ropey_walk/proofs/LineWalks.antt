@@ -1,19 +1,20 @@
 -- Going over the lines of a text, both ways.
-use Rattle.std.proofs.Common.{◌≡◌, ℕ, suc, ◌+◌, ◌-◌, ◌^◌, ◌<◌, ◌≤◌, inl, List, ◌∷◌, ◌++◌, length, get_or, take, drop, map, refl, ap, arith, sym, ◌∙◌, subst, append_assoc, length-append, length-take-le, length-drop}
+use Rattle.std.proofs.Common.{◌≡◌, ℕ, zero, suc, ◌+◌, ◌-◌, ◌^◌, ◌<◌, ◌≤◌, ◌⊎◌, inl, inr, min, cond, true, List, [], ◌∷◌, ◌++◌, length, get_or, take, drop, map, refl, ap, arith, sym, ◌∙◌, subst, append_assoc, length-append, length-take-le, length-drop}
 use Rattle.std.proofs.Math.Seq.{get_or-append_seam}
 use Rattle.std.specs.Str.{chars, IsUtf8, IsCharBoundary}
-use Rattle.std.proofs.lemmas.List.{drop_at}
-use Rattle.std.proofs.lemmas.Str.{encodes-chars, chars-append, IsUtf8-take, IsUtf8-drop, IsCharBoundary-from_rest}
+use Rattle.std.proofs.lemmas.List.{drop_at, take-take, drop-drop}
+use Rattle.std.proofs.lemmas.Str.{encodes-chars, length-le-encodes, chars-append, IsUtf8-take, IsUtf8-drop, IsCharBoundary-from_rest}
 use Rattle.str_indices.specs.Text.{byte_len, units, break_ends, end_place, cuts_cr_lf, NoCrLfBetween}
 use Rattle.str_indices.specs.FirstBreak.{IsFirstBreak}
 use Rattle.ropey_tree.specs.declared.counts.Counts.{Counts}
 use Rattle.ropey_tree.specs.declared.counts.By.{By}
-use Rattle.ropey_tree.specs.declared.counts.By.TheVariants.{Breaks}
+use Rattle.ropey_tree.specs.declared.counts.By.TheVariants.{Bytes, Chars, Units, Breaks}
 use Rattle.ropey_tree.specs.Counts.{counts_of, amount}
 use Rattle.ropey_walk.specs.Chunks.{is_break, line_breaks}
 use Rattle.ropey_walk.specs.Conversions.{byte_of_line, char_of_line}
 use Rattle.ropey_walk.specs.Laws.{LineStarts}
 use Rattle.ropey_walk.specs.Parts.{standing}
+use Rattle.ropey_walk.specs.Standing.{IsPlaceIn}
 use Rattle.ropey_walk.specs.Iter.{IsLinePlace}
 use Rattle.ropey_walk.specs.declared.iter.lines.LinePlace.{LinePlace}
 use Rattle.ropey_walk.proofs.Cuts.{byte_len-append}
@@ -104,6 +105,32 @@ module _ (law : LineStarts) (text : List ℕ) (from : LinePlace) (h : IsLinePlac
   pub lines_fit : line_breaks text < 2 ^ 63
   lines_fit = omega (arith, amount-below Breaks text, h.place.fits)
 
+  -- ---- characters of one byte
+  -- in a chunk of such characters each part has them
+  one_byte : (a b c : List ℕ) → from.is_ascii ≡ true → chars chunk ≡ a ++ (b ++ c) → length b ≡ byte_len b
+  one_byte a b c is whole =
+      omega (
+        arith,
+        h.ascii is,
+        chunk_is,
+        ap length whole,
+        ap byte_len whole,
+        length-append a (b ++ c),
+        length-append b c,
+        byte_len-append a (b ++ c),
+        byte_len-append b c,
+        length-le-encodes a,
+        length-le-encodes b,
+        length-le-encodes c,
+      )
+
+  pub one_byte_on : (start' end : ℕ) → IsFirstBreak is_break (drop at chunk) start' end → from.is_ascii ≡ true → length (chars (take end (drop at chunk))) ≡ length (take end (drop at chunk))
+  one_byte_on start' end first is =
+      let utf8 = IsUtf8-drop chunk at h.utf8 h.boundary in
+      let line = chars (take end (drop at chunk)) in
+      let whole = cut ∙ ap (λ r. chars (take at chunk) ++ r) (chars_cut (drop at chunk) end utf8 first.ends) in
+      one_byte (chars (take at chunk)) line (chars (drop end (drop at chunk))) is whole ∙ same_length (take end (drop at chunk)) (IsUtf8-take (drop at chunk) end utf8 first.ends)
+
   -- ---- over the line, where the chunk has a break behind the place
   module _ (start' end : ℕ) (first : IsFirstBreak is_break (drop at chunk) start' end) (inside : k < line_breaks text + 1)
       (chars_in units_in : ℕ) (chars_is : chars_in ≡ length (chars (take end (drop at chunk)))) (units_is : units_in ≡ units (chars (take end (drop at chunk)))) where
@@ -166,7 +193,7 @@ module _ (law : LineStarts) (text : List ℕ) (from : LinePlace) (h : IsLinePlac
         let l : k + 1 ≡ line_breaks (front ++ line) = omega (arith, there_after.breaks_are, more) in
         cc
 
-    pub line_passed : IsLinePlace text (record { line_idx = k + 1; place = record { text = from.place.text; start = start; at = at + end }; before = after_line })
+    pub line_passed : IsLinePlace text (record { line_idx = k + 1; place = record { text = from.place.text; start = start; at = at + end }; is_ascii = from.is_ascii; before = after_line })
     line_passed =
         let inner : at + end ≤ length chunk = omega (arith, h.boundary.0, first.ends.0, length-drop at chunk) in
         record {
@@ -183,6 +210,7 @@ module _ (law : LineStarts) (text : List ℕ) (from : LinePlace) (h : IsLinePlac
             fits = h.place.fits;
           };
           starts = omega (arith, next_start, place_is);
+          ascii = h.ascii;
           counted = counted_after ∙ ap counts_of (sym there_after.taken);
         }
 
@@ -217,17 +245,40 @@ module _ (law : LineStarts) (text : List ℕ) (from : LinePlace) (h : IsLinePlac
     pub boundary_back : IsCharBoundary chunk to
     boundary_back = subst (λ (n : ℕ). IsCharBoundary chunk n) (sym to_is) (end_is_boundary (break_ends is_break) law.boundaries chunk h.utf8 (i - start.breaks))
 
+    taken_back : take at chunk ≡ take to chunk ++ take (at - to) (drop to chunk)
+    taken_back =
+        let width : at ≡ to + (at - to) = omega (arith, order) in
+        take-parts to at chunk order ∙ ap (λ n. take to chunk ++ drop to (take n chunk)) width ∙ ap (λ bs. take to chunk ++ bs) (drop-of-take to (at - to) chunk)
+
+    cut_back : chars (take at chunk) ≡ chars (take to chunk) ++ chars (take (at - to) (drop to chunk))
+    cut_back = ap chars taken_back ∙ chars-append (take to chunk) (take (at - to) (drop to chunk)) (IsUtf8-take chunk to h.utf8 boundary_back)
+
+    width_back : length (take (at - to) (drop to chunk)) ≡ at - to
+    width_back = length-take-le (at - to) (drop to chunk) (omega (arith, order, h.boundary.0, length-drop to chunk))
+
+    pub one_byte_back : from.is_ascii ≡ true → length (chars (take (at - to) (drop to chunk))) ≡ at - to
+    one_byte_back is =
+        let f = chars (take to chunk) in
+        let l = chars (take (at - to) (drop to chunk)) in
+        let whole = cut ∙ ap (λ a. a ++ rest) cut_back ∙ append_assoc f l rest in
+        omega (
+          arith,
+          one_byte f l rest is whole,
+          ap byte_len cut_back,
+          byte_len-append f l,
+          same_length (take at chunk) (IsUtf8-take chunk at h.utf8 h.boundary),
+          same_length (take to chunk) (IsUtf8-take chunk to h.utf8 boundary_back),
+          length-take-le at chunk h.boundary.0,
+          length-take-le to chunk boundary_back.0,
+        )
+
     module _ (line_back : List ℕ) (line_is : line_back ≡ take (at - to) (drop to chunk)) (chars_in units_in : ℕ) (chars_is : chars_in ≡ length (chars line_back)) (units_is : units_in ≡ units (chars line_back)) where
       abbrev front_back : List ℕ
       front_back = h.place.before ++ chars (take to chunk)
 
       front_cut : front ≡ front_back ++ chars line_back
       front_cut =
-          let width : at ≡ to + (at - to) = omega (arith, order) in
-          let bytes : take at chunk ≡ take to chunk ++ line_back =
-          take-parts to at chunk order ∙ ap (λ n. take to chunk ++ drop to (take n chunk)) width ∙ ap (λ bs. take to chunk ++ bs) (drop-of-take to (at - to) chunk ∙ sym line_is) in
-          ap (λ bs. h.place.before ++ chars bs) bytes
-          ∙ ap (λ cs. h.place.before ++ cs) (chars-append (take to chunk) line_back (IsUtf8-take chunk to h.utf8 boundary_back))
+          ap (λ cs. h.place.before ++ cs) (cut_back ∙ ap (λ bs. chars (take to chunk) ++ chars bs) (sym line_is))
           ∙ sym (append_assoc h.place.before (chars (take to chunk)) (chars line_back))
 
       parts_back : text ≡ front_back ++ (chars line_back ++ (rest ++ h.place.after))
@@ -246,11 +297,8 @@ module _ (law : LineStarts) (text : List ℕ) (from : LinePlace) (h : IsLinePlac
       there_back : IsCutAtLine text front_back (chars line_back ++ (rest ++ h.place.after)) i
       there_back = cut_at_line law text front_back (chars line_back ++ (rest ++ h.place.after)) i parts_back (back_is ∙ starts_back)
 
-      line_back_len : length line_back ≡ at - to
-      line_back_len = ap length line_is ∙ length-take-le (at - to) (drop to chunk) (omega (arith, order, h.boundary.0, length-drop to chunk))
-
-      bytes_sum : before.bytes ≡ byte_len front_back + length line_back
-      bytes_sum = omega (arith, ap (λ c. c.bytes) counted, place_is, back_is, line_back_len, order)
+      bytes_sum : before.bytes ≡ byte_len front_back + (at - to)
+      bytes_sum = omega (arith, ap (λ c. c.bytes) counted, place_is, back_is, order)
 
       chars_sum : before.chars ≡ length front_back + length (chars line_back)
       chars_sum = ap (λ c. c.chars) counted ∙ ap length front_cut ∙ length-append front_back (chars line_back)
@@ -258,7 +306,7 @@ module _ (law : LineStarts) (text : List ℕ) (from : LinePlace) (h : IsLinePlac
       units_sum : before.units ≡ units front_back + units (chars line_back)
       units_sum = ap (λ c. c.units) counted ∙ ap units front_cut ∙ units-append front_back (chars line_back)
 
-      pub bytes_enough : length line_back ≤ before.bytes
+      pub bytes_enough : at - to ≤ before.bytes
       bytes_enough = omega (arith, bytes_sum)
 
       pub chars_enough : chars_in ≤ before.chars
@@ -268,17 +316,17 @@ module _ (law : LineStarts) (text : List ℕ) (from : LinePlace) (h : IsLinePlac
       units_enough = omega (arith, units_is, units_sum)
 
       abbrev before_line : Counts
-      before_line = record { bytes = before.bytes - length line_back; chars = before.chars - chars_in; units = before.units - units_in; breaks = i }
+      before_line = record { bytes = before.bytes - (at - to); chars = before.chars - chars_in; units = before.units - units_in; breaks = i }
 
       counted_back : before_line ≡ counts_of front_back
       counted_back =
-          let b : before.bytes - length line_back ≡ byte_len front_back = omega (arith, bytes_sum) in
+          let b : before.bytes - (at - to) ≡ byte_len front_back = omega (arith, bytes_sum) in
           let n : before.chars - chars_in ≡ length front_back = omega (arith, chars_is, chars_sum) in
           let u : before.units - units_in ≡ units front_back = omega (arith, units_is, units_sum) in
           let l : i ≡ line_breaks front_back = omega (arith, there_back.breaks_are, next, inside) in
           cc
 
-      pub line_unpassed : IsLinePlace text (record { line_idx = i; place = record { text = from.place.text; start = start; at = to }; before = before_line })
+      pub line_unpassed : IsLinePlace text (record { line_idx = i; place = record { text = from.place.text; start = start; at = to }; is_ascii = from.is_ascii; before = before_line })
       line_unpassed = record {
         utf8 = h.utf8;
         boundary = boundary_back;
@@ -293,6 +341,7 @@ module _ (law : LineStarts) (text : List ℕ) (from : LinePlace) (h : IsLinePlac
           fits = h.place.fits;
         };
         starts = starts_back;
+        ascii = h.ascii;
         counted = counted_back ∙ ap counts_of (sym there_back.taken);
       }
 

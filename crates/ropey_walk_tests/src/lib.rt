@@ -4,8 +4,4 @@
 #[cfg(test)]
 mod iterators;
 #[cfg(test)]
-mod parts;
-#[cfg(test)]
-mod plain;
-#[cfg(test)]
 mod slices;

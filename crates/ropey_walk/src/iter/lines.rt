@@ -1,6 +1,8 @@
 //! The lines of a text, both ways.
 
-ghost use Rattle.std.specs.Prelude.{◌≡◌, ◌+◌, ◌<◌, ◌≤◌, ⊤};
+ghost use Rattle.std.specs.Prelude.{◌≡◌, ◌+◌, ◌<◌, ◌≤◌, length, true, ⊤};
+ghost use Rattle.std.specs.Str.{chars};
+ghost use Rattle.str_indices.specs.Text.{units};
 ghost use Rattle.ropey_walk.specs.Chunks.{line_breaks};
 ghost use Rattle.ropey_walk.specs.Lines.{line_pieces, lines_of};
 ghost use Rattle.ropey_walk.specs.TwoWay.{turned, before_item, GivesPrev};
@@ -24,8 +26,28 @@ struct LinePlace<'a> {
     line_idx: usize,
     // Where it is in a chunk.
     place: Place<'a>,
+    // Whether each character of the chunk is one byte, so that nothing in it needs counting.
+    is_ascii: bool,
     // What the text before it counts.
     before: Counts,
+}
+
+/// What a part of a text counts in characters and in code units, where each of its characters may be
+/// known to be one byte.
+#[inline]
+fn chars_and_units(part: &str, is_ascii: bool) -> (usize, usize)
+    requires { is_ascii ≡ true → length (chars part.now) ≡ length part.now }
+    ensures chars { result.0 ≡ length (chars part.now) }
+    ensures units { result.1 ≡ units (chars part.now) }
+{
+    // Laws, for the proof alone.
+    str_indices::laws::units_are_chars_and_pairs();
+    str_indices::laws::counts_are_at_most_bytes();
+    if is_ascii {
+        (part.len(), part.len())
+    } else {
+        (chars::count(part), utf16::count(part))
+    }
 }
 
 impl<'a> LinePlace<'a> {
@@ -38,11 +60,13 @@ impl<'a> LinePlace<'a> {
         LinePlace {
             line_idx,
             place,
+            is_ascii: chars::count(place.text) == place.text.len(),
             before: slice.counted_to(&place),
         }
     }
 
     /// The end of the line that starts here. Inside the chunk it takes no look-up.
+    #[inline]
     fn next(self, slice: &RopeSlice<'a>) -> Self
         requires here { IsLinePlace (slice_text slice.now) self }
         requires some { self.line_idx < line_breaks (slice_text slice.now) + 1 }
@@ -57,7 +81,7 @@ impl<'a> LinePlace<'a> {
         match breaks::first_break(rest) {
             None => LinePlace::look_up(slice, line_idx),
             Some(found) => {
-                let line = &rest[..found.end];
+                let (chars, units) = chars_and_units(&rest[..found.end], self.is_ascii);
                 LinePlace {
                     line_idx,
                     place: Place {
@@ -65,10 +89,11 @@ impl<'a> LinePlace<'a> {
                         start,
                         at: at + found.end,
                     },
+                    is_ascii: self.is_ascii,
                     before: Counts {
                         bytes: self.before.bytes + found.end,
-                        chars: self.before.chars + chars::count(line),
-                        units: self.before.units + utf16::count(line),
+                        chars: self.before.chars + chars,
+                        units: self.before.units + units,
                         breaks: line_idx,
                     },
                 }
@@ -77,6 +102,7 @@ impl<'a> LinePlace<'a> {
     }
 
     /// The start of the line that ends here. Inside the chunk it takes no look-up.
+    #[inline]
     fn prev(self, slice: &RopeSlice<'a>) -> Self
         requires here { IsLinePlace (slice_text slice.now) self }
         requires some { 0 < self.line_idx }
@@ -92,7 +118,7 @@ impl<'a> LinePlace<'a> {
             return LinePlace::look_up(slice, line_idx);
         }
         let line_start = breaks::to_byte_idx(text, line_idx - start.breaks);
-        let line = &text[line_start..at];
+        let (chars, units) = chars_and_units(&text[line_start..at], self.is_ascii);
         LinePlace {
             line_idx,
             place: Place {
@@ -100,16 +126,18 @@ impl<'a> LinePlace<'a> {
                 start,
                 at: line_start,
             },
+            is_ascii: self.is_ascii,
             before: Counts {
-                bytes: self.before.bytes - line.len(),
-                chars: self.before.chars - chars::count(line),
-                units: self.before.units - utf16::count(line),
+                bytes: self.before.bytes - (at - line_start),
+                chars: self.before.chars - chars,
+                units: self.before.units - units,
                 breaks: line_idx,
             },
         }
     }
 
     /// The line from here to its end.
+    #[inline]
     fn line_to(self, end: Self, slice: &RopeSlice<'a>) -> RopeSlice<'a>
         requires here { IsLinePlace (slice_text slice.now) self }
         requires there { IsLinePlace (slice_text slice.now) end }
