@@ -12,8 +12,8 @@ use std::{env, io};
 /// `parse PATTERN` and `fold PATTERN` write the tree of a pattern, `fold` where letters match in
 /// each case, or why there is none. `build PART..` appends the parts to a builder and writes the
 /// rope: a line for each part that was refused, then each chunk's length and all of its text.
-/// `chunks TEXT` makes a rope of the parts of a text between its `|`, and writes it likewise. `slice
-/// TEXT` makes it too, and writes a copy of its slice behind the first character.
+/// `chunks TEXT` makes a rope of the parts of a text between its `|`, and writes it likewise.
+/// `slice TEXT` makes it too, and writes a copy of its slice behind the first character.
 fn main(rt: HostRuntime) -> io::Result<()> {
     let mut args = env::args(&rt)?.skip(1);
     let Some(mode) = args.next() else {

@@ -62,9 +62,9 @@ impl Rope {
         self.whole().get_chunk_at_char(char_idx)
     }
 
-    /// The first chunk by whose end so many line breaks have ended, and then the byte, the character and
-    /// the line at which the chunk starts. The number is at most `len_lines`, and there it is the last
-    /// chunk; an empty text shows an empty one at 0, 0, 0. `O(log n)`.
+    /// The first chunk by whose end so many line breaks have ended, and then the byte, the
+    /// character and the line at which the chunk starts. The number is at most `len_lines`, and
+    /// there it is the last chunk; an empty text shows an empty one at 0, 0, 0. `O(log n)`.
     pub fn chunk_at_line_break(&self, line_break_idx: usize) -> (&str, usize, usize, usize)
         requires { line_break_idx ≤ line_breaks (text_of self.now) + 1 }
         ensures first { line_break_idx ≡ 0 →

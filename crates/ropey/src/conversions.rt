@@ -1,9 +1,9 @@
 //! Conversions between indices of bytes, characters, UTF-16 code units and lines.
 //!
-//! All indices count from 0. An index equal to the length is accepted, for lines their number, and is
-//! the text's end. The plain form has the index in range as its condition; the `try_` form refuses it
-//! exactly past that, and tells the index and the length. Each call goes one way from the root to a
-//! leaf: it costs `O(log n)` and takes no memory.
+//! All indices count from 0. An index equal to the length is accepted, for lines their number, and
+//! is the text's end. The plain form has the index in range as its condition; the `try_` form
+//! refuses it exactly past that, and tells the index and the length. Each call goes one way from
+//! the root to a leaf: it costs `O(log n)` and takes no memory.
 
 ghost use Rattle.std.specs.Prelude.{◌≡◌, ◌+◌, ◌<◌, ◌≤◌, length, OkIff, IfErr};
 ghost use Rattle.str_indices.specs.Text.{units};
@@ -15,8 +15,8 @@ use crate::rope::Rope;
 use ropey_tree::error::Error;
 
 impl Rope {
-    /// The index of the character in which a byte lies, or the number of characters at the text's end.
-    /// The byte index is at most `len_bytes`. A byte inside a character is of that character.
+    /// The index of the character in which a byte lies, or the number of characters at the text's
+    /// end. The byte index is at most `len_bytes`. A byte inside a character is of that character.
     /// `O(log n)`.
     pub fn byte_to_char(&self, byte_idx: usize) -> usize
         requires { byte_idx ≤ byte_len (text_of self.now) }
@@ -25,9 +25,9 @@ impl Rope {
         self.whole().byte_to_char(byte_idx)
     }
 
-    /// The index of the line in which a byte lies: the number of line breaks that end at or before it.
-    /// The byte index is at most `len_bytes`. Between the CR and the LF of a break it is still the line
-    /// that the break ends. `O(log n)`.
+    /// The index of the line in which a byte lies: the number of line breaks that end at or before
+    /// it. The byte index is at most `len_bytes`. Between the CR and the LF of a break it is still
+    /// the line that the break ends. `O(log n)`.
     pub fn byte_to_line(&self, byte_idx: usize) -> usize
         requires { byte_idx ≤ byte_len (text_of self.now) }
         ensures { result ≡ line_of_byte (text_of self.now) byte_idx }
@@ -54,8 +54,8 @@ impl Rope {
         self.whole().char_to_line(char_idx)
     }
 
-    /// The UTF-16 code unit index at which a character starts: how many units the characters before it
-    /// take. The character index is at most `len_chars`. `O(log n)`.
+    /// The UTF-16 code unit index at which a character starts: how many units the characters before
+    /// it take. The character index is at most `len_chars`. `O(log n)`.
     pub fn char_to_utf16_cu(&self, char_idx: usize) -> usize
         requires { char_idx ≤ length (text_of self.now) }
         ensures { result ≡ unit_of_byte (text_of self.now)
@@ -65,8 +65,8 @@ impl Rope {
     }
 
     /// The index of the character that holds a UTF-16 code unit, or the number of characters for
-    /// `len_utf16_cu`. The unit index is at most `len_utf16_cu`. The second unit of a pair is of the
-    /// character that the pair spells. `O(log n)`.
+    /// `len_utf16_cu`. The unit index is at most `len_utf16_cu`. The second unit of a pair is of
+    /// the character that the pair spells. `O(log n)`.
     pub fn utf16_cu_to_char(&self, utf16_cu_idx: usize) -> usize
         requires { utf16_cu_idx ≤ units (text_of self.now) }
         ensures { result ≡ char_of_byte (text_of self.now)
@@ -75,8 +75,8 @@ impl Rope {
         self.whole().utf16_cu_to_char(utf16_cu_idx)
     }
 
-    /// The byte index at which a line starts, or the text's end for `len_lines`. The line index is at
-    /// most `len_lines`. `O(log n)`.
+    /// The byte index at which a line starts, or the text's end for `len_lines`. The line index is
+    /// at most `len_lines`. `O(log n)`.
     pub fn line_to_byte(&self, line_idx: usize) -> usize
         requires { line_idx ≤ line_breaks (text_of self.now) + 1 }
         ensures { result ≡ byte_of_line (text_of self.now) line_idx }

@@ -1,9 +1,9 @@
 //! Iterators over a rope: its bytes, its characters, its lines and its chunks.
 //!
-//! An iterator stands between two items, or before the first or behind the last. `next` gives the item
-//! ahead and moves behind it, `prev` gives the item behind and moves before it, and `reverse` turns the
-//! iterator round: what lay behind it comes ahead. Where no item comes, it gives none and stays.
-//! Contracts see the items ahead and those behind, each from the nearest on.
+//! An iterator stands between two items, or before the first or behind the last. `next` gives the
+//! item ahead and moves behind it, `prev` gives the item behind and moves before it, and `reverse`
+//! turns the iterator round: what lay behind it comes ahead. Where no item comes, it gives none and
+//! stays. Contracts see the items ahead and those behind, each from the nearest on.
 //!
 //! No iterator takes memory. A clone has the same place and direction, and goes its own way.
 
@@ -64,16 +64,16 @@ impl Rope {
         self.whole().get_chars_at(char_idx)
     }
 
-    /// The lines, from the first on: `len_lines` slices, each with the break that ends it. The last has
-    /// no break, and may be empty. `O(log n)`.
+    /// The lines, from the first on: `len_lines` slices, each with the break that ends it. The last
+    /// has no break, and may be empty. `O(log n)`.
     pub fn lines(&self) -> Lines<'_>
         ensures { result ≡ before_item 0 (lines_of self.now) }
     {
         self.whole().lines()
     }
 
-    /// The lines, from the place before one of them; at `len_lines` from behind the last. The line index
-    /// is at most `len_lines`. `O(log n)`.
+    /// The lines, from the place before one of them; at `len_lines` from behind the last. The line
+    /// index is at most `len_lines`. `O(log n)`.
     pub fn lines_at(&self, line_idx: usize) -> Lines<'_>
         requires { line_idx ≤ line_breaks (text_of self.now) + 1 }
         ensures { result ≡ before_item line_idx (lines_of self.now) }
@@ -99,8 +99,8 @@ impl Rope {
         self.whole().chunks()
     }
 
-    /// The chunks, from the place before the one that holds a byte, or at `len_bytes` from behind the
-    /// last; and then the byte, the character and the line there. The byte index is at most
+    /// The chunks, from the place before the one that holds a byte, or at `len_bytes` from behind
+    /// the last; and then the byte, the character and the line there. The byte index is at most
     /// `len_bytes`. `O(log n)`.
     pub fn chunks_at_byte(&self, byte_idx: usize) -> (Chunks<'_>, usize, usize, usize)
         requires { byte_idx ≤ byte_len (text_of self.now) }
@@ -118,9 +118,9 @@ impl Rope {
         self.whole().get_chunks_at_byte(byte_idx)
     }
 
-    /// The chunks, from the place before the one that holds a character, or at `len_chars` from behind
-    /// the last; and then the byte, the character and the line there. The character index is at most
-    /// `len_chars`. `O(log n)`.
+    /// The chunks, from the place before the one that holds a character, or at `len_chars` from
+    /// behind the last; and then the byte, the character and the line there. The character index is
+    /// at most `len_chars`. `O(log n)`.
     pub fn chunks_at_char(&self, char_idx: usize) -> (Chunks<'_>, usize, usize, usize)
         requires { char_idx ≤ length (text_of self.now) }
         ensures { StandsBefore self.now length char_idx result.0 result.1 result.2 result.3 }
@@ -137,9 +137,9 @@ impl Rope {
         self.whole().get_chunks_at_char(char_idx)
     }
 
-    /// The chunks, from the place before the first one by whose end so many line breaks have ended, or
-    /// at `len_lines` from behind the last; and then the byte, the character and the line there. The
-    /// number is at most `len_lines`. `O(log n)`.
+    /// The chunks, from the place before the first one by whose end so many line breaks have ended,
+    /// or at `len_lines` from behind the last; and then the byte, the character and the line there.
+    /// The number is at most `len_lines`. `O(log n)`.
     pub fn chunks_at_line_break(&self, line_break_idx: usize) -> (Chunks<'_>, usize, usize, usize)
         requires { line_break_idx ≤ line_breaks (text_of self.now) + 1 }
         ensures first { line_break_idx ≡ 0 →

@@ -29,8 +29,9 @@ pub(crate) const MAX_TEXT_BYTES: usize = 0x7FFF_FFFF_FFFF_FFFF;
 /// A text in a balanced tree of shared nodes. Contracts see the pieces into which it is cut, its
 /// chunks.
 ///
-/// It keeps its allocator, and what it takes later it takes there. A clone shares all of its source,
-/// and neither changes the other; it takes no memory that grows with the text, and costs `O(1)`.
+/// It keeps its allocator, and what it takes later it takes there. A clone shares all of its
+/// source, and neither changes the other; it takes no memory that grows with the text, and costs
+/// `O(1)`.
 #[derive(Drop)]
 pub struct Rope {
     alloc: Global,
@@ -95,8 +96,8 @@ impl Rope {
     /// A rope of the parts of a text that an iterator yields, joined in their order.
     ///
     /// `Size` where so many have come that they have more than `isize::MAX` bytes together, and
-    /// `Memory` where memory is refused before that. How much was taken from the iterator then isn't
-    /// told. `O(n)`.
+    /// `Memory` where memory is refused before that. How much was taken from the iterator then
+    /// isn't told. `O(n)`.
     pub fn from_chunks<'a, I: IntoIterator<Item = &'a str>>(
         alloc: Global,
         chunks: I,
@@ -179,9 +180,9 @@ impl Rope {
         self.whole().len_lines()
     }
 
-    /// The chunk that holds a byte, and then the byte, the character and the line at which the chunk
-    /// starts. The byte index is at most `len_bytes`, and there it is the last chunk; an empty text
-    /// shows an empty one at 0, 0, 0. `O(log n)`.
+    /// The chunk that holds a byte, and then the byte, the character and the line at which the
+    /// chunk starts. The byte index is at most `len_bytes`, and there it is the last chunk; an
+    /// empty text shows an empty one at 0, 0, 0. `O(log n)`.
     pub fn chunk_at_byte(&self, byte_idx: usize) -> (&str, usize, usize, usize)
         requires { byte_idx ≤ byte_len (text_of self.now) }
         ensures chunk { ShowsChunk self.now byte_len byte_idx (chars result.0.now) result.1 result.2

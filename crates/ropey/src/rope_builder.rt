@@ -11,8 +11,8 @@ use ropey_tree::error::Error;
 use std::alloc::Global;
 use std::marker::Model;
 
-/// A rope that is built of a text that comes in parts. The text lies in leaves but for its last part
-/// that fills none. Contracts see the text so far. It keeps its allocator.
+/// A rope that is built of a text that comes in parts. The text lies in leaves but for its last
+/// part that fills none. Contracts see the text so far. It keeps its allocator.
 #[derive(Drop)]
 pub struct RopeBuilder {
     text: Cutter,
@@ -42,8 +42,8 @@ impl RopeBuilder {
         }
     }
 
-    /// Appends a text. A refusal leaves the builder as it was: `Size` where there would be more than
-    /// `isize::MAX` bytes, which is asked first, and `Memory`. `O(m)` for a text of m bytes.
+    /// Appends a text. A refusal leaves the builder as it was: `Size` where there would be more
+    /// than `isize::MAX` bytes, which is asked first, and `Memory`. `O(m)` for a text of m bytes.
     pub fn append(&mut self, text: &str) -> Result<(), Error>
         ensures text { OnOk result (self.new ≡ self.old ++ chars text.now) }
         ensures kept { OnErr result (self.new ≡ self.old) }
@@ -67,8 +67,8 @@ impl RopeBuilder {
         self.append(part)
     }
 
-    /// The rope of the text. A refusal, which is `Memory`, drops the builder. `O(n)`, without copying the
-    /// text again.
+    /// The rope of the text. A refusal, which is `Memory`, drops the builder. `O(n)`, without
+    /// copying the text again.
     pub fn finish(self) -> Result<Rope, Error>
         ensures text { IfOk result (λ rope. text_of rope ≡ self) }
         ensures refused { IfErr result (λ error. error ≡ Error.Memory) }

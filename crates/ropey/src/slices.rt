@@ -1,7 +1,8 @@
 //! Parts of a rope: its lines, and ranges of its characters and of its bytes.
 //!
-//! A part is a `RopeSlice`, which borrows the rope and takes no memory. The plain form has the line or
-//! the range inside the text as its condition; the `get_` form answers none exactly where it isn't.
+//! A part is a `RopeSlice`, which borrows the rope and takes no memory. The plain form has the line
+//! or the range inside the text as its condition; the `get_` form answers none exactly where it
+//! isn't.
 
 ghost use Rattle.std.specs.Prelude.{◌≡◌, ◌+◌, ◌<◌, ◌≤◌, ◌↔◌, length};
 ghost use Rattle.std.specs.Prelude.{IfSome, IsSome, IsNone};

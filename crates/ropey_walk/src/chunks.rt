@@ -64,9 +64,9 @@ impl<'a> RopeSlice<'a> {
         }
     }
 
-    /// The chunk that holds a byte, and then the byte, the character and the line at which the chunk
-    /// starts. The byte index is at most `len_bytes`, and there it is the last chunk; an empty text
-    /// shows an empty one at 0, 0, 0. `O(log n)`.
+    /// The chunk that holds a byte, and then the byte, the character and the line at which the
+    /// chunk starts. The byte index is at most `len_bytes`, and there it is the last chunk; an
+    /// empty text shows an empty one at 0, 0, 0. `O(log n)`.
     pub fn chunk_at_byte(&self, byte_idx: usize) -> (&'a str, usize, usize, usize)
         requires { byte_idx ≤ byte_len (slice_text self.now) }
         ensures chunk { ShowsChunk (slice_pieces self.now) byte_len byte_idx (chars result.0.now)
@@ -83,8 +83,8 @@ impl<'a> RopeSlice<'a> {
         )
     }
 
-    /// `chunk_at_byte`, and past the length the error `ByteIndexOutOfBounds`, with the index and that
-    /// length. `O(log n)`.
+    /// `chunk_at_byte`, and past the length the error `ByteIndexOutOfBounds`, with the index and
+    /// that length. `O(log n)`.
     pub fn try_chunk_at_byte(
         &self,
         byte_idx: usize,
@@ -119,8 +119,8 @@ impl<'a> RopeSlice<'a> {
     /// empty text shows an empty one at 0, 0, 0. `O(log n)`.
     pub fn chunk_at_char(&self, char_idx: usize) -> (&'a str, usize, usize, usize)
         requires { char_idx ≤ length (slice_text self.now) }
-        ensures chunk { ShowsChunk (slice_pieces self.now) length char_idx (chars result.0.now) result.1 result.2
-            result.3 }
+        ensures chunk { ShowsChunk (slice_pieces self.now) length char_idx (chars result.0.now)
+            result.1 result.2 result.3 }
         ensures utf8 { IsUtf8 result.0.now }
     {
         let chunk = self.chunk(By::Chars, char_idx);
@@ -146,16 +146,17 @@ impl<'a> RopeSlice<'a> {
         }
     }
 
-    /// The first chunk by whose end so many line breaks have ended, and then the byte, the character and
-    /// the line at which the chunk starts. The number is at most `len_lines`, and there it is the last
-    /// chunk; an empty text shows an empty one at 0, 0, 0. `O(log n)`.
+    /// The first chunk by whose end so many line breaks have ended, and then the byte, the
+    /// character and the line at which the chunk starts. The number is at most `len_lines`, and
+    /// there it is the last chunk; an empty text shows an empty one at 0, 0, 0. `O(log n)`.
     pub fn chunk_at_line_break(&self, line_break_idx: usize) -> (&'a str, usize, usize, usize)
         requires { line_break_idx ≤ line_breaks (slice_text self.now) + 1 }
         ensures first { line_break_idx ≡ 0 →
-            ShowsChunk (slice_pieces self.now) byte_len 0 (chars result.0.now) result.1 result.2 result.3 }
+            ShowsChunk (slice_pieces self.now) byte_len 0 (chars result.0.now) result.1 result.2
+            result.3 }
         ensures later { 0 < line_break_idx →
-            ShowsChunk (slice_pieces self.now) line_breaks (line_break_idx - 1) (chars result.0.now) result.1
-            result.2 result.3 }
+            ShowsChunk (slice_pieces self.now) line_breaks (line_break_idx - 1)
+            (chars result.0.now) result.1 result.2 result.3 }
         ensures utf8 { IsUtf8 result.0.now }
     {
         let chunk = self.chunk_of_break(line_break_idx);
@@ -174,11 +175,11 @@ impl<'a> RopeSlice<'a> {
     ) -> Option<(&'a str, usize, usize, usize)>
         ensures none { IsNone result ↔ (line_breaks (slice_text self.now) + 1 < line_break_idx) }
         ensures first { line_break_idx ≡ 0 →
-            IfSome result (λ shown. ShowsChunk (slice_pieces self.now) byte_len 0 (chars shown.0.now) shown.1
-            shown.2 shown.3) }
-        ensures later { 0 < line_break_idx →
-            IfSome result (λ shown. ShowsChunk (slice_pieces self.now) line_breaks (line_break_idx - 1)
+            IfSome result (λ shown. ShowsChunk (slice_pieces self.now) byte_len 0
             (chars shown.0.now) shown.1 shown.2 shown.3) }
+        ensures later { 0 < line_break_idx →
+            IfSome result (λ shown. ShowsChunk (slice_pieces self.now) line_breaks
+            (line_break_idx - 1) (chars shown.0.now) shown.1 shown.2 shown.3) }
         ensures utf8 { IfSome result (λ shown. IsUtf8 shown.0.now) }
     {
         if line_break_idx <= self.len_lines() {

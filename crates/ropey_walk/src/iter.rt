@@ -1,9 +1,9 @@
 //! Iterators over a text: its bytes, its characters, its lines and its chunks.
 //!
-//! An iterator stands between two items, or before the first or behind the last. `next` gives the item
-//! ahead and moves behind it, `prev` gives the item behind and moves before it, and `reverse` turns the
-//! iterator round: what lay behind it comes ahead. Where no item comes, it gives none and stays.
-//! Contracts see the items ahead and those behind, each from the nearest on.
+//! An iterator stands between two items, or before the first or behind the last. `next` gives the
+//! item ahead and moves behind it, `prev` gives the item behind and moves before it, and `reverse`
+//! turns the iterator round: what lay behind it comes ahead. Where no item comes, it gives none and
+//! stays. Contracts see the items ahead and those behind, each from the nearest on.
 //!
 //! No iterator takes memory. A clone has the same place and direction, and goes its own way.
 
@@ -87,16 +87,16 @@ impl<'a> RopeSlice<'a> {
         }
     }
 
-    /// The lines, from the first on: `len_lines` slices, each with the break that ends it. The last has
-    /// no break, and may be empty. `O(log n)`.
+    /// The lines, from the first on: `len_lines` slices, each with the break that ends it. The last
+    /// has no break, and may be empty. `O(log n)`.
     pub fn lines(&self) -> Lines<'a>
         ensures { result ≡ before_item 0 (lines_of (slice_pieces self.now)) }
     {
         Lines::at(*self, 0)
     }
 
-    /// The lines, from the place before one of them; at `len_lines` from behind the last. The line index
-    /// is at most `len_lines`. `O(log n)`.
+    /// The lines, from the place before one of them; at `len_lines` from behind the last. The line
+    /// index is at most `len_lines`. `O(log n)`.
     pub fn lines_at(&self, line_idx: usize) -> Lines<'a>
         requires { line_idx ≤ line_breaks (slice_text self.now) + 1 }
         ensures { result ≡ before_item line_idx (lines_of (slice_pieces self.now)) }
@@ -126,8 +126,9 @@ impl<'a> RopeSlice<'a> {
         Chunks::at(*self, 0)
     }
 
-    /// The chunks, from the place before the one in which place `i` of a measure lies, or from behind
-    /// the last where no more than `i` stand in all; and the byte, the character and the line there.
+    /// The chunks, from the place before the one in which place `i` of a measure lies, or from
+    /// behind the last where no more than `i` stand in all; and the byte, the character and the
+    /// line there.
     fn chunks_at(&self, by: By, i: usize) -> (Chunks<'a>, usize, usize, usize)
         ensures { StandsBefore (slice_pieces self.now) (λ text. amount by (counts_of text)) i
             result.0 result.1 result.2 result.3 }
@@ -150,8 +151,8 @@ impl<'a> RopeSlice<'a> {
         )
     }
 
-    /// The chunks, from the place before the one that holds a byte, or at `len_bytes` from behind the
-    /// last; and then the byte, the character and the line there. The byte index is at most
+    /// The chunks, from the place before the one that holds a byte, or at `len_bytes` from behind
+    /// the last; and then the byte, the character and the line there. The byte index is at most
     /// `len_bytes`. `O(log n)`.
     pub fn chunks_at_byte(&self, byte_idx: usize) -> (Chunks<'a>, usize, usize, usize)
         requires { byte_idx ≤ byte_len (slice_text self.now) }
@@ -174,9 +175,9 @@ impl<'a> RopeSlice<'a> {
         }
     }
 
-    /// The chunks, from the place before the one that holds a character, or at `len_chars` from behind
-    /// the last; and then the byte, the character and the line there. The character index is at most
-    /// `len_chars`. `O(log n)`.
+    /// The chunks, from the place before the one that holds a character, or at `len_chars` from
+    /// behind the last; and then the byte, the character and the line there. The character index is
+    /// at most `len_chars`. `O(log n)`.
     pub fn chunks_at_char(&self, char_idx: usize) -> (Chunks<'a>, usize, usize, usize)
         requires { char_idx ≤ length (slice_text self.now) }
         ensures { StandsBefore (slice_pieces self.now) length char_idx result.0 result.1 result.2
@@ -198,9 +199,9 @@ impl<'a> RopeSlice<'a> {
         }
     }
 
-    /// The chunks, from the place before the first one by whose end so many line breaks have ended, or
-    /// at `len_lines` from behind the last; and then the byte, the character and the line there. The
-    /// number is at most `len_lines`. `O(log n)`.
+    /// The chunks, from the place before the first one by whose end so many line breaks have ended,
+    /// or at `len_lines` from behind the last; and then the byte, the character and the line there.
+    /// The number is at most `len_lines`. `O(log n)`.
     pub fn chunks_at_line_break(&self, line_break_idx: usize) -> (Chunks<'a>, usize, usize, usize)
         requires { line_break_idx ≤ line_breaks (slice_text self.now) + 1 }
         ensures first { line_break_idx ≡ 0 →

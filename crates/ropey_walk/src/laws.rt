@@ -8,7 +8,8 @@ pub fn chunks_cut_no_cr_lf()
     ensures { NoCuttingCutsCrLf }
 {}
 
-/// The breaks of a rope are of a scheme in which CR LF is one break: how they add up over joined texts.
+/// The breaks of a rope are of a scheme in which CR LF is one break: how they add up over joined
+/// texts.
 pub(crate) fn breaks_of_parts()
     ensures { BreaksOfParts }
 {

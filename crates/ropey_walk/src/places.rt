@@ -59,7 +59,8 @@ impl<'a> RopeSlice<'a> {
     pub(crate) fn place_of_char(&self, char_idx: usize) -> Place<'a>
         ensures stands { IsPlaceIn (slice_text self.now) (chars result.text.now) result.start
             result.at }
-        ensures place { result.start.bytes + result.at ≡ byte_of_char (slice_text self.now) char_idx }
+        ensures place { result.start.bytes + result.at ≡ byte_of_char (slice_text self.now)
+            char_idx }
         ensures boundary { IsCharBoundary result.text.now result.at }
         ensures utf8 { IsUtf8 result.text.now }
     {
@@ -97,7 +98,8 @@ impl<'a> RopeSlice<'a> {
         ensures first { line_break_idx ≡ 0 →
             StandsAt (slice_pieces self.now) By.Bytes 0 (chars result.text.now) result.start }
         ensures later { 0 < line_break_idx →
-            StandsAt (slice_pieces self.now) By.Breaks (line_break_idx - 1) (chars result.text.now) result.start }
+            StandsAt (slice_pieces self.now) By.Breaks (line_break_idx - 1) (chars result.text.now)
+            result.start }
         ensures cut { IsText (slice_pieces self.now) }
         ensures utf8 { IsUtf8 result.text.now }
     {
@@ -112,7 +114,8 @@ impl<'a> RopeSlice<'a> {
     pub(crate) fn place_of_line(&self, line_idx: usize) -> Place<'a>
         ensures stands { IsPlaceIn (slice_text self.now) (chars result.text.now) result.start
             result.at }
-        ensures place { result.start.bytes + result.at ≡ byte_of_line (slice_text self.now) line_idx }
+        ensures place { result.start.bytes + result.at ≡ byte_of_line (slice_text self.now)
+            line_idx }
         ensures boundary { IsCharBoundary result.text.now result.at }
         ensures utf8 { IsUtf8 result.text.now }
     {
@@ -140,7 +143,8 @@ impl<'a> RopeSlice<'a> {
     pub(crate) fn char_of(&self, place: &Place<'_>) -> usize
         requires { IsPlaceIn (slice_text self.now) (chars place.now.text.now) place.now.start
             place.now.at }
-        ensures { result ≡ char_of_byte (slice_text self.now) (place.now.start.bytes + place.now.at) }
+        ensures { result ≡ char_of_byte (slice_text self.now)
+            (place.now.start.bytes + place.now.at) }
     {
         // Laws, for the proof alone.
         str_indices::laws::ends_of_a_part();
@@ -153,7 +157,8 @@ impl<'a> RopeSlice<'a> {
     pub(crate) fn unit_of(&self, place: &Place<'_>) -> usize
         requires { IsPlaceIn (slice_text self.now) (chars place.now.text.now) place.now.start
             place.now.at }
-        ensures { result ≡ unit_of_byte (slice_text self.now) (place.now.start.bytes + place.now.at) }
+        ensures { result ≡ unit_of_byte (slice_text self.now)
+            (place.now.start.bytes + place.now.at) }
     {
         // Laws, for the proof alone.
         str_indices::laws::ends_of_a_part();
@@ -166,7 +171,8 @@ impl<'a> RopeSlice<'a> {
     pub(crate) fn line_of(&self, place: &Place<'_>) -> usize
         requires { IsPlaceIn (slice_text self.now) (chars place.now.text.now) place.now.start
             place.now.at }
-        ensures { result ≡ line_of_byte (slice_text self.now) (place.now.start.bytes + place.now.at) }
+        ensures { result ≡ line_of_byte (slice_text self.now)
+            (place.now.start.bytes + place.now.at) }
     {
         // Laws, for the proof alone.
         str_indices::laws::ends_of_a_part();
@@ -195,8 +201,8 @@ impl<'a> RopeSlice<'a> {
         }
     }
 
-    /// What the text up to a place between two characters counts by itself: of a CR LF that the place
-    /// cuts, the CR is a break.
+    /// What the text up to a place between two characters counts by itself: of a CR LF that the
+    /// place cuts, the CR is a break.
     pub(crate) fn counted_to(&self, place: &Place<'_>) -> Counts
         requires place { IsPlaceIn (slice_text self.now) (chars place.now.text.now) place.now.start
             place.now.at }

@@ -12,9 +12,9 @@ use crate::laws;
 use ropey_tree::counts::{By, Counts};
 use ropey_tree::node::{Found, Node, leaf_at};
 
-/// A part of a rope, which acts as a text of its own: an index counts from its start, and a line break
-/// is what its own text has for one. A slice that starts at the LF of a CR LF has that LF as a break,
-/// and one that ends between them has the CR.
+/// A part of a rope, which acts as a text of its own: an index counts from its start, and a line
+/// break is what its own text has for one. A slice that starts at the LF of a CR LF has that LF as
+/// a break, and one that ends between them has the CR.
 ///
 /// It takes no memory. Contracts see the pieces into which its rope is cut, clipped to it.
 #[derive(Clone, Copy)]
@@ -206,8 +206,8 @@ impl<'a> RopeSlice<'a> {
         }
     }
 
-    /// The chunk in which place `i` of a measure lies, or the last. An empty text shows an empty one.
-    /// `O(log n)`.
+    /// The chunk in which place `i` of a measure lies, or the last. An empty text shows an empty
+    /// one. `O(log n)`.
     pub fn chunk(&self, by: By, i: usize) -> Chunk<'a>
         ensures stands { StandsAt (slice_pieces self.now) by i (chars result.text.now) result.start }
         ensures cut { IsText (slice_pieces self.now) }

@@ -134,7 +134,8 @@ impl Model for Hir {
 
     ghost view = { λ h. map kind_of h.nodes.items };
 
-    ghost invariant = { λ h. AreNodesOf (tree_of (map kind_of h.nodes.items)) (map kind_of h.nodes.items) h.properties.items };
+    ghost invariant = { λ h. AreNodesOf (tree_of (map kind_of h.nodes.items))
+        (map kind_of h.nodes.items) h.properties.items };
 }
 
 impl Hir {

@@ -24,7 +24,14 @@ impl Model for Config {
 
     ghost Value = { Settings };
 
-    ghost view = { λ c. record { case_insensitive = c.case_insensitive; multi_line = c.multi_line; dot_matches_new_line = c.dot_matches_new_line; swap_greed = c.swap_greed; nest_limit = c.nest_limit; line_terminator = c.line_terminator } };
+    ghost view = { λ c. record {
+      case_insensitive = c.case_insensitive;
+      multi_line = c.multi_line;
+      dot_matches_new_line = c.dot_matches_new_line;
+      swap_greed = c.swap_greed;
+      nest_limit = c.nest_limit;
+      line_terminator = c.line_terminator;
+    } };
 }
 
 impl Config {

@@ -77,7 +77,8 @@ impl<'a> Bytes<'a> {
         self
     }
 
-    /// The byte behind the place, which moves before it; none where none is, and the iterator stays.
+    /// The byte behind the place, which moves before it; none where none is, and the iterator
+    /// stays.
     #[inline]
     pub fn prev(&mut self) -> Option<u8>
         ensures { GivesPrev GivesItem self.old result self.new }

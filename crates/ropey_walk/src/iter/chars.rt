@@ -28,8 +28,8 @@ struct Read {
     at: usize,
 }
 
-/// The place before character `char_idx` in the chunk in which character `in_char` lies, which is that
-/// one or the one before it.
+/// The place before character `char_idx` in the chunk in which character `in_char` lies, which is
+/// that one or the one before it.
 fn place_in_chunk_of<'a>(slice: &RopeSlice<'a>, in_char: usize, char_idx: usize) -> CharPlace<'a>
     requires low { in_char ≤ char_idx }
     requires high { char_idx ≤ in_char + 1 }
@@ -120,8 +120,8 @@ fn read_back(chunk: &str, at: usize) -> Read
     }
 }
 
-/// The characters of a text, which are Unicode scalar values, both ways. Contracts see those ahead and
-/// those behind.
+/// The characters of a text, which are Unicode scalar values, both ways. Contracts see those ahead
+/// and those behind.
 ///
 /// A step costs `O(1)` inside a chunk, and `O(log n)` from one to the next.
 #[derive(Drop)]

@@ -75,7 +75,8 @@ impl<'a> Chunks<'a> {
         self
     }
 
-    /// The chunk behind the place, which moves before it; none where none is, and the iterator stays.
+    /// The chunk behind the place, which moves before it; none where none is, and the iterator
+    /// stays.
     pub fn prev(&mut self) -> Option<&'a str>
         ensures { GivesPrev GivesChunk self.old result self.new }
     {

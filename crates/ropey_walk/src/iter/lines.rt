@@ -32,8 +32,8 @@ struct LinePlace<'a> {
     before: Counts,
 }
 
-/// What a part of a text counts in characters and in code units, where each of its characters may be
-/// known to be one byte.
+/// What a part of a text counts in characters and in code units, where each of its characters may
+/// be known to be one byte.
 #[inline]
 fn chars_and_units(part: &str, is_ascii: bool) -> (usize, usize)
     requires { is_ascii ≡ true → length (chars part.now) ≡ length part.now }
@@ -150,12 +150,12 @@ impl<'a> LinePlace<'a> {
     }
 }
 
-/// The lines of a text, each a slice with the break that ends it, both ways. Contracts see those ahead
-/// and those behind, as pieces.
+/// The lines of a text, each a slice with the break that ends it, both ways. Contracts see those
+/// ahead and those behind, as pieces.
 ///
-/// There are `len_lines`: the last has no break, and may be empty. Inside a chunk a step costs `O(m)`
-/// forwards for a line of m bytes and is bounded by the chunk backwards; from one chunk to another it
-/// costs `O(log n)`.
+/// There are `len_lines`: the last has no break, and may be empty. Inside a chunk a step costs
+/// `O(m)` forwards for a line of m bytes and is bounded by the chunk backwards; from one chunk to
+/// another it costs `O(log n)`.
 #[derive(Drop)]
 pub struct Lines<'a> {
     slice: RopeSlice<'a>,
@@ -212,7 +212,8 @@ impl<'a> Lines<'a> {
         self
     }
 
-    /// The line behind the place, which moves before it; none where none is, and the iterator stays.
+    /// The line behind the place, which moves before it; none where none is, and the iterator
+    /// stays.
     pub fn prev(&mut self) -> Option<RopeSlice<'a>>
         ensures { GivesPrev GivesLine self.old result self.new }
     {
