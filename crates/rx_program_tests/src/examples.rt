@@ -40,14 +40,11 @@ fn state(rt: HostRuntime) -> Result<(), Fail> {
 fn build_error(rt: HostRuntime) -> Result<(), Fail> {
     let alloc = rt.alloc();
     let hir = parse(alloc, "a", &Config::new())?;
-    match compile(alloc, &[&hir], b'\n', Some(199)) {
-        Ok(_) => assert!(rt; false),
-        Err(error) => {
-            assert_eq!(rt; error, BuildError::Size { limit: 199 });
-            assert_eq!(rt; error.size_limit(), Some(199));
-            assert_eq!(rt; error.pattern(), None);
-        }
-    }
+    let refused = compile(alloc, &[&hir], b'\n', Some(199)).err();
+    let size = BuildError::Size { limit: 199 };
+    assert_eq!(rt; refused, Some(size));
+    assert_eq!(rt; size.size_limit(), Some(199));
+    assert_eq!(rt; size.pattern(), None);
     let error = BuildError::Syntax {
         pattern: PatternID::new(2),
         error: SyntaxError::Nesting,

@@ -2,28 +2,26 @@
 
 use rx_grammar::syntax::Config;
 use rx_grammar::{SyntaxError, parse};
-use rx_program::{BuildError, Program, compile};
+use rx_program::{BuildError, compile};
 use std::alloc::Global;
 use std::test::Fail;
 
-/// The text as a pattern, compiled under a limit.
-fn compiled(
+/// Why the text is refused as a pattern under a limit, if it is.
+fn refusal(
     alloc: Global,
     text: &str,
     limit: Option<usize>,
-) -> Result<Result<Program, BuildError>, SyntaxError> {
+) -> Result<Option<BuildError>, SyntaxError> {
     let hir = parse(alloc, text, &Config::new())?;
-    Ok(compile(alloc, &[&hir], b'\n', limit))
+    Ok(compile(alloc, &[&hir], b'\n', limit).err())
 }
 
-/// Whether the text is compiled, and under a limit that is one less refused by that limit.
+/// Whether the text is compiled under a limit, and under one that is one less refused by that.
 fn is_least(alloc: Global, text: &str, limit: usize) -> Result<bool, SyntaxError> {
-    let built = compiled(alloc, text, Some(limit))?.is_ok();
-    let below = limit - 1;
-    match compiled(alloc, text, Some(below))? {
-        Ok(_) => Ok(false),
-        Err(error) => Ok(built && error.size_limit() == Some(below)),
-    }
+    let below = limit.saturating_sub(1);
+    let built = refusal(alloc, text, Some(limit))?;
+    let refused = refusal(alloc, text, Some(below))?;
+    Ok(built == None && refused == Some(BuildError::Size { limit: below }))
 }
 
 #[test]
@@ -47,14 +45,10 @@ fn least_limits(rt: HostRuntime) -> Result<(), Fail> {
 #[test]
 fn without_a_limit(rt: HostRuntime) -> Result<(), Fail> {
     let alloc = rt.alloc();
-    match compiled(alloc, "a{65535}{65535}", None)? {
-        Ok(_) => assert!(rt; false),
-        Err(error) => {
-            assert_eq!(rt; error.size_limit(), Some(85_899_345_840));
-            assert_eq!(rt; error.is_memory(), false);
-        }
-    }
-    assert!(rt; compiled(alloc, "a{65535}", None)?.is_ok());
+    let limit = 85_899_345_840;
+    let refused = refusal(alloc, "a{65535}{65535}", None)?;
+    assert_eq!(rt; refused, Some(BuildError::Size { limit }));
+    assert_eq!(rt; refusal(alloc, "a{65535}", None)?, None);
     Ok(())
 }
 
@@ -68,12 +62,9 @@ fn refused_at_once(rt: HostRuntime) -> Result<(), Fail> {
         text.push_str("{65535}")?;
     }
     for limit in [Some(0), Some(usize::MAX), None] {
-        match compiled(alloc, &text, limit)? {
-            Ok(_) => assert!(rt; false),
-            Err(error) => {
-                assert_eq!(rt; error.size_limit(), Some(limit.unwrap_or(85_899_345_840)));
-            }
-        }
+        let told = limit.unwrap_or(85_899_345_840);
+        let refused = refusal(alloc, &text, limit)?;
+        assert_eq!(rt; refused, Some(BuildError::Size { limit: told }));
     }
     Ok(())
 }
