@@ -48,6 +48,7 @@ bench: $(program)
 	@RT='$(RT)' sh bench/indices.sh
 	@RT='$(RT)' sh bench/ropes.sh
 	@RT='$(RT)' sh bench/slices.sh
+	@RT='$(RT)' sh bench/iterators.sh
 	@RT='$(RT)' sh bench/patterns.sh
 
 clean:

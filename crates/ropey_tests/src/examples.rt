@@ -63,6 +63,27 @@ fn chars(rt: HostRuntime) -> Result<(), Fail> {
 }
 
 #[test]
+fn lines_both_ways(rt: HostRuntime) -> Result<(), Fail> {
+    let rope = Rope::from_str(rt.alloc(), "one\r\ntwo\n")?;
+    let mut lines = rope.lines();
+    assert!(rt;
+        lines
+            .next()
+            .is_some_and(|line| line.as_str() == Some("one\r\n"))
+    );
+    assert_eq!(rt; lines.len(), 2);
+    let mut back = rope.lines_at(rope.len_lines()).reversed();
+    assert!(rt; back.next().is_some_and(|line| line.as_str() == Some("")));
+    assert!(rt;
+        back.next()
+            .is_some_and(|line| line.as_str() == Some("two\n"))
+    );
+    assert!(rt; rope.get_lines_at(3).is_some());
+    assert!(rt; rope.get_lines_at(4).is_none());
+    Ok(())
+}
+
+#[test]
 fn chunks(rt: HostRuntime) -> Result<(), Fail> {
     let rope = Rope::from_chunks(rt.alloc(), ["one\r\n", "two"])?;
     let mut text = String::new(rt.alloc());

@@ -43,6 +43,31 @@ fn chars(rt: HostRuntime) -> Result<(), Fail> {
     Ok(())
 }
 
+/// Whether a line comes that has this text.
+fn is_line(line: Option<RopeSlice<'_>>, text: &str) -> bool {
+    line.is_some_and(|line| line.as_str() == Some(text))
+}
+
+#[test]
+fn lines(rt: HostRuntime) -> Result<(), Fail> {
+    let node = Node::from_leaf(Leaf::new("one\r\ntwo\n"));
+    let slice = RopeSlice::new(Some(&node));
+    let mut lines = slice.lines();
+    assert_eq!(rt; lines.len(), 3);
+    assert!(rt; is_line(lines.next(), "one\r\n"));
+    let mut copy = lines.clone()?.reversed();
+    assert!(rt; is_line(copy.next(), "one\r\n"));
+    assert!(rt; copy.next().is_none());
+    assert!(rt; is_line(lines.next(), "two\n"));
+    assert!(rt; is_line(lines.next(), ""));
+    assert!(rt; lines.next().is_none());
+    assert!(rt; is_line(lines.prev(), ""));
+    assert!(rt; is_line(slice.lines_at(slice.len_lines()).prev(), ""));
+    assert!(rt; slice.get_lines_at(4).is_none());
+    assert_eq!(rt; RopeSlice::new(None).lines().len(), 1);
+    Ok(())
+}
+
 #[test]
 fn texts(rt: HostRuntime) -> Result<(), Fail> {
     let node = Node::from_leaf(Leaf::new("one\r\ntwo"));

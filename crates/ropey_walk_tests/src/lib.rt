@@ -4,4 +4,10 @@
 #[cfg(test)]
 mod iterators;
 #[cfg(test)]
+mod parts;
+#[cfg(test)]
+mod plain;
+#[cfg(test)]
 mod slices;
+#[cfg(test)]
+mod walks;
