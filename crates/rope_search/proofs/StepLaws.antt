@@ -18,7 +18,7 @@ use Rattle.rope_search.specs.Step.{Answer, Refuses, IsFirstRefusal, Accepts, Doe
 use Rattle.rope_search.specs.Shows.{IsListed, Shows, shows}
 use Rattle.rope_search_reports.specs.Report.{IsReport}
 use Rattle.rope_search_reports.specs.Computed.{report}
-use Rattle.rope_search_reports.proofs.ReportLaws.{report-is, report-one}
+use Rattle.rope_search_reports.specs.Laws.{HasOneReport, HasReport}
 use Rattle.rope_search.specs.Cost.{Costs, CostsAccepted, rows_of}
 use Rattle.rope_search.specs.Answers.{Run}
 use Rattle.rope_search.proofs.RunLaws.{Run-nil}
@@ -344,40 +344,40 @@ costs_one limit s o m n (inr one) (inl other) = absurd (one.step.0 other.0 other
 costs_one limit s o m n (inr one) (inr other) = accepted_rows limit s o m one ∙ sym (accepted_rows limit s o n other)
 
 -- without a pattern there are no rows, and with one there is a report
-report_exists : (text : List ℕ) (pattern : Option (List ℕ)) → (rows : List (List (ℕ × ℕ))) × MatchOption pattern (rows ≡ []) (λ p. IsReport text p rows)
-report_exists text None = ([], refl)
-report_exists text (Some p) = (report text p, report-is text p)
+report_exists : HasReport → (text : List ℕ) (pattern : Option (List ℕ)) → (rows : List (List (ℕ × ℕ))) × MatchOption pattern (rows ≡ []) (λ p. IsReport text p rows)
+report_exists reported text None = ([], refl)
+report_exists reported text (Some p) = (report text p, reported text p)
 
-rows_exist : (s : State) (answer : Answer) → (rows : List (List (ℕ × ℕ))) × IsListed s answer rows
-rows_exist s (Ok Listing) = report_exists (current_text (chosen_buffer s)) (chosen_buffer s).pattern
-rows_exist s answer = ([], refl)
+rows_exist : HasReport → (s : State) (answer : Answer) → (rows : List (List (ℕ × ℕ))) × IsListed s answer rows
+rows_exist reported s (Ok Listing) = report_exists reported (current_text (chosen_buffer s)) (chosen_buffer s).pattern
+rows_exist reported s answer = ([], refl)
 
 -- each answer can be shown
-pub shows_exist : (s : State) (answer : Answer) → (reply : List ℕ) × Shows s answer reply
-shows_exist s answer = let rows = rows_exist s answer in (shows s rows.0 answer, record { rows = rows.0; listed = rows.1; shown = refl })
+pub shows_exist : HasReport → (s : State) (answer : Answer) → (reply : List ℕ) × Shows s answer reply
+shows_exist reported s answer = let rows = rows_exist reported s answer in (shows s rows.0 answer, record { rows = rows.0; listed = rows.1; shown = refl })
 
 -- and in one way
-report_one : (text : List ℕ) (pattern : Option (List ℕ)) (rows rows' : List (List (ℕ × ℕ))) → MatchOption pattern (rows ≡ []) (λ p. IsReport text p rows)
+report_one : HasOneReport → (text : List ℕ) (pattern : Option (List ℕ)) (rows rows' : List (List (ℕ × ℕ))) → MatchOption pattern (rows ≡ []) (λ p. IsReport text p rows)
     → MatchOption pattern (rows' ≡ []) (λ p. IsReport text p rows') → rows ≡ rows'
-report_one text None rows rows' one other = one ∙ sym other
-report_one text (Some p) rows rows' one other = report-one text p rows rows' one other
+report_one single text None rows rows' one other = one ∙ sym other
+report_one single text (Some p) rows rows' one other = single text p rows rows' one other
 
-rows_one : (s : State) (answer : Answer) (rows rows' : List (List (ℕ × ℕ))) → IsListed s answer rows → IsListed s answer rows' → rows ≡ rows'
-rows_one s (Ok Listing) rows rows' one other = report_one (current_text (chosen_buffer s)) (chosen_buffer s).pattern rows rows' one other
-rows_one s answer rows rows' one other = one ∙ sym other
+rows_one : HasOneReport → (s : State) (answer : Answer) (rows rows' : List (List (ℕ × ℕ))) → IsListed s answer rows → IsListed s answer rows' → rows ≡ rows'
+rows_one single s (Ok Listing) rows rows' one other = report_one single (current_text (chosen_buffer s)) (chosen_buffer s).pattern rows rows' one other
+rows_one single s answer rows rows' one other = one ∙ sym other
 
-pub shows_one : (s : State) (answer : Answer) (x y : List ℕ) → Shows s answer x → Shows s answer y → x ≡ y
-shows_one s answer x y one other =
-    one.shown ∙ ap (λ rows. shows s rows answer) (rows_one s answer one.rows other.rows one.listed other.listed) ∙ sym other.shown
+pub shows_one : HasOneReport → (s : State) (answer : Answer) (x y : List ℕ) → Shows s answer x → Shows s answer y → x ≡ y
+shows_one single s answer x y one other =
+    one.shown ∙ ap (λ rows. shows s rows answer) (rows_one single s answer one.rows other.rows one.listed other.listed) ∙ sym other.shown
 
 -- commands can be run from each session
-pub run_exists : (limit : ℕ) (s : State) (os : List Order) → (out : List ℕ) × (cost : ℕ) × (new : State) × Run limit s os out cost new
-run_exists limit s [] = ([], 0, s, Run-nil limit s)
-run_exists limit s (o ∷ os) =
+pub run_exists : HasReport → (limit : ℕ) (s : State) (os : List Order) → (out : List ℕ) × (cost : ℕ) × (new : State) × Run limit s os out cost new
+run_exists reported limit s [] = ([], 0, s, Run-nil limit s)
+run_exists reported limit s (o ∷ os) =
     let step = step_exists limit s o in
     let costs = costs_exist limit s o in
-    let shows = shows_exist step.1 step.0 in
-    let others = run_exists limit step.1 os in (
+    let shows = shows_exist reported step.1 step.0 in
+    let others = run_exists reported limit step.1 os in (
       shows.0 ++ others.0,
       costs.0 + others.1,
       others.2,

@@ -33,12 +33,17 @@ pub fn ends_at_bad_line()
 /// Each input, whatever its bytes, may be answered.
 pub fn has_answer()
     ensures { (limit : ℕ) (input : List ℕ) → HasAnswer limit input }
-{}
+{
+    rope_search_reports::laws::has_report();
+}
 
 /// Each answer is shown in exactly one way.
 pub fn one_show()
     ensures { (session : State) (answer : Answer) → HasOneShow session answer }
-{}
+{
+    rope_search_reports::laws::has_report();
+    rope_search_reports::laws::one_report();
+}
 
 /// Every command stands for some command of the definition, under every limit and whatever was kept
 /// of its payload. So what `Session::apply` promises of the commands that one stands for is said of

@@ -91,6 +91,8 @@ fn run_turns<R: Source, W: Sink>(
     let Ok(mut session) = Session::new(alloc, limits) else {
         return Err(Broken::Memory);
     };
+    // A law, for the proof alone: the replies that a failed write keeps back can be told.
+    rope_search_reports::laws::has_report();
     let mut read_buffer = ReadBuffer::new();
     let mut write_buffer = WriteBuffer::new();
     loop {

@@ -4,14 +4,13 @@ use Rattle.std.proofs.Math.Seq.{take-append_seam, drop-append_seam}
 use Rattle.std.proofs.Math.Utf8.{encode}
 use Rattle.std.proofs.lemmas.Bool.Decides.{nat_tests}
 use Rattle.std.proofs.lemmas.List.{map-append}
-use Rattle.std.proofs.lemmas.List.Sums.{sum_by-cons}
+use Rattle.std.proofs.lemmas.List.Sums.{sum_by-cons, sum_by-append}
 use Rattle.std.proofs.lemmas.Str.{IsUtf8-append, IsUtf8-take, IsUtf8-drop, IsUtf8-past_char, IsUtf8-nil, IsCharBoundary-start, IsCharBoundary-at_seam, chars-append, chars-nil, encodes-chars, length-encode}
 use Rattle.std.specs.Str.{IsCharBoundary}
 use Rattle.std.specs.Char.{len_utf8}
 use Rattle.memchr.specs.Find.{OccursAt, FindsNeedle as FindsFirst}
 use Rattle.memchr.proofs.lemmas.MatchLemmas.{OccursAt-split}
 use Rattle.str_indices.specs.Text.{units, units_of}
-use Rattle.str_indices.proofs.Joined.{units-add}
 use Rattle.rope_search_reports.specs.Text.{bytes_of}
 use Rattle.rope_search_reports.specs.Matches.{AreMatches}
 use Rattle.rope_search_reports.specs.Pattern.{IsFirstSpan, FindsNeedle}
@@ -65,7 +64,7 @@ pub units-chars-few : (bytes : List ℕ) → IsUtf8 bytes → units (chars bytes
 units-chars-few bytes utf8 = omega (arith, units-few (chars bytes), ap length (encodes-chars bytes utf8))
 
 units-joined : (xs ys : List ℕ) → IsUtf8 xs → units (chars (xs ++ ys)) ≡ units (chars xs) + units (chars ys)
-units-joined xs ys utf8 = ap units (chars-append xs ys utf8) ∙ units-add (chars xs) (chars ys)
+units-joined xs ys utf8 = ap units (chars-append xs ys utf8) ∙ sum_by-append units_of (chars xs) (chars ys)
 
 column-front : (content xs ys : List ℕ) → content ≡ xs ++ ys → column content (length xs) ≡ units (chars xs)
 column-front content xs ys split = ap (λ bs. units (chars (take (length xs) bs))) split ∙ ap (λ bs. units (chars bs)) (take-append_seam xs ys)

@@ -3,4 +3,4 @@ use Rattle.rope_search.proofs.AnswerLaws.{answers_exist}
 use Rattle.rope_search.proofs.laws.has_answer.Goals as goal
 
 pub returns : goal.returns
-returns c = λ limit input. answers_exist limit input
+returns c = answers_exist c.has_report.ensures
