@@ -11,7 +11,7 @@ use Rattle.std.proofs.lemmas.Iterator.{YieldsList}
 use Rattle.std.proofs.lemmas.Str.{encodes-chars}
 use Rattle.str_indices.specs.Text.{byte_len}
 use Rattle.ropey_tree.specs.Cutting.{IsCutting, IsText}
-use Rattle.ropey_walk.proofs.Cuts.{bytes-concat, byte_len-append, first_piece, rest_cut}
+use Rattle.ropey.proofs.Pieces.{bytes-concat, byte_len-append, first_piece, rest_cut}
 use Rattle.ropey.specs.Chunks.{text_of, joined}
 use Rattle.ropey.specs.Iter.{TwoWay, GivesChunk}
 

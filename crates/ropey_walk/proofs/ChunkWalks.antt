@@ -17,7 +17,7 @@ use Rattle.ropey_walk.specs.Chunks.{text_of, piece_of}
 use Rattle.ropey_walk.specs.Standing.{StandsAt}
 use Rattle.ropey_walk.specs.TwoWay.{before_item}
 use Rattle.ropey_walk.specs.Iter.{IsBetweenPieces, pieces_before, StandsBefore, CutsNoCrLf}
-use Rattle.ropey_walk.proofs.Cuts.{byte_len-append, first_piece, rest_cut, whole_seams}
+use Rattle.ropey_walk.proofs.Cuts.{byte_len-append, first_piece, rest_cut, whole_seams, cut-right}
 use Rattle.ropey_walk.proofs.Shows.{amount-nothing}
 use Rattle.ropey_walk.proofs.TwoWay.{Crosses, crosses, ahead_of}
 
@@ -151,10 +151,6 @@ none_ahead pieces byte h cut e =
     let count = front_counted pieces h.front h.rest byte cut h.parts h.place in
     ahead_of pieces h.front h.rest (pieces_before byte pieces) h.parts count ∙ no_piece h.rest (cut-right h.front h.rest (subst IsCutting h.parts cut)) (omega (arith, e, h.place, bytes_of_parts pieces h.front h.rest h.parts))
   where
-    cut-right : (ps qs : List (List ℕ)) → IsCutting (ps ++ qs) → IsCutting qs
-    cut-right [] qs cut = cut
-    cut-right (p ∷ ps) qs cut = cut-right ps qs (rest_cut p (ps ++ qs) cut)
-
     no_piece : (rest : List (List ℕ)) → IsCutting rest → byte_len (concat rest) ≤ 0 → rest ≡ []
     no_piece [] cut low = refl
     no_piece (p ∷ ps) cut low = absurd (omega (arith, low, (first_piece p ps cut).not_empty, byte_len-append p (concat ps)))

@@ -26,6 +26,10 @@ cut-left [] qs h = tt
 cut-left (p ∷ []) qs h = first_piece p qs h
 cut-left (p ∷ q ∷ ps) qs h = (h.0, h.1, cut-left (q ∷ ps) qs h.2)
 
+pub cut-right : (ps qs : List (List ℕ)) → IsCutting (ps ++ qs) → IsCutting qs
+cut-right [] qs h = h
+cut-right (p ∷ ps) qs h = cut-right ps qs (rest_cut p (ps ++ qs) h)
+
 starts-append : (s t : List ℕ) → 1 ≤ byte_len s → starts_with_lf (s ++ t) ≡ starts_with_lf s
 starts-append [] t h = absurd (omega arith)
 starts-append (c ∷ cs) t h = refl

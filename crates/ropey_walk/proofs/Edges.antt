@@ -101,7 +101,7 @@ module _ (text : List ℕ) (start : Counts) (at : ℕ) (front : List ℕ) (h : I
         arith,
         amount-plus law by start (counts_of front),
         ap (amount by) (sums law),
-        amount-below by upto,
+        amount-below law by upto,
         ap byte_len h.parts,
         byte_len-append upto h.after,
         h.fits,

@@ -103,7 +103,7 @@ module _ (law : LineStarts) (text : List ℕ) (from : LinePlace) (h : IsLinePlac
   counts = h.counted ∙ ap (λ n. counts_of (take n text)) (sym chars_are)
 
   pub lines_fit : line_breaks text < 2 ^ 63
-  lines_fit = omega (arith, amount-below Breaks text, h.place.fits)
+  lines_fit = omega (arith, amount-below law.breaks_are Breaks text, h.place.fits)
 
   -- ---- characters of one byte
   -- in a chunk of such characters each part has them
@@ -219,7 +219,7 @@ module _ (law : LineStarts) (text : List ℕ) (from : LinePlace) (h : IsLinePlac
         omega (
           arith,
           ap (amount by) counted_after,
-          amount-below by (front ++ line),
+          amount-below law.breaks_are by (front ++ line),
           ap byte_len parts_after,
           byte_len-append (front ++ line) (later ++ h.place.after),
           h.place.fits,

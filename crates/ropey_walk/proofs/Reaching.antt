@@ -16,15 +16,13 @@ use Rattle.ropey_tree.specs.Counts.{counts_of, zero_counts, plus, minus, amount}
 use Rattle.ropey_tree.specs.Cutting.{IsCutting, IsText}
 use Rattle.ropey_tree.specs.Nodes.{LiesIn}
 use Rattle.ropey_tree.specs.Laws.{CountsAreOfTheText}
-use Rattle.ropey_tree.proofs.Pieces.{cut-right}
-use Rattle.ropey_tree.proofs.Totals.{units-le-bytes, breaks-le-bytes}
 use Rattle.ropey_walk.specs.Chunks.{text_of}
 use Rattle.ropey_walk.specs.Clips.{between, pieces_from_char, pieces_to_char, clip}
 use Rattle.ropey_walk.specs.Conversions.{line_of_byte}
 use Rattle.ropey_walk.specs.Parts.{standing, IsReached}
 use Rattle.ropey_walk.specs.Standing.{StandsAt}
 use Rattle.ropey_walk.specs.Laws.{BreaksOfParts}
-use Rattle.ropey_walk.proofs.Cuts.{byte_len-append, first_piece, cut-left, whole_seams}
+use Rattle.ropey_walk.proofs.Cuts.{byte_len-append, first_piece, cut-left, cut-right, whole_seams}
 use Rattle.ropey_walk.proofs.Shows.{piece_by_itself}
 use Rattle.ropey_walk.proofs.Clipping.{drop-past, take-past, text-from, clip-around, to-none}
 use Rattle.ropey_walk.proofs.Clipped.{some_chars, clip-all, scalars-take, scalars-drop}
@@ -58,11 +56,11 @@ whole_clip pieces start len e h text =
     ap (λ n. clip n (start.chars + len.chars) pieces) first ∙ ap (λ n. clip 0 n pieces) end ∙ clip-all pieces text.cut
 
 -- ---- no measure is above the bytes
-pub amount-below : (by : By) (t : List ℕ) → amount by (counts_of t) ≤ byte_len t
-amount-below Bytes t = omega arith
-amount-below Chars t = length-le-encodes t
-amount-below Units t = units-le-bytes t
-amount-below Breaks t = breaks-le-bytes t
+pub amount-below : BreaksOfParts → (by : By) (t : List ℕ) → amount by (counts_of t) ≤ byte_len t
+amount-below law Bytes t = omega arith
+amount-below law Chars t = length-le-encodes t
+amount-below law Units t = law.few_units t
+amount-below law Breaks t = law.few t
 
 pub bytes-part : (a e : ℕ) (t : List ℕ) → byte_len (between a e t) ≤ byte_len t
 bytes-part a e t =
@@ -72,10 +70,13 @@ bytes-part a e t =
       ap byte_len (sym (take-append-drop a (take e t))) ∙ byte_len-append (take a (take e t)) (between a e t),
     )
 
-pub len-fits : (by : By) (t : List ℕ) (start len : Counts) → IsPart t start len → byte_len t < 2 ^ 63 → amount by len < 2 ^ 63
-len-fits by t start len h fits =
+pub len-fits : BreaksOfParts → (by : By) (t : List ℕ) (start len : Counts) → IsPart t start len → byte_len t < 2 ^ 63 → amount by len < 2 ^ 63
+len-fits law by t start len h fits =
     let part = between start.chars (start.chars + len.chars) t in
-    omega (arith, ap (amount by) h.counted, amount-below by part, bytes-part start.chars (start.chars + len.chars) t, fits)
+    omega (arith, ap (amount by) h.counted, amount-below law by part, bytes-part start.chars (start.chars + len.chars) t, fits)
+
+pub bytes-fit : (t : List ℕ) (start len : Counts) → IsPart t start len → byte_len t < 2 ^ 63 → len.bytes < 2 ^ 63
+bytes-fit t start len h fits = omega (arith, ap (λ c. c.bytes) h.counted, bytes-part start.chars (start.chars + len.chars) t, fits)
 
 pub some_bytes : (t : List ℕ) (start len : Counts) → IsPart t start len → len.chars ≤ len.bytes
 some_bytes t start len h =
@@ -112,10 +113,10 @@ module _ (law : BreaksOfParts) where
       let n = length t in
       let all : standing t n ≡ counts_of t =
       standing-front law t n (omega arith) (nothing_next (take n t) (drop n t) (drop_of_length-le t (omega arith))) ∙ ap counts_of (take_all n t (omega arith)) in
-      omega (arith, ap (amount by) h.starts, amount-standing law by t start.chars n (omega (arith, h.within)), ap (amount by) all, amount-below by t)
+      omega (arith, ap (amount by) h.starts, amount-standing law by t start.chars n (omega (arith, h.within)), ap (amount by) all, amount-below law by t)
 
   pub sum-fits : (by : By) (t : List ℕ) (start len : Counts) → IsPart t start len → byte_len t < 2 ^ 63 → amount by start + amount by len < 2 ^ 64
-  sum-fits by t start len h fits = omega (arith, start-fits by t start len h, len-fits by t start len h fits, fits)
+  sum-fits by t start len h fits = omega (arith, start-fits by t start len h, len-fits law by t start len h fits, fits)
 
 between-parts : (a e m : ℕ) (t : List ℕ) → a ≤ e → e ≤ m → e ≤ length t → between a m t ≡ between a e t ++ between e m t
 between-parts a e m t low high inside = ap (drop a) (take-parts e m t high) ∙ drop-append-le a (take e t) (between e m t) (omega (arith, low, length-take-le e t inside))

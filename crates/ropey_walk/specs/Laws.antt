@@ -1,7 +1,7 @@
 -- Laws of the definitions, for every text that is cut into pieces.
 use Rattle.std.specs.Prelude.{◌≡◌, ℕ, false, List, ◌++◌, length}
-use Rattle.str_indices.specs.Text.{breaks, break_ends, char_ends, NoCrLfBetween}
-use Rattle.str_indices.specs.Laws.{LosesBreakInCrLf, JoinsEnds, ComesBack, AnyTexts, EndsAddUp, PlacesAddUp, EndsAreBoundaries, EndsBehind, RisesWithPlace, RisesWithIndex}
+use Rattle.str_indices.specs.Text.{breaks, break_ends, char_ends, units, NoCrLfBetween}
+use Rattle.str_indices.specs.Laws.{LosesBreakInCrLf, JoinsEnds, ComesBack, AnyTexts, EndsAddUp, PlacesAddUp, EndsAreBoundaries, EndsBehind, NoMoreThanBytes, RisesWithPlace, RisesWithIndex}
 use Rattle.ropey_tree.specs.Breaks.{is_break}
 use Rattle.ropey_tree.specs.Cutting.{IsCutting, cuts_cr_lf}
 use Rattle.ropey_walk.specs.Chunks.{text_of}
@@ -10,12 +10,14 @@ use Rattle.ropey_walk.specs.Chunks.{text_of}
 abbrev pub NoCuttingCutsCrLf : Type 0
 NoCuttingCutsCrLf = (front rest : List (List ℕ)) → IsCutting (front ++ rest) → cuts_cr_lf (text_of front) (text_of rest) ≡ false
 
--- what is known of the breaks of joined texts
+-- what is known of the breaks of joined texts, and that no measure is above the bytes
 pub record BreaksOfParts : Type 0 where
   pub joined : LosesBreakInCrLf is_break
   pub whole : EndsAddUp NoCrLfBetween (breaks is_break) (break_ends is_break)
   pub behind : EndsBehind (break_ends is_break)
   pub rises : RisesWithPlace (break_ends is_break)
+  pub few : NoMoreThanBytes (breaks is_break)
+  pub few_units : NoMoreThanBytes units
 
 -- what is known of the places where lines start
 pub record LineStarts : Type 0 where

@@ -9,7 +9,7 @@ pub fn chunks_cut_no_cr_lf()
 {}
 
 /// The breaks of a rope are of a scheme in which CR LF is one break: how they add up over joined
-/// texts.
+/// texts; and no text has more breaks or code units than bytes.
 pub(crate) fn breaks_of_parts()
     ensures { BreaksOfParts }
 {
@@ -17,6 +17,7 @@ pub(crate) fn breaks_of_parts()
     str_indices::laws::ends_of_a_part();
     str_indices::laws::ends_behind_a_boundary();
     str_indices::laws::from_byte_idx_is_monotone();
+    str_indices::laws::counts_are_at_most_bytes();
 }
 
 /// Where the lines of a rope start: in joined texts and in a part of a text, and by index.

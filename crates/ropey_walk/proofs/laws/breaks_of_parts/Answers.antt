@@ -7,4 +7,6 @@ returns c = record {
   whole = c.ends_of_a_part.ensures.lines is_break;
   behind = c.ends_behind_a_boundary.ensures.lines is_break;
   rises = c.from_byte_idx_is_monotone.ensures.lines is_break;
+  few = c.counts_are_at_most_bytes.ensures.lines is_break;
+  few_units = c.counts_are_at_most_bytes.ensures.units;
 }

@@ -1,6 +1,6 @@
 use Rattle.std.proofs.Common.{◌≡◌, length, inl, ap, ◌∙◌, arith}
 use Rattle.std.proofs.lemmas.Iterator.Consumers.{count_from_yields_List}
-use Rattle.ropey_walk.proofs.Cuts.{text_fits}
+use Rattle.ropey.proofs.Pieces.{text_fits}
 use Rattle.ropey.proofs.Making.{chunks_given, pieces-le-bytes}
 use Rattle.ropey.proofs.rope.Rope.capacity.Goals as goal
 

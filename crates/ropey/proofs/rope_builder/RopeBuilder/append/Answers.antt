@@ -2,7 +2,7 @@ use Rattle.std.proofs.Common.{◌≡◌, ◌+◌, length, ap, sym, ◌∙◌, re
 use Rattle.std.specs.Str.{chars}
 use Rattle.std.proofs.lemmas.Str.{encodes-chars}
 use Rattle.str_indices.specs.Text.{byte_len}
-use Rattle.ropey_walk.proofs.Cuts.{byte_len-append}
+use Rattle.ropey.proofs.Pieces.{byte_len-append}
 use Rattle.ropey.proofs.rope_builder.RopeBuilder.append.Goals as goal
 
 pub returns-then-text-self-clause-size : goal.returns-then-text-self-clause-size

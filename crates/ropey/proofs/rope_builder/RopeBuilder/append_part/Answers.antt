@@ -1,7 +1,7 @@
 use Rattle.std.proofs.Common.{length, ap, arith}
 use Rattle.std.specs.Str.{chars}
 use Rattle.std.proofs.lemmas.Str.{encodes-chars}
-use Rattle.ropey_walk.proofs.Cuts.{byte_len-append}
+use Rattle.ropey.proofs.Pieces.{byte_len-append}
 use Rattle.ropey.proofs.rope_builder.RopeBuilder.append_part.Goals as goal
 
 pub returns-clause-size : goal.returns-clause-size

@@ -2,7 +2,7 @@ use Rattle.std.proofs.Common.{ap, arith}
 use Rattle.str_indices.specs.Text.{byte_len}
 use Rattle.ropey_tree.specs.Nodes.{all_pieces}
 use Rattle.ropey_tree.specs.Siblings.{views}
-use Rattle.ropey_walk.proofs.Cuts.{bytes-concat}
+use Rattle.ropey.proofs.Pieces.{bytes-concat}
 use Rattle.ropey.proofs.rope_builder.RopeBuilder.finish.Goals as goal
 
 pub from_leaves-requires-clause-text : goal.from_leaves-requires-clause-text

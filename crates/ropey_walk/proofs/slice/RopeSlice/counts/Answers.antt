@@ -1,10 +1,9 @@
 use Rattle.std.proofs.Common.{◌+◌, refl, ap, sym, ◌∙◌}
-use Rattle.ropey_tree.specs.declared.counts.By.TheVariants.{Bytes}
 use Rattle.ropey_tree.specs.Counts.{counts_of}
 use Rattle.ropey_walk.specs.Chunks.{text_of}
 use Rattle.ropey_walk.specs.Parts.{pieces_under}
 use Rattle.ropey_walk.proofs.Clipping.{text-clip}
-use Rattle.ropey_walk.proofs.Reaching.{len-fits}
+use Rattle.ropey_walk.proofs.Reaching.{bytes-fit}
 use Rattle.ropey_walk.proofs.Slices.{part_of}
 use Rattle.ropey_walk.proofs.slice.RopeSlice.counts.Goals as goal
 
@@ -16,4 +15,4 @@ returns-clause-counts c =
 pub returns-clause-fits : goal.returns-clause-fits
 returns-clause-fits c =
     let s = c.args.self.now in
-    len-fits Bytes (text_of (pieces_under s.node)) s.start s.len (part_of s (pieces_under s.node) refl) s.fits
+    bytes-fit (text_of (pieces_under s.node)) s.start s.len (part_of s (pieces_under s.node) refl) s.fits
