@@ -2,6 +2,8 @@ pub mod PatternLemmas
 pub mod MatchLemmas
 pub mod RowLemmas
 pub mod LineLemmas
+pub mod PlaceLemmas
+pub mod SpotLemmas
 pub mod FewLemmas
 pub mod DraftLemmas
 pub mod ReportLaws

@@ -1,5 +1,5 @@
 -- The lines of a text: the first one cut off, the lines of joined texts, and where each line lies.
-use Rattle.std.proofs.Common.{◌≡◌, ℕ, zero, suc, ◌+◌, ◌-◌, ◌<◌, ◌≤◌, ◌==◌, Bool, true, false, not, cond, ◌&&◌, List, [], ◌∷◌, ◌++◌, length, replicate, take, drop, slice_index_or, refl, sym, ap, ◌∙◌, ◌⊎◌, inl, inr, append-nil, arith, append_assoc, length-append}
+use Rattle.std.proofs.Common.{◌≡◌, ℕ, zero, suc, ◌+◌, ◌-◌, ◌<◌, ◌≤◌, ◌==◌, Bool, true, false, not, cond, ◌&&◌, List, [], ◌∷◌, ◌++◌, length, replicate, take, drop, slice_index_or, refl, sym, ap, ◌∙◌, subst, ◌⊎◌, inl, inr, append-nil, arith, append_assoc, length-append}
 use Rattle.std.proofs.Math.Seq.{take-append_seam, drop-append_seam}
 use Rattle.std.proofs.Math.Utf8.{encode}
 use Rattle.std.proofs.lemmas.Bool.{cases_Bool, cond-true, cond-false}
@@ -8,7 +8,7 @@ use Rattle.std.proofs.lemmas.List.{length-replicate}
 use Rattle.std.proofs.lemmas.Str.{encodes-append, length-encode}
 use Rattle.std.specs.Char.{len_utf8}
 use Rattle.std.specs.Str.{NonePass}
-use Rattle.str_indices.specs.Text.{byte_len, NoCrLfBetween, ends_break, starts_with_lf, ends_from, end_place, breaks}
+use Rattle.str_indices.specs.Text.{byte_len, NoCrLfBetween, ends_break, starts_with_lf, ends_with_cr, cuts_cr_lf, ends_from, end_place, breaks}
 use Rattle.ropey.specs.Chunks.{is_break}
 use Rattle.str_indices.specs.FirstBreak.{IsBreak}
 use Rattle.rope_search_reports.specs.Text.{bytes_of, line_count}
@@ -211,7 +211,7 @@ lines-joined (c ∷ cs) second whole =
 pub byte_len-append : (xs ys : List ℕ) → byte_len (xs ++ ys) ≡ byte_len xs + byte_len ys
 byte_len-append xs ys = ap length (encodes-append xs ys) ∙ length-append (bytes_of xs) (bytes_of ys)
 
-byte_len-one : (c : ℕ) (cs : List ℕ) → byte_len (c ∷ cs) ≡ len_utf8 c + byte_len cs
+pub byte_len-one : (c : ℕ) (cs : List ℕ) → byte_len (c ∷ cs) ≡ len_utf8 c + byte_len cs
 byte_len-one c cs = omega (arith, length-append (encode c) (bytes_of cs), length-encode c)
 
 abbrev ends_at : ℕ → List ℕ → List ℕ
@@ -272,6 +272,8 @@ record Lies (at last : ℕ) (text : List ℕ) (k : ℕ) : Type 0 where
   pub behind : List ℕ
   pub parts : text ≡ before ++ (nth (line_texts text) k ++ behind)
   pub starts : start_at at (ends_at at text) k last ≡ at + byte_len before
+  pub whole : NoCrLfBetween before (nth (line_texts text) k ++ behind)
+  pub plain : NonePass is_break (nth (line_texts text) k)
   pub ended : ((k + 1 ≡ length (line_texts text)) × (behind ≡ [])) ⊎ IsBroken at last text k before behind
 
 cut-lines : (text : List ℕ) → (cut : IsCutOff text) → line_texts text ≡ cut.line ∷ line_texts cut.rest
@@ -292,6 +294,8 @@ lies-first at last text = elim (first_line text) [
         behind = [];
         parts = sym (append-nil (nth (line_texts text) 0) ∙ head);
         starts = omega arith;
+        whole = refl;
+        plain = subst (NonePass is_break) (sym head) none;
         ended = inl (omega (arith, ap length lines), refl);
       }
   | inr cut ↦
@@ -304,6 +308,8 @@ lies-first at last text = elim (first_line text) [
         behind = cut.one ++ cut.rest;
         parts = cut.parts ∙ ap (λ l. l ++ (cut.one ++ cut.rest)) (sym head);
         starts = omega arith;
+        whole = refl;
+        plain = subst (NonePass is_break) (sym head) cut.plain;
         ended = inr (record {
           more = omega (arith, ap length lines, some);
           one = cut.one;
@@ -314,6 +320,31 @@ lies-first at last text = elim (first_line text) [
         });
       }
 ]
+
+-- a CR ends two joined texts where it ends the second, if that isn't empty
+pub ends-joined_cr : (s : List ℕ) (c : ℕ) (cs : List ℕ) → ends_with_cr (s ++ c ∷ cs) ≡ ends_with_cr (c ∷ cs)
+ends-joined_cr [] c cs = refl
+ends-joined_cr (d ∷ []) c cs = refl
+ends-joined_cr (d ∷ e ∷ s) c cs = ends-joined_cr (e ∷ s) c cs
+
+no-crlf : (b : Bool) → (b && false) ≡ false
+no-crlf true = refl
+no-crlf false = refl
+
+-- no CR LF is cut behind a break
+break-whole : (line one rest : List ℕ) → IsBreak is_break one rest → NoCrLfBetween (line ++ one) rest
+break-whole line [] rest is = absurd is
+break-whole line (c ∷ []) [] is = no-crlf (ends_with_cr (line ++ c ∷ []))
+break-whole line (c ∷ []) (d ∷ ds) is = ap (λ b. b && (d == 10)) (ends-joined_cr line c []) ∙ grind (arith, nat_tests, is)
+break-whole line (c ∷ d ∷ []) rest is =
+    ap (λ b. b && starts_with_lf rest) (ends-joined_cr line c (d ∷ []) ∙ ap (λ n. n == 13) is.1)
+break-whole line (c ∷ d ∷ e ∷ es) rest is = absurd is
+
+-- nor further on, where none is cut in the rest
+whole-behind : (line one rest before after : List ℕ) → IsBreak is_break one rest → rest ≡ before ++ after → NoCrLfBetween before after → NoCrLfBetween ((line ++ one) ++ before) after
+whole-behind line one rest [] after is parts whole =
+    ap (λ t. cuts_cr_lf t after) (append-nil (line ++ one)) ∙ subst (NoCrLfBetween (line ++ one)) parts (break-whole line one rest is)
+whole-behind line one rest (c ∷ cs) after is parts whole = ap (λ b. b && starts_with_lf after) (ends-joined_cr (line ++ one) c cs) ∙ whole
 
 lies-later : (at last : ℕ) (text : List ℕ) (k : ℕ) → (cut : IsCutOff text) → Lies (at + byte_len cut.line + byte_len cut.one) last cut.rest k → Lies at last text (suc k)
 lies-later at last text k cut later =
@@ -335,6 +366,10 @@ lies-later at last text k cut later =
           ∙ sym (append_assoc front later.before (nth (line_texts cut.rest) k ++ later.behind))
           ∙ ap (λ l. (front ++ later.before) ++ (l ++ later.behind)) (sym own);
       starts = omega (arith, start, starts, bytes);
+      whole =
+          ap (λ l. cuts_cr_lf (front ++ later.before) (l ++ later.behind)) own
+          ∙ whole-behind cut.line cut.one cut.rest later.before (nth (line_texts cut.rest) k ++ later.behind) cut.is later.parts later.whole;
+      plain = subst (NonePass is_break) (sym own) later.plain;
       ended = elim later.ended [
         | inl is_last ↦ let count = is_last.0 in inl (omega (arith, ap length lines, count), is_last.1)
         | inr broken ↦
@@ -383,6 +418,8 @@ lines-in-place text line inside =
       behind = h.behind;
       parts = h.parts;
       starts = starts;
+      whole = h.whole;
+      plain = h.plain;
       ends = ends;
       bytes = ap (λ n. take n (drop (line_start text line) (bytes_of text))) width ∙ ap (take (byte_len own)) left ∙ take-append_seam (bytes_of own) (bytes_of h.behind);
       ended = elim h.ended [

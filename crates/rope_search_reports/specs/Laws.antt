@@ -1,5 +1,8 @@
 -- Laws of the definitions themselves.
 use Rattle.std.specs.Prelude.{◌≡◌, ℕ, ◌+◌, ◌<◌, ◌≤◌, List, length}
+use Rattle.str_indices.specs.Text.{units, char_ends, unit_ends, break_ends}
+use Rattle.str_indices.specs.Laws.{AnyTexts, EndsAddUp, LastEndIsBefore, LastUnitStartIsBefore, CharsAndBoundariesAgree, UnitsAndBoundariesAgree, EndsAndPlacesAgree, EndsAreBoundaries, UnitStartsAreBoundaries, NoMoreThanBytes}
+use Rattle.ropey.specs.Chunks.{is_break}
 use Rattle.rope_search_reports.specs.Text.{bytes_of, line_count}
 use Rattle.rope_search_reports.specs.Position.{LiesInPlace}
 use Rattle.rope_search_reports.specs.Report.{IsMatches, IsReport, match_count}
@@ -32,3 +35,17 @@ HasReport = (text pattern : List ℕ) → IsReport text pattern (report text pat
 -- each line of a text lies in its place
 abbrev pub HasLinesInPlace : Type 0
 HasLinesInPlace = (text : List ℕ) (line : ℕ) → line < line_count text → LiesInPlace text line
+
+-- what is known of places, by characters, by code units and by lines
+pub record PlaceLaws : Type 0 where
+  pub chars_add : EndsAddUp AnyTexts length char_ends
+  pub chars_agree : CharsAndBoundariesAgree
+  pub chars_back : LastEndIsBefore char_ends
+  pub units_add : EndsAddUp AnyTexts units unit_ends
+  pub units_agree : UnitsAndBoundariesAgree
+  pub units_back : LastUnitStartIsBefore
+  pub lines_back : LastEndIsBefore (break_ends is_break)
+  pub lines_agree : EndsAndPlacesAgree (break_ends is_break)
+  pub char_boundaries : EndsAreBoundaries char_ends
+  pub unit_boundaries : UnitStartsAreBoundaries
+  pub few_units : NoMoreThanBytes units

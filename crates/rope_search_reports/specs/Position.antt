@@ -1,7 +1,7 @@
 -- Positions: a line and a column, for a place in a text. A place is a number of bytes of its UTF-8.
 use Rattle.std.specs.Prelude.{◌≡◌, ℕ, ◌+◌, ◌-◌, ◌<◌, ◌≤◌, ◌⊎◌, List, [], ◌++◌, length, take, drop, slice_index_or, chars}
-use Rattle.std.specs.Str.{IsCharBoundary}
-use Rattle.str_indices.specs.Text.{byte_len, break_ends, ends_up_to, end_place, units}
+use Rattle.std.specs.Str.{IsCharBoundary, NonePass}
+use Rattle.str_indices.specs.Text.{byte_len, break_ends, ends_up_to, end_place, units, NoCrLfBetween}
 use Rattle.ropey.specs.Chunks.{is_break}
 use Rattle.str_indices.specs.FirstBreak.{IsBreak}
 use Rattle.rope_search_reports.specs.Text.{bytes_of, line_count}
@@ -61,13 +61,16 @@ pub record EndsInBreak (text : List ℕ) (line : ℕ) (behind : List ℕ) : Type
   pub is : IsBreak is_break one rest
   pub next : line_start text (line + 1) ≡ text_end text line + byte_len one
 
--- from where a line starts to where its text ends stand that text's bytes, and then comes what ends
--- the line
+-- From where a line starts to where its text ends stand that text's bytes, and then comes what ends
+-- the line. No line starts between the CR and the LF of a break, and no character of the break set
+-- is in a line's text.
 pub record LiesInPlace (text : List ℕ) (line : ℕ) : Type 0 where
   pub before : List ℕ
   pub behind : List ℕ
   pub parts : text ≡ before ++ (line_text text line ++ behind)
   pub starts : line_start text line ≡ byte_len before
+  pub whole : NoCrLfBetween before (line_text text line ++ behind)
+  pub plain : NonePass is_break (line_text text line)
   pub ends : text_end text line ≡ byte_len (before ++ line_text text line)
   pub bytes : take (text_end text line - line_start text line)
       (drop (line_start text line) (bytes_of text)) ≡ bytes_of (line_text text line)

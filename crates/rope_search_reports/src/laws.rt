@@ -1,7 +1,7 @@
 //! Laws of the definitions that the contracts of this crate cite. Each function does nothing: its
 //! contract is the law.
 
-ghost use Rattle.rope_search_reports.specs.Laws.{HasOneListOfMatches, HasMatches, HasFewMatches, HasOneReport, HasReport, HasLinesInPlace};
+ghost use Rattle.rope_search_reports.specs.Laws.{HasOneListOfMatches, HasMatches, HasFewMatches, HasOneReport, HasReport, HasLinesInPlace, PlaceLaws};
 
 /// A pattern has at most one list of matches in a content.
 pub fn one_list_of_matches()
@@ -33,3 +33,15 @@ pub fn has_report()
 pub fn lines_in_place()
     ensures { HasLinesInPlace }
 {}
+
+/// Places in a text by characters, by code units and by lines agree with one another.
+pub(crate) fn places()
+    ensures { PlaceLaws }
+{
+    str_indices::laws::ends_of_a_part();
+    str_indices::laws::boundaries_and_indices_agree();
+    str_indices::laws::place_there_and_back();
+    str_indices::laws::ends_and_places_agree();
+    str_indices::laws::to_byte_idx_is_a_boundary();
+    str_indices::laws::counts_are_at_most_bytes();
+}

@@ -4,9 +4,11 @@
 
 pub mod laws;
 mod patterns;
+mod positions;
 mod reports;
 mod rows;
 
 pub use patterns::PATTERN_LEN;
+pub use positions::{Position, byte_of, position_of};
 pub use reports::report_of;
 pub use rows::{Finder, Lines, Row, search_line};

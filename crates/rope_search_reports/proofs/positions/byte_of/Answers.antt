@@ -1,0 +1,105 @@
+use Rattle.std.proofs.Common.{◌≡◌, ℕ, ◌+◌, ◌-◌, ◌<◌, ◌≤◌, true, false, List, refl, sym, ap, arith, ◌∙◌}
+use Rattle.std.specs.Str.{all_scalars}
+use Rattle.std.proofs.lemmas.Bool.{true≢false}
+use Rattle.std.proofs.lemmas.Bool.Decides.{nat_tests}
+use Rattle.str_indices.specs.Text.{byte_len, char_ends, unit_ends, end_place, ends_up_to}
+use Rattle.ropey.specs.Chunks.{text_of}
+use Rattle.rope_search_reports.specs.Text.{line_count}
+use Rattle.rope_search_reports.specs.Position.{position, IsAt, IsNowhere}
+use Rattle.rope_search_reports.proofs.PlaceLemmas.{rope-scalars}
+use Rattle.rope_search_reports.proofs.SpotLemmas.{started, Spotted, spotted, Led, led, is_at, found}
+use Rattle.rope_search_reports.proofs.positions.byte_of.Goals as goal
+
+pub char_to_utf16_cu-start-requires : goal.char_to_utf16_cu-start-requires
+char_to_utf16_cu-start-requires c =
+    let text = text_of c.args.text.now in
+    let scalars = rope-scalars c.args.text.now c.len_bytes.ensures.cut.cut in
+    let inside : c.args.position.line < line_count text = omega (arith, c.len_lines.ensures, c.if-position-len_lines.false) in
+    (started c.places.ensures text scalars c.args.position.line c.line_to_char.result _ inside c.line_to_char.ensures refl).within
+
+pub overflow_sub-len_utf16_cu : goal.overflow_sub-len_utf16_cu
+overflow_sub-len_utf16_cu c =
+    let text = text_of c.args.text.now in
+    let scalars = rope-scalars c.args.text.now c.len_bytes.ensures.cut.cut in
+    let inside : c.args.position.line < line_count text = omega (arith, c.len_lines.ensures, c.if-position-len_lines.false) in
+    let few = (started c.places.ensures text scalars c.args.position.line c.line_to_char.result c.char_to_utf16_cu-start.result inside c.line_to_char.ensures c.char_to_utf16_cu-start.ensures).few in
+    omega (arith, few, c.len_utf16_cu.ensures)
+
+pub returns-then-position-len_utf16_cu : goal.returns-then-position-len_utf16_cu
+returns-then-position-len_utf16_cu c = λ place at.
+    let text = text_of c.args.text.now in
+    let scalars = rope-scalars c.args.text.now c.len_bytes.ensures.cut.cut in
+    let start_is = c.char_to_utf16_cu-start.ensures ∙ ap (λ n. ends_up_to (end_place (char_ends text) n (byte_len text)) (unit_ends text)) c.line_to_char.ensures in
+    let s = spotted c.places.ensures text scalars (c.args.position.line, c.args.position.column) place c.char_to_utf16_cu-start.result at start_is in
+    let unit = s.unit_is in
+    let few = s.few in
+    absurd (omega (arith, unit, few, c.len_utf16_cu.ensures, c.if-position-len_utf16_cu.true))
+
+pub utf16_cu_to_char-char_idx-requires : goal.utf16_cu_to_char-char_idx-requires
+utf16_cu_to_char-char_idx-requires c =
+    let text = text_of c.args.text.now in
+    let scalars = rope-scalars c.args.text.now c.len_bytes.ensures.cut.cut in
+    let inside : c.args.position.line < line_count text = omega (arith, c.len_lines.ensures, c.if-position-len_lines.false) in
+    let few = (started c.places.ensures text scalars c.args.position.line c.line_to_char.result c.char_to_utf16_cu-start.result inside c.line_to_char.ensures c.char_to_utf16_cu-start.ensures).few in
+    omega (arith, few, c.len_utf16_cu.ensures, c.if-position-len_utf16_cu.false)
+
+pub char_to_byte-byte_idx-requires : goal.char_to_byte-byte_idx-requires
+char_to_byte-byte_idx-requires c =
+    let text = text_of c.args.text.now in
+    let scalars = rope-scalars c.args.text.now c.len_bytes.ensures.cut.cut in
+    (led c.places.ensures text scalars (c.char_to_utf16_cu-start.result + c.args.position.column) c.utf16_cu_to_char-char_idx.result _ c.utf16_cu_to_char-char_idx.ensures refl).within
+
+pub position_of-requires : goal.position_of-requires
+position_of-requires c =
+    let text = text_of c.args.text.now in
+    let scalars = rope-scalars c.args.text.now c.len_bytes.ensures.cut.cut in
+    (led c.places.ensures text scalars (c.char_to_utf16_cu-start.result + c.args.position.column) c.utf16_cu_to_char-char_idx.result c.char_to_byte-byte_idx.result c.utf16_cu_to_char-char_idx.ensures c.char_to_byte-byte_idx.ensures).boundary
+
+pub is_in_cr_lf-requires : goal.is_in_cr_lf-requires
+is_in_cr_lf-requires c =
+    let text = text_of c.args.text.now in
+    let scalars = rope-scalars c.args.text.now c.len_bytes.ensures.cut.cut in
+    (led c.places.ensures text scalars (c.char_to_utf16_cu-start.result + c.args.position.column) c.utf16_cu_to_char-char_idx.result c.char_to_byte-byte_idx.result c.utf16_cu_to_char-char_idx.ensures c.char_to_byte-byte_idx.ensures).within
+
+pub returns-then-is_in_cr_lf : goal.returns-then-is_in_cr_lf
+returns-then-is_in_cr_lf c = λ place at.
+    let text = text_of c.args.text.now in
+    let scalars = rope-scalars c.args.text.now c.len_bytes.ensures.cut.cut in
+    let spot : ℕ × ℕ = (c.args.position.line, c.args.position.column) in
+    let start = c.char_to_utf16_cu-start.result in
+    let unit = start + c.args.position.column in
+    let start_is = c.char_to_utf16_cu-start.ensures ∙ ap (λ n. ends_up_to (end_place (char_ends text) n (byte_len text)) (unit_ends text)) c.line_to_char.ensures in
+    let s = spotted c.places.ensures text scalars spot place start at start_is in
+    let l = led c.places.ensures text scalars unit c.utf16_cu_to_char-char_idx.result c.char_to_byte-byte_idx.result c.utf16_cu_to_char-char_idx.ensures c.char_to_byte-byte_idx.ensures in
+    let f = found c.places.ensures text scalars spot place start unit c.utf16_cu_to_char-char_idx.result c.char_to_byte-byte_idx.result s at refl l c.utf16_cu_to_char-char_idx.ensures in
+    true≢false (sym c.if-is_in_cr_lf.true ∙ c.is_in_cr_lf.ensures ∙ f.uncut_there)
+
+pub returns-then-eq : goal.returns-then-eq
+returns-then-eq c =
+    let text = text_of c.args.text.now in
+    let scalars = rope-scalars c.args.text.now c.len_bytes.ensures.cut.cut in
+    let spot : ℕ × ℕ = (c.args.position.line, c.args.position.column) in
+    let unit = c.char_to_utf16_cu-start.result + c.args.position.column in
+    let l = led c.places.ensures text scalars unit c.utf16_cu_to_char-char_idx.result c.char_to_byte-byte_idx.result c.utf16_cu_to_char-char_idx.ensures c.char_to_byte-byte_idx.ensures in
+    let uncut = sym c.is_in_cr_lf.ensures ∙ c.if-is_in_cr_lf.false in
+    let lines : c.args.position.line ≡ c.position_of.result.line = grind (arith, nat_tests, c.eq.ensures, c.if-eq.true) in
+    let columns : c.args.position.column ≡ c.position_of.result.column = grind (arith, nat_tests, c.eq.ensures, c.if-eq.true) in
+    let same : spot ≡ position text c.char_to_byte-byte_idx.result =
+    ap (λ n. (n, c.args.position.column)) lines ∙ ap (λ n. (c.position_of.result.line, n)) columns ∙ c.position_of.ensures in
+    is_at c.places.ensures text scalars spot c.utf16_cu_to_char-char_idx.result c.char_to_byte-byte_idx.result l uncut same
+
+pub returns-else-eq : goal.returns-else-eq
+returns-else-eq c = λ place at.
+    let text = text_of c.args.text.now in
+    let scalars = rope-scalars c.args.text.now c.len_bytes.ensures.cut.cut in
+    let spot : ℕ × ℕ = (c.args.position.line, c.args.position.column) in
+    let start = c.char_to_utf16_cu-start.result in
+    let unit = start + c.args.position.column in
+    let start_is = c.char_to_utf16_cu-start.ensures ∙ ap (λ n. ends_up_to (end_place (char_ends text) n (byte_len text)) (unit_ends text)) c.line_to_char.ensures in
+    let s = spotted c.places.ensures text scalars spot place start at start_is in
+    let l = led c.places.ensures text scalars unit c.utf16_cu_to_char-char_idx.result c.char_to_byte-byte_idx.result c.utf16_cu_to_char-char_idx.ensures c.char_to_byte-byte_idx.ensures in
+    let f = found c.places.ensures text scalars spot place start unit c.utf16_cu_to_char-char_idx.result c.char_to_byte-byte_idx.result s at refl l c.utf16_cu_to_char-char_idx.ensures in
+    let same : ◌≡◌ {A = ℕ × ℕ} (c.position_of.result.line, c.position_of.result.column) spot = c.position_of.ensures ∙ sym f.same in
+    let lines : c.position_of.result.line ≡ c.args.position.line = ap (λ p. p.0) same in
+    let columns : c.position_of.result.column ≡ c.args.position.column = ap (λ p. p.1) same in
+    grind (arith, nat_tests, lines, columns, c.eq.ensures, c.if-eq.false)
