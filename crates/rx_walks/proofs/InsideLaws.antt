@@ -1,12 +1,12 @@
 -- What is found lies inside content, slice and span.
-use Rattle.std.proofs.Common.{◌≡◌, ℕ, ◌+◌, ◌<◌, ◌≤◌, Bool, true, false, ◌==◌, cond, List, [], ◌∷◌, length, Option, Some, None, slice_get, max, min, refl, sym, ap, subst, ◌∙◌, arith}
+use Rattle.std.proofs.Common.{◌≡◌, ℕ, ◌≤◌, Bool, true, false, ◌==◌, cond, List, [], ◌∷◌, length, Option, Some, None, slice_get, min, refl, sym, subst, ◌∙◌, arith}
 use Rattle.std.proofs.lemmas.Bool.Decides.{nat_tests}
 use Rattle.std.proofs.Math.Nat.{le-max_left, le-max_right, min-le_left, min-le_right}
 use Rattle.rx_walks.specs.Machines.{Move, ends, goes, reads, Outcome, IsForward}
-use Rattle.rx_walks.specs.Walks.{Walk, ended, went, took, IsLeast}
-use Rattle.rx_walks.specs.Finds.{Search, IsInside, IsPossible, MayEnd, Counts, CountsAmongAll, IsFind, is_found, IsFindAll, greatest, PatternMatch}
+use Rattle.rx_walks.specs.Walks.{Walk, ended, went, took}
+use Rattle.rx_walks.specs.Finds.{Search, IsInside, IsPossible, MayEnd, IsFind, is_found, IsFindAll, greatest, PatternMatch}
 use Rattle.rx_walks.specs.Looks.{Look}
-use Rattle.rx_walks.specs.Programs.{Node, match, pass, note, look, set, Program, Haystack, only_if, is_within, by_character, over_characters, note_at, Notes, fresh_notes, put_note, last_noted, slot_of}
+use Rattle.rx_walks.specs.Programs.{Node, match, pass, note, look, set, Program, Haystack, only_if, is_within, by_character, over_characters, note_at, Notes, fresh_notes, put_note, last_noted}
 use Rattle.rx_walks.specs.ProgramFinds.{first_by, haystack_of, holds_in, machine_of, lowest, highest, start_node, IfStarts, ProgramFinds, ProgramFindsAll}
 use Rattle.rx_walks.specs.Laws.{MayBeFound, LiesInside}
 use Rattle.rx_walks.proofs.ForwardLaws.{characters_forward}

@@ -1,12 +1,12 @@
 -- The character that stands last in a list of bytes, and the bytes that tell whether a look holds.
 use Rattle.std.proofs.Common.{◌≡◌, ℕ, zero, suc, ◌+◌, ◌<◌, ◌≤◌, ◌⊎◌, Bool, true, false, cond, nat_lt, ◌/◌, ◌%◌, List, [], ◌∷◌, ◌++◌, take, drop, reverse, Option, Some, None, refl, sym, ap, ap₂, ◌∙◌, arith, inl, inr}
-use Rattle.std.proofs.lemmas.List.{take_at, append-nil, append_assoc, reverse-append, reverse-reverse, length-reverse, take-append-drop}
+use Rattle.std.proofs.lemmas.List.{take_at, append_assoc, reverse-append, reverse-reverse, length-reverse, take-append-drop}
 use Rattle.std.proofs.lemmas.Nat.{mod_below}
 use Rattle.std.proofs.lemmas.Bool.Decides.{nat_tests}
 use Rattle.std.proofs.lemmas.Str.{length-encode, len_utf8_bounds, encode_same}
 use Rattle.std.proofs.Math.Utf8.{encode}
-use Rattle.std.specs.Char.{IsScalar, len_utf8}
-use Rattle.rx_walks.specs.Characters.{character_of, first_some, last_character, StandsLast}
+use Rattle.std.specs.Char.{len_utf8}
+use Rattle.rx_walks.specs.Characters.{character_of, last_character, StandsLast}
 use Rattle.rx_walks.specs.Looks.{Look, start_text, end_text, start_line, end_line, word_boundary, no_word_boundary, side_before, side_after, holds_between}
 use Rattle.rx_walks.proofs.CharacterLaws.{character_is, character_of-encode, some_first, first_of}
 

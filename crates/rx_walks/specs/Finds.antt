@@ -85,4 +85,5 @@ pub data IsFindAll {Q N : Type 0} (m : Machine Q N) (fresh : ℕ → N) (s : Sea
     (q : Q) : Option PatternMatch → Type 0 where
   none_at_all : ((a : PatternMatch) → CountsAmongAll m fresh s q a → ⊥) → IsFindAll m fresh s q None
   greatest : {a : PatternMatch} → CountsAmongAll m fresh s q a
-      → ((b : PatternMatch) → CountsAmongAll m fresh s q b → IsAtLeast a b) → IsFindAll m fresh s q (Some a)
+      → ((b : PatternMatch) → CountsAmongAll m fresh s q b → IsAtLeast a b)
+      → IsFindAll m fresh s q (Some a)

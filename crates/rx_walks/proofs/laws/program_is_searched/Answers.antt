@@ -1,4 +1,4 @@
-use Rattle.std.proofs.Common.{◌≡◌, ℕ, Option, Some, None, sym, subst}
+use Rattle.std.proofs.Common.{sym, subst}
 use Rattle.rx_walks.specs.ProgramFinds.{IfStarts, haystack_of, holds_in, first_by, machine_of}
 use Rattle.rx_walks.specs.Finds.{IsFind}
 use Rattle.rx_walks.specs.Programs.{put_note, fresh_notes}
