@@ -115,7 +115,11 @@ fn share_rightly(first: &State, second: &State) -> bool {
 #[test]
 fn automata_are_shared(rt: HostRuntime) -> Result<(), Fail> {
     let alloc = rt.alloc();
-    let hir = parse(alloc, "cabz[a-c]\\wbZ\\W[c]a[a-b]za.\\w[a-c]", &Config::new())?;
+    let hir = parse(
+        alloc,
+        "cabz[a-c]\\wbZ\\W[c]a[a-b]za.\\w[a-c]",
+        &Config::new(),
+    )?;
     let program = compile(alloc, &[&hir], b'\n', None)?;
     for first in program.states() {
         for second in program.states() {
