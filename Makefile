@@ -50,6 +50,7 @@ bench: $(program)
 	@RT='$(RT)' sh bench/slices.sh
 	@RT='$(RT)' sh bench/iterators.sh
 	@RT='$(RT)' sh bench/patterns.sh
+	@RT='$(RT)' sh bench/programs.sh
 
 clean:
 	rm -rf bin $(wildcard crates/*/out)

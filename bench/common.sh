@@ -27,21 +27,23 @@ below() {
     done
 }
 
-# build NAME CRATE: proves and builds the program of the folder NAME here, which stands on that crate, in a
-# copy of what it needs. Its path is then in `program`.
+# build NAME CRATE..: proves and builds the program of the folder NAME here, which stands on these crates,
+# in a copy of what it needs. Its path is then in `program`.
 build() {
+    name=$1
+    shift
     mkdir -p "$work/repository/crates"
     cp "$here/../HANDLES" "$work/repository/"
-    for crate in $(below "$2" | sort -u); do
+    for crate in $(for top; do below "$top"; done | sort -u); do
         cp -a "$here/../crates/$crate" "$work/repository/crates/"
         grep "^$crate:" "$here/../crates.txt"
     done > "$work/repository/crates.txt"
-    echo "bench_$1: $2" >> "$work/repository/crates.txt"
-    cp -r "$here/$1" "$work/repository/crates/bench_$1"
+    echo "bench_$name: $*" >> "$work/repository/crates.txt"
+    cp -r "$here/$name" "$work/repository/crates/bench_$name"
     # The sources of the program end in .txt here, since it is no crate of this repository.
-    find "$work/repository/crates/bench_$1" -name '*.txt' | while read -r source; do
+    find "$work/repository/crates/bench_$name" -name '*.txt' | while read -r source; do
         mv "$source" "${source%.txt}"
     done
-    (cd "$work/repository/crates/bench_$1" && "${RT:-rt}" run < /dev/null)
-    program=$work/repository/crates/bench_$1/out/bench_$1
+    (cd "$work/repository/crates/bench_$name" && "${RT:-rt}" run < /dev/null)
+    program=$work/repository/crates/bench_$name/out/bench_$name
 }

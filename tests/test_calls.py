@@ -1,5 +1,5 @@
-"""What the libraries' own calls do where memory is refused: patterns that are parsed and ropes that are built
-by bin/memory-tests, with each request refused in turn."""
+"""What the libraries' own calls do where memory is refused: patterns that are parsed and compiled and ropes
+that are built by bin/memory-tests, with each request refused in turn."""
 import re
 
 from harness import MEMORY_PROGRAM, differences, end_of, short, start, test
@@ -14,6 +14,13 @@ PATTERNS = [
     ("fold", "\\w[\\w]\\W[^\\w-][\\wa]"),
     ("parse", "(" * 250 + ")" * 250),
     ("parse", "(a|b"),
+]
+COMPILED = [
+    "a",
+    "(a)|b|c*?|",
+    "[a-c]{2,4}(?:a|é){0}\\b",
+    "(?m)^(?:a*)*?b+$",
+    ".[^a].",
 ]
 PARTS = [
     [""],
@@ -78,6 +85,16 @@ def test_all():
         if not seen:
             yield "no refusal reached it"
 
+    def compiles(arguments, whole, count):
+        seen = set()
+        for place, _, ended in refusals(arguments, count):
+            seen.add(ended.out)
+            out = ended.out if ended.out in (b"no pattern\n", b"no memory\n") else whole
+            for line in differences(ended, out, 0):
+                yield f"{place}: {line}"
+        if b"no memory\n" not in seen:
+            yield "no refusal reached the compiler"
+
     def builds(arguments, parts, count):
         seen = set()
         for place, name, ended in refusals(arguments, count):
@@ -113,6 +130,13 @@ def test_all():
         ended, count, _ = call(arguments)
         test(f"{name} under the library, nothing refused", differences(ended, ended.out, 0) + ([] if count else ["it asked for no memory"]))
         test(f"{name} with each of its {count} requests refused, alone and with all that follow", parses(arguments, ended.out, count))
+
+    for pattern in COMPILED:
+        arguments, name = ["compile", pattern], short(f"compile {pattern}".encode())
+        ended, count, _ = call(arguments)
+        right = ended.out.startswith(b"Program {")
+        test(f"{name}, nothing refused", differences(ended, ended.out, 0) + ([] if right else [f"wrote {short(ended.out)}"]))
+        test(f"{name}, with each of its {count} requests refused, alone and with all that follow", compiles(arguments, ended.out, count))
 
     def check_rope(arguments, parts):
         name = f"{arguments[0]} of {len(parts)} parts, {short('|'.join(parts).encode()[:40])}"

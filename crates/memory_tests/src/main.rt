@@ -1,16 +1,17 @@
-//! A program for tests, above all those in which memory is refused. It parses a pattern or builds a
-//! rope, as its arguments say, and tells what came of it.
+//! A program for tests, above all those in which memory is refused. It parses a pattern, compiles one
+//! or builds a rope, as its arguments say, and tells what came of it.
 #![tactic(auto)]
 
 use ropey::{Rope, RopeBuilder};
 use rx_grammar::syntax::Config;
 use rx_grammar::{SyntaxError, parse};
+use rx_program::{BuildError, compile};
 use std::env::Args;
 use std::iter::Skip;
 use std::{env, io};
 
 /// `parse PATTERN` and `fold PATTERN` write the tree of a pattern, `fold` where letters match in
-/// each case, or why there is none. `build PART..` appends the parts to a builder and writes the
+/// each case, or why there is none. `compile PATTERN` writes a pattern's program. `build PART..` appends the parts to a builder and writes the
 /// rope: a line for each part that was refused, then each chunk's length and all of its text.
 /// `chunks TEXT` makes a rope of the parts of a text between its `|`, and writes it likewise.
 /// `slice TEXT` makes it too, and writes a copy of its slice behind the first character.
@@ -24,6 +25,7 @@ fn main(rt: HostRuntime) -> io::Result<()> {
         mode => match args.next() {
             Some(text) if mode == "chunks" => gather(&rt, text.as_str()),
             Some(text) if mode == "slice" => copy(&rt, text.as_str()),
+            Some(pattern) if mode == "compile" => tell_program(&rt, pattern.as_str()),
             Some(pattern) => tell_tree(&rt, mode == "fold", pattern.as_str()),
             None => Ok(()),
         },
@@ -39,6 +41,18 @@ fn tell_tree(rt: &HostRuntime, fold: bool, pattern: &str) -> io::Result<()> {
         Err(SyntaxError::Nesting) => println!(rt; "nested too deeply"),
         Err(SyntaxError::Outside) => println!(rt; "outside the grammar"),
         Err(SyntaxError::Memory) => println!(rt; "no memory"),
+    }
+}
+
+/// Compiles a pattern.
+fn tell_program(rt: &HostRuntime, pattern: &str) -> io::Result<()> {
+    let Ok(hir) = parse(rt.alloc(), pattern, &Config::new()) else {
+        return println!(rt; "no pattern");
+    };
+    match compile(rt.alloc(), &[&hir], b'\n', None) {
+        Ok(program) => println!(rt; "{:?}", program),
+        Err(BuildError::Memory) => println!(rt; "no memory"),
+        Err(error) => println!(rt; "{error}"),
     }
 }
 

@@ -84,6 +84,13 @@ impl SetAutomaton {
         Ok(SetAutomaton { set, rows })
     }
 
+    /// The set.
+    pub fn set(&self) -> &Rc<CharacterSet>
+        ensures { result.now.value ≡ self.now.ranges }
+    {
+        &self.set
+    }
+
     /// The maximal ranges of the set, by ordinals.
     pub fn ranges(&self) -> &[Range]
         ensures ranges { result.now ≡ self.now.ranges }

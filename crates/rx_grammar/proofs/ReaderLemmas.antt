@@ -1,5 +1,5 @@
 -- What a reader that finds nothing knows: the readings of a text, turned round.
-use Rattle.std.proofs.Common.{◌≡◌, ℕ, ◌+◌, ◌≤◌, Bool, true, false, List, ◌∷◌, length, take, drop, Option, Some, None, MatchOption, is_some, refl, sym, ap, subst, ◌∙◌, arith, length-append}
+use Rattle.std.proofs.Common.{◌≡◌, ℕ, ◌+◌, ◌≤◌, Bool, true, false, List, ◌∷◌, length, take, drop, Option, Some, None, MatchOption, Result, Ok, Err, IfOk, is_some, refl, sym, ap, subst, ◌∙◌, arith, length-append}
 use Rattle.std.proofs.lemmas.Bool.{cond-true, cond-false}
 use Rattle.std.proofs.lemmas.List.{take_at, drop_at}
 use Rattle.std.specs.Char.{is_ascii_digit, is_ascii_hexdigit}
@@ -79,6 +79,11 @@ escaped_by-reads {text = text} {rest = rest} {c = c} letter e f = at (is_escapab
         let equal : letter ≡ c = cc in
         itself (e ∙ ap (λ x. x ∷ rest) equal) (subst (λ x. is_escapable x ≡ true) equal is)
     at false is = control letter e (sym (cond-false (is_escapable letter) (Some letter) (control_of letter) is) ∙ f)
+
+-- what an `Ok` holds may be said in other words
+pub IfOk-map : {T E : Type 0} (r : Result T E) (P Q : T → Type 0) → IfOk r P → ((x : T) → P x → Q x) → IfOk r Q
+IfOk-map (Ok x) P Q h f = f x h
+IfOk-map (Err e) P Q h f = tt
 
 -- what an option may hold, and what it means that it holds nothing, may be said in other words
 pub MatchOption-map : {T : Type 0} (o : Option T) (P Q : Type 0) (R S : T → Type 0) → MatchOption o P R → (P → Q) → ((x : T) → R x → S x) → MatchOption o Q S

@@ -6,6 +6,7 @@ ghost use Rattle.rx_automata.specs.Automata.{IsReader};
 use rx_automata::SetAutomaton;
 use rx_sets::{CharacterSet, Range};
 use std::alloc::{AllocError, Global};
+use std::cmp::Ordering;
 use std::rc::Rc;
 
 /// Whether the ranges are the same.
@@ -15,7 +16,17 @@ fn is_same(ranges: &[Range], others: &[Range]) -> bool
     ranges == others
 }
 
-/// The automata that were made so far.
+/// The order of two sets, by their ranges. Of one that is shared the ranges aren't looked at.
+fn order(set: &Rc<CharacterSet>, other: &Rc<CharacterSet>) -> Ordering {
+    if Rc::ptr_eq(set, other) {
+        Ordering::Equal
+    } else {
+        set.ranges().cmp(other.ranges())
+    }
+}
+
+/// The automata that were made so far, by the order of their sets' ranges. That they stand in order
+/// isn't proved: if they didn't, an automaton might be made twice.
 #[derive(Drop)]
 pub(crate) struct Automata {
     alloc: Global,
@@ -39,14 +50,22 @@ impl Automata {
         ensures ranges { IfOk result (λ automaton. automaton.value.ranges ≡ set.now.value) }
         ensures reader { IfOk result (λ automaton. IsReader automaton.value) }
     {
-        for automaton in &self.made {
-            if is_same(automaton.ranges(), set.ranges()) {
-                return automaton.clone();
+        let found = self
+            .made
+            .binary_search_by(|automaton| order(automaton.set(), set));
+        let place = match found {
+            Ok(place) => {
+                let automaton = &self.made[place];
+                if is_same(automaton.ranges(), set.ranges()) {
+                    return automaton.clone();
+                }
+                place
             }
-        }
+            Err(place) => place,
+        };
         let automaton = Rc::new(self.alloc, SetAutomaton::new(self.alloc, set.clone()?)?)?;
         let _ranges = automaton.ranges(); // tells that the automaton reads its set
-        self.made.push(automaton.clone()?)?;
+        self.made.insert(place, automaton.clone()?)?;
         Ok(automaton)
     }
 }

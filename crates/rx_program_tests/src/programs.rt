@@ -5,6 +5,7 @@ use rx_grammar::syntax::Config;
 use rx_grammar::{Look, parse};
 use rx_program::{State, compile};
 use std::alloc::{AllocError, Global};
+use std::rc::Rc;
 use std::test::Fail;
 
 /// The letter of a look.
@@ -101,9 +102,30 @@ fn rows_of_the_table(rt: HostRuntime) -> Result<(), Fail> {
     Ok(())
 }
 
+/// Whether two states share an automaton exactly where they read characters of one set.
+fn share_rightly(first: &State, second: &State) -> bool {
+    match (first, second) {
+        (State::Ranges(one, _), State::Ranges(other, _)) => {
+            Rc::ptr_eq(one, other) == (one.ranges() == other.ranges())
+        }
+        _ => true,
+    }
+}
+
 #[test]
 fn automata_are_shared(rt: HostRuntime) -> Result<(), Fail> {
     let alloc = rt.alloc();
+    let hir = parse(
+        alloc,
+        "cabz[a-c]\\wbZ\\W[c]a[a-b]za.\\w[a-c]",
+        &Config::new(),
+    )?;
+    let program = compile(alloc, &[&hir], b'\n', None)?;
+    for first in program.states() {
+        for second in program.states() {
+            assert!(rt; share_rightly(first, second));
+        }
+    }
     let hir = parse(alloc, "(?:\\w{1,50} ){1,20}", &Config::new())?;
     let program = compile(alloc, &[&hir], b'\n', None)?;
     assert_eq!(rt; program.states().len(), 2_022);

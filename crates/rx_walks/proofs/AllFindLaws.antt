@@ -3,7 +3,7 @@ use Rattle.std.proofs.Common.{◌≡◌, ℕ, ◌⊎◌, ◌↔◌, List, [], Op
 use Rattle.std.specs.Str.{IsCharBoundary}
 use Rattle.rx_walks.specs.Machines.{Machine, reads}
 use Rattle.rx_walks.specs.Paths.{Path, at_end, by_edge, by_read}
-use Rattle.rx_walks.specs.Finds.{Span, Search, CountsAmongAll, IsFindAll, none_at_all, greatest}
+use Rattle.rx_walks.specs.Finds.{PatternMatch, Search, CountsAmongAll, IsFindAll, none_at_all, greatest}
 use Rattle.rx_walks.specs.StepsAll.{FindsAll, nowhere, found}
 use Rattle.rx_walks.specs.Refinements.{Refines}
 use Rattle.rx_walks.specs.Laws.{Begins}
@@ -15,7 +15,7 @@ path_read content at_whole (at_end is) = inl refl
 path_read content at_whole (by_edge rs r k is at path) = path_read content at_whole path
 path_read content at_whole (by_read {q = q} {i = i} r j is path) = inr (at_whole i j q r is)
 
-begins_all : {Q N : Type 0} {m : Machine Q N} {fresh : ℕ → N} {s : Search} {q : Q} {a : Span} → ((i j : ℕ) (q r : Q) → m.move i q ≡ reads r j → IsCharBoundary s.content i) → CountsAmongAll m fresh s q a
+begins_all : {Q N : Type 0} {m : Machine Q N} {fresh : ℕ → N} {s : Search} {q : Q} {a : PatternMatch} → ((i j : ℕ) (q r : Q) → m.move i q ≡ reads r j → IsCharBoundary s.content i) → CountsAmongAll m fresh s q a
     → Begins s a.start
 begins_all {s = s} at_whole counts = (
   counts.possible,
@@ -25,7 +25,7 @@ begins_all {s = s} at_whole counts = (
   ],
 )
 
-pub find_all_from_finds : {Q N : Type 0} {m : Machine Q N} {s : Search} {q : Q} {out : Option Span} (fresh : ℕ → N) → ((a b : Q) → (a ≡ b) ⊎ (a ≡ b → ⊥))
+pub find_all_from_finds : {Q N : Type 0} {m : Machine Q N} {s : Search} {q : Q} {out : Option PatternMatch} (fresh : ℕ → N) → ((a b : Q) → (a ≡ b) ⊎ (a ≡ b → ⊥))
     → ((i j : ℕ) (q r : Q) → m.move i q ≡ reads r j → IsCharBoundary s.content i) → FindsAll m (Begins s) q s.start out → IsFindAll m fresh s q out
 find_all_from_finds fresh told at_whole (nowhere never) = none_at_all (λ a counts. never a counts.possible.0.2 (begins_all at_whole counts) (walk_reaches counts.reaches))
 find_all_from_finds fresh told at_whole (found {a = a} from b path best) = greatest
@@ -40,7 +40,7 @@ paths_agree q i p e same in_c in_b n = (
   (λ path. let on = path_has_walk in_b path n in walk_reaches (reaches (unrefined [] q same on.walk) on.pattern_is on.end_is)),
 )
 
-pub finds_all_unrefined : {C B N : Type 0} {c : Machine C N} {b : Machine B N} {f : C → B} {begins : ℕ → Type 0} {i : ℕ} {out : Option Span} (q : C) → Refines c b f → ((x y : C) → (x ≡ y) ⊎ (x ≡ y → ⊥)) → ((x y : B) → (x ≡ y) ⊎ (x ≡ y → ⊥)) → N
+pub finds_all_unrefined : {C B N : Type 0} {c : Machine C N} {b : Machine B N} {f : C → B} {begins : ℕ → Type 0} {i : ℕ} {out : Option PatternMatch} (q : C) → Refines c b f → ((x y : C) → (x ≡ y) ⊎ (x ≡ y → ⊥)) → ((x y : B) → (x ≡ y) ⊎ (x ≡ y → ⊥)) → N
     → FindsAll b begins (f q) i out → FindsAll c begins q i out
 finds_all_unrefined q same in_c in_b n (nowhere never) = nowhere (λ a from begun path. never a from begun ((paths_agree q a.start a.pattern a.end same in_c in_b n).0 path))
 finds_all_unrefined q same in_c in_b n (found {a = a} from begun path best) = found from begun ((paths_agree q a.start a.pattern a.end same in_c in_b n).1 path)

@@ -3,7 +3,7 @@ use Rattle.std.proofs.Common.{◌≡◌, ℕ, ◌+◌, ◌≤◌, ◌⊎◌, Lis
 use Rattle.std.proofs.lemmas.Bool.{cases_order}
 use Rattle.rx_walks.specs.Machines.{Machine, IsForward}
 use Rattle.rx_walks.specs.Paths.{Path, at_end, by_edge, by_read}
-use Rattle.rx_walks.specs.Finds.{Span, IsAtLeast}
+use Rattle.rx_walks.specs.Finds.{PatternMatch, IsAtLeast}
 use Rattle.rx_walks.specs.StepsAll.{FindsAll, nowhere, found, StepsAll, done, passed, met, opened, read, RiseFrom, no_more, one_more, Met, Latest, none_met, some_met, SearchesAll, over, started, stepped}
 use Rattle.rx_walks.proofs.PathLaws.{path_has_walk, walk_reaches}
 use Rattle.rx_walks.proofs.AllLaws.{From, by_first, by_other, Covered, goes_on, is_met, Has, has_first, has_other, all_covered, next_has, met_has, rise_open}
@@ -58,29 +58,29 @@ next_rises (opened {others = others} rs new is steps) (one_more within to rise) 
 next_rises (read r new is steps) (one_more within to rise) = one_more within to (next_rises steps rise)
 
 -- what the live threads and the starts to come may yet give
-pub data May {Q N : Type 0} (m : Machine Q N) (begins : ℕ → Type 0) (q : Q) (i : ℕ) (live : List (ℕ × Q)) (a : Span) : Type 0 where
+pub data May {Q N : Type 0} (m : Machine Q N) (begins : ℕ → Type 0) (q : Q) (i : ℕ) (live : List (ℕ × Q)) (a : PatternMatch) : Type 0 where
   by_live : Has m i a.pattern a.end a.start live → May m begins q i live a
   by_start : i ≤ a.start → begins a.start → Path m q a.start a.pattern a.end → May m begins q i live a
 
-pub data AnswersAll {Q N : Type 0} (m : Machine Q N) (begins : ℕ → Type 0) (q : Q) (i : ℕ) (live : List (ℕ × Q)) (best : Option Span) : Option Span → Type 0 where
-  stays : {out : Option Span} → out ≡ best → ((a : Span) → May m begins q i live a → ⊥) → AnswersAll m begins q i live best out
-  changes : {a : Span} → May m begins q i live a → ((b : Span) → May m begins q i live b → IsAtLeast a b) → AnswersAll m begins q i live best (Some a)
+pub data AnswersAll {Q N : Type 0} (m : Machine Q N) (begins : ℕ → Type 0) (q : Q) (i : ℕ) (live : List (ℕ × Q)) (best : Option PatternMatch) : Option PatternMatch → Type 0 where
+  stays : {out : Option PatternMatch} → out ≡ best → ((a : PatternMatch) → May m begins q i live a → ⊥) → AnswersAll m begins q i live best out
+  changes : {a : PatternMatch} → May m begins q i live a → ((b : PatternMatch) → May m begins q i live b → IsAtLeast a b) → AnswersAll m begins q i live best (Some a)
 
-may_forward : {Q N : Type 0} {m : Machine Q N} {begins : ℕ → Type 0} {q : Q} {i : ℕ} {live : List (ℕ × Q)} {a : Span} → IsForward m → May m begins q i live a → i ≤ a.end
+may_forward : {Q N : Type 0} {m : Machine Q N} {begins : ℕ → Type 0} {q : Q} {i : ℕ} {live : List (ℕ × Q)} {a : PatternMatch} → IsForward m → May m begins q i live a → i ≤ a.end
 may_forward on (by_live has) = has_forward on has
 may_forward on (by_start from b path) = omega (arith, from, path_forward on path)
 
 -- a place's threads stand for its live threads and its start
 pub record Stand {Q N : Type 0} (m : Machine Q N) (begins : ℕ → Type 0) (q : Q) (i : ℕ) (live threads : List (ℕ × Q)) : Type 0 where
-  pub to : (a : Span) → May m begins q i live a → Has m i a.pattern a.end a.start threads ⊎ ((i + 1 ≤ a.start) × begins a.start × Path m q a.start a.pattern a.end)
-  pub back : (a : Span) → Has m i a.pattern a.end a.start threads → May m begins q i live a
+  pub to : (a : PatternMatch) → May m begins q i live a → Has m i a.pattern a.end a.start threads ⊎ ((i + 1 ≤ a.start) × begins a.start × Path m q a.start a.pattern a.end)
+  pub back : (a : PatternMatch) → Has m i a.pattern a.end a.start threads → May m begins q i live a
   pub rises : RiseFrom i 0 threads
 
-abbrev Comes : {Q N : Type 0} → Machine Q N → (ℕ → Type 0) → Q → ℕ → List (ℕ × Q) → List (ℕ × ℕ) → Span → Type 0
+abbrev Comes : {Q N : Type 0} → Machine Q N → (ℕ → Type 0) → Q → ℕ → List (ℕ × Q) → List (ℕ × ℕ) → PatternMatch → Type 0
 Comes m begins q i next ms b = ((s : ℕ) × (s ≤ b.start) × May m begins q (i + 1) next (record { start = s; pattern = b.pattern; end = b.end })) ⊎ ((s : ℕ) × (s ≤ b.start) × (i ≡ b.end) × Met s b.pattern ms)
 
 comes : {Q N : Type 0} {m : Machine Q N} {begins : ℕ → Type 0} {q : Q} {i : ℕ} {live threads next : List (ℕ × Q)} {ms : List (ℕ × ℕ)} → ((a b : Q) → (a ≡ b) ⊎ (a ≡ b → ⊥)) → N → Stand m begins q i live threads
-    → StepsAll m i [] threads next ms → (b : Span) → May m begins q i live b → Comes m begins q i next ms b
+    → StepsAll m i [] threads next ms → (b : PatternMatch) → May m begins q i live b → Comes m begins q i next ms b
 comes {Q = Q} {m = m} {begins = begins} {q = q} {i = i} {threads = threads} {next = next} {ms = ms} same n stand steps b may = elim (stand.to b may) [
   | inl has ↦ covered (all_covered same steps stand.rises b.pattern b.end b.start (from_has same n has))
   | inr start ↦ inl (b.start, omega arith, by_start start.0 start.1 start.2)
@@ -91,11 +91,11 @@ comes {Q = Q} {m = m} {begins = begins} {q = q} {i = i} {threads = threads} {nex
     covered (is_met s within e has) = inr (s, within, e, has)
 
 returned : {Q N : Type 0} {m : Machine Q N} {begins : ℕ → Type 0} {q : Q} {i : ℕ} {live threads next : List (ℕ × Q)} {ms : List (ℕ × ℕ)} → Stand m begins q i live threads → StepsAll m i [] threads next ms
-    → (a : Span) → May m begins q (i + 1) next a → May m begins q i live a
+    → (a : PatternMatch) → May m begins q (i + 1) next a → May m begins q i live a
 returned stand steps a (by_live has) = stand.back a (next_has steps a.pattern a.end a.start has)
 returned stand steps a (by_start from b path) = by_start (omega (arith, from)) b path
 
-all_step : {Q N : Type 0} {m : Machine Q N} {begins : ℕ → Type 0} {q : Q} {i : ℕ} {live threads next : List (ℕ × Q)} {ms : List (ℕ × ℕ)} {best best' out : Option Span} → IsForward m → ((a b : Q) → (a ≡ b) ⊎ (a ≡ b → ⊥)) → N
+all_step : {Q N : Type 0} {m : Machine Q N} {begins : ℕ → Type 0} {q : Q} {i : ℕ} {live threads next : List (ℕ × Q)} {ms : List (ℕ × ℕ)} {best best' out : Option PatternMatch} → IsForward m → ((a b : Q) → (a ≡ b) ⊎ (a ≡ b → ⊥)) → N
     → Stand m begins q i live threads → StepsAll m i [] threads next ms → Latest i best ms best' → AnswersAll m begins q (i + 1) next best' out → AnswersAll m begins q i live best out
 all_step on same n stand steps (none_met none) (stays e never) = stays e (λ b may. elim (comes same n stand steps b may) [
   | inl later ↦ never _ later.2
@@ -107,7 +107,7 @@ all_step {m = m} {begins = begins} {q = q} {i = i} {live = live} {best = best} o
       | inr now ↦ least b now.0 now.1 now.2 (first now.0 b.pattern now.3)
     ]))
   where
-    least : (b : Span) (s' : ℕ) → s' ≤ b.start → i ≡ b.end → (s ≤ s') × (s' ≡ s → p ≤ b.pattern) → IsAtLeast (record { start = s; pattern = p; end = i }) b
+    least : (b : PatternMatch) (s' : ℕ) → s' ≤ b.start → i ≡ b.end → (s ≤ s') × (s' ≡ s → p ≤ b.pattern) → IsAtLeast (record { start = s; pattern = p; end = i }) b
     least b s' within e' one = record {
       by_end = omega (arith, e');
       by_start = λ x. omega (arith, one.0, within);
@@ -118,14 +118,14 @@ all_step {i = i} on same n stand steps latest (changes {a = a} may best) = chang
   | inr now ↦ past b now.2 (may_forward on may)
 ])
   where
-    earlier : (b : Span) (s : ℕ) → s ≤ b.start → IsAtLeast a (record { start = s; pattern = b.pattern; end = b.end }) → IsAtLeast a b
+    earlier : (b : PatternMatch) (s : ℕ) → s ≤ b.start → IsAtLeast a (record { start = s; pattern = b.pattern; end = b.end }) → IsAtLeast a b
     earlier b s within one = record {
       by_end = one.by_end;
       by_start = λ x. omega (arith, one.by_start x, within);
       by_pattern = λ x y. one.by_pattern x (omega (arith, one.by_start x, within, y));
     }
 
-    past : (b : Span) → i ≡ b.end → i + 1 ≤ a.end → IsAtLeast a b
+    past : (b : PatternMatch) → i ≡ b.end → i + 1 ≤ a.end → IsAtLeast a b
     past b e after = record {
       by_end = omega (arith, e, after);
       by_start = λ x. absurd (omega (arith, e, after, x));
@@ -135,7 +135,7 @@ all_step {i = i} on same n stand steps latest (changes {a = a} may best) = chang
 stand_started : {Q N : Type 0} {m : Machine Q N} {begins : ℕ → Type 0} {q : Q} {i : ℕ} {live : List (ℕ × Q)} → begins i → RiseFrom i 0 live → Stand m begins q i live (live ++ (i, q) ∷ [])
 stand_started {m = m} {begins = begins} {q = q} {i = i} {live = live} b rise = record { to = to; back = back; rises = rise_more q (omega arith) rise }
   where
-    to : (a : Span) → May m begins q i live a → Has m i a.pattern a.end a.start (live ++ (i, q) ∷ []) ⊎ ((i + 1 ≤ a.start) × begins a.start × Path m q a.start a.pattern a.end)
+    to : (a : PatternMatch) → May m begins q i live a → Has m i a.pattern a.end a.start (live ++ (i, q) ∷ []) ⊎ ((i + 1 ≤ a.start) × begins a.start × Path m q a.start a.pattern a.end)
     to a (by_live has) = inl (has_left ((i, q) ∷ []) has)
     to a (by_start from b' path) = elim (cases_order i a.start) [
       | inl e ↦ inl (has_right live (has_first e (subst (λ x. Path m q x a.pattern a.end) (sym e) path)))
@@ -143,17 +143,17 @@ stand_started {m = m} {begins = begins} {q = q} {i = i} {live = live} b rise = r
       | inr (inr above) ↦ absurd (omega (arith, above, from))
     ]
 
-    alone : (a : Span) → Has m i a.pattern a.end a.start ((i, q) ∷ []) → May m begins q i live a
+    alone : (a : PatternMatch) → Has m i a.pattern a.end a.start ((i, q) ∷ []) → May m begins q i live a
     alone a (has_first e path) = by_start (omega (arith, e)) (subst begins e b) (subst (λ x. Path m q x a.pattern a.end) e path)
     alone a (has_other has) = elim has [ ]
 
-    back : (a : Span) → Has m i a.pattern a.end a.start (live ++ (i, q) ∷ []) → May m begins q i live a
+    back : (a : PatternMatch) → Has m i a.pattern a.end a.start (live ++ (i, q) ∷ []) → May m begins q i live a
     back a has = elim (has_split live ((i, q) ∷ []) has) [ inl h ↦ by_live h | inr h ↦ alone a h ]
 
 stand_stepped : {Q N : Type 0} {m : Machine Q N} {begins : ℕ → Type 0} {q : Q} {i : ℕ} {live : List (ℕ × Q)} → (begins i → ⊥) → RiseFrom i 0 live → Stand m begins q i live live
 stand_stepped {m = m} {begins = begins} {q = q} {i = i} {live = live} held rise = record { to = to; back = λ a has. by_live has; rises = rise }
   where
-    to : (a : Span) → May m begins q i live a → Has m i a.pattern a.end a.start live ⊎ ((i + 1 ≤ a.start) × begins a.start × Path m q a.start a.pattern a.end)
+    to : (a : PatternMatch) → May m begins q i live a → Has m i a.pattern a.end a.start live ⊎ ((i + 1 ≤ a.start) × begins a.start × Path m q a.start a.pattern a.end)
     to a (by_live has) = inl has
     to a (by_start from b path) = elim (cases_order i a.start) [
       | inl e ↦ absurd (held (subst begins (sym e) b))
@@ -161,11 +161,11 @@ stand_stepped {m = m} {begins = begins} {q = q} {i = i} {live = live} held rise 
       | inr (inr above) ↦ absurd (omega (arith, above, from))
     ]
 
-pub all_answers : {Q N : Type 0} {m : Machine Q N} {begins : ℕ → Type 0} {q : Q} {i : ℕ} {live : List (ℕ × Q)} {best out : Option Span} → IsForward m → ((a b : Q) → (a ≡ b) ⊎ (a ≡ b → ⊥)) → N
+pub all_answers : {Q N : Type 0} {m : Machine Q N} {begins : ℕ → Type 0} {q : Q} {i : ℕ} {live : List (ℕ × Q)} {best out : Option PatternMatch} → IsForward m → ((a b : Q) → (a ≡ b) ⊎ (a ≡ b → ⊥)) → N
     → SearchesAll m begins q i live best out → RiseFrom i 0 live → AnswersAll m begins q i live best out
 all_answers {m = m} {begins = begins} {q = q} on same n (over {i = i} empty) rise = stays refl none
   where
-    none : (a : Span) → May m begins q i [] a → ⊥
+    none : (a : PatternMatch) → May m begins q i [] a → ⊥
     none a (by_live has) = elim has [ ]
     none a (by_start from b path) = empty a.start from b
 all_answers on same n (started b steps latest rest) rise =
@@ -173,14 +173,14 @@ all_answers on same n (started b steps latest rest) rise =
 all_answers on same n (stepped held steps latest rest) rise = all_step on same n (stand_stepped held rise) steps latest (all_answers on same n rest (rise_higher (next_rises steps rise)))
 
 -- with no threads at first the search finds the greatest end
-pub search_finds_all : {Q N : Type 0} {m : Machine Q N} {begins : ℕ → Type 0} {q : Q} {i : ℕ} {out : Option Span} → IsForward m → ((a b : Q) → (a ≡ b) ⊎ (a ≡ b → ⊥)) → N → SearchesAll m begins q i [] None out
+pub search_finds_all : {Q N : Type 0} {m : Machine Q N} {begins : ℕ → Type 0} {q : Q} {i : ℕ} {out : Option PatternMatch} → IsForward m → ((a b : Q) → (a ≡ b) ⊎ (a ≡ b → ⊥)) → N → SearchesAll m begins q i [] None out
     → FindsAll m begins q i out
 search_finds_all {m = m} {begins = begins} {q = q} {i = i} on same n searches = finds (all_answers on same n searches no_more)
   where
-    begun : (a : Span) → May m begins q i [] a → (i ≤ a.start) × begins a.start × Path m q a.start a.pattern a.end
+    begun : (a : PatternMatch) → May m begins q i [] a → (i ≤ a.start) × begins a.start × Path m q a.start a.pattern a.end
     begun a (by_live has) = elim has [ ]
     begun a (by_start from b path) = (from, b, path)
 
-    finds : {out : Option Span} → AnswersAll m begins q i [] None out → FindsAll m begins q i out
+    finds : {out : Option PatternMatch} → AnswersAll m begins q i [] None out → FindsAll m begins q i out
     finds (stays e never) = subst (λ x. FindsAll m begins q i x) (sym e) (nowhere (λ a from b path. never a (by_start from b path)))
     finds (changes {a = a} may best) = let one = begun a may in found one.0 one.1 one.2 (λ b from b' path. best b (by_start from b' path))

@@ -44,11 +44,11 @@ character_of-encode c scalar =
     ap₂ (λ x y. cond x (only_one y) None) text one
 
 -- of two options
-some_first : (a b : Option ℕ) (c : ℕ) → first_some a b ≡ Some c → (a ≡ Some c) ⊎ (b ≡ Some c)
+pub some_first : (a b : Option ℕ) (c : ℕ) → first_some a b ≡ Some c → (a ≡ Some c) ⊎ (b ≡ Some c)
 some_first None b c e = inr e
 some_first (Some d) b c e = inl e
 
-first_of : (a b : Option ℕ) (c : ℕ) → (a ≡ None) ⊎ (a ≡ Some c) → (a ≡ Some c) ⊎ (b ≡ Some c) → first_some a b ≡ Some c
+pub first_of : (a b : Option ℕ) (c : ℕ) → (a ≡ None) ⊎ (a ≡ Some c) → (a ≡ Some c) ⊎ (b ≡ Some c) → first_some a b ≡ Some c
 first_of a b c (inr same) where' = ap (λ x. first_some x b) same
 first_of a b c (inl none) (inl is) = absurd (cc (none, is))
 first_of a b c (inl none) (inr is) = ap (λ x. first_some x b) none ∙ is

@@ -61,20 +61,20 @@ pub data IsFind {Q N : Type 0} (m : Machine Q N) (fresh : ℕ → N) (s : Search
       → ((j : ℕ) (u : Outcome N) → j < i → Counts m fresh s q j u → ⊥) → IsFind m fresh s q (Some t)
 
 -- a match as its start, its pattern and its end
-pub record Span : Type 0 where
+pub record PatternMatch : Type 0 where
   pub start : ℕ
   pub pattern : ℕ
   pub end : ℕ
 
 -- with a greater end, or else a lesser start, or else a lesser pattern; or the same
-pub record IsAtLeast (a b : Span) : Type 0 where
+pub record IsAtLeast (a b : PatternMatch) : Type 0 where
   pub by_end : b.end ≤ a.end
   pub by_start : b.end ≡ a.end → a.start ≤ b.start
   pub by_pattern : b.end ≡ a.end → b.start ≡ a.start → a.pattern ≤ b.pattern
 
 -- some walk from its start matches its pattern and ends at its end, and counts
 pub record CountsAmongAll {Q N : Type 0} (m : Machine Q N) (fresh : ℕ → N) (s : Search) (q : Q)
-    (a : Span) : Type 0 where
+    (a : PatternMatch) : Type 0 where
   pub possible : IsPossible s a.start
   pub reaches : Reaches m [] (fresh a.start) q a.start a.pattern a.end
   pub may_end : MayEnd s a.start a.end
@@ -82,7 +82,8 @@ pub record CountsAmongAll {Q N : Type 0} (m : Machine Q N) (fresh : ℕ → N) (
 -- where all matches are wanted: of all walks the greatest end, the least start with it, and the
 -- least pattern with both
 pub data IsFindAll {Q N : Type 0} (m : Machine Q N) (fresh : ℕ → N) (s : Search)
-    (q : Q) : Option Span → Type 0 where
-  none_at_all : ((a : Span) → CountsAmongAll m fresh s q a → ⊥) → IsFindAll m fresh s q None
-  greatest : {a : Span} → CountsAmongAll m fresh s q a
-      → ((b : Span) → CountsAmongAll m fresh s q b → IsAtLeast a b) → IsFindAll m fresh s q (Some a)
+    (q : Q) : Option PatternMatch → Type 0 where
+  none_at_all : ((a : PatternMatch) → CountsAmongAll m fresh s q a → ⊥) → IsFindAll m fresh s q None
+  greatest : {a : PatternMatch} → CountsAmongAll m fresh s q a
+      → ((b : PatternMatch) → CountsAmongAll m fresh s q b → IsAtLeast a b)
+      → IsFindAll m fresh s q (Some a)

@@ -1,14 +1,14 @@
 -- Laws of walks and of what is found by them.
-use Rattle.std.specs.Prelude.{◌≡◌, ℕ, ◌+◌, ◌⊎◌, ◌↔◌, Bool, IsTrue, List, [], map, Option, None, Some, slice_get}
+use Rattle.std.specs.Prelude.{◌≡◌, ℕ, ◌+◌, ◌≤◌, ◌⊎◌, ◌↔◌, Bool, IsTrue, List, [], map, reverse, take, Option, None, Some, slice_get}
 use Rattle.std.specs.Str.{IsCharBoundary}
 use Rattle.rx_walks.specs.Machines.{Machine, Outcome, IsForward, reads}
 use Rattle.rx_walks.specs.Walks.{Walk, IsLeast, Reaches}
 use Rattle.rx_walks.specs.Paths.{Path, PathThrough, HasNoRepeat}
-use Rattle.rx_walks.specs.Characters.{first_character, StandsFirst}
-use Rattle.rx_walks.specs.Looks.{Look}
-use Rattle.rx_walks.specs.Finds.{Search, IsPossible, IsFind, IsFindAll, Span}
-use Rattle.rx_walks.specs.Programs.{Node, set, Program, Haystack, Notes, put_note, over_characters}
-use Rattle.rx_walks.specs.ProgramFinds.{ProgramFinds, ProgramFindsAll, ProgramMatches, ProgramMatchesAll, first_by, haystack_of, holds_in, machine_of}
+use Rattle.rx_walks.specs.Characters.{first_character, last_character, StandsFirst, StandsLast}
+use Rattle.rx_walks.specs.Looks.{Look, holds_between}
+use Rattle.rx_walks.specs.Finds.{Search, IsInside, IsPossible, MayEnd, IsFind, IsFindAll, PatternMatch}
+use Rattle.rx_walks.specs.Programs.{Node, set, Program, Haystack, Notes, fresh_notes, put_note, slot_of, over_characters}
+use Rattle.rx_walks.specs.ProgramFinds.{ProgramFinds, ProgramFindsAll, ProgramMatches, ProgramMatchesAll, first_by, haystack_of, holds_in, machine_of, start_node, start_of, end_of}
 use Rattle.rx_walks.specs.Bytes.{Automaton, run, over_bytes}
 use Rattle.rx_walks.specs.Steps.{Best, Steps, Searches, either}
 use Rattle.rx_walks.specs.StepsAll.{SearchesAll}
@@ -46,7 +46,7 @@ FindsAtMostOne member is_word p = (s : Search) (out out' : Option (Outcome Notes
     → ProgramFinds member is_word p s out → ProgramFinds member is_word p s out' → out ≡ out'
 
 abbrev pub FindsAllAtMostOne : {S : Type 0} → (S → ℕ → Bool) → (ℕ → Bool) → Program Look S → Type 0
-FindsAllAtMostOne member is_word p = (s : Search) (out out' : Option Span)
+FindsAllAtMostOne member is_word p = (s : Search) (out out' : Option PatternMatch)
     → ProgramFindsAll member is_word p s out → ProgramFindsAll member is_word p s out' → out ≡ out'
 
 -- and at most one list of matches
@@ -56,13 +56,44 @@ MatchesAreOneList member is_word p = (s : Search) (ms ms' : List (Outcome Notes)
 
 abbrev pub MatchesAllAreOneList : {S : Type 0} → (S → ℕ → Bool) → (ℕ → Bool) → Program Look S
     → Type 0
-MatchesAllAreOneList member is_word p = (s : Search) (ms ms' : List Span)
+MatchesAllAreOneList member is_word p = (s : Search) (ms ms' : List PatternMatch)
     → ProgramMatchesAll member is_word p s ms → ProgramMatchesAll member is_word p s ms' → ms ≡ ms'
 
 -- the first character of bytes is the one whose UTF-8 stands first in them
 abbrev pub FirstCharacterStands : Type 0
 FirstCharacterStands =
     (bytes : List ℕ) (c : ℕ) → (first_character bytes ≡ Some c) ↔ StandsFirst bytes c
+
+-- and the last one is the one whose UTF-8 stands last; they are given from the last one back
+abbrev pub LastCharacterStands : Type 0
+LastCharacterStands =
+    (back : List ℕ) (c : ℕ) → (last_character back ≡ Some c) ↔ StandsLast (reverse back) c
+
+-- whether a look holds is told by four bytes on each side
+abbrev pub FourBytesTell : Type 0
+FourBytesTell = (is_word : ℕ → Bool) (terminator : ℕ) (l : Look) (before after : List ℕ)
+    → holds_between is_word terminator l (take 4 before) (take 4 after)
+    ≡ holds_between is_word terminator l before after
+
+-- a match from a start to an end that a search may tell
+pub record MayBeFound (s : Search) (start end : ℕ) : Type 0 where
+  pub possible : IsPossible s start
+  pub ordered : start ≤ end
+  pub inside : IsInside s end
+  pub may_end : MayEnd s start end
+
+-- what is found is such a match, and each place in a slot lies between its start and its end
+pub record LiesInside (s : Search) (t : Outcome Notes) : Type 0 where
+  pub found : MayBeFound s (start_of t) (end_of t)
+  pub slots : (slot i : ℕ) → slot_of t.notes slot ≡ Some i → (start_of t ≤ i) × (i ≤ end_of t)
+
+abbrev pub FindsLieInside : {S : Type 0} → (S → ℕ → Bool) → (ℕ → Bool) → Program Look S → Type 0
+FindsLieInside member is_word p = (s : Search) (t : Outcome Notes)
+    → ProgramFinds member is_word p s (Some t) → LiesInside s t
+
+abbrev pub FindsAllLieInside : {S : Type 0} → (S → ℕ → Bool) → (ℕ → Bool) → Program Look S → Type 0
+FindsAllLieInside member is_word p = (s : Search) (a : PatternMatch)
+    → ProgramFindsAll member is_word p s (Some a) → MayBeFound s a.start a.end
 
 -- ---- threads
 
@@ -83,7 +114,7 @@ SearchesFind {C} {B} {N} c b f =
 -- without a cut it finds the greatest end
 abbrev pub SearchesFindAll : {C B N : Type 0} → Machine C N → Machine B N → (C → B) → Type 0
 SearchesFindAll {C} {B} {N} c b f =
-    (s : Search) (fresh : ℕ → N) (q : C) (out : Option Span) → Refines c b f
+    (s : Search) (fresh : ℕ → N) (q : C) (out : Option PatternMatch) → Refines c b f
     → ReadsWhole c s.content → IsForward b → IsTold C → IsTold B
     → SearchesAll b (Begins s) (f q) s.start [] None out → IsFindAll c fresh s q out
 
@@ -150,11 +181,26 @@ ProgramsFind {L} {S} {N} put member step nodes holds =
 abbrev pub ProgramsFindAll : {L S N : Type 0} → (ℕ → ℕ → N → N) → (S → ℕ → Bool) → (ℕ → Automaton)
     → List (Node L S) → (L → ℕ → Bool) → Type 0
 ProgramsFindAll {L} {S} {N} put member step nodes holds =
-    (s : Search) (fresh : ℕ → N) (q : ℕ) (out : Option Span)
+    (s : Search) (fresh : ℕ → N) (q : ℕ) (out : Option PatternMatch)
     → ReadsMembers (first_by member) step nodes
     → SearchesAll (over_bytes put step nodes (haystack_of holds s)) (Begins s)
     (q, 0) s.start [] None out
     → IsFindAll (over_characters put (first_by member) nodes (haystack_of holds s)) fresh s q out
+
+-- the same of a whole program, from the node that its walks start from
+abbrev pub ProgramIsSearched : {S : Type 0} → (S → ℕ → Bool) → (ℕ → Bool) → Program Look S
+    → (ℕ → Automaton) → Type 0
+ProgramIsSearched member is_word p step = ReadsMembers (first_by member) step p.nodes
+    → (s : Search) (q : ℕ) (out : Option (Outcome Notes)) → start_node p s.anchoring ≡ Some q
+    → Searches (byte_machine_of is_word p step s) (Begins s) fresh_notes (q, 0) s.start [] None out
+    → ProgramFinds member is_word p s out
+
+abbrev pub ProgramIsSearchedForAll : {S : Type 0} → (S → ℕ → Bool) → (ℕ → Bool) → Program Look S
+    → (ℕ → Automaton) → Type 0
+ProgramIsSearchedForAll member is_word p step = ReadsMembers (first_by member) step p.nodes
+    → (s : Search) (q : ℕ) (out : Option PatternMatch) → start_node p s.anchoring ≡ Some q
+    → SearchesAll (byte_machine_of is_word p step s) (Begins s) (q, 0) s.start [] None out
+    → ProgramFindsAll member is_word p s out
 
 -- both machines of a program read forward
 pub record ProgramsReadForward {L S N : Type 0} (put : ℕ → ℕ → N → N) (member : S → ℕ → Bool)

@@ -5,7 +5,7 @@ use Rattle.rx_walks.specs.Machines.{Machine, Outcome}
 use Rattle.rx_walks.specs.Characters.{member_len}
 use Rattle.rx_walks.specs.Looks.{Look, holds_between}
 use Rattle.rx_walks.specs.Programs.{Program, Haystack, Notes, fresh_notes, put_note, over_characters}
-use Rattle.rx_walks.specs.Finds.{Anchoring, unanchored, anchored, anchored_pattern, Search, from_place_on, Span, IsFind, IsFindAll}
+use Rattle.rx_walks.specs.Finds.{Anchoring, unanchored, anchored, anchored_pattern, Search, from_place_on, PatternMatch, IsFind, IsFindAll}
 use Rattle.rx_walks.specs.Matches.{Matches}
 
 -- what stands before a place in the slice, from the place back; and what stands after it
@@ -60,7 +60,7 @@ ProgramFinds member is_word p s out =
 
 -- where all matches are wanted, the greatest end
 abbrev pub ProgramFindsAll : {S : Type 0} → (S → ℕ → Bool) → (ℕ → Bool) → Program Look S → Search
-    → Option Span → Type 0
+    → Option PatternMatch → Type 0
 ProgramFindsAll member is_word p s out =
     IfStarts (start_node p s.anchoring)
     (IsFindAll (machine_of member is_word p s) fresh_notes s) out
@@ -79,7 +79,7 @@ ProgramMatches member is_word p s ms =
     (λ i out. ProgramFinds member is_word p (from_place_on s i) out) start_of end_of s.start ms
 
 abbrev pub ProgramMatchesAll : {S : Type 0} → (S → ℕ → Bool) → (ℕ → Bool) → Program Look S → Search
-    → List Span → Type 0
+    → List PatternMatch → Type 0
 ProgramMatchesAll member is_word p s ms =
     Matches (λ i out. ProgramFindsAll member is_word p (from_place_on s i) out) (λ a. a.start)
     (λ a. a.end) s.start ms

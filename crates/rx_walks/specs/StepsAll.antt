@@ -3,16 +3,17 @@ use Rattle.std.specs.Prelude.{◌≡◌, ℕ, ◌+◌, ◌≤◌, List, [], ◌�
 use Rattle.rx_walks.specs.Machines.{Machine, ends, goes, reads}
 use Rattle.rx_walks.specs.Walks.{IsNew}
 use Rattle.rx_walks.specs.Paths.{Path}
-use Rattle.rx_walks.specs.Finds.{Span, IsAtLeast}
+use Rattle.rx_walks.specs.Finds.{PatternMatch, IsAtLeast}
 
--- the best of the spans of paths from the places from i on where a start begins
+-- the best of the matches of paths from the places from i on where a start begins
 pub data FindsAll {Q N : Type 0} (m : Machine Q N) (begins : ℕ → Type 0) (q : Q)
-    (i : ℕ) : Option Span → Type 0 where
-  nowhere : ((a : Span) → i ≤ a.start → begins a.start → Path m q a.start a.pattern a.end → ⊥)
+    (i : ℕ) : Option PatternMatch → Type 0 where
+  nowhere : ((a : PatternMatch)
+      → i ≤ a.start → begins a.start → Path m q a.start a.pattern a.end → ⊥)
       → FindsAll m begins q i None
-  found : {a : Span} → i ≤ a.start → begins a.start → Path m q a.start a.pattern a.end
+  found : {a : PatternMatch} → i ≤ a.start → begins a.start → Path m q a.start a.pattern a.end
       →
-      ((b : Span) → i ≤ b.start → begins b.start → Path m q b.start b.pattern b.end
+      ((b : PatternMatch) → i ≤ b.start → begins b.start → Path m q b.start b.pattern b.end
       → IsAtLeast a b)
       → FindsAll m begins q i (Some a)
 
@@ -52,21 +53,24 @@ pub data Met (s p : ℕ) : List (ℕ × ℕ) → Type 0 where
 
 -- of the ends met at a place the one of the least start, then of the least pattern; with none, what
 -- was best before
-pub data Latest (i : ℕ) (best : Option Span) (ms : List (ℕ × ℕ)) : Option Span → Type 0 where
+pub data Latest (i : ℕ) (best : Option PatternMatch) (ms : List (ℕ × ℕ)) : Option PatternMatch
+    → Type 0 where
   none_met : ((s p : ℕ) → Met s p ms → ⊥) → Latest i best ms best
   some_met : {s p : ℕ} → Met s p ms → ((s' p' : ℕ) → Met s' p' ms → (s ≤ s') × (s' ≡ s → p ≤ p'))
       → Latest i best ms (Some (record { start = s; pattern = p; end = i }))
 
 -- the loop over places: each place where a start begins adds a thread after the others
 pub data SearchesAll {Q N : Type 0} (m : Machine Q N) (begins : ℕ → Type 0) (q : Q) : ℕ
-    → List (ℕ × Q) → Option Span → Option Span → Type 0 where
-  over : {i : ℕ} {best : Option Span} → ((j : ℕ) → i ≤ j → begins j → ⊥)
+    → List (ℕ × Q) → Option PatternMatch → Option PatternMatch → Type 0 where
+  over : {i : ℕ} {best : Option PatternMatch} → ((j : ℕ) → i ≤ j → begins j → ⊥)
       → SearchesAll m begins q i [] best best
-  started : {i : ℕ} {live next : List (ℕ × Q)} {ms : List (ℕ × ℕ)} {best best' out : Option Span}
+  started : {i : ℕ} {live next : List (ℕ × Q)} {ms : List (ℕ × ℕ)}
+      {best best' out : Option PatternMatch}
       → begins i
       → StepsAll m i [] (live ++ (i, q) ∷ []) next ms → Latest i best ms best'
       → SearchesAll m begins q (i + 1) next best' out → SearchesAll m begins q i live best out
-  stepped : {i : ℕ} {live next : List (ℕ × Q)} {ms : List (ℕ × ℕ)} {best best' out : Option Span}
+  stepped : {i : ℕ} {live next : List (ℕ × Q)} {ms : List (ℕ × ℕ)}
+      {best best' out : Option PatternMatch}
       → (begins i → ⊥)
       → StepsAll m i [] live next ms → Latest i best ms best'
       → SearchesAll m begins q (i + 1) next best' out → SearchesAll m begins q i live best out

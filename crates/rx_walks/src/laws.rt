@@ -1,6 +1,6 @@
 //! Laws of walks and of what is found by them. Each function does nothing: its contract is the law.
 
-ghost use Rattle.rx_walks.specs.Laws.{BytesRefine, FindsAllAtMostOne, FindsAtMostOne, FirstCharacterStands, MatchesAllAreOneList, MatchesAreOneList, PathsAgree, PathsHaveWalks, ProgramWalksAgree, ProgramsFind, ProgramsFindAll, ProgramsReadForward, SearchesFind, SearchesFindAll, StepsKeepBest, WalksAgree, WalksTakeNoPairTwice};
+ghost use Rattle.rx_walks.specs.Laws.{BytesRefine, FindsAllAtMostOne, FindsAllLieInside, FindsAtMostOne, FindsLieInside, FirstCharacterStands, FourBytesTell, LastCharacterStands, MatchesAllAreOneList, MatchesAreOneList, PathsAgree, PathsHaveWalks, ProgramIsSearched, ProgramIsSearchedForAll, ProgramWalksAgree, ProgramsFind, ProgramsFindAll, ProgramsReadForward, SearchesFind, SearchesFindAll, StepsKeepBest, WalksAgree, WalksTakeNoPairTwice};
 ghost use Rattle.rx_walks.specs.Machines.{Machine};
 ghost use Rattle.rx_walks.specs.Programs.{Haystack, Node, Program};
 ghost use Rattle.rx_walks.specs.Looks.{Look};
@@ -39,6 +39,29 @@ pub fn matches_all_are_one_list<S>()
 /// The first character of bytes, whatever they are, is the one whose UTF-8 stands first in them.
 pub fn first_character_stands()
     ensures { FirstCharacterStands }
+{}
+
+/// And the last character is the one whose UTF-8 stands last.
+pub fn last_character_stands()
+    ensures { LastCharacterStands }
+{}
+
+/// Whether a look holds is told by four bytes on each side of a place.
+pub fn four_bytes_tell()
+    ensures { FourBytesTell }
+{}
+
+/// What a program finds begins at a possible place, ends behind it inside content, slice and span,
+/// and the place in each slot lies between.
+pub fn finds_lie_inside<S>()
+    ensures { (member : S → ℕ → Bool) (is_word : ℕ → Bool) (p : Program Look S)
+        → FindsLieInside member is_word p }
+{}
+
+/// And so does what is found where all matches are wanted.
+pub fn finds_all_lie_inside<S>()
+    ensures { (member : S → ℕ → Bool) (is_word : ℕ → Bool) (p : Program Look S)
+        → FindsAllLieInside member is_word p }
 {}
 
 /// One step from a place keeps the best walk.
@@ -95,6 +118,19 @@ pub fn programs_find_all<L, S, N>()
     ensures { (put : ℕ → ℕ → N → N) (member : S → ℕ → Bool) (step : ℕ → Automaton)
         (nodes : List (Node L S)) (holds : L → ℕ → Bool)
         → ProgramsFindAll put member step nodes holds }
+{}
+
+/// The loop over places by a program's bytes, from the node that its walks start from, finds what
+/// the program finds.
+pub fn program_is_searched<S>()
+    ensures { (member : S → ℕ → Bool) (is_word : ℕ → Bool) (p : Program Look S)
+        (step : ℕ → Automaton) → ProgramIsSearched member is_word p step }
+{}
+
+/// And without a cut what it finds where all matches are wanted.
+pub fn program_is_searched_for_all<S>()
+    ensures { (member : S → ℕ → Bool) (is_word : ℕ → Bool) (p : Program Look S)
+        (step : ℕ → Automaton) → ProgramIsSearchedForAll member is_word p step }
 {}
 
 /// Both machines of a program read forward.

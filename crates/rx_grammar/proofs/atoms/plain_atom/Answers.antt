@@ -1,8 +1,7 @@
 use Rattle.std.proofs.Common.{◌∷◌, sym, ap, subst, ◌∙◌}
 use Rattle.rx_grammar.specs.Trees.{look_at}
 use Rattle.rx_grammar.specs.Grammar.{PlainAtom, caret, dollar, escape}
-use Rattle.rx_sets.proofs.SetLemmas.{IfOk-map}
-use Rattle.rx_grammar.proofs.ReaderLemmas.{MatchOption-map}
+use Rattle.rx_grammar.proofs.ReaderLemmas.{IfOk-map, MatchOption-map}
 use Rattle.rx_grammar.proofs.AtomLaws.{no_escape_atom, no_class_atom, class_atom}
 use Rattle.rx_grammar.proofs.atoms.plain_atom.Goals as goal
 

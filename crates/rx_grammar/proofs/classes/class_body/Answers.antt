@@ -1,7 +1,6 @@
 use Rattle.std.proofs.Common.{◌∷◌, ◌++◌, [], ap, ◌∙◌}
 use Rattle.rx_sets.specs.declared.items.ClassItem.TheVariants.{Span}
-use Rattle.rx_sets.proofs.SetLemmas.{IfOk-map}
-use Rattle.rx_grammar.proofs.ReaderLemmas.{MatchOption-map}
+use Rattle.rx_grammar.proofs.ReaderLemmas.{IfOk-map, MatchOption-map}
 use Rattle.rx_grammar.proofs.ClassLaws.{bracket_body, hyphen_body, other_body, no_bracket_body, no_hyphen_body, no_other_body}
 use Rattle.rx_grammar.proofs.classes.class_body.Goals as goal
 

@@ -1,6 +1,6 @@
 use Rattle.std.proofs.Common.{◌≡◌, ◌≢◌, ℕ, Bool, true, false, sym, subst, ◌∙◌}
 use Rattle.rx_grammar.specs.Sets.{IsSetOf}
-use Rattle.rx_sets.proofs.SetLemmas.{IfOk-map}
+use Rattle.rx_grammar.proofs.ReaderLemmas.{IfOk-map}
 use Rattle.rx_grammar.proofs.sets.dot_set.Goals as goal
 
 -- what `.` stands for, by its flag and the terminator
