@@ -12,4 +12,6 @@ pub mod Splitting
 pub mod Levels
 pub mod Ends
 pub mod OverSeams
+pub mod Editing
+pub mod Merging
 pub mod Filling

@@ -1,30 +1,28 @@
 -- Texts joined over a seam.
-use Rattle.std.proofs.Common.{◌≡◌, ℕ, ◌+◌, ◌-◌, ◌<◌, ◌≤◌, ◌==◌, Bool, true, false, ◌&&◌, inl, inr, List, [], ◌∷◌, ◌++◌, length, get_or, refl, ap, arith, sym, ◌∙◌, append_assoc, length-append}
+use Rattle.std.proofs.Common.{◌≡◌, ℕ, ◌+◌, ◌-◌, ◌<◌, ◌≤◌, ◌==◌, Bool, true, false, ◌&&◌, inl, inr, List, [], ◌∷◌, ◌++◌, length, get_or, refl, ap, arith, sym, ◌∙◌, length-append}
 use Rattle.std.specs.Prelude.{encode_utf8_all, ◌^◌}
 use Rattle.std.specs.List.{concat}
 use Rattle.std.specs.Char.{encode_utf8}
 use Rattle.std.specs.Str.{chars}
 use Rattle.std.proofs.lemmas.List.{append-nil, get_or-append_right}
 use Rattle.std.proofs.lemmas.List.Folds.{concat-append}
-use Rattle.std.proofs.lemmas.List.Sums.{sum_by-cons}
 use Rattle.std.proofs.lemmas.Str.{length-le-encodes, length-encode, len_utf8_bounds, len_utf8_ascii, inside_one}
 use Rattle.str_indices.specs.Text.{starts_with_lf, byte_len, ends_with_cr}
 use Rattle.ropey_tree.specs.declared.counts.Counts.{Counts}
 use Rattle.ropey_tree.specs.declared.counts.By.TheVariants.{Bytes}
 use Rattle.ropey_tree.specs.Counts.{total}
-use Rattle.ropey_tree.specs.Cutting.{IsPiece, IsCutting, IsText, IsBoundaryOf, cuts_cr_lf}
+use Rattle.ropey_tree.specs.Cutting.{IsCutting, IsText, cuts_cr_lf}
 use Rattle.ropey_tree.specs.Nodes.{LiesIn}
-use Rattle.ropey_tree.specs.Splits.{IsSplit}
 use Rattle.ropey_tree.proofs.Texts.{byte_len-append}
 use Rattle.ropey_tree.proofs.Pieces.{first_piece, bytes-append}
 use Rattle.ropey_tree.proofs.Splitting.{between, bytes-concat, starts-append, ends-append}
-use Rattle.ropey_tree.proofs.Ends.{is_code, first_byte, last_byte, ends_at_cr, lf_front, and_false}
+use Rattle.ropey_tree.proofs.Ends.{is_code, first_byte, last_byte, ends_at_cr}
 
 pub false_and : (a b : Bool) → a ≡ false → (a && b) ≡ false
 false_and a b e = ap (λ c. c && b) e
 
 -- ---- cuttings beside each other
-some_text : (p : List ℕ) (ps : List (List ℕ)) → IsCutting (p ∷ ps) → 1 ≤ byte_len (concat (p ∷ ps))
+pub some_text : (p : List ℕ) (ps : List (List ℕ)) → IsCutting (p ∷ ps) → 1 ≤ byte_len (concat (p ∷ ps))
 some_text p ps h = omega (arith, (first_piece p ps h).not_empty, byte_len-append p (concat ps))
 
 pub cutting-append : (ps qs : List (List ℕ)) → IsCutting ps → IsCutting qs → cuts_cr_lf (concat ps) (concat qs) ≡ false → IsCutting (ps ++ qs)
@@ -84,23 +82,28 @@ no_text : (t : List ℕ) → byte_len t ≤ 0 → t ≡ []
 no_text [] h = refl
 no_text (c ∷ cs) h = absurd (omega (arith, h, length-le-encodes (c ∷ cs)))
 
-pub last_leaf : (pieces : List (List ℕ)) (leaf : List ℕ) (i : ℕ) (before : Counts) → LiesIn pieces (leaf ∷ []) Bytes i before → (total pieces).bytes ≤ i → 1 ≤ byte_len leaf
-    → ends_with_cr (concat pieces) ≡ ends_with_cr leaf
-last_leaf pieces leaf i before h past some =
+pub last_leaf_parts : (pieces : List (List ℕ)) (leaf : List ℕ) (i : ℕ) (before : Counts) (h : LiesIn pieces (leaf ∷ []) Bytes i before) → (total pieces).bytes ≤ i
+    → (pieces ≡ h.left ++ leaf ∷ []) × (concat pieces ≡ concat h.left ++ leaf)
+last_leaf_parts pieces leaf i before h past =
     let none : h.right ≡ [] = elim h.passed [
       | inl low ↦ absurd (omega (arith, low, past, ap (λ ps. (total ps).bytes) h.parts, bytes-append (h.left ++ leaf ∷ []) h.right))
       | inr e ↦ e
     ] in
     let whole : pieces ≡ h.left ++ leaf ∷ [] = h.parts ∙ ap (λ ps. h.left ++ leaf ∷ [] ++ ps) none ∙ append-nil (h.left ++ leaf ∷ []) in
-    let text : concat pieces ≡ concat h.left ++ leaf = ap concat whole ∙ concat-append h.left (leaf ∷ []) ∙ ap (λ t. concat h.left ++ t) (append-nil leaf) in
-    ap ends_with_cr text ∙ ends-append (concat h.left) leaf some
+    (whole, ap concat whole ∙ concat-append h.left (leaf ∷ []) ∙ ap (λ t. concat h.left ++ t) (append-nil leaf))
 
-pub first_leaf : (pieces : List (List ℕ)) (leaf : List ℕ) (before : Counts) → LiesIn pieces (leaf ∷ []) Bytes 0 before → 1 ≤ byte_len leaf → starts_with_lf (concat pieces) ≡ starts_with_lf leaf
-first_leaf pieces leaf before h some =
+pub last_leaf : (pieces : List (List ℕ)) (leaf : List ℕ) (i : ℕ) (before : Counts) → LiesIn pieces (leaf ∷ []) Bytes i before → (total pieces).bytes ≤ i → 1 ≤ byte_len leaf
+    → ends_with_cr (concat pieces) ≡ ends_with_cr leaf
+last_leaf pieces leaf i before h past some = ap ends_with_cr (last_leaf_parts pieces leaf i before h past).1 ∙ ends-append (concat h.left) leaf some
+
+pub first_leaf_parts : (pieces : List (List ℕ)) (leaf : List ℕ) (before : Counts) (h : LiesIn pieces (leaf ∷ []) Bytes 0 before) → concat pieces ≡ leaf ++ concat h.right
+first_leaf_parts pieces leaf before h =
     let none : concat h.left ≡ [] = no_text (concat h.left) (omega (arith, h.not_past, ap (λ c. c.bytes) h.stands_before, bytes-concat h.left)) in
     let front : concat (h.left ++ leaf ∷ []) ≡ leaf = concat-append h.left (leaf ∷ []) ∙ ap (λ t. t ++ (leaf ++ [])) none ∙ append-nil leaf in
-    let text : concat pieces ≡ leaf ++ concat h.right = ap concat h.parts ∙ concat-append (h.left ++ leaf ∷ []) h.right ∙ ap (λ t. t ++ concat h.right) front in
-    ap starts_with_lf text ∙ starts-append leaf (concat h.right) some
+    ap concat h.parts ∙ concat-append (h.left ++ leaf ∷ []) h.right ∙ ap (λ t. t ++ concat h.right) front
+
+pub first_leaf : (pieces : List (List ℕ)) (leaf : List ℕ) (before : Counts) → LiesIn pieces (leaf ∷ []) Bytes 0 before → 1 ≤ byte_len leaf → starts_with_lf (concat pieces) ≡ starts_with_lf leaf
+first_leaf pieces leaf before h some = ap starts_with_lf (first_leaf_parts pieces leaf before h) ∙ starts-append leaf (concat h.right) some
 
 -- ---- CR LF over a seam
 abbrev pub cr_lf : List ℕ
@@ -110,23 +113,11 @@ pub chars-cr_lf : chars cr_lf ≡ cr_lf
 unfolding chars
 chars-cr_lf = refl
 
-one_byte : (c : ℕ) → c < 128 → byte_len (c ∷ []) ≡ 1
+pub one_byte : (c : ℕ) → c < 128 → byte_len (c ∷ []) ≡ 1
 one_byte c h = omega (arith, length-append (encode_utf8 c) [], length-encode c, len_utf8_ascii c h)
 
-cr_lf_bytes : byte_len cr_lf ≡ 2
-cr_lf_bytes = omega (arith, byte_len-append (13 ∷ []) (10 ∷ []), one_byte 13 (omega arith), one_byte 10 (omega arith))
-
-cr_lf_piece : IsPiece cr_lf
-cr_lf_piece = record { scalars = refl; not_empty = omega (arith, cr_lf_bytes); not_long = omega (arith, cr_lf_bytes) }
-
-cr_lf_total : (total (cr_lf ∷ [])).bytes ≡ 2
-cr_lf_total = omega (arith, sum_by-cons byte_len cr_lf [], cr_lf_bytes)
-
-cr_lf_text : IsText (cr_lf ∷ [])
-cr_lf_text = record { cut = cr_lf_piece; fits = omega (arith, cr_lf_total) }
-
 -- of two ways to cut a text in two, fronts of one length are the same
-same_front : (front back short rest : List ℕ) → front ++ back ≡ short ++ rest → byte_len front ≡ byte_len short → (front ≡ short) × (back ≡ rest)
+pub same_front : (front back short rest : List ℕ) → front ++ back ≡ short ++ rest → byte_len front ≡ byte_len short → (front ≡ short) × (back ≡ rest)
 same_front front back short rest e len =
     let parts = between front back short rest e (omega (arith, len)) in
     let none : parts.mid ≡ [] = no_text parts.mid (omega (arith, len, ap byte_len parts.front_is, byte_len-append short parts.mid)) in
@@ -134,59 +125,3 @@ same_front front back short rest e len =
 
 pub cr_some : (ps : List (List ℕ)) → ends_with_cr (concat ps) ≡ true → 1 ≤ (total ps).bytes
 cr_some ps h = let parts = ends_at_cr (concat ps) h in omega (arith, bytes-concat ps, ap byte_len parts.1, byte_len-append parts.0 (13 ∷ []), one_byte 13 (omega arith))
-
-pub before_cr : (ps : List (List ℕ)) (at : ℕ) → ends_with_cr (concat ps) ≡ true → at + 1 ≡ (total ps).bytes → IsBoundaryOf (concat ps) at
-before_cr ps at h len =
-    let parts = ends_at_cr (concat ps) h in
-    record { front = parts.0; back = 13 ∷ []; parts = parts.1; place = omega (arith, len, bytes-concat ps, ap byte_len parts.1, byte_len-append parts.0 (13 ∷ []), one_byte 13 (omega arith)) }
-
-pub after_lf : (ps : List (List ℕ)) → starts_with_lf (concat ps) ≡ true → IsBoundaryOf (concat ps) 1
-after_lf ps h =
-    let parts = lf_front (concat ps) h in
-    record { front = 10 ∷ []; back = parts.0; parts = parts.1; place = one_byte 10 (omega arith) }
-
-front_is : (ps l r : List (List ℕ)) (at : ℕ) → ends_with_cr (concat ps) ≡ true → at + 1 ≡ (total ps).bytes → IsSplit ps at l r → concat ps ≡ concat l ++ 13 ∷ []
-unfolding before_cr
-front_is ps l r at h len split =
-    let place = before_cr ps at h len in
-    let same = same_front (concat l) (concat r) place.front place.back (split.text ∙ place.parts) (omega (arith, bytes-concat l, split.place, place.place)) in
-    place.parts ∙ ap (λ t. t ++ 13 ∷ []) (sym same.0)
-
-back_is : (ps l r : List (List ℕ)) → starts_with_lf (concat ps) ≡ true → IsSplit ps 1 l r → concat ps ≡ 10 ∷ concat r
-unfolding after_lf
-back_is ps l r h split =
-    let place = after_lf ps h in
-    let same = same_front (concat l) (concat r) place.front place.back (split.text ∙ place.parts) (omega (arith, bytes-concat l, split.place, place.place)) in
-    place.parts ∙ ap (λ t. 10 ∷ t) (sym same.1)
-
--- ps ends with CR and qs starts with LF; ps is l and CR, and qs is LF and r
-module _ (ps qs l cr lf r : List (List ℕ)) (at : ℕ) (h : ends_with_cr (concat ps) ≡ true) (g : starts_with_lf (concat qs) ≡ true) (front : IsText ps) (back : IsText qs)
-    (fits : (total ps).bytes + (total qs).bytes < 2 ^ 63) (len : at + 1 ≡ (total ps).bytes) (left : IsSplit ps at l cr) (right : IsSplit qs 1 lf r) where
-  left_text : IsText l
-  left_text = left.after [] front
-
-  right_text : IsText r
-  right_text = rw append-nil at (right.before [] (rw append-nil back))
-
-  right_bytes : (total qs).bytes ≡ 1 + (total r).bytes
-  right_bytes = omega (arith, bytes-concat qs, bytes-concat r, ap byte_len (back_is qs lf r g right), byte_len-append (10 ∷ []) (concat r), one_byte 10 (omega arith))
-
-  pub front_text : IsText (l ++ cr_lf ∷ [])
-  front_text = text-append l (cr_lf ∷ []) left_text cr_lf_text (and_false (ends_with_cr (concat l)) (starts_with_lf (concat (cr_lf ∷ []))) refl) (omega (arith, left.place, len, cr_lf_total, right_bytes, fits))
-
-  front_concat : concat (l ++ cr_lf ∷ []) ≡ concat l ++ cr_lf
-  front_concat = concat-append l (cr_lf ∷ [])
-
-  front_ends : ends_with_cr (concat (l ++ cr_lf ∷ [])) ≡ false
-  front_ends = ap ends_with_cr front_concat ∙ ends-append (concat l) cr_lf (omega (arith, cr_lf_bytes))
-
-  pub whole_text : IsText (l ++ cr_lf ∷ [] ++ r)
-  whole_text =
-      text-append (l ++ cr_lf ∷ []) r front_text right_text (ap (λ b. b && starts_with_lf (concat r)) front_ends) (omega (arith, bytes-append l (cr_lf ∷ []), left.place, len, cr_lf_total, right_bytes, fits))
-
-  pub whole_concat : concat (l ++ cr_lf ∷ [] ++ r) ≡ concat ps ++ concat qs
-  whole_concat =
-      concat-append (l ++ cr_lf ∷ []) r ∙ ap (λ t. t ++ concat r) front_concat ∙ regroup (concat l) (concat r) ∙ ap (λ t. t ++ 10 ∷ concat r) (sym (front_is ps l cr at h len left)) ∙ ap (λ t. concat ps ++ t) (sym (back_is qs lf r g right))
-    where
-      regroup : (s t : List ℕ) → s ++ cr_lf ++ t ≡ s ++ 13 ∷ [] ++ 10 ∷ t
-      regroup s t = append_assoc s cr_lf t ∙ sym (append_assoc s (13 ∷ []) (10 ∷ t))

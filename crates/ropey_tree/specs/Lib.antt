@@ -11,5 +11,7 @@ pub mod Cutter
 pub mod Siblings
 pub mod Parts
 pub mod Splits
+pub mod Seams
+pub mod Edits
 pub mod Laws
 pub mod Visits

@@ -57,6 +57,21 @@ impl Leaf {
     {
         Counts::of(self.as_str())
     }
+
+    /// Whether the first character is LF.
+    pub(crate) fn is_lf_first(&self) -> bool
+        ensures { result ≡ starts_with_lf self.now }
+    {
+        self.as_str().as_bytes()[0] == b'\n'
+    }
+
+    /// Whether the last character is CR.
+    pub(crate) fn is_cr_last(&self) -> bool
+        ensures { result ≡ ends_with_cr self.now }
+    {
+        let text = self.as_str();
+        text.as_bytes()[text.len() - 1] == b'\r'
+    }
 }
 
 /// A leaf that is being filled: a text of at most `MAX_BYTES` bytes. A CR ends it only where an LF

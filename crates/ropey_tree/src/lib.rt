@@ -7,6 +7,7 @@ pub mod builds;
 pub mod children;
 pub mod counts;
 pub mod cutter;
+pub mod edits;
 pub mod error;
 pub mod joins;
 pub mod laws;

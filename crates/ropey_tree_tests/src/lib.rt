@@ -2,4 +2,6 @@
 #![tactic(auto)]
 
 #[cfg(test)]
+mod edits;
+#[cfg(test)]
 mod trees;

@@ -19,7 +19,7 @@ use std::rc::Rc;
 use std::test::Fail;
 
 /// A text of so many bytes: some `a`, and then copies of a unit.
-fn text_of(alloc: Global, unit: &str, bytes: usize) -> Result<String, Fail> {
+pub(crate) fn text_of(alloc: Global, unit: &str, bytes: usize) -> Result<String, Fail> {
     let len = unit.len().max(1);
     let mut text = String::new(alloc);
     for _ in 0..bytes % len {
@@ -31,7 +31,7 @@ fn text_of(alloc: Global, unit: &str, bytes: usize) -> Result<String, Fail> {
     Ok(text)
 }
 
-fn tree_of(rt: &impl Abort, alloc: Global, text: &str) -> Result<Rc<Node>, Fail>
+pub(crate) fn tree_of(rt: &impl Abort, alloc: Global, text: &str) -> Result<Rc<Node>, Fail>
     ensures { IfOk result (λ node. concat node.value.pieces ≡ chars text.now) }
 {
     // The law for the proof that what is built fits.
@@ -51,7 +51,7 @@ fn bytes_in(tree: &Option<Rc<Node>>) -> usize
     }
 }
 
-fn join(
+pub(crate) fn join(
     rt: &impl Abort,
     alloc: Global,
     left: Option<Rc<Node>>,
@@ -72,7 +72,7 @@ fn halves_of(rt: &impl Abort, alloc: Global, text: &str, at: usize) -> Result<Ha
 }
 
 /// Whether the chunks of a tree, found one after the other, join to a text and cut no CR LF.
-fn reads_back(node: &Node, text: &str) -> bool {
+pub(crate) fn reads_back(node: &Node, text: &str) -> bool {
     let bytes = text.as_bytes();
     let mut at: usize = 0;
     for _ in 0..bytes.len() {
