@@ -1,2 +1,4 @@
 pub mod Making
 pub mod Pieces
+pub mod Written
+pub mod Copying

@@ -1,3 +1,4 @@
 pub mod Chunks
 pub mod Iter
 pub mod Laws
+pub mod Writing

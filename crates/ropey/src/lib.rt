@@ -8,6 +8,8 @@ pub mod laws;
 mod rope;
 mod rope_builder;
 mod slices;
+pub mod str_utils;
+mod writing;
 
 pub use crate::rope::Rope;
 pub use crate::rope_builder::RopeBuilder;

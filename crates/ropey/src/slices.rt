@@ -1,21 +1,38 @@
-//! Parts of a rope: its lines, and ranges of its characters and of its bytes.
+//! Parts of a rope: its lines, and ranges of its characters and of its bytes; and ropes of parts.
 //!
 //! A part is a `RopeSlice`, which borrows the rope and takes no memory. The plain form has the line
 //! or the range inside the text as its condition; the `get_` form answers none exactly where it
 //! isn't.
 
 ghost use Rattle.std.specs.Prelude.{◌≡◌, ◌+◌, ◌<◌, ◌≤◌, ◌↔◌, length};
-ghost use Rattle.std.specs.Prelude.{IfSome, IsSome, IsNone};
+ghost use Rattle.std.specs.Prelude.{IfSome, IsSome, IsNone, IfOk, IfErr};
 ghost use Rattle.ropey.specs.Chunks.{text_of, line_breaks};
 ghost use Rattle.ropey_walk.specs.Lines.{line_pieces};
 ghost use Rattle.ropey_walk.specs.Ranges.{chars_in, bytes_in, IsRangeIn, IsByteRangeIn};
-ghost use Rattle.ropey_walk.specs.Slices.{slice_pieces};
+ghost use Rattle.ropey_walk.specs.Slices.{slice_pieces, slice_text};
 
 use crate::rope::Rope;
+use crate::rope_builder::RopeBuilder;
+use ropey_tree::error::Error;
 use ropey_walk::ranges::TextRange;
 use ropey_walk::slice::RopeSlice;
+use std::alloc::Global;
 
 impl Rope {
+    /// A rope of the text of a slice. It copies the text, and shares nothing with the slice's rope.
+    /// The one refusal is `Memory`. `O(n)`.
+    pub fn from_slice(alloc: Global, slice: RopeSlice<'_>) -> Result<Self, Error>
+        ensures text { IfOk result (λ rope. text_of rope ≡ slice_text slice.entry) }
+        ensures refused { IfErr result (λ error. error ≡ Error.Memory) }
+    {
+        let mut builder = RopeBuilder::new(alloc);
+        for chunk in slice.chunks() {
+            builder.append(chunk)?;
+        }
+        let rope = builder.finish()?;
+        Ok(rope)
+    }
+
     /// A line, with the break that ends it. The line index is below `len_lines`. `O(log n)`.
     pub fn line(&self, line_idx: usize) -> RopeSlice<'_>
         requires { line_idx < line_breaks (text_of self.now) + 1 }

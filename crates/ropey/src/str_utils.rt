@@ -1,0 +1,56 @@
+//! Conversions between indices of bytes, characters and lines of a `&str`, by the line breaks that
+//! ropes have.
+
+ghost use Rattle.std.specs.Prelude.{◌≡◌};
+ghost use Rattle.std.specs.Str.{chars};
+ghost use Rattle.ropey_walk.specs.Conversions.{char_of_byte, line_of_byte, byte_of_char, byte_of_line, char_of_line};
+
+use str_indices::{chars, lines};
+
+/// The characters before a byte index. A byte inside a character answers that character, and an
+/// index past the text's length the number of characters. `O(byte_idx)`.
+pub fn byte_to_char_idx(text: &str, byte_idx: usize) -> usize
+    ensures { result ≡ char_of_byte (chars text.now) byte_idx }
+{
+    chars::from_byte_idx(text, byte_idx)
+}
+
+/// The line in which a byte index lies: the number of line breaks that end at or before it. An
+/// index past the text's length answers the last line. `O(byte_idx)`.
+pub fn byte_to_line_idx(text: &str, byte_idx: usize) -> usize
+    ensures { result ≡ line_of_byte (chars text.now) byte_idx }
+{
+    lines::from_byte_idx(text, byte_idx)
+}
+
+/// The byte index at which a character starts, and the text's length in bytes past the last
+/// character. `O(n)`, up to that character.
+pub fn char_to_byte_idx(text: &str, char_idx: usize) -> usize
+    ensures { result ≡ byte_of_char (chars text.now) char_idx }
+{
+    chars::to_byte_idx(text, char_idx)
+}
+
+/// The line in which a character lies, and the last line past the last character. `O(n)`, up to
+/// that character.
+pub fn char_to_line_idx(text: &str, char_idx: usize) -> usize
+    ensures { result ≡ line_of_byte (chars text.now) (byte_of_char (chars text.now) char_idx) }
+{
+    byte_to_line_idx(text, char_to_byte_idx(text, char_idx))
+}
+
+/// The byte index at which a line starts, and the text's length in bytes past the last line.
+/// `O(n)`, up to that line.
+pub fn line_to_byte_idx(text: &str, line_idx: usize) -> usize
+    ensures { result ≡ byte_of_line (chars text.now) line_idx }
+{
+    lines::to_byte_idx(text, line_idx)
+}
+
+/// The character with which a line starts, and the number of characters past the last line. `O(n)`,
+/// up to that line.
+pub fn line_to_char_idx(text: &str, line_idx: usize) -> usize
+    ensures { result ≡ char_of_line (chars text.now) line_idx }
+{
+    byte_to_char_idx(text, line_to_byte_idx(text, line_idx))
+}

@@ -1,0 +1,47 @@
+//! Writing a rope to a writer.
+
+ghost use Rattle.std.specs.Prelude.{OnOk, OnErr, encode_utf8_all};
+ghost use Rattle.std.specs.Io.KnownBytes.{Appends};
+ghost use Rattle.ropey.specs.Chunks.{text_of};
+ghost use Rattle.ropey.specs.Writing.{AppendsFront};
+
+use crate::rope::Rope;
+use std::io;
+use std::io::{ErrorKind, Write};
+
+/// Writes all of these bytes. After an error the writer took a front of them.
+fn write_bytes<W: Write>(writer: &mut W, bytes: &[u8]) -> io::Result<()>
+    ensures ok { OnOk result
+        (Appends (W.contents writer.old) (W.contents writer.new) bytes.now) }
+    ensures err { OnErr result
+        (AppendsFront (W.contents writer.old) (W.contents writer.new) bytes.now) }
+{
+    let mut done = 0;
+    while done < bytes.len() {
+        match writer.write(&bytes[done..])? {
+            0 => return Err(io::Error::from(ErrorKind::WriteZero)),
+            count => done += count,
+        }
+    }
+    Ok(())
+}
+
+impl Rope {
+    /// Writes the text's bytes to a writer, chunk by chunk, in as many writes as it needs. It
+    /// doesn't flush. `O(n)`.
+    ///
+    /// The first error of the writer is handed back, also an `Interrupted`, and a write that takes
+    /// none of some bytes is an error of the kind `WriteZero`. After an error the writer took a
+    /// front of the text's bytes, which may end inside a character, and no write is made after it.
+    pub fn write_to<W: Write>(&self, writer: &mut W) -> io::Result<()>
+        ensures ok { OnOk result (Appends (W.contents writer.old) (W.contents writer.new)
+            (encode_utf8_all (text_of self.now))) }
+        ensures err { OnErr result (AppendsFront (W.contents writer.old) (W.contents writer.new)
+            (encode_utf8_all (text_of self.now))) }
+    {
+        for chunk in self.chunks() {
+            write_bytes(writer, chunk.as_bytes())?;
+        }
+        Ok(())
+    }
+}
