@@ -13,3 +13,5 @@ mod lookups;
 mod slices;
 #[cfg(test)]
 mod texts;
+#[cfg(test)]
+mod transfers;
