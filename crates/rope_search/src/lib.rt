@@ -20,7 +20,7 @@ pub use buffer::Buffer;
 pub use commands::{Command, CommandOf, Payload, Reply};
 pub use limits::Limits;
 pub use rope_search_io::{Broken, Device, Failed, Fault, MemorySink, MemorySource, Sink, Source};
-pub use rope_search_reports::{Finder, Lines, Row, search_line};
+pub use rope_search_reports::{Finder, Lines, Position, Row, byte_of, position_of, search_line};
 pub use ropey::Rope;
 pub use runs::{Ended, run, run_limited};
 pub use session::Session;

@@ -12,6 +12,8 @@ mod io_examples;
 #[cfg(test)]
 mod patterns;
 #[cfg(test)]
+mod position_examples;
+#[cfg(test)]
 mod reports;
 #[cfg(test)]
 mod row_examples;
