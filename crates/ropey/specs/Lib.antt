@@ -1,3 +1,4 @@
 pub mod Chunks
+pub mod Comparing
 pub mod Iter
 pub mod Laws
