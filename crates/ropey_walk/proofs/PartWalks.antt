@@ -161,17 +161,17 @@ is_block bytes block rest at next e len then =
     let behind : drop 256 (block ++ rest) ≡ drop next bytes = ap (drop 256) (sym e) ∙ drop-drop 256 at bytes ∙ ap (λ n. drop n bytes) (sym then) in
     let whole : 256 ≤ length bytes - at → IsBlock bytes block rest at next =
     λ h.
-      let full : length block ≡ 256 = omega (arith, len, h) in
-      record { block_is = sym (take_at block rest 256 full) ∙ ap (take 256) (sym e); rest_is = sym (drop_at block rest 256 full) ∙ behind } in
+    let full : length block ≡ 256 = omega (arith, len, h) in
+    record { block_is = sym (take_at block rest 256 full) ∙ ap (take 256) (sym e); rest_is = sym (drop_at block rest 256 full) ∙ behind } in
     let last : length bytes - at < 256 → IsBlock bytes block rest at next =
     λ h.
-      let none : rest ≡ [] = no_items rest (omega (arith, len, h, parts)) in
-      let all : block ++ rest ≡ block = ap (λ r. block ++ r) none ∙ append-nil block in
-      let short : length block ≤ 256 = omega (arith, len, h) in
-      record {
-        block_is = sym (take_all 256 block short) ∙ ap (take 256) (sym all ∙ sym e);
-        rest_is = none ∙ sym (no_items (drop next bytes) (omega (arith, len, h, then, length-drop next bytes)));
-      } in
+    let none : rest ≡ [] = no_items rest (omega (arith, len, h, parts)) in
+    let all : block ++ rest ≡ block = ap (λ r. block ++ r) none ∙ append-nil block in
+    let short : length block ≤ 256 = omega (arith, len, h) in
+    record {
+      block_is = sym (take_all 256 block short) ∙ ap (take 256) (sym all ∙ sym e);
+      rest_is = none ∙ sym (no_items (drop next bytes) (omega (arith, len, h, then, length-drop next bytes)));
+    } in
     elim (le_or_less 256 (length bytes - at)) [ inl h ↦ whole h | inr h ↦ last h ]
 
 pub none_in : (xs : List ℕ) → true ≡ (length xs == 0) → xs ≡ []

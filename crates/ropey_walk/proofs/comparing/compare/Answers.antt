@@ -29,8 +29,8 @@ loop-left_chunks-preserved c =
     let l = c.part_behind-left_part-in-loop-left_chunks in
     let r = c.part_behind-right_part-in-loop-left_chunks in (
       c.loop-left_chunks.invariant.0
-      ∙ same_parts left right len (encode_utf8_all (text_of c.loop-left_chunks.left_chunks.ahead)) (encode_utf8_all (text_of c.loop-left_chunks.right_chunks.ahead)) in_left in_right
-      (bytes_left l.result.now l.new.chunks) (bytes_left r.result.now r.new.chunks) l.ensures.bytes r.ensures.bytes (sym c.cmp-order.ensures ∙ equal_is order (sym c.if-is_ne.ensures)),
+          ∙ same_parts left right len (encode_utf8_all (text_of c.loop-left_chunks.left_chunks.ahead)) (encode_utf8_all (text_of c.loop-left_chunks.right_chunks.ahead)) in_left in_right
+          (bytes_left l.result.now l.new.chunks) (bytes_left r.result.now r.new.chunks) l.ensures.bytes r.ensures.bytes (sym c.cmp-order.ensures ∙ equal_is order (sym c.if-is_ne.ensures)),
       l.ensures.some,
       r.ensures.some,
       l.ensures.cut,

@@ -17,12 +17,11 @@ loop-at-preserved c =
     let left = bytes_left behind.result.now behind.new.chunks in
     let split = fronts_left rest len (encode_utf8_all (text_of c.loop-at.chunks.ahead)) left in_rest behind.ensures.bytes in
     let copied : c.copy_from_slice.new.self ≡ take len rest = c.copy_from_slice.ensures.after in
-    let taken = take-put_mid at (at + len - at) c.loop-at.block c.copy_from_slice.new.self (at + len) (omega (arith, ap length copied, length-take-le len rest in_rest)) (omega (arith, inv.0, inv.1)) in
-    (
+    let taken = take-put_mid at (at + len - at) c.loop-at.block c.copy_from_slice.new.self (at + len) (omega (arith, ap length copied, length-take-le len rest in_rest)) (omega (arith, inv.0, inv.1)) in (
       omega (arith, c.min-len.ensures, inv.0, inv.1),
       search rules,
       inv.2 ∙ ap (λ bs. take at c.loop-at.block ++ bs) split ∙ sym (append_assoc (take at c.loop-at.block) (take len rest) left)
-      ∙ ap (λ bs. bs ++ left) (ap (λ bs. take at c.loop-at.block ++ bs) (sym copied) ∙ sym taken),
+          ∙ ap (λ bs. bs ++ left) (ap (λ bs. take at c.loop-at.block ++ bs) (sym copied) ∙ sym taken),
       behind.ensures.some,
       behind.ensures.cut,
     )

@@ -17,13 +17,12 @@ loop-written-preserved g c =
     let write = g.H.Hasher.write in
     let start = c.args.state.now in
     let so_far = map (slice_chunk bytes 256) (range_with_len 0 k) in
-    let len : length block ≡ min 256 (length bytes - k * 256) = 
+    let len : length block ≡ min 256 (length bytes - k * 256) =
     took.ensures.len ∙ length-take-le c.min.result c.loop-written.block (omega (arith, c.min.ensures, c.min.array_long)) ∙ c.min.ensures
     ∙ ap (λ n. min 256 (n - k * 256)) c.len_bytes-len.ensures.bytes in
-    let cut = is_block bytes block (bytes_left took.result.now took.new.chunks) (k * 256) ((k + 1) * 256) (sym inv.1 ∙ took.ensures.copied) len (omega arith) in
-    (
+    let cut = is_block bytes block (bytes_left took.result.now took.new.chunks) (k * 256) ((k + 1) * 256) (sym inv.1 ∙ took.ensures.copied) len (omega arith) in (
       c.write.ensures ∙ (λ i. write (inv.0 i) (cut.block_is i))
-      ∙ sym (ap (fold write start) (map-range_with_len_more (slice_chunk bytes 256) 0 k k (omega arith)) ∙ fold-append write start so_far (slice_chunk bytes 256 k ∷ [])),
+          ∙ sym (ap (fold write start) (map-range_with_len_more (slice_chunk bytes 256) 0 k k (omega arith)) ∙ fold-append write start so_far (slice_chunk bytes 256 k ∷ [])),
       cut.rest_is,
       took.ensures.part,
       took.ensures.cut,

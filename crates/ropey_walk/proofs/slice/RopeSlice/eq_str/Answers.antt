@@ -31,8 +31,8 @@ returns-then-ne c =
     let len : length front ≡ length chunk = c.split_at.ensures.front_len in
     let differ : slice_bytes c.args.self.now ≡ c.args.text.now → ⊥ =
     λ e.
-      let same = other_front now.0 front behind c.args.text.now chunk c.loop-chunk.chunk-iterator.ahead c.next.new.self.ahead (slice_bytes c.args.self.now) parts now.2 step.0.0 step.1 len e in
-      true≢false (c.if-ne.ensures ∙ ap not ((bytes_decides front c.as_bytes.result.now).1 (same ∙ sym c.as_bytes.ensures.value))) in
+    let same = other_front now.0 front behind c.args.text.now chunk c.loop-chunk.chunk-iterator.ahead c.next.new.self.ahead (slice_bytes c.args.self.now) parts now.2 step.0.0 step.1 len e in
+    true≢false (c.if-ne.ensures ∙ ap not ((bytes_decides front c.as_bytes.result.now).1 (same ∙ sym c.as_bytes.ensures.value))) in
     (λ no. absurd (true≢false (sym no)), λ e. absurd (differ (same_bytes (slice_text c.args.self.now) c.args.text.now c.utf8.text e)))
 
 pub loop-chunk-preserved : goal.loop-chunk-preserved
@@ -43,8 +43,7 @@ loop-chunk-preserved c =
     let front : c.split_at.result.0.now ≡ chunk =
     (bytes_decides c.split_at.result.0.now c.as_bytes.result.now).0 (not_no _ c.if-ne.ensures) ∙ c.as_bytes.ensures.value in
     let parts : now.0 ++ (c.split_at.result.0.now ++ c.split_at.result.1.now) ≡ c.args.text.now =
-    ap (λ xs. now.0 ++ xs) ((λ i. c.split_at.ensures.front i ++ c.split_at.ensures.back i) ∙ take-append-drop (length c.in-Some.chunk.now) c.loop-chunk.rest.now) ∙ now.1 in
-    (
+    ap (λ xs. now.0 ++ xs) ((λ i. c.split_at.ensures.front i ++ c.split_at.ensures.back i) ∙ take-append-drop (length c.in-Some.chunk.now) c.loop-chunk.rest.now) ∙ now.1 in (
       now.0 ++ chunk,
       append_assoc now.0 chunk c.split_at.result.1.now ∙ ap (λ xs. now.0 ++ (xs ++ c.split_at.result.1.now)) (sym front) ∙ parts,
       written now.0 chunk c.loop-chunk.chunk-iterator.ahead c.next.new.self.ahead (slice_bytes c.args.self.now) now.2 step.0.0 step.1,
