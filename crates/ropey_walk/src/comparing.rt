@@ -64,7 +64,8 @@ fn copy_next<'a>(block: &mut [u8], part: &'a [u8], chunks: &mut Chunks<'a>) -> &
     requires some { length block.old ≤ length (bytes_left part.now chunks.old) }
     requires part { part.now ≡ [] → chunks.old.ahead ≡ [] }
     requires cut { IsText chunks.old.ahead }
-    ensures copied { bytes_left part.now chunks.old ≡ block.new ++ bytes_left result.now chunks.new }
+    ensures copied { bytes_left part.now chunks.old
+        ≡ block.new ++ bytes_left result.now chunks.new }
     ensures len { length block.new ≡ length block.old }
     ensures part { result.now ≡ [] → chunks.new.ahead ≡ [] }
     ensures cut { IsText chunks.new.ahead }
