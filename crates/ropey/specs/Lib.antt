@@ -1,4 +1,5 @@
 pub mod Chunks
+pub mod Comparing
 pub mod Iter
 pub mod Laws
 pub mod Writing

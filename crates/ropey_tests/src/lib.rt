@@ -6,6 +6,8 @@ mod building;
 #[cfg(test)]
 mod checks;
 #[cfg(test)]
+mod comparing;
+#[cfg(test)]
 mod examples;
 #[cfg(test)]
 mod lookups;

@@ -15,3 +15,4 @@ pub mod CharWalks
 pub mod Edges
 pub mod LineStarts
 pub mod LineWalks
+pub mod PartWalks

@@ -1,5 +1,6 @@
 -- Laws of the definitions, for every text that is cut into pieces.
-use Rattle.std.specs.Prelude.{◌≡◌, ℕ, false, List, ◌++◌, length}
+use Rattle.std.specs.Prelude.{◌≡◌, ◌↔◌, ℕ, false, List, ◌++◌, length, encode_utf8_all, nat_eq, IsTrue}
+use Rattle.std.specs.Cmp.Lexicographic.{pointwise}
 use Rattle.str_indices.specs.Text.{breaks, break_ends, char_ends, units, NoCrLfBetween}
 use Rattle.str_indices.specs.Laws.{LosesBreakInCrLf, JoinsEnds, ComesBack, AnyTexts, EndsAddUp, PlacesAddUp, EndsAreBoundaries, EndsBehind, NoMoreThanBytes, RisesWithPlace, RisesWithIndex}
 use Rattle.ropey_tree.specs.Breaks.{is_break}
@@ -29,3 +30,7 @@ pub record LineStarts : Type 0 where
   pub part : PlacesAddUp NoCrLfBetween (breaks is_break) (break_ends is_break)
   pub chars : EndsAddUp AnyTexts length char_ends
   pub chars_rise : RisesWithPlace char_ends
+
+-- texts are equal by their bytes exactly where they are the same
+abbrev pub EqualWhereTextsAre : Type 0
+EqualWhereTextsAre = (text text' : List ℕ) → IsTrue (pointwise nat_eq (encode_utf8_all text) (encode_utf8_all text')) ↔ (text ≡ text')

@@ -9,3 +9,4 @@ pub mod Lines
 pub mod TwoWay
 pub mod Iter
 pub mod Ranges
+pub mod Comparing

@@ -2,6 +2,7 @@
 #![tactic(auto)]
 
 mod chunks;
+mod comparing;
 mod conversions;
 pub mod iter;
 pub mod laws;
