@@ -72,8 +72,11 @@ fn writers_that_take_few_bytes(rt: HostRuntime) -> Result<(), Fail> {
 fn ropes_of_slices(rt: HostRuntime) -> Result<(), Fail> {
     let text = text_of(rt.alloc(), "é🐸\r\nせ", 3000)?;
     let rope = Rope::from_str(rt.alloc(), &text)?;
-    for (start, end) in [(0, 0), (0, 3000), (1, 2), (981, 985), (1500, 3000)] {
-        let slice = rope.slice(start..end);
+    for (start, end) in [(0, 0), (0, 1368), (1, 2), (440, 460), (700, 1368)] {
+        let Some(slice) = rope.get_slice(start..end) else {
+            assert!(rt; false, "{start}..{end}");
+            return Ok(());
+        };
         let copy = Rope::from_slice(rt.alloc(), slice)?;
         assert!(rt;
             copy.to_text()? == slice.to_text(rt.alloc())?,
