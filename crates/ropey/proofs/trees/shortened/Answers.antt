@@ -1,4 +1,4 @@
-use Rattle.std.proofs.Common.{◌≡◌, ℕ, List, [], ap, subst, arith}
+use Rattle.std.proofs.Common.{ℕ, List, [], ap, subst, arith}
 use Rattle.std.specs.Str.{chars}
 use Rattle.str_indices.specs.Text.{byte_len}
 use Rattle.ropey_tree.specs.Edits.{IsReplaced}
