@@ -1,5 +1,5 @@
 -- Edits by byte indices, and what they are by characters.
-use Rattle.std.proofs.Common.{◌≡◌, ℕ, ◌+◌, ◌<◌, ◌≤◌, ◌^◌, List, [], ◌∷◌, ◌++◌, length, take, drop, refl, ap, sym, subst, ◌∙◌, arith, append_assoc, take-append-drop, length-append, length-take-le}
+use Rattle.std.proofs.Common.{◌≡◌, ℕ, ◌+◌, ◌-◌, ◌<◌, ◌≤◌, ◌^◌, List, [], ◌∷◌, ◌++◌, length, take, drop, refl, ap, sym, subst, ◌∙◌, arith, append_assoc, take-append-drop, length-append, length-take-le}
 use Rattle.std.specs.List.{concat}
 use Rattle.std.specs.Prelude.{Result, Ok, Err, OnOk, IfOk, encode_utf8}
 use Rattle.std.specs.Str.{chars, IsUtf8}
@@ -7,13 +7,10 @@ use Rattle.std.proofs.lemmas.List.{append-nil, take-take, take_at, drop_at}
 use Rattle.std.proofs.lemmas.List.Folds.{concat-append}
 use Rattle.std.proofs.lemmas.Str.{length-le-encodes, chars_from_encodes}
 use Rattle.str_indices.specs.Text.{byte_len}
-use Rattle.ropey_tree.specs.declared.counts.By.{By}
-use Rattle.ropey_tree.specs.declared.counts.Counts.{Counts}
 use Rattle.ropey_tree.specs.Counts.{total}
 use Rattle.ropey_tree.specs.Cutting.{IsText, IsBoundaryOf}
 use Rattle.ropey_tree.specs.Edits.{IsReplaced, IsEdited}
 use Rattle.ropey_tree.specs.NodeView.{NodeView}
-use Rattle.ropey_tree.specs.Nodes.{LiesIn}
 use Rattle.ropey_tree.specs.Splits.{IsSplit}
 use Rattle.ropey_walk.specs.Conversions.{byte_of_char}
 use Rattle.ropey_walk.specs.Laws.{StartsBehindOthers}
@@ -146,27 +143,6 @@ no_chars = refl
 
 pub removed_fits : (ps : List (List ℕ)) → byte_len (text_of ps) < 2 ^ 63 → (total ps).bytes + byte_len (chars []) < 2 ^ 63
 removed_fits ps h = omega (arith, bytes-concat ps, h, ap byte_len no_chars)
-
-pub removed_shorter : (t new : List ℕ) (from to : ℕ) → IsReplaced t from to [] new → byte_len new ≤ byte_len t
-removed_shorter t new from to h =
-    omega (
-      arith,
-      ap byte_len h.old_is,
-      ap byte_len h.new_is,
-      byte_len-append (h.front ++ h.gone) h.back,
-      byte_len-append h.front h.gone,
-      byte_len-append (h.front ++ []) h.back,
-      ap byte_len (append-nil h.front),
-    )
-
--- ---- leaves
-pub leaf_boundary : (ps : List (List ℕ)) (leaf : List ℕ) (by : By) (i : ℕ) (before : Counts) → LiesIn ps (leaf ∷ []) by i before → IsBoundaryOf (text_of ps) before.bytes
-leaf_boundary ps leaf by i before h = record {
-  front = concat h.left;
-  back = leaf ++ concat h.right;
-  parts = ap concat (h.parts ∙ append_assoc h.left (leaf ∷ []) h.right) ∙ concat-append h.left (leaf ∷ h.right);
-  place = sym (bytes-concat h.left) ∙ sym (ap (λ k. k.bytes) h.stands_before);
-}
 
 -- of no text both halves are none
 pub no_halves : (ps : List (List ℕ)) (at : ℕ) → ps ≡ [] → IsBoundaryOf (text_of ps) at → IsSplit ps at [] []

@@ -21,8 +21,9 @@ ghost use Rattle.ropey.specs.Chunks.{text_of};
 ghost use Rattle.ropey.specs.Edits.{with_inserted, with_removed};
 
 use crate::rope::{MAX_TEXT_BYTES, Rope};
-use crate::trees::{inserted, joined, removed, split_at};
+use crate::trees::{halves_of, inserted, removed};
 use ropey_tree::error::Error;
+use ropey_tree::seams;
 use ropey_walk::laws;
 use ropey_walk::ranges::TextRange;
 use std::alloc::AllocError;
@@ -181,7 +182,7 @@ impl Rope {
         ensures refused { IfErr result (λ error. error ≡ Error.Memory) }
     {
         let alloc = self.alloc;
-        let halves = split_at(alloc, &self.root, byte_idx)?;
+        let halves = halves_of(alloc, &self.root, byte_idx)?;
         *self = Rope::of_tree(alloc, halves.left);
         Ok(Rope::of_tree(alloc, halves.right))
     }
@@ -238,7 +239,7 @@ impl Rope {
         }
         let alloc = self.alloc;
         let front = self.clone()?;
-        let root = joined(alloc, front.root, other.root, self.len_bytes())?;
+        let root = seams::append(alloc, front.root, other.root)?;
         *self = Rope::of_tree(alloc, root);
         Ok(())
     }

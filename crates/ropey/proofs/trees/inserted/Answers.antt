@@ -1,4 +1,4 @@
-use Rattle.std.proofs.Common.{ℕ, List, length, ap, sym, subst, ◌∙◌, arith}
+use Rattle.std.proofs.Common.{◌≡◌, ℕ, List, length, ap, sym, subst, arith}
 use Rattle.std.specs.Str.{chars}
 use Rattle.std.proofs.lemmas.Str.{encodes-chars}
 use Rattle.str_indices.specs.Text.{byte_len}
@@ -53,43 +53,14 @@ append-requires c =
       );
     }
 
-pub overflow_add-at : goal.overflow_add-at
-overflow_add-at c =
-    let b = c.requires.boundary in
-    omega (arith, c.requires.fits, b.place, ap byte_len b.parts, byte_len-append b.front b.back)
-
-pub settled-requires : goal.settled-requires
-settled-requires c =
-    let s = c.in_ok-halves-in-Some.ensures in
-    let whole = c.in_ok-tree-in-Some.ensures in
-    let text = c.args.text.now in
-    let front = text_of (pieces_in c.in_ok-front-in-Some.front) in
-    let l = text_of (pieces_in c.in_ok-halves-in-Some.halves.left) in
-    let r = text_of (pieces_in c.in_ok-halves-in-Some.halves.right) in
-    record {
-      fits = omega (
-        arith,
-        c.requires.fits,
-        ap (λ t. byte_len (text_of (pieces_in t))) c.in-Some.is,
-        ap byte_len s.text,
-        byte_len-append l r,
-        ap byte_len whole.text,
-        byte_len-append front r,
-        ap byte_len c.in_ok-front-in-Some.ensures,
-        byte_len-append l (chars text),
-        ap length (encodes-chars text c.utf8.text),
-      );
-    }
-
-pub returns-in_ok-settled-in-Some : goal.returns-in_ok-settled-in-Some
-returns-in_ok-settled-in-Some c =
+pub returns-in_ok-tree-in-Some : goal.returns-in_ok-tree-in-Some
+returns-in_ok-tree-in-Some c =
     let ps = c.in-Some.node.value.pieces in
     let l = pieces_in c.in_ok-halves-in-Some.halves.left in
     let r = pieces_in c.in_ok-halves-in-Some.halves.right in
     let at = c.args.at in
     let text = chars c.args.text.now in
     let longer = text_of (pieces_in c.in_ok-front-in-Some.front) in
-    let new = text_of (pieces_in c.in_ok-settled-in-Some.settled) in
-    let whole = c.in_ok-settled-in-Some.ensures ∙ c.in_ok-tree-in-Some.ensures.text in
-    let done = inserted_text ps l r at text longer new c.in_ok-halves-in-Some.ensures c.in_ok-front-in-Some.ensures whole in
+    let new = text_of (pieces_in c.in_ok-tree-in-Some.tree) in
+    let done = inserted_text ps l r at text longer new c.in_ok-halves-in-Some.ensures c.in_ok-front-in-Some.ensures c.in_ok-tree-in-Some.ensures.text in
     subst (λ (t : List ℕ). IsReplaced t at at text new) (ap (λ t. text_of (pieces_in t)) (sym c.in-Some.is)) done
