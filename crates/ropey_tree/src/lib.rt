@@ -12,6 +12,7 @@ pub mod error;
 pub mod joins;
 pub mod laws;
 pub mod leaf;
+pub mod made;
 pub mod node;
 pub mod seams;
 pub mod siblings;
