@@ -78,7 +78,7 @@ first_is_lf t some =
     (λ h. ap (λ b. b == 10) (first_byte t h))
 
 -- ---- the first leaf and the last
-no_text : (t : List ℕ) → byte_len t ≤ 0 → t ≡ []
+pub no_text : (t : List ℕ) → byte_len t ≤ 0 → t ≡ []
 no_text [] h = refl
 no_text (c ∷ cs) h = absurd (omega (arith, h, length-le-encodes (c ∷ cs)))
 

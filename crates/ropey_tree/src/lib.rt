@@ -22,6 +22,9 @@ pub mod visits;
 /// The most bytes of a leaf's text.
 pub const MAX_BYTES: usize = 984;
 
+/// The fewest bytes of a leaf that takes none from the leaf beside it where two texts are joined.
+pub const MIN_BYTES: usize = 462;
+
 /// The most children of a node.
 pub const MAX_CHILDREN: usize = 24;
 
