@@ -1,3 +1,4 @@
+pub mod Editing
 pub mod Making
 pub mod Pieces
 pub mod Written

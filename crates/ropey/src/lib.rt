@@ -4,12 +4,14 @@
 mod chunks;
 mod comparing;
 mod conversions;
+mod edits;
 pub mod iter;
 pub mod laws;
 mod rope;
 mod rope_builder;
 mod slices;
 pub mod str_utils;
+mod trees;
 mod writing;
 
 pub use crate::rope::Rope;

@@ -9,6 +9,7 @@ ghost use Rattle.str_indices.specs.Text.{byte_len};
 ghost use Rattle.ropey_tree.specs.Cutting.{IsText};
 ghost use Rattle.ropey_tree.specs.Nodes.{AreNodes, all_pieces};
 ghost use Rattle.ropey_tree.specs.Siblings.{views};
+ghost use Rattle.ropey_tree.specs.Splits.{pieces_in};
 ghost use Rattle.ropey.specs.Chunks.{text_of, joined, line_breaks, ShowsChunk};
 ghost use Rattle.ropey_walk.specs.Slices.{slice_pieces};
 
@@ -34,9 +35,9 @@ pub(crate) const MAX_TEXT_BYTES: usize = 0x7FFF_FFFF_FFFF_FFFF;
 /// `O(1)`.
 #[derive(Drop)]
 pub struct Rope {
-    alloc: Global,
+    pub(crate) alloc: Global,
     // A text with no character has no tree.
-    root: Option<Rc<Node>>,
+    pub(crate) root: Option<Rc<Node>>,
 }
 
 impl Model for Rope {
@@ -134,6 +135,23 @@ impl Rope {
             alloc,
             root: Some(root),
         })
+    }
+
+    /// A rope over a tree, or over none.
+    pub(crate) fn of_tree(alloc: Global, root: Option<Rc<Node>>) -> Self
+        ensures { result ≡ pieces_in root }
+    {
+        match root {
+            None => Rope::new(alloc),
+            Some(tree) => {
+                // For its facts alone.
+                let _ = tree.height();
+                Rope {
+                    alloc,
+                    root: Some(tree),
+                }
+            }
+        }
     }
 
     /// The slice of the whole text.

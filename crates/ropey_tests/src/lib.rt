@@ -8,6 +8,8 @@ mod checks;
 #[cfg(test)]
 mod comparing;
 #[cfg(test)]
+mod edits;
+#[cfg(test)]
 mod examples;
 #[cfg(test)]
 mod lookups;
