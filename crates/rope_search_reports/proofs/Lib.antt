@@ -5,6 +5,7 @@ pub mod LineLemmas
 pub mod PlaceLemmas
 pub mod SpotLemmas
 pub mod FewLemmas
+pub mod SpliceLemmas
 pub mod DraftLemmas
 pub mod ReportLaws
 pub mod TextExamples
