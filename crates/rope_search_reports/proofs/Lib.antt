@@ -5,8 +5,8 @@ pub mod LineLemmas
 pub mod PlaceLemmas
 pub mod SpotLemmas
 pub mod FewLemmas
-pub mod SpliceLemmas
 pub mod DraftLemmas
+pub mod SpliceLemmas
 pub mod ReportLaws
 pub mod TextExamples
 pub mod PositionExamples

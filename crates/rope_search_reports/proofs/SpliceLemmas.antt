@@ -1,5 +1,5 @@
 -- What an edit does to the lines of a text.
-use Rattle.std.proofs.Common.{◌≡◌, ℕ, zero, suc, ◌+◌, ◌-◌, ◌<◌, ◌≤◌, Bool, true, false, cond, List, [], ◌∷◌, ◌++◌, length, replicate, take, drop, refl, sym, ap, ◌∙◌, arith, append_assoc, length-append}
+use Rattle.std.proofs.Common.{◌≡◌, ℕ, zero, suc, ◌+◌, ◌-◌, ◌<◌, ◌≤◌, Bool, true, false, cond, List, [], ◌∷◌, ◌++◌, length, replicate, take, drop, refl, sym, ap, subst, ◌∙◌, arith, append_assoc, length-append}
 use Rattle.std.specs.Prelude.{◌&&◌, not, ◌==◌, nat_le, encode_utf8_all}
 use Rattle.std.specs.Char.{len_utf8, encode_utf8}
 use Rattle.std.proofs.lemmas.Bool.{false≢true, lt-leb, le-leb}
@@ -9,10 +9,11 @@ use Rattle.std.proofs.lemmas.List.Sums.{sum_by-cons, sum_by-append}
 use Rattle.std.proofs.lemmas.Str.{length-encode, len_utf8_bounds}
 use Rattle.str_indices.specs.Text.{byte_len, ends_break, starts_with_lf, ends_from, ends_up_to, breaks}
 use Rattle.ropey.specs.Chunks.{is_break}
-use Rattle.rope_search_reports.specs.Report.{with_first, line_texts}
+use Rattle.rope_search_reports.specs.Report.{with_first, line_texts, IsRow, AreRows}
 use Rattle.rope_search_reports.specs.Position.{line_at}
-use Rattle.rope_search_reports.specs.Splice.{EditsSpliceLines}
+use Rattle.rope_search_reports.specs.Splice.{EditsSpliceLines, KeepsRows}
 use Rattle.rope_search_reports.proofs.LineLemmas.{line_texts-break, byte_len-append}
+use Rattle.rope_search_reports.proofs.DraftLemmas.{AreRows-join}
 
 -- ---- places where ends stand
 
@@ -220,3 +221,25 @@ splices before removed inserted after =
       },
       omega (arith, first-is, last-is, g-is, some),
     )
+
+-- ---- rows of lines
+AreRows-take : (pattern : List ℕ) (n : ℕ) (lines : List (List ℕ)) (rows : List (List (ℕ × ℕ))) → AreRows pattern lines rows → AreRows pattern (take n lines) (take n rows)
+AreRows-take pattern zero lines rows h = tt
+AreRows-take pattern (suc n) [] [] h = tt
+AreRows-take pattern (suc n) [] (row ∷ rows) h = absurd h
+AreRows-take pattern (suc n) (line ∷ lines) [] h = absurd h
+AreRows-take pattern (suc n) (line ∷ lines) (row ∷ rows) h = (h.0, AreRows-take pattern n lines rows h.1)
+
+AreRows-drop : (pattern : List ℕ) (n : ℕ) (lines : List (List ℕ)) (rows : List (List (ℕ × ℕ))) → AreRows pattern lines rows → AreRows pattern (drop n lines) (drop n rows)
+AreRows-drop pattern zero lines rows h = h
+AreRows-drop pattern (suc n) [] [] h = tt
+AreRows-drop pattern (suc n) [] (row ∷ rows) h = absurd h
+AreRows-drop pattern (suc n) (line ∷ lines) [] h = absurd h
+AreRows-drop pattern (suc n) (line ∷ lines) (row ∷ rows) h = AreRows-drop pattern n lines rows h.1
+
+pub keeps_rows : KeepsRows
+keeps_rows pattern old new first last gone rows made splice are anew =
+    let anew_lines = take (last + 1 - first) (drop first (line_texts new)) in
+    let behind = AreRows-join pattern anew_lines (drop (gone + 1) (line_texts old)) made (drop (gone + 1) rows) anew (AreRows-drop pattern (gone + 1) (line_texts old) rows are) in
+    let all = AreRows-join pattern (take first (line_texts old)) (anew_lines ++ drop (gone + 1) (line_texts old)) (take first rows) (made ++ drop (gone + 1) rows) (AreRows-take pattern first (line_texts old) rows are) behind in
+    subst (λ lines. AreRows pattern lines (take first rows ++ made ++ drop (gone + 1) rows)) (sym splice.lines) all

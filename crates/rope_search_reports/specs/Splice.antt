@@ -2,7 +2,7 @@
 use Rattle.std.specs.Prelude.{◌≡◌, ℕ, ◌+◌, ◌-◌, ◌≤◌, List, ◌++◌, take, drop}
 use Rattle.str_indices.specs.Text.{byte_len, breaks}
 use Rattle.ropey.specs.Chunks.{is_break}
-use Rattle.rope_search_reports.specs.Report.{line_texts}
+use Rattle.rope_search_reports.specs.Report.{line_texts, AreRows, IsReport}
 use Rattle.rope_search_reports.specs.Position.{line_at}
 
 -- Lines `first` to `last` of the new text stand where lines `first` to `gone` of the old one stood.
@@ -25,3 +25,11 @@ EditsSpliceLines = (before removed inserted after : List ℕ)
     (line_at (before ++ removed ++ after) (byte_len before + byte_len removed))
     × (line_at (before ++ inserted ++ after) (byte_len before + byte_len inserted)
     ≤ line_at (before ++ inserted ++ after) (byte_len before) + breaks is_break inserted)
+
+-- The rows of the lines that a splice leaves are kept: with the rows of the lines made anew between
+-- them, they are the report of the new text.
+abbrev pub KeepsRows : Type 0
+KeepsRows = (pattern old new : List ℕ) (first last gone : ℕ) (rows made : List (List (ℕ × ℕ)))
+    → IsSplice old new first last gone → IsReport old pattern rows
+    → AreRows pattern (take (last + 1 - first) (drop first (line_texts new))) made
+    → IsReport new pattern (take first rows ++ made ++ drop (gone + 1) rows)
