@@ -49,6 +49,7 @@ bench: $(program)
 	@RT='$(RT)' sh bench/ropes.sh
 	@RT='$(RT)' sh bench/slices.sh
 	@RT='$(RT)' sh bench/iterators.sh
+	@RT='$(RT)' sh bench/edits.sh
 	@RT='$(RT)' sh bench/patterns.sh
 	@RT='$(RT)' sh bench/programs.sh
 

@@ -18,7 +18,7 @@ chars-none (b ∷ bytes) none = absurd (omega (arith, none))
 
 -- ---- rows
 
-AreRows-join : (pattern : List ℕ) (lines lines' : List (List ℕ)) (rows rows' : List (List (ℕ × ℕ))) → AreRows pattern lines rows → AreRows pattern lines' rows'
+pub AreRows-join : (pattern : List ℕ) (lines lines' : List (List ℕ)) (rows rows' : List (List (ℕ × ℕ))) → AreRows pattern lines rows → AreRows pattern lines' rows'
     → AreRows pattern (lines ++ lines') (rows ++ rows')
 AreRows-join pattern [] lines' [] rows' are are' = are'
 AreRows-join pattern [] lines' (row ∷ rows) rows' are are' = absurd are

@@ -6,6 +6,7 @@ pub mod PlaceLemmas
 pub mod SpotLemmas
 pub mod FewLemmas
 pub mod DraftLemmas
+pub mod SpliceLemmas
 pub mod ReportLaws
 pub mod TextExamples
 pub mod PositionExamples

@@ -5,5 +5,6 @@ pub mod Report
 pub mod Computed
 pub mod Position
 pub mod Ticks
+pub mod Splice
 pub mod Laws
 pub mod Drafts

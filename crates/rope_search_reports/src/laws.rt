@@ -2,6 +2,7 @@
 //! contract is the law.
 
 ghost use Rattle.rope_search_reports.specs.Laws.{HasOneListOfMatches, HasMatches, HasFewMatches, HasOneReport, HasReport, HasLinesInPlace, PlaceLaws};
+ghost use Rattle.rope_search_reports.specs.Splice.{EditsSpliceLines, KeepsRows};
 
 /// A pattern has at most one list of matches in a content.
 pub fn one_list_of_matches()
@@ -32,6 +33,17 @@ pub fn has_report()
 /// break, after which the next line starts; the last line's text ends where the whole text does.
 pub fn lines_in_place()
     ensures { HasLinesInPlace }
+{}
+
+/// An edit makes anew only the lines that it touches: at most its inserted text's breaks plus one.
+pub fn edits_splice_lines()
+    ensures { EditsSpliceLines }
+{}
+
+/// The report of an edited text is made of the rows of the lines that the edit leaves, and of the
+/// rows of those that it makes anew.
+pub fn splices_keep_rows()
+    ensures { KeepsRows }
 {}
 
 /// Places in a text by characters, by code units and by lines agree with one another.

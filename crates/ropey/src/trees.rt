@@ -1,18 +1,22 @@
 //! Edits of a rope's tree, by byte indices between two characters. No tree is changed: each edit
 //! answers a new one, and what both hold they share.
 
-ghost use Rattle.std.specs.Prelude.{◌≡◌, ◌+◌, ◌^◌, ◌<◌, ◌≤◌, [], ◌++◌, length, IfOk};
+ghost use Rattle.std.specs.Prelude.{◌≡◌, ◌+◌, ◌^◌, ◌<◌, ◌≤◌, [], ◌++◌, length, IfOk, IfSome};
 ghost use Rattle.std.specs.Str.{chars};
 ghost use Rattle.str_indices.specs.Text.{byte_len};
 ghost use Rattle.ropey_tree.specs.Cutting.{IsBoundaryOf};
-ghost use Rattle.ropey_tree.specs.Edits.{IsReplaced};
+ghost use Rattle.ropey_tree.specs.Counts.{total};
+ghost use Rattle.ropey_tree.specs.Edits.{IsReplaced, IsEdited};
 ghost use Rattle.ropey_tree.specs.Splits.{pieces_in, IsSplit};
 ghost use Rattle.ropey.specs.Chunks.{text_of};
 
 use crate::rope::Rope;
+use ropey_tree::MIN_BYTES;
+use ropey_tree::counts::By;
 use ropey_tree::cutter::leaves_of;
 use ropey_tree::edits::replace_in_leaf;
-use ropey_tree::node::Node;
+use ropey_tree::made::Made;
+use ropey_tree::node::{Node, leaf_at};
 use ropey_tree::seams::append;
 use ropey_tree::splits::{Halves, split};
 use std::alloc::{AllocError, Global};
@@ -41,7 +45,7 @@ fn extended(
 {
     if let Some(node) = &tree {
         let end = node.counts().bytes;
-        if let Some(longer) = replace_in_leaf(alloc, node, end, end, text)? {
+        if let Some(longer) = replace_in_leaf(alloc, node, end, end, text, &mut Made::new())? {
             return Ok(Some(longer));
         }
     }
@@ -69,7 +73,7 @@ pub(crate) fn inserted(
             Ok(tree)
         }
         Some(node) => {
-            if let Some(edited) = replace_in_leaf(alloc, node, at, at, text)? {
+            if let Some(edited) = replace_in_leaf(alloc, node, at, at, text, &mut Made::new())? {
                 return Ok(Some(edited));
             }
             let halves = split(alloc, node, at)?;
@@ -80,8 +84,37 @@ pub(crate) fn inserted(
     }
 }
 
+/// Whether the leaf in which a byte index lies stays long enough without so many bytes, or is the
+/// last one. A hint alone: a short leaf is no wrong one.
+fn can_lose(node: &Rc<Node>, at: usize, bytes: usize) -> bool {
+    let found = leaf_at(node, By::Bytes, at);
+    let len = found.leaf.as_str().len();
+    let end = found.before.bytes.saturating_add(len);
+    bytes.saturating_add(MIN_BYTES) <= len || end >= node.counts().bytes
+}
+
+/// The tree without what stands from one byte index up to another, if both lie in one leaf and its
+/// ends and enough of it are left: the path to it is copied.
+fn removed_in_leaf(
+    alloc: Global,
+    node: &Rc<Node>,
+    from: usize,
+    to: usize,
+) -> Result<Option<Rc<Node>>, AllocError>
+    requires order { from ≤ to }
+    requires fits { (total node.now.value.pieces).bytes + byte_len (chars []) < 2 ^ 63 }
+    ensures edited { IfOk result (λ tree. IfSome tree (λ edited.
+        IsEdited node.now.value from to (chars []) edited.value)) }
+{
+    if !can_lose(node, from, to - from) {
+        return Ok(None);
+    }
+    let tree = replace_in_leaf(alloc, node, from, to, "", &mut Made::new())?;
+    Ok(tree)
+}
+
 /// The tree without what stands from one byte index up to another. Where both lie in one leaf, of
-/// which something is left, the path to that is copied; else the tree is split at both, and what
+/// which enough is left, the path to that is copied; else the tree is split at both, and what
 /// is left of the first is joined to what is right of the second.
 pub(crate) fn removed(
     alloc: Global,
@@ -99,7 +132,7 @@ pub(crate) fn removed(
     match root {
         None => Ok(None),
         Some(node) => {
-            if let Some(edited) = replace_in_leaf(alloc, node, from, to, "")? {
+            if let Some(edited) = removed_in_leaf(alloc, node, from, to)? {
                 return Ok(Some(edited));
             }
             let front = split(alloc, node, from)?;

@@ -276,3 +276,49 @@ fn random_edits(rt: HostRuntime) -> Result<(), Fail> {
     }
     Ok(())
 }
+
+/// Whether each chunk but the last has 462 bytes or more.
+fn has_long_chunks(rope: &Rope) -> bool {
+    let mut is_long = true;
+    let mut all = true;
+    for chunk in rope.chunks() {
+        all = all && is_long;
+        is_long = chunk.len() >= 462;
+    }
+    all
+}
+
+// What is cut out of a text leaves no short chunk behind but at its end, so n bytes lie in at most
+// n / 462 + 1 chunks.
+#[test]
+fn chunks_stay_long(rt: HostRuntime) -> Result<(), Fail> {
+    let text = text_of(rt.alloc(), "aé\r\nb", 60_000)?;
+    for kept in [1, 2, 100, 400, 500] {
+        let mut rope = Rope::from_str(rt.alloc(), &text)?;
+        let mut at: usize = kept;
+        for _ in 0..100 {
+            let end = at.saturating_add(700).min(rope.len_chars());
+            rope.try_remove(at.min(end)..end)?;
+            at = at.saturating_add(kept);
+        }
+        assert!(rt; has_long_chunks(&rope), "{kept}");
+    }
+    let mut seed: u64 = 7;
+    let mut rope = Rope::from_str(rt.alloc(), &text)?;
+    for turn in 0..4_000 {
+        seed = next_number(seed);
+        let at = below(seed, rope.len_chars().saturating_add(1));
+        seed = next_number(seed);
+        let end = at.saturating_add(below(seed, 900)).min(rope.len_chars());
+        if turn % 2 == 0 {
+            rope.try_remove(at..end)?;
+        } else {
+            let other = text_of(rt.alloc(), "\nc\r", below(seed, 900))?;
+            rope.try_insert(at, &other)?;
+        }
+        if turn % 100 == 0 {
+            assert!(rt; has_long_chunks(&rope), "turn {turn}");
+        }
+    }
+    Ok(())
+}

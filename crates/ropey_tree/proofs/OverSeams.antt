@@ -18,9 +18,6 @@ use Rattle.ropey_tree.proofs.Pieces.{first_piece, bytes-append}
 use Rattle.ropey_tree.proofs.Splitting.{between, bytes-concat, starts-append, ends-append}
 use Rattle.ropey_tree.proofs.Ends.{is_code, first_byte, last_byte, ends_at_cr}
 
-pub false_and : (a b : Bool) → a ≡ false → (a && b) ≡ false
-false_and a b e = ap (λ c. c && b) e
-
 -- ---- cuttings beside each other
 pub some_text : (p : List ℕ) (ps : List (List ℕ)) → IsCutting (p ∷ ps) → 1 ≤ byte_len (concat (p ∷ ps))
 some_text p ps h = omega (arith, (first_piece p ps h).not_empty, byte_len-append p (concat ps))
@@ -78,7 +75,7 @@ first_is_lf t some =
     (λ h. ap (λ b. b == 10) (first_byte t h))
 
 -- ---- the first leaf and the last
-no_text : (t : List ℕ) → byte_len t ≤ 0 → t ≡ []
+pub no_text : (t : List ℕ) → byte_len t ≤ 0 → t ≡ []
 no_text [] h = refl
 no_text (c ∷ cs) h = absurd (omega (arith, h, length-le-encodes (c ∷ cs)))
 
@@ -122,6 +119,3 @@ same_front front back short rest e len =
     let parts = between front back short rest e (omega (arith, len)) in
     let none : parts.mid ≡ [] = no_text parts.mid (omega (arith, len, ap byte_len parts.front_is, byte_len-append short parts.mid)) in
     (parts.front_is ∙ ap (λ t. short ++ t) none ∙ append-nil short, sym (parts.rest_is ∙ ap (λ t. t ++ back) none))
-
-pub cr_some : (ps : List (List ℕ)) → ends_with_cr (concat ps) ≡ true → 1 ≤ (total ps).bytes
-cr_some ps h = let parts = ends_at_cr (concat ps) h in omega (arith, bytes-concat ps, ap byte_len parts.1, byte_len-append parts.0 (13 ∷ []), one_byte 13 (omega arith))

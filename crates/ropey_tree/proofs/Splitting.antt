@@ -27,7 +27,7 @@ pub bytes-concat : (ps : List (List ℕ)) → (total ps).bytes ≡ byte_len (con
 bytes-concat [] = refl
 bytes-concat (p ∷ ps) = sum_by-cons byte_len p ps ∙ ap (λ n. byte_len p + n) (bytes-concat ps) ∙ sym (byte_len-append p (concat ps))
 
-byte_len-some : (c : ℕ) (cs : List ℕ) → 1 ≤ byte_len (c ∷ cs)
+pub byte_len-some : (c : ℕ) (cs : List ℕ) → 1 ≤ byte_len (c ∷ cs)
 byte_len-some c cs = let few = length-le-encodes (c ∷ cs) in omega arith
 
 -- of two ways to cut a text in two, the longer front begins with the shorter

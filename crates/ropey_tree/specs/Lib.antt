@@ -14,4 +14,5 @@ pub mod Splits
 pub mod Seams
 pub mod Edits
 pub mod Laws
+pub mod Made
 pub mod Visits

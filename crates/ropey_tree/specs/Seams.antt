@@ -4,7 +4,7 @@ use Rattle.std.specs.List.{concat}
 use Rattle.str_indices.specs.Text.{byte_len}
 use Rattle.ropey_tree.specs.Cutting.{cuts_cr_lf}
 
--- a text that stands between a byte index of the left one and one of the right one, and at neither end of it a CR LF is cut
+-- a text that stands between a byte index of the left one and one of the right one, and where it starts no CR LF is cut
 pub record IsBetween (left : List (List ℕ)) (at : ℕ) (middle : List ℕ) (right : List (List ℕ)) (from : ℕ) : Type 0 where
   pub front : List ℕ
   pub last : List ℕ
@@ -16,4 +16,3 @@ pub record IsBetween (left : List (List ℕ)) (at : ℕ) (middle : List ℕ) (ri
   pub place : byte_len front ≡ at
   pub place_right : byte_len first ≡ from
   pub whole_left : cuts_cr_lf front middle ≡ false
-  pub whole_right : cuts_cr_lf middle back ≡ false

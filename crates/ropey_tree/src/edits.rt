@@ -12,8 +12,8 @@ use crate::MAX_BYTES;
 use crate::children::Children;
 use crate::counts::By;
 use crate::leaf::{Leaf, LeafBuffer};
+use crate::made::Made;
 use crate::node::{Node, Parts};
-use crate::siblings::over;
 use crate::visits::Visits;
 use std::alloc::{AllocError, Global};
 use std::rc::Rc;
@@ -70,13 +70,15 @@ fn with_text_replaced(leaf: &Leaf, from: usize, to: usize, text: &str) -> Option
 /// in one leaf, which is the one in which the first index lies. The path to it is copied, and all
 /// else is shared; the tree itself stays as it is. There is none where an index lies inside a
 /// character or the second outside that leaf, where the leaf would have no text or 984 bytes and
-/// more, and where a CR LF might come to lie over one of its ends.
+/// more, and where a CR LF might come to lie over one of its ends. One node is made a level, which
+/// is 19 at most, and without one that takes the text none is.
 pub fn replace_in_leaf(
     alloc: Global,
     node: &Rc<Node>,
     from: usize,
     to: usize,
     text: &str,
+    made: &mut Made,
 ) -> Result<Option<Rc<Node>>, AllocError>
     requires range { from ≤ to }
     requires fits { (total node.now.value.pieces).bytes + byte_len (chars text.now) < 2 ^ 63 }
@@ -84,13 +86,18 @@ pub fn replace_in_leaf(
         IsEdited node.now.value from to (chars text.now) edited.value)) }
     ensures none { IfOk result (λ tree. IfNone tree ((w : NodeView) →
         (h : IsEdited node.now.value from to (chars text.now) w) → 984 ≤ byte_len h.new)) }
+    ensures path { IfOk result (λ tree. IfSome tree (λ _. made.new.nodes ≡
+        made.old.nodes + (node.now.value.height + 1))) }
+    ensures nothing { IfOk result (λ tree. IfNone tree (made.new.nodes ≡ made.old.nodes)) }
+    ensures level { made.new.nodes ≤ made.old.nodes + (node.now.value.height + 1) }
+    ensures few { made.new.nodes ≤ made.old.nodes + 19 }
 {
     let height = node.height();
     match node.parts() {
         Parts::Leaf(leaf) => match with_text_replaced(leaf, from, to, text) {
             None => Ok(None),
             Some(new) => {
-                let tree = Rc::new(alloc, Node::from_leaf(new))?;
+                let tree = made.share(alloc, Node::from_leaf(new))?;
                 Ok(Some(tree))
             }
         },
@@ -100,11 +107,12 @@ pub fn replace_in_leaf(
             let choice = children.choose(By::Bytes, from, &mut Visits::new());
             let child = children.get(choice.index);
             let before = choice.before.bytes;
-            match replace_in_leaf(alloc, child, from - before, to - before, text)? {
+            match replace_in_leaf(alloc, child, from - before, to - before, text, made)? {
                 None => Ok(None),
                 Some(edited) => {
                     let copy = with_child(children, choice.index, &edited)?;
-                    let tree = over(alloc, height, copy)?;
+                    let parent = Node::from_children(alloc, height, copy)?;
+                    let tree = made.share(alloc, parent)?;
                     Ok(Some(tree))
                 }
             }

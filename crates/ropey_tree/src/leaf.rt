@@ -155,7 +155,7 @@ impl LeafBuffer {
 
 /// How many bytes of a text go into a room: as many as may be, but no part of a character, and no
 /// CR that would leave no room for an LF after it.
-fn fill_end(text: &str, room: usize) -> usize
+pub(crate) fn fill_end(text: &str, room: usize) -> usize
     ensures within { result ≤ length text.now }
     ensures fits { result ≤ room }
     ensures boundary { IsCharBoundary text.now result }

@@ -12,6 +12,7 @@ pub mod error;
 pub mod joins;
 pub mod laws;
 pub mod leaf;
+pub mod made;
 pub mod node;
 pub mod seams;
 pub mod siblings;
@@ -20,6 +21,9 @@ pub mod visits;
 
 /// The most bytes of a leaf's text.
 pub const MAX_BYTES: usize = 984;
+
+/// The fewest bytes of a leaf that takes none from the leaf beside it where two texts are joined.
+pub const MIN_BYTES: usize = 462;
 
 /// The most children of a node.
 pub const MAX_CHILDREN: usize = 24;

@@ -1,70 +1,94 @@
-//! Joining any two texts: leaves at the seam that fit into one become one, also where a CR LF lies
-//! across the seam.
+//! Joining any two texts: leaves at the seam that fit into one become one, a short leaf there is
+//! filled from the one beside it, and no CR LF comes to lie over the seam.
 //!
 //! Edits stand on this: an insertion splits a tree at its place and appends the text between the
 //! halves; a removal splits at both its ends and appends what is left of the first to what is right
 //! of the second.
 
-ghost use Rattle.std.specs.Prelude.{◌≡◌, ◌+◌, ◌<◌, ◌^◌, ◌++◌, IfOk, IfSome};
+ghost use Rattle.std.specs.Prelude.{◌≡◌, ◌+◌, ◌<◌, ◌≤◌, ◌^◌, ◌++◌, [], ◌∷◌, false, length, take, drop, IfOk, IfSome, IfNone};
 ghost use Rattle.std.specs.List.{concat};
+ghost use Rattle.std.specs.Str.{chars, IsCharBoundary};
 ghost use Rattle.ropey_tree.specs.Counts.{total};
+ghost use Rattle.ropey_tree.specs.Cutting.{IsText, cuts_cr_lf};
 ghost use Rattle.ropey_tree.specs.Seams.{IsBetween};
 ghost use Rattle.ropey_tree.specs.Splits.{pieces_in};
 
 use crate::counts::By;
-use crate::leaf::{Leaf, LeafBuffer};
+use crate::leaf::{Leaf, LeafBuffer, fill_end};
 use crate::node::{Node, leaf_at};
-use crate::splits::{concat, split};
-use crate::{MAX_BYTES, joins};
+use crate::splits::{Halves, split};
+use crate::{MAX_BYTES, MIN_BYTES, joins};
 use std::alloc::{AllocError, Global};
 use std::rc::Rc;
 
-/// Two texts joined, where a leaf takes the place of the end of the one, from a byte index on, and
-/// of the start of the other, up to a byte index.
-fn append_over(
-    alloc: Global,
-    left: &Rc<Node>,
-    at: usize,
-    middle: Leaf,
-    right: &Rc<Node>,
+/// A leaf over the seam of two texts. It takes the place of the end of the one's last leaf, from a
+/// byte index on, and of the start of the other's first leaf, up to a byte index.
+#[derive(Drop)]
+struct Seam {
+    leaf: Leaf,
     from: usize,
-) -> Result<Option<Rc<Node>>, AllocError>
-    requires between { IsBetween left.now.value.pieces at middle right.now.value.pieces from }
-    requires fits { (total left.now.value.pieces).bytes + (total right.now.value.pieces).bytes
-        < 2 ^ 63 }
-    ensures { IfOk result (λ tree. concat (pieces_in tree) ≡ concat left.now.value.pieces ++
-        concat right.now.value.pieces) }
-{
-    // For its facts alone.
-    let _ = (left.height(), right.height());
-    // For its facts alone.
-    let _ = middle.as_str();
-    let before = split(alloc, left, at)?;
-    let after = split(alloc, right, from)?;
-    let between = Rc::new(alloc, Node::from_leaf(middle))?;
-    let front = concat(alloc, before.left, Some(between))?;
-    let tree = concat(alloc, front, after.right)?;
-    Ok(tree)
+    to: usize,
 }
 
-/// Two leaves as one, if they fit.
-fn merged(first: &Leaf, second: &Leaf) -> Option<Leaf>
-    ensures { IfSome result (λ leaf. leaf ≡ first.now ++ second.now) }
-{
-    let (front, back) = (first.as_str(), second.as_str());
-    if back.len() >= MAX_BYTES - front.len() {
-        return None;
+impl Seam {
+    /// What stands from an index of the last leaf of a text up to one of the first leaf of another.
+    fn over(last: &str, from: usize, first: &str, to: usize) -> Seam
+        requires from { IsCharBoundary last.now from }
+        requires to { IsCharBoundary first.now to }
+        requires some { from < length last.now + to }
+        requires room { length last.now + to < 984 + from }
+        ensures leaf { result.leaf ≡ chars (drop from last.now) ++ chars (take to first.now) }
+        ensures from { result.from ≡ from }
+        ensures to { result.to ≡ to }
+    {
+        let mut buffer = LeafBuffer::new();
+        buffer.fill(&last[from..]);
+        buffer.fill(&first[..to]);
+        Seam {
+            leaf: buffer.into_leaf(),
+            from,
+            to,
+        }
     }
-    let mut buffer = LeafBuffer::new();
-    buffer.fill(front);
-    buffer.fill(back);
-    Some(buffer.into_leaf())
+
+    /// The seam of the last leaf of a text and the first of another: one leaf where they fit into
+    /// it, half of their text where either is short, and else a CR LF that lies across. There is
+    /// none where they can stay as they are. What ends the whole text may be short.
+    fn of(last: &Leaf, first: &Leaf, is_end: bool) -> Option<Seam>
+        ensures between { IfSome result (λ seam. IsBetween (last.now ∷ []) seam.from seam.leaf
+            (first.now ∷ []) seam.to) }
+        ensures some { IfSome result (λ seam. 1 ≤ seam.to) }
+        ensures none { IfNone result (cuts_cr_lf last.now first.now ≡ false) }
+    {
+        let (front, back) = (last.as_str(), first.as_str());
+        let len = front.len() + back.len();
+        if len < MAX_BYTES {
+            return Some(Seam::over(front, 0, back, back.len()));
+        }
+        if front.len() <= MIN_BYTES {
+            let to = fill_end(back, len / 2 - front.len());
+            return Some(Seam::over(front, 0, back, to));
+        }
+        if !is_end && back.len() <= MIN_BYTES {
+            let from = fill_end(front, len / 2);
+            return Some(Seam::over(front, from, back, back.len()));
+        }
+        if last.is_cr_last() && first.is_lf_first() {
+            return Some(Seam {
+                leaf: Leaf::new("\r\n"),
+                from: front.len() - 1,
+                to: 1,
+            });
+        }
+        None
+    }
 }
 
 /// The tree of two texts that are joined, of which neither or either may be empty. The leaves at
-/// the seam become one where they fit into it. Where they don't, and the first text ends with CR
-/// and the second starts with LF, these two get a leaf. What the trees held before and what the new
-/// one holds, they share. Want of memory is the only refusal.
+/// the seam become one where they fit into it. Where they don't, and one of them has fewer than 462
+/// bytes, they share their text. Where a CR that ends the first text meets an LF that starts the
+/// second, these two come into one leaf. What the trees held before and what the new one holds,
+/// they share. Want of memory is the only refusal.
 pub fn append(
     alloc: Global,
     left: Option<Rc<Node>>,
@@ -79,20 +103,35 @@ pub fn append(
         (Some(left), None) => Ok(Some(left)),
         (Some(left), Some(right)) => {
             let tree = append_both(alloc, &left, &right)?;
-            Ok(tree)
+            Ok(Some(tree))
         }
     }
 }
 
-/// `append` of two texts that aren't empty.
-fn append_both(
+/// `joins::concat`, where the front may have no text.
+fn behind(
     alloc: Global,
-    left: &Rc<Node>,
-    right: &Rc<Node>,
-) -> Result<Option<Rc<Node>>, AllocError>
+    front: Option<Rc<Node>>,
+    back: Rc<Node>,
+) -> Result<Rc<Node>, AllocError>
+    requires { IsText (pieces_in front ++ back.value.pieces) }
+    ensures { IfOk result (λ node. node.value.pieces ≡ pieces_in front ++ back.value.pieces) }
+{
+    match front {
+        None => Ok(back),
+        Some(front) => {
+            let node = joins::concat(alloc, &front, &back)?;
+            Ok(node)
+        }
+    }
+}
+
+/// `append` of two texts that aren't empty. The leaf that comes to stand at their seam is joined
+/// with what follows it in turn.
+fn append_both(alloc: Global, left: &Rc<Node>, right: &Rc<Node>) -> Result<Rc<Node>, AllocError>
     requires fits { (total left.now.value.pieces).bytes + (total right.now.value.pieces).bytes
         < 2 ^ 63 }
-    ensures { IfOk result (λ tree. concat (pieces_in tree) ≡ concat left.now.value.pieces ++
+    ensures { IfOk result (λ tree. concat tree.value.pieces ≡ concat left.now.value.pieces ++
         concat right.now.value.pieces) }
 {
     // For its facts alone.
@@ -100,15 +139,21 @@ fn append_both(
     let end = left.counts().bytes;
     let last = leaf_at(left, By::Bytes, end).leaf;
     let first = leaf_at(right, By::Bytes, 0).leaf;
-    let (len, from) = (last.as_str().len(), first.as_str().len());
-    if let Some(middle) = merged(last, first) {
-        let tree = append_over(alloc, left, end - len, middle, right, from)?;
+    let start = end - last.as_str().len();
+    let is_end = first.as_str().len() == right.counts().bytes;
+    let Some(Seam { leaf, from, to }) = Seam::of(last, first, is_end) else {
+        let tree = joins::concat(alloc, left, right)?;
         return Ok(tree);
-    }
-    if last.is_cr_last() && first.is_lf_first() {
-        let tree = append_over(alloc, left, end - 1, Leaf::new("\r\n"), right, 1)?;
-        return Ok(tree);
-    }
-    let node = joins::concat(alloc, left, right)?;
-    Ok(Some(node))
+    };
+    let Halves { left: before, .. } = split(alloc, left, start + from)?;
+    let Halves { right: after, .. } = split(alloc, right, to)?;
+    let leaf = Rc::new(alloc, Node::from_leaf(leaf))?;
+    let back = match after {
+        None => leaf,
+        Some(rest) => append_both(alloc, &leaf, &rest)?,
+    };
+    // For its facts alone.
+    let _ = back.height();
+    let tree = behind(alloc, before, back)?;
+    Ok(tree)
 }

@@ -3,6 +3,7 @@
 use crate::trees::{join, reads_back, text_of, tree_of};
 use ropey_tree::counts::By;
 use ropey_tree::edits::replace_in_leaf;
+use ropey_tree::made::Made;
 use ropey_tree::node::{Node, leaf_at};
 use std::alloc::Global;
 use std::process::Abort;
@@ -20,7 +21,7 @@ fn replaced(
     assert!(rt; from <= to);
     assert!(rt; node.counts().bytes < 1_000_000_000);
     assert!(rt; text.len() < 1_000_000_000);
-    let tree = replace_in_leaf(alloc, node, from, to, text)?;
+    let tree = replace_in_leaf(alloc, node, from, to, text, &mut Made::new())?;
     Ok(tree)
 }
 

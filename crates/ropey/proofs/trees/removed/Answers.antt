@@ -8,8 +8,8 @@ use Rattle.ropey.proofs.Pieces.{byte_len-append, bytes-concat}
 use Rattle.ropey.proofs.Editing.{edited_text, removed_text, removed_fits, no_chars}
 use Rattle.ropey.proofs.trees.removed.Goals as goal
 
-pub replace_in_leaf-requires-clause-fits : goal.replace_in_leaf-requires-clause-fits
-replace_in_leaf-requires-clause-fits c =
+pub removed_in_leaf-requires-clause-fits : goal.removed_in_leaf-requires-clause-fits
+removed_in_leaf-requires-clause-fits c =
     removed_fits c.in-Some.node.value.pieces (subst (λ (n : ℕ). n < 2 ^ 63) (ap (λ t. byte_len (text_of (pieces_in t))) c.in-Some.is) c.requires.fits)
 
 pub returns-in-Some-2 : goal.returns-in-Some-2

@@ -33,8 +33,8 @@ with_child-requires-clause-fits t c =
     let h = rw (before, c.in-Some-2.is) at c.in_ok-replace_in_leaf-in-Inner.ensures in
     (edited_inner v vs k child c.args.from c.args.to v_is inner c.choose-choice.ensures.within c.get-child.ensures low c.requires.1.1.0 c.choose-choice.ensures.passed (chars c.args.text.now) c.in-Some-2.edited.value h.edited text c.requires.1.1.1).text.fits
 
-pub over-requires : goal.over-requires
-over-requires t c =
+pub from_children-requires : goal.from_children-requires
+from_children-requires t c =
     let v = c.args.node.now.value in
     let vs = c.in-Inner.children.now in
     let k = c.choose-choice.result.index in
@@ -51,7 +51,7 @@ over-requires t c =
 pub returns-in_ok-tree-in-Some-clause-edited : goal.returns-in_ok-tree-in-Some-clause-edited
 returns-in_ok-tree-in-Some-clause-edited t c =
     let v_is = rw c.deref-2.ensures at c.in-Leaf.ensures.0 in
-    leaf_edited c.args.node.now.value c.in-Leaf.leaf.now c.args.from c.args.to (chars c.args.text.now) c.in-Some.new c.in_ok-tree-in-Some.tree.value v_is (c.in_ok-tree-in-Some.ensures.ok ∙ c.from_leaf.ensures) c.in-Some.ensures.replaced c.in-Some.ensures.may_stand
+    leaf_edited c.args.node.now.value c.in-Leaf.leaf.now c.args.from c.args.to (chars c.args.text.now) c.in-Some.new c.in_ok-tree-in-Some.tree.value v_is (c.in_ok-tree-in-Some.ensures.shared ∙ c.from_leaf.ensures) c.in-Some.ensures.replaced c.in-Some.ensures.may_stand
 
 pub returns-in-None-2-clause-none : goal.returns-in-None-2-clause-none
 returns-in-None-2-clause-none t c = λ w h.
@@ -78,7 +78,7 @@ returns-in_ok-tree-in-Some-2-clause-edited t c =
     let before = ap (λ b. b.bytes) c.choose-choice.ensures.stands_before in
     let low = rw before at c.choose-choice.ensures.not_past in
     let h = rw (before, c.in-Some-2.is) at c.in_ok-replace_in_leaf-in-Inner.ensures in
-    let u_is = rw (c.in_ok-copy-in-Some-2.ensures, c.height-height.ensures.value, c.deref.ensures) at c.in_ok-tree-in-Some-2.ensures in
+    let u_is = c.in_ok-tree-in-Some-2.ensures.shared ∙ rw (c.in_ok-copy-in-Some-2.ensures, c.height-height.ensures.value, c.deref.ensures) at c.in_ok-parent-in-Some-2.ensures in
     node_edited v vs k child c.args.from c.args.to v_is inner c.choose-choice.ensures.within c.get-child.ensures low c.requires.1.1.0 c.choose-choice.ensures.passed (chars c.args.text.now) c.in-Some-2.edited.value h.edited c.in_ok-tree-in-Some-2.tree.value u_is
 
 pub returns-in-None-clause-none : goal.returns-in-None-clause-none
