@@ -240,6 +240,6 @@ AreRows-drop pattern (suc n) (line ∷ lines) (row ∷ rows) h = AreRows-drop pa
 pub keeps_rows : KeepsRows
 keeps_rows pattern old new first last gone rows made splice are anew =
     let anew_lines = take (last + 1 - first) (drop first (line_texts new)) in
-    let behind = AreRows-join pattern anew_lines (drop (gone + 1) (line_texts old)) made (drop (gone + 1) rows) anew (AreRows-drop pattern (gone + 1) (line_texts old) rows are) in
-    let all = AreRows-join pattern (take first (line_texts old)) (anew_lines ++ drop (gone + 1) (line_texts old)) (take first rows) (made ++ drop (gone + 1) rows) (AreRows-take pattern first (line_texts old) rows are) behind in
+    let front = AreRows-join pattern (take first (line_texts old)) anew_lines (take first rows) made (AreRows-take pattern first (line_texts old) rows are) anew in
+    let all = AreRows-join pattern (take first (line_texts old) ++ anew_lines) (drop (gone + 1) (line_texts old)) (take first rows ++ made) (drop (gone + 1) rows) front (AreRows-drop pattern (gone + 1) (line_texts old) rows are) in
     subst (λ lines. AreRows pattern lines (take first rows ++ made ++ drop (gone + 1) rows)) (sym splice.lines) all

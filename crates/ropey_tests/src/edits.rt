@@ -224,15 +224,6 @@ fn edits_of_many_chunks(rt: HostRuntime) -> Result<(), Fail> {
     Ok(())
 }
 
-/// No two neighbouring chunks are small together.
-fn check_leaves(rt: &impl Abort, rope: &Rope) {
-    let mut before: usize = 984;
-    for chunk in rope.chunks() {
-        assert!(rt; before.saturating_add(chunk.len()) >= 656);
-        before = chunk.len();
-    }
-}
-
 /// The next of some numbers that look as if drawn by lot.
 fn next_number(seed: u64) -> u64 {
     seed.wrapping_mul(6_364_136_223_846_793_005)
@@ -271,7 +262,7 @@ fn random_edits(rt: HostRuntime) -> Result<(), Fail> {
         assert!(rt; rope.eq_str(&text), "turn {turn}");
         if turn % 50 == 0 {
             check_chunks(&rt, &rope, &text);
-            check_leaves(&rt, &rope);
+            assert!(rt; has_long_chunks(&rope), "turn {turn}");
         }
     }
     Ok(())
