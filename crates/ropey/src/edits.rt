@@ -6,9 +6,10 @@
 //! very same, its chunks too. A place may lie between a CR and an LF, and a CR and an LF that come
 //! to lie side by side are one break. No edit changes another rope, also not a clone.
 //!
-//! An edit inside one chunk that leaves the chunk's ends as they are copies the path to it, at most
-//! 19 nodes. Any other one splits the tree and joins it again, in `O(log n)`; chunks that meet and
-//! fit into one become one.
+//! An edit inside one chunk that leaves the chunk's ends as they are, and the chunk long enough,
+//! copies the path to it, at most 19 nodes. Any other one splits the tree and joins it again, in
+//! `O(log n)`; chunks that meet and fit into one become one, and each but the last keeps 462 bytes
+//! or more.
 
 ghost use Rattle.std.specs.Prelude.{◌≡◌, ◌+◌, ◌^◌, ◌<◌, ◌≤◌, ◌⊎◌, ◌↔◌, [], ◌∷◌, ◌++◌, length, take, drop, Err, OnOk, OnErr, IfOk, IfErr};
 ghost use Rattle.std.specs.Char.{len_utf8};
