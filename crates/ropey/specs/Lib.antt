@@ -2,4 +2,5 @@ pub mod Chunks
 pub mod Comparing
 pub mod Iter
 pub mod Laws
+pub mod Reading
 pub mod Writing

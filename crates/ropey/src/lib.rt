@@ -6,12 +6,16 @@ mod comparing;
 mod conversions;
 pub mod iter;
 pub mod laws;
+mod read_fault;
+mod read_window;
+mod reading;
 mod rope;
 mod rope_builder;
 mod slices;
 pub mod str_utils;
 mod writing;
 
+pub use crate::read_fault::ReadFault;
 pub use crate::rope::Rope;
 pub use crate::rope_builder::RopeBuilder;
 pub use ropey_tree::breaks;
