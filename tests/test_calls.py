@@ -154,8 +154,39 @@ def test_all():
         test(f"{name}, nothing refused", differences(ended, whole, 0))
         test(f"{name}, with each of its {count} requests refused, alone and with all that follow", copies(arguments, whole, count))
 
+    def made(arguments, text, words, count):
+        """The rope is told whole or one of the words is; `not shrunk` comes before the rope."""
+        seen = set()
+        for place, _, ended in refusals(arguments, count):
+            word = next((word for word in words if ended.out.startswith(word)), b"")
+            seen.add(word)
+            out = ended.out[len(word) :]
+            refused, chunks, is_told = told_rope(out)
+            if word and word != b"not shrunk\n":
+                wrong = [f"it wrote {short(out)}"] if out else []
+            else:
+                right = is_told and not refused and b"".join(chunks) == text
+                wrong = list(wrong_chunks(chunks)) + ([] if right else [f"it wrote {short(out)}"])
+            for line in wrong + differences(ended, ended.out, 0):
+                yield f"{place}: {line}"
+        for word in set(words) - seen:
+            yield f"no refusal came to {short(word)}"
+
+    def check_made(arguments, text, words):
+        name = f"{arguments[0]} of {short(arguments[1].encode()[:40])}"
+        ended, count, _ = call(arguments)
+        refused, chunks, is_told = told_rope(ended.out)
+        right = is_told and not refused and b"".join(chunks) == text
+        wrong = list(wrong_chunks(chunks)) + ([] if right else [f"wrote {short(ended.out)}"])
+        test(f"{name}, nothing refused", wrong + differences(ended, ended.out, 0))
+        test(f"{name}, with each of its {count} requests refused, alone and with all that follow", made(arguments, text, words, count))
+
     for parts in PARTS[1:]:
         check_slice("|".join(parts))
+        text = "".join(parts)
+        check_made(["part", "|".join(parts)], text[1:].encode(), [b"no memory\n", b"no part\n"])
+        check_made(["shrink", "|".join(parts)], text.encode(), [b"no memory\n", b"not shrunk\n"])
+        check_made(["read", text], text.encode(), [b"no memory\n"])
     for parts in PARTS:
         check_rope(["build", *parts], parts)
         check_rope(["chunks", "|".join(parts)], parts)

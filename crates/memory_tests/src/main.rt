@@ -1,8 +1,8 @@
-//! A program for tests, above all those in which memory is refused. It parses a pattern, compiles one
-//! or builds a rope, as its arguments say, and tells what came of it.
+//! A program for tests, above all those in which memory is refused. It parses a pattern, compiles
+//! one or builds a rope, as its arguments say, and tells what came of it.
 #![tactic(auto)]
 
-use ropey::{Rope, RopeBuilder};
+use ropey::{ReadFault, Rope, RopeBuilder};
 use rx_grammar::syntax::Config;
 use rx_grammar::{SyntaxError, parse};
 use rx_program::{BuildError, compile};
@@ -11,10 +11,12 @@ use std::iter::Skip;
 use std::{env, io};
 
 /// `parse PATTERN` and `fold PATTERN` write the tree of a pattern, `fold` where letters match in
-/// each case, or why there is none. `compile PATTERN` writes a pattern's program. `build PART..` appends the parts to a builder and writes the
-/// rope: a line for each part that was refused, then each chunk's length and all of its text.
-/// `chunks TEXT` makes a rope of the parts of a text between its `|`, and writes it likewise.
-/// `slice TEXT` makes it too, and writes a copy of its slice behind the first character.
+/// each case, or why there is none. `compile PATTERN` writes a pattern's program. `build PART..`
+/// appends the parts to a builder and writes the rope: a line for each part that was refused, then
+/// each chunk's length and all of its text. `chunks TEXT` makes a rope of the parts of a text
+/// between its `|`, and writes it likewise. `slice TEXT` makes it too, and writes a copy of its
+/// slice behind the first character; `part TEXT` writes a rope of that slice, and `shrink TEXT` the
+/// rope after it was shrunk. `read TEXT` writes the rope of a reader that gives the text.
 fn main(rt: HostRuntime) -> io::Result<()> {
     let mut args = env::args(&rt)?.skip(1);
     let Some(mode) = args.next() else {
@@ -25,6 +27,9 @@ fn main(rt: HostRuntime) -> io::Result<()> {
         mode => match args.next() {
             Some(text) if mode == "chunks" => gather(&rt, text.as_str()),
             Some(text) if mode == "slice" => copy(&rt, text.as_str()),
+            Some(text) if mode == "part" => cut(&rt, text.as_str()),
+            Some(text) if mode == "shrink" => shrink(&rt, text.as_str()),
+            Some(text) if mode == "read" => read(&rt, text.as_str()),
             Some(pattern) if mode == "compile" => tell_program(&rt, pattern.as_str()),
             Some(pattern) => tell_tree(&rt, mode == "fold", pattern.as_str()),
             None => Ok(()),
@@ -91,6 +96,41 @@ fn copy(rt: &HostRuntime, text: &str) -> io::Result<()> {
     match slice.to_text(rt.alloc()) {
         Ok(copy) => println!(rt; "{}", copy.as_str()),
         Err(_) => println!(rt; "no copy"),
+    }
+}
+
+/// Makes a rope of the parts of a text, and a rope of its slice behind the first character.
+fn cut(rt: &HostRuntime, text: &str) -> io::Result<()> {
+    let Ok(rope) = Rope::from_chunks(rt.alloc(), text.split('|')) else {
+        return println!(rt; "no memory");
+    };
+    let Some(slice) = rope.get_slice(1..) else {
+        return println!(rt; "no slice");
+    };
+    match Rope::from_slice(rt.alloc(), slice) {
+        Ok(part) => tell_rope(rt, &part),
+        Err(_) => println!(rt; "no part"),
+    }
+}
+
+/// Makes a rope of the parts of a text, and shrinks it.
+fn shrink(rt: &HostRuntime, text: &str) -> io::Result<()> {
+    let Ok(mut rope) = Rope::from_chunks(rt.alloc(), text.split('|')) else {
+        return println!(rt; "no memory");
+    };
+    if rope.shrink_to_fit().is_err() {
+        println!(rt; "not shrunk")?;
+    }
+    tell_rope(rt, &rope)
+}
+
+/// Reads a rope from a reader of a text's bytes.
+fn read(rt: &HostRuntime, text: &str) -> io::Result<()> {
+    let mut bytes = text.as_bytes();
+    match Rope::from_reader(rt.alloc(), &mut bytes) {
+        Ok(rope) => tell_rope(rt, &rope),
+        Err(ReadFault::Memory) => println!(rt; "no memory"),
+        Err(fault) => println!(rt; "{fault}"),
     }
 }
 

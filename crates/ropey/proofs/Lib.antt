@@ -3,3 +3,5 @@ pub mod Making
 pub mod Pieces
 pub mod Written
 pub mod Copying
+pub mod ReadLemmas
+pub mod Utf8Fronts

@@ -6,7 +6,7 @@ use Rattle.std.specs.Borrow.{Bor}
 -- they are those of a slice
 pub use Rattle.ropey_walk.specs.Chunks.{text_of, line_breaks, piece_of, ShowsChunk}
 -- how a rope is cut, in the words of the tree
-pub use Rattle.ropey_tree.specs.Cutting.{IsPiece, IsCutting, IsText}
+pub use Rattle.ropey_tree.specs.Cutting.{IsPiece, IsCutting, IsText, IsFull, AreFull}
 -- which characters break its lines
 pub use Rattle.ropey_tree.specs.Breaks.{is_break}
 

@@ -3,4 +3,5 @@ pub mod Comparing
 pub mod Edits
 pub mod Iter
 pub mod Laws
+pub mod Reading
 pub mod Writing

@@ -7,6 +7,9 @@ mod conversions;
 mod edits;
 pub mod iter;
 pub mod laws;
+mod read_fault;
+mod read_window;
+mod reading;
 mod rope;
 mod rope_builder;
 mod slices;
@@ -14,6 +17,7 @@ pub mod str_utils;
 mod trees;
 mod writing;
 
+pub use crate::read_fault::ReadFault;
 pub use crate::rope::Rope;
 pub use crate::rope_builder::RopeBuilder;
 pub use ropey_tree::breaks;

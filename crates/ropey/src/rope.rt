@@ -1,6 +1,6 @@
 //! A text in a balanced tree of shared nodes.
 
-ghost use Rattle.std.specs.Prelude.{◌≡◌, ℕ, List, ◌+◌, ◌-◌, ◌*◌, ◌^◌, ◌<◌, ◌≤◌, ◌⊎◌, ◌↔◌, min, [], length, Err, IfOk, IfErr, IfSome, IsNone, encode_utf8_all, string_bytes};
+ghost use Rattle.std.specs.Prelude.{◌≡◌, ℕ, List, ◌+◌, ◌-◌, ◌*◌, ◌^◌, ◌<◌, ◌≤◌, ◌⊎◌, ◌↔◌, min, [], length, Err, OnOk, OnErr, IfOk, IfErr, IfSome, IsNone, encode_utf8_all, string_bytes};
 ghost use Rattle.std.specs.Str.{chars, IsUtf8};
 ghost use Rattle.std.specs.Iterator.{Drains, IsFiniteIterable, Yields};
 ghost use Rattle.std.specs.Borrow.{Bor};
@@ -10,7 +10,7 @@ ghost use Rattle.ropey_tree.specs.Cutting.{IsText};
 ghost use Rattle.ropey_tree.specs.Nodes.{AreNodes, all_pieces};
 ghost use Rattle.ropey_tree.specs.Siblings.{views};
 ghost use Rattle.ropey_tree.specs.Splits.{pieces_in};
-ghost use Rattle.ropey.specs.Chunks.{text_of, joined, line_breaks, ShowsChunk};
+ghost use Rattle.ropey.specs.Chunks.{AreFull, text_of, joined, line_breaks, ShowsChunk};
 ghost use Rattle.ropey_walk.specs.Slices.{slice_pieces};
 
 use crate::rope_builder::RopeBuilder;
@@ -83,6 +83,7 @@ impl Rope {
     /// where memory is refused. `O(n)`.
     pub fn from_str(alloc: Global, text: &str) -> Result<Self, Error>
         ensures text { IfOk result (λ rope. text_of rope ≡ chars text.now) }
+        ensures full { IfOk result (λ rope. AreFull rope) }
         ensures size { (result ≡ Err Error.Size) ↔ (2 ^ 63 ≤ length text.now) }
         ensures refused { IfErr result (λ error. (error ≡ Error.Size) ⊎ (error ≡ Error.Memory)) }
     {
@@ -108,6 +109,7 @@ impl Rope {
         ensures text { IfOk result (λ rope. (it : I.IntoIter) × (parts : List (Bor (List ℕ))) ×
             I.into_iter_gives chunks it × Drains I.IntoIter.next_gives it parts ×
             (text_of rope ≡ joined parts)) }
+        ensures full { IfOk result (λ rope. AreFull rope) }
         ensures size { (result ≡ Err Error.Size) → (it : I.IntoIter) ×
             (parts : List (Bor (List ℕ))) × (after : I.IntoIter) × I.into_iter_gives chunks it ×
             Yields I.IntoIter.next_gives it parts after × (2 ^ 63 ≤ byte_len (joined parts)) }
@@ -232,6 +234,19 @@ impl Rope {
         ensures refused { IfErr result (λ error. error ≡ Error.Memory) }
     {
         self.whole().to_text(self.alloc)
+    }
+
+    /// Cuts the text anew into as few chunks as `from_str` does, each of 980 bytes or more but the
+    /// last. The one refusal is `Memory`, and the rope stays as it is. `O(n)`.
+    pub fn shrink_to_fit(&mut self) -> Result<(), Error>
+        ensures text { text_of self.new ≡ text_of self.old }
+        ensures full { OnOk result (AreFull self.new) }
+        ensures kept { OnErr result (self.new ≡ self.old) }
+        ensures refused { IfErr result (λ error. error ≡ Error.Memory) }
+    {
+        let packed = Rope::from_slice(self.alloc, self.whole())?;
+        *self = packed;
+        Ok(())
     }
 
     /// How many bytes the rope has room for without a new chunk: `MAX_BYTES` for each, and

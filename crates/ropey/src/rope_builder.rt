@@ -3,7 +3,7 @@
 ghost use Rattle.std.specs.Prelude.{◌≡◌, ◌+◌, ◌^◌, ◌≤◌, ◌⊎◌, ◌↔◌, [], ◌++◌, length, Err, OnErr, OnOk, IfOk, IfErr};
 ghost use Rattle.std.specs.Str.{chars};
 ghost use Rattle.str_indices.specs.Text.{byte_len};
-ghost use Rattle.ropey.specs.Chunks.{text_of};
+ghost use Rattle.ropey.specs.Chunks.{AreFull, text_of};
 
 use crate::rope::{MAX_TEXT_BYTES, Rope};
 use ropey_tree::cutter::Cutter;
@@ -71,6 +71,7 @@ impl RopeBuilder {
     /// copying the text again.
     pub fn finish(self) -> Result<Rope, Error>
         ensures text { IfOk result (λ rope. text_of rope ≡ self) }
+        ensures full { IfOk result (λ rope. AreFull rope) }
         ensures refused { IfErr result (λ error. error ≡ Error.Memory) }
     {
         let alloc = self.text.allocator();

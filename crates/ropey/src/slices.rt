@@ -6,7 +6,7 @@
 
 ghost use Rattle.std.specs.Prelude.{◌≡◌, ◌+◌, ◌<◌, ◌≤◌, ◌↔◌, length};
 ghost use Rattle.std.specs.Prelude.{IfSome, IsSome, IsNone, IfOk, IfErr};
-ghost use Rattle.ropey.specs.Chunks.{text_of, line_breaks};
+ghost use Rattle.ropey.specs.Chunks.{AreFull, text_of, line_breaks};
 ghost use Rattle.ropey_walk.specs.Lines.{line_pieces};
 ghost use Rattle.ropey_walk.specs.Ranges.{chars_in, bytes_in, IsRangeIn, IsByteRangeIn};
 ghost use Rattle.ropey_walk.specs.Slices.{slice_pieces, slice_text};
@@ -23,6 +23,7 @@ impl Rope {
     /// The one refusal is `Memory`. `O(n)`.
     pub fn from_slice(alloc: Global, slice: RopeSlice<'_>) -> Result<Self, Error>
         ensures text { IfOk result (λ rope. text_of rope ≡ slice_text slice.entry) }
+        ensures full { IfOk result (λ rope. AreFull rope) }
         ensures refused { IfErr result (λ error. error ≡ Error.Memory) }
     {
         let mut builder = RopeBuilder::new(alloc);

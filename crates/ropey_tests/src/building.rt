@@ -41,7 +41,7 @@ fn texts_built_of_parts(rt: HostRuntime) -> Result<(), Fail> {
 }
 
 /// Whether each chunk but the last has 980 bytes or more.
-fn are_chunks_long(rope: &Rope) -> bool {
+pub(crate) fn are_chunks_long(rope: &Rope) -> bool {
     let mut before = 984;
     for chunk in rope.chunks() {
         if before < 980 {

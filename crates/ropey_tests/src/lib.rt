@@ -14,6 +14,8 @@ mod examples;
 #[cfg(test)]
 mod lookups;
 #[cfg(test)]
+mod reading;
+#[cfg(test)]
 mod slices;
 #[cfg(test)]
 mod texts;

@@ -1,14 +1,16 @@
 -- A leaf that is being filled, and the leaves before it.
-use Rattle.std.proofs.Common.{◌≡◌, ℕ, ◌+◌, ◌<◌, ◌≤◌, ◌⊎◌, inl, inr, true, false, ◌&&◌, List, [], ◌∷◌, ◌++◌, length, take, drop, refl, ap, arith, sym, ◌∙◌, append_assoc, length-append, length-take-le, take-append-drop}
+use Rattle.std.proofs.Common.{◌≡◌, ℕ, ◌+◌, ◌-◌, ◌<◌, ◌≤◌, ◌⊎◌, inl, inr, true, false, ◌&&◌, List, [], ◌∷◌, ◌++◌, length, take, drop, refl, ap, arith, sym, ◌∙◌, append_assoc, length-append, length-take-le, take-append-drop, subst}
 use Rattle.std.specs.List.{concat}
 use Rattle.std.proofs.lemmas.List.{append-nil}
-use Rattle.std.proofs.lemmas.List.Elements.{All-cons, All-nil, All-append}
+use Rattle.std.proofs.lemmas.List.Elements.{All-cons, All-nil, All-append, All-take}
+use Rattle.std.specs.List.{All}
+use Rattle.std.proofs.Math.Seq.{take-append_seam}
 use Rattle.std.proofs.lemmas.List.Folds.{concat-append}
 use Rattle.std.specs.Str.{chars, IsUtf8, IsCharBoundary}
 use Rattle.std.proofs.lemmas.Str.{length-le-encodes, encodes-chars, chars-append, IsUtf8-take, chars-nil}
 use Rattle.std.proofs.Math.ListN.{drop_of_length-le}
 use Rattle.str_indices.specs.Text.{starts_with_lf, byte_len, ends_with_cr}
-use Rattle.ropey_tree.specs.Cutting.{IsPiece, IsCutting, cuts_cr_lf}
+use Rattle.ropey_tree.specs.Cutting.{IsPiece, IsCutting, IsFull, AreFull, cuts_cr_lf}
 use Rattle.ropey_tree.specs.Cutter.{IsCutBefore}
 use Rattle.ropey_tree.specs.NodeView.{NodeView}
 use Rattle.ropey_tree.specs.Nodes.{all_pieces, AreNodes, IsNodeOf, leaf_view}
@@ -62,6 +64,7 @@ pub before_more : (text t : List ℕ) (leaves : List NodeView) → IsCutBefore t
 before_more text t leaves h = record {
   nodes = h.nodes;
   cut = h.cut;
+  full = h.full;
   whole = λ next. ap (λ s. cuts_cr_lf (concat (all_pieces leaves)) s) (append_assoc text t next) ∙ h.whole (t ++ next);
 }
 
@@ -76,6 +79,16 @@ add_piece (q ∷ r ∷ ps) p h piece whole =
   where
     rest_piece : (s : List ℕ) (qs : List (List ℕ)) → IsCutting (s ∷ qs) → 1 ≤ byte_len (concat (s ∷ qs))
     rest_piece s qs g = omega (arith, (first_piece s qs g).not_empty, byte_len-append s (concat qs))
+
+-- ---- full pieces
+pub all_full : (ps : List (List ℕ)) → All IsFull ps → AreFull ps
+all_full ps h = All-take IsFull (length ps - 1) ps h
+
+last_of_full : (ps : List (List ℕ)) (p : List ℕ) → All IsFull ps → AreFull (ps ++ p ∷ [])
+last_of_full ps p h =
+    let before : length (ps ++ p ∷ []) - 1 ≡ length ps = omega (arith, length-append ps (p ∷ [])) in
+    let front : take (length (ps ++ p ∷ []) - 1) (ps ++ p ∷ []) ≡ ps = ap (λ n. take n (ps ++ p ∷ [])) before ∙ take-append_seam ps (p ∷ []) in
+    subst (All IsFull) (sym front) h
 
 -- the text becomes a leaf
 module _ (leaves : List NodeView) (v : NodeView) (text : List ℕ) (is : v ≡ leaf_view text) (piece : IsPiece text) (h : IsCutBefore text leaves) where
@@ -94,11 +107,19 @@ module _ (leaves : List NodeView) (v : NodeView) (text : List ℕ) (is : v ≡ l
   pub leaf_cut : IsCutting (all_pieces (leaves ++ v ∷ []))
   leaf_cut = rw leaf_pieces (add_piece (all_pieces leaves) text h.cut piece (ap (λ t. cuts_cr_lf (concat (all_pieces leaves)) t) (sym (append-nil text)) ∙ h.whole []))
 
+  leaf_is_full : IsFull text → All IsFull (all_pieces (leaves ++ v ∷ []))
+  leaf_is_full near = rw leaf_pieces (All-append IsFull (all_pieces leaves) (text ∷ []) h.full (All-cons IsFull text [] near (All-nil IsFull)))
+
+  -- as the last one it may be small
+  pub leaf_full : AreFull (all_pieces (leaves ++ v ∷ []))
+  leaf_full = rw leaf_pieces (last_of_full (all_pieces leaves) text h.full)
+
   -- and the front of what comes after it is the next
-  pub next_before : (t back : List ℕ) → 1 ≤ byte_len t → cuts_cr_lf text (t ++ back) ≡ false → IsCutBefore t (leaves ++ v ∷ [])
-  next_before t back some seam = record {
+  pub next_before : (t back : List ℕ) → IsFull text → 1 ≤ byte_len t → cuts_cr_lf text (t ++ back) ≡ false → IsCutBefore t (leaves ++ v ∷ [])
+  next_before t back near some seam = record {
     nodes = leaf_nodes;
     cut = leaf_cut;
+    full = leaf_is_full near;
     whole = λ next.
         ap (λ s. cuts_cr_lf s (t ++ next)) leaf_text ∙ ap (λ b. b && starts_with_lf (t ++ next)) (ends-append (concat (all_pieces leaves)) text piece.not_empty)
         ∙ ap (λ b. ends_with_cr text && b) (starts-append t next some ∙ sym (starts-append t back some)) ∙ seam;
@@ -109,24 +130,27 @@ pub record IsFilling (whole left : List ℕ) (text : List ℕ) (leaves : List No
   pub before : IsCutBefore text leaves
   pub joined : concat (all_pieces leaves) ++ (text ++ left) ≡ whole
   pub seam : cuts_cr_lf text left ≡ false
-  pub some : (left ≡ []) ⊎ (1 ≤ byte_len text)
+  pub near : (left ≡ []) ⊎ IsFull text
 
 pub filling_first : (old text t left : List ℕ) (leaves : List NodeView) → concat (all_pieces leaves) ++ text ≡ old → IsCutBefore text leaves → cuts_cr_lf (text ++ t) left ≡ false
-    → (left ≡ []) ⊎ (1 ≤ byte_len (text ++ t)) → IsFilling (old ++ (t ++ left)) left (text ++ t) leaves
-filling_first old text t left leaves is h seam some = record {
+    → (left ≡ []) ⊎ IsFull (text ++ t) → IsFilling (old ++ (t ++ left)) left (text ++ t) leaves
+filling_first old text t left leaves is h seam near = record {
   before = before_more text t leaves h;
   joined = ap (λ s. concat (all_pieces leaves) ++ s) (append_assoc text t left) ∙ sym (append_assoc (concat (all_pieces leaves)) text (t ++ left)) ∙ ap (λ s. s ++ (t ++ left)) is;
   seam = seam;
-  some = some;
+  near = near;
 }
 
+full_before : (left text : List ℕ) → (left ≡ []) ⊎ IsFull text → 1 ≤ byte_len left → IsFull text
+full_before left text near more = elim near [ inl none ↦ absurd (omega (arith, more, ap byte_len none)) | inr whole ↦ whole ]
+
 pub filling_next : (whole left text t back : List ℕ) (leaves : List NodeView) (v : NodeView) → IsFilling whole left text leaves → v ≡ leaf_view text → IsPiece text → left ≡ t ++ back
-    → 1 ≤ byte_len t → cuts_cr_lf t back ≡ false → IsFilling whole back t (leaves ++ v ∷ [])
-filling_next whole left text t back leaves v h is piece parts some seam = record {
-  before = next_before leaves v text is piece h.before t back some (ap (cuts_cr_lf text) (sym parts) ∙ h.seam);
+    → 1 ≤ byte_len t → cuts_cr_lf t back ≡ false → (back ≡ []) ⊎ IsFull t → IsFilling whole back t (leaves ++ v ∷ [])
+filling_next whole left text t back leaves v h is piece parts some seam near = record {
+  before = next_before leaves v text is piece h.before t back (full_before left text h.near (omega (arith, some, ap byte_len parts, byte_len-append t back))) some (ap (cuts_cr_lf text) (sym parts) ∙ h.seam);
   joined = ap (λ s. s ++ (t ++ back)) (leaf_text leaves v text is piece h.before) ∙ append_assoc (concat (all_pieces leaves)) text (t ++ back) ∙ ap (λ s. concat (all_pieces leaves) ++ (text ++ s)) (sym parts) ∙ h.joined;
   seam = seam;
-  some = inr some;
+  near = near;
 }
 
 pub filling_last : (whole left text : List ℕ) (leaves : List NodeView) → IsFilling whole left text leaves → left ≡ [] → concat (all_pieces leaves) ++ text ≡ whole
@@ -166,6 +190,9 @@ is_filled old text end room u v boundary within h space cr lf =
 nothing_left : (text : List ℕ) (end : ℕ) → end ≡ length text → chars (drop end text) ≡ []
 nothing_left text end is = ap chars (drop_of_length-le text (omega (arith, is))) ∙ chars-nil
 
+left_or_full : (text rest : List ℕ) (end : ℕ) → (end ≡ length text) ⊎ (980 ≤ byte_len rest) → (chars (drop end text) ≡ []) ⊎ IsFull rest
+left_or_full text rest end full = elim full [ inl all ↦ inl (nothing_left text end all) | inr near ↦ inr near ]
+
 front_bytes : (text : List ℕ) (end : ℕ) → IsUtf8 text → IsCharBoundary text end → end ≤ length text → byte_len (chars (take end text)) ≡ end
 front_bytes text end u boundary within = ap length (encodes-chars (take end text) (IsUtf8-take text end u boundary)) ∙ length-take-le end text within
 
@@ -175,14 +202,14 @@ both_parts text end u boundary = ap chars (sym (take-append-drop end text)) ∙ 
 pub filling_starts : (leaves made : List NodeView) (old rest text : List ℕ) (end : ℕ) → made ≡ [] → IsUtf8 text → IsCharBoundary text end → IsCutBefore old leaves → rest ≡ old ++ chars (take end text)
     → cuts_cr_lf rest (chars (drop end text)) ≡ false → (end ≡ length text) ⊎ (980 ≤ byte_len rest) → IsFilling ((concat (all_pieces leaves) ++ old) ++ chars text) (chars (drop end text)) rest (leaves ++ made)
 filling_starts leaves made old rest text end none u boundary h is seam full =
-    let some : (chars (drop end text) ≡ []) ⊎ (1 ≤ byte_len rest) = elim full [ inl all ↦ inl (nothing_left text end all) | inr near ↦ inr (omega (arith, near)) ] in
-    let first = filling_first (concat (all_pieces leaves) ++ old) old (chars (take end text)) (chars (drop end text)) leaves refl h (rw is at seam) (rw is at some) in
+    let near = left_or_full text rest end full in
+    let first = filling_first (concat (all_pieces leaves) ++ old) old (chars (take end text)) (chars (drop end text)) leaves refl h (rw is at seam) (rw is at near) in
     rw (none, append-nil leaves, is, both_parts text end u boundary) first
 
 pub filling_some : (whole left rest : List ℕ) (leaves : List NodeView) → IsFilling whole (chars left) rest leaves → IsUtf8 left → 1 ≤ length left → 1 ≤ byte_len rest
-filling_some whole left rest leaves h u more = elim h.some [
+filling_some whole left rest leaves h u more = elim h.near [
   | inl none ↦ absurd (omega (arith, more, ap length (encodes-chars left u), ap byte_len none))
-  | inr some ↦ some
+  | inr full ↦ omega (arith, full)
 ]
 
 pub filled_some : (left rest : List ℕ) (end : ℕ) → IsUtf8 left → IsCharBoundary left end → end ≤ length left → 1 ≤ length left → rest ≡ chars (take end left) → (end ≡ length left) ⊎ (980 ≤ byte_len rest) → 1 ≤ end
@@ -197,7 +224,7 @@ pub filling_goes_on : (whole left rest next : List ℕ) (leaves made : List Node
 filling_goes_on whole left rest next leaves made v end h u boundary within more is piece next_is seam full =
     let some : 1 ≤ byte_len next = omega (arith, filled_some left next end u boundary within more next_is full, ap byte_len next_is, front_bytes left end u boundary within) in
     let parts : chars left ≡ next ++ chars (drop end left) = both_parts left end u boundary ∙ ap (λ t. t ++ chars (drop end left)) (sym next_is) in
-    rw (sym (append_assoc leaves made (v ∷ []))) (filling_next whole (chars left) rest next (chars (drop end left)) (leaves ++ made) v h is piece parts some seam)
+    rw (sym (append_assoc leaves made (v ∷ []))) (filling_next whole (chars left) rest next (chars (drop end left)) (leaves ++ made) v h is piece parts some seam (left_or_full left next end full))
 
 pub no_chars : (left : List ℕ) → length left ≡ 0 → chars left ≡ []
 no_chars [] h = chars-nil

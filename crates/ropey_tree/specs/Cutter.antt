@@ -1,12 +1,13 @@
 -- Leaves of a text that goes on.
-use Rattle.std.specs.Prelude.{◌≡◌, ℕ, false, List, ◌++◌}
+use Rattle.std.specs.Prelude.{◌≡◌, ℕ, false, List, ◌++◌, All}
 use Rattle.std.specs.List.{concat}
-use Rattle.ropey_tree.specs.Cutting.{IsCutting, cuts_cr_lf}
+use Rattle.ropey_tree.specs.Cutting.{IsCutting, IsFull, cuts_cr_lf}
 use Rattle.ropey_tree.specs.NodeView.{NodeView}
 use Rattle.ropey_tree.specs.Nodes.{AreNodes, all_pieces}
 
--- leaves after which a text stands, and whatever comes after it, no CR LF is cut
+-- full leaves after which a text stands, and whatever comes after it, no CR LF is cut
 pub record IsCutBefore (rest : List ℕ) (leaves : List NodeView) : Type 0 where
   pub nodes : AreNodes 0 12 leaves
   pub cut : IsCutting (all_pieces leaves)
+  pub full : All IsFull (all_pieces leaves)
   pub whole : (next : List ℕ) → cuts_cr_lf (concat (all_pieces leaves)) (rest ++ next) ≡ false

@@ -1,5 +1,5 @@
 -- Texts that are cut into pieces. A text is a list of Unicode scalar values, and pieces are joined by `concat`.
-use Rattle.std.specs.Prelude.{◌≡◌, ℕ, ◌^◌, ◌<◌, ◌≤◌, true, false, List, [], ◌∷◌, ◌++◌}
+use Rattle.std.specs.Prelude.{◌≡◌, ℕ, ◌-◌, ◌^◌, ◌<◌, ◌≤◌, true, false, List, [], ◌∷◌, ◌++◌, length, take, All}
 use Rattle.std.specs.Str.{all_scalars}
 use Rattle.str_indices.specs.Text.{byte_len}
 pub use Rattle.str_indices.specs.Text.{cuts_cr_lf}
@@ -16,6 +16,14 @@ abbrev pub IsCutting : List (List ℕ) → Type 0
 IsCutting [] = Unit {0}
 IsCutting (p ∷ []) = IsPiece p
 IsCutting (p ∷ q ∷ ps) = IsPiece p × (cuts_cr_lf p q ≡ false) × IsCutting (q ∷ ps)
+
+-- of 980 bytes or more: a character more would have had to be cut, or a CR LF
+abbrev pub IsFull : List ℕ → Type 0
+IsFull piece = 980 ≤ byte_len piece
+
+-- each piece is full but maybe the last
+abbrev pub AreFull : List (List ℕ) → Type 0
+AreFull pieces = All IsFull (take (length pieces - 1) pieces)
 
 -- the pieces of a text that a rope may hold: of at most `isize::MAX` bytes
 pub record IsText (pieces : List (List ℕ)) : Type 0 where

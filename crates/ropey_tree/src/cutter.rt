@@ -4,7 +4,7 @@ ghost use Rattle.std.specs.Prelude.{◌≡◌, ◌≤◌, ◌++◌, [], IfOk, On
 ghost use Rattle.std.specs.List.{concat};
 ghost use Rattle.std.specs.Str.{chars};
 ghost use Rattle.str_indices.specs.Text.{byte_len};
-ghost use Rattle.ropey_tree.specs.Cutting.{IsCutting, IsPiece};
+ghost use Rattle.ropey_tree.specs.Cutting.{AreFull, IsCutting, IsPiece};
 ghost use Rattle.ropey_tree.specs.Nodes.{AreNodes, all_pieces, leaf_view};
 ghost use Rattle.ropey_tree.specs.Siblings.{views};
 
@@ -88,6 +88,7 @@ impl Cutter {
         ensures leaves { IfOk result (λ leaves. AreNodes 0 12 (views leaves.items)) }
         ensures text { IfOk result (λ leaves. concat (all_pieces (views leaves.items)) ≡ self) }
         ensures cut { IfOk result (λ leaves. IsCutting (all_pieces (views leaves.items))) }
+        ensures full { IfOk result (λ leaves. AreFull (all_pieces (views leaves.items))) }
     {
         if self.rest.room() == MAX_BYTES {
             return Ok(self.leaves);
@@ -113,6 +114,7 @@ pub fn leaves_of(alloc: Global, text: &str) -> Result<Vec<Rc<Node>>, AllocError>
     ensures text { IfOk result (λ leaves. concat (all_pieces (views leaves.items)) ≡
         chars text.now) }
     ensures cut { IfOk result (λ leaves. IsCutting (all_pieces (views leaves.items))) }
+    ensures full { IfOk result (λ leaves. AreFull (all_pieces (views leaves.items))) }
 {
     let mut cutter = Cutter::new(alloc);
     cutter.append(text)?;

@@ -1,7 +1,8 @@
 use Rattle.std.proofs.Common.{◌∷◌, [], ap, ◌∙◌, arith}
 use Rattle.std.proofs.lemmas.List.{map-append}
+use Rattle.ropey_tree.specs.Nodes.{all_pieces}
 use Rattle.ropey_tree.specs.Siblings.{views}
-use Rattle.ropey_tree.proofs.Filling.{no_rest, leaf_nodes, leaf_text, leaf_cut}
+use Rattle.ropey_tree.proofs.Filling.{no_rest, all_full, leaf_nodes, leaf_text, leaf_cut, leaf_full}
 use Rattle.ropey_tree.proofs.cutter.Cutter.finish.Goals as goal
 
 pub returns-then-room-eq-MAX_BYTES-clause-text : goal.returns-then-room-eq-MAX_BYTES-clause-text
@@ -25,3 +26,12 @@ returns-clause-cut c =
     let pushed = ap views c.in_ok-push.ensures.items ∙ map-append (λ node. node.value) c.self.inside.leaves.items (c.in_ok-leaf_node.field-0 ∷ []) in
     let leaf = c.in_ok-leaf_node.ensures in
     rw pushed (leaf_cut (views c.self.inside.leaves.items) c.in_ok-leaf_node.field-0.value c.self.inside.rest leaf.node leaf.piece c.self.invariant)
+
+pub returns-then-room-eq-MAX_BYTES-clause-full : goal.returns-then-room-eq-MAX_BYTES-clause-full
+returns-then-room-eq-MAX_BYTES-clause-full c = all_full (all_pieces (views c.self.inside.leaves.items)) c.self.invariant.full
+
+pub returns-clause-full : goal.returns-clause-full
+returns-clause-full c =
+    let pushed = ap views c.in_ok-push.ensures.items ∙ map-append (λ node. node.value) c.self.inside.leaves.items (c.in_ok-leaf_node.field-0 ∷ []) in
+    let leaf = c.in_ok-leaf_node.ensures in
+    rw pushed (leaf_full (views c.self.inside.leaves.items) c.in_ok-leaf_node.field-0.value c.self.inside.rest leaf.node leaf.piece c.self.invariant)

@@ -1,0 +1,44 @@
+-- What a reader gives, and what is told of it where no rope is made of that.
+use Rattle.std.specs.Prelude.{◌≡◌, ℕ, ◌<◌, ◌≤◌, ◌^◌, ◌⊎◌, List, [], ◌++◌, length, Option}
+use Rattle.std.specs.Str.{IsUtf8}
+use Rattle.std.specs.Io.KnownBytes.{Consumes, IsAtEnd}
+use Rattle.ropey.specs.declared.read_fault.ReadFault.{ReadFault}
+use Rattle.ropey.specs.declared.read_fault.ReadFault.TheVariants.{Read, Utf8, Memory, Size, Turns}
+
+-- some text begins with these bytes
+abbrev pub BeginsText : List ℕ → Type 0
+BeginsText bytes = (more : List ℕ) × IsUtf8 (bytes ++ more)
+
+-- a reader gave these bytes and told its end
+pub record GivesAll (left left' : Option (List ℕ)) (bytes : List ℕ) : Type 0 where
+  pub consumed : Consumes left left' bytes
+  pub at_end : IsAtEnd left'
+
+-- what holds of the bytes that a reader gave, and of those that it has left, where a fault is the first that was met
+abbrev pub IsMet : ReadFault → List ℕ → Option (List ℕ) → Type 0
+IsMet Read given left = BeginsText given
+IsMet Utf8 given left = (BeginsText given → ⊥) ⊎ ((IsUtf8 given → ⊥) × IsAtEnd left)
+IsMet Memory given left = BeginsText given
+IsMet Size given left = BeginsText given × (2 ^ 63 ≤ length given)
+IsMet Turns given left = BeginsText given × (2 ^ 62 ≤ length given)
+
+-- a reader gave some bytes, and then a fault was met
+pub record GivesUntil (fault : ReadFault) (left left' : Option (List ℕ)) : Type 0 where
+  pub given : List ℕ
+  pub consumed : Consumes left left' given
+  pub met : IsMet fault given left'
+
+-- bytes that were read are a text, and then nothing or a part of a character: a text begins so, and it is none
+pub record IsCutAt (bytes text rest : List ℕ) : Type 0 where
+  pub parts : bytes ≡ text ++ rest
+  pub utf8 : IsUtf8 text
+  pub begins : BeginsText rest
+  pub no_text : IsUtf8 rest → rest ≡ []
+  pub short : length rest < 4
+
+-- a reader gave some more bytes, which stand behind these
+pub record GivesMore (left left' : Option (List ℕ)) (old new : List ℕ) : Type 0 where
+  pub bytes : List ℕ
+  pub consumed : Consumes left left' bytes
+  pub some : 0 < length bytes
+  pub behind : new ≡ old ++ bytes

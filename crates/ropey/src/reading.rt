@@ -1,0 +1,49 @@
+//! Reading a rope from a reader.
+
+ghost use Rattle.std.specs.Prelude.{IfOk, IfErr};
+ghost use Rattle.ropey.specs.Chunks.{AreFull};
+ghost use Rattle.ropey.specs.Comparing.{text_bytes};
+ghost use Rattle.ropey.specs.Reading.{GivesAll, GivesUntil};
+
+use crate::read_fault::ReadFault;
+use crate::read_window::ReadWindow;
+use crate::rope::Rope;
+use crate::rope_builder::RopeBuilder;
+use std::alloc::Global;
+use std::io::Read;
+
+/// How often a reader is read before its end is given up.
+const MOST_READS: u64 = 1 << 62;
+
+impl Rope {
+    /// A rope of all bytes that a reader gives up to its end. They come through an array of 4,096
+    /// bytes, and may be cut inside a character. `O(n)`.
+    ///
+    /// The first fault that is met is told, and what was read is lost: `Read` where a read failed,
+    /// also where it was interrupted; `Utf8` where no text begins with the bytes that came, or they
+    /// ended inside a character; `Size` where they are more than `isize::MAX`; `Memory`; and
+    /// `Turns` where `2^62` reads didn't come to the end.
+    pub fn from_reader<R: Read>(alloc: Global, reader: &mut R) -> Result<Self, ReadFault>
+        ensures text { IfOk result (λ rope. GivesAll (R.remaining reader.old)
+            (R.remaining reader.new) (text_bytes rope)) }
+        ensures full { IfOk result (λ rope. AreFull rope) }
+        ensures fault { IfErr result (λ fault. GivesUntil fault (R.remaining reader.old)
+            (R.remaining reader.new)) }
+    {
+        let mut builder = RopeBuilder::new(alloc);
+        let mut window = ReadWindow::new();
+        for _ in 0..MOST_READS {
+            if !window.read(reader)? {
+                if !window.is_empty() {
+                    return Err(ReadFault::Utf8);
+                }
+                return match builder.finish() {
+                    Ok(rope) => Ok(rope),
+                    Err(_) => Err(ReadFault::Memory),
+                };
+            }
+            window.give_text(&mut builder)?;
+        }
+        Err(ReadFault::Turns)
+    }
+}
