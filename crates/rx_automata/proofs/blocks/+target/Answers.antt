@@ -61,8 +61,8 @@ returns-clause-fits t c =
     let v = c.args.value in
     let q = in_ranges c.args.ranges.now in
     let same : (x : ℕ) → v * size r ≤ x → x ≤ v * size r + (size r - 1) → p x ≡ q x = λ x low high.
-        c.ranges_up_to-part.ensures x (subst (λ n. x ≤ v * n + (c.size-2.result - 1)) (sym c.size.ensures) (subst (λ n. x ≤ v * size r + (n - 1)) (sym c.size-2.ensures) high))
-        ∙ c.ranges_from.ensures x (subst (λ n. v * n ≤ x) (sym c.size.ensures) low) in
+    c.ranges_up_to-part.ensures x (subst (λ n. x ≤ v * n + (c.size-2.result - 1)) (sym c.size.ensures) (subst (λ n. x ≤ v * size r + (n - 1)) (sym c.size-2.ensures) high))
+    ∙ c.ranges_from.ensures x (subst (λ n. v * n ≤ x) (sym c.size.ensures) low) in
     let fits = part_fits (R ++ row ∷ []) p q r v (Some (Some (length R))) c.requires.rest same (filled_fits R p r v row (omega (arith, c.if-rest-eq0.false)) more filled) in
     subst (λ s. Fits (step_in (rows_of c.push.new.self.items)) (length (rows_of c.push.new.self.items)) q r v (Some (Some s))) state
     (subst (λ S. Fits (step_in S) (length S) q r v (Some (Some (length R)))) pushed fits)
