@@ -75,3 +75,14 @@ full_fits step n p f (suc r) v full all = subst (Fits step n p (suc r) v) (sym f
   (λ b is. subst (Fits step n p r (v * 64 + (b - 128))) (sym (full.3 b ∙ cond_true (is_next b) (f r) None is)) (full_fits step n p f r (v * 64 + (b - 128)) full.4 (λ c e. all c (next_high r v b c is e)))),
   (λ b is. full.3 b ∙ ap (λ x. cond x (f r) None) is),
 )
+
+-- members of the block alone matter
+pub fits_alike : (step : Step) (n : ℕ) (p q : ℕ → Bool) (r v : ℕ) (t : Option (Option ℕ)) → ((c : ℕ) → high r c ≡ v → p c ≡ q c) → Fits step n p r v t → Fits step n q r v t
+fits_alike step n p q zero v t same fits = fits ∙ ap (λ x. cond x (Some None) None) (same v refl)
+fits_alike step n p q (suc r) v None same fits = λ c e. sym (same c e) ∙ fits c e
+fits_alike step n p q (suc r) v (Some None) same fits = fits
+fits_alike step n p q (suc r) v (Some (Some s)) same fits = (
+  fits.0,
+  (λ b is. fits_alike step n p q r (v * 64 + (b - 128)) (step s b) (λ c e. same c (next_high r v b c is e)) (fits.1 b is)),
+  fits.2,
+)

@@ -10,7 +10,7 @@ use Rattle.std.proofs.lemmas.List.Elements.{All-append, All-cons, All-nil, All-g
 use Rattle.rx_automata.specs.Automata.{look_up, step_in, RiseWithin, IsRow}
 use Rattle.rx_automata.proofs.RowLaws.{rise_above, rise_more, leads_here, leads_before}
 use Rattle.rx_automata.proofs.FirstLaws.{next_range}
-use Rattle.rx_automata.proofs.FitLaws.{Full, full_fits, fits_on}
+use Rattle.rx_automata.proofs.FitLaws.{Full, full_fits, fits_on, fits_alike}
 
 abbrev pub Rows : Type 0
 Rows = List (List ByteRange)
@@ -71,6 +71,10 @@ whole_fits R p (suc r) v some few on all = full_fits (step_in R) (length R) p fu
 pub none_fits : (R : Rows) (p : ℕ → Bool) (r v : ℕ) → 0 < r → r ≤ 3 → AllBetween p (v * size r) (v * size r + (size r - 1)) false → Fits (step_in R) (length R) p r v None
 none_fits R p zero v some few all = absurd (omega (arith, some))
 none_fits R p (suc r) v some few all = λ c e. let at = block (suc r) v c few e in all c at.0 at.1
+
+-- ranges that hold the same characters of the block
+pub part_fits : (R : Rows) (p q : ℕ → Bool) (r v : ℕ) (t : Option (Option ℕ)) → r ≤ 3 → ((c : ℕ) → v * size r ≤ c → c ≤ v * size r + (size r - 1) → p c ≡ q c) → Fits (step_in R) (length R) p r v t → Fits (step_in R) (length R) q r v t
+part_fits R p q r v t few same fits = fits_alike (step_in R) (length R) p q r v t (λ c e. let at = block r v c few e in same c at.0 at.1) fits
 
 pub limit_next : (r v d : ℕ) → 0 < r → r ≤ 3 → v < limit r → d < 64 → v * 64 + d < limit (r - 1)
 limit_next zero v d some few within low = absurd (omega (arith, some))

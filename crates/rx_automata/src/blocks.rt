@@ -33,6 +33,30 @@ fn cover(ranges: &[Range], low: u32, high: u32) -> Option<bool>
     Some(false)
 }
 
+/// The ranges without those in front that end below this code point.
+fn ranges_from(mut ranges: &[Range], low: u32) -> &[Range]
+    ensures { (c : ℕ) → low ≤ c → in_ranges result.now c ≡ in_ranges ranges.now c }
+{
+    while let [first, rest @ ..] = ranges
+        && first.1 < low
+    {
+        ranges = rest;
+    }
+    ranges
+}
+
+/// The ranges without those at the end that start above this code point.
+fn ranges_up_to(mut ranges: &[Range], high: u32) -> &[Range]
+    ensures { (c : ℕ) → c ≤ high → in_ranges result.now c ≡ in_ranges ranges.now c }
+{
+    while let [rest @ .., last] = ranges
+        && high < last.0
+    {
+        ranges = rest;
+    }
+    ranges
+}
+
 /// How many code points there are with these bytes still to come.
 fn size(rest: u32) -> u32
     requires { rest ≤ 3 }
@@ -70,14 +94,17 @@ pub(crate) fn target(
         });
     }
     let low = value * size(rest);
-    match cover(ranges, low, low + (size(rest) - 1)) {
+    let high = low + (size(rest) - 1);
+    match cover(ranges, low, high) {
         Some(false) => return Ok(None),
         Some(true) => return Ok(Some(Some(rest as usize))),
         None => {}
     }
+    // What lies outside the block is left out, so that its parts don't look at it again.
+    let part = ranges_up_to(ranges_from(ranges, low), high);
     let mut row = Vec::new(*rows.allocator());
     for byte in 128..192 {
-        if let Some(next) = target(rows, ranges, rest - 1, value * 64 + (byte as u32 - 128))? {
+        if let Some(next) = target(rows, part, rest - 1, value * 64 + (byte as u32 - 128))? {
             push_byte(&mut row, byte, next)?;
         }
     }

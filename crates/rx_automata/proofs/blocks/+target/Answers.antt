@@ -1,10 +1,10 @@
-use Rattle.std.proofs.Common.{rules, ◌≡◌, ◌<◌, ◌≤◌, ◌+◌, ◌++◌, length, [], ◌∷◌, ◌-◌, ◌*◌, true, Some, subst, sym, ap, ◌∙◌, arith}
+use Rattle.std.proofs.Common.{rules, ◌≡◌, ◌<◌, ◌≤◌, ◌+◌, ◌++◌, length, [], ◌∷◌, ◌-◌, ◌*◌, ℕ, true, Some, subst, sym, ap, ◌∙◌, arith}
 use Rattle.std.specs.List.{All}
 use Rattle.std.proofs.lemmas.List.{map-append, length-map}
 use Rattle.rx_sets.specs.Sets.{in_ranges}
 use Rattle.rx_automata.specs.Automata.{step_in, IsRow}
 use Rattle.rx_automata.specs.Blocks.{size, AllBetween, Fits, rows_of}
-use Rattle.rx_automata.proofs.TargetLaws.{Filled, extends_on, whole_fits, filled_push, filled_skip, filled_fits, rows_one_more}
+use Rattle.rx_automata.proofs.TargetLaws.{Filled, extends_on, whole_fits, filled_push, filled_skip, filled_fits, part_fits, rows_one_more}
 use Rattle.rx_automata.proofs.blocks.+target.Goals.{in-Some+in_ok-push_byte, in_default}
 use Rattle.rx_automata.proofs.blocks.+target.Goals as goal
 
@@ -22,7 +22,7 @@ pub loop-byte-preserved : goal.loop-byte-preserved
 loop-byte-preserved t c =
     let R = rows_of c.loop-byte.rows.items in
     let S = rows_of c.target.new.rows.items in
-    let p = in_ranges c.args.ranges.now in
+    let p = in_ranges c.ranges_up_to-part.result.now in
     let r = c.args.rest - 1 in
     let v = c.args.value in
     let to = c.loop-byte.byte in
@@ -48,7 +48,7 @@ loop-byte-preserved t c =
 pub returns-clause-fits : goal.returns-clause-fits
 returns-clause-fits t c =
     let R = rows_of c.loop-byte.rows.items in
-    let p = in_ranges c.args.ranges.now in
+    let p = in_ranges c.ranges_up_to-part.result.now in
     let row = c.loop-byte.row.items in
     let inv = c.loop-byte.invariant in
     let pushed : R ++ row ∷ [] ≡ rows_of c.push.new.self.items = sym (ap rows_of c.in_ok-push.ensures.items ∙ map-append (λ x. x.items) c.loop-byte.rows.items (c.loop-byte.row ∷ [])) in
@@ -57,9 +57,15 @@ returns-clause-fits t c =
     let end : c.loop-byte.byte ≡ 192 = omega (arith, c.loop-byte-test.false, c.loop-byte.auto.byte, c.loop-byte.auto.byte-end) in
     let filled : Filled R p (c.args.rest - 1) c.args.value 192 row = subst (λ x. Filled R p (c.args.rest - 1) c.args.value x row) end inv.filled in
     let more : 0 < length R = omega (arith, c.requires.prepared.0, inv.grows.0) in
-    let fits = filled_fits R p c.args.rest c.args.value row (omega (arith, c.if-rest-eq0.false)) more filled in
-    subst (λ s. Fits (step_in (rows_of c.push.new.self.items)) (length (rows_of c.push.new.self.items)) p c.args.rest c.args.value (Some (Some s))) state
-    (subst (λ S. Fits (step_in S) (length S) p c.args.rest c.args.value (Some (Some (length R)))) pushed fits)
+    let r = c.args.rest in
+    let v = c.args.value in
+    let q = in_ranges c.args.ranges.now in
+    let same : (x : ℕ) → v * size r ≤ x → x ≤ v * size r + (size r - 1) → p x ≡ q x = λ x low high.
+    c.ranges_up_to-part.ensures x (subst (λ n. x ≤ v * n + (c.size-2.result - 1)) (sym c.size.ensures) (subst (λ n. x ≤ v * size r + (n - 1)) (sym c.size-2.ensures) high))
+    ∙ c.ranges_from.ensures x (subst (λ n. v * n ≤ x) (sym c.size.ensures) low) in
+    let fits = part_fits (R ++ row ∷ []) p q r v (Some (Some (length R))) c.requires.rest same (filled_fits R p r v row (omega (arith, c.if-rest-eq0.false)) more filled) in
+    subst (λ s. Fits (step_in (rows_of c.push.new.self.items)) (length (rows_of c.push.new.self.items)) q r v (Some (Some s))) state
+    (subst (λ S. Fits (step_in S) (length S) q r v (Some (Some (length R)))) pushed fits)
 
 pub returns-clause-kept : goal.returns-clause-kept
 returns-clause-kept t c =

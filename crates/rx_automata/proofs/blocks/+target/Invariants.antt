@@ -15,5 +15,5 @@ invariant-loop-byte l = record {
   grows : Extends (rows_of l.fn.rows.items) (rows_of l.rows.items);
   kept : All IsRow (rows_of l.rows.items);
   from : 128 ≤ l.byte;
-  filled : Filled (rows_of l.rows.items) (in_ranges l.ranges) (l.rest - 1) l.value l.byte l.row.items;
+  filled : Filled (rows_of l.rows.items) (in_ranges l.part) (l.rest - 1) l.value l.byte l.row.items;
 }

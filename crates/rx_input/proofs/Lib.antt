@@ -1,0 +1,3 @@
+pub mod ChunkLemmas
+pub mod PieceLemmas
+pub mod SeenLemmas

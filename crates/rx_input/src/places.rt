@@ -1,0 +1,121 @@
+//! Moving a cursor to a place of its content, reading there, and the places of a range.
+
+ghost use Rattle.std.specs.Prelude.{◌≡◌, ◌+◌, ◌-◌, ◌≤◌, length, min, take, drop, slice_get, ◌^◌, ◌<◌};
+ghost use Rattle.std.specs.Range.Bound.{start_index, end_index};
+ghost use Rattle.rx_input.specs.Cursors.{IsSameContent};
+ghost use Rattle.rx_input.specs.Inputs.{HoldsPlace};
+
+use crate::cursor::Cursor;
+use rx_captures::Span;
+use std::ops::{Bound, RangeBounds};
+
+/// The span of a range, where an open end is this place.
+pub(crate) fn span_of<R: RangeBounds<usize>>(range: R, open_end: usize) -> Span
+    requires known { R.has_bounds range }
+    requires start { start_index (R.start_bound range) < 2 ^ 64 }
+    requires end { end_index (R.end_bound range) open_end < 2 ^ 64 }
+    ensures start { result.start ≡ start_index (R.start_bound range) }
+    ensures end { result.end ≡ end_index (R.end_bound range) open_end }
+{
+    let start = match range.start_bound() {
+        Bound::Included(start) => *start,
+        Bound::Excluded(start) => *start + 1,
+        Bound::Unbounded => 0,
+    };
+    let end = match range.end_bound() {
+        Bound::Included(end) => *end + 1,
+        Bound::Excluded(end) => *end,
+        Bound::Unbounded => open_end,
+    };
+    Span { start, end }
+}
+
+/// Goes back until the piece starts at the place or before it.
+fn back_to<C: Cursor>(cursor: &mut C, at: usize)
+    ensures same { IsSameContent (C.state cursor.old) (C.state cursor.new) }
+    ensures reached { (C.state cursor.new).start ≤ at }
+{
+    while at < cursor.offset() {
+        cursor.backtrack();
+    }
+}
+
+/// Goes on until the piece holds the byte at the place, or is the last one, and answers the index
+/// in the piece of the place, or of the content's end where that comes first.
+fn on_to<C: Cursor>(cursor: &mut C, at: usize) -> usize
+    requires { (C.state cursor.old).start ≤ at }
+    ensures same { IsSameContent (C.state cursor.old) (C.state cursor.new) }
+    ensures holds { HoldsPlace (C.state cursor.new)
+        (min at (length (C.state cursor.new).content)) }
+    ensures index { (C.state cursor.new).start + result
+        ≡ min at (length (C.state cursor.new).content) }
+{
+    loop {
+        let index = at - cursor.offset();
+        let len = cursor.chunk().len();
+        if index < len || !cursor.advance() {
+            return index.min(len);
+        }
+    }
+}
+
+/// Shows the piece that holds the byte at the place, or the last one, and answers the index in the
+/// piece of the place, or of the content's end where that comes first.
+pub(crate) fn move_to<C: Cursor>(cursor: &mut C, at: usize) -> usize
+    ensures same { IsSameContent (C.state cursor.old) (C.state cursor.new) }
+    ensures holds { HoldsPlace (C.state cursor.new)
+        (min at (length (C.state cursor.new).content)) }
+    ensures index { (C.state cursor.new).start + result
+        ≡ min at (length (C.state cursor.new).content) }
+{
+    back_to(cursor, at);
+    on_to(cursor, at)
+}
+
+/// The byte at a place, if there is one. The cursor may then show another piece.
+fn byte_at<C: Cursor>(cursor: &mut C, at: usize) -> Option<u8>
+    ensures same { IsSameContent (C.state cursor.old) (C.state cursor.new) }
+    ensures byte { result ≡ slice_get (C.state cursor.old).content at }
+{
+    let index = move_to(cursor, at);
+    cursor.chunk().get(index).copied()
+}
+
+/// Reads the bytes from a place on one by one, as many as there is room for, and answers how many
+/// there are.
+fn read_bytes<C: Cursor>(cursor: &mut C, from: usize, buf: &mut [u8]) -> usize
+    requires { from + length buf.old < 2 ^ 64 }
+    ensures same { IsSameContent (C.state cursor.old) (C.state cursor.new) }
+    ensures bytes { take result buf.new
+        ≡ take (length buf.old) (drop from (C.state cursor.old).content) }
+    ensures count { result ≤ length buf.new }
+    ensures room { length buf.new ≡ length buf.old }
+{
+    for index in 0..buf.len() {
+        match byte_at(cursor, from + index) {
+            Some(byte) => buf[index] = byte,
+            None => return index,
+        }
+    }
+    buf.len()
+}
+
+/// Reads the bytes from a place on, as many as there is room for, and answers how many there are.
+/// The cursor may then show another piece.
+pub(crate) fn read_at<C: Cursor>(cursor: &mut C, from: usize, buf: &mut [u8]) -> usize
+    requires { from + length buf.old < 2 ^ 64 }
+    ensures same { IsSameContent (C.state cursor.old) (C.state cursor.new) }
+    ensures bytes { take result buf.new
+        ≡ take (length buf.old) (drop from (C.state cursor.old).content) }
+    ensures count { result ≤ length buf.new }
+    ensures room { length buf.new ≡ length buf.old }
+{
+    let index = move_to(cursor, from);
+    let chunk = cursor.chunk();
+    let len = buf.len();
+    if chunk.len() - index < len {
+        return read_bytes(cursor, from, buf);
+    }
+    buf.copy_from_slice(&chunk[index..index + len]);
+    len
+}

@@ -1,0 +1,55 @@
+//! An example for each public type of `rx_input`.
+
+use rx_captures::{Anchored, Span};
+use rx_input::{ChunkCursor, Cursor, Input};
+use std::test::Fail;
+
+/// A content in two chunks, which is walked by pieces.
+#[test]
+fn chunk_cursor(rt: HostRuntime) -> Result<(), Fail> {
+    let chunks: [&[u8]; 3] = [b"one ", b"", b"two"];
+    let mut cursor = ChunkCursor::new(&chunks);
+    assert_eq!(rt; cursor.chunk(), "one ".as_bytes());
+    assert_eq!(rt; cursor.advance(), true);
+    assert_eq!(rt; cursor.chunk(), "two".as_bytes());
+    assert_eq!(rt; cursor.offset(), 4);
+    assert_eq!(rt; cursor.advance(), false);
+    Ok(())
+}
+
+/// What a search is asked for.
+#[test]
+fn input(rt: HostRuntime) -> Result<(), Fail> {
+    let mut input = Input::new("one two").range(1..);
+    assert_eq!(rt; input.get_span(), Span { start: 1, end: 7 });
+    assert_eq!(rt; input.position(), 1);
+    assert_eq!(rt; input.chunk(), "one two".as_bytes());
+    assert_eq!(rt; input.chunk_offset(), 0);
+    assert_eq!(rt; input.get_chunk_end(), 7);
+    input.slice(..=4).anchored(Anchored::Yes).earliest(true);
+    assert_eq!(rt; input.get_slice(), Span { start: 0, end: 5 });
+    assert_eq!(rt; input.start(), 0);
+    assert_eq!(rt; input.end(), 5);
+    assert_eq!(rt; input.get_anchored(), Anchored::Yes);
+    assert_eq!(rt; input.get_earliest(), true);
+    assert_eq!(rt; input.is_done(), false);
+    let seen = input.look_around();
+    assert_eq!(rt; seen.bytes(), "one t".as_bytes());
+    assert_eq!(rt; seen.position(), 1);
+    let mut other = input.clone();
+    other.set_start(2);
+    other.set_end(3);
+    other.set_anchored(Anchored::No);
+    other.set_earliest(false);
+    other.clear_look_behind();
+    assert_eq!(rt; other.get_span(), Span { start: 2, end: 3 });
+    assert_eq!(rt; other.position(), 2);
+    other.span(3..2);
+    assert_eq!(rt; other.is_done(), true);
+    other.set_range(..);
+    other.slice_span(2..4);
+    assert_eq!(rt; other.advance(), false);
+    assert_eq!(rt; other.position(), 7);
+    assert_eq!(rt; other.is_char_boundary(), true);
+    Ok(())
+}
