@@ -109,11 +109,7 @@ pub fn append(
 }
 
 /// `joins::concat`, where the front may have no text.
-fn behind(
-    alloc: Global,
-    front: Option<Rc<Node>>,
-    back: Rc<Node>,
-) -> Result<Rc<Node>, AllocError>
+fn behind(alloc: Global, front: Option<Rc<Node>>, back: Rc<Node>) -> Result<Rc<Node>, AllocError>
     requires { IsText (pieces_in front ++ back.value.pieces) }
     ensures { IfOk result (λ node. node.value.pieces ≡ pieces_in front ++ back.value.pieces) }
 {

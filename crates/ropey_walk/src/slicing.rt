@@ -110,7 +110,8 @@ impl<'a> RopeSlice<'a> {
         self.between_places(&from, &to)
     }
 
-    /// Where a range of characters starts and ends, or why it is refused, as in `try_slice`. `O(1)`.
+    /// Where a range of characters starts and ends, or why it is refused, as in `try_slice`.
+    /// `O(1)`.
     pub fn char_indices(&self, ends: Ends) -> Result<(usize, usize), Error>
         ensures { MatchResult result
             (λ indices. IsRangeIn (length (slice_text self.now)) ends ×
