@@ -30,6 +30,8 @@ PARTS = [
     ["x" * 100] * 40,
 ]
 
+EDITS = [b"not inserted", b"not removed", b"not split", b"not appended"]
+
 
 def told_rope(out):
     """The numbers of the refused parts, the chunks, and whether a rope was told, from what
@@ -45,15 +47,36 @@ def told_rope(out):
     return refused, chunks, out == b"%d bytes\n" % sum(map(len, chunks))
 
 
-def wrong_chunks(chunks):
+def edited(text, refused):
+    """The text after the edits that bin/memory-tests makes, without those that were refused."""
+    half = len(text) // 2
+    if b"not inserted" not in refused:
+        text = text[:half] + "\né\r" + text[half:]
+    if b"not removed" not in refused:
+        text = text[: half // 2] + text[half:]
+    return text[: len(text) // 3] if b"not appended" in refused else text
+
+
+def wrong_chunks(chunks, least=980):
     for number, chunk in enumerate(chunks):
         last = number + 1 == len(chunks)
-        if not 1 <= len(chunk) <= 984 or (len(chunk) < 980 and not last):
+        if not 1 <= len(chunk) <= 984 or (len(chunk) < least and not last):
             yield f"chunk {number} has {len(chunk)} bytes"
         if not is_utf8(chunk):
             yield f"chunk {number} cuts a character"
         if not last and chunk.endswith(b"\r") and chunks[number + 1].startswith(b"\n"):
             yield f"a CR LF is cut after chunk {number}"
+
+
+def wrong_edits(text, out):
+    """What is wrong with the rope that was edited, and the edits that were refused."""
+    refused, rest = [], out
+    while rest.startswith(b"not "):
+        line, rest = rest.split(b"\n", 1)
+        refused.append(line)
+    _, chunks, is_told = told_rope(rest)
+    right = is_told and b"".join(chunks) == edited(text, refused).encode()
+    return list(wrong_chunks(chunks, 462)) + ([] if right else [f"it wrote {short(out)}"]), refused
 
 
 def test_all():
@@ -181,7 +204,28 @@ def test_all():
         test(f"{name}, nothing refused", wrong + differences(ended, ended.out, 0))
         test(f"{name}, with each of its {count} requests refused, alone and with all that follow", made(arguments, text, words, count))
 
+    def edits(arguments, text, count):
+        seen = set()
+        for place, name, ended in refusals(arguments, count):
+            if ended.out != b"no memory\n":
+                wrong, refused = wrong_edits(text, ended.out)
+                seen |= set(refused)
+                if name == "at" and len(refused) > 1:
+                    wrong.append("more than one edit was refused")
+                for line in wrong + differences(ended, ended.out, 0):
+                    yield f"{place}: {line}"
+        for word in set(EDITS[:3]) - seen:
+            yield f"no refusal came to {short(word)}"
+
+    def check_edits(text):
+        arguments, name = ["edit", text], f"edits of {short(text.encode()[:40])}"
+        ended, count, _ = call(arguments)
+        wrong, refused = wrong_edits(text.replace("|", ""), ended.out)
+        test(f"{name}, nothing refused", wrong + refused + differences(ended, ended.out, 0))
+        test(f"{name}, with each of its {count} requests refused, alone and with all that follow", edits(arguments, text.replace("|", ""), count))
+
     for parts in PARTS[1:]:
+        check_edits("|".join(parts))
         check_slice("|".join(parts))
         text = "".join(parts)
         check_made(["part", "|".join(parts)], text[1:].encode(), [b"no memory\n", b"no part\n"])

@@ -16,7 +16,9 @@ use std::{env, io};
 /// each chunk's length and all of its text. `chunks TEXT` makes a rope of the parts of a text
 /// between its `|`, and writes it likewise. `slice TEXT` makes it too, and writes a copy of its
 /// slice behind the first character; `part TEXT` writes a rope of that slice, and `shrink TEXT` the
-/// rope after it was shrunk. `read TEXT` writes the rope of a reader that gives the text.
+/// rope after it was shrunk. `read TEXT` writes the rope of a reader that gives the text. `edit TEXT`
+/// makes the rope of the parts too, edits it, and writes a line for each edit that was refused, and
+/// then the rope.
 fn main(rt: HostRuntime) -> io::Result<()> {
     let mut args = env::args(&rt)?.skip(1);
     let Some(mode) = args.next() else {
@@ -30,6 +32,7 @@ fn main(rt: HostRuntime) -> io::Result<()> {
             Some(text) if mode == "part" => cut(&rt, text.as_str()),
             Some(text) if mode == "shrink" => shrink(&rt, text.as_str()),
             Some(text) if mode == "read" => read(&rt, text.as_str()),
+            Some(text) if mode == "edit" => edit(&rt, text.as_str()),
             Some(pattern) if mode == "compile" => tell_program(&rt, pattern.as_str()),
             Some(pattern) => tell_tree(&rt, mode == "fold", pattern.as_str()),
             None => Ok(()),
@@ -132,6 +135,30 @@ fn read(rt: &HostRuntime, text: &str) -> io::Result<()> {
         Err(ReadFault::Memory) => println!(rt; "no memory"),
         Err(fault) => println!(rt; "{fault}"),
     }
+}
+
+/// Makes a rope of the parts of a text, and inserts a text before its second half, removes the
+/// second quarter, and appends what it splits off behind the first third.
+fn edit(rt: &HostRuntime, text: &str) -> io::Result<()> {
+    let Ok(mut rope) = Rope::from_chunks(rt.alloc(), text.split('|')) else {
+        return println!(rt; "no memory");
+    };
+    let half = rope.len_chars() / 2;
+    if rope.try_insert(half, "\né\r").is_err() {
+        println!(rt; "not inserted")?;
+    }
+    if rope.try_remove(half / 2..half).is_err() {
+        println!(rt; "not removed")?;
+    }
+    match rope.try_split_off(rope.len_chars() / 3) {
+        Err(_) => println!(rt; "not split")?,
+        Ok(rest) => {
+            if rope.append(rest).is_err() {
+                println!(rt; "not appended")?;
+            }
+        }
+    }
+    tell_rope(rt, &rope)
 }
 
 /// Writes a rope chunk by chunk.
