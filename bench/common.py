@@ -1,6 +1,7 @@
-"""What the scripts that time the program share."""
+"""What the scripts that time programs share."""
 import argparse
 import os
+import subprocess
 
 TOP = os.path.dirname(os.path.dirname(os.path.abspath(__file__)))
 
@@ -16,3 +17,15 @@ def arguments(description, **numbers):
     if not os.access(given.program, os.X_OK):
         raise SystemExit(f"there is no program {os.path.relpath(given.program)}: build it with make")
     return given
+
+
+def measure(program, folder, patterns):
+    """Runs a program over patterns: each with its name, the program's mode, and its text, which the program
+    is given in a file."""
+    for name, mode, text in patterns:
+        assert len(text.encode()) <= 65536, name
+        path = os.path.join(folder, "pattern")
+        with open(path, "w", encoding="utf-8", newline="") as file:
+            file.write(text)
+        print(name + ": ", end="", flush=True)
+        subprocess.run([program, mode, path], check=True)

@@ -4,8 +4,9 @@
 . "$(dirname "$0")/common.sh"
 
 build patterns rx_grammar
-python3 - "$program" "$work" << 'END'
-import itertools, os, subprocess, sys
+PYTHONPATH="$here" python3 -B - "$program" "$work" << 'END'
+import itertools, sys
+from common import measure
 program, work = sys.argv[1:]
 letters = "abcdefghijklmnopqrstuvwxyz"
 names = ("".join(name) for name in itertools.product(letters, repeat=3))
@@ -25,11 +26,5 @@ patterns = [
     ("8,192 named groups", "parse", "".join(f"(?<{next(names)}>)" for _ in range(8192))),
     ("65,536 alternatives, nearly", "parse", "a|" * 32768),
 ]
-for name, mode, text in patterns:
-    assert len(text.encode()) <= 65536, name
-    path = os.path.join(work, "pattern")
-    with open(path, "w", encoding="utf-8", newline="") as file:
-        file.write(text)
-    print(name + ": ", end="", flush=True)
-    subprocess.run([program, mode, path], check=True)
+measure(program, work, patterns)
 END

@@ -5,8 +5,9 @@
 . "$(dirname "$0")/common.sh"
 
 build programs rx_program rx_grammar
-python3 - "$program" "$work" << 'END'
-import os, subprocess, sys
+PYTHONPATH="$here" python3 -B - "$program" "$work" << 'END'
+import sys
+from common import measure
 program, work = sys.argv[1:]
 patterns = [
     ("32,768 times \\w", "parse", "\\w" * 32768),
@@ -20,11 +21,5 @@ patterns = [
      "[" + "".join(chr(0x3041 + 3 * i % 0x8000) for i in range(21844)) + "]"),
     ("65,536 alternatives, nearly", "parse", "a|" * 32768),
 ]
-for name, mode, text in patterns:
-    assert len(text.encode()) <= 65536, name
-    path = os.path.join(work, "pattern")
-    with open(path, "w", encoding="utf-8", newline="") as file:
-        file.write(text)
-    print(name + ": ", end="", flush=True)
-    subprocess.run([program, mode, path], check=True)
+measure(program, work, patterns)
 END

@@ -98,25 +98,15 @@ def test_all():
                 if ended.status != 1 or ended.out:
                     yield f"{name} request {number}", name, ended
 
-    def parses(arguments, whole, count):
-        seen = False
-        for place, _, ended in refusals(arguments, count):
-            seen = seen or ended.out == b"no memory\n"
-            out = ended.out if ended.out == b"no memory\n" else whole
-            for line in differences(ended, out, 0):
-                yield f"{place}: {line}"
-        if not seen:
-            yield "no refusal reached it"
-
-    def compiles(arguments, whole, count):
+    def whole_or(words, arguments, whole, count):
+        """The program tells all of it or one of the words, and at some refusal the last one."""
         seen = set()
         for place, _, ended in refusals(arguments, count):
             seen.add(ended.out)
-            out = ended.out if ended.out in (b"no pattern\n", b"no memory\n") else whole
-            for line in differences(ended, out, 0):
+            for line in differences(ended, ended.out if ended.out in words else whole, 0):
                 yield f"{place}: {line}"
-        if b"no memory\n" not in seen:
-            yield "no refusal reached the compiler"
+        if words[-1] not in seen:
+            yield f"no refusal came to {short(words[-1])}"
 
     def builds(arguments, parts, count):
         seen = set()
@@ -138,28 +128,18 @@ def test_all():
         if arguments[0] == "build" and len("".join(parts).encode()) > 1968 and not seen - {"finish"}:
             yield "no refusal reached a part"
 
-    def copies(arguments, whole, count):
-        seen = set()
-        for place, _, ended in refusals(arguments, count):
-            seen.add(ended.out)
-            out = ended.out if ended.out in (b"no memory\n", b"no copy\n") else whole
-            for line in differences(ended, out, 0):
-                yield f"{place}: {line}"
-        if b"no copy\n" not in seen:
-            yield "no refusal reached the copy of a slice"
-
     for arguments in PATTERNS:
         name = short(" ".join(arguments).encode()[:60])
         ended, count, _ = call(arguments)
         test(f"{name} under the library, nothing refused", differences(ended, ended.out, 0) + ([] if count else ["it asked for no memory"]))
-        test(f"{name} with each of its {count} requests refused, alone and with all that follow", parses(arguments, ended.out, count))
+        test(f"{name} with each of its {count} requests refused, alone and with all that follow", whole_or([b"no memory\n"], arguments, ended.out, count))
 
     for pattern in COMPILED:
         arguments, name = ["compile", pattern], short(f"compile {pattern}".encode())
         ended, count, _ = call(arguments)
         right = ended.out.startswith(b"Program {")
         test(f"{name}, nothing refused", differences(ended, ended.out, 0) + ([] if right else [f"wrote {short(ended.out)}"]))
-        test(f"{name}, with each of its {count} requests refused, alone and with all that follow", compiles(arguments, ended.out, count))
+        test(f"{name}, with each of its {count} requests refused, alone and with all that follow", whole_or([b"no pattern\n", b"no memory\n"], arguments, ended.out, count))
 
     def check_rope(arguments, parts):
         name = f"{arguments[0]} of {len(parts)} parts, {short('|'.join(parts).encode()[:40])}"
@@ -175,7 +155,7 @@ def test_all():
         name = f"slice of {short(text.encode()[:40])}"
         ended, count, _ = call(arguments)
         test(f"{name}, nothing refused", differences(ended, whole, 0))
-        test(f"{name}, with each of its {count} requests refused, alone and with all that follow", copies(arguments, whole, count))
+        test(f"{name}, with each of its {count} requests refused, alone and with all that follow", whole_or([b"no memory\n", b"no copy\n"], arguments, whole, count))
 
     def made(arguments, text, words, count):
         """The rope is told whole or one of the words is; `not shrunk` comes before the rope."""
