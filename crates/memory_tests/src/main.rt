@@ -16,8 +16,8 @@ use std::{env, io};
 /// each chunk's length and all of its text. `chunks TEXT` makes a rope of the parts of a text
 /// between its `|`, and writes it likewise. `slice TEXT` makes it too, and writes a copy of its
 /// slice behind the first character; `part TEXT` writes a rope of that slice, and `shrink TEXT` the
-/// rope after it was shrunk. `read TEXT` writes the rope of a reader that gives the text. `edit
-/// TEXT` makes the rope of the parts too, edits it, and writes a line for each edit that was
+/// rope after it was shrunk. `read TEXT` writes the rope of a reader that gives the text.
+/// `edit TEXT` makes the rope of the parts too, edits it, and writes a line for each edit that was
 /// refused, and then the rope.
 fn main(rt: HostRuntime) -> io::Result<()> {
     let mut args = env::args(&rt)?.skip(1);
