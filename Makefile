@@ -4,7 +4,7 @@
 # make edits    tries each edit of code that the prover must refuse: those of crates/NAME/must-fail,
 #               which the gate tries too, and those of crates/NAME/must-fail-more. CRATES='NAME ..'
 #               names some crates, JOBS=N tries N of them at a time
-# make bench    times large texts, their reports, ropes and patterns
+# make bench    times large texts, their reports, edits, ropes and patterns
 # make clean    removes what these made
 
 # The command of the Rattle kit; make RT=PROGRAM names another.
@@ -50,6 +50,7 @@ bench: $(program)
 	@RT='$(RT)' sh bench/slices.sh
 	@RT='$(RT)' sh bench/iterators.sh
 	@RT='$(RT)' sh bench/edits.sh
+	@RT='$(RT)' sh bench/live.sh
 	@RT='$(RT)' sh bench/patterns.sh
 	@RT='$(RT)' sh bench/programs.sh
 

@@ -1,9 +1,24 @@
 """What the scripts that time programs share."""
 import argparse
 import os
+import random
 import subprocess
 
 TOP = os.path.dirname(os.path.dirname(os.path.abspath(__file__)))
+
+WORDS = "let count lines iter filter line len value self match Some None Ok Err return fn pub use struct impl for in while if else mut ref".split()
+
+
+def text_of(lines):
+    """Lines of words, 49 bytes and LF each, the same in each run."""
+    chosen = random.Random(5)
+    out = []
+    for _ in range(lines):
+        line = ""
+        while len(line) < 49:
+            line += chosen.choice(WORDS) + " "
+        out.append(line[:49] + "\n")
+    return "".join(out).encode()
 
 
 def arguments(description, **numbers):

@@ -18,7 +18,7 @@ def commands(file):
     """The commands of a session, each with its payload."""
     for line in file:
         word, *numbers = line.split()
-        yield line + (file.read(int(numbers[0])) if word in (b"text", b"pattern") else b"")
+        yield line + (file.read(int(numbers[-1])) if word in (b"text", b"edit", b"pattern") else b"")
 
 
 def main(session=FIRST, program=PROGRAM):

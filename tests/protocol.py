@@ -8,33 +8,36 @@ META = "\\.+*?()|[{^$"  # the characters that don't stand for themselves in a pa
 BREAK = re.compile("\r\n|[\n-\r\x85\u2028\u2029]")
 LINE_LIMIT = 128  # the most bytes of a command line, its LF left off
 NUMBER_LIMIT = (1 << 64) - 1
-FORMS = {
-    "text": re.compile(rb"text ([0-9]{1,20})"),
-    "print": re.compile(rb"print"),
-    "pattern": re.compile(rb"pattern ([0-9]{1,20})"),
-    "off": re.compile(rb"off"),
-    "list": re.compile(rb"list"),
-    "fork": re.compile(rb"fork"),
-    "use": re.compile(rb"use ([0-9]{1,20})"),
+LINE = re.compile(rb"([a-z]+)((?: [0-9]{1,20})*)")
+# The words of commands, each with how many numbers follow it.
+WORDS = {
+    b"text": 1,
+    b"edit": 5,
+    b"undo": 0,
+    b"redo": 0,
+    b"print": 0,
+    b"pattern": 1,
+    b"off": 0,
+    b"list": 0,
+    b"fork": 0,
+    b"use": 1,
 }
-TAKES_MEMORY = ("text", "pattern", "fork")
-HAS_PAYLOAD = ("text", "pattern")
+HAS_PAYLOAD = ("text", "edit", "pattern")  # the last number is how many bytes it has
 STATUS = {"input": 0, "command": 2, "cut": 2}
 CLOSING = {"input": b"", "command": b"error command\n", "cut": b"error end\n"}
 
 
 def command_of(line):
-    """The word and the number of a command line, or None where it is no command."""
-    for word, form in FORMS.items():
-        found = form.fullmatch(line)
-        if found:
-            number = int(found[1]) if found.groups() else None
-            return None if number is not None and number > NUMBER_LIMIT else (word, number)
-    return None
+    """The word and the numbers of a command line, or None where it is no command."""
+    found = LINE.fullmatch(line)
+    numbers = tuple(map(int, found[2].split())) if found else ()
+    if not found or WORDS.get(found[1]) != len(numbers) or max(numbers, default=0) > NUMBER_LIMIT:
+        return None
+    return found[1].decode(), numbers
 
 
 def read_commands(data):
-    """The commands of an input, each as (word, number, payload), and how it ends."""
+    """The commands of an input, each as (word, numbers, payload), and how it ends."""
     commands, at = [], 0
     while at < len(data):
         window = data[at : at + LINE_LIMIT + 1]
@@ -44,14 +47,19 @@ def read_commands(data):
         found = command_of(window[:length])
         if found is None:
             return commands, "command"
-        word, number = found
+        word, numbers = found
         start = at + length + 1
-        end = start + (number if word in HAS_PAYLOAD else 0)
+        end = start + (numbers[-1] if word in HAS_PAYLOAD else 0)
         if end > len(data):
             return commands, "cut"
-        commands.append((word, number, data[start:end]))
+        commands.append((word, numbers, data[start:end]))
         at = end
     return commands, "input"
+
+
+def spelled(word, numbers=(), payload=b""):
+    """The bytes of a command."""
+    return b" ".join([word.encode(), *(b"%d" % number for number in numbers)]) + b"\n" + payload
 
 
 def is_utf8(data):
@@ -62,27 +70,42 @@ def is_utf8(data):
     return True
 
 
-def refusal(word, payload):
-    """Why a payload is refused, or None."""
-    if not is_utf8(payload):
-        return b"utf8"
-    if word == "text":
-        return b"size" if len(payload) > TEXT_LIMIT else None
-    if len(payload) > PATTERN_LIMIT:
-        return b"limit"
-    pattern = payload.decode()
-    return b"pattern" if not pattern or any(c in META for c in pattern) else None
-
-
 def units(text):
     """How many UTF-16 code units a text takes."""
     return len(text.encode("utf-16-le")) // 2
 
 
+def lines_of(text):
+    """Where each line of a text starts, and where the line's text ends, in characters."""
+    breaks = [found.span() for found in BREAK.finditer(text)]
+    return list(zip([0] + [end for _, end in breaks], [start for start, _ in breaks] + [len(text)]))
+
+
+def positions_of(text):
+    """The positions of a text, from its start on."""
+    return [
+        (number, units(text[start:place]))
+        for number, (start, end) in enumerate(lines_of(text))
+        for place in range(start, end + 1)
+    ]
+
+
+def place_of(text, line, column):
+    """The place of a position in a text, in characters, or None where it is nowhere."""
+    lines = lines_of(text)
+    if line >= len(lines):
+        return None
+    place, end = lines[line]
+    while column > 0 and place < end:
+        column -= units(text[place])
+        place += 1
+    return place if column == 0 else None
+
+
 def listed(text, pattern):
     """The lines of the matches of a literal in each line of a text, and their number."""
     out = []
-    for number, line in enumerate(BREAK.split(text.decode())):
+    for number, line in enumerate(BREAK.split(text)):
         at = line.find(pattern)
         while at >= 0:
             start = units(line[:at])
@@ -91,40 +114,113 @@ def listed(text, pattern):
     return b"".join(out) + b"ok %d\n" % len(out)
 
 
+class Buffer:
+    """The texts of a buffer, of which one is the current one, and its pattern or None."""
+
+    def __init__(self, text=""):
+        self.texts, self.at, self.pattern = [text], 0, None
+
+    @property
+    def text(self):
+        return self.texts[self.at]
+
+    def edited(self, first_line, first_column, last_line, last_column, payload):
+        """The text after an edit, or None where its positions don't allow it."""
+        first = place_of(self.text, first_line, first_column)
+        last = place_of(self.text, last_line, last_column)
+        if first is None or last is None or last < first:
+            return None
+        return self.text[:first] + payload + self.text[last:]
+
+
+class Session:
+    """Buffers, of which one is chosen."""
+
+    def __init__(self):
+        self.buffers, self.chosen = [Buffer()], 0
+
+    @property
+    def buffer(self):
+        return self.buffers[self.chosen]
+
+    def takes_memory(self, word):
+        """Whether a command of this word may be answered that memory lacks."""
+        return word in ("text", "edit", "pattern", "fork") or (
+            word in ("undo", "redo") and self.buffer.pattern is not None
+        )
+
+    def is_for_nothing(self, word, numbers):
+        """Whether what the command is about isn't there."""
+        return {
+            "list": self.buffer.pattern is None,
+            "undo": self.buffer.at == 0,
+            "redo": self.buffer.at + 1 == len(self.buffer.texts),
+            "use": word == "use" and numbers[0] >= len(self.buffers),
+        }.get(word, False)
+
+    def refusal(self, word, numbers, payload):
+        """Why a command is refused, or None."""
+        if self.is_for_nothing(word, numbers):
+            return b"none"
+        if word == "edit" and self.buffer.edited(*numbers[:4], "") is None:
+            return b"range"
+        if not is_utf8(payload):
+            return b"utf8"
+        if word == "pattern":
+            pattern = payload.decode() if len(payload) <= PATTERN_LIMIT else None
+            if pattern is None:
+                return b"limit"
+            return b"pattern" if not pattern or any(c in META for c in pattern) else None
+        text = self.buffer.edited(*numbers[:4], "").encode() if word == "edit" else b""
+        return b"size" if len(text) + len(payload) > TEXT_LIMIT else None
+
+    def carry_out(self, word, numbers, payload):
+        """The reply to a command that isn't refused."""
+        buffer = self.buffer
+        if word == "text":
+            buffer.texts, buffer.at = [payload.decode()], 0
+        elif word == "edit":
+            buffer.texts[buffer.at + 1 :] = [buffer.edited(*numbers[:4], payload.decode())]
+            buffer.at += 1
+        elif word in ("undo", "redo"):
+            buffer.at += 1 if word == "redo" else -1
+        elif word in ("pattern", "off"):
+            buffer.pattern = payload.decode() if word == "pattern" else None
+        elif word == "list":
+            return listed(buffer.text, buffer.pattern)
+        elif word == "print":
+            text = buffer.text.encode()
+            return b"text %d\n%b\n" % (len(text), text)
+        elif word == "fork":
+            self.buffers.append(Buffer(buffer.text))
+            return b"ok %d\n" % (len(self.buffers) - 1)
+        elif word == "use":
+            self.chosen = numbers[0]
+        return b"ok\n"
+
+    def reply(self, command, lacks_memory=False):
+        """The reply to a command, where memory is refused to it or not."""
+        if lacks_memory:
+            assert self.takes_memory(command[0])
+            return b"error memory\n"
+        refusal = self.refusal(*command)
+        return b"error %b\n" % refusal if refusal else self.carry_out(*command)
+
+
 def replies(commands, refused=frozenset()):
     """The replies to the commands, where memory is refused to those whose places are in `refused`."""
-    buffers, patterns, chosen, out = [b""], [None], 0, []
-    for place, (word, number, payload) in enumerate(commands):
-        if place in refused:
-            assert word in TAKES_MEMORY
-            out.append(b"error memory\n")
-        elif word in HAS_PAYLOAD and refusal(word, payload):
-            out.append(b"error %b\n" % refusal(word, payload))
-        elif word == "text":
-            buffers[chosen] = payload
-            out.append(b"ok\n")
-        elif word == "pattern":
-            patterns[chosen] = payload.decode()
-            out.append(b"ok\n")
-        elif word == "off":
-            patterns[chosen] = None
-            out.append(b"ok\n")
-        elif word == "list" and patterns[chosen] is None:
-            out.append(b"error none\n")
-        elif word == "list":
-            out.append(listed(buffers[chosen], patterns[chosen]))
-        elif word == "print":
-            out.append(b"text %d\n%b\n" % (len(buffers[chosen]), buffers[chosen]))
-        elif word == "fork":
-            buffers.append(buffers[chosen])
-            patterns.append(None)
-            out.append(b"ok %d\n" % (len(buffers) - 1))
-        elif number < len(buffers):
-            chosen = number
-            out.append(b"ok\n")
-        else:
-            out.append(b"error none\n")
-    return out
+    session = Session()
+    return [session.reply(command, place in refused) for place, command in enumerate(commands)]
+
+
+def takers(commands):
+    """The places of the commands that may be answered that memory lacks, where no other one is."""
+    session, places = Session(), set()
+    for place, command in enumerate(commands):
+        if session.takes_memory(command[0]):
+            places.add(place)
+        session.reply(command)
+    return places
 
 
 def answer(data, refused=frozenset()):

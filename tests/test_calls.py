@@ -1,5 +1,5 @@
 """What the libraries' own calls do where memory is refused: patterns that are parsed and compiled and ropes
-that are built by bin/memory-tests, with each request refused in turn."""
+that are built by bin/memory-tests, with each request refused in turn, and a rope that is edited at random."""
 import re
 
 from harness import MEMORY_PROGRAM, differences, end_of, short, start, test
@@ -197,6 +197,18 @@ def test_all():
         for word in set(EDITS[:3]) - seen:
             yield f"no refusal came to {short(word)}"
 
+    def random_edits(count):
+        ended = end_of(start(["random", str(count)], program=MEMORY_PROGRAM))
+        form = rb"([0-9]+) chunks of ([0-9]+) bytes and more\nshrunk: ([0-9]+) chunks of ([0-9]+) bytes and more\n"
+        found = re.fullmatch(form, ended.out)
+        if not found:
+            yield f"it wrote {short(ended.out)}"
+            return
+        chunks, shortest, fewer, full = map(int, found.groups())
+        if not (20 < fewer < chunks and shortest < 900 and 980 <= full <= 984):
+            yield f"it wrote {short(ended.out)}"
+        yield from differences(ended, ended.out, 0)
+
     def check_edits(text):
         arguments, name = ["edit", text], f"edits of {short(text.encode()[:40])}"
         ended, count, _ = call(arguments)
@@ -204,6 +216,7 @@ def test_all():
         test(f"{name}, nothing refused", wrong + refused + differences(ended, ended.out, 0))
         test(f"{name}, with each of its {count} requests refused, alone and with all that follow", edits(arguments, text.replace("|", ""), count))
 
+    test("a rope that is edited 100,000 times at random is its text, and is cut into full chunks where it is shrunk", random_edits(100_000))
     for parts in PARTS[1:]:
         check_edits("|".join(parts))
         check_slice("|".join(parts))

@@ -2,7 +2,17 @@
 with all that follow it."""
 from harness import FIRST, differences, run, short, test, told
 from memory import counted, library
-from protocol import HAS_PAYLOAD, NUMBER_LIMIT, TAKES_MEMORY, TEXT_LIMIT, answer, read_commands, replies
+from protocol import HAS_PAYLOAD, NUMBER_LIMIT, TEXT_LIMIT, Session, answer, read_commands, spelled, takers
+
+# Without a pattern `undo` and `redo` take no memory, and an edit that changes nothing drops what could be
+# redone.
+HISTORY = b"text 1\naedit 0 1 0 1 1\nbundo\nredo\nprint\nundo\nedit 0 0 0 0 0\nredo\n"
+FIRST_EDIT_REFUSED = b"ok\nerror memory\nerror none\nerror none\ntext 1\na\nerror none\nok\nerror none\n"
+UNDER_PATTERN = (
+    b"pattern 1\nbtext 13\nab\nb\ncb\nbb\nabedit 1 0 2 1 5\nb\r\nxblist\nundo\nlist\nredo\nlist\n"
+    b"edit 0 1 4 0 0\nlist\nedit 0 0 0 0 12\nb\nb\nb\nb\nb\nb\nlist\nundo\nundo\nundo\nlist\nprint\n"
+)
+SENT_AGAIN = (HISTORY, UNDER_PATTERN)
 
 # Inputs on which memory is refused. The payload of the second is as long as several reads and
 # spells commands, which must not be carried out where it is lost.
@@ -13,7 +23,13 @@ MEMORY_INPUTS = [
     b"text 9\naba\na\nbabpattern 1\nblist\ntext 5\nb\nb\nblist\npattern 1\n*pattern 1\nclist\noff\nlist\nprint\n",
     b"pattern 2\nabtext 240\n" + b"abab\n" * 48 + b"list\nfork\nuse 1\nlist\nuse 0\noff\nprint\n",
     b"pattern 1\nbtext 4003\n" + b"a" * 2000 + b"b\n" + b"a" * 2000 + b"blist\ntext 2\nb\nlist\nprint\n",
-    b"text 2\nab" + b"text 3\n\xff\xfe\xfd" + b"fork\nuse 9\nuse 1\ntext 0\nprint\nuse 0\nprint\nundo\n",
+    b"text 2\nab" + b"text 3\n\xff\xfe\xfd" + b"fork\nuse 9\nuse 1\ntext 0\nprint\nuse 0\nprint\njump\n",
+    HISTORY,
+    UNDER_PATTERN,
+    b"pattern 2\nabtext 3063\n" + b"ab" * 1500 + b"\n" + b"ab\n" * 20 + b"abedit 0 1500 10 1 47\n" + b"\nab" * 15 + b"\r\n"
+    + b"list\nundo\nlist\nredo\nprint\nedit 0 0 5 2 0\nlist\n",
+    b"text 3\na\nbfork\nedit 0 1 1 0 1\n\ruse 1\nedit 0 0 0 1 2\n\xc3\xa9undo\nprint\nuse 0\nundo\nundo\nredo\nprint\n"
+    + b"edit 0 0 0 2 1\nxedit 0 0 0 0 1\n\xffprint\n",
 ]
 
 
@@ -27,8 +43,8 @@ def test_all():
     def one_refused(data, count):
         """Each request refused alone: no session at all, or want of memory told by one command."""
         commands, _ = read_commands(data)
-        takers = {place for place, command in enumerate(commands) if command[0] in TAKES_MEMORY}
-        allowed = {answer(data, {place})[0]: place for place in takers}
+        may_lack = takers(commands)
+        allowed = {answer(data, {place})[0]: place for place in may_lack}
         seen = set()
         for number in range(1, count + 1):
             ended, _, _ = session(data, at=number)
@@ -42,10 +58,10 @@ def test_all():
             else:
                 yield f"request {number}: no command alone is answered error memory: {short(ended.out)}"
         # A payload that isn't empty needs memory, and so does some fork among many.
-        for place in sorted(takers - seen):
-            if commands[place][0] in HAS_PAYLOAD and commands[place][1] > 0:
+        for place in sorted(may_lack - seen):
+            if commands[place][0] in HAS_PAYLOAD and commands[place][1][-1] > 0:
                 yield f"no refusal reached command {place}, a {commands[place][0]}"
-        forks = {place for place in takers if commands[place][0] == "fork"}
+        forks = {place for place in may_lack if commands[place][0] == "fork"}
         if len(forks) >= 10 and not forks & seen:
             yield "no refusal reached a fork"
 
@@ -64,13 +80,26 @@ def test_all():
 
     def follow(commands, out, data):
         """The answer to the input where memory is refused to the commands that `out` says."""
-        refused = set()
+        model, at, refused = Session(), 0, set()
         for place, command in enumerate(commands):
-            if command[0] in TAKES_MEMORY:
-                before = b"".join(replies(commands[:place], refused))
-                if out[len(before) :].startswith(b"error memory\n"):
-                    refused.add(place)
+            if model.takes_memory(command[0]) and out.startswith(b"error memory\n", at):
+                refused.add(place)
+            at += len(model.reply(command, place in refused))
         return answer(data, refused)
+
+    def sent_again(data, count):
+        """A command to which one request was refused is carried out where it is sent again at once."""
+        commands, _ = read_commands(data)
+        for number in range(1, count + 1):
+            ended, _, _ = session(data, at=number)
+            for place in takers(commands):
+                if ended.out == answer(data, {place})[0]:
+                    twice = commands[: place + 1] + commands[place:]
+                    given = b"".join(spelled(*command) for command in twice)
+                    ended, _, _ = session(given, at=number)
+                    for wrong in differences(ended, *answer(given, {place})):
+                        yield f"request {number}, command {place}: {wrong}"
+                    break
 
     for data in MEMORY_INPUTS:
         name = short(data[:40]) + (f".. ({len(data)} bytes)" if len(data) > 40 else "")
@@ -79,14 +108,19 @@ def test_all():
         test(f"{name} under the library, nothing refused", wrong)
         test(f"{name} with each of its {count} requests refused", one_refused(data, count))
         test(f"{name} with all from each of its {count} requests on refused", all_refused_from(data, count))
+        if data in SENT_AGAIN:
+            test(f"{name} with each command that lacked memory sent again", sent_again(data, count))
+
+    is_as_told = answer(HISTORY, {1})[0] == FIRST_EDIT_REFUSED
+    test("after an edit that lacked memory there is nothing to undo", [] if is_as_told else ["the model has"])
 
     def claims():
         """No memory is asked for by the number that a line claims, but by what was read."""
         for number in (100_000_000, TEXT_LIMIT, TEXT_LIMIT + 1, NUMBER_LIMIT):
-            data = b"text %d\nab" % number
-            ended, _, largest = session(data)
-            yield from differences(ended, b"error end\n", 2)
-            if largest > 1 << 16:
-                yield f"text {number} with two bytes asks for {largest} bytes"
+            for command in (("text", (number,), b"ab"), ("edit", (0, 0, 0, 0, number), b"ab")):
+                ended, _, largest = session(spelled(*command))
+                yield from differences(ended, b"error end\n", 2)
+                if largest > 1 << 16:
+                    yield f"{command[0]} {number} with two bytes asks for {largest} bytes"
 
     test("a line that claims many bytes takes no memory for them", claims())

@@ -7,7 +7,7 @@ import subprocess
 import tempfile
 
 from harness import FIRST, ROOM, SECONDS, TOP, differences, end_of, example_rows, run, run_in_pieces, short, start, test
-from protocol import TEXT_LIMIT, answer, read_commands, replies
+from protocol import TEXT_LIMIT, answer, read_commands, replies, spelled
 
 
 def bytes_of(spelling):
@@ -86,15 +86,16 @@ def test_ample_memory():
 
 def test_long_text():
     """A text one byte over the limit is read past and refused; it lies in a file with a hole."""
-    line = b"text %d\n" % (TEXT_LIMIT + 1)
-    with tempfile.TemporaryFile(dir=ROOM) as given:
-        given.write(line)
-        given.truncate(len(line) + TEXT_LIMIT + 1)
-        given.seek(0, os.SEEK_END)
-        given.write(b"print\n")
-        given.seek(0)
-        ended = end_of(start(stdin=given))
-    test("a text one byte over the limit", differences(ended, b"error size\ntext 0\n\n", 0))
+    for name, line in (("a text", b"text %d\n"), ("an edit", b"edit 0 0 0 0 %d\n")):
+        line %= TEXT_LIMIT + 1
+        with tempfile.TemporaryFile(dir=ROOM) as given:
+            given.write(line)
+            given.truncate(len(line) + TEXT_LIMIT + 1)
+            given.seek(0, os.SEEK_END)
+            given.write(b"print\n")
+            given.seek(0)
+            ended = end_of(start(stdin=given))
+        test(f"{name} one byte over the limit", differences(ended, b"error size\ntext 0\n\n", 0))
 
 
 def test_conversation():
@@ -104,8 +105,8 @@ def test_conversation():
         commands, _ = read_commands(data)
         process = start(stdin=subprocess.PIPE, bufsize=0)
         try:
-            for (word, number, payload), reply in zip(commands, replies(commands)):
-                line = word.encode() + (b"" if number is None else b" %d" % number) + b"\n"
+            for (word, numbers, payload), reply in zip(commands, replies(commands)):
+                line = spelled(word, numbers)
                 os.write(process.stdin.fileno(), line)
                 if payload:
                     os.write(process.stdin.fileno(), payload)
@@ -133,6 +134,7 @@ def test_conversation():
     for data in (
         FIRST,
         b"print\nuse 7\ntext 1\n\xfffork\nuse 1\ntext 3\na\nbprint\n",
+        b"text 3\na\nbpattern 1\nbedit 0 1 1 0 0\nlist\nundo\nlist\nredo\nedit 0 9 0 9 1\nbprint\n",
         b"list\npattern 1\naoff\ntext 3\na\napattern 1\nalist\npattern 1\n(list\n",
     ):
         test(f"{short(data)} command by command, each reply before the next", talk(data))

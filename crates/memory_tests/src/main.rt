@@ -2,6 +2,8 @@
 //! one or builds a rope, as its arguments say, and tells what came of it.
 #![tactic(auto)]
 
+mod random;
+
 use ropey::{ReadFault, Rope, RopeBuilder};
 use rx_grammar::syntax::Config;
 use rx_grammar::{SyntaxError, parse};
@@ -18,7 +20,8 @@ use std::{env, io};
 /// slice behind the first character; `part TEXT` writes a rope of that slice, and `shrink TEXT` the
 /// rope after it was shrunk. `read TEXT` writes the rope of a reader that gives the text.
 /// `edit TEXT` makes the rope of the parts too, edits it, and writes a line for each edit that was
-/// refused, and then the rope.
+/// refused, and then the rope. `random COUNT` edits a rope so often at random beside a `String`, and
+/// writes whether they stayed the same.
 fn main(rt: HostRuntime) -> io::Result<()> {
     let mut args = env::args(&rt)?.skip(1);
     let Some(mode) = args.next() else {
@@ -33,6 +36,7 @@ fn main(rt: HostRuntime) -> io::Result<()> {
             Some(text) if mode == "shrink" => shrink(&rt, text.as_str()),
             Some(text) if mode == "read" => read(&rt, text.as_str()),
             Some(text) if mode == "edit" => edit(&rt, text.as_str()),
+            Some(count) if mode == "random" => edit_often(&rt, count.as_str()),
             Some(pattern) if mode == "compile" => tell_program(&rt, pattern.as_str()),
             Some(pattern) => tell_tree(&rt, mode == "fold", pattern.as_str()),
             None => Ok(()),
@@ -159,6 +163,25 @@ fn edit(rt: &HostRuntime, text: &str) -> io::Result<()> {
         }
     }
     tell_rope(rt, &rope)
+}
+
+/// Edits a rope at random, and tells how it is cut before and after it is shrunk.
+fn edit_often(rt: &HostRuntime, count: &str) -> io::Result<()> {
+    let Ok(count) = count.parse::<usize>() else {
+        return println!(rt; "no number");
+    };
+    match random::edit_often(rt.alloc(), count) {
+        Err(error) => println!(rt; "{error}"),
+        Ok(outcome) => {
+            if let Some(turn) = outcome.wrong {
+                println!(rt; "wrong after edit {turn}")?;
+            }
+            let (chunks, shortest) = outcome.before;
+            println!(rt; "{chunks} chunks of {shortest} bytes and more")?;
+            let (chunks, shortest) = outcome.after;
+            println!(rt; "shrunk: {chunks} chunks of {shortest} bytes and more")
+        }
+    }
 }
 
 /// Writes a rope chunk by chunk.

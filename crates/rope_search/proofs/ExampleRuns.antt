@@ -4,16 +4,16 @@ use Rattle.std.specs.Prelude.{Ok}
 use Rattle.std.specs.Fmt.{digits}
 use Rattle.std.proofs.Math.Utf8.{encode}
 use Rattle.rope_search_io.specs.declared.faults.Fault.{Fault}
-use Rattle.rope_search_io.specs.declared.faults.Fault.TheVariants.{Nothing, Utf8, Pattern, Limit, Size, Memory}
+use Rattle.rope_search_io.specs.declared.faults.Fault.TheVariants.{Nothing, Range, Utf8, Pattern, Limit, Size, Memory}
 use Rattle.rope_search.specs.declared.commands.Reply.TheVariants.{Done, Print}
 use Rattle.rope_search.specs.declared.runs.Ended.TheVariants.{Input, Command, Cut}
 use Rattle.rope_search.specs.Order.{Order, SetText, PrintText, UseBuffer}
 use Rattle.rope_search.specs.Session.{first}
 use Rattle.rope_search.specs.Step.{Refuses, Accepts, Step}
-use Rattle.rope_search.specs.Reads.{IsNumber, IsLine, Spells, Ends, Reads}
+use Rattle.rope_search.specs.Reads.{IsNumber, AreSpelled, IsLine, Spells, Ends, Reads}
 use Rattle.rope_search.specs.Answers.{Run, Answers}
 use Rattle.rope_search.proofs.Examples.{session_of}
-use Rattle.rope_search.proofs.LineLaws.{IsLine-second}
+use Rattle.rope_search.proofs.LineLaws.{IsLine-first, IsLine-third}
 use Rattle.rope_search.proofs.RunLaws.{Run-one, Run-append, SpellAll-one, SpellAll-append}
 use Rattle.rope_search.proofs.StepLaws.{accepted_text, accepted_print}
 
@@ -26,13 +26,16 @@ IsNumber-two = record { some = omega arith; few = omega arith; decimal = omega a
 pub IsNumber-zeros : IsNumber (codes "02") 2
 IsNumber-zeros = record { some = omega arith; few = omega arith; decimal = omega arith; value = refl; fits = omega arith }
 
+pub two_spelled : AreSpelled (2 ∷ []) (codes " 2")
+two_spelled = (codes "2", [], IsNumber-two, refl, refl)
+
 -- a text of two bytes
 pub Spells-hi : Spells (SetText (codes "hi")) (codes "text 2\nhi")
-Spells-hi = record { line = codes "text 2"; is_line = (codes "2", IsNumber-two, refl); whole = refl }
+Spells-hi = record { line = codes "text 2"; is_line = (codes " 2", two_spelled, refl); whole = refl }
 
 -- the same, spelled with a leading zero
 pub Spells-zeros : Spells (SetText (codes "hi")) (codes "text 02\nhi")
-Spells-zeros = record { line = codes "text 02"; is_line = (codes "02", IsNumber-zeros, refl); whole = refl }
+Spells-zeros = record { line = codes "text 02"; is_line = (codes " 02", (codes "02", [], IsNumber-zeros, refl, refl), refl); whole = refl }
 
 pub Spells-print : Spells PrintText (codes "print\n")
 Spells-print = record { line = codes "print"; is_line = refl; whole = refl }
@@ -54,7 +57,7 @@ Ends-cr = inl (record { line = codes "print\r"; more = []; no_lf = omega arith; 
   where
     none : (o : Order) → IsLine o (codes "print\r") → ⊥
     none PrintText h = omega (arith, ap length h)
-    none o h = omega (arith, IsLine-second o (codes "print\r") h)
+    none o h = omega (arith, IsLine-first o (codes "print\r") h, IsLine-third o (codes "print\r") h)
 
 -- a command's line without its LF is cut off
 pub Ends-part : Ends (codes "print") Cut
@@ -62,13 +65,14 @@ Ends-part = inl (record { no_lf = omega arith; some = omega arith; short = omega
 
 -- so is one with too few bytes behind it
 pub Ends-payload : Ends (codes "text 2\nh") Cut
-Ends-payload = inr (record { order = SetText (codes "hi"); line = codes "text 2"; part = codes "h"; is_line = (codes "2", IsNumber-two, refl); whole = refl; short = omega arith })
+Ends-payload = inr (record { order = SetText (codes "hi"); line = codes "text 2"; part = codes "h"; is_line = (codes " 2", two_spelled, refl); whole = refl; short = omega arith })
 
 -- ---- refusals and runs
 
 -- the first session has no buffer 1, and that is all that is wrong with choosing it
 pub Refuses-use : (limit : ℕ) (fault : Fault) → Refuses limit first (UseBuffer 1) fault ↔ fault ≡ Nothing
 Refuses-use limit Nothing = ((λ h. refl), (λ e. omega arith))
+Refuses-use limit Range = ((λ h. absurd h), (λ e. cc))
 Refuses-use limit Utf8 = ((λ h. absurd h), (λ e. cc))
 Refuses-use limit Pattern = ((λ h. absurd h), (λ e. cc))
 Refuses-use limit Limit = ((λ h. absurd h), (λ e. cc))

@@ -3,7 +3,7 @@ use Rattle.std.proofs.Common.{◌≡◌, ℕ, List, [], ◌∷◌, true, false, 
 use Rattle.std.specs.Prelude.{Ok, Err}
 use Rattle.std.specs.Fmt.{digits}
 use Rattle.std.proofs.Math.Utf8.{encode}
-use Rattle.rope_search_io.specs.declared.faults.Fault.TheVariants.{Nothing, Utf8, Pattern, Limit, Size, Memory}
+use Rattle.rope_search_io.specs.declared.faults.Fault.TheVariants.{Nothing, Range, Utf8, Pattern, Limit, Size, Memory}
 use Rattle.rope_search.specs.declared.commands.Reply.TheVariants.{Done, Number, List as Listing, Print}
 use Rattle.rope_search.specs.declared.runs.Ended.TheVariants.{Input, Command, Cut}
 use Rattle.rope_search_reports.specs.Pattern.{is_meta}
@@ -54,6 +54,9 @@ shows_empty = refl
 
 pub shows_nothing : shows first [] (Err Nothing) ≡ codes "error none\n"
 shows_nothing = refl
+
+pub shows_range : shows first [] (Err Range) ≡ codes "error range\n"
+shows_range = refl
 
 pub shows_utf8 : shows first [] (Err Utf8) ≡ codes "error utf8\n"
 shows_utf8 = refl

@@ -1,7 +1,12 @@
 pub mod AnswerLaws
+pub mod EditLemmas
 pub mod HeaderLemmas
 pub mod ListingLemmas
+pub mod HistoryLaws
 pub mod LineLaws
+pub mod NumberLaws
+pub mod PartLaws
+pub mod PatchLemmas
 pub mod PatternLemmas
 pub mod PayloadLemmas
 pub mod PutLemmas

@@ -1,12 +1,12 @@
 -- Each input is read in exactly one way: as these commands, and then this ending.
-use Rattle.std.proofs.Common.{◌≡◌, ◌≢◌, ℕ, zero, suc, ◌<◌, ◌≤◌, ◌⊎◌, List, [], ◌∷◌, ◌++◌, length, take, drop, refl, sym, ap, ◌∙◌, subst, inl, inr, append_assoc, append-nil, length-append, take-append-drop, arith}
+use Rattle.std.proofs.Common.{◌≡◌, ◌≢◌, ℕ, zero, suc, ◌<◌, ◌≤◌, ◌⊎◌, List, [], ◌∷◌, ◌++◌, length, take, drop, refl, sym, ap, ◌∙◌, subst, inl, inr, append_assoc, append-nil, length-append, take-append-drop, codes, arith}
 use Rattle.std.proofs.Math.Seq.{take-append_seam, drop-append_seam}
 use Rattle.std.proofs.lemmas.Bool.{cases_lt, cases_eq}
 use Rattle.std.proofs.lemmas.List.{length-take-le}
 use Rattle.rope_search.specs.declared.runs.Ended.{Ended}
 use Rattle.rope_search.specs.declared.runs.Ended.TheVariants.{Input, Command, Cut}
-use Rattle.rope_search.specs.Order.{Order, SetText, SetPattern}
-use Rattle.rope_search.specs.Reads.{IsNumber, payload_of, IsLine, Spells, SpellAll, HasNoLf, Ends, Reads}
+use Rattle.rope_search.specs.Order.{Order, SetText, EditText, SetPattern}
+use Rattle.rope_search.specs.Reads.{IsWorded, payload_of, IsLine, Spells, SpellAll, HasNoLf, Ends, Reads}
 use Rattle.rope_search.proofs.LineLaws.{line_choice, IsLine-one, IsLine-same, HasNoLf-line, length-line_le}
 
 -- ---- cutting at the first LF
@@ -99,9 +99,14 @@ Spells-one o p a b x y one other whole =
 pub line_with : (o : Order) (line more : List ℕ) → IsLine o line → length (payload_of o) ≤ length more
     → (p : Order) × IsLine p line × (payload_of p ≡ take (length (payload_of o)) more)
 line_with (SetText payload) line more is_line enough =
-    (SetText (take (length payload) more), (is_line.0, subst (λ n. IsNumber is_line.0 n) (sym (length-take-le (length payload) more enough)) is_line.1, is_line.2), refl)
+    (SetText (take (length payload) more), subst (λ n. IsWorded (codes "text") line (n ∷ [])) (sym (length-take-le (length payload) more enough)) is_line, refl)
+line_with (EditText from to payload) line more is_line enough = (
+  EditText from to (take (length payload) more),
+  subst (λ n. IsWorded (codes "edit") line (from.line ∷ from.column ∷ to.line ∷ to.column ∷ n ∷ [])) (sym (length-take-le (length payload) more enough)) is_line,
+  refl,
+)
 line_with (SetPattern payload) line more is_line enough =
-    (SetPattern (take (length payload) more), (is_line.0, subst (λ n. IsNumber is_line.0 n) (sym (length-take-le (length payload) more enough)) is_line.1, is_line.2), refl)
+    (SetPattern (take (length payload) more), subst (λ n. IsWorded (codes "pattern") line (n ∷ [])) (sym (length-take-le (length payload) more enough)) is_line, refl)
 line_with o line more is_line enough = (o, is_line, refl)
 
 -- ---- endings

@@ -9,7 +9,7 @@ use Rattle.rope_search.specs.declared.payloads.Collected.{Collected}
 use Rattle.rope_search.specs.declared.requests.Request.{Request}
 use Rattle.rope_search.specs.declared.requests.Request.TheVariants.{Given, End}
 use Rattle.rope_search.specs.declared.runs.Ended.TheVariants.{Input, Command, Cut}
-use Rattle.rope_search.specs.Order.{Order, SetText, PrintText, ForkBuffer, SetPattern, DropPattern, ListMatches, UseBuffer}
+use Rattle.rope_search.specs.Order.{Order, SetText, EditText, UndoEdit, RedoEdit, PrintText, ForkBuffer, SetPattern, DropPattern, ListMatches, UseBuffer}
 use Rattle.rope_search.specs.Stands.{limit_on}
 use Rattle.rope_search.specs.Header.{IsHeaderOf}
 use Rattle.rope_search.specs.Reads.{IsLine, payload_of}
@@ -28,6 +28,10 @@ no_bytes (b ∷ bytes) none = absurd (omega arith)
 pub order_for : (header : CommandOf ℕ) (len : ℕ) (bytes : List ℕ) → HasPayload header len → length bytes ≡ len
     → (order : Order) × IsHeaderOf header order × (payload_of order ≡ bytes)
 order_for (SetText n) len bytes has is = (SetText bytes, is ∙ sym (has (SetText (replicate n 0)) (length-replicate n 0)) ∙ length-replicate n 0, refl)
+order_for (EditText from to n) len bytes has is =
+    (EditText from to bytes, (refl, refl, is ∙ sym (has (EditText from to (replicate n 0)) (refl, refl, length-replicate n 0)) ∙ length-replicate n 0), refl)
+order_for UndoEdit len bytes has is = (UndoEdit, tt, no_bytes bytes (is ∙ sym (has UndoEdit tt)))
+order_for RedoEdit len bytes has is = (RedoEdit, tt, no_bytes bytes (is ∙ sym (has RedoEdit tt)))
 order_for PrintText len bytes has is = (PrintText, tt, no_bytes bytes (is ∙ sym (has PrintText tt)))
 order_for ForkBuffer len bytes has is = (ForkBuffer, tt, no_bytes bytes (is ∙ sym (has ForkBuffer tt)))
 order_for (SetPattern n) len bytes has is = (SetPattern bytes, is ∙ sym (has (SetPattern (replicate n 0)) (length-replicate n 0)) ∙ length-replicate n 0, refl)

@@ -1,18 +1,20 @@
 -- Steps of a session on the list of its buffers.
 use Rattle.std.proofs.Common.{◌≡◌, ℕ, ◌+◌, ◌<◌, ◌≤◌, List, [], length, map, sym, ap, ◌∙◌, subst, inl, inr, IsUtf8, Ok, arith, slice_index_or, slice_set}
-use Rattle.std.proofs.lemmas.List.{map-set, get_or-map, get_or-set_same, length-map}
+use Rattle.std.proofs.lemmas.List.{map-set, get_or-map, get_or-set_same, set-get_or, length-map}
 use Rattle.rope_search.specs.declared.commands.Payload.{Payload}
 use Rattle.rope_search.specs.declared.commands.CommandOf.TheVariants.{Text, Pattern as PatternCommand}
 use Rattle.rope_search.specs.Order.{Order, SetText, SetPattern}
 use Rattle.rope_search.specs.Session.{State, BufferState, LimitedBuffer, LimitedSession, fresh, current_text, chosen_buffer, with_text, with_pattern, with_chosen}
 use Rattle.rope_search_reports.specs.Pattern.{IsPattern, pattern_limit}
 use Rattle.rope_search.specs.Stands.{Stands, StandsFor}
-use Rattle.rope_search.specs.Step.{Step}
-use Rattle.rope_search.specs.Cost.{Costs, rows_anew}
-use Rattle.rope_search.proofs.StepLaws.{accepted_text, accepted_pattern, Costs-accepted}
+use Rattle.rope_search.specs.Step.{Accepts, Does, Step}
+use Rattle.rope_search.specs.Cost.{Costs, rows_anew, rows_of_report}
+use Rattle.rope_search.proofs.StepLaws.{accepted_text, accepted_pattern}
 use Rattle.std.proofs.lemmas.Bool.{cases_lt}
 use Rattle.std.specs.Prelude.{Some}
 use Rattle.rope_search.proofs.TextLemmas.{Encodes-chars}
+use Rattle.rope_search.proofs.StepLaws.{Encodes-chars as text_known}
+use Rattle.rope_search.specs.declared.commands.Reply.{Reply}
 use Rattle.rope_search.specs.declared.commands.Reply.TheVariants.{Done}
 use Rattle.std.specs.Str.{chars}
 use Rattle.std.specs.List.{All}
@@ -78,6 +80,12 @@ Chosen-set items k limit old new s change c set =
     subst (λ (t : LimitedSession). state_with items k new ≡ with_chosen t.state (change (chosen_buffer t.state))) c.seen
     (ap (λ (bs : List BufferState). record { buffers = bs; chosen = k }) list)
 
+-- the same buffer in its place leaves the session
+pub Chosen-kept : (items : List LimitedBuffer) (k limit : ℕ) (old new : LimitedBuffer) (s : LimitedSession) → Chosen items k limit old s → new ≡ old → state_with items k new ≡ s.state
+Chosen-kept items k limit old new s c same =
+    let whole : slice_set items k new ≡ items = ap (slice_set items k) (same ∙ c.is) ∙ set-get_or items k old in
+    ap (λ (bs : List LimitedBuffer). record { buffers = map (λ (b : LimitedBuffer). b.state) bs; chosen = k }) whole ∙ ap (λ (t : LimitedSession). t.state) c.seen
+
 -- ---- a text
 
 -- the chosen buffer takes a text: a step of the session
@@ -87,6 +95,16 @@ Step-take_text items k limit old new bytes s c utf8 short set = (
   accepted_text s.limit s.state bytes utf8 (omega (arith, Chosen-limit items k limit old s c)),
   (chars bytes, Encodes-chars bytes utf8, Chosen-set items k limit old new s (λ b. with_text b (chars bytes)) c set),
 )
+
+-- a text that is accepted costs the rows of its report
+cost_of_text : (limit : ℕ) (s : State) (bytes : List ℕ) (n : ℕ) → Accepts limit s (SetText bytes) → Costs limit s (SetText bytes) n
+    → n ≡ rows_of_report (with_chosen s (with_text (chosen_buffer s) (chars bytes)))
+cost_of_text limit s bytes n accepts (inl refused) = absurd (accepts refused.0 refused.1)
+cost_of_text limit s bytes n accepts (inr costs) = costs.rows ∙ told costs.reply costs.new costs.step.1
+  where
+    told : (reply : Reply) (new : State) → Does s (SetText bytes) reply new → rows_of_report new ≡ rows_of_report (with_chosen s (with_text (chosen_buffer s) (chars bytes)))
+    told Done new h = ap rows_of_report (h.2 ∙ ap (λ t. with_chosen s (with_text (chosen_buffer s) t)) (text_known h.0 bytes h.1))
+    told reply new h = absurd h
 
 -- the rows that a text may make are those of the command's cost
 pub rows_taken : (items : List LimitedBuffer) (k limit : ℕ) (old : LimitedBuffer) (bytes : List ℕ) (s : LimitedSession) (count before : ℕ) → Chosen items k limit old s
@@ -99,7 +117,7 @@ rows_taken items k limit old bytes s count before c utf8 long rows cost costs =
       | inr short ↦
           let accepts = accepted_text s.limit s.state bytes utf8 (omega (arith, same)) in
           let known : cost ≡ rows_anew old.state (chars bytes) =
-          Costs-accepted s.limit s.state (SetText bytes) cost accepts costs
+          cost_of_text s.limit s.state bytes cost accepts costs
           ∙ ap (λ (b : BufferState). rows_anew b (current_text b)) (Chosen-with items k limit old s c (with_text (chosen_buffer s.state) (chars bytes)))
           ∙ ap (λ (b : BufferState). rows_anew b (chars bytes)) (Chosen-state items k limit old s c) in
           omega (arith, known, rows)

@@ -7,7 +7,7 @@ use Rattle.std.proofs.Math.Utf8.{encode, encodes, scalar, scalars}
 use Rattle.rope_search.specs.declared.commands.CommandOf.{CommandOf}
 use Rattle.rope_search.specs.declared.commands.Payload.{Payload}
 use Rattle.rope_search.specs.declared.commands.Payload.TheVariants.{Kept, Long, Lost}
-use Rattle.rope_search.specs.Order.{Order, SetText, PrintText, ForkBuffer, SetPattern, DropPattern, ListMatches, UseBuffer}
+use Rattle.rope_search.specs.Order.{Order, SetText, EditText, UndoEdit, RedoEdit, PrintText, ForkBuffer, SetPattern, DropPattern, ListMatches, UseBuffer}
 use Rattle.rope_search_reports.specs.Pattern.{pattern_limit}
 use Rattle.rope_search.specs.Stands.{StandsFor, Stands}
 
@@ -44,6 +44,9 @@ payload_for limit Lost = ([], tt)
 
 pub stands_exist : (limit : ℕ) (command : CommandOf Payload) → (order : Order) × Stands limit command order
 stands_exist limit (SetText payload) = let whole = payload_for limit payload in (SetText whole.0, whole.1)
+stands_exist limit (EditText from to payload) = let whole = payload_for limit payload in (EditText from to whole.0, (refl, refl, whole.1))
+stands_exist limit UndoEdit = (UndoEdit, tt)
+stands_exist limit RedoEdit = (RedoEdit, tt)
 stands_exist limit PrintText = (PrintText, tt)
 stands_exist limit ForkBuffer = (ForkBuffer, tt)
 stands_exist limit (SetPattern payload) = let whole = payload_for pattern_limit payload in (SetPattern whole.0, whole.1)

@@ -2,15 +2,18 @@
 use Rattle.std.proofs.Common.{◌≡◌, ◌≢◌, ℕ, ◌+◌, ◌<◌, ◌≤◌, ◌⊎◌, List, [], ◌∷◌, ◌++◌, true, false, length, refl, sym, ap, ◌∙◌, subst, inl, inr, IsUtf8, arith}
 use Rattle.std.specs.Prelude.{Option, None, Some, MatchOption, Ok, Err, chars}
 use Rattle.std.specs.Str.{is_utf8}
-use Rattle.std.proofs.lemmas.Bool.{cases_Bool, cases_lt, cases_order}
+use Rattle.std.proofs.lemmas.Bool.{cases_Bool, cases_lt, cases_eq, cases_order}
 use Rattle.std.proofs.lemmas.Str.{IsUtf8-from_is_utf8, is_utf8-from_IsUtf8, chars_from_encodes}
 use Rattle.rope_search_io.specs.declared.faults.Fault.{Fault}
-use Rattle.rope_search_io.specs.declared.faults.Fault.TheVariants.{Nothing, Utf8, Pattern, Limit, Size, Memory}
+use Rattle.rope_search_io.specs.declared.faults.Fault.TheVariants.{Nothing, Range, Utf8, Pattern, Limit, Size, Memory}
 use Rattle.rope_search.specs.declared.commands.Reply.{Reply}
 use Rattle.rope_search.specs.declared.commands.Reply.TheVariants.{Done, Number, List as Listing, Print}
 use Rattle.rope_search_reports.specs.Text.{Encodes}
-use Rattle.rope_search.specs.Order.{Order, SetText, PrintText, ForkBuffer, SetPattern, DropPattern, ListMatches, UseBuffer}
-use Rattle.rope_search.specs.Session.{State, fresh, current_text, chosen_buffer, with_text, with_pattern, with_chosen}
+use Rattle.rope_search.specs.Order.{Order, SetText, EditText, UndoEdit, RedoEdit, PrintText, ForkBuffer, SetPattern, DropPattern, ListMatches, UseBuffer}
+use Rattle.rope_search.specs.Session.{BufferState, State, fresh, current_text, chosen_buffer, with_text, with_edit, undone, redone, with_pattern, with_chosen}
+use Rattle.rope_search_reports.specs.declared.positions.Position.{Position}
+use Rattle.rope_search.specs.Places.{IsBetween, HasNoneBetween, GetsTooLong, IsEdit}
+use Rattle.rope_search.proofs.PartLaws.{edited_by, IsEdit-known, IsEdit-by, between_choice, long_choice, part_one}
 use Rattle.rope_search_reports.specs.Pattern.{IsPattern, pattern_limit}
 use Rattle.rope_search.proofs.PatternLemmas.{pattern_choice}
 use Rattle.rope_search_io.specs.Faults.{rank_of}
@@ -18,7 +21,7 @@ use Rattle.rope_search.specs.Step.{Answer, Refuses, IsFirstRefusal, Accepts, Doe
 use Rattle.rope_search.specs.Shows.{IsListed, Shows, shows}
 use Rattle.rope_search_reports.specs.Report.{IsReport}
 use Rattle.rope_search_reports.specs.Computed.{report}
-use Rattle.rope_search_reports.specs.Laws.{HasOneReport, HasReport}
+use Rattle.rope_search_reports.specs.Laws.{HasOnePlace, HasOneReport, HasReport}
 use Rattle.rope_search.specs.Cost.{Costs, CostsAccepted, rows_of}
 use Rattle.rope_search.specs.Answers.{Run}
 use Rattle.rope_search.proofs.RunLaws.{Run-nil}
@@ -35,6 +38,9 @@ utf8_choice bytes = elim (cases_Bool (is_utf8 bytes)) [
 -- want of memory is no refusal
 pub Refuses-memory : (limit : ℕ) (s : State) (o : Order) → Refuses limit s o Memory → ⊥
 Refuses-memory limit s (SetText payload) h = h
+Refuses-memory limit s (EditText from to payload) h = h
+Refuses-memory limit s UndoEdit h = h
+Refuses-memory limit s RedoEdit h = h
 Refuses-memory limit s PrintText h = h
 Refuses-memory limit s ForkBuffer h = h
 Refuses-memory limit s (SetPattern payload) h = h
@@ -48,6 +54,7 @@ refused_utf8 limit s payload broken = record { refuses = broken; none_before = b
   where
     before : (other : Fault) → rank_of other < 3 → Refuses limit s (SetText payload) other → ⊥
     before Nothing lower h = h
+    before Range lower h = h
     before other lower h = omega arith
 
 -- a text that is too long is refused for that first
@@ -56,6 +63,7 @@ refused_size limit s payload text long = record { refuses = long; none_before = 
   where
     before : (other : Fault) → rank_of other < 6 → Refuses limit s (SetText payload) other → ⊥
     before Nothing lower h = h
+    before Range lower h = h
     before Utf8 lower h = h text
     before Pattern lower h = h
     before Limit lower h = h
@@ -64,6 +72,7 @@ refused_size limit s payload text long = record { refuses = long; none_before = 
 -- no refusal is told before that there is nothing
 rank_some : (fault : Fault) → rank_of fault < 1 → ⊥
 rank_some Nothing lower = omega arith
+rank_some Range lower = omega arith
 rank_some Utf8 lower = omega arith
 rank_some Pattern lower = omega arith
 rank_some Limit lower = omega arith
@@ -90,6 +99,7 @@ refused_pattern_utf8 limit s payload broken = record { refuses = broken; none_be
   where
     before : (other : Fault) → rank_of other < 3 → Refuses limit s (SetPattern payload) other → ⊥
     before Nothing lower h = h
+    before Range lower h = h
     before other lower h = omega arith
 
 -- a text that is no pattern is refused for that first
@@ -99,6 +109,7 @@ refused_pattern limit s payload text short other_text = record { refuses = (shor
   where
     before : (other : Fault) → rank_of other < 4 → Refuses limit s (SetPattern payload) other → ⊥
     before Nothing lower h = h
+    before Range lower h = h
     before Utf8 lower h = h text
     before other lower h = omega arith
 
@@ -108,6 +119,7 @@ refused_limit limit s payload text long = record { refuses = long; none_before =
   where
     before : (other : Fault) → rank_of other < 5 → Refuses limit s (SetPattern payload) other → ⊥
     before Nothing lower h = h
+    before Range lower h = h
     before Utf8 lower h = h text
     before Pattern lower h = omega (arith, h.0)
     before other lower h = omega arith
@@ -115,6 +127,7 @@ refused_limit limit s payload text long = record { refuses = long; none_before =
 -- a text within the limit is accepted
 pub accepted_text : (limit : ℕ) (s : State) (payload : List ℕ) → IsUtf8 payload → length payload ≤ limit → Accepts limit s (SetText payload)
 accepted_text limit s payload text short Nothing h = h
+accepted_text limit s payload text short Range h = h
 accepted_text limit s payload text short Utf8 h = h text
 accepted_text limit s payload text short Pattern h = h
 accepted_text limit s payload text short Limit h = h
@@ -130,6 +143,7 @@ accepted_fork limit s fault h = h
 -- a buffer that is there can be chosen
 pub accepted_use : (limit : ℕ) (s : State) (k : ℕ) → k < length s.buffers → Accepts limit s (UseBuffer k)
 accepted_use limit s k inside Nothing h = omega arith
+accepted_use limit s k inside Range h = h
 accepted_use limit s k inside Utf8 h = h
 accepted_use limit s k inside Pattern h = h
 accepted_use limit s k inside Limit h = h
@@ -140,6 +154,7 @@ accepted_use limit s k inside Memory h = h
 pub accepted_pattern : (limit : ℕ) (s : State) (payload : List ℕ) → IsUtf8 payload → length payload ≤ pattern_limit → IsPattern (chars payload)
     → Accepts limit s (SetPattern payload)
 accepted_pattern limit s payload text short is Nothing h = h
+accepted_pattern limit s payload text short is Range h = h
 accepted_pattern limit s payload text short is Utf8 h = h text
 accepted_pattern limit s payload text short is Pattern h = h.1 is
 accepted_pattern limit s payload text short is Limit h = omega arith
@@ -152,29 +167,128 @@ accepted_off limit s fault h = h
 -- where there is a pattern its report can be listed
 pub accepted_list : (limit : ℕ) (s : State) → (chosen_buffer s).pattern ≢ None → Accepts limit s ListMatches
 accepted_list limit s some Nothing h = some h
+accepted_list limit s some Range h = h
 accepted_list limit s some Utf8 h = h
 accepted_list limit s some Pattern h = h
 accepted_list limit s some Limit h = h
 accepted_list limit s some Size h = h
 accepted_list limit s some Memory h = h
 
+-- ---- edits
+
+-- where no part lies between the positions, an edit is refused for that first
+pub refused_range : (limit : ℕ) (s : State) (from to : Position) (payload : List ℕ) → HasNoneBetween (current_text (chosen_buffer s)) from to
+    → IsFirstRefusal limit s (EditText from to payload) Range
+refused_range limit s from to payload none = record { refuses = none; none_before = before }
+  where
+    before : (other : Fault) → rank_of other < 2 → Refuses limit s (EditText from to payload) other → ⊥
+    before Nothing lower h = h
+    before other lower h = omega arith
+
+-- a payload that isn't UTF-8 is refused for that, where there is a part
+pub refused_edit_utf8 : (limit : ℕ) (s : State) (from to : Position) (payload before part behind : List ℕ) → IsBetween (current_text (chosen_buffer s)) from to before part behind
+    → ¬ (IsUtf8 payload) → IsFirstRefusal limit s (EditText from to payload) Utf8
+refused_edit_utf8 limit s from to payload before part behind between broken = record { refuses = broken; none_before = earlier }
+  where
+    earlier : (other : Fault) → rank_of other < 3 → Refuses limit s (EditText from to payload) other → ⊥
+    earlier Nothing lower h = h
+    earlier Range lower h = h before part behind between
+    earlier other lower h = omega arith
+
+-- an edit that makes the text too long is refused for that
+pub refused_edit_size : (limit : ℕ) (s : State) (from to : Position) (payload : List ℕ) → IsUtf8 payload → GetsTooLong limit (current_text (chosen_buffer s)) from to (length payload)
+    → IsFirstRefusal limit s (EditText from to payload) Size
+refused_edit_size limit s from to payload text long = record { refuses = long; none_before = earlier }
+  where
+    earlier : (other : Fault) → rank_of other < 6 → Refuses limit s (EditText from to payload) other → ⊥
+    earlier Nothing lower h = h
+    earlier Range lower h = h long.before long.part long.behind long.between
+    earlier Utf8 lower h = h text
+    earlier Pattern lower h = h
+    earlier Limit lower h = h
+    earlier other lower h = omega arith
+
+pub accepted_edit : (limit : ℕ) (s : State) (from to : Position) (payload before part behind : List ℕ) → IsBetween (current_text (chosen_buffer s)) from to before part behind
+    → IsUtf8 payload → (GetsTooLong limit (current_text (chosen_buffer s)) from to (length payload) → ⊥) → Accepts limit s (EditText from to payload)
+accepted_edit limit s from to payload before part behind between text short Nothing h = h
+accepted_edit limit s from to payload before part behind between text short Range h = h before part behind between
+accepted_edit limit s from to payload before part behind between text short Utf8 h = h text
+accepted_edit limit s from to payload before part behind between text short Pattern h = h
+accepted_edit limit s from to payload before part behind between text short Limit h = h
+accepted_edit limit s from to payload before part behind between text short Size h = short h
+accepted_edit limit s from to payload before part behind between text short Memory h = h
+
+-- what can't be undone, or redone
+pub refused_undo : (limit : ℕ) (s : State) → (chosen_buffer s).current ≡ 0 → IsFirstRefusal limit s UndoEdit Nothing
+refused_undo limit s none = record { refuses = none; none_before = before }
+  where
+    before : (other : Fault) → rank_of other < 1 → Refuses limit s UndoEdit other → ⊥
+    before other lower h = rank_some other lower
+
+pub refused_redo : (limit : ℕ) (s : State) → length (chosen_buffer s).texts ≤ (chosen_buffer s).current + 1 → IsFirstRefusal limit s RedoEdit Nothing
+refused_redo limit s none = record { refuses = none; none_before = before }
+  where
+    before : (other : Fault) → rank_of other < 1 → Refuses limit s RedoEdit other → ⊥
+    before other lower h = rank_some other lower
+
+pub accepted_undo : (limit : ℕ) (s : State) → (chosen_buffer s).current ≢ 0 → Accepts limit s UndoEdit
+accepted_undo limit s some Nothing h = some h
+accepted_undo limit s some Range h = h
+accepted_undo limit s some Utf8 h = h
+accepted_undo limit s some Pattern h = h
+accepted_undo limit s some Limit h = h
+accepted_undo limit s some Size h = h
+accepted_undo limit s some Memory h = h
+
+pub accepted_redo : (limit : ℕ) (s : State) → (chosen_buffer s).current + 1 < length (chosen_buffer s).texts → Accepts limit s RedoEdit
+accepted_redo limit s some Nothing h = omega arith
+accepted_redo limit s some Range h = h
+accepted_redo limit s some Utf8 h = h
+accepted_redo limit s some Pattern h = h
+accepted_redo limit s some Limit h = h
+accepted_redo limit s some Size h = h
+accepted_redo limit s some Memory h = h
+
 -- there is a pattern or none
 pub has_pattern : (pattern : Option (List ℕ)) → (pattern ≡ None) ⊎ (pattern ≢ None)
 has_pattern None = inl refl
 has_pattern (Some p) = inr (λ e. cc)
 
+-- an edit is refused for some first reason, or accepted
+edit_choice : (placed : HasOnePlace) (limit : ℕ) (s : State) (from to : Position) (payload : List ℕ)
+    → ((f : Fault) × IsFirstRefusal limit s (EditText from to payload) f) ⊎ Accepts limit s (EditText from to payload)
+edit_choice placed limit s from to payload = elim (between_choice placed (current_text (chosen_buffer s)) from to) [
+  | inr none ↦ inl (Range, refused_range limit s from to payload none)
+  | inl some ↦ elim (utf8_choice payload) [
+    | inr broken ↦ inl (Utf8, refused_edit_utf8 limit s from to payload some.0 some.1 some.2 some.3 broken)
+    | inl text ↦ elim (long_choice placed limit (current_text (chosen_buffer s)) from to (length payload) some.0 some.1 some.2 some.3) [
+      | inl long ↦ inl (Size, refused_edit_size limit s from to payload text long)
+      | inr short ↦ inr (accepted_edit limit s from to payload some.0 some.1 some.2 some.3 text short)
+    ]
+  ]
+]
+
 -- a command is refused for some first reason, or accepted
-pub refusal_choice : (limit : ℕ) (s : State) (o : Order) → ((f : Fault) × IsFirstRefusal limit s o f) ⊎ Accepts limit s o
-refusal_choice limit s (SetText payload) = elim (utf8_choice payload) [
+pub refusal_choice : (placed : HasOnePlace) (limit : ℕ) (s : State) (o : Order) → ((f : Fault) × IsFirstRefusal limit s o f) ⊎ Accepts limit s o
+refusal_choice placed limit s (SetText payload) = elim (utf8_choice payload) [
   | inl text ↦ elim (cases_lt limit (length payload)) [
     | inl long ↦ inl (Size, refused_size limit s payload text long)
     | inr short ↦ inr (accepted_text limit s payload text short)
   ]
   | inr broken ↦ inl (Utf8, refused_utf8 limit s payload broken)
 ]
-refusal_choice limit s PrintText = inr (accepted_print limit s)
-refusal_choice limit s ForkBuffer = inr (accepted_fork limit s)
-refusal_choice limit s (SetPattern payload) = elim (utf8_choice payload) [
+refusal_choice placed limit s (EditText from to payload) = edit_choice placed limit s from to payload
+refusal_choice placed limit s UndoEdit = elim (cases_eq (chosen_buffer s).current 0) [
+  | inl none ↦ inl (Nothing, refused_undo limit s none)
+  | inr some ↦ inr (accepted_undo limit s some)
+]
+refusal_choice placed limit s RedoEdit = elim (cases_lt ((chosen_buffer s).current + 1) (length (chosen_buffer s).texts)) [
+  | inl some ↦ inr (accepted_redo limit s some)
+  | inr none ↦ inl (Nothing, refused_redo limit s none)
+]
+refusal_choice placed limit s PrintText = inr (accepted_print limit s)
+refusal_choice placed limit s ForkBuffer = inr (accepted_fork limit s)
+refusal_choice placed limit s (SetPattern payload) = elim (utf8_choice payload) [
   | inl text ↦ elim (cases_lt pattern_limit (length payload)) [
     | inl long ↦ inl (Limit, refused_limit limit s payload text long)
     | inr short ↦ elim (pattern_choice (chars payload)) [
@@ -184,12 +298,12 @@ refusal_choice limit s (SetPattern payload) = elim (utf8_choice payload) [
   ]
   | inr broken ↦ inl (Utf8, refused_pattern_utf8 limit s payload broken)
 ]
-refusal_choice limit s DropPattern = inr (accepted_off limit s)
-refusal_choice limit s ListMatches = elim (has_pattern (chosen_buffer s).pattern) [
+refusal_choice placed limit s DropPattern = inr (accepted_off limit s)
+refusal_choice placed limit s ListMatches = elim (has_pattern (chosen_buffer s).pattern) [
   | inl none ↦ inl (Nothing, refused_list limit s none)
   | inr some ↦ inr (accepted_list limit s some)
 ]
-refusal_choice limit s (UseBuffer k) = elim (cases_lt k (length s.buffers)) [
+refusal_choice placed limit s (UseBuffer k) = elim (cases_lt k (length s.buffers)) [
   | inl inside ↦ inr (accepted_use limit s k inside)
   | inr past ↦ inl (Nothing, refused_nothing limit s k past)
 ]
@@ -197,6 +311,7 @@ refusal_choice limit s (UseBuffer k) = elim (cases_lt k (length s.buffers)) [
 -- faults of one rank are the same
 pub rank_one : (f g : Fault) → rank_of f ≡ rank_of g → f ≡ g
 rank_one Nothing Nothing e = refl
+rank_one Range Range e = refl
 rank_one Utf8 Utf8 e = refl
 rank_one Pattern Pattern e = refl
 rank_one Limit Limit e = refl
@@ -217,6 +332,9 @@ IsFirstRefusal-one limit s o f g one other = elim (cases_order (rank_of f) (rank
 -- what an accepted command replies
 abbrev pub reply_to : State → Order → Reply
 reply_to old (SetText payload) = Done
+reply_to old (EditText from to payload) = Done
+reply_to old UndoEdit = Done
+reply_to old RedoEdit = Done
 reply_to old PrintText = Print
 reply_to old ForkBuffer = Number (length old.buffers)
 reply_to old (SetPattern payload) = Done
@@ -225,55 +343,79 @@ reply_to old ListMatches = Listing
 reply_to old (UseBuffer k) = Done
 
 -- the session after an accepted command
-abbrev pub after : State → Order → State
-after old (SetText payload) = with_chosen old (with_text (chosen_buffer old) (chars payload))
-after old PrintText = old
-after old ForkBuffer = record old { buffers = old.buffers ++ fresh (current_text (chosen_buffer old)) ∷ [] }
-after old (SetPattern payload) = with_chosen old (with_pattern (chosen_buffer old) (Some (chars payload)))
-after old DropPattern = with_chosen old (with_pattern (chosen_buffer old) None)
-after old ListMatches = old
-after old (UseBuffer k) = record old { chosen = k }
+abbrev pub after : HasOnePlace → State → Order → State
+after placed old (EditText from to payload) =
+    with_chosen old (edited_by (chosen_buffer old) from to (chars payload) (between_choice placed (current_text (chosen_buffer old)) from to))
+after placed old UndoEdit = with_chosen old (undone (chosen_buffer old))
+after placed old RedoEdit = with_chosen old (redone (chosen_buffer old))
+after placed old (SetText payload) = with_chosen old (with_text (chosen_buffer old) (chars payload))
+after placed old PrintText = old
+after placed old ForkBuffer = record old { buffers = old.buffers ++ fresh (current_text (chosen_buffer old)) ∷ [] }
+after placed old (SetPattern payload) = with_chosen old (with_pattern (chosen_buffer old) (Some (chars payload)))
+after placed old DropPattern = with_chosen old (with_pattern (chosen_buffer old) None)
+after placed old ListMatches = old
+after placed old (UseBuffer k) = record old { chosen = k }
 
 -- the text that bytes encode is the list of their characters
 pub Encodes-chars : (text bytes : List ℕ) → Encodes text bytes → text ≡ chars bytes
 Encodes-chars text bytes h = chars_from_encodes text bytes (text, (h.scalars, h.spelled)) h.spelled
 
 -- an accepted command does one thing
-pub Does-known : (old : State) (o : Order) (r : Reply) (new : State) → Does old o r new → (r ≡ reply_to old o) × (new ≡ after old o)
-Does-known old (SetText payload) Done new h = (refl, h.2 ∙ ap (λ t. with_chosen old (with_text (chosen_buffer old) t)) (Encodes-chars h.0 payload h.1))
-Does-known old PrintText Print new h = (refl, h)
-Does-known old ForkBuffer (Number k) new h = (ap Number h.0, h.1)
-Does-known old (SetPattern payload) Done new h = (refl, h.2 ∙ ap (λ p. with_chosen old (with_pattern (chosen_buffer old) (Some p))) (Encodes-chars h.0 payload h.1))
-Does-known old DropPattern Done new h = (refl, h)
-Does-known old ListMatches Listing new h = (refl, h)
-Does-known old (UseBuffer k) Done new h = (refl, h)
-Does-known old o r new h = absurd h
+pub Does-known : (placed : HasOnePlace) (old : State) (o : Order) (r : Reply) (new : State) → Does old o r new → (r ≡ reply_to old o) × (new ≡ after placed old o)
+Does-known placed old (EditText from to payload) Done new h =
+    let buffer = chosen_buffer old in
+    let known = IsEdit-known placed buffer from to h.0 h.1 (between_choice placed (current_text buffer) from to) h.3 in
+    let text : h.0 ≡ chars payload = Encodes-chars h.0 payload h.2 in
+    (refl, h.4 ∙ ap (with_chosen old) known ∙ ap (λ t. with_chosen old (edited_by buffer from to t (between_choice placed (current_text buffer) from to))) text)
+Does-known placed old UndoEdit Done new h = (refl, h)
+Does-known placed old RedoEdit Done new h = (refl, h)
+Does-known placed old (SetText payload) Done new h = (refl, h.2 ∙ ap (λ t. with_chosen old (with_text (chosen_buffer old) t)) (Encodes-chars h.0 payload h.1))
+Does-known placed old PrintText Print new h = (refl, h)
+Does-known placed old ForkBuffer (Number k) new h = (ap Number h.0, h.1)
+Does-known placed old (SetPattern payload) Done new h = (refl, h.2 ∙ ap (λ p. with_chosen old (with_pattern (chosen_buffer old) (Some p))) (Encodes-chars h.0 payload h.1))
+Does-known placed old DropPattern Done new h = (refl, h)
+Does-known placed old ListMatches Listing new h = (refl, h)
+Does-known placed old (UseBuffer k) Done new h = (refl, h)
+Does-known placed old o r new h = absurd h
 
 -- and each accepted command does it
-pub Does-after : (limit : ℕ) (old : State) (o : Order) → Accepts limit old o → Does old o (reply_to old o) (after old o)
-Does-after limit old (SetText payload) accepts = elim (utf8_choice payload) [
+pub Does-after : (placed : HasOnePlace) (limit : ℕ) (old : State) (o : Order) → Accepts limit old o → Does old o (reply_to old o) (after placed old o)
+Does-after placed limit old (EditText from to payload) accepts =
+    let buffer = chosen_buffer old in
+    let choice = between_choice placed (current_text buffer) from to in
+    elim (utf8_choice payload) [
+      | inl text ↦
+          let encodes : Encodes text.0 payload = record { scalars = text.1.0; spelled = text.1.1 } in
+          let inserted : Encodes (chars payload) payload = subst (λ t. Encodes t payload) (Encodes-chars text.0 payload encodes) encodes in
+          (chars payload, edited_by buffer from to (chars payload) choice, inserted, IsEdit-by buffer from to (chars payload) choice (λ none. accepts Range none), refl)
+      | inr broken ↦ absurd (accepts Utf8 broken)
+    ]
+Does-after placed limit old UndoEdit accepts = refl
+Does-after placed limit old RedoEdit accepts = refl
+Does-after placed limit old (SetText payload) accepts = elim (utf8_choice payload) [
   | inl text ↦
       let encodes : Encodes text.0 payload = record { scalars = text.1.0; spelled = text.1.1 } in
       (text.0, encodes, ap (λ t. with_chosen old (with_text (chosen_buffer old) t)) (sym (Encodes-chars text.0 payload encodes)))
   | inr broken ↦ absurd (accepts Utf8 broken)
 ]
-Does-after limit old PrintText accepts = refl
-Does-after limit old ForkBuffer accepts = (refl, refl)
-Does-after limit old (SetPattern payload) accepts = elim (utf8_choice payload) [
+Does-after placed limit old PrintText accepts = refl
+Does-after placed limit old ForkBuffer accepts = (refl, refl)
+Does-after placed limit old (SetPattern payload) accepts = elim (utf8_choice payload) [
   | inl text ↦
       let encodes : Encodes text.0 payload = record { scalars = text.1.0; spelled = text.1.1 } in
       (text.0, encodes, ap (λ p. with_chosen old (with_pattern (chosen_buffer old) (Some p))) (sym (Encodes-chars text.0 payload encodes)))
   | inr broken ↦ absurd (accepts Utf8 broken)
 ]
-Does-after limit old DropPattern accepts = refl
-Does-after limit old ListMatches accepts = refl
-Does-after limit old (UseBuffer k) accepts = refl
+Does-after placed limit old DropPattern accepts = refl
+Does-after placed limit old ListMatches accepts = refl
+Does-after placed limit old (UseBuffer k) accepts = refl
 
 -- ---- steps
 
 -- a command that is refused for this first is answered so, and leaves the session
 pub Step-refused : (limit : ℕ) (s : State) (o : Order) (f : Fault) → IsFirstRefusal limit s o f → Step limit s o (Err f) s
 Step-refused limit s o Nothing first = (first, refl)
+Step-refused limit s o Range first = (first, refl)
 Step-refused limit s o Utf8 first = (first, refl)
 Step-refused limit s o Pattern first = (first, refl)
 Step-refused limit s o Limit first = (first, refl)
@@ -283,6 +425,7 @@ Step-refused limit s o Memory first = absurd (Refuses-memory limit s o first.ref
 -- an answer other than want of memory tells the first refusal
 pub Step-told : (limit : ℕ) (s : State) (o : Order) (f : Fault) (new : State) → f ≢ Memory → Step limit s o (Err f) new → IsFirstRefusal limit s o f × (new ≡ s)
 Step-told limit s o Nothing new other step = step
+Step-told limit s o Range new other step = step
 Step-told limit s o Utf8 new other step = step
 Step-told limit s o Pattern new other step = step
 Step-told limit s o Limit new other step = step
@@ -290,26 +433,26 @@ Step-told limit s o Size new other step = step
 Step-told limit s o Memory new other step = absurd (other refl)
 
 -- each command has a step, apart from want of memory
-pub step_exists : (limit : ℕ) (s : State) (o : Order) → (answer : Answer) × (new : State) × (answer ≢ Err Memory) × Step limit s o answer new
-step_exists limit s o = elim (refusal_choice limit s o) [
+pub step_exists : (placed : HasOnePlace) (limit : ℕ) (s : State) (o : Order) → (answer : Answer) × (new : State) × (answer ≢ Err Memory) × Step limit s o answer new
+step_exists placed limit s o = elim (refusal_choice placed limit s o) [
   | inl refused ↦ (Err refused.0, s, memory refused.0 (Err refused.0) refl refused.1, Step-refused limit s o refused.0 refused.1)
-  | inr accepts ↦ (Ok (reply_to s o), after s o, (λ e. cc), (accepts, Does-after limit s o accepts))
+  | inr accepts ↦ (Ok (reply_to s o), after placed s o, (λ e. cc), (accepts, Does-after placed limit s o accepts))
 ]
   where
     memory : (f : Fault) (told : Answer) → told ≡ Err f → IsFirstRefusal limit s o f → told ≡ Err Memory → ⊥
     memory f told is first e = let same : f ≡ Memory = cc in Refuses-memory limit s o (subst (λ g. Refuses limit s o g) same first.refuses)
 
 -- and no other
-pub step_one : (limit : ℕ) (s : State) (o : Order) (a b : Answer) (x y : State) → Step limit s o a x → Step limit s o b y → a ≢ Err Memory → b ≢ Err Memory → (a ≡ b) × (x ≡ y)
-step_one limit s o (Ok p) (Ok q) x y one other memory memory' =
-    let known = Does-known s o p x one.1 in
-    let known' = Does-known s o q y other.1 in
+pub step_one : (placed : HasOnePlace) (limit : ℕ) (s : State) (o : Order) (a b : Answer) (x y : State) → Step limit s o a x → Step limit s o b y → a ≢ Err Memory → b ≢ Err Memory → (a ≡ b) × (x ≡ y)
+step_one placed limit s o (Ok p) (Ok q) x y one other memory memory' =
+    let known = Does-known placed s o p x one.1 in
+    let known' = Does-known placed s o q y other.1 in
     (ap Ok (known.0 ∙ sym known'.0), known.1 ∙ sym known'.1)
-step_one limit s o (Ok p) (Err g) x y one other memory memory' =
+step_one placed limit s o (Ok p) (Err g) x y one other memory memory' =
     absurd (one.0 g (Step-told limit s o g y (λ e. memory' (ap Err e)) other).0.refuses)
-step_one limit s o (Err f) (Ok q) x y one other memory memory' =
+step_one placed limit s o (Err f) (Ok q) x y one other memory memory' =
     absurd (other.0 f (Step-told limit s o f x (λ e. memory (ap Err e)) one).0.refuses)
-step_one limit s o (Err f) (Err g) x y one other memory memory' =
+step_one placed limit s o (Err f) (Err g) x y one other memory memory' =
     let told = Step-told limit s o f x (λ e. memory (ap Err e)) one in
     let told' = Step-told limit s o g y (λ e. memory' (ap Err e)) other in
     (ap Err (IsFirstRefusal-one limit s o f g told.0 told'.0), told.1 ∙ sym told'.1)
@@ -317,31 +460,31 @@ step_one limit s o (Err f) (Err g) x y one other memory memory' =
 -- ---- costs and runs
 
 -- a command that is accepted costs so much
-pub accepted_cost : (limit : ℕ) (s : State) (o : Order) → Accepts limit s o → CostsAccepted limit s o (rows_of o (after s o))
-accepted_cost limit s o accepts = record { reply = reply_to s o; new = after s o; step = (accepts, Does-after limit s o accepts); rows = refl }
+pub accepted_cost : (placed : HasOnePlace) (limit : ℕ) (s : State) (o : Order) → Accepts limit s o → CostsAccepted limit s o (rows_of o (after placed s o))
+accepted_cost placed limit s o accepts = record { reply = reply_to s o; new = after placed s o; step = (accepts, Does-after placed limit s o accepts); rows = refl }
 
 -- and no more
-pub accepted_rows : (limit : ℕ) (s : State) (o : Order) (n : ℕ) → CostsAccepted limit s o n → n ≡ rows_of o (after s o)
-accepted_rows limit s o n costs = costs.rows ∙ ap (rows_of o) (Does-known s o costs.reply costs.new costs.step.1).1
+pub accepted_rows : (placed : HasOnePlace) (limit : ℕ) (s : State) (o : Order) (n : ℕ) → CostsAccepted limit s o n → n ≡ rows_of o (after placed s o)
+accepted_rows placed limit s o n costs = costs.rows ∙ ap (rows_of o) (Does-known placed s o costs.reply costs.new costs.step.1).1
 
 -- where there is no reason to refuse a command it costs that
-pub Costs-accepted : (limit : ℕ) (s : State) (o : Order) (n : ℕ) → Accepts limit s o → Costs limit s o n → n ≡ rows_of o (after s o)
-Costs-accepted limit s o n accepts (inl refused) = absurd (accepts refused.0 refused.1)
-Costs-accepted limit s o n accepts (inr costs) = accepted_rows limit s o n costs
+pub Costs-accepted : (placed : HasOnePlace) (limit : ℕ) (s : State) (o : Order) (n : ℕ) → Accepts limit s o → Costs limit s o n → n ≡ rows_of o (after placed s o)
+Costs-accepted placed limit s o n accepts (inl refused) = absurd (accepts refused.0 refused.1)
+Costs-accepted placed limit s o n accepts (inr costs) = accepted_rows placed limit s o n costs
 
 -- each command has a cost
-pub costs_exist : (limit : ℕ) (s : State) (o : Order) → (n : ℕ) × Costs limit s o n
-costs_exist limit s o = elim (refusal_choice limit s o) [
+pub costs_exist : (placed : HasOnePlace) (limit : ℕ) (s : State) (o : Order) → (n : ℕ) × Costs limit s o n
+costs_exist placed limit s o = elim (refusal_choice placed limit s o) [
   | inl refused ↦ (0, inl (refused.0, refused.1.refuses, refl))
-  | inr accepts ↦ (rows_of o (after s o), inr (accepted_cost limit s o accepts))
+  | inr accepts ↦ (rows_of o (after placed s o), inr (accepted_cost placed limit s o accepts))
 ]
 
 -- and no other
-pub costs_one : (limit : ℕ) (s : State) (o : Order) (m n : ℕ) → Costs limit s o m → Costs limit s o n → m ≡ n
-costs_one limit s o m n (inl one) (inl other) = one.2 ∙ sym other.2
-costs_one limit s o m n (inl one) (inr other) = absurd (other.step.0 one.0 one.1)
-costs_one limit s o m n (inr one) (inl other) = absurd (one.step.0 other.0 other.1)
-costs_one limit s o m n (inr one) (inr other) = accepted_rows limit s o m one ∙ sym (accepted_rows limit s o n other)
+pub costs_one : (placed : HasOnePlace) (limit : ℕ) (s : State) (o : Order) (m n : ℕ) → Costs limit s o m → Costs limit s o n → m ≡ n
+costs_one placed limit s o m n (inl one) (inl other) = one.2 ∙ sym other.2
+costs_one placed limit s o m n (inl one) (inr other) = absurd (other.step.0 one.0 one.1)
+costs_one placed limit s o m n (inr one) (inl other) = absurd (one.step.0 other.0 other.1)
+costs_one placed limit s o m n (inr one) (inr other) = accepted_rows placed limit s o m one ∙ sym (accepted_rows placed limit s o n other)
 
 -- without a pattern there are no rows, and with one there is a report
 report_exists : HasReport → (text : List ℕ) (pattern : Option (List ℕ)) → (rows : List (List (ℕ × ℕ))) × MatchOption pattern (rows ≡ []) (λ p. IsReport text p rows)
@@ -371,13 +514,13 @@ shows_one single s answer x y one other =
     one.shown ∙ ap (λ rows. shows s rows answer) (rows_one single s answer one.rows other.rows one.listed other.listed) ∙ sym other.shown
 
 -- commands can be run from each session
-pub run_exists : HasReport → (limit : ℕ) (s : State) (os : List Order) → (out : List ℕ) × (cost : ℕ) × (new : State) × Run limit s os out cost new
-run_exists reported limit s [] = ([], 0, s, Run-nil limit s)
-run_exists reported limit s (o ∷ os) =
-    let step = step_exists limit s o in
-    let costs = costs_exist limit s o in
+pub run_exists : HasOnePlace → HasReport → (limit : ℕ) (s : State) (os : List Order) → (out : List ℕ) × (cost : ℕ) × (new : State) × Run limit s os out cost new
+run_exists placed reported limit s [] = ([], 0, s, Run-nil limit s)
+run_exists placed reported limit s (o ∷ os) =
+    let step = step_exists placed limit s o in
+    let costs = costs_exist placed limit s o in
     let shows = shows_exist reported step.1 step.0 in
-    let others = run_exists reported limit step.1 os in (
+    let others = run_exists placed reported limit step.1 os in (
       shows.0 ++ others.0,
       costs.0 + others.1,
       others.2,

@@ -1,13 +1,13 @@
 -- How many rows of a report a command may make, and how often it may search a whole text.
-use Rattle.std.specs.Prelude.{◌≡◌, ℕ, ◌⊎◌, List, if◌then◌else◌, is_some, Ok}
+use Rattle.std.specs.Prelude.{◌≡◌, ℕ, ◌⊎◌, List, if◌then◌else◌, is_some, Ok, chars}
 use Rattle.rope_search_io.specs.declared.faults.Fault.{Fault}
 use Rattle.rope_search.specs.declared.commands.Reply.{Reply}
 use Rattle.rope_search_reports.specs.Text.{line_count}
-use Rattle.rope_search.specs.Order.{Order, SetText, PrintText, ForkBuffer, SetPattern, DropPattern, ListMatches, UseBuffer}
+use Rattle.rope_search.specs.Order.{Order, SetText, EditText, UndoEdit, RedoEdit, PrintText, ForkBuffer, SetPattern, DropPattern, ListMatches, UseBuffer}
 use Rattle.rope_search.specs.Session.{BufferState, State, current_text, chosen_buffer}
 use Rattle.rope_search.specs.Step.{Refuses, Step}
 
--- a report that is made anew has a row for each line of the text; there is none without a pattern
+-- a row for each line of a text that is searched; there is none without a pattern
 abbrev pub rows_anew : BufferState → List ℕ → ℕ
 rows_anew buffer text = if is_some buffer.pattern then line_count text else 0
 
@@ -18,6 +18,11 @@ rows_of_report session = rows_anew (chosen_buffer session) (current_text (chosen
 -- the rows that a command may make, once it is accepted, by the session after it
 abbrev pub rows_of : Order → State → ℕ
 rows_of (SetText payload) new = rows_of_report new
+-- the rows of the lines that the edit touches: as many as the inserted text has lines, which are its
+-- breaks plus one
+rows_of (EditText from to payload) new = rows_anew (chosen_buffer new) (chars payload)
+rows_of UndoEdit new = rows_of_report new
+rows_of RedoEdit new = rows_of_report new
 rows_of PrintText new = 0
 rows_of ForkBuffer new = 0
 rows_of (SetPattern payload) new = rows_of_report new
@@ -41,6 +46,9 @@ Costs limit old order n =
 -- how often a command may search a whole text
 abbrev pub whole_searches : Order → ℕ
 whole_searches (SetText payload) = 0
+whole_searches (EditText from to payload) = 0
+whole_searches UndoEdit = 0
+whole_searches RedoEdit = 0
 whole_searches PrintText = 0
 whole_searches ForkBuffer = 0
 whole_searches (SetPattern payload) = 0

@@ -1,13 +1,15 @@
 -- Laws of the definitions themselves: that they leave one reading, one step and one cost, and that
 -- no command is left out.
-use Rattle.std.specs.Prelude.{◌≡◌, ◌≢◌, ℕ, ◌↔◌, List, ◌++◌, Err}
+use Rattle.std.specs.Prelude.{◌≡◌, ◌≢◌, ℕ, ◌<◌, ◌↔◌, List, ◌++◌, length, Ok, Err}
 use Rattle.rope_search_io.specs.declared.faults.Fault.TheVariants.{Memory}
 use Rattle.rope_search.specs.declared.runs.Ended.{Ended}
 use Rattle.rope_search.specs.declared.runs.Ended.TheVariants.{Command}
 use Rattle.rope_search.specs.declared.commands.CommandOf.{CommandOf}
 use Rattle.rope_search.specs.declared.commands.Payload.{Payload}
-use Rattle.rope_search.specs.Order.{Order}
-use Rattle.rope_search.specs.Session.{State}
+use Rattle.rope_search.specs.declared.commands.Reply.{Reply}
+use Rattle.rope_search_reports.specs.declared.positions.Position.{Position}
+use Rattle.rope_search.specs.Order.{Order, EditText, UndoEdit, RedoEdit, PrintText, ListMatches}
+use Rattle.rope_search.specs.Session.{State, current_text, chosen_buffer}
 use Rattle.rope_search.specs.Shows.{Shows}
 use Rattle.rope_search.specs.Stands.{Stands}
 use Rattle.rope_search.specs.Step.{Answer, Step}
@@ -58,3 +60,32 @@ HasOneShow session answer =
 -- this command, with what was kept of its payload, stands for some command of the definition
 abbrev pub StandsForSome : ℕ → CommandOf Payload → Type 0
 StandsForSome limit command = (order : Order) × Stands limit command order
+
+-- the chosen buffer is there, and so is its current text
+pub record HasCurrent (session : State) : Type 0 where
+  pub chosen : session.chosen < length session.buffers
+  pub current : (chosen_buffer session).current < length (chosen_buffer session).texts
+
+-- the chosen buffers have one text and one pattern, and so one report
+pub record AreAlike (session other : State) : Type 0 where
+  pub text : current_text (chosen_buffer session) ≡ current_text (chosen_buffer other)
+  pub pattern : (chosen_buffer session).pattern ≡ (chosen_buffer other).pattern
+
+-- an edit, and directly after it an undo, give back text and pattern
+abbrev pub UndoUndoesEdit : Type 0
+UndoUndoesEdit = (limit : ℕ) (old edited new : State) (from to : Position) (payload : List ℕ)
+    (reply undone : Reply) → HasCurrent old → Step limit old (EditText from to payload) (Ok reply) edited
+    → Step limit edited UndoEdit (Ok undone) new → AreAlike new old
+
+-- an undo, and directly after it a redo, give back text and pattern
+abbrev pub RedoRedoesUndo : Type 0
+RedoRedoesUndo = (limit : ℕ) (old undone new : State) (reply redone : Reply) → HasCurrent old
+    → Step limit old UndoEdit (Ok reply) undone → Step limit undone RedoEdit (Ok redone) new
+    → AreAlike new old
+
+-- to this command two sessions reply alike, where text and pattern are the same
+abbrev pub RepliesAlike : Order → Type 0
+RepliesAlike order = (limit limit' : ℕ) (session other new new' : State) (answer answer' : Answer)
+    (bytes bytes' : List ℕ) → AreAlike session other → Step limit session order answer new
+    → Step limit' other order answer' new' → Shows new answer bytes → Shows new' answer' bytes'
+    → bytes ≡ bytes'

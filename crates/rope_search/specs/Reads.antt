@@ -3,7 +3,7 @@ use Rattle.std.specs.Prelude.{◌≡◌, ◌≢◌, ℕ, ◌+◌, ◌-◌, ◌*�
 use Rattle.std.specs.List.{AllByRecursion}
 use Rattle.rope_search.specs.declared.runs.Ended.{Ended}
 use Rattle.rope_search.specs.declared.runs.Ended.TheVariants.{Input, Command, Cut}
-use Rattle.rope_search.specs.Order.{Order, SetText, PrintText, ForkBuffer, SetPattern, DropPattern, ListMatches, UseBuffer}
+use Rattle.rope_search.specs.Order.{Order, SetText, EditText, UndoEdit, RedoEdit, PrintText, ForkBuffer, SetPattern, DropPattern, ListMatches, UseBuffer}
 
 -- the number that decimal digits spell after those of n
 abbrev pub digits_after : ℕ → List ℕ → ℕ
@@ -21,6 +21,9 @@ pub record IsNumber (digits : List ℕ) (n : ℕ) : Type 0 where
 -- the bytes that follow a command's line
 abbrev pub payload_of : Order → List ℕ
 payload_of (SetText payload) = payload
+payload_of (EditText from to payload) = payload
+payload_of UndoEdit = []
+payload_of RedoEdit = []
 payload_of PrintText = []
 payload_of ForkBuffer = []
 payload_of (SetPattern payload) = payload
@@ -28,19 +31,31 @@ payload_of DropPattern = []
 payload_of ListMatches = []
 payload_of (UseBuffer k) = []
 
--- a line is a word and then a number
-abbrev pub IsWorded : List ℕ → List ℕ → ℕ → Type 0
-IsWorded word line n = (digits : List ℕ) × IsNumber digits n × (line ≡ word ++ digits)
+-- numbers, each after one space
+abbrev pub AreSpelled : List ℕ → List ℕ → Type 0
+AreSpelled [] bytes = bytes ≡ []
+AreSpelled (n ∷ ns) bytes =
+    (digits : List ℕ) × (others : List ℕ) × IsNumber digits n × AreSpelled ns others
+    × (bytes ≡ 32 ∷ digits ++ others)
+
+-- a line is a word and then these numbers
+abbrev pub IsWorded : List ℕ → List ℕ → List ℕ → Type 0
+IsWorded word line ns = (numbers : List ℕ) × AreSpelled ns numbers × (line ≡ word ++ numbers)
 
 -- a command's line, without its LF: a word, then its numbers, each after one space
 abbrev pub IsLine : Order → List ℕ → Type 0
-IsLine (SetText payload) line = IsWorded (codes "text ") line (length payload)
+IsLine (SetText payload) line = IsWorded (codes "text") line (length payload ∷ [])
+IsLine (EditText from to payload) line =
+    IsWorded (codes "edit") line
+    (from.line ∷ from.column ∷ to.line ∷ to.column ∷ length payload ∷ [])
+IsLine UndoEdit line = line ≡ codes "undo"
+IsLine RedoEdit line = line ≡ codes "redo"
 IsLine PrintText line = line ≡ codes "print"
 IsLine ForkBuffer line = line ≡ codes "fork"
-IsLine (SetPattern payload) line = IsWorded (codes "pattern ") line (length payload)
+IsLine (SetPattern payload) line = IsWorded (codes "pattern") line (length payload ∷ [])
 IsLine DropPattern line = line ≡ codes "off"
 IsLine ListMatches line = line ≡ codes "list"
-IsLine (UseBuffer k) line = IsWorded (codes "use ") line k
+IsLine (UseBuffer k) line = IsWorded (codes "use") line (k ∷ [])
 
 -- a command is spelled by its line, LF, and its payload
 pub record Spells (order : Order) (bytes : List ℕ) : Type 0 where

@@ -1,6 +1,15 @@
 -- What a session is: a list of buffers, of which one is chosen.
-use Rattle.std.specs.Prelude.{◌≡◌, MatchOption, ℕ, List, [], ◌∷◌, Option, None, slice_index_or, slice_set}
+use Rattle.std.specs.Prelude.{◌≡◌, MatchOption, ℕ, ◌+◌, ◌-◌, List, [], ◌∷◌, ◌++◌, take, Option, None, slice_index_or, slice_set}
 use Rattle.rope_search_reports.specs.Report.{IsReport}
+
+-- texts, from the oldest on, and the number of the current one
+pub record Texts : Type 0 where
+  pub texts : List (List ℕ)
+  pub current : ℕ
+
+-- one of the texts
+abbrev pub text_at : Texts → ℕ → List ℕ
+text_at history number = slice_index_or history.texts number []
 
 -- a history of texts with a current one, and perhaps a pattern. Texts and patterns are lists of
 -- scalar values
@@ -31,6 +40,21 @@ chosen_buffer session = slice_index_or session.buffers session.chosen (fresh [])
 -- the buffer with a new history that begins at this text
 abbrev pub with_text : BufferState → List ℕ → BufferState
 with_text buffer text = record buffer { texts = text ∷ []; current = 0 }
+
+-- the buffer with a further text, which becomes the current one; the texts behind the current one
+-- are dropped
+abbrev pub with_edit : BufferState → List ℕ → BufferState
+with_edit buffer text = record buffer {
+  texts = take (buffer.current + 1) buffer.texts ++ text ∷ [];
+  current = buffer.current + 1;
+}
+
+-- the buffer one text back, and one text forward
+abbrev pub undone : BufferState → BufferState
+undone buffer = record buffer { current = buffer.current - 1 }
+
+abbrev pub redone : BufferState → BufferState
+redone buffer = record buffer { current = buffer.current + 1 }
 
 -- the buffer with another pattern, or with none
 abbrev pub with_pattern : BufferState → Option (List ℕ) → BufferState

@@ -3,7 +3,7 @@ use Rattle.std.specs.Prelude.{◌≡◌, ℕ, ◌<◌, ◌↔◌, List, length, 
 use Rattle.rope_search.specs.declared.commands.CommandOf.{CommandOf}
 use Rattle.rope_search.specs.declared.commands.Payload.{Payload}
 use Rattle.rope_search.specs.declared.commands.Payload.TheVariants.{Kept, Long, Lost}
-use Rattle.rope_search.specs.Order.{Order, SetText, PrintText, ForkBuffer, SetPattern, DropPattern, ListMatches, UseBuffer, IsOf}
+use Rattle.rope_search.specs.Order.{Order, SetText, EditText, UndoEdit, RedoEdit, PrintText, ForkBuffer, SetPattern, DropPattern, ListMatches, UseBuffer, IsOf}
 use Rattle.rope_search_reports.specs.Pattern.{pattern_limit}
 
 -- what was kept of a payload stands for each payload of its kind, under a limit on its bytes
@@ -19,6 +19,9 @@ Stands limit command order = IsOf StandsFor limit command order
 -- how many bytes of a command's payload are kept at most, under a limit on texts
 abbrev pub limit_on : {P : Type 0} → CommandOf P → ℕ → ℕ
 limit_on (SetText p) limit = limit
+limit_on (EditText from to p) limit = limit
+limit_on UndoEdit limit = limit
+limit_on RedoEdit limit = limit
 limit_on PrintText limit = limit
 limit_on ForkBuffer limit = limit
 limit_on (SetPattern p) limit = pattern_limit

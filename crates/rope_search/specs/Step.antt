@@ -1,13 +1,14 @@
 -- One step of a session: what a command may be answered, and the session after it.
-use Rattle.std.specs.Prelude.{◌≡◌, ℕ, ◌<◌, ◌≤◌, List, [], ◌∷◌, ◌++◌, length, None, Some, Result, Ok, Err, IsUtf8, chars}
+use Rattle.std.specs.Prelude.{◌≡◌, ℕ, ◌<◌, ◌≤◌, List, [], ◌∷◌, ◌++◌, length, None, Some, ◌+◌, Result, Ok, Err, IsUtf8, chars}
 use Rattle.rope_search_io.specs.declared.faults.Fault.{Fault}
-use Rattle.rope_search_io.specs.declared.faults.Fault.TheVariants.{Nothing, Utf8, Pattern, Limit, Size, Memory}
+use Rattle.rope_search_io.specs.declared.faults.Fault.TheVariants.{Nothing, Range, Utf8, Pattern, Limit, Size, Memory}
 use Rattle.rope_search_io.specs.Faults.{rank_of}
 use Rattle.rope_search.specs.declared.commands.Reply.{Reply}
 use Rattle.rope_search.specs.declared.commands.Reply.TheVariants.{Done, Number, List as Listing, Print}
 use Rattle.rope_search_reports.specs.Text.{Encodes}
-use Rattle.rope_search.specs.Order.{Order, SetText, PrintText, ForkBuffer, SetPattern, DropPattern, ListMatches, UseBuffer}
-use Rattle.rope_search.specs.Session.{State, fresh, current_text, chosen_buffer, with_text, with_pattern, with_chosen}
+use Rattle.rope_search.specs.Places.{HasNoneBetween, GetsTooLong, IsEdit}
+use Rattle.rope_search.specs.Order.{Order, SetText, EditText, UndoEdit, RedoEdit, PrintText, ForkBuffer, SetPattern, DropPattern, ListMatches, UseBuffer}
+use Rattle.rope_search.specs.Session.{BufferState, State, fresh, current_text, chosen_buffer, with_text, undone, redone, with_pattern, with_chosen}
 use Rattle.rope_search_reports.specs.Pattern.{IsPattern, pattern_limit}
 
 -- what a command is answered: a reply, or why it is refused
@@ -20,6 +21,20 @@ abbrev pub Refuses : ℕ → State → Order → Fault → Type 0
 Refuses limit session (SetText payload) Utf8 = ¬ (IsUtf8 payload)
 Refuses limit session (SetText payload) Size = limit < length payload
 Refuses limit session (SetText payload) fault = ⊥
+-- a position is nowhere in the text, or the second one is before the first; the payload isn't UTF-8;
+-- or the new text would have too many bytes
+Refuses limit session (EditText from to payload) Range =
+    HasNoneBetween (current_text (chosen_buffer session)) from to
+Refuses limit session (EditText from to payload) Utf8 = ¬ (IsUtf8 payload)
+Refuses limit session (EditText from to payload) Size =
+    GetsTooLong limit (current_text (chosen_buffer session)) from to (length payload)
+Refuses limit session (EditText from to payload) fault = ⊥
+-- there is no text before the current one, or none behind it
+Refuses limit session UndoEdit Nothing = (chosen_buffer session).current ≡ 0
+Refuses limit session UndoEdit fault = ⊥
+Refuses limit session RedoEdit Nothing =
+    length (chosen_buffer session).texts ≤ (chosen_buffer session).current + 1
+Refuses limit session RedoEdit fault = ⊥
 Refuses limit session PrintText fault = ⊥
 Refuses limit session ForkBuffer fault = ⊥
 -- the payload isn't UTF-8, or has too many bytes, or is no pattern; one that is too long isn't
@@ -51,6 +66,10 @@ Accepts limit session order = (fault : Fault) → Refuses limit session order fa
 -- whether a command takes memory in this session, and may be answered that there is none
 abbrev pub TakesMemory : State → Order → Type 0
 TakesMemory session (SetText payload) = Unit {0}
+TakesMemory session (EditText from to payload) = Unit {0}
+-- only where a report is made anew
+TakesMemory session UndoEdit = (chosen_buffer session).pattern ≡ None → ⊥
+TakesMemory session RedoEdit = (chosen_buffer session).pattern ≡ None → ⊥
 TakesMemory session PrintText = ⊥
 TakesMemory session ForkBuffer = Unit {0}
 TakesMemory session (SetPattern payload) = Unit {0}
@@ -64,6 +83,13 @@ abbrev pub Does : State → Order → Reply → State → Type 0
 Does old (SetText payload) Done new =
     (text : List ℕ) × Encodes text payload
     × (new ≡ with_chosen old (with_text (chosen_buffer old) text))
+-- the payload's text takes the place of what stands between the positions; the texts that could be
+-- redone are dropped
+Does old (EditText from to payload) Done new =
+    (inserted : List ℕ) × (edited : BufferState) × Encodes inserted payload
+    × IsEdit (chosen_buffer old) from to inserted edited × (new ≡ with_chosen old edited)
+Does old UndoEdit Done new = new ≡ with_chosen old (undone (chosen_buffer old))
+Does old RedoEdit Done new = new ≡ with_chosen old (redone (chosen_buffer old))
 Does old PrintText Print new = new ≡ old
 -- the new buffer has the current text alone, and comes last; the chosen one stays
 Does old ForkBuffer (Number k) new =

@@ -3,49 +3,51 @@ ghost use Rattle.std.specs.Prelude.{◌≡◌, ◌+◌, ◌^◌, ◌<◌, ◌≤
 ghost use Rattle.ropey.specs.Chunks.{text_of};
 ghost use Rattle.rope_search_reports.specs.Text.{line_count};
 ghost use Rattle.rope_search_reports.specs.Report.{match_count};
-ghost use Rattle.rope_search.specs.Session.{current_text, fresh, with_text, with_pattern, IsReportIn};
+ghost use Rattle.rope_search.specs.Session.{current_text, fresh, with_text, undone, redone, with_pattern, IsReportIn};
+ghost use Rattle.rope_search.specs.Places.{HasNoneBetween, GetsTooLong, TellsRangeOr, IsEdit, IsMarkedBetween, with_replaced};
+ghost use Rattle.str_indices.specs.Text.{byte_len};
 ghost use Rattle.rope_search_reports.specs.Pattern.{IsPattern, pattern_limit};
 ghost use Rattle.rope_search.specs.Cost.{rows_anew};
 
+use crate::history::History;
 use crate::limits::Limits;
+use crate::parts::Part;
+use crate::search::Search;
 use rope_search_io::Fault;
-use rope_search_reports::{Finder, Lines, Row, report_of};
+use rope_search_reports::{Finder, Lines, Position, Row, report_of};
 use ropey::Rope;
 use std::alloc::Global;
 use std::marker::Model;
 
-/// A pattern that is set, and the report of its matches: a row for each line of the text.
-#[derive(Drop)]
-struct Search {
-    finder: Finder,
-    rows: Vec<Row>,
-}
-
-/// A text within a limit on its bytes; and where a pattern is set, the report of its matches. A
-/// fork shares the memory of the text.
+/// A text within a limit on its bytes, with its history; and where a pattern is set, the report of
+/// its matches. A fork shares the memory of the text.
 #[derive(Drop)]
 pub struct Buffer {
     alloc: Global,
     limits: Limits,
-    text: Rope,
+    history: History,
     search: Option<Search>,
 }
 
 impl Model for Buffer {
     ghost use Rattle.std.specs.Prelude.{◌+◌, ◌^◌, ◌<◌, option_map, IfSome};
-    ghost use Rattle.ropey.specs.Chunks.{text_of};
-    ghost use Rattle.rope_search.specs.Session.{LimitedBuffer, fresh, with_pattern};
+    ghost use Rattle.rope_search.specs.Session.{LimitedBuffer, text_at};
     ghost use Rattle.rope_search_reports.specs.Report.{IsReport, match_count};
 
     ghost Value = { LimitedBuffer };
 
     ghost view = { λ b. record {
       limit = b.limits.text;
-      state = with_pattern (fresh (text_of b.text)) (option_map (λ s. s.finder) b.search);
+      state = record {
+        texts = b.history.texts;
+        current = b.history.current;
+        pattern = option_map (λ s. s.finder) b.search;
+      };
     } };
 
     ghost invariant = { λ b. IfSome b.search (λ s.
-        IsReport (text_of b.text) s.finder s.rows.items × (match_count s.rows.items < 2 ^ 64)) };
+        IsReport (text_at b.history b.history.current) s.finder s.rows.items
+        × (match_count s.rows.items < 2 ^ 64)) };
 }
 
 impl Buffer {
@@ -55,10 +57,11 @@ impl Buffer {
             buffer ≡ record { limit = limits.text; state = fresh [] }) }
         ensures err { IfErr result (λ fault. fault ≡ Fault.Memory) }
     {
+        let history = History::new(alloc, Rope::new(alloc))?;
         Ok(Buffer {
             alloc,
             limits,
-            text: Rope::new(alloc),
+            history,
             search: None,
         })
     }
@@ -79,7 +82,7 @@ impl Buffer {
     pub fn text(&self) -> &Rope
         ensures { text_of result.now ≡ current_text self.now.state }
     {
-        &self.text
+        self.history.current()
     }
 
     /// Makes this the text, with a new history; the pattern stays, and its report is made anew. It
@@ -105,10 +108,152 @@ impl Buffer {
         let Ok(text) = Rope::from_str(self.alloc, text) else {
             return Err(Fault::Memory);
         };
+        let history = History::new(self.alloc, text)?;
         if let Some(search) = &mut self.search {
-            search.rows = report_of(tick, self.alloc, &mut search.finder, &text)?;
+            search.rows = report_of(tick, self.alloc, &mut search.finder, history.current())?;
         }
-        self.text = text;
+        self.history = history;
+        Ok(())
+    }
+
+    /// Replaces what stands from the first position to the second; the pattern stays, and of the
+    /// report only the rows of the lines that are touched are made anew. What could be redone is
+    /// dropped. It is refused with `Fault::Range` where a position is nowhere in the text or the
+    /// second one is before the first, else with `Fault::Size` where the new text would have more
+    /// bytes than the limit, and perhaps with `Fault::Memory`; the buffer is then as before.
+    /// `O(log n)`, and time in what is inserted and in the lines that are touched; where the number
+    /// of lines changes, the rows behind are moved.
+    pub fn edit(
+        &mut self,
+        tick: &mut Lines,
+        from: Position,
+        to: Position,
+        inserted: &str,
+    ) -> Result<(), Fault>
+        ensures ok { OnOk result
+            (IsEdit self.old.state from to (chars inserted.now) self.new.state) }
+        ensures limit { self.new.limit ≡ self.old.limit }
+        ensures range { (result ≡ Err Fault.Range)
+            ↔ HasNoneBetween (current_text self.old.state) from to }
+        ensures size { (result ≡ Err Fault.Size)
+            ↔ GetsTooLong self.old.limit (current_text self.old.state) from to
+            (length inserted.now) }
+        ensures fault { IfErr result (λ fault.
+            (fault ≡ Fault.Range) ⊎ ((fault ≡ Fault.Size) ⊎ (fault ≡ Fault.Memory))) }
+        ensures err { OnErr result (self.new ≡ self.old) }
+
+        // It makes at most as many rows as what it inserts has lines.
+        ensures astray { result ≡ Err Fault.Range → tick.new ≡ tick.old }
+        ensures refused { result ≡ Err Fault.Size → tick.new ≡ tick.old }
+        ensures rows { tick.new.count ≤
+            tick.old.count + rows_anew self.old.state (chars inserted.now) }
+        ensures wholes { tick.new.wholes ≡ tick.old.wholes }
+    {
+        let part = self.part_to_replace(from, to, inserted)?;
+        let old = self.history.current();
+        let new = part.replaced(old, inserted)?;
+        let Some(search) = &mut self.search else {
+            self.history.add(new)?;
+            return Ok(());
+        };
+        // All that may be refused comes before the first change.
+        let patch = search.patch(tick, self.alloc, old, &new, part, inserted)?;
+        self.history.add(new)?;
+        search.apply(patch);
+        Ok(())
+    }
+
+    /// The part between two positions of the current text that another text can replace. Else it
+    /// is refused as `edit` is.
+    fn part_to_replace(&self, from: Position, to: Position, inserted: &str) -> Result<Part, Fault>
+        ensures part { IfOk result (λ part.
+            IsMarkedBetween (current_text self.now.state) from to part) }
+        ensures fits { IfOk result (λ part.
+            byte_len (with_replaced (current_text self.now.state) part (chars inserted.now))
+            < 2 ^ 63) }
+        ensures range { (result ≡ Err Fault.Range)
+            ↔ HasNoneBetween (current_text self.now.state) from to }
+        ensures size { (result ≡ Err Fault.Size)
+            ↔ GetsTooLong self.now.limit (current_text self.now.state) from to
+            (length inserted.now) }
+        ensures fault { IfErr result (λ fault. (fault ≡ Fault.Range) ⊎ (fault ≡ Fault.Size)) }
+    {
+        // A law, for the proof alone.
+        rope_search_reports::laws::one_place();
+        let text = self.text();
+        let Some(part) = Part::between(text, from, to) else {
+            return Err(Fault::Range);
+        };
+        if part.is_over(self.limits.text, text, inserted) {
+            return Err(Fault::Size);
+        }
+        Ok(part)
+    }
+
+    /// `Fault::Range` where no part of the current text lies between the two positions, and else
+    /// the other fault: the one of both that is told.
+    pub(crate) fn range_or(&self, from: Position, to: Position, other: Fault) -> Fault
+        ensures { TellsRangeOr (current_text self.now.state) from to other result }
+    {
+        match Part::between(self.text(), from, to) {
+            None => Fault::Range,
+            Some(_) => other,
+        }
+    }
+
+    /// Goes back to the text from before the last edit; the pattern stays, and its report is made
+    /// anew. It is refused with `Fault::Nothing` where there is no such text, and, where there is a
+    /// pattern, perhaps with `Fault::Memory`; the buffer is then as before. Without a pattern it
+    /// takes no memory, and `O(1)` time.
+    pub fn undo(&mut self, tick: &mut Lines) -> Result<(), Fault>
+        ensures ok { OnOk result (self.new.state ≡ undone self.old.state) }
+        ensures limit { self.new.limit ≡ self.old.limit }
+        ensures nothing { (result ≡ Err Fault.Nothing) ↔ (self.old.state.current ≡ 0) }
+        ensures memory { result ≡ Err Fault.Memory → self.old.state.pattern ≡ None → ⊥ }
+        ensures fault { IfErr result (λ fault.
+            (fault ≡ Fault.Nothing) ⊎ (fault ≡ Fault.Memory)) }
+        ensures err { OnErr result (self.new ≡ self.old) }
+
+        // A report that is made anew has a row for each line.
+        ensures refused { result ≡ Err Fault.Nothing → tick.new ≡ tick.old }
+        ensures rows { tick.new.count ≤ tick.old.count
+            + rows_anew self.old.state (current_text (undone self.old.state)) }
+        ensures wholes { tick.new.wholes ≡ tick.old.wholes }
+    {
+        let Some(text) = self.history.previous() else {
+            return Err(Fault::Nothing);
+        };
+        if let Some(search) = &mut self.search {
+            search.rows = report_of(tick, self.alloc, &mut search.finder, text)?;
+        }
+        self.history.step_back();
+        Ok(())
+    }
+
+    /// Goes forward again to the text that was undone last; else as `undo`.
+    pub fn redo(&mut self, tick: &mut Lines) -> Result<(), Fault>
+        ensures ok { OnOk result (self.new.state ≡ redone self.old.state) }
+        ensures limit { self.new.limit ≡ self.old.limit }
+        ensures nothing { (result ≡ Err Fault.Nothing)
+            ↔ (length self.old.state.texts ≤ self.old.state.current + 1) }
+        ensures memory { result ≡ Err Fault.Memory → self.old.state.pattern ≡ None → ⊥ }
+        ensures fault { IfErr result (λ fault.
+            (fault ≡ Fault.Nothing) ⊎ (fault ≡ Fault.Memory)) }
+        ensures err { OnErr result (self.new ≡ self.old) }
+
+        // A report that is made anew has a row for each line.
+        ensures refused { result ≡ Err Fault.Nothing → tick.new ≡ tick.old }
+        ensures rows { tick.new.count ≤ tick.old.count
+            + rows_anew self.old.state (current_text (redone self.old.state)) }
+        ensures wholes { tick.new.wholes ≡ tick.old.wholes }
+    {
+        let Some(text) = self.history.next() else {
+            return Err(Fault::Nothing);
+        };
+        if let Some(search) = &mut self.search {
+            search.rows = report_of(tick, self.alloc, &mut search.finder, text)?;
+        }
+        self.history.step_forward();
         Ok(())
     }
 
@@ -135,7 +280,7 @@ impl Buffer {
         ensures wholes { tick.new.wholes ≡ tick.old.wholes }
     {
         let mut finder = Finder::new(self.alloc, pattern)?;
-        let rows = report_of(tick, self.alloc, &mut finder, &self.text)?;
+        let rows = report_of(tick, self.alloc, &mut finder, self.text())?;
         self.search = Some(Search { finder, rows });
         Ok(())
     }
@@ -171,11 +316,11 @@ impl Buffer {
             }) }
         ensures err { IfErr result (λ fault. fault ≡ Fault.Memory) }
     {
-        let text = self.text.clone()?;
+        let text = self.text().clone()?;
         Ok(Buffer {
             alloc: self.alloc,
             limits: self.limits,
-            text,
+            history: History::new(self.alloc, text)?,
             search: None, // The pattern stays with this buffer.
         })
     }

@@ -6,7 +6,7 @@ ghost use Rattle.rope_search.specs.Header.{IsHeaderOf};
 ghost use Rattle.rope_search.specs.Stands.{Stands, StandsFor, limit_on};
 
 use crate::limits::Limits;
-use rope_search_reports::PATTERN_LEN;
+use rope_search_reports::{PATTERN_LEN, Position};
 
 /// A command, with what there is of its payload: how many bytes it has, or what was kept of them.
 /// `Session::apply` carries it out, and tells what is refused first where more than one thing is.
@@ -16,6 +16,19 @@ pub enum CommandOf<P> {
     /// payload isn't UTF-8, `Fault::Size` where it has more bytes than the limit, or
     /// `Fault::Memory`.
     Text(P),
+    /// Replaces what stands from the first position to the second in the chosen buffer's text by the
+    /// payload; its pattern stays, and of its report only the rows of the lines that are touched
+    /// are made anew. What could be redone is dropped. Refused with `Fault::Range` where a position
+    /// is nowhere in the text or the second one is before the first, `Fault::Utf8` where the
+    /// payload isn't UTF-8, `Fault::Size` where the new text would have more bytes than the limit,
+    /// or `Fault::Memory`.
+    Edit(Position, Position, P),
+    /// Goes back to the text from before the last edit; the pattern stays. Refused with
+    /// `Fault::Nothing` where there is none, or, where there is a pattern, `Fault::Memory`.
+    Undo,
+    /// Goes forward again to the text that was undone last; the pattern stays. Refused with
+    /// `Fault::Nothing` where there is none, or, where there is a pattern, `Fault::Memory`.
+    Redo,
     /// Shows the chosen buffer's text. It is never refused.
     Print,
     /// Makes a new buffer of the chosen one's text, without its pattern, and answers the new one's
@@ -36,7 +49,8 @@ pub enum CommandOf<P> {
 /// A command, with what was kept of its payload.
 pub type Command<'a> = CommandOf<Payload<'a>>;
 
-/// A command's line: its word and its number, which for a payload is that of its bytes.
+/// A command's line: its word, its positions and its number, which for a payload is that of its
+/// bytes.
 pub type Header = CommandOf<u64>;
 
 impl CommandOf<u64> {
@@ -45,8 +59,12 @@ impl CommandOf<u64> {
         ensures { (order : Order) → IsHeaderOf self.now order → length (payload_of order) ≡ result }
     {
         match self {
-            CommandOf::Text(len) | CommandOf::Pattern(len) => *len,
-            CommandOf::Print | CommandOf::Fork | CommandOf::Off => 0,
+            CommandOf::Text(len) | CommandOf::Edit(_, _, len) | CommandOf::Pattern(len) => *len,
+            CommandOf::Undo
+            | CommandOf::Redo
+            | CommandOf::Print
+            | CommandOf::Fork
+            | CommandOf::Off => 0,
             CommandOf::List | CommandOf::Use(_) => 0,
         }
     }
@@ -57,7 +75,8 @@ impl CommandOf<u64> {
     {
         match self {
             CommandOf::Pattern(_) => PATTERN_LEN,
-            CommandOf::Text(_) | CommandOf::Print | CommandOf::Fork => limits.text,
+            CommandOf::Text(_) | CommandOf::Edit(_, _, _) => limits.text,
+            CommandOf::Undo | CommandOf::Redo | CommandOf::Print | CommandOf::Fork => limits.text,
             CommandOf::Off | CommandOf::List | CommandOf::Use(_) => limits.text,
         }
     }
@@ -70,6 +89,9 @@ impl CommandOf<u64> {
     {
         match self {
             CommandOf::Text(_) => Command::Text(payload),
+            CommandOf::Edit(from, to, _) => Command::Edit(from, to, payload),
+            CommandOf::Undo => Command::Undo,
+            CommandOf::Redo => Command::Redo,
             CommandOf::Print => Command::Print,
             CommandOf::Fork => Command::Fork,
             CommandOf::Pattern(_) => Command::Pattern(payload),

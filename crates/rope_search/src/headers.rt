@@ -1,11 +1,13 @@
-//! A command's line: its word, then its number.
-ghost use Rattle.std.specs.Prelude.{◌≡◌, ◌+◌, ◌-◌, ◌*◌, ◌^◌, ◌<◌, ◌↔◌, ℕ};
+//! A command's line: its word, then its numbers.
+ghost use Rattle.std.specs.Prelude.{◌≡◌, ◌+◌, ◌-◌, ◌*◌, ◌^◌, ◌<◌, ◌≤◌, ◌↔◌, ℕ, List, [], ◌∷◌, length, take, drop, codes};
 ghost use Rattle.std.specs.Prelude.{IfSome, IfNone, SomeIff};
 ghost use Rattle.rope_search.specs.Order.{Order};
-ghost use Rattle.rope_search.specs.Reads.{IsLine, IsNumber, IsWorded};
-ghost use Rattle.rope_search.specs.Header.{IsHeaderOf, IsDigit};
+ghost use Rattle.rope_search.specs.Reads.{AreSpelled, IsLine, IsNumber, IsWorded};
+ghost use Rattle.rope_search.specs.Header.{IsHeaderOf, IsDigit, HasNoSpace, EndsNumber, Begins};
 
 use crate::commands::Header;
+use memchr::memchr;
+use rope_search_reports::Position;
 
 /// How many digits a number has at most.
 const MOST_DIGITS: usize = 20;
@@ -16,16 +18,21 @@ pub fn header_of(line: &[u8]) -> Option<Header>
         (order : Order) → IsLine order line.now ↔ IsHeaderOf header order) }
     ensures none { IfNone result ((order : Order) → IsLine order line.now → ⊥) }
 {
-    if let Some(len) = number_after(line, b"text ") {
+    if let Some(len) = number_after(line, b"text") {
         return Some(Header::Text(len));
     }
-    if let Some(len) = number_after(line, b"pattern ") {
+    if let Some((from, to, len)) = edit_of(line) {
+        return Some(Header::Edit(from, to, len));
+    }
+    if let Some(len) = number_after(line, b"pattern") {
         return Some(Header::Pattern(len));
     }
-    if let Some(number) = number_after(line, b"use ") {
+    if let Some(number) = number_after(line, b"use") {
         return Some(Header::Use(number));
     }
     match line {
+        b"undo" => Some(Header::Undo),
+        b"redo" => Some(Header::Redo),
         b"print" => Some(Header::Print),
         b"fork" => Some(Header::Fork),
         b"off" => Some(Header::Off),
@@ -36,10 +43,69 @@ pub fn header_of(line: &[u8]) -> Option<Header>
 
 /// The number after this word, where the line is both.
 fn number_after(line: &[u8], word: &[u8]) -> Option<u64>
-    ensures found { IfSome result (λ number. IsWorded word.now line.now number) }
-    ensures none { IfNone result ((number : ℕ) → IsWorded word.now line.now number → ⊥) }
+    ensures found { IfSome result (λ number.
+        (ns : List ℕ) → IsWorded word.now line.now ns ↔ ns ≡ number ∷ []) }
+    ensures none { IfNone result ((n : ℕ) → IsWorded word.now line.now (n ∷ []) → ⊥) }
 {
-    number_of(line.strip_prefix(word)?)
+    let (number, others) = next_number(line.strip_prefix(word)?)?;
+    if others.is_empty() {
+        Some(number)
+    } else {
+        None
+    }
+}
+
+/// The two positions and the number of bytes of an `edit`, where the line is one.
+fn edit_of(line: &[u8]) -> Option<(Position, Position, u64)>
+    ensures found { IfSome result (λ told. (ns : List ℕ) → IsWorded (codes "edit") line.now ns
+        ↔ ns ≡ told.0.line ∷ told.0.column ∷ told.1.line ∷ told.1.column ∷ told.2 ∷ []) }
+    ensures none { IfNone result ((a b c d n : ℕ)
+        → IsWorded (codes "edit") line.now (a ∷ b ∷ c ∷ d ∷ n ∷ []) → ⊥) }
+{
+    let (from, others) = next_position(line.strip_prefix(b"edit")?)?;
+    let (to, others) = next_position(others)?;
+    let (len, others) = next_number(others)?;
+    if others.is_empty() {
+        Some((from, to, len))
+    } else {
+        None
+    }
+}
+
+/// The position that comes first, as two numbers, and what follows it.
+fn next_position(bytes: &[u8]) -> Option<(Position, &[u8])>
+    ensures found { IfSome result (λ told.
+        Begins bytes.now (told.0.line ∷ told.0.column ∷ []) told.1.now) }
+    ensures none { IfNone result ((line column : ℕ) (others : List ℕ)
+        → AreSpelled (line ∷ column ∷ others) bytes.now → ⊥) }
+{
+    let (line, others) = next_number(bytes)?;
+    let (column, others) = next_number(others)?;
+    let position = Position {
+        line: line as usize,
+        column: column as usize,
+    };
+    Some((position, others))
+}
+
+/// The number that comes first, behind one space, and what follows it.
+fn next_number(bytes: &[u8]) -> Option<(u64, &[u8])>
+    ensures found { IfSome result (λ told. Begins bytes.now (told.0 ∷ []) told.1.now) }
+    ensures none { IfNone result ((n : ℕ) (others : List ℕ)
+        → AreSpelled (n ∷ others) bytes.now → ⊥) }
+{
+    let bytes = bytes.strip_prefix(b" ")?;
+    let (digits, others) = bytes.split_at(len_to_space(bytes));
+    Some((number_of(digits)?, others))
+}
+
+/// How many bytes come before the first space, or in all.
+fn len_to_space(bytes: &[u8]) -> usize
+    ensures within { result ≤ length bytes.now }
+    ensures before { HasNoSpace (take result bytes.now) }
+    ensures behind { EndsNumber (drop result bytes.now) }
+{
+    memchr(b' ', bytes).unwrap_or(bytes.len())
 }
 
 /// The number that these bytes spell: 1 to 20 decimal digits, at most `u64::MAX`.

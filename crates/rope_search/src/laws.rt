@@ -2,11 +2,11 @@
 //! contract is a law of the definitions by which the other contracts speak, proved.
 
 ghost use Rattle.std.specs.Prelude.{ℕ, List};
-ghost use Rattle.rope_search.specs.Order.{Order};
+ghost use Rattle.rope_search.specs.Order.{Order, PrintText, ListMatches};
 ghost use Rattle.rope_search.specs.Session.{State};
 ghost use Rattle.rope_search.specs.declared.commands.CommandOf.{CommandOf};
 ghost use Rattle.rope_search.specs.declared.commands.Payload.{Payload};
-ghost use Rattle.rope_search.specs.Laws.{HasOneReading, HasOneStep, HasOneCost, EndsAtBadLine, HasAnswer, HasOneShow, StandsForSome};
+ghost use Rattle.rope_search.specs.Laws.{HasOneReading, HasOneStep, HasOneCost, EndsAtBadLine, HasAnswer, HasOneShow, StandsForSome, UndoUndoesEdit, RedoRedoesUndo, RepliesAlike};
 ghost use Rattle.rope_search.specs.Step.{Answer};
 
 /// Each input has exactly one reading: a list of commands, and how it ends.
@@ -18,12 +18,16 @@ pub fn one_reading()
 /// after it.
 pub fn one_step()
     ensures { (limit : ℕ) (session : State) (order : Order) → HasOneStep limit session order }
-{}
+{
+    rope_search_reports::laws::one_place();
+}
 
 /// Each command in each session has exactly one cost.
 pub fn one_cost()
     ensures { (limit : ℕ) (session : State) (order : Order) → HasOneCost limit session order }
-{}
+{
+    rope_search_reports::laws::one_place();
+}
 
 /// What follows a line that is no command changes nothing that may be written.
 pub fn ends_at_bad_line()
@@ -35,6 +39,7 @@ pub fn has_answer()
     ensures { (limit : ℕ) (input : List ℕ) → HasAnswer limit input }
 {
     rope_search_reports::laws::has_report();
+    rope_search_reports::laws::one_place();
 }
 
 /// Each answer is shown in exactly one way.
@@ -51,3 +56,22 @@ pub fn one_show()
 pub fn stands_for_some()
     ensures { (limit : ℕ) (command : CommandOf Payload) → StandsForSome limit command }
 {}
+
+/// An edit and directly after it an undo give back the text and the pattern, and so the report.
+pub fn undo_undoes_edit()
+    ensures { UndoUndoesEdit }
+{}
+
+/// An undo and directly after it a redo give back the text and the pattern, and so the report.
+pub fn redo_redoes_undo()
+    ensures { RedoRedoesUndo }
+{}
+
+/// Where the chosen buffers of two sessions have the same text and the same pattern, `list` and
+/// `print` are answered alike, whatever was edited before and in whichever session.
+pub fn replies_alike()
+    ensures list { RepliesAlike ListMatches }
+    ensures print { RepliesAlike PrintText }
+{
+    rope_search_reports::laws::one_report();
+}

@@ -6,13 +6,16 @@ mod buffer;
 mod command_lines;
 mod commands;
 mod headers;
+mod history;
 pub mod laws;
 mod limits;
 mod listings;
+mod parts;
 mod payloads;
 mod replies;
 mod requests;
 mod runs;
+mod search;
 mod session;
 mod texts;
 

@@ -91,8 +91,9 @@ fn run_turns<R: Source, W: Sink>(
     let Ok(mut session) = Session::new(alloc, limits) else {
         return Err(Broken::Memory);
     };
-    // A law, for the proof alone: the replies that a failed write keeps back can be told.
+    // Laws, for the proof alone: the replies that a failed write keeps back can be told.
     rope_search_reports::laws::has_report();
+    rope_search_reports::laws::one_place();
     let mut read_buffer = ReadBuffer::new();
     let mut write_buffer = WriteBuffer::new();
     loop {
@@ -141,6 +142,8 @@ fn turn<R: Source, W: Sink>(
           ticks = tick.new;
         }) }
 {
+    // A law, for the proof alone: each command has a cost.
+    rope_search_reports::laws::one_place();
     let alloc = session.alloc();
     let limits = session.limits();
     match read_request(read_buffer, reader, alloc, limits)? {

@@ -1,6 +1,6 @@
 //! A session: buffers, of which one is chosen.
 ghost use Rattle.std.specs.Prelude.{◌≡◌, ◌+◌, ◌<◌, ◌≤◌, ◌↔◌, [], ◌∷◌, ◌++◌, List, ℕ, length, OnOk, OnErr, IfOk, IfErr, IsOk, None};
-ghost use Rattle.rope_search.specs.Order.{Order, SetText, SetPattern, ListMatches};
+ghost use Rattle.rope_search.specs.Order.{Order, SetText, EditText, UndoEdit, RedoEdit, SetPattern, ListMatches};
 ghost use Rattle.rope_search.specs.Session.{first, fresh, current_text, chosen_buffer, with_pattern, with_chosen};
 ghost use Rattle.rope_search_reports.specs.Pattern.{pattern_limit};
 ghost use Rattle.rope_search.specs.Step.{Step};
@@ -11,7 +11,7 @@ use crate::buffer::Buffer;
 use crate::commands::{Command, Payload, Reply};
 use crate::limits::Limits;
 use rope_search_io::Fault;
-use rope_search_reports::Lines;
+use rope_search_reports::{Lines, Position};
 use std::alloc::Global;
 use std::marker::Model;
 
@@ -122,7 +122,11 @@ impl Session {
     /// before.
     ///
     /// `Text` and `Pattern` take time in the bytes of the payload, and where there is a pattern
-    /// then also in those of the text, each line of which is searched anew and counted by `tick`.
+    /// then also in those of the text, each line of which is searched anew and counted by `tick`;
+    /// so do `Undo` and `Redo` where there is a pattern. `Edit` takes time in the bytes of the
+    /// payload and `O(log n)`, and where there is a pattern searches the lines that it touches,
+    /// which are at most as many as the payload has; where the number of lines changes, it moves
+    /// the rows behind them.
     /// `Off` lets go of the report, a row a line. All others are `O(1)`, but for what `fork` says.
     pub fn apply(&mut self, tick: &mut Lines, command: Command<'_>) -> Result<Reply, Fault>
         // What it answers and leaves is a step, for each command that this one stands for.
@@ -139,6 +143,9 @@ impl Session {
     {
         match command {
             Command::Text(payload) => self.set_text(tick, payload),
+            Command::Edit(from, to, payload) => self.edit(tick, from, to, payload),
+            Command::Undo => self.undo(tick),
+            Command::Redo => self.redo(tick),
             Command::Print => Ok(Reply::Print),
             Command::Fork => {
                 let number = self.fork()?;
@@ -176,6 +183,61 @@ impl Session {
             Payload::Long { utf8: false } => Err(Fault::Utf8),
             Payload::Lost => Err(Fault::Memory),
         }
+    }
+
+    // Puts the payload in the place of what stands between two positions of the chosen buffer's
+    // text.
+    fn edit(
+        &mut self,
+        tick: &mut Lines,
+        from: Position,
+        to: Position,
+        payload: Payload<'_>,
+    ) -> Result<Reply, Fault>
+        ensures step { (bytes : List ℕ) → StandsFor self.old.limit payload.entry bytes
+            → Step self.old.limit self.old.state (EditText from to bytes) result self.new.state }
+        ensures limit { self.new.limit ≡ self.old.limit }
+        ensures rows { (bytes : List ℕ) (cost : ℕ) → StandsFor self.old.limit payload.entry bytes
+            → Costs self.old.limit self.old.state (EditText from to bytes) cost
+            → tick.new.count ≤ tick.old.count + cost }
+        ensures wholes { tick.new.wholes ≡ tick.old.wholes }
+    {
+        match payload {
+            Payload::Kept(bytes) => match str::from_utf8(bytes) {
+                Ok(text) => {
+                    self.buffers[self.chosen].edit(tick, from, to, text)?;
+                    Ok(Reply::Done)
+                }
+                Err(_) => Err(self.buffer().range_or(from, to, Fault::Utf8)),
+            },
+            Payload::Long { utf8: true } => Err(self.buffer().range_or(from, to, Fault::Size)),
+            Payload::Long { utf8: false } => Err(self.buffer().range_or(from, to, Fault::Utf8)),
+            Payload::Lost => Err(Fault::Memory),
+        }
+    }
+
+    // Takes the chosen buffer one text back.
+    fn undo(&mut self, tick: &mut Lines) -> Result<Reply, Fault>
+        ensures step { Step self.old.limit self.old.state UndoEdit result self.new.state }
+        ensures limit { self.new.limit ≡ self.old.limit }
+        ensures rows { (cost : ℕ) → Costs self.old.limit self.old.state UndoEdit cost
+            → tick.new.count ≤ tick.old.count + cost }
+        ensures wholes { tick.new.wholes ≡ tick.old.wholes }
+    {
+        self.buffers[self.chosen].undo(tick)?;
+        Ok(Reply::Done)
+    }
+
+    // Takes the chosen buffer one text forward.
+    fn redo(&mut self, tick: &mut Lines) -> Result<Reply, Fault>
+        ensures step { Step self.old.limit self.old.state RedoEdit result self.new.state }
+        ensures limit { self.new.limit ≡ self.old.limit }
+        ensures rows { (cost : ℕ) → Costs self.old.limit self.old.state RedoEdit cost
+            → tick.new.count ≤ tick.old.count + cost }
+        ensures wholes { tick.new.wholes ≡ tick.old.wholes }
+    {
+        self.buffers[self.chosen].redo(tick)?;
+        Ok(Reply::Done)
     }
 
     // Makes the payload the chosen buffer's pattern.

@@ -1,11 +1,12 @@
 -- What refusals are called in replies, and in which order they are told.
 use Rattle.std.specs.Prelude.{ℕ, List, codes}
 use Rattle.rope_search_io.specs.declared.faults.Fault.{Fault}
-use Rattle.rope_search_io.specs.declared.faults.Fault.TheVariants.{Nothing, Utf8, Pattern, Limit, Size, Memory}
+use Rattle.rope_search_io.specs.declared.faults.Fault.TheVariants.{Nothing, Range, Utf8, Pattern, Limit, Size, Memory}
 
 -- what a reply says after `error`
 abbrev pub word_of : Fault → List ℕ
 word_of Nothing = codes "none"
+word_of Range = codes "range"
 word_of Utf8 = codes "utf8"
 word_of Pattern = codes "pattern"
 word_of Limit = codes "limit"
@@ -15,6 +16,7 @@ word_of Memory = codes "memory"
 -- the order in which refusals are told: of all that apply to a command, the one of the least rank
 abbrev pub rank_of : Fault → ℕ
 rank_of Nothing = 1
+rank_of Range = 2
 rank_of Utf8 = 3
 rank_of Pattern = 4
 rank_of Limit = 5

@@ -7,8 +7,10 @@ use std::fmt;
 /// It is shown by its word.
 #[derive(Clone, Copy, Debug, PartialEq, Eq)]
 pub enum Fault {
-    /// There is no such buffer, or no pattern.
+    /// There is no such buffer, no pattern, or no text to go back or forward to.
     Nothing = 1,
+    /// A position is nowhere in the text, or the second one is before the first.
+    Range = 2,
     /// The payload isn't UTF-8.
     Utf8 = 3,
     /// The payload is no pattern.
@@ -38,6 +40,7 @@ impl Fault {
     {
         match self {
             Fault::Nothing => "none",
+            Fault::Range => "range",
             Fault::Utf8 => "utf8",
             Fault::Pattern => "pattern",
             Fault::Limit => "limit",

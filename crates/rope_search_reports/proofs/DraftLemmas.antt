@@ -1,5 +1,6 @@
 -- The report of a text in pieces, made line by line.
 use Rattle.std.proofs.Common.{◌≡◌, ℕ, ◌+◌, ◌-◌, ◌≤◌, Bool, true, false, ◌&&◌, List, [], ◌∷◌, ◌++◌, chars, length, take, drop, refl, sym, ap, subst, ◌∙◌, inl, inr, append-nil, append_assoc, arith, length-append}
+use Rattle.std.proofs.Math.Seq.{take-append_seam}
 use Rattle.std.proofs.lemmas.List.Folds.{concat-append}
 use Rattle.std.proofs.lemmas.Str.{chars-nil}
 use Rattle.str_indices.specs.Text.{ends_with_cr, breaks, NoCrLfBetween}
@@ -226,12 +227,38 @@ Drafted-more pattern pieces left tail rows old mid new piece after front tail' r
       wholes = wholes ∙ sofar.wholes;
     }
 
--- the last line
-pub Drafted-end : (pattern : List ℕ) (pieces left : List (List ℕ)) (tail : List ℕ) (rows rows' : List (List (ℕ × ℕ))) (old new : Ticks)
-    → Drafted pattern pieces left tail rows old new → left ≡ [] → AddsRow pattern tail rows rows' → IsReport (text_of pieces) pattern rows'
-Drafted-end pattern pieces left tail rows rows' old new sofar none adds =
+-- all pieces
+pub Drafted-lines : (pattern : List ℕ) (pieces left : List (List ℕ)) (tail : List ℕ) (rows : List (List (ℕ × ℕ))) (old new : Ticks)
+    → Drafted pattern pieces left tail rows old new → left ≡ [] → AddsLines pattern [] (text_of pieces) tail [] rows
+Drafted-lines pattern pieces left tail rows old new sofar none =
     let all : pieces ≡ sofar.before = sofar.parts ∙ ap (λ ps. sofar.before ++ ps) none ∙ append-nil sofar.before in
-    let lines : line_texts (text_of pieces) ≡ sofar.done ++ tail ∷ [] = ap (λ ps. line_texts (text_of ps)) all ∙ sofar.lines in
-    subst (λ ls. AreRows pattern ls rows') (sym lines)
-    (subst (AreRows pattern (sofar.done ++ tail ∷ [])) (sym adds.added)
-    (AreRows-join pattern sofar.done (tail ∷ []) rows (adds.row ∷ []) sofar.are (adds.is, tt)))
+    record {
+      done = sofar.done;
+      added = rows;
+      lines = front-none (line_texts (text_of pieces)) ∙ ap (λ ps. line_texts (text_of ps)) all ∙ sofar.lines;
+      are = sofar.are;
+      rows = refl;
+    }
+
+-- ---- all lines of a text
+
+-- the row of the last line is added
+pub ends-rows : (pattern text tail : List ℕ) (rows rows' : List (List (ℕ × ℕ))) → AddsLines pattern [] text tail [] rows → AddsRow pattern tail rows rows' → IsReport text pattern rows'
+ends-rows pattern text tail rows rows' lines adds =
+    let all : line_texts text ≡ lines.done ++ tail ∷ [] = sym (front-none (line_texts text)) ∙ lines.lines in
+    subst (λ ls. AreRows pattern ls rows') (sym all)
+    (subst (AreRows pattern (lines.done ++ tail ∷ [])) (sym (adds.added ∙ ap (λ rs. rs ++ adds.row ∷ []) lines.rows))
+    (AreRows-join pattern lines.done (tail ∷ []) lines.added (adds.row ∷ []) lines.are (adds.is, tt)))
+
+-- the last line of two lists of lines is another
+without_last : (lines others : List (List ℕ)) (line other : List ℕ) → lines ++ line ∷ [] ≡ others ++ other ∷ [] → lines ≡ others
+without_last lines others line other same =
+    let long : length lines ≡ length others = omega (arith, ap length same, length-append lines (line ∷ []), length-append others (other ∷ [])) in
+    sym (take-append_seam lines (line ∷ [])) ∙ ap (take (length lines)) same ∙ ap (λ n. take n (others ++ other ∷ [])) long ∙ take-append_seam others (other ∷ [])
+
+-- the rows of all lines but the last
+pub leaves-last : (pattern text tail last : List ℕ) (lines : List (List ℕ)) (rows : List (List (ℕ × ℕ))) → AddsLines pattern [] text tail [] rows
+    → line_texts text ≡ lines ++ last ∷ [] → AreRows pattern lines rows
+leaves-last pattern text tail last lines rows adds all =
+    let same : adds.done ≡ lines = without_last adds.done lines tail last (sym adds.lines ∙ front-none (line_texts text) ∙ all) in
+    subst (AreRows pattern lines) (sym adds.rows) (subst (λ ls. AreRows pattern ls adds.added) same adds.are)

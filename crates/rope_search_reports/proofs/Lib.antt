@@ -3,6 +3,8 @@ pub mod MatchLemmas
 pub mod RowLemmas
 pub mod LineLemmas
 pub mod PlaceLemmas
+pub mod PartLemmas
+pub mod ReplaceLemmas
 pub mod SpotLemmas
 pub mod FewLemmas
 pub mod DraftLemmas

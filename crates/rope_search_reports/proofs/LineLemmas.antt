@@ -214,7 +214,7 @@ byte_len-append xs ys = ap length (encodes-append xs ys) ∙ length-append (byte
 pub byte_len-one : (c : ℕ) (cs : List ℕ) → byte_len (c ∷ cs) ≡ len_utf8 c + byte_len cs
 byte_len-one c cs = omega (arith, length-append (encode c) (bytes_of cs), length-encode c)
 
-abbrev ends_at : ℕ → List ℕ → List ℕ
+abbrev pub ends_at : ℕ → List ℕ → List ℕ
 ends_at at text = ends_from breaks_after at text
 
 ends-ends : (at c : ℕ) (cs : List ℕ) → ends_break is_break c cs ≡ true → ends_at at (c ∷ cs) ≡ (at + len_utf8 c) ∷ ends_at (at + len_utf8 c) cs
@@ -246,11 +246,11 @@ ends-break at (c ∷ d ∷ []) rest is =
 ends-break at (c ∷ d ∷ e ∷ es) rest is = absurd is
 
 -- where a line starts in a text that starts at a place
-abbrev start_at : ℕ → List ℕ → ℕ → ℕ → ℕ
+abbrev pub start_at : ℕ → List ℕ → ℕ → ℕ → ℕ
 start_at at ends zero last = at
 start_at at ends (suc k) last = slice_index_or ends k last
 
-start-later : (at e : ℕ) (es : List ℕ) (k last : ℕ) → start_at at (e ∷ es) (suc k) last ≡ start_at e es k last
+pub start-later : (at e : ℕ) (es : List ℕ) (k last : ℕ) → start_at at (e ∷ es) (suc k) last ≡ start_at e es k last
 start-later at e es zero last = refl
 start-later at e es (suc k) last = refl
 
@@ -276,10 +276,10 @@ record Lies (at last : ℕ) (text : List ℕ) (k : ℕ) : Type 0 where
   pub plain : NonePass is_break (nth (line_texts text) k)
   pub ended : ((k + 1 ≡ length (line_texts text)) × (behind ≡ [])) ⊎ IsBroken at last text k before behind
 
-cut-lines : (text : List ℕ) → (cut : IsCutOff text) → line_texts text ≡ cut.line ∷ line_texts cut.rest
+pub cut-lines : (text : List ℕ) → (cut : IsCutOff text) → line_texts text ≡ cut.line ∷ line_texts cut.rest
 cut-lines text cut = ap line_texts cut.parts ∙ lines-cut cut.line cut.one cut.rest cut.plain cut.is
 
-cut-ends : (at : ℕ) (text : List ℕ) → (cut : IsCutOff text)
+pub cut-ends : (at : ℕ) (text : List ℕ) → (cut : IsCutOff text)
     → ends_at at text ≡ (at + byte_len cut.line + byte_len cut.one) ∷ ends_at (at + byte_len cut.line + byte_len cut.one) cut.rest
 cut-ends at text cut =
     ap (ends_at at) cut.parts ∙ ends-plain at cut.line (cut.one ++ cut.rest) cut.plain ∙ ends-break (at + byte_len cut.line) cut.one cut.rest cut.is
@@ -394,7 +394,7 @@ lies (suc k) at last text inside = elim (first_line text) [
   | inr cut ↦ lies-later at last text k cut (lies k (at + byte_len cut.line + byte_len cut.one) last cut.rest (omega (arith, inside, ap length (cut-lines text cut))))
 ]
 
-start-is : (ends : List ℕ) (k last : ℕ) → end_place ends k last ≡ start_at 0 ends k last
+pub start-is : (ends : List ℕ) (k last : ℕ) → end_place ends k last ≡ start_at 0 ends k last
 start-is ends zero last = refl
 start-is ends (suc k) last = refl
 

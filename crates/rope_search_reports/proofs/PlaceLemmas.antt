@@ -1,19 +1,17 @@
 -- Places of a text between its characters: what stands before one in characters, in code units and
 -- in lines, and the line's start before it.
-use Rattle.std.proofs.Common.{◌≡◌, ℕ, suc, nat_le, ◌+◌, ◌-◌, ◌<◌, ◌≤◌, ◌⊎◌, inl, inr, true, List, [], ◌∷◌, ◌++◌, length, take, drop, min, get_or, slice_index_or, refl, ap, arith, sym, ◌∙◌, subst, append-nil, append_assoc, length-append, chars}
+use Rattle.std.proofs.Common.{◌≡◌, ℕ, nat_le, ◌+◌, ◌-◌, ◌<◌, ◌≤◌, true, List, [], ◌∷◌, ◌++◌, length, take, drop, min, get_or, slice_index_or, refl, ap, arith, sym, ◌∙◌, subst, append-nil, append_assoc, chars}
 use Rattle.std.specs.Str.{all_scalars, IsUtf8, IsCharBoundary}
 use Rattle.std.proofs.Math.Seq.{take-append_seam, drop-append_seam}
-use Rattle.std.proofs.Math.Utf8.{encode}
 use Rattle.std.proofs.lemmas.Bool.{and_parts, and_from}
 use Rattle.std.proofs.lemmas.List.{take-append-drop, length-take-le}
-use Rattle.std.proofs.lemmas.List.Sums.{count_by-le-length, sum_by-append}
+use Rattle.std.proofs.lemmas.List.Sums.{count_by-le-length}
 use Rattle.std.specs.Char.{len_utf8}
-use Rattle.std.proofs.lemmas.Str.{IsUtf8-take, IsUtf8-drop, IsUtf8-nil, chars-append, chars-encodes, encodes-chars, scalars-chars, encodes-append, length-encode, len_utf8_bounds}
-use Rattle.str_indices.specs.Text.{byte_len, units, units_of, char_ends, unit_ends, unit_starts, break_ends, ends_up_to, end_place}
-use Rattle.str_indices.specs.Laws.{AnyTexts, EndsAddUp, LastEndIsBefore, LastUnitStartIsBefore, CharsAndBoundariesAgree, UnitsAndBoundariesAgree}
-use Rattle.ropey.specs.Chunks.{is_break, IsPiece, IsCutting, text_of}
+use Rattle.std.proofs.lemmas.Str.{IsUtf8-take, chars-append, chars-encodes, encodes-chars, encodes-append, len_utf8_bounds}
+use Rattle.str_indices.specs.Text.{byte_len, units, char_ends, unit_ends, unit_starts, break_ends, ends_up_to, end_place}
+use Rattle.ropey.specs.Chunks.{is_break, IsCutting, text_of}
 use Rattle.rope_search_reports.specs.Text.{bytes_of, line_count}
-use Rattle.rope_search_reports.specs.Position.{line_at, line_start, column_at, line_text, text_end, position, IsAt, IsNowhere, LiesInPlace}
+use Rattle.rope_search_reports.specs.Position.{line_at, line_start, column_at, line_text, LiesInPlace}
 use Rattle.rope_search_reports.specs.Laws.{PlaceLaws}
 use Rattle.rope_search_reports.proofs.LineLemmas.{byte_len-append, byte_len-one, lines-in-place}
 

@@ -1,8 +1,9 @@
 -- A text and a pattern have one report.
-use Rattle.std.proofs.Common.{◌≡◌, ℕ, List, [], ◌∷◌, map, refl, sym, ap, ◌∙◌}
-use Rattle.rope_search_reports.specs.Text.{bytes_of}
+use Rattle.std.proofs.Common.{◌≡◌, ℕ, suc, List, [], ◌∷◌, length, map, refl, sym, ap, ◌∙◌}
+use Rattle.rope_search_reports.specs.Text.{bytes_of, line_count}
 use Rattle.rope_search_reports.specs.Report.{line_texts, IsMatches, IsRow, AreRows, IsReport, columns}
 use Rattle.rope_search_reports.specs.Computed.{matches, row_of, report}
+use Rattle.rope_search_reports.proofs.LineLemmas.{lines-counted}
 use Rattle.rope_search_reports.proofs.MatchLemmas.{matches-one, FindsNeedle-one, matches-are}
 
 -- ---- at most one
@@ -43,3 +44,14 @@ rows-are pattern (line ∷ lines) = (row_of-is pattern line, rows-are pattern li
 
 pub report-is : (text pattern : List ℕ) → IsReport text pattern (report text pattern)
 report-is text pattern = rows-are pattern (line_texts text)
+
+-- ---- a row for each line
+
+AreRows-length : (pattern : List ℕ) (lines : List (List ℕ)) (rows : List (List (ℕ × ℕ))) → AreRows pattern lines rows → length rows ≡ length lines
+AreRows-length pattern [] [] are = refl
+AreRows-length pattern [] (row ∷ rows) are = absurd are
+AreRows-length pattern (line ∷ lines) [] are = absurd are
+AreRows-length pattern (line ∷ lines) (row ∷ rows) are = ap suc (AreRows-length pattern lines rows are.1)
+
+pub report-length : (text pattern : List ℕ) (rows : List (List (ℕ × ℕ))) → IsReport text pattern rows → length rows ≡ line_count text
+report-length text pattern rows is = AreRows-length pattern (line_texts text) rows is ∙ lines-counted text

@@ -9,7 +9,7 @@ use Rattle.std.proofs.lemmas.List.Sums.{sum_by-cons, sum_by-append}
 use Rattle.std.proofs.lemmas.Str.{length-encode, len_utf8_bounds}
 use Rattle.str_indices.specs.Text.{byte_len, ends_break, starts_with_lf, ends_from, ends_up_to, breaks}
 use Rattle.ropey.specs.Chunks.{is_break}
-use Rattle.rope_search_reports.specs.Report.{with_first, line_texts, IsRow, AreRows}
+use Rattle.rope_search_reports.specs.Report.{with_first, line_texts, AreRows}
 use Rattle.rope_search_reports.specs.Position.{line_at}
 use Rattle.rope_search_reports.specs.Splice.{EditsSpliceLines, KeepsRows}
 use Rattle.rope_search_reports.proofs.LineLemmas.{line_texts-break, byte_len-append}

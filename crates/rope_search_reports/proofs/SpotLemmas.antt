@@ -1,5 +1,5 @@
 -- Where a position is: its place in code units, and no CR LF that the place cuts.
-use Rattle.std.proofs.Common.{◌≡◌, ℕ, zero, suc, ◌+◌, ◌-◌, ◌<◌, ◌≤◌, ◌==◌, ◌&&◌, inl, inr, Bool, true, false, List, [], ◌∷◌, ◌++◌, length, take, drop, slice_index, slice_index_or, refl, ap, arith, sym, ◌∙◌, subst, append-nil, append_assoc, length-append}
+use Rattle.std.proofs.Common.{◌≡◌, ℕ, zero, suc, ◌+◌, ◌-◌, ◌<◌, ◌≤◌, ◌==◌, ◌&&◌, inl, inr, true, false, List, [], ◌∷◌, ◌++◌, length, take, drop, slice_index, slice_index_or, refl, ap, arith, sym, ◌∙◌, subst, append-nil, append_assoc, length-append}
 use Rattle.std.specs.Str.{all_scalars, IsCharBoundary, NonePass}
 use Rattle.std.proofs.Math.Seq.{take-append_seam, drop-append_seam}
 use Rattle.std.proofs.lemmas.Bool.{cases_lt, true≢false}
@@ -11,7 +11,7 @@ use Rattle.str_indices.specs.FirstBreak.{IsBreak}
 use Rattle.ropey.specs.Chunks.{is_break}
 use Rattle.rope_search_reports.specs.Text.{bytes_of, line_count}
 use Rattle.rope_search_reports.specs.Laws.{PlaceLaws}
-use Rattle.rope_search_reports.specs.Position.{line_at, line_start, line_text, text_end, position, IsAt, IsNowhere}
+use Rattle.rope_search_reports.specs.Position.{line_at, line_start, line_text, text_end, position, IsAt}
 use Rattle.rope_search_reports.proofs.LineLemmas.{byte_len-append, byte_len-one, ends-joined_cr, lines-in-place}
 use Rattle.rope_search_reports.proofs.PlaceLemmas.{front_within, InLine, in_line, line_inside, cut_off, IsFrontOf, front_of, units_there, chars_there, split_at}
 
@@ -146,6 +146,16 @@ module _ (law : PlaceLaws) (text : List ℕ) (scalars : all_scalars text ≡ tru
         whole = whole_up_to_end place h low';
         of_front = front_of law text (h.before ++ h.mid) h.back h.parts;
       }
+
+  -- its code units lead to one place
+  pub spot-one : (spot : ℕ × ℕ) (place place' : ℕ) → IsAt text spot place → IsAt text spot place' → place ≡ place'
+  spot-one spot place place' at at' =
+      let start = ends_up_to (end_place (char_ends text) (ends_up_to (line_start text spot.0) (char_ends text)) (byte_len text)) (unit_ends text) in
+      let one = spotted spot place start at refl in
+      let other = spotted spot place' start at' refl in
+      let same : units one.front ≡ units other.front = sym one.unit_is ∙ other.unit_is in
+      one.place_is ∙ sym one.of_front.back_from_units ∙ ap (λ n. slice_index_or (unit_starts text) n (byte_len text)) same
+      ∙ other.of_front.back_from_units ∙ sym other.place_is
 
   -- a line's start, in characters and in code units
   pub record Started (line start_char start : ℕ) : Type 0 where

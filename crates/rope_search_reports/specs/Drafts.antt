@@ -1,5 +1,6 @@
 -- Words of the code that makes a report line by line, for its own contracts.
-use Rattle.std.specs.Prelude.{◌≡◌, ℕ, List, [], ◌∷◌, ◌++◌}
+use Rattle.std.specs.Prelude.{◌≡◌, ℕ, ◌-◌, ◌<◌, List, [], ◌∷◌, ◌++◌, take, drop}
+use Rattle.rope_search_reports.specs.Text.{line_count}
 use Rattle.rope_search_reports.specs.Report.{line_texts, IsRow, AreRows}
 
 -- one row more, that of this line
@@ -22,3 +23,10 @@ pub record AddsLines (pattern front text tail : List ℕ)
   pub lines : with_front front (line_texts text) ≡ done ++ tail ∷ []
   pub are : AreRows pattern done added
   pub rows : new ≡ old ++ added
+
+-- the part of a text from where one line starts to where another does, or to the text's end: the
+-- lines between them, and where the part ends in a break an empty one behind it
+pub record HasLines (text : List ℕ) (first end : ℕ) (part : List ℕ) : Type 0 where
+  pub broken : end < line_count text
+      → line_texts part ≡ take (end - first) (drop first (line_texts text)) ++ [] ∷ []
+  pub last : end ≡ line_count text → line_texts part ≡ drop first (line_texts text)

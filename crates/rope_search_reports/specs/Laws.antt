@@ -3,8 +3,8 @@ use Rattle.std.specs.Prelude.{◌≡◌, ℕ, ◌+◌, ◌<◌, ◌≤◌, List,
 use Rattle.str_indices.specs.Text.{units, char_ends, unit_ends, break_ends}
 use Rattle.str_indices.specs.Laws.{AnyTexts, EndsAddUp, LastEndIsBefore, LastUnitStartIsBefore, CharsAndBoundariesAgree, UnitsAndBoundariesAgree, EndsAndPlacesAgree, EndsAreBoundaries, UnitStartsAreBoundaries, NoMoreThanBytes}
 use Rattle.ropey.specs.Chunks.{is_break}
-use Rattle.rope_search_reports.specs.Text.{bytes_of, line_count}
-use Rattle.rope_search_reports.specs.Position.{LiesInPlace}
+use Rattle.rope_search_reports.specs.Text.{IsText, bytes_of, line_count}
+use Rattle.rope_search_reports.specs.Position.{line_at, IsAt, LiesInPlace}
 use Rattle.rope_search_reports.specs.Report.{IsMatches, IsReport, match_count}
 use Rattle.rope_search_reports.specs.Computed.{matches, report}
 
@@ -31,6 +31,20 @@ HasOneReport = (text pattern : List ℕ) (rows rows' : List (List (ℕ × ℕ)))
 -- and one
 abbrev pub HasReport : Type 0
 HasReport = (text pattern : List ℕ) → IsReport text pattern (report text pattern)
+
+-- a report has one row for each line
+abbrev pub HasARowALine : Type 0
+HasARowALine = (text pattern : List ℕ) (rows : List (List (ℕ × ℕ)))
+    → IsReport text pattern rows → length rows ≡ line_count text
+
+-- a place is in one of the lines, also one behind the text
+abbrev pub PlacesAreInLines : Type 0
+PlacesAreInLines = (text : List ℕ) (place : ℕ) → line_at text place < line_count text
+
+-- a position is at one place at most
+abbrev pub HasOnePlace : Type 0
+HasOnePlace = (text : List ℕ) (spot : ℕ × ℕ) (place place' : ℕ)
+    → IsText text → IsAt text spot place → IsAt text spot place' → place ≡ place'
 
 -- each line of a text lies in its place
 abbrev pub HasLinesInPlace : Type 0

@@ -1,7 +1,7 @@
 //! Laws of the definitions that the contracts of this crate cite. Each function does nothing: its
 //! contract is the law.
 
-ghost use Rattle.rope_search_reports.specs.Laws.{HasOneListOfMatches, HasMatches, HasFewMatches, HasOneReport, HasReport, HasLinesInPlace, PlaceLaws};
+ghost use Rattle.rope_search_reports.specs.Laws.{HasOneListOfMatches, HasMatches, HasFewMatches, HasOneReport, HasReport, HasARowALine, PlacesAreInLines, HasOnePlace, HasLinesInPlace, PlaceLaws};
 ghost use Rattle.rope_search_reports.specs.Splice.{EditsSpliceLines, KeepsRows};
 
 /// A pattern has at most one list of matches in a content.
@@ -28,6 +28,23 @@ pub fn one_report()
 pub fn has_report()
     ensures { HasReport }
 {}
+
+/// A report has one row for each line of its text.
+pub fn a_row_a_line()
+    ensures { HasARowALine }
+{}
+
+/// A place is in one of the lines.
+pub fn places_are_in_lines()
+    ensures { PlacesAreInLines }
+{}
+
+/// A position is at one place of a text at most.
+pub fn one_place()
+    ensures { HasOnePlace }
+{
+    places();
+}
 
 /// From where a line starts to where its text ends stand that text's bytes. Behind them stands one
 /// break, after which the next line starts; the last line's text ends where the whole text does.

@@ -5,10 +5,12 @@
 pub mod laws;
 mod patterns;
 mod positions;
+mod replacing;
 mod reports;
 mod rows;
 
 pub use patterns::PATTERN_LEN;
-pub use positions::{Position, byte_of, position_of};
-pub use reports::report_of;
+pub use positions::{Place, Position, byte_of, place_of, position_of};
+pub use replacing::replace_rows;
+pub use reports::{report_of, rows_of_lines};
 pub use rows::{Finder, Lines, Row, search_line};

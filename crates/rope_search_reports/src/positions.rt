@@ -1,11 +1,11 @@
 //! Positions in a rope: a line, and a column in UTF-16 code units, as editors and language servers
 //! have them.
 
-ghost use Rattle.std.specs.Prelude.{◌≡◌, ◌≤◌, length, take, drop, MatchOption};
+ghost use Rattle.std.specs.Prelude.{◌≡◌, ◌≤◌, length, take, drop, MatchOption, IfSome};
 ghost use Rattle.std.specs.Str.{IsCharBoundary};
-ghost use Rattle.str_indices.specs.Text.{cuts_cr_lf};
+ghost use Rattle.str_indices.specs.Text.{byte_len, cuts_cr_lf};
 ghost use Rattle.ropey.specs.Chunks.{text_of};
-ghost use Rattle.rope_search_reports.specs.Text.{bytes_of};
+ghost use Rattle.rope_search_reports.specs.Text.{IsText, bytes_of};
 ghost use Rattle.rope_search_reports.specs.Position.{position, IsAt, IsNowhere};
 
 use crate::laws;
@@ -53,12 +53,35 @@ fn is_in_cr_lf(text: &Rope, char_idx: usize) -> bool
     text.char(char_idx - 1) == '\r' && text.char(char_idx) == '\n'
 }
 
+/// A place in a text, between two characters.
+#[derive(Clone, Copy, Debug, PartialEq, Eq)]
+pub struct Place {
+    /// How many bytes stand before it.
+    pub byte_idx: usize,
+    /// How many characters stand before it.
+    pub char_idx: usize,
+}
+
 /// The byte index at which a position is, or none where it is nowhere: inside a surrogate pair,
 /// behind its line's text, between the CR and the LF of a break, or past the last line. `O(log n)`.
 pub fn byte_of(text: &Rope, position: Position) -> Option<usize>
     ensures { MatchOption result
         (IsNowhere (text_of text.now) (position.line, position.column))
         (λ place. IsAt (text_of text.now) (position.line, position.column) place) }
+{
+    let place = place_of(text, position)?;
+    Some(place.byte_idx)
+}
+
+/// The place at which a position is, in bytes and in characters; else as `byte_of`.
+pub fn place_of(text: &Rope, position: Position) -> Option<Place>
+    ensures at { MatchOption result
+        (IsNowhere (text_of text.now) (position.line, position.column))
+        (λ place. IsAt (text_of text.now) (position.line, position.column) place.byte_idx) }
+    ensures scalars { IsText (text_of text.now) }
+    ensures chars { IfSome result (λ place.
+        (place.char_idx ≤ length (text_of text.now))
+        × (byte_len (take place.char_idx (text_of text.now)) ≡ place.byte_idx)) }
 {
     // Laws, and the text's facts, for the proof alone.
     laws::places();
@@ -77,7 +100,7 @@ pub fn byte_of(text: &Rope, position: Position) -> Option<usize>
         return None;
     }
     if position_of(text, byte_idx) == position {
-        Some(byte_idx)
+        Some(Place { byte_idx, char_idx })
     } else {
         None
     }

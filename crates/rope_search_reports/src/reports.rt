@@ -1,14 +1,18 @@
 //! The report of a text: its lines, each searched by itself.
-ghost use Rattle.std.specs.Prelude.{◌≡◌, ◌+◌, ◌^◌, ◌<◌, ◌≤◌, [], ◌++◌, chars, string_bytes, IfOk, IfErr, OnOk};
+ghost use Rattle.std.specs.Prelude.{◌≡◌, ◌+◌, ◌-◌, ◌^◌, ◌<◌, ◌≤◌, [], ◌++◌, take, drop, chars, string_bytes, IfOk, IfErr, OnOk};
 ghost use Rattle.str_indices.specs.Text.{breaks};
 ghost use Rattle.ropey.specs.Chunks.{is_break, text_of};
-ghost use Rattle.rope_search_reports.specs.Report.{IsRow, IsReport, match_count};
-ghost use Rattle.rope_search_reports.specs.Drafts.{AddsRow, AddsLines};
+ghost use Rattle.ropey.specs.Iter.{CutsNoCrLf};
+ghost use Rattle.rope_search_reports.specs.Text.{line_count};
+ghost use Rattle.rope_search_reports.specs.Report.{line_texts, IsRow, AreRows, IsReport, match_count};
+ghost use Rattle.rope_search_reports.specs.Drafts.{AddsRow, AddsLines, HasLines};
 
+use crate::laws;
 use crate::rows::{Finder, Lines, Row, search_line};
 use rope_search_io::Fault;
 use ropey::Rope;
 use ropey::breaks::first_break;
+use ropey::iter::Chunks;
 use std::alloc::Global;
 
 /// A report that is being made.
@@ -120,6 +124,47 @@ impl Draft {
     }
 }
 
+/// The rows of the lines that end in chunks, and what these have of the line behind them.
+fn draft_of<'a>(
+    tick: &mut Lines,
+    alloc: Global,
+    finder: &mut Finder,
+    chunks: Chunks<'a>,
+) -> Result<(Draft, &'a str), Fault>
+    requires whole { CutsNoCrLf chunks.ahead }
+    ensures rows { IfOk result (λ made. AddsLines finder.old []
+        (text_of chunks.entry.ahead)
+        (chars (string_bytes made.0.front) ++ chars made.1.now) [] made.0.rows.items) }
+    ensures fault { IfErr result (λ fault. fault ≡ Fault.Memory) }
+    ensures finder { finder.new ≡ finder.old }
+    ensures count { tick.new.count
+        ≤ tick.old.count + breaks is_break (text_of chunks.entry.ahead) }
+    ensures wholes { tick.new.wholes ≡ tick.old.wholes }
+{
+    let mut draft = Draft::new(alloc);
+    // What the last chunk has of the next line.
+    let mut part = "";
+    for chunk in chunks {
+        draft.carry(part)?;
+        part = draft.end_lines(tick, finder, chunk)?;
+    }
+    Ok((draft, part))
+}
+
+/// The chunks of the text from where one line starts to where another does, or to the text's end.
+/// `O(log n)`.
+fn chunks_of_lines(text: &Rope, first: usize, end: usize) -> Chunks<'_>
+    requires ordered { first < end }
+    requires within { end ≤ line_count (text_of text.now) }
+    ensures lines { HasLines (text_of text.now) first end (text_of result.ahead) }
+    ensures whole { CutsNoCrLf result.ahead }
+{
+    // Laws, for the proof alone.
+    laws::places();
+    let start = text.line_to_char(first);
+    text.slice(start..text.line_to_char(end)).chunks()
+}
+
 /// The report of a text and a finder's pattern: a row for each line, from the first. A line is
 /// copied for its search where it lies in more than one chunk. It counts at most a row a line, and
 /// may be refused with `Fault::Memory` alone; the finder is then as before. Time is linear in the
@@ -137,12 +182,39 @@ pub fn report_of(
     ensures count { tick.new.count ≤ tick.old.count + breaks is_break (text_of text.now) + 1 }
     ensures wholes { tick.new.wholes ≡ tick.old.wholes }
 {
-    let mut draft = Draft::new(alloc);
-    // What the last chunk has of the next line.
-    let mut part = "";
-    for chunk in text.chunks() {
-        draft.carry(part)?;
-        part = draft.end_lines(tick, finder, chunk)?;
+    let (draft, part) = draft_of(tick, alloc, finder, text.chunks())?;
+    draft.finish(tick, finder, part)
+}
+
+/// The rows of lines `first` to `last` of a text, both included. Each line is searched by itself,
+/// and copied for that only where it lies in more than one chunk. It counts at most a row for each
+/// of them, and may be refused with `Fault::Memory` alone; the finder is then as before. Time is
+/// `O(log n)` and linear in these lines.
+pub fn rows_of_lines(
+    tick: &mut Lines,
+    alloc: Global,
+    finder: &mut Finder,
+    text: &Rope,
+    first: usize,
+    last: usize,
+) -> Result<Vec<Row>, Fault>
+    requires ordered { first ≤ last }
+    requires within { last < line_count (text_of text.now) }
+    ensures rows { IfOk result (λ rows. AreRows finder.old
+        (take (last + 1 - first) (drop first (line_texts (text_of text.now)))) rows.items) }
+    ensures fault { IfErr result (λ fault. fault ≡ Fault.Memory) }
+    ensures finder { finder.new ≡ finder.old }
+    ensures count { tick.new.count ≤ tick.old.count + (last + 1 - first) }
+    ensures wholes { tick.new.wholes ≡ tick.old.wholes }
+{
+    let count = text.len_lines();
+    let end = last + 1;
+    let chunks = chunks_of_lines(text, first, end);
+    let (draft, part) = draft_of(tick, alloc, finder, chunks)?;
+    if end < count {
+        // The break of line `last` has an empty line behind it, which isn't one of these.
+        let Draft { rows, .. } = draft;
+        return Ok(rows);
     }
     draft.finish(tick, finder, part)
 }

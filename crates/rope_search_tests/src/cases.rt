@@ -9,7 +9,7 @@ pub struct Case {
     pub ending: Ended,
 }
 
-pub const CASES: [Case; 30] = [
+pub const CASES: [Case; 38] = [
     Case {
         input: b"text 2\nhifork\ntext 1\nxuse 1\nprint\n",
         output: b"ok\nok 1\nok\nok\ntext 2\nhi\n",
@@ -36,9 +36,9 @@ pub const CASES: [Case; 30] = [
         ending: Ended::Command,
     },
     Case {
-        input: b"undo\n",
-        output: b"error command\n",
-        ending: Ended::Command,
+        input: b"undo\nredo\n",
+        output: b"error none\nerror none\n",
+        ending: Ended::Input,
     },
     Case {
         input: b"text 1\n\xffprint\n",
@@ -161,6 +161,50 @@ pub const CASES: [Case; 30] = [
         input: b"text 5\nlist\npattern 5\nlist\nlist\n",
         output: b"ok\nok\nok 0\n",
         ending: Ended::Input,
+    },
+    // A CR and an LF meet where nothing is left between them, behind a CR, before an LF, and at both
+    // ends of what is inserted.
+    Case {
+        input: b"text 5\nx\rb\nypattern 1\nylist\nedit 1 0 1 1 0\nlist\n",
+        output: b"ok\nok\nm 2 0 1\nok 1\nok\nm 1 0 1\nok 1\n",
+        ending: Ended::Input,
+    },
+    Case {
+        input: b"text 3\nx\rypattern 1\nyedit 1 0 1 0 1\n\nlist\n",
+        output: b"ok\nok\nok\nm 1 0 1\nok 1\n",
+        ending: Ended::Input,
+    },
+    Case {
+        input: b"text 3\nb\nypattern 1\nyedit 0 1 0 1 1\n\rlist\n",
+        output: b"ok\nok\nok\nm 1 0 1\nok 1\n",
+        ending: Ended::Input,
+    },
+    Case {
+        input: b"text 5\nx\rb\nypattern 1\nyedit 1 0 1 1 2\n\n\rlist\n",
+        output: b"ok\nok\nok\nm 2 0 1\nok 1\n",
+        ending: Ended::Input,
+    },
+    // A column inside the frog is nowhere.
+    Case {
+        input: b"text 6\na\xf0\x9f\x90\xb8bedit 0 2 0 2 1\nxprint\n",
+        output: b"ok\nerror range\ntext 6\na\xf0\x9f\x90\xb8b\n",
+        ending: Ended::Input,
+    },
+    Case {
+        input: b"text 1\nqfork\nedit 0 0 0 1 1\nzuse 1\nprint\n",
+        output: b"ok\nok 1\nok\nok\ntext 1\nq\n",
+        ending: Ended::Input,
+    },
+    // An edit that changes nothing drops what could be redone.
+    Case {
+        input: b"text 1\naedit 0 1 0 1 1\nbundo\nredo\nprint\nundo\nedit 0 0 0 0 0\nredo\n",
+        output: b"ok\nok\nok\nok\ntext 2\nab\nok\nok\nerror none\n",
+        ending: Ended::Input,
+    },
+    Case {
+        input: b"edit 0 0 0 0\n",
+        output: b"error command\n",
+        ending: Ended::Command,
     },
     Case {
         input: b"list 1\n",

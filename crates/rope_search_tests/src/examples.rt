@@ -1,7 +1,7 @@
 //! An example for each public type of `rope_search`. Its README shows the first two.
 use rope_search::{
-    Buffer, Command, Ended, Fault, Limits, Lines, MemorySink, MemorySource, Payload, Reply,
-    Session, run,
+    Buffer, Command, Ended, Fault, Limits, Lines, MemorySink, MemorySource, Payload, Position,
+    Reply, Session, run,
 };
 use std::test::Fail;
 
@@ -74,6 +74,26 @@ fn a_buffer_within_a_limit(rt: HostRuntime) -> Result<(), Fail> {
     assert!(rt; buffer.set_text(&mut tick, "two frogs") == Err(Fault::Size));
     let text = buffer.text().to_text()?;
     assert!(rt; text.as_str() == "a frog");
+    Ok(())
+}
+
+/// `Position`: an edit between two, and back. The line that it is in is searched again alone.
+#[test]
+fn an_edit_of_a_line(rt: HostRuntime) -> Result<(), Fail> {
+    let mut tick = Lines::new(&rt);
+    let mut buffer = Buffer::new(rt.alloc(), Limits::default())?;
+    buffer.set_text(&mut tick, "a frog\na toad")?;
+    buffer.set_pattern(&mut tick, "toad")?;
+    assert!(rt; tick.count() == 2);
+    let start = Position { line: 0, column: 2 };
+    let end = Position { line: 0, column: 6 };
+    buffer.edit(&mut tick, start, end, "toad")?;
+    assert!(rt; tick.count() == 3);
+    for row in buffer.report().unwrap_or(&[]) {
+        assert!(rt; row.matches() == [(2, 6)].as_slice());
+    }
+    buffer.undo(&mut tick)?;
+    assert!(rt; buffer.text().eq_str("a frog\na toad"));
     Ok(())
 }
 

@@ -6,6 +6,8 @@ mod cases;
 #[cfg(test)]
 mod devices;
 #[cfg(test)]
+mod edits;
+#[cfg(test)]
 mod examples;
 #[cfg(test)]
 mod io_examples;

@@ -26,8 +26,12 @@ fn worked_inputs_in_pieces(rt: HostRuntime) -> Result<(), Fail> {
 
 #[test]
 fn limits_on_texts(rt: HostRuntime) -> Result<(), Fail> {
-    let cases: [(&[u8], &[u8]); 3] = [
+    let cases: [(&[u8], &[u8]); 4] = [
         (b"text 5\nabcdeprint\n", b"error size\ntext 0\n\n"),
+        (
+            b"text 3\nabcedit 0 1 0 2 3\nxyzedit 0 1 0 2 2\nxyprint\n",
+            b"ok\nerror size\nok\ntext 4\naxyc\n",
+        ),
         (
             b"text 5\n\xff\xff\xff\xff\xfftext 5\nabcde",
             b"error utf8\nerror size\n",

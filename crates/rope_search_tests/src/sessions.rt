@@ -70,6 +70,7 @@ fn payloads_that_are_refused(rt: HostRuntime) -> Result<(), Fail> {
 fn the_words_of_faults(rt: HostRuntime) -> Result<(), Fail> {
     let words = [
         (Fault::Nothing, "none"),
+        (Fault::Range, "range"),
         (Fault::Utf8, "utf8"),
         (Fault::Size, "size"),
         (Fault::Memory, "memory"),

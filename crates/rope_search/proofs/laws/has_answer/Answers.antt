@@ -3,4 +3,4 @@ use Rattle.rope_search.proofs.AnswerLaws.{answers_exist}
 use Rattle.rope_search.proofs.laws.has_answer.Goals as goal
 
 pub returns : goal.returns
-returns c = answers_exist c.has_report.ensures
+returns c = answers_exist c.one_place.ensures c.has_report.ensures

@@ -16,7 +16,7 @@ pub returns-in_err-turn : goal.returns-in_err-turn
 returns-in_err-turn g c =
     let p = err_from_is_err_and c.from_residual.result c.from_residual.ensures.1 in
     let so = c.loop-session.invariant in
-    rw (p.1, p.2) (Ran-broken c.has_report.ensures _ _ _ _ _ _ _ so.2 (TakesTurn-at _ _ _ _ _ so.1 c.in_err-turn.ensures.taken))
+    rw (p.1, p.2) (Ran-broken c.one_place.ensures c.has_report.ensures _ _ _ _ _ _ _ so.2 (TakesTurn-at _ _ _ _ _ so.1 c.in_err-turn.ensures.taken))
 
 pub returns-in_err-close-in-Some : goal.returns-in_err-close-in-Some
 returns-in_err-close-in-Some g c =

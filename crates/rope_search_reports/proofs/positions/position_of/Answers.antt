@@ -1,4 +1,4 @@
-use Rattle.std.proofs.Common.{◌≡◌, ℕ, ◌+◌, ◌-◌, ◌≤◌, true, List, ◌++◌, length, refl, ap, arith, sym, ◌∙◌, length-append, append_assoc}
+use Rattle.std.proofs.Common.{◌≡◌, ℕ, ◌+◌, ◌-◌, ◌≤◌, true, List, ◌++◌, length, refl, ap, arith, ◌∙◌, length-append, append_assoc}
 use Rattle.std.specs.Str.{all_scalars, IsCharBoundary}
 use Rattle.std.proofs.lemmas.List.Sums.{sum_by-append}
 use Rattle.str_indices.specs.Text.{byte_len, units, units_of, char_ends, unit_ends, ends_up_to, end_place}
@@ -6,7 +6,7 @@ use Rattle.ropey.specs.Chunks.{text_of}
 use Rattle.rope_search_reports.specs.Text.{bytes_of}
 use Rattle.rope_search_reports.specs.Laws.{PlaceLaws}
 use Rattle.rope_search_reports.specs.Position.{line_at, line_start, column_at}
-use Rattle.rope_search_reports.proofs.PlaceLemmas.{rope-scalars, line_inside, InLine, in_line, IsFrontOf, front_of, units_there, chars_there}
+use Rattle.rope_search_reports.proofs.PlaceLemmas.{rope-scalars, line_inside, in_line, front_of, units_there, chars_there}
 use Rattle.rope_search_reports.proofs.positions.position_of.Goals as goal
 
 pub line_to_char-requires : goal.line_to_char-requires

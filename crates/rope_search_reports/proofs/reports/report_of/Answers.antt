@@ -1,71 +1,22 @@
-use Rattle.std.proofs.Common.{rules, ◌≡◌, ◌++◌, [], List, ℕ, chars, string_bytes, refl, ap, sym, subst, ◌∙◌, arith}
+use Rattle.std.proofs.Common.{◌++◌, [], List, ℕ, chars, string_bytes, ap, subst}
 use Rattle.std.proofs.lemmas.Result.{IfOk-weaker}
-use Rattle.std.proofs.lemmas.Str.{IsUtf8-nil, chars-nil}
+use Rattle.ropey.specs.Chunks.{text_of}
 use Rattle.rope_search_reports.specs.Drafts.{AddsRow, AddsLines}
 use Rattle.rope_search_reports.proofs.FewLemmas.{pieces-few}
-use Rattle.rope_search_reports.proofs.DraftLemmas.{Drafted, Drafted-start, Drafted-room, Drafted-within, Drafted-more, Drafted-end}
+use Rattle.rope_search_reports.proofs.DraftLemmas.{ends-rows}
 use Rattle.rope_search_reports.proofs.reports.report_of.Goals as goal
-
-pub loop-chunk-init : goal.loop-chunk-init
-loop-chunk-init c =
-    let pattern = c.args.finder.now in
-    let text = c.args.text.now in
-    let ticks = c.args.tick.now in
-    let none : chars (string_bytes c.new-draft.result.front) ++ chars [] ≡ [] =
-    ap (λ f. chars f ++ chars []) c.new-draft.ensures.front ∙ ap (λ cs. cs ++ chars []) chars-nil ∙ chars-nil in
-    let P : List (List ℕ) → List ℕ → List (List (ℕ × ℕ)) → Type 0 = λ left tail rows. Drafted pattern text left tail rows ticks ticks in
-    let start : P text [] [] = Drafted-start pattern text ticks in (
-      IsUtf8-nil,
-      (
-        subst (λ left. P left (chars (string_bytes c.new-draft.result.front) ++ chars []) c.new-draft.result.rows.items) (sym (ap (λ chunks. chunks.ahead) (c.into_iter-chunk-iterator.ensures.into_iter_gives ∙ c.chunks-chunk-items.ensures.pieces)))
-            (subst (λ tail. P text tail c.new-draft.result.rows.items) (sym none) (subst (P text []) (sym c.new-draft.ensures.rows) start)),
-        refl,
-      ),
-    )
-
-pub returns-in_err-carry-clause-count : goal.returns-in_err-carry-clause-count
-returns-in_err-carry-clause-count c =
-    let within = Drafted-within _ _ _ _ _ _ _ c.loop-chunk.invariant.1.0 c.chunks-chunk-items.ensures.whole in omega (arith, within)
-
-pub returns-in_err-part-clause-count : goal.returns-in_err-part-clause-count
-returns-in_err-part-clause-count c =
-    let room = Drafted-room _ _ _ _ _ _ _ _ _ c.loop-chunk.invariant.1.0 c.chunks-chunk-items.ensures.whole c.in-Some.ensures.steps.0.0 in
-    omega (arith, room, c.end_lines.ensures.count)
-
-pub loop-chunk-preserved : goal.loop-chunk-preserved
-loop-chunk-preserved c =
-    let front = chars (string_bytes c.carry.new.self.front) in
-    let piece = chars c.in-Some.chunk.now in
-    let tail = chars (string_bytes c.end_lines.new.self.front) ++ chars c.in_ok-part.part.now in
-    let P : List ℕ → List (List (ℕ × ℕ)) → Type 0 = λ pattern rows. AddsLines pattern front piece tail rows c.end_lines.new.self.rows.items in
-    let adds = subst (P c.args.finder.now) c.in_ok-carry.ensures.rows
-    (subst (λ pattern. P pattern c.carry.new.self.rows.items) c.loop-chunk.invariant.1.1 c.in_ok-part.ensures.rows) in (
-      search rules,
-      (
-        Drafted-more _ _ _ _ _ _ _ _ _ _ front _ _ c.loop-chunk.invariant.1.0 c.chunks-chunk-items.ensures.whole c.in-Some.ensures.steps.0.0 c.in_ok-carry.ensures.front adds
-            c.end_lines.ensures.count c.end_lines.ensures.wholes,
-        c.end_lines.ensures.finder ∙ c.loop-chunk.invariant.1.1,
-      ),
-    )
 
 pub returns-clause-rows : goal.returns-clause-rows
 returns-clause-rows c =
-    let tail = chars (string_bytes c.loop-chunk.draft.front) ++ chars c.loop-chunk.part.now in
-    let P : List ℕ → List (List (ℕ × ℕ)) → Type 0 = λ pattern rows. AddsRow pattern tail c.loop-chunk.draft.rows.items rows in
-    IfOk-weaker c.finish.result (λ rows. P c.loop-chunk.finder rows.items) _
-    (λ rows adds. Drafted-end _ _ _ _ _ _ _ _ c.loop-chunk.invariant.1.0 c.in-None.ensures.steps.0.0
-    (subst (λ pattern. P pattern rows.items) c.loop-chunk.invariant.1.1 adds))
+    let pattern = c.args.finder.now in
+    let rows = c.in_ok-draft.draft.rows.items in
+    let tail = chars (string_bytes c.in_ok-draft.draft.front) ++ chars c.in_ok-draft.part.now in
+    let P : List ℕ → List (List (ℕ × ℕ)) → Type 0 = λ pattern rows'. AddsRow pattern tail rows rows' in
+    let lines = subst (λ (ps : List (List ℕ)). AddsLines pattern [] (text_of ps) tail [] rows) (ap (λ chunks. chunks.ahead) c.chunks.ensures.pieces) c.in_ok-draft.ensures.rows in
+    IfOk-weaker c.finish.result (λ rows'. P c.draft_of.new.finder rows'.items) _
+    (λ rows' adds. ends-rows pattern (text_of c.args.text.now) tail rows rows'.items lines (subst (λ pattern. P pattern rows'.items) c.draft_of.ensures.finder adds))
     c.finish.ensures.rows
 
 pub returns-clause-few : goal.returns-clause-few
 returns-clause-few c =
-    let tail = chars (string_bytes c.loop-chunk.draft.front) ++ chars c.loop-chunk.part.now in
-    let P : List ℕ → List (List (ℕ × ℕ)) → Type 0 = λ pattern rows. AddsRow pattern tail c.loop-chunk.draft.rows.items rows in
-    IfOk-weaker c.finish.result (λ rows. P c.loop-chunk.finder rows.items) _
-    (λ rows adds. pieces-few c.args.text.now c.args.finder.now rows.items c.chunks-chunk-items.ensures.cut.fits
-    (Drafted-end _ _ _ _ _ _ _ _ c.loop-chunk.invariant.1.0 c.in-None.ensures.steps.0.0 (subst (λ pattern. P pattern rows.items) c.loop-chunk.invariant.1.1 adds)))
-    c.finish.ensures.rows
-
-pub returns-clause-count : goal.returns-clause-count
-returns-clause-count c =
-    let within = Drafted-within _ _ _ _ _ _ _ c.loop-chunk.invariant.1.0 c.chunks-chunk-items.ensures.whole in omega (arith, within, c.finish.ensures.count)
+    IfOk-weaker c.finish.result _ _ (λ rows is. pieces-few c.args.text.now c.args.finder.now rows.items c.chunks.ensures.cut.fits is) (returns-clause-rows c)

@@ -1,14 +1,14 @@
-use Rattle.std.proofs.Common.{◌≡◌, ℕ, ◌+◌, ◌-◌, ◌<◌, ◌≤◌, true, false, List, refl, sym, ap, arith, ◌∙◌}
-use Rattle.std.specs.Str.{all_scalars}
+use Rattle.std.proofs.Common.{◌≡◌, ℕ, ◌+◌, ◌<◌, ◌++◌, take, refl, sym, ap, arith, ◌∙◌}
+use Rattle.std.proofs.Math.Seq.{take-append_seam}
 use Rattle.std.proofs.lemmas.Bool.{true≢false}
 use Rattle.std.proofs.lemmas.Bool.Decides.{nat_tests}
 use Rattle.str_indices.specs.Text.{byte_len, char_ends, unit_ends, end_place, ends_up_to}
 use Rattle.ropey.specs.Chunks.{text_of}
 use Rattle.rope_search_reports.specs.Text.{line_count}
-use Rattle.rope_search_reports.specs.Position.{position, IsAt, IsNowhere}
+use Rattle.rope_search_reports.specs.Position.{position}
 use Rattle.rope_search_reports.proofs.PlaceLemmas.{rope-scalars}
-use Rattle.rope_search_reports.proofs.SpotLemmas.{started, Spotted, spotted, Led, led, is_at, found}
-use Rattle.rope_search_reports.proofs.positions.byte_of.Goals as goal
+use Rattle.rope_search_reports.proofs.SpotLemmas.{started, spotted, led, is_at, found}
+use Rattle.rope_search_reports.proofs.positions.place_of.Goals as goal
 
 pub char_to_utf16_cu-start-requires : goal.char_to_utf16_cu-start-requires
 char_to_utf16_cu-start-requires c =
@@ -25,8 +25,8 @@ overflow_sub-len_utf16_cu c =
     let few = (started c.places.ensures text scalars c.args.position.line c.line_to_char.result c.char_to_utf16_cu-start.result inside c.line_to_char.ensures c.char_to_utf16_cu-start.ensures).few in
     omega (arith, few, c.len_utf16_cu.ensures)
 
-pub returns-then-position-len_utf16_cu : goal.returns-then-position-len_utf16_cu
-returns-then-position-len_utf16_cu c = λ place at.
+pub returns-then-position-len_utf16_cu-clause-at : goal.returns-then-position-len_utf16_cu-clause-at
+returns-then-position-len_utf16_cu-clause-at c = λ place at.
     let text = text_of c.args.text.now in
     let scalars = rope-scalars c.args.text.now c.len_bytes.ensures.cut.cut in
     let start_is = c.char_to_utf16_cu-start.ensures ∙ ap (λ n. ends_up_to (end_place (char_ends text) n (byte_len text)) (unit_ends text)) c.line_to_char.ensures in
@@ -61,8 +61,8 @@ is_in_cr_lf-requires c =
     let scalars = rope-scalars c.args.text.now c.len_bytes.ensures.cut.cut in
     (led c.places.ensures text scalars (c.char_to_utf16_cu-start.result + c.args.position.column) c.utf16_cu_to_char-char_idx.result c.char_to_byte-byte_idx.result c.utf16_cu_to_char-char_idx.ensures c.char_to_byte-byte_idx.ensures).within
 
-pub returns-then-is_in_cr_lf : goal.returns-then-is_in_cr_lf
-returns-then-is_in_cr_lf c = λ place at.
+pub returns-then-is_in_cr_lf-clause-at : goal.returns-then-is_in_cr_lf-clause-at
+returns-then-is_in_cr_lf-clause-at c = λ place at.
     let text = text_of c.args.text.now in
     let scalars = rope-scalars c.args.text.now c.len_bytes.ensures.cut.cut in
     let spot : ℕ × ℕ = (c.args.position.line, c.args.position.column) in
@@ -74,8 +74,8 @@ returns-then-is_in_cr_lf c = λ place at.
     let f = found c.places.ensures text scalars spot place start unit c.utf16_cu_to_char-char_idx.result c.char_to_byte-byte_idx.result s at refl l c.utf16_cu_to_char-char_idx.ensures in
     true≢false (sym c.if-is_in_cr_lf.true ∙ c.is_in_cr_lf.ensures ∙ f.uncut_there)
 
-pub returns-then-eq : goal.returns-then-eq
-returns-then-eq c =
+pub returns-then-eq-clause-at : goal.returns-then-eq-clause-at
+returns-then-eq-clause-at c =
     let text = text_of c.args.text.now in
     let scalars = rope-scalars c.args.text.now c.len_bytes.ensures.cut.cut in
     let spot : ℕ × ℕ = (c.args.position.line, c.args.position.column) in
@@ -88,8 +88,8 @@ returns-then-eq c =
     ap (λ n. (n, c.args.position.column)) lines ∙ ap (λ n. (c.position_of.result.line, n)) columns ∙ c.position_of.ensures in
     is_at c.places.ensures text scalars spot c.utf16_cu_to_char-char_idx.result c.char_to_byte-byte_idx.result l uncut same
 
-pub returns-else-eq : goal.returns-else-eq
-returns-else-eq c = λ place at.
+pub returns-else-eq-clause-at : goal.returns-else-eq-clause-at
+returns-else-eq-clause-at c = λ place at.
     let text = text_of c.args.text.now in
     let scalars = rope-scalars c.args.text.now c.len_bytes.ensures.cut.cut in
     let spot : ℕ × ℕ = (c.args.position.line, c.args.position.column) in
@@ -103,3 +103,28 @@ returns-else-eq c = λ place at.
     let lines : c.position_of.result.line ≡ c.args.position.line = ap (λ p. p.0) same in
     let columns : c.position_of.result.column ≡ c.args.position.column = ap (λ p. p.1) same in
     grind (arith, nat_tests, lines, columns, c.eq.ensures, c.if-eq.false)
+
+pub returns-then-eq-clause-chars : goal.returns-then-eq-clause-chars
+returns-then-eq-clause-chars c =
+    let text = text_of c.args.text.now in
+    let scalars = rope-scalars c.args.text.now c.len_bytes.ensures.cut.cut in
+    let unit = c.char_to_utf16_cu-start.result + c.args.position.column in
+    let l = led c.places.ensures text scalars unit c.utf16_cu_to_char-char_idx.result c.char_to_byte-byte_idx.result c.utf16_cu_to_char-char_idx.ensures c.char_to_byte-byte_idx.ensures in
+    let front : take c.utf16_cu_to_char-char_idx.result text ≡ l.front =
+    ap (take c.utf16_cu_to_char-char_idx.result) l.parts ∙ ap (λ n. take n (l.front ++ l.back)) l.char_is ∙ take-append_seam l.front l.back in
+    (l.within, ap byte_len front ∙ sym l.byte_is)
+
+pub returns-then-position-len_lines-clause-scalars : goal.returns-then-position-len_lines-clause-scalars
+returns-then-position-len_lines-clause-scalars c = rope-scalars c.args.text.now c.len_bytes.ensures.cut.cut
+
+pub returns-then-position-len_utf16_cu-clause-scalars : goal.returns-then-position-len_utf16_cu-clause-scalars
+returns-then-position-len_utf16_cu-clause-scalars c = rope-scalars c.args.text.now c.len_bytes.ensures.cut.cut
+
+pub returns-then-is_in_cr_lf-clause-scalars : goal.returns-then-is_in_cr_lf-clause-scalars
+returns-then-is_in_cr_lf-clause-scalars c = rope-scalars c.args.text.now c.len_bytes.ensures.cut.cut
+
+pub returns-then-eq-clause-scalars : goal.returns-then-eq-clause-scalars
+returns-then-eq-clause-scalars c = rope-scalars c.args.text.now c.len_bytes.ensures.cut.cut
+
+pub returns-else-eq-clause-scalars : goal.returns-else-eq-clause-scalars
+returns-else-eq-clause-scalars c = rope-scalars c.args.text.now c.len_bytes.ensures.cut.cut

@@ -1,0 +1,14 @@
+use Rattle.std.proofs.Common.{◌≡◌, arith}
+use Rattle.rope_search.specs.Session.{limit_in}
+use Rattle.rope_search.proofs.SessionLemmas.{Chosen}
+use Rattle.rope_search.proofs.EditLemmas.{Step-undone}
+use Rattle.rope_search.proofs.session.Session.undo.Goals as goal
+
+pub returns-clause-step : goal.returns-clause-step
+returns-clause-step c =
+    let inside = c.self.inside in
+    let old = c.index_mut.result.now in
+    let told = c.in_ok-undo.ensures in
+    let chosen : Chosen inside.buffers.items inside.chosen (limit_in inside.buffers.items inside.chosen) old c.args.self.now =
+    record { inside = omega (arith, inside.buffers.ok.0); is = c.index_mut.ensures.value; all = c.self.invariant.1; seen = c.self.view_is } in
+    Step-undone inside.buffers.items inside.chosen (limit_in inside.buffers.items inside.chosen) old c.undo.new.self c.args.self.now chosen (λ none. absurd (let e = told.nothing.1 none in cc)) told.ok

@@ -1,0 +1,78 @@
+//! A part of a text, between two places, and another text in its place.
+ghost use Rattle.std.specs.Prelude.{◌≡◌, ◌^◌, ◌<◌, ◌↔◌, IsTrue, IfOk, IfErr, IfSome, IfNone};
+ghost use Rattle.std.specs.Str.{chars};
+ghost use Rattle.str_indices.specs.Text.{byte_len};
+ghost use Rattle.ropey.specs.Chunks.{text_of};
+ghost use Rattle.rope_search.specs.Places.{HasNoneBetween, IsMarked, IsMarkedBetween, with_replaced};
+
+use rope_search_io::Fault;
+use rope_search_reports::{Place, Position, place_of};
+use ropey::Rope;
+
+/// A part of a text: from one place to another.
+#[derive(Clone, Copy, Debug, PartialEq, Eq)]
+pub struct Part {
+    /// Where it starts.
+    pub start: Place,
+    /// Where it ends.
+    pub end: Place,
+}
+
+impl Part {
+    /// What stands between two positions of a text. None where one of them is nowhere, or the
+    /// second one is before the first.
+    pub fn between(text: &Rope, from: Position, to: Position) -> Option<Part>
+        ensures part { IfSome result (λ part.
+            IsMarkedBetween (text_of text.now) from to part) }
+        ensures none { IfNone result (HasNoneBetween (text_of text.now) from to) }
+    {
+        // A law, for the proof alone.
+        rope_search_reports::laws::one_place();
+        let start = place_of(text, from)?;
+        let end = if to == from {
+            start
+        } else {
+            place_of(text, to)?
+        };
+        if end.char_idx < start.char_idx {
+            return None;
+        }
+        Some(Part { start, end })
+    }
+
+    /// Whether the text, with another one in this part's place, would have more bytes than the
+    /// limit.
+    pub fn is_over(self, limit: usize, text: &Rope, inserted: &str) -> bool
+        requires { IsMarked (text_of text.now) self }
+        ensures { IsTrue result ↔ limit <
+            byte_len (with_replaced (text_of text.now) self (chars inserted.now)) }
+    {
+        let kept = text.len_bytes() - (self.end.byte_idx - self.start.byte_idx);
+        limit < inserted.len() || limit - inserted.len() < kept
+    }
+
+    /// The text with another one in this part's place. It may be refused with `Fault::Memory`
+    /// alone.
+    pub fn replaced(self, text: &Rope, inserted: &str) -> Result<Rope, Fault>
+        requires marked { IsMarked (text_of text.now) self }
+        requires fits { byte_len (with_replaced (text_of text.now) self (chars inserted.now))
+            < 2 ^ 63 }
+        ensures text { IfOk result (λ new. text_of new ≡
+            with_replaced (text_of text.now) self (chars inserted.now)) }
+        ensures fault { IfErr result (λ fault. fault ≡ Fault.Memory) }
+    {
+        let mut new = text.clone()?;
+        let (start, end) = (self.start.char_idx, self.end.char_idx);
+        if start < end {
+            let Ok(()) = new.remove(start..end) else {
+                return Err(Fault::Memory);
+            };
+        }
+        if !inserted.is_empty() {
+            let Ok(()) = new.insert(start, inserted) else {
+                return Err(Fault::Memory);
+            };
+        }
+        Ok(new)
+    }
+}

@@ -1,0 +1,5 @@
+use Rattle.rope_search_reports.proofs.SpotLemmas.{spot-one}
+use Rattle.rope_search_reports.proofs.laws.one_place.Goals as goal
+
+pub returns : goal.returns
+returns c = λ text spot place place' scalars at at'. spot-one c.places.ensures text scalars spot place place' at at'

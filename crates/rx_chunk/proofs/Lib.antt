@@ -1,0 +1,3 @@
+pub mod IndexLaws
+pub mod FollowLaws
+pub mod PlaceLaws

@@ -1,0 +1,53 @@
+-- The nodes of a program: its states, each with the states of its automaton, if it has one.
+use Rattle.std.specs.Prelude.{◌≡◌, ℕ, zero, suc, ◌+◌, ◌-◌, nat_lt, Bool, true, false, ◌++◌, Contains, List, [], ◌∷◌, length, map, cond, Option, Some, None, slice_get}
+use Rattle.rx_program.specs.declared.states.State.{State}
+use Rattle.rx_program.specs.declared.states.State.TheVariants as state
+use Rattle.rx_program.specs.Programs.{ByteProgram}
+
+-- how many nodes a state is
+abbrev pub width_of : State → ℕ
+width_of (state.Ranges automaton next) = length automaton.value.rows
+width_of _ = 1
+
+abbrev pub widths_of : ByteProgram → List ℕ
+widths_of p = map width_of p.states
+
+-- where a node stands among all nodes, from an index on, by how many nodes each state is
+abbrev pub index_from : ℕ → List ℕ → ℕ → ℕ → Option ℕ
+index_from first [] q s = None
+index_from first (n ∷ widths) zero s = cond (nat_lt s n) (Some (first + s)) None
+index_from first (n ∷ widths) (suc q) s = index_from (first + n) widths q s
+
+-- where the nodes of each state start, and where those of the last one end
+abbrev pub starts_from : ℕ → List ℕ → List ℕ
+starts_from first [] = first ∷ []
+starts_from first (n ∷ widths) = first ∷ starts_from (first + n) widths
+
+abbrev pub end_from : ℕ → List ℕ → ℕ
+end_from first [] = first
+end_from first (n ∷ widths) = end_from (first + n) widths
+
+-- a state without an automaton is a node by itself, the first one
+abbrev pub MayStand : Option State → ℕ → Type 0
+MayStand (Some (state.Ranges automaton next)) s = Unit {0}
+MayStand _ s = s ≡ 0
+
+abbrev pub IsNodeOf : List State → ℕ × ℕ → Type 0
+IsNodeOf states q = MayStand (slice_get states q.0) q.1
+
+-- how many nodes each state is, by where they start
+abbrev pub widths_in : List ℕ → List ℕ
+widths_in [] = []
+widths_in (first ∷ []) = []
+widths_in (first ∷ second ∷ starts) = (second - first) ∷ widths_in (second ∷ starts)
+
+-- the nodes of a program by how many each state is, and the indices of those that were seen
+pub record SeenNodes : Type 0 where
+  pub widths : List ℕ
+  pub ids : List ℕ
+
+-- a node's index comes into a set, if it has one and that is none of the set; the flag tells so
+abbrev pub IsInserted : Option ℕ → Bool → List ℕ → List ℕ → Type 0
+IsInserted None is_new ids ids' = (is_new ≡ false) × (ids' ≡ ids)
+IsInserted (Some k) true ids ids' = (Contains ids k → ⊥) × (ids' ≡ ids ++ k ∷ [])
+IsInserted (Some k) false ids ids' = Contains ids k × (ids' ≡ ids)

@@ -1,0 +1,5 @@
+//! Tests of `rx_chunk`: an example for each public type.
+#![tactic(auto)]
+
+#[cfg(test)]
+mod examples;

@@ -1,0 +1,149 @@
+"""Edits and their history: what bin/rope-search answers to sessions at random, and to every edit of every
+small text, beside the model."""
+import itertools
+import random
+
+from harness import differences, run, short, test
+from protocol import Session, listed, positions_of, spelled
+
+CHARACTERS = "aab\r\r\n\n\u2028🐸é"
+SESSIONS, SESSIONS_IN_RUN = 20_000, 500
+SMALL = "\r\na"
+
+
+class Writer:
+    """Commands, and what the model replies to them."""
+
+    def __init__(self):
+        self.session, self.commands, self.replies = Session(), [], []
+
+    def write(self, word, *numbers, text=None):
+        """A command, with the payload that its text spells."""
+        payload = b"" if text is None else text.encode("utf-8", "surrogatepass")
+        command = (word, numbers if text is None else (*numbers, len(payload)), payload)
+        self.commands.append(command)
+        self.replies.append(self.session.reply(command))
+        return self.replies[-1]
+
+    def problems(self):
+        """What is wrong with the program's replies: the first command that is answered otherwise."""
+        ended = run(b"".join(spelled(*command) for command in self.commands))
+        wrong = differences(ended, b"".join(self.replies), 0)
+        if not wrong:
+            return
+        at = 0
+        for place, reply in enumerate(self.replies):
+            if ended.out[at : at + len(reply)] != reply:
+                before = b"".join(spelled(*command) for command in self.commands[max(place - 8, 0) : place + 1])
+                yield f"command {place}, the last of {short(before)}, is answered {short(ended.out[at : at + 60])}, not {short(reply)}"
+                return
+            at += len(reply)
+        yield from wrong
+
+
+def some_text(chosen, most):
+    return "".join(chosen.choice(CHARACTERS) for _ in range(chosen.randint(0, most)))
+
+
+def ends_of_lines(text):
+    """The first and the last position of each line."""
+    last = dict(positions_of(text))
+    return [(line, column) for line in last for column in (0, last[line])]
+
+
+def some_edit(chosen, writer):
+    """An edit between two positions of the current text: of any text, or between ends of lines of one by
+    which a CR and an LF may meet. Now and then its positions are anywhere."""
+    text = writer.session.buffer.text
+    positions = positions_of(text)
+    payload = "\ud800" if chosen.random() < 0.02 else some_text(chosen, chosen.choice((0, 1, 2, 2, 6)))
+    if chosen.random() < 0.35:
+        positions, payload = ends_of_lines(text), chosen.choice(("", "\n", "\r", "\n\r"))
+    first, last = sorted(chosen.choices(positions, k=2))
+    if chosen.random() < 0.3:
+        last = first
+    if chosen.random() < 0.12:
+        first, last = ((chosen.randint(0, 4), chosen.randint(0, 5)) for _ in range(2))
+    writer.write("edit", *first, *last, text=payload)
+
+
+def some_command(chosen, writer):
+    word = chosen.choices(
+        ("edit", "undo", "redo", "list", "print", "pattern", "text", "fork", "use", "off"),
+        (40, 14, 5, 20, 4, 7, 2, 3, 4, 1),
+    )[0]
+    if writer.commands[-1][0] in ("undo", "redo") and chosen.random() < 0.4:
+        word = "redo"
+    if word == "edit":
+        some_edit(chosen, writer)
+    elif word == "pattern":
+        writer.write("pattern", text=chosen.choice(("a", "a", "b", "ab", "aa", "🐸", "é", "a\n", "", "a*")))
+    elif word == "text":
+        writer.write("text", text=some_text(chosen, 12))
+    elif word == "use":
+        writer.write("use", chosen.randint(max(len(writer.session.buffers) - 4, 0), len(writer.session.buffers)))
+    else:
+        writer.write(word)
+
+
+def some_sessions(seed, count):
+    """Sessions one after the other. Each begins in a buffer without a pattern and with a new text."""
+    chosen, writer = random.Random(seed), Writer()
+    for _ in range(count):
+        writer.write("use", chosen.randrange(len(writer.session.buffers)))
+        writer.write("off")
+        writer.write("text", text=some_text(chosen, 12))
+        if chosen.random() < 0.8:
+            writer.write("pattern", text=chosen.choice("aab"))
+        for _ in range(chosen.randint(8, 20)):
+            some_command(chosen, writer)
+        for word in ("list", "print"):
+            writer.write(word)
+    return writer
+
+
+def texts_of(most):
+    """All texts of a few characters."""
+    for length in range(most + 1):
+        yield from map("".join, itertools.product(SMALL, repeat=length))
+
+
+def edits_of(text):
+    """The text under the pattern `a` with each edit of it: what is listed is what the pattern, set anew,
+    lists, and what was listed before is listed after `undo`."""
+    writer = Writer()
+    writer.write("text", text=text)
+    writer.write("pattern", text="a")
+    for first, last in itertools.combinations_with_replacement(positions_of(text), 2):
+        for payload in texts_of(2):
+            assert writer.write("edit", *first, *last, text=payload) == b"ok\n"
+            assert writer.write("list") == listed(writer.session.buffer.text, "a")
+            writer.write("pattern", text="a")
+            writer.write("list")
+            writer.write("undo")
+            writer.write("list")
+    return writer
+
+
+def positions_around(text):
+    """The text with an edit between each two of all positions in it and around it."""
+    writer = Writer()
+    writer.write("text", text=text)
+    writer.write("pattern", text="a")
+    around = list(itertools.product(range(text.count("\r") + text.count("\n") + 2), range(len(text) + 2)))
+    for first, last in itertools.product(around, repeat=2):
+        if writer.write("edit", *first, *last, text="b") == b"ok\n":
+            writer.write("undo")
+    writer.write("print")
+    return writer
+
+
+def test_all():
+    for seed in range(SESSIONS // SESSIONS_IN_RUN):
+        name = f"{SESSIONS_IN_RUN} sessions at random, by seed {seed}"
+        test(name, some_sessions(seed, SESSIONS_IN_RUN).problems())
+    for length in range(5):
+        texts = [text for text in texts_of(length) if len(text) == length]
+        name = f"the {len(texts)} texts of {length} characters over CR, LF and a"
+        test(f"{name}, each edit", (wrong for text in texts for wrong in edits_of(text).problems()))
+        test(f"{name}, all positions", (wrong for text in texts for wrong in positions_around(text).problems()))
