@@ -20,8 +20,8 @@ use std::{env, io};
 /// slice behind the first character; `part TEXT` writes a rope of that slice, and `shrink TEXT` the
 /// rope after it was shrunk. `read TEXT` writes the rope of a reader that gives the text.
 /// `edit TEXT` makes the rope of the parts too, edits it, and writes a line for each edit that was
-/// refused, and then the rope. `random COUNT` edits a rope so often at random beside a `String`, and
-/// writes whether they stayed the same.
+/// refused, and then the rope. `random COUNT` edits a rope so often at random beside a `String`,
+/// and writes whether they stayed the same.
 fn main(rt: HostRuntime) -> io::Result<()> {
     let mut args = env::args(&rt)?.skip(1);
     let Some(mode) = args.next() else {

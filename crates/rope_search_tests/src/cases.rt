@@ -162,8 +162,8 @@ pub const CASES: [Case; 38] = [
         output: b"ok\nok\nok 0\n",
         ending: Ended::Input,
     },
-    // A CR and an LF meet where nothing is left between them, behind a CR, before an LF, and at both
-    // ends of what is inserted.
+    // A CR and an LF meet where nothing is left between them, behind a CR, before an LF, and at
+    // both ends of what is inserted.
     Case {
         input: b"text 5\nx\rb\nypattern 1\nylist\nedit 1 0 1 1 0\nlist\n",
         output: b"ok\nok\nm 2 0 1\nok 1\nok\nm 1 0 1\nok 1\n",

@@ -208,7 +208,8 @@ impl Stepper {
 
     /// Puts into `next` the nodes at the next place, in order of preference, of walks that stand at
     /// these nodes here: down to the first end of a match, whose pattern it answers. A node is
-    /// followed once at a place. The one refusal is `Memory`; what `next` then holds has no meaning.
+    /// followed once at a place. The one refusal is `Memory`; what `next` then holds has no
+    /// meaning.
     ///
     /// It takes time in proportion to the edges of the nodes that are followed, and no memory but
     /// what the program asks for.
