@@ -17,11 +17,11 @@ pub enum CommandOf<P> {
     /// `Fault::Memory`.
     Text(P),
     /// Replaces what stands from the first position to the second in the chosen buffer's text by
-    /// the payload; its pattern stays, and of its report only the rows of the lines that are touched
-    /// are made anew. What could be redone is dropped. Refused with `Fault::Range` where a position
-    /// is nowhere in the text or the second one is before the first, `Fault::Utf8` where the
-    /// payload isn't UTF-8, `Fault::Size` where the new text would have more bytes than the limit,
-    /// or `Fault::Memory`.
+    /// the payload; its pattern stays, and of its report only the rows of the lines that are
+    /// touched are made anew. What could be redone is dropped. Refused with `Fault::Range` where a
+    /// position is nowhere in the text or the second one is before the first, `Fault::Utf8` where
+    /// the payload isn't UTF-8, `Fault::Size` where the new text would have more bytes than the
+    /// limit, or `Fault::Memory`.
     Edit(Position, Position, P),
     /// Goes back to the text from before the last edit; the pattern stays. Refused with
     /// `Fault::Nothing` where there is none, or, where there is a pattern, `Fault::Memory`.
