@@ -1,13 +1,16 @@
 -- What the definitions say of a few small lines and sessions, each by computation.
-use Rattle.std.proofs.Common.{◌≡◌, ℕ, List, [], ◌∷◌, true, false, map, codes, refl}
-use Rattle.std.specs.Prelude.{Ok, Err}
+use Rattle.std.proofs.Common.{◌≡◌, ℕ, List, [], ◌∷◌, true, false, map, codes, refl, arith}
+use Rattle.std.specs.Prelude.{Ok, Err, None}
+use Rattle.std.specs.Str.{chars}
 use Rattle.std.specs.Fmt.{digits}
 use Rattle.std.proofs.Math.Utf8.{encode}
 use Rattle.rope_search_io.specs.declared.faults.Fault.TheVariants.{Nothing, Range, Utf8, Pattern, Limit, Size, Memory}
 use Rattle.rope_search.specs.declared.commands.Reply.TheVariants.{Done, Number, List as Listing, Print}
 use Rattle.rope_search.specs.declared.runs.Ended.TheVariants.{Input, Command, Cut}
 use Rattle.rope_search_reports.specs.Pattern.{is_meta}
-use Rattle.rope_search.specs.Session.{State, fresh, first}
+use Rattle.rope_search_reports.specs.Report.{line_texts}
+use Rattle.rope_search.specs.Places.{IsBetween, IsEdit}
+use Rattle.rope_search.specs.Session.{State, fresh, first, current_text, with_edit, undone, redone}
 use Rattle.rope_search.specs.Reads.{digits_after}
 use Rattle.rope_search.specs.Shows.{shows, closing}
 
@@ -81,3 +84,31 @@ closing_command = refl
 
 pub closing_cut : closing Cut ≡ codes "error end\n"
 closing_cut = refl
+
+-- ---- edits
+
+-- an edit behind an undo drops what could be redone
+pub edit_drops : with_edit (undone (with_edit (fresh (codes "a")) (codes "b"))) (codes "c")
+    ≡ record { texts = codes "a" ∷ codes "c" ∷ []; current = 1; pattern = None }
+edit_drops = refl
+
+-- a text undone is the current one, and what was there can be redone
+pub undo_goes_back : current_text (undone (with_edit (fresh (codes "a")) (codes "b"))) ≡ codes "a"
+undo_goes_back = refl
+
+pub redo_goes_on : current_text (redone (undone (with_edit (fresh (codes "a")) (codes "b")))) ≡ codes "b"
+redo_goes_on = refl
+
+-- a CR LF stands between the end of a line's text and the start of the next line
+pub crlf_between : IsBetween (codes "ab\r\ncd") (record { line = 0; column = 2 }) (record { line = 1; column = 0 }) (codes "ab") (codes "\r\n") (codes "cd")
+unfolding encode chars line_texts
+crlf_between = record {
+  scalars = refl;
+  parts = refl;
+  starts = record { boundary = (omega arith, λ inside high. omega (arith, high)); same = refl; within = omega arith };
+  ends = record { boundary = (omega arith, λ inside high. omega (arith, high)); same = refl; within = omega arith };
+}
+
+-- what takes its place joins the two lines
+pub crlf_replaced : IsEdit (fresh (codes "ab\r\ncd")) (record { line = 0; column = 2 }) (record { line = 1; column = 0 }) (codes " ") (with_edit (fresh (codes "ab\r\ncd")) (codes "ab cd"))
+crlf_replaced = record { before = codes "ab"; part = codes "\r\n"; behind = codes "cd"; between = crlf_between; changed = refl }

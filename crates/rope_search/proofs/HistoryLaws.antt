@@ -72,7 +72,7 @@ redo_undo limit old mid new reply other current first second = absurd first.1
 -- ---- what is shown
 
 -- a report of one text and one pattern is one
-same_report : HasOneReport → (s t : BufferState) (rows rows' : List (List (ℕ × ℕ))) → current_text s ≡ current_text t → s.pattern ≡ t.pattern → IsReportIn s rows → IsReportIn t rows' → rows ≡ rows'
+pub same_report : HasOneReport → (s t : BufferState) (rows rows' : List (List (ℕ × ℕ))) → current_text s ≡ current_text t → s.pattern ≡ t.pattern → IsReportIn s rows → IsReportIn t rows' → rows ≡ rows'
 same_report one s t rows rows' text pattern h k =
     told t.pattern rows rows'
     (subst (λ p. MatchOption p (rows ≡ []) (λ q. IsReport (current_text t) q rows)) pattern (subst (λ x. MatchOption s.pattern (rows ≡ []) (λ q. IsReport x q rows)) text h)) k

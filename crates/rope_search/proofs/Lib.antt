@@ -4,6 +4,7 @@ pub mod HeaderLemmas
 pub mod ListingLemmas
 pub mod HistoryLaws
 pub mod LineLaws
+pub mod NoneLaws
 pub mod NumberLaws
 pub mod PartLaws
 pub mod PatchLemmas
@@ -18,6 +19,7 @@ pub mod SessionLemmas
 pub mod StandLaws
 pub mod StepLaws
 pub mod TakesLemmas
+pub mod TextLaws
 pub mod TextLemmas
 pub mod TurnLemmas
 pub mod ExampleRuns

@@ -25,7 +25,7 @@ byte_len-one : (c : ℕ) (cs : List ℕ) → byte_len (c ∷ cs) ≡ len_utf8 c 
 byte_len-one c cs = omega (arith, length-append (encode c) (bytes_of cs), length-encode c)
 
 -- of two fronts of a text the one with no more bytes is a front of the other
-front_within : (l r f b : List ℕ) → l ++ r ≡ f ++ b → byte_len l ≤ byte_len f → (mid : List ℕ) × (f ≡ l ++ mid)
+pub front_within : (l r f b : List ℕ) → l ++ r ≡ f ++ b → byte_len l ≤ byte_len f → (mid : List ℕ) × (f ≡ l ++ mid)
 front_within [] r f b e low = (f, refl)
 front_within (c ∷ cs) r [] b e low = absurd (omega (arith, low, byte_len-one c cs, (len_utf8_bounds c).0))
 front_within (c ∷ cs) r (d ∷ ds) b e low =
@@ -118,7 +118,7 @@ ends_from text line column done (c ∷ rest) whole = elim (at_choice text line c
         let same : done ++ d ∷ x ≡ (done ++ c ∷ []) ++ x = ap (λ k. done ++ k ∷ x) head ∙ sym (append_assoc done (c ∷ []) x) in
         later x y tail (subst (λ l. IsAt text (line, column) (byte_len l)) same at)
 
-ends_choice : (text : List ℕ) (line column : ℕ) → EndsAt text line column ⊎ ((x y : List ℕ) → text ≡ x ++ y → IsAt text (line, column) (byte_len x) → ⊥)
+pub ends_choice : (text : List ℕ) (line column : ℕ) → EndsAt text line column ⊎ ((x y : List ℕ) → text ≡ x ++ y → IsAt text (line, column) (byte_len x) → ⊥)
 ends_choice text line column = ends_from text line column [] text refl
 
 -- ---- what stands between two positions

@@ -1,6 +1,6 @@
 -- Laws of the definitions themselves: that they leave one reading, one step and one cost, and that
 -- no command is left out.
-use Rattle.std.specs.Prelude.{◌≡◌, ◌≢◌, ℕ, ◌<◌, ◌↔◌, List, ◌++◌, length, Ok, Err}
+use Rattle.std.specs.Prelude.{◌≡◌, ◌≢◌, ℕ, ◌<◌, ◌↔◌, ◌⊎◌, List, [], ◌++◌, length, All, slice_index_or, Some, Ok, Err}
 use Rattle.rope_search_io.specs.declared.faults.Fault.TheVariants.{Memory}
 use Rattle.rope_search.specs.declared.runs.Ended.{Ended}
 use Rattle.rope_search.specs.declared.runs.Ended.TheVariants.{Command}
@@ -8,14 +8,17 @@ use Rattle.rope_search.specs.declared.commands.CommandOf.{CommandOf}
 use Rattle.rope_search.specs.declared.commands.Payload.{Payload}
 use Rattle.rope_search.specs.declared.commands.Reply.{Reply}
 use Rattle.rope_search_reports.specs.declared.positions.Position.{Position}
-use Rattle.rope_search.specs.Order.{Order, EditText, UndoEdit, RedoEdit, PrintText, ListMatches}
-use Rattle.rope_search.specs.Session.{State, current_text, chosen_buffer}
+use Rattle.rope_search_reports.specs.Text.{IsText, Encodes}
+use Rattle.rope_search_reports.specs.Position.{IsAt, IsNowhere, StandsAtBoundaries}
+use Rattle.rope_search.specs.Order.{Order, EditText, UndoEdit, RedoEdit, SetPattern}
+use Rattle.rope_search.specs.Session.{State, first, current_text, chosen_buffer, IsReportIn}
+use Rattle.rope_search.specs.Places.{HasNoneBetween}
 use Rattle.rope_search.specs.Shows.{Shows}
 use Rattle.rope_search.specs.Stands.{Stands}
 use Rattle.rope_search.specs.Step.{Answer, Step}
 use Rattle.rope_search.specs.Reads.{Reads}
 use Rattle.rope_search.specs.Cost.{Costs}
-use Rattle.rope_search.specs.Answers.{Answers}
+use Rattle.rope_search.specs.Answers.{Run, Answers}
 
 -- these bytes are read as some commands and an ending, and as no others
 abbrev pub HasOneReading : List ℕ → Type 0
@@ -74,7 +77,8 @@ pub record AreAlike (session other : State) : Type 0 where
 -- an edit, and directly after it an undo, give back text and pattern
 abbrev pub UndoUndoesEdit : Type 0
 UndoUndoesEdit = (limit : ℕ) (old edited new : State) (from to : Position) (payload : List ℕ)
-    (reply undone : Reply) → HasCurrent old → Step limit old (EditText from to payload) (Ok reply) edited
+    (reply undone : Reply) → HasCurrent old
+    → Step limit old (EditText from to payload) (Ok reply) edited
     → Step limit edited UndoEdit (Ok undone) new → AreAlike new old
 
 -- an undo, and directly after it a redo, give back text and pattern
@@ -89,3 +93,36 @@ RepliesAlike order = (limit limit' : ℕ) (session other new new' : State) (answ
     (bytes bytes' : List ℕ) → AreAlike session other → Step limit session order answer new
     → Step limit' other order answer' new' → Shows new answer bytes → Shows new' answer' bytes'
     → bytes ≡ bytes'
+
+-- the report of a session is the one that its pattern, set anew, would give
+abbrev pub KeptIsAnew : Type 0
+KeptIsAnew = (limit : ℕ) (old new : State) (pattern payload : List ℕ) (reply : Reply)
+    (rows anew : List (List (ℕ × ℕ)))
+    → (chosen_buffer old).pattern ≡ Some pattern → Encodes pattern payload
+    → Step limit old (SetPattern payload) (Ok reply) new
+    → IsReportIn (chosen_buffer old) rows → IsReportIn (chosen_buffer new) anew → rows ≡ anew
+
+-- where commands have led from the first session, each match of the report starts and ends at a
+-- boundary of the current text
+abbrev pub ListsBoundaries : Type 0
+ListsBoundaries = (limit : ℕ) (orders : List Order) (out : List ℕ) (cost : ℕ) (session : State)
+    (rows : List (List (ℕ × ℕ))) (line : ℕ) → Run limit first orders out cost session
+    → IsReportIn (chosen_buffer session) rows
+    → All (StandsAtBoundaries (current_text (chosen_buffer session)) line)
+    (slice_index_or rows line [])
+
+-- of two positions the second is before the first
+pub record AreTurned (text : List ℕ) (from to : Position) : Type 0 where
+  pub start : ℕ
+  pub end : ℕ
+  pub starts : IsAt text (from.line, from.column) start
+  pub ends : IsAt text (to.line, to.column) end
+  pub turned : end < start
+
+-- nothing stands between two positions exactly where one is nowhere or the second is before the
+-- first
+abbrev pub NoneIsNowhereOrTurned : Type 0
+NoneIsNowhereOrTurned = (text : List ℕ) (from to : Position) → IsText text
+    → HasNoneBetween text from to
+    ↔ (IsNowhere text (from.line, from.column)
+    ⊎ (IsNowhere text (to.line, to.column) ⊎ AreTurned text from to))

@@ -7,8 +7,9 @@ pub use Rattle.rope_search.specs.declared.commands.CommandOf.TheVariants.{Text a
 abbrev pub Order : Type 0
 Order = CommandOf (List ℕ)
 
--- the order has the command's word, its positions and its numbers, and its payload is in this relation to what
--- there is of it, under a limit on the payload's bytes: that on texts, or that on patterns
+-- the order has the command's word, its positions and its numbers, and its payload is in this
+-- relation to what there is of it, under a limit on the payload's bytes: that on texts, or that on
+-- patterns
 abbrev pub IsOf : {P : Type 0} → (ℕ → P → List ℕ → Type 0) → ℕ → CommandOf P → Order → Type 0
 IsOf R limit (SetText p) (SetText bytes) = R limit p bytes
 IsOf R limit (EditText from to p) (EditText start end bytes) =

@@ -80,7 +80,8 @@ impl Buffer {
 
     /// The current text.
     pub fn text(&self) -> &Rope
-        ensures { text_of result.now ≡ current_text self.now.state }
+        ensures text { text_of result.now ≡ current_text self.now.state }
+        ensures current { self.now.state.current < length self.now.state.texts }
     {
         self.history.current()
     }

@@ -1,11 +1,11 @@
 //! The texts of a buffer: those that an edit left, and those that can be redone.
-ghost use Rattle.std.specs.Prelude.{◌≡◌, ◌+◌, ◌-◌, ◌<◌, ◌≤◌, ◌↔◌, [], ◌∷◌, ◌++◌, length, take, None, IfOk, IfErr, IfSome, OnOk, OnErr};
+ghost use Rattle.std.specs.Prelude.{◌≡◌, ◌+◌, ◌-◌, ◌<◌, ◌≤◌, ◌↔◌, [], ◌∷◌, ◌++◌, length, take, vec_len, None, IfOk, IfErr, IfSome, OnOk, OnErr};
 ghost use Rattle.ropey.specs.Chunks.{text_of};
 ghost use Rattle.rope_search.specs.Session.{text_at};
 
 use rope_search_io::Fault;
 use ropey::Rope;
-use std::alloc::Global;
+use std::alloc::{AllocError, Global};
 use std::marker::Model;
 
 /// One or more texts, from the oldest on, of which one is current. They share the memory of what
@@ -26,6 +26,21 @@ impl Model for History {
     ghost view = { λ h. record { texts = map text_of h.texts.items; current = h.current } };
 
     ghost invariant = { λ h. h.current < vec_len h.texts };
+}
+
+/// Puts a text behind the first ones, as many as told, in place of all that stand there.
+fn push_at(texts: &mut Vec<Rope>, len: usize, text: Rope) -> Result<(), AllocError>
+    requires { len ≤ vec_len texts.old }
+    ensures ok { OnOk result (texts.new.items ≡ take len texts.old.items ++ text ∷ []) }
+    ensures err { OnErr result (texts.new.items ≡ texts.old.items) }
+{
+    if len == texts.len() {
+        texts.push(text)?;
+        return Ok(());
+    }
+    texts.truncate(len);
+    texts.push_reserved(text);
+    Ok(())
 }
 
 impl History {
@@ -97,9 +112,7 @@ impl History {
         ensures err { OnErr result (self.new ≡ self.old) }
     {
         let next = self.current + 1;
-        self.texts.reserve(1)?;
-        self.texts.truncate(next);
-        self.texts.push_reserved(text);
+        push_at(&mut self.texts, next, text)?;
         self.current = next;
         Ok(())
     }

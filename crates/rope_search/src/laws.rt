@@ -6,7 +6,7 @@ ghost use Rattle.rope_search.specs.Order.{Order, PrintText, ListMatches};
 ghost use Rattle.rope_search.specs.Session.{State};
 ghost use Rattle.rope_search.specs.declared.commands.CommandOf.{CommandOf};
 ghost use Rattle.rope_search.specs.declared.commands.Payload.{Payload};
-ghost use Rattle.rope_search.specs.Laws.{HasOneReading, HasOneStep, HasOneCost, EndsAtBadLine, HasAnswer, HasOneShow, StandsForSome, UndoUndoesEdit, RedoRedoesUndo, RepliesAlike};
+ghost use Rattle.rope_search.specs.Laws.{HasOneReading, HasOneStep, HasOneCost, EndsAtBadLine, HasAnswer, HasOneShow, StandsForSome, UndoUndoesEdit, RedoRedoesUndo, RepliesAlike, KeptIsAnew, ListsBoundaries, NoneIsNowhereOrTurned};
 ghost use Rattle.rope_search.specs.Step.{Answer};
 
 /// Each input has exactly one reading: a list of commands, and how it ends.
@@ -74,4 +74,27 @@ pub fn replies_alike()
     ensures print { RepliesAlike PrintText }
 {
     rope_search_reports::laws::one_report();
+}
+
+/// The report that a session keeps is the one that setting its pattern anew would give.
+pub fn kept_is_anew()
+    ensures { KeptIsAnew }
+{
+    rope_search_reports::laws::one_report();
+}
+
+/// Whatever commands came before, each match of the report starts and ends at a boundary of the
+/// text, and its columns are those of two positions of its line.
+pub fn matches_at_boundaries()
+    ensures { ListsBoundaries }
+{
+    rope_search_reports::laws::matches_at_boundaries();
+}
+
+/// Nothing stands between two positions, and an edit is refused, exactly where one of them is
+/// nowhere in the text or the second is before the first.
+pub fn none_is_nowhere_or_turned()
+    ensures { NoneIsNowhereOrTurned }
+{
+    rope_search_reports::laws::one_place();
 }

@@ -3,6 +3,7 @@ ghost use Rattle.std.specs.Prelude.{◌≡◌, ◌+◌, ◌<◌, ◌≤◌, ◌�
 ghost use Rattle.rope_search.specs.Order.{Order, SetText, EditText, UndoEdit, RedoEdit, SetPattern, ListMatches};
 ghost use Rattle.rope_search.specs.Session.{first, fresh, current_text, chosen_buffer, with_pattern, with_chosen};
 ghost use Rattle.rope_search_reports.specs.Pattern.{pattern_limit};
+ghost use Rattle.rope_search.specs.Laws.{HasCurrent};
 ghost use Rattle.rope_search.specs.Step.{Step};
 ghost use Rattle.rope_search.specs.Stands.{Stands, StandsFor};
 ghost use Rattle.rope_search.specs.Cost.{Costs, whole_searches};
@@ -57,12 +58,16 @@ impl Session {
 
     /// The chosen buffer. `O(1)`.
     pub fn buffer(&self) -> &Buffer
-        ensures { result.now ≡ record {
+        ensures buffer { result.now ≡ record {
           limit = self.now.limit;
           state = chosen_buffer self.now.state;
         } }
+        ensures current { HasCurrent self.now.state }
     {
-        &self.buffers[self.chosen]
+        let buffer = &self.buffers[self.chosen];
+        // For its facts alone.
+        let _ = buffer.text();
+        buffer
     }
 
     /// The allocator that the session was made with.

@@ -13,3 +13,4 @@ pub mod ReportLaws
 pub mod TextExamples
 pub mod PositionExamples
 pub mod ReportExamples
+mod BoundaryLemmas

@@ -24,7 +24,7 @@ scalars-joined (c ∷ cs) t one other =
     and_from _ _ both.0 (scalars-joined cs t both.1 other)
 
 -- those of two joined texts
-scalars-parts : (s t : List ℕ) → all_scalars (s ++ t) ≡ true → (all_scalars s ≡ true) × (all_scalars t ≡ true)
+pub scalars-parts : (s t : List ℕ) → all_scalars (s ++ t) ≡ true → (all_scalars s ≡ true) × (all_scalars t ≡ true)
 scalars-parts [] t h = (refl, h)
 scalars-parts (c ∷ cs) t h =
     let both = and_parts _ _ h in

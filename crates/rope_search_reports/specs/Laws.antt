@@ -1,10 +1,11 @@
 -- Laws of the definitions themselves.
-use Rattle.std.specs.Prelude.{◌≡◌, ℕ, ◌+◌, ◌<◌, ◌≤◌, List, length}
+use Rattle.std.specs.Prelude.{◌≡◌, ℕ, ◌+◌, ◌<◌, ◌≤◌, List, [], length, All, slice_index_or}
 use Rattle.str_indices.specs.Text.{units, char_ends, unit_ends, break_ends}
 use Rattle.str_indices.specs.Laws.{AnyTexts, EndsAddUp, LastEndIsBefore, LastUnitStartIsBefore, CharsAndBoundariesAgree, UnitsAndBoundariesAgree, EndsAndPlacesAgree, EndsAreBoundaries, UnitStartsAreBoundaries, NoMoreThanBytes}
 use Rattle.ropey.specs.Chunks.{is_break}
 use Rattle.rope_search_reports.specs.Text.{IsText, bytes_of, line_count}
-use Rattle.rope_search_reports.specs.Position.{line_at, IsAt, LiesInPlace}
+use Rattle.rope_search_reports.specs.Pattern.{IsPattern}
+use Rattle.rope_search_reports.specs.Position.{line_at, IsAt, StandsAtBoundaries, LiesInPlace}
 use Rattle.rope_search_reports.specs.Report.{IsMatches, IsReport, match_count}
 use Rattle.rope_search_reports.specs.Computed.{matches, report}
 
@@ -45,6 +46,12 @@ PlacesAreInLines = (text : List ℕ) (place : ℕ) → line_at text place < line
 abbrev pub HasOnePlace : Type 0
 HasOnePlace = (text : List ℕ) (spot : ℕ × ℕ) (place place' : ℕ)
     → IsText text → IsAt text spot place → IsAt text spot place' → place ≡ place'
+
+-- each match of a report starts and ends at a boundary of the text, in its row's line
+abbrev pub MatchesStandAtBoundaries : Type 0
+MatchesStandAtBoundaries = (text pattern : List ℕ) (rows : List (List (ℕ × ℕ))) (line : ℕ)
+    → IsText text → IsText pattern → IsPattern pattern → IsReport text pattern rows
+    → All (StandsAtBoundaries text line) (slice_index_or rows line [])
 
 -- each line of a text lies in its place
 abbrev pub HasLinesInPlace : Type 0

@@ -44,6 +44,15 @@ pub record IsAt (text : List ℕ) (spot : ℕ × ℕ) (place : ℕ) : Type 0 whe
 abbrev pub IsNowhere : List ℕ → ℕ × ℕ → Type 0
 IsNowhere text spot = (place : ℕ) → IsAt text spot place → ⊥
 
+-- a match in a line, told by two columns: it starts at a boundary of the text and ends at one, and
+-- each is at its column of that line
+pub record StandsAtBoundaries (text : List ℕ) (line : ℕ) (shown : ℕ × ℕ) : Type 0 where
+  pub start : ℕ
+  pub end : ℕ
+  pub starts : IsAt text (line, shown.0) start
+  pub ends : IsAt text (line, shown.1) end
+  pub ordered : start ≤ end
+
 -- ---- where a line lies in its text
 
 -- the last line: nothing stands behind its text, which ends where the whole text does

@@ -1,7 +1,7 @@
 //! Laws of the definitions that the contracts of this crate cite. Each function does nothing: its
 //! contract is the law.
 
-ghost use Rattle.rope_search_reports.specs.Laws.{HasOneListOfMatches, HasMatches, HasFewMatches, HasOneReport, HasReport, HasARowALine, PlacesAreInLines, HasOnePlace, HasLinesInPlace, PlaceLaws};
+ghost use Rattle.rope_search_reports.specs.Laws.{HasOneListOfMatches, HasMatches, HasFewMatches, HasOneReport, HasReport, HasARowALine, PlacesAreInLines, HasOnePlace, MatchesStandAtBoundaries, HasLinesInPlace, PlaceLaws};
 ghost use Rattle.rope_search_reports.specs.Splice.{EditsSpliceLines, KeepsRows};
 
 /// A pattern has at most one list of matches in a content.
@@ -42,6 +42,14 @@ pub fn places_are_in_lines()
 /// A position is at one place of a text at most.
 pub fn one_place()
     ensures { HasOnePlace }
+{
+    places();
+}
+
+/// Each match of a report starts and ends at a boundary of the text: its columns are those of two
+/// positions of its row's line.
+pub fn matches_at_boundaries()
+    ensures { MatchesStandAtBoundaries }
 {
     places();
 }

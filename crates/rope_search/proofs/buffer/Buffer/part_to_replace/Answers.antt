@@ -17,7 +17,7 @@ returns-then-is_over-clause-size c =
     let known = long_known c.one_place.ensures limit text c.args.from c.args.to c.in-Some.part (chars c.args.inserted.now) len
     c.in-Some.ensures.part (ap length (encodes-chars c.args.inserted.now c.utf8.inserted)) in
     let over : GetsTooLong limit text c.args.from c.args.to len = known.0 (c.is_over.ensures.0 c.if-is_over.true) in (
-      λ e. subst (λ n. GetsTooLong n (current_text c.args.self.now.state) c.args.from c.args.to len) same (subst (λ t. GetsTooLong limit t c.args.from c.args.to len) c.text-text.ensures over),
+      λ e. subst (λ n. GetsTooLong n (current_text c.args.self.now.state) c.args.from c.args.to len) same (subst (λ t. GetsTooLong limit t c.args.from c.args.to len) c.text-text.ensures.text over),
       λ h. refl,
     )
 
@@ -31,6 +31,6 @@ returns-clause-size c =
     c.in-Some.ensures.part (ap length (encodes-chars c.args.inserted.now c.utf8.inserted)) in
     let short : GetsTooLong limit text c.args.from c.args.to len → ⊥ = λ h. true≢false (sym (c.is_over.ensures.1 (known.1 h)) ∙ c.if-is_over.false) in (
       λ e. absurd (cc),
-      λ h. absurd (short (subst (λ t. GetsTooLong limit t c.args.from c.args.to len) (sym c.text-text.ensures)
+      λ h. absurd (short (subst (λ t. GetsTooLong limit t c.args.from c.args.to len) (sym c.text-text.ensures.text)
           (subst (λ n. GetsTooLong n (current_text c.args.self.now.state) c.args.from c.args.to len) (sym same) h))),
     )

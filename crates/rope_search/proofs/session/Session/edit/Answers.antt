@@ -100,17 +100,17 @@ pub returns-in-Err-clause-step : goal.returns-in-Err-clause-step
 returns-in-Err-clause-step c = λ bytes stands.
     let given : bytes ≡ c.in-Kept.bytes.now = rw c.in-Kept.is at stands in
     let broken : ¬ (IsUtf8 bytes) = subst (λ bs. ¬ (IsUtf8 bs)) (sym given) c.in-Err.ensures.cases.0 in
-    Step-edit_utf8 c.buffer.result.now c.args.from c.args.to bytes c.args.self.now c.range_or.result (ap (λ (b : LimitedBuffer). b.state) c.buffer.ensures) c.range_or.ensures broken
+    Step-edit_utf8 c.buffer.result.now c.args.from c.args.to bytes c.args.self.now c.range_or.result (ap (λ (b : LimitedBuffer). b.state) c.buffer.ensures.buffer) c.range_or.ensures broken
 
 pub returns-in-Long-true-clause-step : goal.returns-in-Long-true-clause-step
 returns-in-Long-true-clause-step c = λ bytes stands.
     let long = rw c.in-Long-true.is at stands in
     let told : c.in-Long-true.utf8 ≡ true = cc in
     Step-edit_long c.buffer-in-Long-true.result.now c.args.from c.args.to bytes c.args.self.now c.range_or-in-Long-true.result
-    (ap (λ (b : LimitedBuffer). b.state) c.buffer-in-Long-true.ensures) c.range_or-in-Long-true.ensures (long.1.0 told) long.0
+    (ap (λ (b : LimitedBuffer). b.state) c.buffer-in-Long-true.ensures.buffer) c.range_or-in-Long-true.ensures (long.1.0 told) long.0
 
 pub returns-in-Long-false-clause-step : goal.returns-in-Long-false-clause-step
 returns-in-Long-false-clause-step c = λ bytes stands.
     let long = rw c.in-Long-false.is at stands in
     Step-edit_utf8 c.buffer-in-Long-false.result.now c.args.from c.args.to bytes c.args.self.now c.range_or-in-Long-false.result
-    (ap (λ (b : LimitedBuffer). b.state) c.buffer-in-Long-false.ensures) c.range_or-in-Long-false.ensures (λ text. absurd (let e = long.1.1 text in cc))
+    (ap (λ (b : LimitedBuffer). b.state) c.buffer-in-Long-false.ensures.buffer) c.range_or-in-Long-false.ensures (λ text. absurd (let e = long.1.1 text in cc))

@@ -1,0 +1,147 @@
+-- Texts and patterns of a session are lists of scalar values, so its matches are at boundaries; and
+-- its report is that of its pattern set anew.
+use Rattle.std.proofs.Common.{◌≡◌, ℕ, ◌+◌, ◌<◌, ◌≤◌, true, List, [], ◌∷◌, ◌++◌, length, take, slice_index_or, refl, sym, ap, ◌∙◌, subst, All, arith, inl, inr}
+use Rattle.std.specs.Prelude.{Option, None, Some, MatchOption, IfSome, Ok, Err, chars}
+use Rattle.std.specs.Str.{all_scalars}
+use Rattle.std.proofs.lemmas.Bool.{cases_lt, and_parts, and_from}
+use Rattle.std.proofs.lemmas.List.{get_or_past, set-get_or}
+use Rattle.std.proofs.lemmas.List.Elements.{All-nil, All-cons, All-append, All-take, All-set}
+use Rattle.rope_search_io.specs.declared.faults.Fault.{Fault}
+use Rattle.rope_search_io.specs.declared.faults.Fault.TheVariants.{Pattern, Limit, Memory}
+use Rattle.rope_search.specs.declared.commands.Reply.{Reply}
+use Rattle.rope_search.specs.declared.commands.Reply.TheVariants.{Done, Number, List as Listing, Print}
+use Rattle.rope_search_reports.specs.Text.{IsText, Encodes}
+use Rattle.rope_search_reports.specs.Pattern.{IsPattern, pattern_limit}
+use Rattle.rope_search_reports.specs.Position.{StandsAtBoundaries}
+use Rattle.rope_search_reports.specs.Report.{IsReport}
+use Rattle.rope_search_reports.specs.Laws.{HasOneReport, MatchesStandAtBoundaries}
+use Rattle.rope_search.specs.Order.{Order, SetText, EditText, UndoEdit, RedoEdit, PrintText, ForkBuffer, SetPattern, DropPattern, ListMatches, UseBuffer}
+use Rattle.rope_search.specs.Places.{IsEdit}
+use Rattle.rope_search.specs.Session.{BufferState, State, first, fresh, current_text, chosen_buffer, with_pattern, with_chosen, IsReportIn}
+use Rattle.rope_search.specs.Step.{Answer, Accepts, Does, Step}
+use Rattle.rope_search.specs.Answers.{Run}
+use Rattle.rope_search.specs.Laws.{KeptIsAnew, ListsBoundaries}
+use Rattle.rope_search.proofs.HistoryLaws.{same_report}
+use Rattle.rope_search.proofs.PatternLemmas.{known_pattern}
+use Rattle.rope_search.proofs.StepLaws.{Encodes-chars}
+
+-- ---- scalar values
+
+scalars_joined : (s t : List ℕ) → IsText s → IsText t → IsText (s ++ t)
+scalars_joined [] t one other = other
+scalars_joined (c ∷ cs) t one other =
+    let both = and_parts _ _ one in
+    and_from _ _ both.0 (scalars_joined cs t both.1 other)
+
+scalars_parted : (s t : List ℕ) → IsText (s ++ t) → IsText s × IsText t
+scalars_parted [] t h = (refl, h)
+scalars_parted (c ∷ cs) t h =
+    let both = and_parts _ _ h in
+    let later = scalars_parted cs t both.1 in
+    (and_from _ _ both.0 later.0, later.1)
+
+-- ---- a session of texts
+
+-- the texts are texts, and the pattern is a pattern
+record HoldsTexts (buffer : BufferState) : Type 0 where
+  texts : All IsText buffer.texts
+  pattern : IfSome buffer.pattern (λ p. IsText p × IsPattern p)
+
+abbrev AllHold : State → Type 0
+AllHold session = All HoldsTexts session.buffers
+
+one_text : (text : List ℕ) → IsText text → All IsText (text ∷ [])
+one_text text is = All-cons IsText text [] is (All-nil IsText)
+
+holds_fresh : (text : List ℕ) → IsText text → HoldsTexts (fresh text)
+holds_fresh text is = record { texts = one_text text is; pattern = tt }
+
+chosen_holds : (s : State) → AllHold s → HoldsTexts (chosen_buffer s)
+chosen_holds s all = elim (cases_lt s.chosen (length s.buffers)) [
+  | inl inside ↦ all s.chosen (fresh []) inside
+  | inr past ↦ subst HoldsTexts (sym (get_or_past s.buffers s.chosen (fresh []) past)) (holds_fresh [] refl)
+]
+
+text_holds : (b : BufferState) → HoldsTexts b → IsText (current_text b)
+text_holds b h = elim (cases_lt b.current (length b.texts)) [
+  | inl inside ↦ h.texts b.current [] inside
+  | inr past ↦ subst IsText (sym (get_or_past b.texts b.current [] past)) refl
+]
+
+-- ---- commands keep it one
+
+set_chosen : (s t : State) (b : BufferState) → AllHold s → HoldsTexts b → t ≡ with_chosen s b → AllHold t
+set_chosen s t b all one is = subst AllHold (sym is) (All-set HoldsTexts s.buffers s.chosen b one all)
+
+unchanged : (s t : State) → AllHold s → t ≡ s → AllHold t
+unchanged s t all is = subst AllHold (sym is) all
+
+does_hold : (limit : ℕ) (s t : State) (o : Order) (r : Reply) → Accepts limit s o → Does s o r t → AllHold s → AllHold t
+does_hold limit s t (SetText payload) Done accepts does all =
+    set_chosen s t _ all (record { texts = one_text does.0 does.1.scalars; pattern = (chosen_holds s all).pattern }) does.2
+does_hold limit s t (EditText from to payload) Done accepts does all =
+    let old = chosen_buffer s in
+    let h = chosen_holds s all in
+    let edit = does.3 in
+    let whole = subst IsText edit.between.parts (text_holds old h) in
+    let parted = scalars_parted (edit.before ++ edit.part) edit.behind whole in
+    let front = scalars_joined edit.before does.0 (scalars_parted edit.before edit.part parted.0).0 does.2.scalars in
+    let text = scalars_joined (edit.before ++ does.0) edit.behind front parted.1 in
+    let texts = All-append IsText (take (old.current + 1) old.texts) ((edit.before ++ does.0 ++ edit.behind) ∷ []) (All-take IsText (old.current + 1) old.texts h.texts) (one_text _ text) in
+    set_chosen s t does.1 all (subst HoldsTexts (sym edit.changed) (record { texts = texts; pattern = h.pattern })) does.4
+does_hold limit s t UndoEdit Done accepts does all = let h = chosen_holds s all in set_chosen s t _ all (record { texts = h.texts; pattern = h.pattern }) does
+does_hold limit s t RedoEdit Done accepts does all = let h = chosen_holds s all in set_chosen s t _ all (record { texts = h.texts; pattern = h.pattern }) does
+does_hold limit s t PrintText Print accepts does all = unchanged s t all does
+does_hold limit s t ForkBuffer (Number k) accepts does all =
+    let one = holds_fresh (current_text (chosen_buffer s)) (text_holds (chosen_buffer s) (chosen_holds s all)) in
+    let others = All-cons HoldsTexts (fresh (current_text (chosen_buffer s))) [] one (All-nil HoldsTexts) in
+    subst AllHold (sym does.1) (All-append HoldsTexts s.buffers (fresh (current_text (chosen_buffer s)) ∷ []) all others)
+does_hold limit s t (SetPattern payload) Done accepts does all =
+    let h = chosen_holds s all in
+    let chars_is = Encodes-chars does.0 payload does.1 in
+    let few = within (length payload) (accepts Limit) in
+    let is = known_pattern (chars payload) (λ none. accepts Pattern (few, none)) in
+    set_chosen s t _ all (record { texts = h.texts; pattern = (does.1.scalars, subst IsPattern (sym chars_is) is) }) does.2
+  where
+    within : (n : ℕ) → (pattern_limit < n → ⊥) → n ≤ pattern_limit
+    within n low = elim (cases_lt pattern_limit n) [ inl high ↦ absurd (low high) | inr not_high ↦ omega (arith, not_high) ]
+does_hold limit s t DropPattern Done accepts does all = let h = chosen_holds s all in set_chosen s t _ all (record { texts = h.texts; pattern = tt }) does
+does_hold limit s t ListMatches Listing accepts does all = unchanged s t all does
+does_hold limit s t (UseBuffer k) Done accepts does all = subst AllHold (sym does) all
+does_hold limit s t o r accepts does all = absurd does
+
+step_holds : (limit : ℕ) (s t : State) (o : Order) (a : Answer) → Step limit s o a t → AllHold s → AllHold t
+step_holds limit s t o (Ok r) step all = does_hold limit s t o r step.0 step.1 all
+step_holds limit s t o (Err Memory) step all = unchanged s t all step.1
+step_holds limit s t o (Err fault) step all = unchanged s t all step.1
+
+run_holds : (limit : ℕ) (s t : State) (os : List Order) (out : List ℕ) (cost : ℕ) → Run limit s os out cost t → AllHold s → AllHold t
+run_holds limit s t [] out cost run all = unchanged s t all run.2
+run_holds limit s t (o ∷ os) out cost run all = run_holds limit run.new t os run.later run.later_cost run.others (step_holds limit s run.new o run.answer run.step all)
+
+first_holds : AllHold first
+first_holds = All-cons HoldsTexts (fresh []) [] (holds_fresh [] refl) (All-nil HoldsTexts)
+
+-- ---- where matches stand
+
+pub boundaries_listed : MatchesStandAtBoundaries → ListsBoundaries
+boundaries_listed law limit orders out cost session rows line run report =
+    let buffer = chosen_buffer session in
+    let h = chosen_holds session (run_holds limit first session orders out cost run first_holds) in
+    told law (current_text buffer) buffer.pattern rows line (text_holds buffer h) h.pattern report
+  where
+    told : MatchesStandAtBoundaries → (text : List ℕ) (p : Option (List ℕ)) (rows : List (List (ℕ × ℕ))) (line : ℕ) → IsText text → IfSome p (λ q. IsText q × IsPattern q)
+        → MatchOption p (rows ≡ []) (λ q. IsReport text q rows) → All (StandsAtBoundaries text line) (slice_index_or rows line [])
+    told law text None rows line scalars none is = subst (λ rs. All (StandsAtBoundaries text line) (slice_index_or rs line [])) (sym is) (All-nil (StandsAtBoundaries text line))
+    told law text (Some q) rows line scalars some is = law text q rows line scalars some.0 some.1 is
+
+-- ---- a pattern set anew
+
+pub kept_anew : HasOneReport → KeptIsAnew
+kept_anew one limit old new pattern payload Done rows anew had spelled step kept made =
+    let buffer = chosen_buffer old in
+    let same : step.1.0 ≡ pattern = Encodes-chars step.1.0 payload step.1.1 ∙ sym (Encodes-chars pattern payload spelled) in
+    let again : with_pattern buffer (Some step.1.0) ≡ buffer = ap (λ p. with_pattern buffer (Some p)) same ∙ ap (with_pattern buffer) (sym had) in
+    let stays : new ≡ old = step.1.2 ∙ ap (with_chosen old) again ∙ ap (λ bs. record { buffers = bs; chosen = old.chosen }) (set-get_or old.buffers old.chosen (fresh [])) in
+    same_report one buffer (chosen_buffer new) rows anew (ap (λ s. current_text (chosen_buffer s)) (sym stays)) (ap (λ (s : State). (chosen_buffer s).pattern) (sym stays)) kept made
+kept_anew one limit old new pattern payload other rows anew had spelled step kept made = absurd step.1
