@@ -6,9 +6,8 @@ use Rattle.std.proofs.lemmas.Bool.Decides.{nat_tests}
 use Rattle.std.proofs.lemmas.List.{take_all, drop_all, drop-append-le, get_or_past}
 use Rattle.str_indices.specs.Text.{byte_len, breaks, char_ends, ends_up_to}
 use Rattle.str_indices.specs.FirstBreak.{IsBreak}
-use Rattle.ropey_walk.specs.Clips.{pieces_from_char, pieces_to_char, clip}
-use Rattle.ropey_walk.specs.Conversions.{char_of_line}
 use Rattle.ropey.specs.Chunks.{is_break, text_of}
+use Rattle.ropey.specs.Slices.{pieces_from_char, pieces_to_char, clip, char_of_line}
 use Rattle.rope_search_reports.specs.Text.{line_count}
 use Rattle.rope_search_reports.specs.Report.{line_texts}
 use Rattle.rope_search_reports.specs.Drafts.{HasLines}

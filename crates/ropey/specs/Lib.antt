@@ -4,4 +4,5 @@ pub mod Edits
 pub mod Iter
 pub mod Laws
 pub mod Reading
+pub mod Slices
 pub mod Writing

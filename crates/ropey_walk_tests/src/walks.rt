@@ -296,7 +296,14 @@ fn check_chunks(rt: &impl Abort, alloc: Global, slice: RopeSlice<'_>) -> Result<
 
 #[test]
 fn every_walk_over_small_slices(rt: HostRuntime) -> Result<(), Fail> {
-    for (len, texts, cuttings) in [(0, 1, 1), (1, 4, 1), (2, 16, 2), (3, 64, 4), (4, 256, 8)] {
+    for (len, texts, cuttings) in [
+        (0, 1, 1),
+        (1, 4, 1),
+        (2, 16, 2),
+        (3, 64, 4),
+        (4, 256, 8),
+        (5, 1_024, 16),
+    ] {
         for number in 0..texts {
             let chars = small_text(rt.alloc(), len, number)?;
             for cuts in 0..cuttings {

@@ -1,7 +1,7 @@
 //! Automata against the members of their sets.
 
 use rx_automata::SetAutomaton;
-use rx_sets::{AtomSets, CharacterSet, ClassItem, ClassPerlKind, from_ordinal};
+use rx_sets::{AtomSets, CharacterSet, ClassItem, ClassPerlKind, from_ordinal, ordinal};
 use std::alloc::Global;
 use std::rc::Rc;
 use std::str;
@@ -73,6 +73,15 @@ fn dot(rt: HostRuntime) -> Result<(), Fail> {
 }
 
 #[test]
+fn all_but_a_letter(rt: HostRuntime) -> Result<(), Fail> {
+    let alloc = rt.alloc();
+    let mut sets = AtomSets::new(alloc);
+    let letter = [ClassItem::Span('a', 'a')];
+    assert!(rt; is_right(alloc, sets.class(false, true, &letter)?)?);
+    Ok(())
+}
+
+#[test]
 fn surrogates_lie_between(rt: HostRuntime) -> Result<(), Fail> {
     let alloc = rt.alloc();
     let mut sets = AtomSets::new(alloc);
@@ -118,5 +127,49 @@ fn any_bytes(rt: HostRuntime) -> Result<(), Fail> {
     }
     assert_eq!(rt; taken(&automaton, &[0xE2, 0x82]), None);
     assert_eq!(rt; taken(&automaton, &[]), None);
+    Ok(())
+}
+
+/// How many bytes the first character takes, where the bytes begin with one of the set's.
+fn member_length(set: &CharacterSet, bytes: &[u8]) -> Option<usize> {
+    let length = first_length(bytes)?;
+    let text = str::from_utf8(bytes.get(..length)?).ok()?;
+    let first = text.chars().next()?;
+    if set.contains(ordinal(first)) {
+        Some(length)
+    } else {
+        None
+    }
+}
+
+/// Whether the set's automaton reads bytes at random rightly. Most of them are no UTF-8.
+fn is_right_at_random(alloc: Global, set: Rc<CharacterSet>) -> Result<bool, Fail> {
+    let automaton = SetAutomaton::new(alloc, set.clone()?)?;
+    let mut seed: u64 = 1;
+    for _ in 0..100_000 {
+        seed = seed
+            .wrapping_mul(6_364_136_223_846_793_005)
+            .wrapping_add(1_442_695_040_888_963_407);
+        let [a, b, c, d, _, _, _, _] = seed.to_be_bytes();
+        let bytes = [a, b, c, d];
+        if taken(&automaton, &bytes) != member_length(&set, &bytes) {
+            return Ok(false);
+        }
+    }
+    Ok(true)
+}
+
+#[test]
+fn bytes_at_random(rt: HostRuntime) -> Result<(), Fail> {
+    let alloc = rt.alloc();
+    let mut sets = AtomSets::new(alloc);
+    let word = [ClassItem::Perl(ClassPerlKind::Word, false)];
+    let letter = [ClassItem::Span('a', 'a')];
+    let both = [ClassItem::Span('\u{D7FF}', '\u{E000}')];
+    assert!(rt; is_right_at_random(alloc, sets.class(false, false, &word)?)?);
+    assert!(rt; is_right_at_random(alloc, sets.class(false, true, &word)?)?);
+    assert!(rt; is_right_at_random(alloc, sets.all_but('\n')?)?);
+    assert!(rt; is_right_at_random(alloc, sets.class(false, true, &letter)?)?);
+    assert!(rt; is_right_at_random(alloc, sets.class(false, false, &both)?)?);
     Ok(())
 }

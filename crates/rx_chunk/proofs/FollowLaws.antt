@@ -7,14 +7,14 @@ use Rattle.rx_program.specs.declared.states.State.TheVariants as state
 use Rattle.rx_program.specs.Programs.{ByteProgram}
 use Rattle.rx_program.specs.Code.{place_of}
 use Rattle.rx_automata.specs.Automata.{step_of}
-use Rattle.rx_walks.specs.Machines.{Machine, Move, ends, goes, reads}
+use Rattle.rx_walks.specs.Machines.{Machine, Outcome, Move, ends, goes, reads}
 use Rattle.rx_walks.specs.Walks.{IsNew}
 use Rattle.rx_walks.specs.Programs.{only_if}
 use Rattle.rx_walks.specs.Bytes.{read_on}
 use Rattle.rx_walks.specs.Steps.{Steps, passed, met, opened, read}
 use Rattle.rx_chunk.specs.declared.place.Place.{Place}
 use Rattle.rx_chunk.specs.Nodes.{width_of, widths_of, index_from, MayStand, IsNodeOf, IsInserted}
-use Rattle.rx_chunk.specs.Lists.{bare, move_at, read_next, is_among, waiting, first_node, IsMade, MakesMoves, Tells, IsUnderWay, IsFollowed, met_at, fan_of, widest_fan}
+use Rattle.rx_chunk.specs.Lists.{bare, move_at, read_next, is_among, waiting, first_node, IsMade, MakesMoves, Tells, AreUnderWay, IsUnderWay, IsFollowed, fan_of, widest_fan}
 use Rattle.rx_chunk.proofs.IndexLaws.{one_index, behind, same_number}
 
 abbrev Bare : Type 0
@@ -121,19 +121,19 @@ behind_reads place i q (state.Union alternates) past may = absurd (omega (arith,
 behind_reads place i q (state.Capture slot r) past may = absurd (omega (arith, past, may))
 behind_reads place i q (state.Match k) past may = absurd (omega (arith, past, may))
 
--- ---- following
+-- ---- following a thread, whatever walks note
 
-pub follow_seen : (m : Bare) (i : ℕ) (nodes : List (ℕ × ℕ)) (widths ids : List ℕ) (q : ℕ × ℕ) (k : ℕ) (left out : List (ℕ × ℕ)) → index_from 0 widths q.0 q.1 ≡ Some k → Contains ids k
-    → IsUnderWay m i nodes widths ids (q ∷ left) out → IsUnderWay m i nodes widths ids left out
-follow_seen m i nodes widths ids q k left out at c way = record {
+pub thread_seen : {N : Type 0} (m : Machine (ℕ × ℕ) N) (i : ℕ) (threads : List (N × (ℕ × ℕ))) (widths ids : List ℕ) (n : N) (q : ℕ × ℕ) (k : ℕ) (left out : List (N × (ℕ × ℕ))) → index_from 0 widths q.0 q.1 ≡ Some k → Contains ids k
+    → AreUnderWay m i threads widths ids ((n, q) ∷ left) out → AreUnderWay m i threads widths ids left out
+thread_seen m i threads widths ids n q k left out at c way = record {
   seen = way.seen;
   tells = way.tells;
   so_far = λ next met' steps. way.so_far next met' (passed ((way.tells q k at).1 c) steps);
 }
 
-pub follow_nowhere : (m : Bare) (i : ℕ) (nodes : List (ℕ × ℕ)) (widths ids : List ℕ) (q : ℕ × ℕ) (left out : List (ℕ × ℕ)) → index_from 0 widths q.0 q.1 ≡ None → m.move i q ≡ goes []
-    → IsUnderWay m i nodes widths ids (q ∷ left) out → IsUnderWay m i nodes widths ids left out
-follow_nowhere m i nodes widths ids q left out at is way = elim (seen_or_new way.seen q) [
+pub thread_nowhere : {N : Type 0} (m : Machine (ℕ × ℕ) N) (i : ℕ) (threads : List (N × (ℕ × ℕ))) (widths ids : List ℕ) (n : N) (q : ℕ × ℕ) (left out : List (N × (ℕ × ℕ))) → index_from 0 widths q.0 q.1 ≡ None → m.move i q ≡ goes []
+    → AreUnderWay m i threads widths ids ((n, q) ∷ left) out → AreUnderWay m i threads widths ids left out
+thread_nowhere m i threads widths ids n q left out at is way = elim (seen_or_new way.seen q) [
   | inl c ↦ record { seen = way.seen; tells = way.tells; so_far = λ next met' steps. way.so_far next met' (passed c steps) }
   | inr new ↦ record {
     seen = q ∷ way.seen;
@@ -142,6 +142,37 @@ follow_nowhere m i nodes widths ids q left out at is way = elim (seen_or_new way
   }
 ]
 
+-- at a node that wasn't seen a match ends, or empty edges lead on, or a byte is read
+
+pub thread_ends : {N : Type 0} (m : Machine (ℕ × ℕ) N) (i : ℕ) (threads : List (N × (ℕ × ℕ))) (widths ids : List ℕ) (n : N) (q : ℕ × ℕ) (k p : ℕ) (left out : List (N × (ℕ × ℕ))) → index_from 0 widths q.0 q.1 ≡ Some k → (Contains ids k → ⊥)
+    → m.move i q ≡ ends p → AreUnderWay m i threads widths ids ((n, q) ∷ left) out → Steps m i [] threads out (Some (record { pattern = p; end = i; notes = n }))
+thread_ends {N} m i threads widths ids n q k p left out at none is way =
+    let new : IsNew way.seen q = λ c. none ((way.tells q k at).0 c) in
+    let ending : Option (Outcome N) = Some (record { pattern = p; end = i; notes = n }) in
+    subst (λ xs. Steps m i [] threads xs ending) (append-nil out) (way.so_far [] ending (met new is))
+
+pub thread_goes : {N : Type 0} (m : Machine (ℕ × ℕ) N) (i : ℕ) (threads : List (N × (ℕ × ℕ))) (widths ids : List ℕ) (n : N) (q : ℕ × ℕ) (k : ℕ) (rs : List (ℕ × ℕ)) (left out : List (N × (ℕ × ℕ))) → index_from 0 widths q.0 q.1 ≡ Some k
+    → (Contains ids k → ⊥) → m.move i q ≡ goes rs → AreUnderWay m i threads widths ids ((n, q) ∷ left) out → AreUnderWay m i threads widths (ids ++ k ∷ []) (map (λ r. (m.note i q n, r)) rs ++ left) out
+thread_goes m i threads widths ids n q k rs left out at none is way =
+    let new : IsNew way.seen q = λ c. none ((way.tells q k at).0 c) in
+    record {
+      seen = q ∷ way.seen;
+      tells = tells_more widths ids way.seen q k at way.tells;
+      so_far = λ on end steps. way.so_far on end (opened rs new is steps);
+    }
+
+pub thread_reads : {N : Type 0} (m : Machine (ℕ × ℕ) N) (i : ℕ) (threads : List (N × (ℕ × ℕ))) (widths ids : List ℕ) (n : N) (q r : ℕ × ℕ) (k : ℕ) (left out : List (N × (ℕ × ℕ))) → index_from 0 widths q.0 q.1 ≡ Some k → (Contains ids k → ⊥)
+    → m.move i q ≡ reads r (i + 1) → AreUnderWay m i threads widths ids ((n, q) ∷ left) out → AreUnderWay m i threads widths (ids ++ k ∷ []) left (out ++ (n, r) ∷ [])
+thread_reads m i threads widths ids n q r k left out at none is way =
+    let new : IsNew way.seen q = λ c. none ((way.tells q k at).0 c) in
+    record {
+      seen = q ∷ way.seen;
+      tells = tells_more widths ids way.seen q k at way.tells;
+      so_far = λ on end steps. subst (λ xs. Steps m i [] threads xs end) (sym (append_assoc out ((n, r) ∷ []) on)) (way.so_far ((n, r) ∷ on) end (read r new is steps));
+    }
+
+-- ---- threads that note nothing
+
 all_bare : (f : Unit {0}) (rs : List (ℕ × ℕ)) → map (λ r. (f, r)) rs ≡ map bare rs
 all_bare tt rs = refl
 
@@ -149,29 +180,18 @@ pub follow_new : (m : Bare) (i : ℕ) (nodes : List (ℕ × ℕ)) (widths ids : 
     → index_from 0 widths q.0 q.1 ≡ Some k → (Contains ids k → ⊥) → m.move i q ≡ move → OnlyNext i move → IsMade move met' stack stack' next next'
     → IsUnderWay m i nodes widths ids (q ∷ waiting stack ++ others) next → IsFollowed m i nodes widths (ids ++ k ∷ []) (waiting stack' ++ others) next' met'
 follow_new m i nodes widths ids q k (ends p) met' stack stack' others next next' at none is only made way =
-    let new : IsNew way.seen q = λ c. none ((way.tells q k at).0 c) in
-    rw made.0 (rw made.1 (subst (λ xs. Steps m i [] (map bare nodes) xs (met_at i (Some p))) (append-nil (map bare next)) (way.so_far [] (met_at i (Some p)) (met new is))))
+    rw made.0 (rw made.1 (thread_ends m i (map bare nodes) widths ids tt q k p (map bare (waiting stack ++ others)) (map bare next) at none is way))
 follow_new m i nodes widths ids q k (goes rs) met' stack stack' others next next' at none is only made way =
-    let new : IsNew way.seen q = λ c. none ((way.tells q k at).0 c) in
     let split : map bare ((rs ++ waiting stack) ++ others) ≡ map bare rs ++ map bare (waiting stack ++ others) = ap (λ xs. map bare xs) (append_assoc rs (waiting stack) others) ∙ map-append bare rs (waiting stack ++ others) in
     let left : map bare (waiting stack' ++ others) ≡ map (λ r. (m.note i q tt, r)) rs ++ map bare (waiting stack ++ others) =
     ap (λ xs. map bare (xs ++ others)) made.1 ∙ split ∙ ap (λ xs. xs ++ map bare (waiting stack ++ others)) (sym (all_bare (m.note i q tt) rs)) in
-    rw made.0 (rw made.2 (record {
-      seen = q ∷ way.seen;
-      tells = tells_more widths ids way.seen q k at way.tells;
-      so_far = λ on end steps. way.so_far on end (opened rs new is (subst (λ xs. Steps m i (q ∷ way.seen) xs on end) left steps));
-    }))
+    rw made.0 (rw made.2 (subst (λ xs. AreUnderWay m i (map bare nodes) widths (ids ++ k ∷ []) xs (map bare next)) (sym left)
+    (thread_goes m i (map bare nodes) widths ids tt q k rs (map bare (waiting stack ++ others)) (map bare next) at none is way)))
 follow_new m i nodes widths ids q k (reads r j) met' stack stack' others next next' at none is only made way =
-    let new : IsNew way.seen q = λ c. none ((way.tells q k at).0 c) in
     let is_next : m.move i q ≡ reads r (i + 1) = is ∙ ap (λ x. reads r x) only in
     let put : map bare next' ≡ map bare next ++ bare r ∷ [] = ap (λ xs. map bare xs) made.2 ∙ map-append bare next (r ∷ []) in
-    rw made.0 (rw made.1 (record {
-      seen = q ∷ way.seen;
-      tells = tells_more widths ids way.seen q k at way.tells;
-      so_far = λ on end steps. subst (λ xs. Steps m i [] (map bare nodes) xs end)
-          (sym (ap (λ xs. xs ++ on) put ∙ append_assoc (map bare next) (bare r ∷ []) on))
-          (way.so_far (bare r ∷ on) end (read r new is_next steps));
-    }))
+    rw made.0 (rw made.1 (subst (λ xs. AreUnderWay m i (map bare nodes) widths (ids ++ k ∷ []) (map bare (waiting stack ++ others)) xs) (sym put)
+    (thread_reads m i (map bare nodes) widths ids tt q r k (map bare (waiting stack ++ others)) (map bare next) at none is_next way)))
 
 -- ---- the code's cases
 
@@ -189,13 +209,13 @@ no_width first (y ∷ states) (suc q) s e = no_width (first + width_of y) states
 pub entered_nowhere : (m : Bare) (i : ℕ) (nodes : List (ℕ × ℕ)) (p : ByteProgram) (place : Place) (ids : List ℕ) (q : ℕ × ℕ) (left out : List (ℕ × ℕ))
     → MakesMoves m i p.states place → slice_get p.states q.0 ≡ None → IsUnderWay m i nodes (widths_of p) ids (q ∷ left) out → IsUnderWay m i nodes (widths_of p) ids left out
 entered_nowhere m i nodes p place ids q left out moves here way =
-    follow_nowhere m i nodes (widths_of p) ids q left out (no_width 0 p.states q.0 q.1 here) (moves.elsewhere q here) way
+    thread_nowhere m i (map bare nodes) (widths_of p) ids tt q (map bare left) (map bare out) (no_width 0 p.states q.0 q.1 here) (moves.elsewhere q here) way
 
 pub entered_behind : (m : Bare) (i : ℕ) (nodes : List (ℕ × ℕ)) (p : ByteProgram) (place : Place) (ids : List ℕ) (q : ℕ × ℕ) (x : State) (left out : List (ℕ × ℕ))
     → MakesMoves m i p.states place → slice_get p.states q.0 ≡ Some x → IsNodeOf p.states q → index_from 0 (widths_of p) q.0 q.1 ≡ None
     → IsUnderWay m i nodes (widths_of p) ids (q ∷ left) out → IsUnderWay m i nodes (widths_of p) ids left out
 entered_behind m i nodes p place ids q x left out moves here may at way =
-    follow_nowhere m i nodes (widths_of p) ids q left out at
+    thread_nowhere m i (map bare nodes) (widths_of p) ids tt q (map bare left) (map bare out) at
     (moves.at_state q x here ∙ behind_reads place i q x (behind 0 p.states q.0 q.1 x here at) (subst (λ o. MayStand o q.1) here may)) way
 
 -- ---- what is left to do
@@ -222,7 +242,7 @@ pub skipped : (m : Bare) (i : ℕ) (nodes : List (ℕ × ℕ)) (p : ByteProgram)
     → IsUnderWay m i nodes (widths_of p) ids (q ∷ left) out → IsUnderWay m i nodes (widths_of p) ids' left out
 skipped m i nodes p place ids ids' q x left out None is_new at old is moves here may way = rw is.1 (entered_behind m i nodes p place ids q x left out moves here may at way)
 skipped m i nodes p place ids ids' q x left out (Some k) true at old is moves here may way = absurd (cc old)
-skipped m i nodes p place ids ids' q x left out (Some k) false at old is moves here may way = rw is.1 (follow_seen m i nodes (widths_of p) ids q k left out at is.0 way)
+skipped m i nodes p place ids ids' q x left out (Some k) false at old is moves here may way = rw is.1 (thread_seen m i (map bare nodes) (widths_of p) ids tt q k (map bare left) (map bare out) at is.0 way)
 
 pub if_ok : {A E : Type 0} {P Q : A → Type 0} (r : Result A E) → ((x : A) → P x → Q x) → IfOk r P → IfOk r Q
 if_ok (Ok x) f h = f x h

@@ -3,16 +3,16 @@ use Rattle.std.proofs.Common.{◌≡◌, ℕ, zero, suc, List, [], ◌∷◌, ma
 use Rattle.std.proofs.lemmas.List.{append-nil}
 use Rattle.rx_program.specs.declared.states.State.{State}
 use Rattle.rx_program.specs.declared.states.State.TheVariants as state
-use Rattle.rx_program.specs.Programs.{ByteProgram, node_of, automaton_of, automata_of}
+use Rattle.rx_program.specs.Programs.{ByteProgram, characters_of, node_of, automaton_of, automata_of}
 use Rattle.rx_program.specs.Code.{place_of}
 use Rattle.rx_automata.specs.Automata.{step_of}
 use Rattle.rx_walks.specs.Machines.{Machine, goes}
 use Rattle.rx_walks.specs.Looks as walks
 use Rattle.rx_walks.specs.Programs.{Haystack, only_if, left_from}
-use Rattle.rx_walks.specs.Bytes.{Automaton, by_byte, read_byte}
+use Rattle.rx_walks.specs.Bytes.{Automaton, by_byte, read_byte, over_bytes}
 use Rattle.rx_walks.specs.Steps.{Steps, done}
 use Rattle.rx_chunk.specs.declared.place.Place.{Place}
-use Rattle.rx_chunk.specs.Lists.{IsPlace, first_byte, first_node, bare, bare_machine, move_at, read_next, MakesMoves, IsUnderWay}
+use Rattle.rx_chunk.specs.Lists.{IsPlace, first_byte, first_node, move_at, read_next, MakesMoves, AreUnderWay}
 use Rattle.rx_chunk.proofs.FollowLaws.{tells_none}
 
 node_at : (states : List State) (q : ℕ) (x : State) → slice_get states q ≡ Some x → slice_get (map node_of states) q ≡ Some (node_of x)
@@ -45,8 +45,9 @@ moves_so p h i place q (state.Union alternates) here is = refl
 moves_so p h i place q (state.Capture slot r) here is = refl
 moves_so p h i place q (state.Match k) here is = refl
 
-pub moves_at_place : (p : ByteProgram) (h : Haystack walks.Look) (i : ℕ) (place : Place) → IsPlace h i place → MakesMoves (bare_machine p h) i p.states place
-moves_at_place p h i place here = record {
+-- whatever walks note
+pub moves_at_place : {N : Type 0} (put : ℕ → ℕ → N → N) (p : ByteProgram) (h : Haystack walks.Look) (i : ℕ) (place : Place) → IsPlace h i place → MakesMoves (over_bytes put (automata_of p) (characters_of p).nodes h) i p.states place
+moves_at_place put p h i place here = record {
   at_state = λ q x is. ap (λ b. only_if b (by_byte (automata_of p) h i q.0 q.1 (slice_get (map node_of p.states) q.0))) here.inside
       ∙ ap (λ o. by_byte (automata_of p) h i q.0 q.1 o) (node_at p.states q.0 x is)
       ∙ moves_so p h i place q x here is;
@@ -54,8 +55,8 @@ moves_at_place p h i place here = record {
       ∙ ap (λ o. by_byte (automata_of p) h i q.0 q.1 o) (no_node p.states q.0 is);
 }
 
-pub begun : (m : Machine (ℕ × ℕ) (Unit {0})) (i : ℕ) (nodes : List (ℕ × ℕ)) (widths : List ℕ) → IsUnderWay m i nodes widths [] nodes []
-begun m i nodes widths = record { seen = []; tells = tells_none widths; so_far = λ next met steps. steps }
+pub begun : {N : Type 0} (m : Machine (ℕ × ℕ) N) (i : ℕ) (threads : List (N × (ℕ × ℕ))) (widths : List ℕ) → AreUnderWay m i threads widths [] threads []
+begun m i threads widths = record { seen = []; tells = tells_none widths; so_far = λ next met steps. steps }
 
-pub over : (m : Machine (ℕ × ℕ) (Unit {0})) (i : ℕ) (widths ids : List ℕ) (from next : List (ℕ × ℕ)) → IsUnderWay m i from widths ids [] next → Steps m i [] (map bare from) (map bare next) None
-over m i widths ids from next way = subst (λ xs. Steps m i [] (map bare from) xs None) (append-nil (map bare next)) (way.so_far [] None done)
+pub over : {N : Type 0} (m : Machine (ℕ × ℕ) N) (i : ℕ) (widths ids : List ℕ) (threads next : List (N × (ℕ × ℕ))) → AreUnderWay m i threads widths ids [] next → Steps m i [] threads next None
+over m i widths ids threads next way = subst (λ xs. Steps m i [] threads xs None) (append-nil next) (way.so_far [] None done)

@@ -104,8 +104,8 @@ abbrev pub work_left : ByteProgram → List ℕ → List ℕ → ℕ
 work_left p ids stack =
     (end_from 0 (widths_of p) - length ids) * (widest_fan p.states + 1) + length stack
 
--- a machine makes these moves at a place
-pub record MakesMoves (m : Machine (ℕ × ℕ) (Unit {0})) (i : ℕ) (states : List State)
+-- a machine makes these moves at a place, whatever its walks note
+pub record MakesMoves {N : Type 0} (m : Machine (ℕ × ℕ) N) (i : ℕ) (states : List State)
     (place : Place) : Type 0 where
   pub at_state : (q : ℕ × ℕ) (x : State) → slice_get states q.0 ≡ Some x
       → m.move i q ≡ move_at place i q x
@@ -116,12 +116,18 @@ abbrev pub Tells : List ℕ → List ℕ → List (ℕ × ℕ) → Type 0
 Tells widths ids seen = (q : ℕ × ℕ) (k : ℕ) → index_from 0 widths q.0 q.1 ≡ Some k
     → (Contains seen q → Contains ids k) × (Contains ids k → Contains seen q)
 
--- a step that is not done yet, from these nodes: what was seen, what is left, what was put out
-pub record IsUnderWay (m : Machine (ℕ × ℕ) (Unit {0})) (i : ℕ) (nodes : List (ℕ × ℕ))
-    (widths ids : List ℕ) (left out : List (ℕ × ℕ)) : Type 0 where
+-- a step that is not done yet, from these threads: what was seen, what is left, what was put out
+pub record AreUnderWay {N : Type 0} (m : Machine (ℕ × ℕ) N) (i : ℕ) (threads : List (N × (ℕ × ℕ)))
+    (widths ids : List ℕ) (left out : List (N × (ℕ × ℕ))) : Type 0 where
   pub seen : List (ℕ × ℕ)
   pub tells : Tells widths ids seen
-  pub so_far : StepsSoFar m i (map bare nodes) seen (map bare left) (map bare out)
+  pub so_far : StepsSoFar m i threads seen left out
+
+-- the same of threads that note nothing
+abbrev pub IsUnderWay : Machine (ℕ × ℕ) (Unit {0}) → ℕ → List (ℕ × ℕ) → List ℕ → List ℕ
+    → List (ℕ × ℕ) → List (ℕ × ℕ) → Type 0
+IsUnderWay m i nodes widths ids left out =
+    AreUnderWay m i (map bare nodes) widths ids (map bare left) (map bare out)
 
 -- after a node was followed: the step is still under way, or it has met an end
 abbrev pub IsFollowed : Machine (ℕ × ℕ) (Unit {0}) → ℕ → List (ℕ × ℕ) → List ℕ → List ℕ

@@ -1,6 +1,6 @@
-use Rattle.std.proofs.Common.{◌≡◌, ℕ, zero, suc, ◌+◌, ◌<◌, ◌≤◌, List, [], ◌∷◌, length, drop, get_or, refl, sym, ap, subst, arith}
+use Rattle.std.proofs.Common.{◌≡◌, ℕ, zero, suc, ◌+◌, ◌<◌, ◌≤◌, List, [], ◌∷◌, length, map, drop, get_or, refl, sym, ap, subst, arith}
 use Rattle.rx_chunk.specs.Nodes.{widths_of}
-use Rattle.rx_chunk.specs.Lists.{bare_machine, IsUnderWay, IsFollowed}
+use Rattle.rx_chunk.specs.Lists.{bare, bare_machine, note_nothing, IsUnderWay, IsFollowed}
 use Rattle.rx_chunk.proofs.PlaceLaws.{moves_at_place, over}
 use Rattle.rx_chunk.proofs.stepper.Stepper.next_list.Goals as goal
 
@@ -21,7 +21,7 @@ returns-in-Some-clause-list c = λ h i here.
     let m = bare_machine p h in
     let nodes = c.args.nodes.now in
     let rest = drop (c.loop-node.node-index + 1) nodes in
-    let moves = moves_at_place p h i c.args.place here in
+    let moves = moves_at_place note_nothing p h i c.args.place here in
     let index = c.loop-node.node-index in
     let more : suc index ≡ index + 1 = omega arith in
     let split : drop index nodes ≡ c.node-item.result ∷ rest = subst (λ j. drop index nodes ≡ c.node-item.result ∷ drop j nodes) more
@@ -36,6 +36,6 @@ returns-clause-list c = λ h i here.
     let m = bare_machine p h in
     let nodes = c.args.nodes.now in
     let ids = c.loop-node.self-inside.closure.visited.ids in
-    over m i (widths_of p) ids nodes c.loop-node.next.items
+    over m i (widths_of p) ids (map bare nodes) (map bare c.loop-node.next.items)
     (subst (λ xs. IsUnderWay m i nodes (widths_of p) ids xs c.loop-node.next.items) (none_left nodes c.loop-node.node-index c.loop-node-test.false)
-    (c.loop-node.invariant.way m i (moves_at_place p h i c.args.place here)))
+    (c.loop-node.invariant.way m i (moves_at_place note_nothing p h i c.args.place here)))
