@@ -21,6 +21,8 @@ patterns = [
     ("a class of 65,000 items", "parse", "[" + (letters * 2500) + "]"),
     ("a class of 21,844 items of three bytes, letters in each case", "fold",
      "[" + "".join(chr(0x3041 + 3 * i % 0x8000) for i in range(21844)) + "]"),
+    ("a class of 21,844 items, none beside another", "parse",
+     "[" + "".join(chr(0x0800 + 2 * i) for i in range(21844)) + "]"),
     ("65,536 literals, letters in each case", "fold", "k" * 65536),
     ("65,536 dots", "parse", "." * 65536),
     ("8,192 named groups", "parse", "".join(f"(?<{next(names)}>)" for _ in range(8192))),

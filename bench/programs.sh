@@ -19,6 +19,8 @@ patterns = [
     ("(\\w{1,50} ){1,20}", "parse", "(\\w{1,50} ){1,20}"),
     ("a class of 21,844 items", "parse",
      "[" + "".join(chr(0x3041 + 3 * i % 0x8000) for i in range(21844)) + "]"),
+    ("a class of 21,844 items, none beside another", "parse",
+     "[" + "".join(chr(0x0800 + 2 * i) for i in range(21844)) + "]"),
     ("65,536 alternatives, nearly", "parse", "a|" * 32768),
 ]
 measure(program, work, patterns)

@@ -86,7 +86,8 @@ regroup : (a f g b r : List ℕ) → a ++ ((f ++ g ++ b) ++ r) ≡ a ++ f ++ g +
 regroup a f g b r = simp append_assoc
 
 pub edited_text : (v w : NodeView) (from to : ℕ) (text : List ℕ) → from ≤ to → IsEdited v from to text w → IsReplaced (text_of v.pieces) from to text (text_of w.pieces)
-edited_text v w from to text order h =
+edited_text v w from to text order edit =
+    let h = edit.edited in
     let r = h.replaced in
     let before : byte_len (concat h.left) ≤ from = omega (arith, h.stands.not_past, bytes-concat h.left) in
     let starts : byte_len (concat h.left ++ r.front) ≡ from = omega (arith, byte_len-append (concat h.left) r.front, r.starts, before, bytes-concat h.left) in
@@ -95,7 +96,8 @@ edited_text v w from to text order h =
       gone = r.gone;
       back = r.back ++ concat h.right;
       old_is = ap concat h.stands.parts ∙ concat-append h.left (h.old ∷ h.right) ∙ ap (λ t. concat h.left ++ (t ++ concat h.right)) r.old_is ∙ regroup (concat h.left) r.front r.gone r.back (concat h.right);
-      new_is = ap concat h.pieces ∙ concat-append h.left (h.new ∷ h.right) ∙ ap (λ t. concat h.left ++ (t ++ concat h.right)) r.new_is ∙ regroup (concat h.left) r.front text r.back (concat h.right);
+      new_is = ap concat h.pieces_are ∙ concat-append h.left (h.leaves ++ h.right) ∙ ap (λ t. concat h.left ++ t) (concat-append h.leaves h.right) ∙ ap (λ t. concat h.left ++ (t ++ concat h.right)) r.new_is
+          ∙ regroup (concat h.left) r.front text r.back (concat h.right);
       starts = starts;
       ends = omega (arith, byte_len-append (concat h.left ++ r.front) r.gone, byte_len-append r.front r.gone, byte_len-append (concat h.left) r.front, r.ends, before, order, bytes-concat h.left);
     }

@@ -32,8 +32,8 @@ fn tree_of(alloc: Global, text: &str) -> Result<Option<Rc<Node>>, AllocError>
     Ok(rope.root)
 }
 
-/// The tree of a text with another one behind it. A text that fits into the last leaf costs the
-/// path to that.
+/// The tree of a text with another one behind it. A text that fits into the last leaf, or into two
+/// in its place, costs the path to that.
 fn extended(
     alloc: Global,
     tree: Option<Rc<Node>>,
@@ -54,8 +54,8 @@ fn extended(
     Ok(longer)
 }
 
-/// The tree with a text inserted at a byte index. Where the leaf there takes it, the path to that
-/// is copied; else the tree is split there, and joined again.
+/// The tree with a text inserted at a byte index. Where the leaf there takes it, or two in its
+/// place, the path to that is copied; else the tree is split there, and joined again.
 pub(crate) fn inserted(
     alloc: Global,
     root: &Option<Rc<Node>>,

@@ -1,44 +1,30 @@
 -- Edits inside one leaf.
-use Rattle.std.proofs.Common.{◌≡◌, ℕ, zero, suc, ◌+◌, ◌-◌, ◌*◌, ◌^◌, ◌<◌, ◌≤◌, ◌⊎◌, Bool, true, false, true≢false, ◌&&◌, inl, inr, List, [], ◌∷◌, ◌++◌, length, take, drop, get_or, refl, ap, arith, sym, ◌∙◌, subst, append_assoc, length-append, length-take-le}
+use Rattle.std.proofs.Common.{◌≡◌, ℕ, suc, ◌+◌, ◌-◌, ◌*◌, ◌^◌, ◌<◌, ◌≤◌, ◌⊎◌, Bool, true, false, true≢false, ◌&&◌, inl, inr, List, [], ◌∷◌, ◌++◌, length, take, drop, get_or, min, refl, ap, arith, sym, ◌∙◌, subst, append_assoc, length-append, length-take-le, All}
 use mathlib.Core.Bool.{beq}
-use Rattle.std.proofs.lemmas.List.Elements.{All-cons, All-append, All-get_or}
-use Rattle.std.proofs.lemmas.List.{take-append-drop, length-drop}
+use Rattle.std.proofs.lemmas.List.Elements.{All-head, All-cons, All-nil, All-append, All-get_or}
+use Rattle.std.proofs.lemmas.List.{take-append-drop, length-drop, append-nil}
 use Rattle.std.proofs.lemmas.List.Sums.{sum_by-cons}
-use Rattle.std.proofs.lemmas.List.Concat.{flat_map-cons}
 use Rattle.std.specs.Str.{chars, IsUtf8, IsCharBoundary}
-use Rattle.std.proofs.lemmas.Str.{encodes-chars, chars-append, IsUtf8-take, IsUtf8-drop}
+use Rattle.std.proofs.lemmas.Str.{encodes-chars, scalars-chars, chars-append, IsUtf8-take, IsUtf8-drop}
 use Rattle.std.proofs.Math.Nat.{pow-le-pow_right, mul-le-mul_right}
 use Rattle.str_indices.specs.Text.{starts_with_lf, byte_len, ends_with_cr}
 use Rattle.ropey_tree.specs.Counts.{total}
-use Rattle.ropey_tree.specs.Cutting.{IsPiece, IsCutting, IsText, IsBoundaryOf}
+use Rattle.ropey_tree.specs.Cutting.{IsPiece, IsCutting, IsText, IsBoundaryOf, cuts_cr_lf}
 use Rattle.ropey_tree.specs.NodeView.{NodeView}
 use Rattle.ropey_tree.specs.Nodes.{all_pieces, AreNodes, IsNodeOf, IsInner, inner_view, leaf_view}
-use Rattle.ropey_tree.specs.Edits.{with_other, IsReplaced, MayStandFor, IsPieceAt, IsEdited}
+use Rattle.std.specs.List.{concat}
+use Rattle.ropey_tree.specs.Edits.{IsReplaced, AreOneOrTwo, MayStandFor, IsPieceAt, AreEdited, IsEdited}
+use Rattle.ropey_tree.specs.LeafRow.{IsReplacedBy}
+use Rattle.ropey_tree.specs.Siblings.{AreSiblings, Packed}
 use Rattle.ropey_tree.proofs.Texts.{byte_len-append}
 use Rattle.ropey_tree.proofs.Pieces.{bytes-append}
-use Rattle.ropey_tree.proofs.Splitting.{between}
+use Rattle.ropey_tree.proofs.Splitting.{between, bytes-concat, starts-append, ends-append}
 use Rattle.ropey_tree.proofs.OverSeams.{same_front}
-use Rattle.ropey_tree.proofs.InRow.{all_pieces-append, all_pieces-parts, all_pieces-take_more}
+use Rattle.ropey_tree.proofs.InRow.{all_pieces-append, all_pieces-one, bytes-take-le, all_pieces-parts, all_pieces-take_more}
 use Rattle.ropey_tree.proofs.Packing.{nodes-left, nodes-right}
+use Rattle.ropey_tree.proofs.Joining.{nodes-weaker}
 
--- ---- another node in the place of one
-pub length-other : (vs : List NodeView) (k : ℕ) (w : NodeView) → k < length vs → length (with_other vs k w) ≡ length vs
-length-other [] k w h = absurd (omega arith)
-length-other (v ∷ vs) zero w h = refl
-length-other (v ∷ vs) (suc k) w h = ap suc (length-other vs k w (omega arith))
-
-pub other-here : (vs : List NodeView) (k : ℕ) (w d : NodeView) → k < length vs → get_or (with_other vs k w) k d ≡ w
-other-here [] k w d h = absurd (omega arith)
-other-here (v ∷ vs) zero w d h = refl
-other-here (v ∷ vs) (suc k) w d h = other-here vs k w d (omega arith)
-
-pub other-elsewhere : (vs : List NodeView) (k i : ℕ) (w d : NodeView) → k < length vs → (i ≡ k → ⊥) → get_or (with_other vs k w) i d ≡ get_or vs i d
-other-elsewhere [] k i w d h other = absurd (omega arith)
-other-elsewhere (v ∷ vs) zero zero w d h other = absurd (other refl)
-other-elsewhere (v ∷ vs) zero (suc i) w d h other = refl
-other-elsewhere (v ∷ vs) (suc k) zero w d h other = refl
-other-elsewhere (v ∷ vs) (suc k) (suc i) w d h other = other-elsewhere vs k i w d (omega arith) (λ e. other (ap suc e))
-
+-- ---- tests
 pub same_bools : (a b : Bool) → beq a b ≡ true → a ≡ b
 same_bools true true h = refl
 same_bools true false h = sym h
@@ -60,6 +46,33 @@ cutting-other [] p q [] h piece starts ends = piece
 cutting-other [] p q (r ∷ rs) h piece starts ends = (piece, ap (λ b. b && starts_with_lf r) ends ∙ h.1, h.2)
 cutting-other (l ∷ []) p q rs h piece starts ends = (h.0, ap (λ b. ends_with_cr l && b) starts ∙ h.1, cutting-other [] p q rs h.2 piece starts ends)
 cutting-other (l ∷ m ∷ ls) p q rs h piece starts ends = (h.0, h.1, cutting-other (m ∷ ls) p q rs h.2 piece starts ends)
+
+-- two pieces in the place of one
+cutting-two : (ls : List (List ℕ)) (p a b : List ℕ) (rs : List (List ℕ)) → IsCutting (ls ++ p ∷ rs) → IsPiece a → IsPiece b → cuts_cr_lf a b ≡ false → starts_with_lf a ≡ starts_with_lf p → ends_with_cr b ≡ ends_with_cr p
+    → IsCutting (ls ++ a ∷ b ∷ rs)
+cutting-two [] p a b [] h first second whole starts ends = (first, whole, second)
+cutting-two [] p a b (r ∷ rs) h first second whole starts ends = (first, whole, (second, ap (λ c. c && starts_with_lf r) ends ∙ h.1, h.2))
+cutting-two (l ∷ []) p a b rs h first second whole starts ends = (h.0, ap (λ c. ends_with_cr l && c) starts ∙ h.1, cutting-two [] p a b rs h.2 first second whole starts ends)
+cutting-two (l ∷ m ∷ ls) p a b rs h first second whole starts ends = (h.0, h.1, cutting-two (m ∷ ls) p a b rs h.2 first second whole starts ends)
+
+-- the pieces that may stand for it
+cutting-leaves : (ls : List (List ℕ)) (p : List ℕ) (leaves rs : List (List ℕ)) → IsCutting (ls ++ p ∷ rs) → MayStandFor p leaves → IsCutting (ls ++ (leaves ++ rs))
+cutting-leaves ls p [] rs h may = elim may.number [
+  | inl one ↦ absurd (omega (arith, one))
+  | inr two ↦ absurd (omega (arith, two.0))
+]
+cutting-leaves ls p (q ∷ []) rs h may = cutting-other ls p q rs h may.cut (ap starts_with_lf (sym (append-nil q)) ∙ may.starts) (ap ends_with_cr (sym (append-nil q)) ∙ may.ends)
+cutting-leaves ls p (a ∷ b ∷ []) rs h may =
+    let last : 1 ≤ byte_len (b ++ []) = omega (arith, may.cut.2.not_empty, ap byte_len (append-nil b)) in
+    cutting-two ls p a b rs h may.cut.0 may.cut.2 may.cut.1 (sym (starts-append a (b ++ []) may.cut.0.not_empty) ∙ may.starts)
+    (ap ends_with_cr (sym (append-nil b)) ∙ sym (ends-append a (b ++ []) last) ∙ may.ends)
+cutting-leaves ls p (a ∷ b ∷ c ∷ leaves) rs h may = elim may.number [
+  | inl one ↦ absurd (omega (arith, one))
+  | inr two ↦ absurd (omega (arith, two.0))
+]
+
+total-leaves : (ls leaves rs : List (List ℕ)) → (total (ls ++ (leaves ++ rs))).bytes ≡ (total ls).bytes + byte_len (concat leaves) + (total rs).bytes
+total-leaves ls leaves rs = omega (arith, bytes-append ls (leaves ++ rs), bytes-append leaves rs, bytes-concat leaves)
 
 total-mid : (ls : List (List ℕ)) (p : List ℕ) (rs : List (List ℕ)) → (total (ls ++ p ∷ rs)).bytes ≡ (total ls).bytes + byte_len p + (total rs).bytes
 total-mid ls p rs = omega (arith, bytes-append ls (p ∷ rs), sum_by-cons byte_len p rs)
@@ -106,6 +119,9 @@ front_bytes bytes at u boundary = ap length (encodes-chars (take at bytes) (IsUt
 pub back_bytes : (bytes : List ℕ) (at : ℕ) → IsUtf8 bytes → IsCharBoundary bytes at → byte_len (chars (drop at bytes)) ≡ length bytes - at
 back_bytes bytes at u boundary = ap length (encodes-chars (drop at bytes) (IsUtf8-drop bytes at u boundary)) ∙ length-drop at bytes
 
+pub three_chars : (a b c : List ℕ) → IsUtf8 a → IsUtf8 b → chars (a ++ b ++ c) ≡ chars a ++ chars b ++ chars c
+three_chars a b c u v = ap chars (append_assoc a b c) ∙ chars-append a (b ++ c) u ∙ ap (λ t. chars a ++ t) (chars-append b c v) ∙ sym (append_assoc (chars a) (chars b) (chars c))
+
 pub cut_in_three : (bytes leaf : List ℕ) (from to : ℕ) (text : List ℕ) → IsUtf8 bytes → chars bytes ≡ leaf → IsCharBoundary bytes from → IsCharBoundary bytes to → from ≤ to
     → IsReplaced leaf from to text (chars (take from bytes) ++ text ++ chars (drop to bytes))
 cut_in_three bytes leaf from to text u is starts ends le =
@@ -125,6 +141,42 @@ cut_in_three bytes leaf from to text u is starts ends le =
       starts = len;
       ends = ap byte_len (sym parts.front_is) ∙ len_two;
     }
+
+-- ---- a text in one leaf, or in two
+pub piece_of : (bytes : List ℕ) → IsUtf8 bytes → 1 ≤ length bytes → length bytes ≤ 984 → IsPiece (chars bytes)
+piece_of bytes u some few =
+    let len = ap length (encodes-chars bytes u) in
+    record { scalars = scalars-chars bytes u; not_empty = omega (arith, len, some); not_long = omega (arith, len, few) }
+
+pub two_cut : (bytes : List ℕ) (at : ℕ) → IsUtf8 bytes → IsCharBoundary bytes at → (488 ≤ at) × (at ≤ 984) → (at + 488 ≤ length bytes) × (length bytes ≤ at + 984) → cuts_cr_lf (chars (take at bytes)) (chars (drop at bytes)) ≡ false
+    → IsCutting (chars (take at bytes) ∷ chars (drop at bytes) ∷ [])
+two_cut bytes at u boundary front back whole =
+    let first = length-take-le at bytes boundary.0 in
+    let second = length-drop at bytes in (
+      piece_of (take at bytes) (IsUtf8-take bytes at u boundary) (omega (arith, first, front.0)) (omega (arith, first, front.1)),
+      whole,
+      piece_of (drop at bytes) (IsUtf8-drop bytes at u boundary) (omega (arith, second, back.0)) (omega (arith, second, back.1)),
+    )
+
+pub two_text : (bytes : List ℕ) (at : ℕ) → IsUtf8 bytes → IsCharBoundary bytes at → concat (chars (take at bytes) ∷ chars (drop at bytes) ∷ []) ≡ chars bytes
+two_text bytes at u boundary = ap (λ t. chars (take at bytes) ++ t) (append-nil (chars (drop at bytes))) ∙ sym (chars-append (take at bytes) (drop at bytes) (IsUtf8-take bytes at u boundary)) ∙ ap chars (take-append-drop at bytes)
+
+pub two_number : (bytes : List ℕ) (at : ℕ) (a b : List ℕ) → IsUtf8 bytes → IsCharBoundary bytes at → 488 ≤ at → at + 488 ≤ length bytes → 984 ≤ length bytes → a ≡ chars (take at bytes) → b ≡ chars (drop at bytes) → AreOneOrTwo (a ∷ b ∷ [])
+two_number bytes at a b u boundary front back long a_is b_is =
+    let Half : List ℕ → Type 0 = λ p. 488 ≤ byte_len p in
+    let first : byte_len a ≡ at = ap byte_len a_is ∙ front_bytes bytes at u boundary in
+    let second : byte_len b ≡ length bytes - at = ap byte_len b_is ∙ back_bytes bytes at u boundary in
+    let all : byte_len (concat (a ∷ b ∷ [])) ≡ byte_len a + byte_len b = byte_len-append a (b ++ []) ∙ ap (λ t. byte_len a + byte_len t) (append-nil b) in
+    inr (refl, omega (arith, all, first, second, long), All-cons Half a (b ∷ []) (omega (arith, first, front)) (All-cons Half b [] (omega (arith, second, back)) (All-nil Half)))
+
+-- what may stand for a piece is not empty
+pub leaves_some : (old : List ℕ) (leaves : List (List ℕ)) → MayStandFor old leaves → 1 ≤ byte_len (concat leaves)
+leaves_some old [] may = elim may.number [
+  | inl one ↦ absurd (omega (arith, one))
+  | inr two ↦ absurd (omega (arith, two.0))
+]
+leaves_some old (p ∷ []) may = omega (arith, may.cut.not_empty, ap byte_len (append-nil p))
+leaves_some old (p ∷ q ∷ leaves) may = omega (arith, may.cut.0.not_empty, byte_len-append p (concat (q ∷ leaves)))
 
 -- ---- two ways to cut a list in two: the second is later, or earlier
 record IsLater (a b x y : List (List ℕ)) : Type 0 where
@@ -199,49 +251,93 @@ is_inside a c b at left piece right h some low passed =
           ]
     ]
 
--- ---- a node, and a leaf
-pub edited_bytes : (v : NodeView) (from to : ℕ) (text : List ℕ) (w : NodeView) → IsEdited v from to text w → (total w.pieces).bytes ≤ (total v.pieces).bytes + byte_len text
-edited_bytes v from to text w h =
+-- ---- the pieces of a node, and those of a leaf
+pub edited_bytes : (v : NodeView) (from to : ℕ) (text : List ℕ) (pieces : List (List ℕ)) → AreEdited v from to text pieces → (total pieces).bytes ≤ (total v.pieces).bytes + byte_len text
+edited_bytes v from to text pieces h =
     omega (
       arith,
       ap (λ ps. (total ps).bytes) h.stands.parts,
-      ap (λ ps. (total ps).bytes) h.pieces,
+      ap (λ ps. (total ps).bytes) h.pieces_are,
       total-mid h.left h.old h.right,
-      total-mid h.left h.new h.right,
-      replaced_bytes h.old (from - (total h.left).bytes) (to - (total h.left).bytes) text h.new h.replaced,
+      total-leaves h.left h.leaves h.right,
+      replaced_bytes h.old (from - (total h.left).bytes) (to - (total h.left).bytes) text (concat h.leaves) h.replaced,
     )
 
-pub edited_text : (v : NodeView) (from to : ℕ) (text : List ℕ) (w : NodeView) → IsEdited v from to text w → IsText v.pieces → (total v.pieces).bytes + byte_len text < 2 ^ 63 → IsText w.pieces
-edited_text v from to text w h is fits = record {
-  cut = rw h.pieces (cutting-other h.left h.old h.new h.right (rw h.stands.parts at is.cut) h.may_stand.piece h.may_stand.starts h.may_stand.ends);
-  fits = omega (arith, edited_bytes v from to text w h, fits);
+pub edited_text : (v : NodeView) (from to : ℕ) (text : List ℕ) (pieces : List (List ℕ)) → AreEdited v from to text pieces → IsText v.pieces → (total v.pieces).bytes + byte_len text < 2 ^ 63 → IsText pieces
+edited_text v from to text pieces h is fits = record {
+  cut = rw h.pieces_are (cutting-leaves h.left h.old h.leaves h.right (rw h.stands.parts at is.cut) h.may_stand);
+  fits = omega (arith, edited_bytes v from to text pieces h, fits);
 }
 
-pub leaf_edited : (v : NodeView) (old : List ℕ) (from to : ℕ) (text new : List ℕ) (w : NodeView) → v ≡ leaf_view old → w ≡ leaf_view new → IsReplaced old from to text new → MayStandFor old new → IsEdited v from to text w
-leaf_edited v old from to text new w v_is w_is h stands = record {
+-- there is one count of pieces more where two come out
+pub one_leaf : (v : NodeView) (from to : ℕ) (text : List ℕ) (pieces : List (List ℕ)) (h : AreEdited v from to text pieces) → length pieces ≡ length v.pieces → length h.leaves ≡ 1
+one_leaf v from to text pieces h same =
+    omega (
+      arith,
+      same,
+      ap length h.pieces_are,
+      ap length h.stands.parts,
+      length-append h.left (h.leaves ++ h.right),
+      length-append h.leaves h.right,
+      length-append h.left (h.old ∷ h.right),
+    )
+
+pub leaf_edited : (v : NodeView) (old : List ℕ) (from to : ℕ) (text : List ℕ) (leaves pieces : List (List ℕ)) → v ≡ leaf_view old → pieces ≡ leaves → IsReplaced old from to text (concat leaves) → MayStandFor old leaves → AreEdited v from to text pieces
+leaf_edited v old from to text leaves pieces v_is is h stands = record {
   left = [];
   old = old;
-  new = new;
+  leaves = leaves;
   right = [];
   stands = record { parts = ap (λ u. u.pieces) v_is; not_past = omega arith; passed = inr refl };
-  replaced = replaced_at old from to (from - 0) (to - 0) text new h (omega arith) (omega arith);
+  replaced = replaced_at old from to (from - 0) (to - 0) text (concat leaves) h (omega arith) (omega arith);
   may_stand = stands;
-  pieces = ap (λ u. u.pieces) w_is;
-  height = ap (λ u. u.height) w_is ∙ sym (ap (λ u. u.height) v_is);
-  degree = ap (λ u. u.degree) w_is ∙ sym (ap (λ u. u.degree) v_is);
+  pieces_are = is ∙ sym (append-nil leaves);
 }
 
--- an edit of a leaf is one of its piece
-pub record IsOfPiece (old : List ℕ) (from to : ℕ) (text new : List ℕ) : Type 0 where
-  pub replaced : IsReplaced old from to text new
-  pub may_stand : MayStandFor old new
+leaf_node : (leaf : List ℕ) → IsNodeOf 0 12 (leaf_view leaf)
+leaf_node leaf = record { level = refl; full = omega arith; many = omega arith }
 
-pub of_piece : (v : NodeView) (old : List ℕ) (from to : ℕ) (text : List ℕ) (w : NodeView) → v ≡ leaf_view old → (h : IsEdited v from to text w) → IsOfPiece old from to text h.new
-of_piece v old from to text w v_is h =
+-- a leaf in the place of a leaf
+pub one_replaces : (v w : NodeView) (old new : List ℕ) (from to : ℕ) (text : List ℕ) (made : ℕ) → v ≡ leaf_view old → w ≡ leaf_view new → IsReplaced old from to text (concat (new ∷ [])) → MayStandFor old (new ∷ []) → made ≡ 1
+    → IsReplacedBy v from to text made (w ∷ [])
+one_replaces v w old new from to text made v_is w_is h stands one = rw (v_is, w_is) (record {
+  edited = leaf_edited (leaf_view old) old from to text (new ∷ []) (new ∷ []) refl refl h stands;
+  in_place = record {
+    level = All-cons (IsNodeOf 0 12) (leaf_view new) [] (leaf_node new) (All-nil (IsNodeOf 0 12));
+    full = inl refl;
+    same = λ _. (refl, All-cons (λ u. u.degree ≡ 12) (leaf_view new) [] refl (All-nil (λ u. u.degree ≡ 12)));
+  };
+  counted = (λ _. omega (arith, one), omega (arith, one));
+})
+
+-- two in its place
+pub two_replace : (v w u : NodeView) (old front back : List ℕ) (from to : ℕ) (text : List ℕ) (made : ℕ) → v ≡ leaf_view old → w ≡ leaf_view front → u ≡ leaf_view back → IsReplaced old from to text (concat (front ∷ back ∷ []))
+    → MayStandFor old (front ∷ back ∷ []) → made ≡ 2 → IsReplacedBy v from to text made (w ∷ u ∷ [])
+unfolding leaf_edited
+two_replace v w u old front back from to text made v_is w_is u_is h stands two =
+    let both : AreNodes 0 12 (leaf_view front ∷ leaf_view back ∷ []) =
+    All-cons (IsNodeOf 0 12) (leaf_view front) (leaf_view back ∷ []) (leaf_node front) (All-cons (IsNodeOf 0 12) (leaf_view back) [] (leaf_node back) (All-nil (IsNodeOf 0 12))) in
+    rw (v_is, w_is, u_is) (record {
+      edited = leaf_edited (leaf_view old) old from to text (front ∷ back ∷ []) (front ∷ back ∷ []) refl refl h stands;
+      in_place = record {
+        level = both;
+        full = inr both;
+        same = λ one. absurd (omega (arith, one));
+      };
+      counted = (λ one. absurd (omega (arith, one)), omega (arith, two));
+    })
+
+-- an edit of a leaf is one of its piece
+pub record IsOfPiece (old : List ℕ) (from to : ℕ) (text : List ℕ) (leaves : List (List ℕ)) : Type 0 where
+  pub replaced : IsReplaced old from to text (concat leaves)
+  pub may_stand : MayStandFor old leaves
+
+pub of_piece : (v : NodeView) (old : List ℕ) (from to : ℕ) (text : List ℕ) (pieces : List (List ℕ)) → v ≡ leaf_view old → (h : AreEdited v from to text pieces) → IsOfPiece old from to text h.leaves
+of_piece v old from to text pieces v_is h =
     let only = one_piece old h.left h.old h.right (sym (ap (λ u. u.pieces) v_is) ∙ h.stands.parts) in
     let none : (total h.left).bytes ≡ 0 = ap (λ ps. (total ps).bytes) only.0 in
     record {
-      replaced = rw (← only.1) (replaced_at h.old (from - (total h.left).bytes) (to - (total h.left).bytes) from to text h.new h.replaced (omega (arith, none)) (omega (arith, none)));
+      replaced = rw (← only.1) (replaced_at h.old (from - (total h.left).bytes) (to - (total h.left).bytes) from to text (concat h.leaves) h.replaced (omega (arith, none)) (omega (arith, none)));
       may_stand = rw (← only.1) h.may_stand;
     }
   where
@@ -292,21 +388,21 @@ module _ (v : NodeView) (vs : List NodeView) (k : ℕ) (c : NodeView) (from to :
       omega (arith, ap (λ ps. (total ps).bytes) v_pieces, bytes-append (all_pieces (take k vs) ++ c.pieces) (all_pieces (drop (suc k) vs)), bytes-append (all_pieces (take k vs)) c.pieces, fits)
 
   -- an edit of the node is one of the child
-  pub record IsOfChild (text new : List ℕ) : Type 0 where
-    pub child : NodeView
-    pub edited : IsEdited c (from - before) (to - before) text child
-    pub same : edited.new ≡ new
+  pub record IsOfChild (text : List ℕ) (leaves : List (List ℕ)) : Type 0 where
+    pub pieces : List (List ℕ)
+    pub edited : AreEdited c (from - before) (to - before) text pieces
+    pub same : edited.leaves ≡ leaves
 
-  pub of_child : (text : List ℕ) (u : NodeView) (h : IsEdited v from to text u) → IsOfChild text h.new
-  of_child text u h =
+  pub of_child : (text : List ℕ) (pieces : List (List ℕ)) (h : AreEdited v from to text pieces) → IsOfChild text h.leaves
+  of_child text pieces h =
       let inside = is_inside (all_pieces (take k vs)) c.pieces (all_pieces (drop (suc k) vs)) from h.left h.old h.right (rw v_pieces at h.stands) child_some low child_passed in
       let left_bytes : (total h.left).bytes ≡ before + (total inside.mid).bytes = ap (λ ps. (total ps).bytes) inside.left_is ∙ bytes-append (all_pieces (take k vs)) inside.mid in
       record {
-        child = record { pieces = inside.mid ++ h.new ∷ inside.rest; height = c.height; degree = c.degree };
+        pieces = inside.mid ++ (h.leaves ++ inside.rest);
         edited = record {
           left = inside.mid;
           old = h.old;
-          new = h.new;
+          leaves = h.leaves;
           right = inside.rest;
           stands = record {
             parts = inside.parts;
@@ -316,12 +412,10 @@ module _ (v : NodeView) (vs : List NodeView) (k : ℕ) (c : NodeView) (from to :
               | inr e ↦ inr (no_front inside.rest (all_pieces (drop (suc k) vs)) (sym inside.right_is ∙ e))
             ];
           };
-          replaced = replaced_at h.old (from - (total h.left).bytes) (to - (total h.left).bytes) (from - before - (total inside.mid).bytes) (to - before - (total inside.mid).bytes) text h.new h.replaced
+          replaced = replaced_at h.old (from - (total h.left).bytes) (to - (total h.left).bytes) (from - before - (total inside.mid).bytes) (to - before - (total inside.mid).bytes) text (concat h.leaves) h.replaced
               (omega (arith, left_bytes)) (omega (arith, left_bytes));
           may_stand = h.may_stand;
-          pieces = refl;
-          height = refl;
-          degree = refl;
+          pieces_are = refl;
         };
         same = refl;
       }
@@ -330,13 +424,25 @@ module _ (v : NodeView) (vs : List NodeView) (k : ℕ) (c : NodeView) (from to :
       no_front [] qs e = refl
       no_front (p ∷ ps) qs e = absurd (omega (arith, ap length e))
 
-  -- an edit of the child is one of the node
-  module _ (text : List ℕ) (w : NodeView) (h : IsEdited c (from - before) (to - before) text w) where
-    other_pieces : all_pieces (with_other vs k w) ≡ all_pieces (take k vs) ++ w.pieces ++ all_pieces (drop (suc k) vs)
-    other_pieces = all_pieces-append (take k vs) (w ∷ drop (suc k) vs) ∙ ap (λ ps. all_pieces (take k vs) ++ ps) (flat_map-cons (λ u. u.pieces) w (drop (suc k) vs)) ∙ sym (append_assoc (all_pieces (take k vs)) w.pieces (all_pieces (drop (suc k) vs)))
+  -- an edit of the child is one of the node, with one node or two in the child's place
+  module _ (text : List ℕ) (made : ℕ) (nodes : List NodeView) (some : 1 ≤ length nodes) (two : length nodes ≤ 2) (by : IsReplacedBy c (from - before) (to - before) text made nodes) where
+    h : AreEdited c (from - before) (to - before) text (all_pieces nodes)
+    h = by.edited
+
+    abbrev pub row : List NodeView
+    row = take k vs ++ nodes ++ drop (suc k) vs
+
+    row_pieces : all_pieces row ≡ all_pieces (take k vs) ++ all_pieces nodes ++ all_pieces (drop (suc k) vs)
+    row_pieces = all_pieces-append (take k vs ++ nodes) (drop (suc k) vs) ∙ ap (λ ps. ps ++ all_pieces (drop (suc k) vs)) (all_pieces-append (take k vs) nodes)
+
+    pub row_len : length row + 1 ≡ length vs + length nodes
+    row_len = omega (arith, within, length-append (take k vs ++ nodes) (drop (suc k) vs), length-append (take k vs) nodes, length-take-le k vs (omega (arith, within)), length-drop (suc k) vs)
 
     around : (ls : List (List ℕ)) (p : List ℕ) (rs ps : List (List ℕ)) → ps ≡ ls ++ p ∷ rs → (all_pieces (take k vs) ++ ps) ++ all_pieces (drop (suc k) vs) ≡ (all_pieces (take k vs) ++ ls) ++ p ∷ (rs ++ all_pieces (drop (suc k) vs))
     around ls p rs ps e = ap (λ qs. (all_pieces (take k vs) ++ qs) ++ all_pieces (drop (suc k) vs)) e ∙ simp append_assoc
+
+    around_leaves : (ls leaves rs ps : List (List ℕ)) → ps ≡ ls ++ (leaves ++ rs) → (all_pieces (take k vs) ++ ps) ++ all_pieces (drop (suc k) vs) ≡ (all_pieces (take k vs) ++ ls) ++ (leaves ++ (rs ++ all_pieces (drop (suc k) vs)))
+    around_leaves ls leaves rs ps e = ap (λ qs. (all_pieces (take k vs) ++ qs) ++ all_pieces (drop (suc k) vs)) e ∙ simp append_assoc
 
     left_bytes : (total (all_pieces (take k vs) ++ h.left)).bytes ≡ before + (total h.left).bytes
     left_bytes = bytes-append (all_pieces (take k vs)) h.left
@@ -363,11 +469,11 @@ module _ (v : NodeView) (vs : List NodeView) (k : ℕ) (c : NodeView) (from to :
           ]
     ]
 
-    pub node_edited : (u : NodeView) → u ≡ inner_view v.height (with_other vs k w) → IsEdited v from to text u
-    node_edited u u_is = record {
+    pub node_edited : (pieces : List (List ℕ)) → pieces ≡ all_pieces row → AreEdited v from to text pieces
+    node_edited pieces is = record {
       left = all_pieces (take k vs) ++ h.left;
       old = h.old;
-      new = h.new;
+      leaves = h.leaves;
       right = h.right ++ all_pieces (drop (suc k) vs);
       stands = record {
         parts = v_pieces ∙ around h.left h.old h.right c.pieces h.stands.parts;
@@ -375,32 +481,100 @@ module _ (v : NodeView) (vs : List NodeView) (k : ℕ) (c : NodeView) (from to :
         passed = node_passed;
       };
       replaced = replaced_at h.old (from - before - (total h.left).bytes) (to - before - (total h.left).bytes) (from - (total (all_pieces (take k vs) ++ h.left)).bytes) (to - (total (all_pieces (take k vs) ++ h.left)).bytes)
-          text h.new h.replaced (omega (arith, left_bytes)) (omega (arith, left_bytes));
+          text (concat h.leaves) h.replaced (omega (arith, left_bytes)) (omega (arith, left_bytes));
       may_stand = h.may_stand;
-      pieces = ap (λ x. x.pieces) u_is ∙ other_pieces ∙ around h.left h.new h.right w.pieces h.pieces;
-      height = ap (λ x. x.height) u_is;
-      degree = ap (λ x. x.degree) u_is ∙ length-other vs k w within ∙ sym (ap (λ x. x.degree) v_is);
-    }
-
-    same_count : length w.pieces ≡ length c.pieces
-    same_count = ap length h.pieces ∙ length-append h.left (h.new ∷ h.right) ∙ sym (length-append h.left (h.old ∷ h.right)) ∙ sym (ap length h.stands.parts)
-
-    edited_node : IsNodeOf inner.below 12 w
-    edited_node = record {
-      level = h.height ∙ child_node.level;
-      full = omega (arith, h.degree, child_node.full);
-      many = rw (h.height, h.degree, same_count) child_node.many;
+      pieces_are = is ∙ row_pieces ∙ around_leaves h.left h.leaves h.right (all_pieces nodes) h.pieces_are;
     }
 
     whole : (n : ℕ) → AreNodes inner.below 12 (take n vs ++ drop n vs)
     whole n = let P : List NodeView → Type 0 = λ us. AreNodes inner.below 12 us in subst P (sym (take-append-drop n vs)) inner.nodes
 
-    pub edited_inner : IsText v.pieces → (total v.pieces).bytes + byte_len text < 2 ^ 63 → IsInner v.height (with_other vs k w)
-    edited_inner is_text fits = record {
+    new_nodes : AreNodes inner.below 12 nodes
+    new_nodes = rw child_node.level at (nodes-weaker c.height (min 12 c.degree) 12 nodes (omega (arith, child_node.full)) by.in_place.level)
+
+    pub row_siblings : length vs ≤ 24 → IsText v.pieces → (total v.pieces).bytes + byte_len text < 2 ^ 63 → AreSiblings v.height row
+    row_siblings few is_text fits = record {
       below = inner.below;
       level = inner.level;
-      branches = omega (arith, length-other vs k w within, inner.branches);
-      nodes = All-append (IsNodeOf inner.below 12) (take k vs) (w ∷ drop (suc k) vs) (nodes-left inner.below 12 (take k vs) (drop k vs) (whole k))
-          (All-cons (IsNodeOf inner.below 12) w (drop (suc k) vs) edited_node (nodes-right inner.below 12 (take (suc k) vs) (drop (suc k) vs) (whole (suc k))));
-      text = edited_text v from to text (inner_view v.height (with_other vs k w)) (node_edited (inner_view v.height (with_other vs k w)) refl) is_text fits;
+      branches = omega (arith, row_len, some, inner.branches);
+      few = omega (arith, row_len, few, two);
+      nodes = All-append (IsNodeOf inner.below 12) (take k vs ++ nodes) (drop (suc k) vs) (All-append (IsNodeOf inner.below 12) (take k vs) nodes (nodes-left inner.below 12 (take k vs) (drop k vs) (whole k)) new_nodes)
+          (nodes-right inner.below 12 (take (suc k) vs) (drop (suc k) vs) (whole (suc k)));
+      text = edited_text v from to text (all_pieces row) (node_edited (all_pieces row) refl) is_text fits;
     }
+
+    -- the nodes that the row is packed into
+    pub row_replaces : (packed : List NodeView) (made' : ℕ) → length vs ≤ 24 → Packed v.height row packed → (length row ≤ 24 → packed ≡ inner_view v.height row ∷ []) → made' ≡ made + length packed → length packed ≤ 2
+        → IsReplacedBy v from to text made' packed
+    unfolding h node_edited
+    row_replaces packed made' few is one count most =
+        let degree : v.degree ≡ length vs = ap (λ u. u.degree) v_is in
+        let lower : v.height ≡ c.height + 1 = omega (arith, inner.level, child_node.level) in
+        let as_many : length h.leaves ≡ 1 → length row ≡ length vs = λ e. omega (arith, row_len, (by.in_place.same e).0) in
+        let only : length h.leaves ≡ 1 → packed ≡ inner_view v.height row ∷ [] = λ e. one (omega (arith, as_many e, few)) in
+        record {
+          edited = node_edited (all_pieces packed) is.pieces;
+          in_place = record {
+            level = nodes-weaker v.height (min 12 (length row)) (min 12 v.degree) packed (omega (arith, degree, row_len, some)) is.nodes;
+            full = elim is.full [
+              | inl single ↦ inl single
+              | inr many ↦ inr (nodes-weaker v.height (min 12 (length row)) 12 packed (omega (arith, many)) is.nodes)
+            ];
+            same = λ e. (ap length (only e), one_degree packed (length row) (only e) (as_many e ∙ sym degree));
+          };
+          counted = (λ e. omega (arith, count, ap length (only e), by.counted.0 e, lower), omega (arith, count, most, by.counted.1, lower));
+        }
+      where
+        one_degree : (packed : List NodeView) (n : ℕ) → packed ≡ inner_view v.height row ∷ [] → length row ≡ v.degree → All (λ w. w.degree ≡ v.degree) packed
+        one_degree packed n is same = rw is (All-cons (λ w. w.degree ≡ v.degree) (inner_view v.height row) [] same (All-nil (λ w. w.degree ≡ v.degree)))
+
+-- ---- a tree
+-- the same pieces
+at_pieces : (v : NodeView) (from to : ℕ) (text : List ℕ) (pieces others : List (List ℕ)) → AreEdited v from to text pieces → others ≡ pieces → AreEdited v from to text others
+at_pieces v from to text pieces others h is = record {
+  left = h.left;
+  old = h.old;
+  leaves = h.leaves;
+  right = h.right;
+  stands = h.stands;
+  replaced = h.replaced;
+  may_stand = h.may_stand;
+  pieces_are = is ∙ h.pieces_are;
+}
+
+-- one node
+pub one_tree : (v w : NodeView) (from to : ℕ) (text : List ℕ) (made : ℕ) → IsReplacedBy v from to text made (w ∷ []) → IsEdited v from to text w
+unfolding at_pieces
+one_tree v w from to text made by = record {
+  edited = at_pieces v from to text (all_pieces (w ∷ [])) w.pieces by.edited (sym (all_pieces-one w));
+  height = λ _. (All-head (IsNodeOf v.height (min 12 v.degree)) w [] by.in_place.level).level;
+  degree = λ one. All-head (λ u. u.degree ≡ v.degree) w [] (by.in_place.same one).1;
+}
+
+-- two nodes under a root
+pub two_nodes : (v first second : NodeView) (from to : ℕ) (text : List ℕ) (made : ℕ) → IsReplacedBy v from to text made (first ∷ second ∷ []) → IsText v.pieces → (total v.pieces).bytes + byte_len text < 2 ^ 63
+    → IsInner (v.height + 1) (first ∷ second ∷ [])
+two_nodes v first second from to text made by is fits = record {
+  below = v.height;
+  level = refl;
+  branches = omega arith;
+  nodes = elim by.in_place.full [
+    | inl one ↦ absurd (omega (arith, one))
+    | inr nodes ↦ nodes
+  ];
+  text = edited_text v from to text (all_pieces (first ∷ second ∷ [])) by.edited is fits;
+}
+
+pub two_fit : (v first second : NodeView) (from to : ℕ) (text : List ℕ) (made : ℕ) → IsReplacedBy v from to text made (first ∷ second ∷ []) → IsText v.pieces → (total v.pieces).bytes + byte_len text < 2 ^ 63
+    → (total (all_pieces (first ∷ second ∷ []))).bytes < 2 ^ 63
+two_fit v first second from to text made by is fits = (edited_text v from to text (all_pieces (first ∷ second ∷ [])) by.edited is fits).fits
+
+pub first_fits : (first second : NodeView) → (total (all_pieces (first ∷ second ∷ []))).bytes < 2 ^ 63 → (total (all_pieces (first ∷ []))).bytes < 2 ^ 63
+first_fits first second fits = omega (arith, fits, bytes-take-le (first ∷ second ∷ []) 1)
+
+pub two_tree : (v first second w : NodeView) (from to : ℕ) (text : List ℕ) (made : ℕ) → IsReplacedBy v from to text made (first ∷ second ∷ []) → w ≡ inner_view (v.height + 1) (first ∷ second ∷ []) → IsEdited v from to text w
+two_tree v first second w from to text made by w_is = rw w_is (record {
+  edited = by.edited;
+  height = λ one. absurd (omega (arith, (by.in_place.same one).0));
+  degree = λ one. absurd (omega (arith, (by.in_place.same one).0));
+})

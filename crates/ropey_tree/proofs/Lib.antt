@@ -2,6 +2,7 @@ mod Examples
 pub mod Totals
 pub mod Filled
 pub mod InRow
+pub mod Within
 pub mod Heights
 pub mod Descents
 pub mod Texts

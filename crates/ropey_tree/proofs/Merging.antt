@@ -1,5 +1,5 @@
 -- Texts joined over a leaf of what stands at their seam.
-use Rattle.std.proofs.Common.{◌≡◌, ℕ, ◌+◌, ◌<◌, ◌≤◌, Bool, true, false, ◌&&◌, ◌⊎◌, inl, inr, List, [], ◌∷◌, ◌++◌, length, take, drop, refl, ap, arith, sym, ◌∙◌, append_assoc}
+use Rattle.std.proofs.Common.{◌≡◌, ℕ, ◌+◌, ◌<◌, ◌≤◌, Bool, true, false, ◌&&◌, ◌⊎◌, inl, inr, List, [], ◌∷◌, ◌++◌, take, drop, refl, ap, arith, sym, ◌∙◌, append_assoc}
 use Rattle.std.specs.Prelude.{◌^◌}
 use Rattle.std.specs.List.{concat}
 use Rattle.std.specs.Str.{chars, IsUtf8, IsCharBoundary}
@@ -15,7 +15,7 @@ use Rattle.ropey_tree.specs.Nodes.{LiesIn}
 use Rattle.ropey_tree.specs.Splits.{IsSplit}
 use Rattle.ropey_tree.specs.Seams.{IsBetween}
 use Rattle.ropey_tree.proofs.Texts.{byte_len-append}
-use Rattle.ropey_tree.proofs.Pieces.{bytes-append, cut-left}
+use Rattle.ropey_tree.proofs.Pieces.{cut-left}
 use Rattle.ropey_tree.proofs.Splitting.{bytes-concat, byte_len-some, starts-append, ends-append}
 use Rattle.ropey_tree.proofs.Editing.{front_bytes}
 use Rattle.ropey_tree.proofs.Ends.{ends_at_cr, lf_front, and_false}

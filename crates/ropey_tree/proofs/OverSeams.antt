@@ -16,7 +16,7 @@ use Rattle.ropey_tree.specs.Nodes.{LiesIn}
 use Rattle.ropey_tree.proofs.Texts.{byte_len-append}
 use Rattle.ropey_tree.proofs.Pieces.{first_piece, bytes-append}
 use Rattle.ropey_tree.proofs.Splitting.{between, bytes-concat, starts-append, ends-append}
-use Rattle.ropey_tree.proofs.Ends.{is_code, first_byte, last_byte, ends_at_cr}
+use Rattle.ropey_tree.proofs.Ends.{is_code, first_byte, last_byte}
 
 -- ---- cuttings beside each other
 pub some_text : (p : List ℕ) (ps : List (List ℕ)) → IsCutting (p ∷ ps) → 1 ≤ byte_len (concat (p ∷ ps))

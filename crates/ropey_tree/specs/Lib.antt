@@ -7,6 +7,7 @@ pub mod Shown
 pub mod Children
 pub mod Bodies
 pub mod Falls
+pub mod LeafRow
 pub mod Cutter
 pub mod Siblings
 pub mod Parts

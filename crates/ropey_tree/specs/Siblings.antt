@@ -1,12 +1,12 @@
 -- Nodes in a row, and what they are packed into.
-use Rattle.std.specs.Prelude.{◌≡◌, ℕ, ◌+◌, ◌-◌, ◌<◌, ◌≤◌, ◌⊎◌, min, List, [], ◌∷◌, ◌++◌, length, take, drop, map}
+use Rattle.std.specs.Prelude.{◌≡◌, ℕ, suc, ◌+◌, ◌-◌, ◌<◌, ◌≤◌, ◌⊎◌, min, List, [], ◌∷◌, ◌++◌, length, take, drop, map}
 use Rattle.std.specs.declared.rc.Rc.{Rc}
 use Rattle.std.specs.declared.alloc.Global.{Global}
 use Rattle.ropey_tree.specs.declared.node.Node.{Node}
 use Rattle.ropey_tree.specs.declared.siblings.Joined.{Joined}
 use Rattle.ropey_tree.specs.declared.siblings.Joined.TheVariants.{One, Two}
 use Rattle.ropey_tree.specs.declared.siblings.Siblings.{Siblings}
-use Rattle.ropey_tree.specs.declared.siblings.Siblings.TheVariants.{One as OneNode, Nodes, Both, Front, Back}
+use Rattle.ropey_tree.specs.declared.siblings.Siblings.TheVariants.{One as OneNode, Nodes, Both, Front, Back, Within}
 use Rattle.ropey_tree.specs.Cutting.{IsText}
 use Rattle.ropey_tree.specs.NodeView.{NodeView}
 use Rattle.ropey_tree.specs.Nodes.{all_pieces, AreNodes}
@@ -27,6 +27,8 @@ siblings_of (Nodes nodes) = views nodes.now
 siblings_of (Both front back) = front.now ++ back.now
 siblings_of (Front front joined) = take (length front.now - 1) front.now ++ nodes_of joined.now
 siblings_of (Back joined back) = nodes_of joined.now ++ drop 1 back.now
+siblings_of (Within children k joined) =
+    take k children.now ++ nodes_of joined.now ++ drop (suc k) children.now
 
 -- a child whose place is taken is there
 abbrev pub IsFilled : Siblings → Type 0
@@ -35,6 +37,7 @@ IsFilled (Nodes nodes) = Unit {0}
 IsFilled (Both front back) = Unit {0}
 IsFilled (Front front joined) = 0 < length front.now
 IsFilled (Back joined back) = 0 < length back.now
+IsFilled (Within children k joined) = k < length children.now
 
 -- nodes that may stand under one node or two: 2 to 48, each full, and their pieces a text
 pub record AreSiblings (height : ℕ) (siblings : List NodeView) : Type 0 where

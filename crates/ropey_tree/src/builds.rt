@@ -5,6 +5,7 @@ ghost use Rattle.ropey_tree.specs.Cutting.{IsText};
 ghost use Rattle.ropey_tree.specs.Nodes.{AreNodes, IsInner, all_pieces};
 ghost use Rattle.ropey_tree.specs.Siblings.{views, IsLevelOver};
 
+use crate::made::Made;
 use crate::node::Node;
 use crate::siblings::{Siblings, over};
 use crate::{MAX_CHILDREN, MIN_CHILDREN};
@@ -39,7 +40,7 @@ fn level(alloc: Global, height: usize, nodes: &[Rc<Node>]) -> Result<Vec<Rc<Node
     while from < nodes.len() {
         let to = from + share(nodes.len() - from);
         let children = Siblings::Nodes(nodes).gather(from, to)?;
-        let node = over(alloc, height, children)?;
+        let node = over(alloc, height, children, &mut Made::new())?;
         above.push(node)?;
         from = to;
     }

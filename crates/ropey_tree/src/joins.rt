@@ -6,6 +6,7 @@ ghost use Rattle.ropey_tree.specs.Nodes.{AreJoined};
 ghost use Rattle.ropey_tree.specs.Siblings.{nodes_of};
 
 use crate::children::Children;
+use crate::made::Made;
 use crate::node::{Node, Parts};
 use crate::siblings::{Joined, Siblings, over, pack};
 use std::alloc::{AllocError, Global};
@@ -32,7 +33,12 @@ fn beside(alloc: Global, left: &Rc<Node>, right: &Rc<Node>) -> Result<Joined, Al
             };
             // For its facts alone.
             let _ = (front.len(), back.len());
-            let joined = pack(alloc, left.height(), Siblings::Both(front, back))?;
+            let joined = pack(
+                alloc,
+                left.height(),
+                Siblings::Both(front, back),
+                &mut Made::new(),
+            )?;
             Ok(joined)
         }
     }
@@ -53,7 +59,7 @@ pub fn join(alloc: Global, left: &Rc<Node>, right: &Rc<Node>) -> Result<Joined, 
             unreachable!()
         };
         let last = join(alloc, front.get(front.len() - 1), right)?;
-        let joined = pack(alloc, l, Siblings::Front(front, &last))?;
+        let joined = pack(alloc, l, Siblings::Front(front, &last), &mut Made::new())?;
         Ok(joined)
     } else {
         let Parts::Inner(back) = right.parts() else {
@@ -62,7 +68,7 @@ pub fn join(alloc: Global, left: &Rc<Node>, right: &Rc<Node>) -> Result<Joined, 
         // For its facts alone.
         let _ = back.len();
         let first = join(alloc, left, back.get(0))?;
-        let joined = pack(alloc, r, Siblings::Back(&first, back))?;
+        let joined = pack(alloc, r, Siblings::Back(&first, back), &mut Made::new())?;
         Ok(joined)
     }
 }
@@ -82,7 +88,7 @@ pub fn concat(alloc: Global, left: &Rc<Node>, right: &Rc<Node>) -> Result<Rc<Nod
             children.push(first, counts);
             let counts = second.counts();
             children.push(second, counts);
-            let node = over(alloc, height + 1, children)?;
+            let node = over(alloc, height + 1, children, &mut Made::new())?;
             Ok(node)
         }
     }

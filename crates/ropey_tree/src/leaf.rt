@@ -62,15 +62,14 @@ impl Leaf {
     pub(crate) fn is_lf_first(&self) -> bool
         ensures { result ≡ starts_with_lf self.now }
     {
-        self.as_str().as_bytes()[0] == b'\n'
+        is_lf_first(self.as_str())
     }
 
     /// Whether the last character is CR.
     pub(crate) fn is_cr_last(&self) -> bool
         ensures { result ≡ ends_with_cr self.now }
     {
-        let text = self.as_str();
-        text.as_bytes()[text.len() - 1] == b'\r'
+        is_cr_last(self.as_str())
     }
 }
 
@@ -174,4 +173,20 @@ pub(crate) fn fill_end(text: &str, room: usize) -> usize
     } else {
         end
     }
+}
+
+/// Whether the first character of a text is LF.
+pub(crate) fn is_lf_first(text: &str) -> bool
+    requires { 1 ≤ length text.now }
+    ensures { result ≡ starts_with_lf (chars text.now) }
+{
+    text.as_bytes()[0] == b'\n'
+}
+
+/// Whether the last character of a text is CR.
+pub(crate) fn is_cr_last(text: &str) -> bool
+    requires { 1 ≤ length text.now }
+    ensures { result ≡ ends_with_cr (chars text.now) }
+{
+    text.as_bytes()[text.len() - 1] == b'\r'
 }

@@ -1,6 +1,6 @@
 //! Nodes in a row that are packed under one node, or two.
 
-ghost use Rattle.std.specs.Prelude.{◌≡◌, ◌+◌, ◌<◌, ◌≤◌, ◌^◌, ◌++◌, length, slice_index_or, take, IfOk};
+ghost use Rattle.std.specs.Prelude.{◌≡◌, ◌+◌, ◌<◌, ◌≤◌, ◌^◌, [], ◌∷◌, ◌++◌, length, slice_index_or, take, IfOk};
 ghost use Rattle.ropey_tree.specs.NodeView.{NodeView};
 ghost use Rattle.ropey_tree.specs.Counts.{total};
 ghost use Rattle.ropey_tree.specs.Nodes.{count_of, all_pieces, inner_view, IsInner};
@@ -9,6 +9,7 @@ ghost use Rattle.ropey_tree.specs.Siblings.{nodes_of, siblings_of, IsFilled, Are
 use crate::MAX_CHILDREN;
 use crate::children::Children;
 use crate::counts::Counts;
+use crate::made::Made;
 use crate::node::Node;
 use std::alloc::{AllocError, Global};
 use std::rc::Rc;
@@ -35,12 +36,15 @@ pub(crate) enum Siblings<'a> {
     Front(&'a Children, &'a Joined),
     /// What stands in the place of the first child, and then all others.
     Back(&'a Joined, &'a Children),
+    /// All children, but for what stands in the place of the one at an index.
+    Within(&'a Children, usize, &'a Joined),
 }
 
 impl Joined {
     #[inline]
     fn len(&self) -> usize
         ensures value { result ≡ length (nodes_of self.now) }
+        ensures some { 1 ≤ result }
         ensures fits { result ≤ 2 }
     {
         match self {
@@ -73,6 +77,7 @@ impl Siblings<'_> {
             Siblings::Both(front, back) => front.len() + back.len(),
             Siblings::Front(front, joined) => front.len() - 1 + joined.len(),
             Siblings::Back(joined, back) => joined.len() + (back.len() - 1),
+            Siblings::Within(children, _, joined) => children.len() - 1 + joined.len(),
         }
     }
 
@@ -106,6 +111,16 @@ impl Siblings<'_> {
                     joined.get(k)
                 } else {
                     back.get(k - n + 1)
+                }
+            }
+            Siblings::Within(children, at, joined) => {
+                let n = joined.len();
+                if k < *at {
+                    children.get(k)
+                } else if k - *at < n {
+                    joined.get(k - *at)
+                } else {
+                    children.get(k - n + 1)
                 }
             }
         }
@@ -144,6 +159,16 @@ impl Siblings<'_> {
                     back.count(k - n + 1)
                 }
             }
+            Siblings::Within(children, at, joined) => {
+                let n = joined.len();
+                if k < *at {
+                    children.count(k)
+                } else if k - *at < n {
+                    joined.get(k - *at).counts()
+                } else {
+                    children.count(k - n + 1)
+                }
+            }
         }
     }
 
@@ -166,31 +191,48 @@ impl Siblings<'_> {
     }
 }
 
-/// A node over children.
-pub(crate) fn over(alloc: Global, height: usize, children: Children) -> Result<Rc<Node>, AllocError>
+/// A node over children, which is one that is made.
+pub(crate) fn over(
+    alloc: Global,
+    height: usize,
+    children: Children,
+    made: &mut Made,
+) -> Result<Rc<Node>, AllocError>
     requires { IsInner height children }
-    ensures { IfOk result (λ node. node.value ≡ inner_view height children) }
+    ensures node { IfOk result (λ node. node.value ≡ inner_view height children) }
+    ensures counted { IfOk result (λ _. made.new.nodes ≡ made.old.nodes + 1) }
+    ensures least { made.old.nodes ≤ made.new.nodes }
+    ensures most { made.new.nodes ≤ made.old.nodes + 1 }
 {
     let node = Node::from_children(alloc, height, children)?;
-    Ok(Rc::new(alloc, node)?)
+    let node = made.share(alloc, node)?;
+    Ok(node)
 }
 
-/// One node over up to 24, or two nodes over its halves.
+/// One node over up to 24, or two nodes over its halves: these are made.
 pub(crate) fn pack(
     alloc: Global,
     height: usize,
     siblings: Siblings<'_>,
+    made: &mut Made,
 ) -> Result<Joined, AllocError>
     requires filled { IsFilled siblings }
     requires nodes { AreSiblings height (siblings_of siblings) }
-    ensures { IfOk result (λ joined. Packed height (siblings_of siblings.entry) (nodes_of joined)) }
+    ensures packed { IfOk result (λ joined. Packed height (siblings_of siblings.entry)
+        (nodes_of joined)) }
+    ensures one { IfOk result (λ joined. length (siblings_of siblings.entry) ≤ 24 →
+        nodes_of joined ≡ inner_view height (siblings_of siblings.entry) ∷ []) }
+    ensures counted { IfOk result (λ joined. made.new.nodes ≡
+        made.old.nodes + length (nodes_of joined)) }
+    ensures least { made.old.nodes ≤ made.new.nodes }
+    ensures most { made.new.nodes ≤ made.old.nodes + 2 }
 {
     let n = siblings.len();
     if n <= MAX_CHILDREN {
-        let node = over(alloc, height, siblings.gather(0, n)?)?;
+        let node = over(alloc, height, siblings.gather(0, n)?, made)?;
         return Ok(Joined::One(node));
     }
-    let first = over(alloc, height, siblings.gather(0, n / 2)?)?;
-    let second = over(alloc, height, siblings.gather(n / 2, n)?)?;
+    let first = over(alloc, height, siblings.gather(0, n / 2)?, made)?;
+    let second = over(alloc, height, siblings.gather(n / 2, n)?, made)?;
     Ok(Joined::Two(first, second))
 }

@@ -10,6 +10,7 @@ use crate::children::Children;
 use crate::counts::By;
 use crate::joins;
 use crate::leaf::Leaf;
+use crate::made::Made;
 use crate::node::{Node, Parts};
 use crate::siblings::{Siblings, over};
 use crate::visits::Visits;
@@ -79,7 +80,7 @@ fn tree_over(
         return Ok(Some(child));
     }
     let some = Siblings::One(children).gather(from, to)?;
-    let node = over(alloc, height, some)?;
+    let node = over(alloc, height, some, &mut Made::new())?;
     Ok(Some(node))
 }
 

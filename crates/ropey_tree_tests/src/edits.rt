@@ -82,22 +82,86 @@ fn one_leaf(rt: HostRuntime) -> Result<(), Fail> {
     Ok(())
 }
 
-// A leaf takes a text up to 983 bytes.
+// A leaf takes a text up to 983 bytes, and two leaves take one up to 1,960.
 #[test]
 fn a_full_leaf(rt: HostRuntime) -> Result<(), Fail> {
     let old = text_of(rt.alloc(), "a", 900)?;
     let node = tree_of(&rt, rt.alloc(), &old)?;
-    for (from, to, bytes, fits) in [
-        (0, 0, 83, true),
-        (900, 900, 84, false),
-        (100, 200, 183, true),
-        (100, 200, 184, false),
-        (0, 900, 983, true),
-        (0, 900, 984, false),
+    for (from, to, bytes, leaves) in [
+        (0, 0, 83, 1),
+        (900, 900, 84, 2),
+        (100, 200, 183, 1),
+        (100, 200, 184, 2),
+        (100, 200, 1_160, 2),
+        (100, 200, 1_161, 0),
+        (0, 900, 983, 1),
+        (0, 900, 984, 2),
+        (0, 900, 1_960, 2),
+        (0, 900, 1_961, 0),
     ] {
         let text = text_of(rt.alloc(), "b", bytes)?;
         let edited = replaced(&rt, rt.alloc(), &node, from, to, &text)?;
-        assert_eq!(rt; edited.is_some(), fits, "{from} {to} {bytes}");
+        let found = edited.as_ref().map_or(0, |node| leaves_in(node));
+        assert_eq!(rt; found, leaves, "{from} {to} {bytes}");
+    }
+    Ok(())
+}
+
+// A full leaf that takes a character becomes two, wherever a CR LF or a character lies over its
+// middle; each has 488 bytes or more.
+#[test]
+fn two_leaves(rt: HostRuntime) -> Result<(), Fail> {
+    for unit in ["a", "\r\n", "é", "せ", "🐸", "a\r\n🐸"] {
+        for bytes in 980..=984 {
+            let old = text_of(rt.alloc(), unit, bytes)?;
+            let node = tree_of(&rt, rt.alloc(), &old)?;
+            if leaves_in(&node) == 1 {
+                check_two_leaves(&rt, rt.alloc(), &node, &old)?;
+            }
+        }
+    }
+    Ok(())
+}
+
+fn check_two_leaves(
+    rt: &impl Abort,
+    alloc: Global,
+    node: &Rc<Node>,
+    old: &str,
+) -> Result<(), Fail> {
+    for at in (0..old.len()).step_by(37) {
+        if let Some(edited) = replaced(rt, alloc, node, at, at, "bcdé")? {
+            let new = spliced(alloc, old, at, at, "bcdé")?;
+            assert!(rt; new.is_some_and(|new| reads_back(&edited, &new)), "{at}");
+            assert_eq!(rt; leaves_in(&edited), 2, "{at}");
+            let first = leaf_at(&edited, By::Bytes, 0).leaf.as_str().len();
+            let second = edited.counts().bytes.saturating_sub(first);
+            assert!(rt; first >= 488 && second >= 488, "{at}: {first} {second}");
+            assert_eq!(rt; edited.height(), 1, "{at}");
+        }
+    }
+    assert!(rt; reads_back(node, old));
+    Ok(())
+}
+
+// A root of 24 full leaves becomes two nodes, and the tree grows a level.
+#[test]
+fn the_root_grows(rt: HostRuntime) -> Result<(), Fail> {
+    let old = text_of(rt.alloc(), "a", 24 * 983)?;
+    let node = tree_of(&rt, rt.alloc(), &old)?;
+    assert_eq!(rt; node.height(), 1);
+    let full = leaves_in(&node);
+    for at in (0..old.len()).step_by(501) {
+        if let Some(edited) = replaced(&rt, rt.alloc(), &node, at, at, "bcde")? {
+            let new = spliced(rt.alloc(), &old, at, at, "bcde")?;
+            assert!(rt; new.is_some_and(|new| reads_back(&edited, &new)), "{at}");
+            let leaves = leaves_in(&edited);
+            assert!(rt;
+                leaves == full || leaves == full.saturating_add(1),
+                "{at}: {leaves}"
+            );
+            assert_eq!(rt; edited.height(), if leaves > 24 { 2 } else { 1 }, "{at}");
+        }
     }
     Ok(())
 }
@@ -127,10 +191,8 @@ fn check_places(rt: &impl Abort, alloc: Global, old: &str, text: &str) -> Result
 fn leaves_of_a_tree(rt: HostRuntime) -> Result<(), Fail> {
     let built = text_of(rt.alloc(), "é\r\nab", 30_000)?;
     check_places(&rt, rt.alloc(), &built, "")?;
-    // No full leaf has room for it.
-    let node = tree_of(&rt, rt.alloc(), &built)?;
-    let edited = replaced(&rt, rt.alloc(), &node, 5_000, 5_000, "せせ")?;
-    assert!(rt; edited.is_none());
+    // A full leaf becomes two for it.
+    check_places(&rt, rt.alloc(), &built, "せせ")?;
     Ok(())
 }
 

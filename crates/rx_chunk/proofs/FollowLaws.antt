@@ -1,6 +1,6 @@
 -- Following a node, whatever its move is.
 use Rattle.std.proofs.Common.{◌≡◌, ℕ, zero, suc, ◌+◌, ◌-◌, ◌*◌, ◌≤◌, ◌⊎◌, Bool, true, false, Result, Ok, Err, IfOk, OnOk, List, [], ◌∷◌, ◌++◌, length, map, max, Option, Some, None, Contains, slice_get, refl, sym, ap, ap₂, subst, ◌∙◌, arith, inl, inr}
-use Rattle.std.proofs.lemmas.List.{map-append, append_assoc, append-nil, length-append, get_or_past}
+use Rattle.std.proofs.lemmas.List.{append_assoc, append-nil, length-append, get_or_past}
 use Rattle.std.proofs.lemmas.List.Elements.{Contains-append_left, Contains-push_cases, Contains-append_right}
 use Rattle.rx_program.specs.declared.states.State.{State}
 use Rattle.rx_program.specs.declared.states.State.TheVariants as state
@@ -14,11 +14,12 @@ use Rattle.rx_walks.specs.Bytes.{read_on}
 use Rattle.rx_walks.specs.Steps.{Steps, passed, met, opened, read}
 use Rattle.rx_chunk.specs.declared.place.Place.{Place}
 use Rattle.rx_chunk.specs.Nodes.{width_of, widths_of, index_from, MayStand, IsNodeOf, IsInserted}
-use Rattle.rx_chunk.specs.Lists.{bare, move_at, read_next, is_among, waiting, first_node, IsMade, MakesMoves, Tells, AreUnderWay, IsUnderWay, IsFollowed, fan_of, widest_fan}
+use Rattle.rx_chunk.specs.Threads.{Slots, Thread, Waiting, first_node}
+use Rattle.rx_chunk.specs.Lists.{move_at, noted_at, read_next, is_among, IsMade, MakesMoves, Tells, AreUnderWay, AreFollowed, fan_of, widest_fan}
 use Rattle.rx_chunk.proofs.IndexLaws.{one_index, behind, same_number}
 
-abbrev Bare : Type 0
-Bare = Machine (ℕ × ℕ) (Unit {0})
+abbrev SlotMachine : Type 0
+SlotMachine = Machine (ℕ × ℕ) Slots
 
 Contains-first : (xs : List (ℕ × ℕ)) (x : ℕ × ℕ) → Contains (x ∷ xs) x
 Contains-first xs x = (0, omega arith, refl)
@@ -171,51 +172,43 @@ thread_reads m i threads widths ids n q r k left out at none is way =
       so_far = λ on end steps. subst (λ xs. Steps m i [] threads xs end) (sym (append_assoc out ((n, r) ∷ []) on)) (way.so_far ((n, r) ∷ on) end (read r new is steps));
     }
 
--- ---- threads that note nothing
-
-all_bare : (f : Unit {0}) (rs : List (ℕ × ℕ)) → map (λ r. (f, r)) rs ≡ map bare rs
-all_bare tt rs = refl
-
-pub follow_new : (m : Bare) (i : ℕ) (nodes : List (ℕ × ℕ)) (widths ids : List ℕ) (q : ℕ × ℕ) (k : ℕ) (move : Move (ℕ × ℕ)) (met' : Option ℕ) (stack stack' : List ℕ) (others next next' : List (ℕ × ℕ))
-    → index_from 0 widths q.0 q.1 ≡ Some k → (Contains ids k → ⊥) → m.move i q ≡ move → OnlyNext i move → IsMade move met' stack stack' next next'
-    → IsUnderWay m i nodes widths ids (q ∷ waiting stack ++ others) next → IsFollowed m i nodes widths (ids ++ k ∷ []) (waiting stack' ++ others) next' met'
-follow_new m i nodes widths ids q k (ends p) met' stack stack' others next next' at none is only made way =
-    rw made.0 (rw made.1 (thread_ends m i (map bare nodes) widths ids tt q k p (map bare (waiting stack ++ others)) (map bare next) at none is way))
-follow_new m i nodes widths ids q k (goes rs) met' stack stack' others next next' at none is only made way =
-    let split : map bare ((rs ++ waiting stack) ++ others) ≡ map bare rs ++ map bare (waiting stack ++ others) = ap (λ xs. map bare xs) (append_assoc rs (waiting stack) others) ∙ map-append bare rs (waiting stack ++ others) in
-    let left : map bare (waiting stack' ++ others) ≡ map (λ r. (m.note i q tt, r)) rs ++ map bare (waiting stack ++ others) =
-    ap (λ xs. map bare (xs ++ others)) made.1 ∙ split ∙ ap (λ xs. xs ++ map bare (waiting stack ++ others)) (sym (all_bare (m.note i q tt) rs)) in
-    rw made.0 (rw made.2 (subst (λ xs. AreUnderWay m i (map bare nodes) widths (ids ++ k ∷ []) xs (map bare next)) (sym left)
-    (thread_goes m i (map bare nodes) widths ids tt q k rs (map bare (waiting stack ++ others)) (map bare next) at none is way)))
-follow_new m i nodes widths ids q k (reads r j) met' stack stack' others next next' at none is only made way =
-    let is_next : m.move i q ≡ reads r (i + 1) = is ∙ ap (λ x. reads r x) only in
-    let put : map bare next' ≡ map bare next ++ bare r ∷ [] = ap (λ xs. map bare xs) made.2 ∙ map-append bare next (r ∷ []) in
-    rw made.0 (rw made.1 (subst (λ xs. AreUnderWay m i (map bare nodes) widths (ids ++ k ∷ []) (map bare (waiting stack ++ others)) xs) (sym put)
-    (thread_reads m i (map bare nodes) widths ids tt q r k (map bare (waiting stack ++ others)) (map bare next) at none is_next way)))
-
 -- ---- the code's cases
 
-pub entered_new : (m : Bare) (i : ℕ) (nodes : List (ℕ × ℕ)) (p : ByteProgram) (place : Place) (ids : List ℕ) (q : ℕ × ℕ) (k : ℕ) (x : State) (met' : Option ℕ) (stack stack' : List ℕ) (others next next' : List (ℕ × ℕ))
-    → MakesMoves m i p.states place → slice_get p.states q.0 ≡ Some x → index_from 0 (widths_of p) q.0 q.1 ≡ Some k → (Contains ids k → ⊥) → IsMade (move_at place i q x) met' stack stack' next next'
-    → IsUnderWay m i nodes (widths_of p) ids (q ∷ waiting stack ++ others) next → IsFollowed m i nodes (widths_of p) (ids ++ k ∷ []) (waiting stack' ++ others) next' met'
-entered_new m i nodes p place ids q k x met' stack stack' others next next' moves here at none made way =
-    follow_new m i nodes (widths_of p) ids q k (move_at place i q x) met' stack stack' others next next' at none (moves.at_state q x here) (only_next place i q x) made way
+follow_new : (m : SlotMachine) (i : ℕ) (threads : List Thread) (widths ids : List ℕ) (q : ℕ × ℕ) (k : ℕ) (move : Move (ℕ × ℕ)) (noted : Slots) (met' : Option ℕ) (w w' : Waiting) (others next next' : List Thread)
+    → index_from 0 widths q.0 q.1 ≡ Some k → (Contains ids k → ⊥) → m.move i q ≡ move → m.note i q w.slots ≡ noted → OnlyNext i move → IsMade move noted met' w w' next next'
+    → AreUnderWay m i threads widths ids ((w.slots, q) ∷ w.threads ++ others) next → AreFollowed m i threads widths (ids ++ k ∷ []) (w'.threads ++ others) next' w'.slots met'
+follow_new m i threads widths ids q k (ends p) noted met' w w' others next next' at none is note only made way =
+    rw made.0 (rw made.1 (rw made.2 (thread_ends m i threads widths ids w.slots q k p (w.threads ++ others) next at none is way)))
+follow_new m i threads widths ids q k (goes rs) noted met' w w' others next next' at none is note only made way =
+    let left : w'.threads ++ others ≡ map (λ r. (m.note i q w.slots, r)) rs ++ (w.threads ++ others) =
+    ap (λ xs. xs ++ others) made.1 ∙ append_assoc (map (λ r. (noted, r)) rs) w.threads others ∙ ap (λ n. map (λ r. (n, r)) rs ++ (w.threads ++ others)) (sym note) in
+    rw made.0 (rw made.2 (subst (λ xs. AreUnderWay m i threads widths (ids ++ k ∷ []) xs next) (sym left)
+    (thread_goes m i threads widths ids w.slots q k rs (w.threads ++ others) next at none is way)))
+follow_new m i threads widths ids q k (reads r j) noted met' w w' others next next' at none is note only made way =
+    let is_next : m.move i q ≡ reads r (i + 1) = is ∙ ap (λ x. reads r x) only in
+    rw made.0 (rw made.1 (rw made.2 (thread_reads m i threads widths ids w.slots q r k (w.threads ++ others) next at none is_next way)))
+
+pub entered_new : (m : SlotMachine) (i : ℕ) (threads : List Thread) (p : ByteProgram) (place : Place) (ids : List ℕ) (q : ℕ × ℕ) (k : ℕ) (x : State) (met' : Option ℕ) (w w' : Waiting) (others next next' : List Thread)
+    → MakesMoves m i p.states place → slice_get p.states q.0 ≡ Some x → index_from 0 (widths_of p) q.0 q.1 ≡ Some k → (Contains ids k → ⊥) → IsMade (move_at place i q x) (noted_at place x w.slots) met' w w' next next'
+    → AreUnderWay m i threads (widths_of p) ids ((w.slots, q) ∷ w.threads ++ others) next → AreFollowed m i threads (widths_of p) (ids ++ k ∷ []) (w'.threads ++ others) next' w'.slots met'
+entered_new m i threads p place ids q k x met' w w' others next next' moves here at none made way =
+    follow_new m i threads (widths_of p) ids q k (move_at place i q x) (noted_at place x w.slots) met' w w' others next next' at none (moves.at_state q x here) (moves.notes q x here w.slots) (only_next place i q x) made way
 
 no_width : (first : ℕ) (states : List State) (q s : ℕ) → slice_get states q ≡ None → index_from first (map width_of states) q s ≡ None
 no_width first [] q s e = refl
 no_width first (y ∷ states) zero s e = absurd (cc e)
 no_width first (y ∷ states) (suc q) s e = no_width (first + width_of y) states q s e
 
-pub entered_nowhere : (m : Bare) (i : ℕ) (nodes : List (ℕ × ℕ)) (p : ByteProgram) (place : Place) (ids : List ℕ) (q : ℕ × ℕ) (left out : List (ℕ × ℕ))
-    → MakesMoves m i p.states place → slice_get p.states q.0 ≡ None → IsUnderWay m i nodes (widths_of p) ids (q ∷ left) out → IsUnderWay m i nodes (widths_of p) ids left out
-entered_nowhere m i nodes p place ids q left out moves here way =
-    thread_nowhere m i (map bare nodes) (widths_of p) ids tt q (map bare left) (map bare out) (no_width 0 p.states q.0 q.1 here) (moves.elsewhere q here) way
+pub entered_nowhere : (m : SlotMachine) (i : ℕ) (threads : List Thread) (p : ByteProgram) (place : Place) (ids : List ℕ) (n : Slots) (q : ℕ × ℕ) (left out : List Thread)
+    → MakesMoves m i p.states place → slice_get p.states q.0 ≡ None → AreUnderWay m i threads (widths_of p) ids ((n, q) ∷ left) out → AreUnderWay m i threads (widths_of p) ids left out
+entered_nowhere m i threads p place ids n q left out moves here way =
+    thread_nowhere m i threads (widths_of p) ids n q left out (no_width 0 p.states q.0 q.1 here) (moves.elsewhere q here) way
 
-pub entered_behind : (m : Bare) (i : ℕ) (nodes : List (ℕ × ℕ)) (p : ByteProgram) (place : Place) (ids : List ℕ) (q : ℕ × ℕ) (x : State) (left out : List (ℕ × ℕ))
+pub entered_behind : (m : SlotMachine) (i : ℕ) (threads : List Thread) (p : ByteProgram) (place : Place) (ids : List ℕ) (n : Slots) (q : ℕ × ℕ) (x : State) (left out : List Thread)
     → MakesMoves m i p.states place → slice_get p.states q.0 ≡ Some x → IsNodeOf p.states q → index_from 0 (widths_of p) q.0 q.1 ≡ None
-    → IsUnderWay m i nodes (widths_of p) ids (q ∷ left) out → IsUnderWay m i nodes (widths_of p) ids left out
-entered_behind m i nodes p place ids q x left out moves here may at way =
-    thread_nowhere m i (map bare nodes) (widths_of p) ids tt q (map bare left) (map bare out) at
+    → AreUnderWay m i threads (widths_of p) ids ((n, q) ∷ left) out → AreUnderWay m i threads (widths_of p) ids left out
+entered_behind m i threads p place ids n q x left out moves here may at way =
+    thread_nowhere m i threads (widths_of p) ids n q left out at
     (moves.at_state q x here ∙ behind_reads place i q x (behind 0 p.states q.0 q.1 x here at) (subst (λ o. MayStand o q.1) here may)) way
 
 -- ---- what is left to do
@@ -231,18 +224,18 @@ fan_below (y ∷ states) (suc q) x e = omega (arith, fan_below states q x e)
 one_less : (a b w s s' : ℕ) → a ≡ suc b → s' ≤ s + w → b * (w + 1) + s' ≤ a * (w + 1) + s
 one_less a b w s s' e f = rw e (omega (arith, f))
 
-pub entered_less : (p : ByteProgram) (ids ids' stack stack' : List ℕ) (q k end : ℕ) (x : State) → slice_get p.states q ≡ Some x → ids' ≡ ids ++ k ∷ [] → length ids' ≤ end
-    → length stack' ≤ length stack + fan_of x → (end - length ids') * (widest_fan p.states + 1) + length stack' ≤ (end - length ids) * (widest_fan p.states + 1) + length stack
-entered_less p ids ids' stack stack' q k end x here more room fan =
+pub entered_less : (p : ByteProgram) (ids ids' : List ℕ) (size size' q k end : ℕ) (x : State) → slice_get p.states q ≡ Some x → ids' ≡ ids ++ k ∷ [] → length ids' ≤ end
+    → size' ≤ size + fan_of x → (end - length ids') * (widest_fan p.states + 1) + size' ≤ (end - length ids) * (widest_fan p.states + 1) + size
+entered_less p ids ids' size size' q k end x here more room fan =
     let longer : length ids' ≡ length ids + 1 = ap (λ xs. length xs) more ∙ length-append ids (k ∷ []) in
-    one_less (end - length ids) (end - length ids') (widest_fan p.states) (length stack) (length stack') (omega (arith, longer, room)) (omega (arith, fan, fan_below p.states q x here))
+    one_less (end - length ids) (end - length ids') (widest_fan p.states) size size' (omega (arith, longer, room)) (omega (arith, fan, fan_below p.states q x here))
 
-pub skipped : (m : Bare) (i : ℕ) (nodes : List (ℕ × ℕ)) (p : ByteProgram) (place : Place) (ids ids' : List ℕ) (q : ℕ × ℕ) (x : State) (left out : List (ℕ × ℕ)) (o : Option ℕ) (is_new : Bool)
+pub skipped : (m : SlotMachine) (i : ℕ) (threads : List Thread) (p : ByteProgram) (place : Place) (ids ids' : List ℕ) (n : Slots) (q : ℕ × ℕ) (x : State) (left out : List Thread) (o : Option ℕ) (is_new : Bool)
     → index_from 0 (widths_of p) q.0 q.1 ≡ o → is_new ≡ false → IsInserted o is_new ids ids' → MakesMoves m i p.states place → slice_get p.states q.0 ≡ Some x → IsNodeOf p.states q
-    → IsUnderWay m i nodes (widths_of p) ids (q ∷ left) out → IsUnderWay m i nodes (widths_of p) ids' left out
-skipped m i nodes p place ids ids' q x left out None is_new at old is moves here may way = rw is.1 (entered_behind m i nodes p place ids q x left out moves here may at way)
-skipped m i nodes p place ids ids' q x left out (Some k) true at old is moves here may way = absurd (cc old)
-skipped m i nodes p place ids ids' q x left out (Some k) false at old is moves here may way = rw is.1 (thread_seen m i (map bare nodes) (widths_of p) ids tt q k (map bare left) (map bare out) at is.0 way)
+    → AreUnderWay m i threads (widths_of p) ids ((n, q) ∷ left) out → AreUnderWay m i threads (widths_of p) ids' left out
+skipped m i threads p place ids ids' n q x left out None is_new at old is moves here may way = rw is.1 (entered_behind m i threads p place ids n q x left out moves here may at way)
+skipped m i threads p place ids ids' n q x left out (Some k) true at old is moves here may way = absurd (cc old)
+skipped m i threads p place ids ids' n q x left out (Some k) false at old is moves here may way = rw is.1 (thread_seen m i threads (widths_of p) ids n q k left out at is.0 way)
 
 pub if_ok : {A E : Type 0} {P Q : A → Type 0} (r : Result A E) → ((x : A) → P x → Q x) → IfOk r P → IfOk r Q
 if_ok (Ok x) f h = f x h

@@ -1,18 +1,19 @@
 -- What the machine of a program does at a place, and a step from its beginning to its end.
-use Rattle.std.proofs.Common.{◌≡◌, ℕ, zero, suc, List, [], ◌∷◌, map, Some, None, slice_get, refl, ap, subst, ◌∙◌}
+use Rattle.std.proofs.Common.{◌≡◌, ℕ, zero, suc, List, [], ◌∷◌, map, Some, None, slice_get, refl, sym, ap, subst, ◌∙◌}
 use Rattle.std.proofs.lemmas.List.{append-nil}
 use Rattle.rx_program.specs.declared.states.State.{State}
 use Rattle.rx_program.specs.declared.states.State.TheVariants as state
-use Rattle.rx_program.specs.Programs.{ByteProgram, characters_of, node_of, automaton_of, automata_of}
+use Rattle.rx_program.specs.Programs.{ByteProgram, node_of, automaton_of, automata_of}
 use Rattle.rx_program.specs.Code.{place_of}
 use Rattle.rx_automata.specs.Automata.{step_of}
 use Rattle.rx_walks.specs.Machines.{Machine, goes}
 use Rattle.rx_walks.specs.Looks as walks
-use Rattle.rx_walks.specs.Programs.{Haystack, only_if, left_from}
-use Rattle.rx_walks.specs.Bytes.{Automaton, by_byte, read_byte, over_bytes}
+use Rattle.rx_walks.specs.Programs.{Haystack, only_if, left_from, note_at}
+use Rattle.rx_walks.specs.Bytes.{Automaton, by_byte, read_byte}
 use Rattle.rx_walks.specs.Steps.{Steps, done}
 use Rattle.rx_chunk.specs.declared.place.Place.{Place}
-use Rattle.rx_chunk.specs.Lists.{IsPlace, first_byte, first_node, move_at, read_next, MakesMoves, AreUnderWay}
+use Rattle.rx_chunk.specs.Threads.{Slots, first_node, note_slot}
+use Rattle.rx_chunk.specs.Lists.{IsPlace, first_byte, move_at, noted_at, read_next, slot_machine, MakesMoves, AreUnderWay}
 use Rattle.rx_chunk.proofs.FollowLaws.{tells_none}
 
 node_at : (states : List State) (q : ℕ) (x : State) → slice_get states q ≡ Some x → slice_get (map node_of states) q ≡ Some (node_of x)
@@ -45,14 +46,23 @@ moves_so p h i place q (state.Union alternates) here is = refl
 moves_so p h i place q (state.Capture slot r) here is = refl
 moves_so p h i place q (state.Match k) here is = refl
 
--- whatever walks note
-pub moves_at_place : {N : Type 0} (put : ℕ → ℕ → N → N) (p : ByteProgram) (h : Haystack walks.Look) (i : ℕ) (place : Place) → IsPlace h i place → MakesMoves (over_bytes put (automata_of p) (characters_of p).nodes h) i p.states place
-moves_at_place put p h i place here = record {
+noted_so : (place : Place) (i : ℕ) (x : State) (slots : Slots) → place.at ≡ i → note_at note_slot i (Some (node_of x)) slots ≡ noted_at place x slots
+noted_so place i (state.Ranges automaton r) slots e = refl
+noted_so place i (state.Look asked r) slots e = refl
+noted_so place i (state.Empty r) slots e = refl
+noted_so place i (state.BinaryUnion first second) slots e = refl
+noted_so place i (state.Union alternates) slots e = refl
+noted_so place i (state.Capture slot r) slots e = ap (λ j. note_slot slot j slots) (sym e)
+noted_so place i (state.Match k) slots e = refl
+
+pub moves_at_place : (p : ByteProgram) (h : Haystack walks.Look) (i : ℕ) (place : Place) → IsPlace h i place → MakesMoves (slot_machine p h) i p.states place
+moves_at_place p h i place here = record {
   at_state = λ q x is. ap (λ b. only_if b (by_byte (automata_of p) h i q.0 q.1 (slice_get (map node_of p.states) q.0))) here.inside
       ∙ ap (λ o. by_byte (automata_of p) h i q.0 q.1 o) (node_at p.states q.0 x is)
       ∙ moves_so p h i place q x here is;
   elsewhere = λ q is. ap (λ b. only_if b (by_byte (automata_of p) h i q.0 q.1 (slice_get (map node_of p.states) q.0))) here.inside
       ∙ ap (λ o. by_byte (automata_of p) h i q.0 q.1 o) (no_node p.states q.0 is);
+  notes = λ q x is slots. ap (λ o. note_at note_slot i o slots) (node_at p.states q.0 x is) ∙ noted_so place i x slots here.at;
 }
 
 pub begun : {N : Type 0} (m : Machine (ℕ × ℕ) N) (i : ℕ) (threads : List (N × (ℕ × ℕ))) (widths : List ℕ) → AreUnderWay m i threads widths [] threads []

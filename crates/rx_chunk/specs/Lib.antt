@@ -1,2 +1,4 @@
 pub mod Nodes
+pub mod Threads
+pub mod Frames
 pub mod Lists

@@ -1,5 +1,5 @@
 -- The step from the ordered nodes at a place to those at the next one.
-use Rattle.std.specs.Prelude.{◌≡◌, ℕ, ◌+◌, ◌-◌, ◌*◌, Bool, true, List, [], ◌∷◌, ◌++◌, length, map, reverse, max, Option, Some, None, option_map, slice_get, Contains}
+use Rattle.std.specs.Prelude.{◌≡◌, ℕ, ◌+◌, ◌-◌, ◌*◌, Bool, true, List, [], ◌∷◌, ◌++◌, length, map, max, Option, Some, None, option_map, slice_get, Contains}
 use Rattle.rx_program.specs.declared.states.State.{State}
 use Rattle.rx_program.specs.declared.states.State.TheVariants as state
 use Rattle.rx_program.specs.Programs.{ByteProgram, characters_of, automata_of}
@@ -14,6 +14,7 @@ use Rattle.rx_walks.specs.Steps.{Steps, StepsSoFar}
 use Rattle.rx_chunk.specs.declared.place.Looks.{Looks}
 use Rattle.rx_chunk.specs.declared.place.Place.{Place}
 use Rattle.rx_chunk.specs.Nodes.{index_from, end_from, widths_of}
+use Rattle.rx_chunk.specs.Threads.{Slots, Thread, Waiting, note_slot, first_node}
 
 -- whether a look is among those that hold
 abbrev pub is_among : Looks → walks.Look → Bool
@@ -28,37 +29,27 @@ abbrev pub first_byte : List ℕ → Option ℕ
 first_byte [] = None
 first_byte (b ∷ bytes) = Some b
 
--- at a place where walks may stand, this byte is the next one, and these looks hold
+-- this is a place where walks may stand, this byte is the next one, and these looks hold
 pub record IsPlace (h : Haystack walks.Look) (i : ℕ) (place : Place) : Type 0 where
+  pub at : place.at ≡ i
   pub inside : is_within h.low h.high i ≡ true
   pub byte : first_byte (left_from h i) ≡ place.byte
   pub looks : (l : walks.Look) → h.holds l i ≡ is_among place.looks l
 
--- a node as a thread that notes nothing
-abbrev pub bare : ℕ × ℕ → Unit {0} × (ℕ × ℕ)
-bare q = (tt, q)
+-- the machine of a program's bytes, whose walks note places in their slots
+abbrev pub slot_machine : ByteProgram → Haystack walks.Look → Machine (ℕ × ℕ) Slots
+slot_machine p h = over_bytes note_slot (automata_of p) (characters_of p).nodes h
 
-abbrev pub note_nothing : ℕ → ℕ → Unit {0} → Unit {0}
-note_nothing slot i n = n
+abbrev pub met_at : ℕ → Option ℕ → Slots → Option (Outcome Slots)
+met_at i met slots = option_map (λ k. record { pattern = k; end = i; notes = slots }) met
 
--- the machine of a program's bytes, whose walks note nothing
-abbrev pub bare_machine : ByteProgram → Haystack walks.Look → Machine (ℕ × ℕ) (Unit {0})
-bare_machine p h = over_bytes note_nothing (automata_of p) (characters_of p).nodes h
-
-abbrev pub met_at : ℕ → Option ℕ → Option (Outcome (Unit {0}))
-met_at i met = option_map (λ k. record { pattern = k; end = i; notes = tt }) met
-
--- the step from these nodes gives those, in order, and the pattern whose match ends
-abbrev pub IsNextList : ByteProgram → Place → List (ℕ × ℕ) → List (ℕ × ℕ) → Option ℕ → Type 0
-IsNextList p place nodes next met =
+-- the step from these threads gives those, in order, and the pattern whose match ends, with its slots
+abbrev pub IsNextList : ByteProgram → Place → List Thread → List Thread → Option ℕ → Slots → Type 0
+IsNextList p place threads next met slots =
     (h : Haystack walks.Look) (i : ℕ) → IsPlace h i place
-    → Steps (bare_machine p h) i [] (map bare nodes) (map bare next) (met_at i met)
+    → Steps (slot_machine p h) i [] threads next (met_at i met slots)
 
 -- ---- inside a step
-
--- the node at which a state is entered
-abbrev pub first_node : ℕ → ℕ × ℕ
-first_node q = (q, 0)
 
 abbrev pub read_next : (ℕ → ℕ → Option (Option ℕ)) → ℕ → ℕ → ℕ → ℕ → Option ℕ → Move (ℕ × ℕ)
 read_next step q r s i None = goes []
@@ -77,18 +68,20 @@ move_at place i q (state.Union alternates) = goes (map first_node alternates.ite
 move_at place i q (state.Capture slot r) = goes (first_node r ∷ [])
 move_at place i q (state.Match k) = ends k
 
--- the nodes that wait on a stack, the top one first
-abbrev pub waiting : List ℕ → List (ℕ × ℕ)
-waiting stack = map first_node (reverse stack)
+-- what passing the empty edges of a state notes
+abbrev pub noted_at : Place → State → Slots → Slots
+noted_at place (state.Capture slot r) slots = note_slot slot place.at slots
+noted_at place _ slots = slots
 
--- a move is made: a match ends, or nodes come onto the stack, or a node comes into the next list
-abbrev pub IsMade : Move (ℕ × ℕ) → Option ℕ → List ℕ → List ℕ → List (ℕ × ℕ) → List (ℕ × ℕ)
+-- A move is made at a node that is followed with the slots at hand: a match ends, or threads with what was noted come before those that wait, or a thread comes into the next list.
+abbrev pub IsMade : Move (ℕ × ℕ) → Slots → Option ℕ → Waiting → Waiting → List Thread → List Thread
     → Type 0
-IsMade (ends k) met stack stack' next next' = (met ≡ Some k) × (next' ≡ next)
-IsMade (goes rs) met stack stack' next next' =
-    (met ≡ None) × (waiting stack' ≡ rs ++ waiting stack) × (next' ≡ next)
-IsMade (reads r j) met stack stack' next next' =
-    (met ≡ None) × (stack' ≡ stack) × (next' ≡ next ++ r ∷ [])
+IsMade (ends k) noted met w w' next next' =
+    (met ≡ Some k) × (w'.slots ≡ w.slots) × (next' ≡ next)
+IsMade (goes rs) noted met w w' next next' =
+    (met ≡ None) × (w'.threads ≡ map (λ r. (noted, r)) rs ++ w.threads) × (next' ≡ next)
+IsMade (reads r j) noted met w w' next next' =
+    (met ≡ None) × (w'.threads ≡ w.threads) × (next' ≡ next ++ (w.slots, r) ∷ [])
 
 -- how many edges a state has at most
 abbrev pub fan_of : State → ℕ
@@ -99,17 +92,19 @@ abbrev pub widest_fan : List State → ℕ
 widest_fan [] = 0
 widest_fan (x ∷ states) = max (fan_of x) (widest_fan states)
 
--- how often a node may still be followed, at most, by the indices seen and the stack
-abbrev pub work_left : ByteProgram → List ℕ → List ℕ → ℕ
-work_left p ids stack =
-    (end_from 0 (widths_of p) - length ids) * (widest_fan p.states + 1) + length stack
+-- how often a node may still be followed, at most, by the indices seen and the size of the stack
+abbrev pub work_left : ByteProgram → List ℕ → ℕ → ℕ
+work_left p ids size =
+    (end_from 0 (widths_of p) - length ids) * (widest_fan p.states + 1) + size
 
--- a machine makes these moves at a place, whatever its walks note
-pub record MakesMoves {N : Type 0} (m : Machine (ℕ × ℕ) N) (i : ℕ) (states : List State)
-    (place : Place) : Type 0 where
+-- a machine makes these moves at a place, and notes so
+pub record MakesMoves (m : Machine (ℕ × ℕ) Slots) (i : ℕ) (states : List State) (place : Place)
+    : Type 0 where
   pub at_state : (q : ℕ × ℕ) (x : State) → slice_get states q.0 ≡ Some x
       → m.move i q ≡ move_at place i q x
   pub elsewhere : (q : ℕ × ℕ) → slice_get states q.0 ≡ None → m.move i q ≡ goes []
+  pub notes : (q : ℕ × ℕ) (x : State) → slice_get states q.0 ≡ Some x → (slots : Slots)
+      → m.note i q slots ≡ noted_at place x slots
 
 -- a set of indices tells of each node that has one whether it was seen
 abbrev pub Tells : List ℕ → List ℕ → List (ℕ × ℕ) → Type 0
@@ -123,15 +118,9 @@ pub record AreUnderWay {N : Type 0} (m : Machine (ℕ × ℕ) N) (i : ℕ) (thre
   pub tells : Tells widths ids seen
   pub so_far : StepsSoFar m i threads seen left out
 
--- the same of threads that note nothing
-abbrev pub IsUnderWay : Machine (ℕ × ℕ) (Unit {0}) → ℕ → List (ℕ × ℕ) → List ℕ → List ℕ
-    → List (ℕ × ℕ) → List (ℕ × ℕ) → Type 0
-IsUnderWay m i nodes widths ids left out =
-    AreUnderWay m i (map bare nodes) widths ids (map bare left) (map bare out)
-
 -- after a node was followed: the step is still under way, or it has met an end
-abbrev pub IsFollowed : Machine (ℕ × ℕ) (Unit {0}) → ℕ → List (ℕ × ℕ) → List ℕ → List ℕ
-    → List (ℕ × ℕ) → List (ℕ × ℕ) → Option ℕ → Type 0
-IsFollowed m i nodes widths ids left out None = IsUnderWay m i nodes widths ids left out
-IsFollowed m i nodes widths ids left out (Some k) =
-    Steps m i [] (map bare nodes) (map bare out) (met_at i (Some k))
+abbrev pub AreFollowed : Machine (ℕ × ℕ) Slots → ℕ → List Thread → List ℕ → List ℕ → List Thread
+    → List Thread → Slots → Option ℕ → Type 0
+AreFollowed m i threads widths ids left out slots None = AreUnderWay m i threads widths ids left out
+AreFollowed m i threads widths ids left out slots (Some k) =
+    Steps m i [] threads out (met_at i (Some k) slots)

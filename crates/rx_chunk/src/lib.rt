@@ -3,10 +3,13 @@
 #![tactic(auto)]
 
 mod node;
+mod pending;
 mod place;
 mod stepper;
+mod threads;
 mod visited;
 
 pub use node::Node;
 pub use place::{Looks, Place};
 pub use stepper::Stepper;
+pub use threads::Threads;

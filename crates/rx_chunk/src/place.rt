@@ -4,6 +4,7 @@ ghost use Rattle.std.specs.Prelude.{◌≡◌};
 ghost use Rattle.rx_program.specs.Code.{place_of};
 ghost use Rattle.rx_chunk.specs.Lists.{is_among};
 
+use rx_captures::NonMaxUsize;
 use rx_grammar::Look;
 
 /// Which looks hold at a place.
@@ -39,9 +40,12 @@ impl Looks {
     }
 }
 
-/// The next byte, which is none where walks may go no further, and the looks that hold.
+/// Where it is, the next byte, which is none where walks may go no further, and the looks that
+/// hold.
 #[derive(Clone, Copy, Debug, PartialEq, Eq, Hash)]
 pub struct Place {
+    /// The byte index in the content.
+    pub at: NonMaxUsize,
     /// The byte.
     pub byte: Option<u8>,
     /// The looks.

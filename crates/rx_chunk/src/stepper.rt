@@ -1,35 +1,24 @@
-//! The step from the ordered nodes at a place to those at the next one.
+//! The step from the ordered threads at a place to those at the next one.
 
-ghost use Rattle.std.specs.Prelude.{ℕ, ◌≡◌, ◌+◌, ◌++◌, ◌≤◌, ◌∷◌, [], All, List, map, length, None, IfOk, OnOk, IfErr, MatchOption, slice_get};
+ghost use Rattle.std.specs.Prelude.{ℕ, ◌≡◌, ◌+◌, ◌++◌, ◌≤◌, ◌∷◌, All, List, length, None, Some, IfOk, OnOk, IfErr, MatchOption, slice_get};
 ghost use Rattle.rx_captures.specs.declared.search.MatchError.{MatchError};
 ghost use Rattle.rx_program.specs.declared.states.State.{State};
 ghost use Rattle.rx_walks.specs.Machines.{Machine};
 ghost use Rattle.rx_automata.specs.Automata.{step_of};
 ghost use Rattle.rx_chunk.specs.Nodes.{widths_of, IsNodeOf, MayStand};
-ghost use Rattle.rx_chunk.specs.Lists.{IsNextList, IsMade, move_at, fan_of, MakesMoves, IsUnderWay, IsFollowed, waiting, first_node, read_next, work_left};
+ghost use Rattle.rx_chunk.specs.Threads.{Slots, Thread, Waiting, IsThreadOf};
+ghost use Rattle.rx_chunk.specs.Lists.{IsNextList, IsMade, move_at, noted_at, fan_of, MakesMoves, AreUnderWay, AreFollowed, read_next, work_left};
 
 use crate::node::Node;
+use crate::pending::Pending;
 use crate::place::Place;
+use crate::threads::Threads;
 use crate::visited::Visited;
 use rx_automata::SetAutomaton;
-use rx_captures::{MatchError, PatternID, StateID};
+use rx_captures::{MatchError, NonMaxUsize, PatternID, StateID};
 use rx_program::{Program, State};
 use std::alloc::{AllocError, Global};
 use std::marker::Model;
-
-/// Puts the states onto the stack, the first one on top.
-fn push_all(stack: &mut Vec<StateID>, mut states: &[StateID]) -> Result<(), AllocError>
-    ensures stack { OnOk result (waiting stack.new.items
-        ≡ map first_node states.now ++ waiting stack.old.items) }
-    ensures length { OnOk result (length stack.new.items
-        ≡ length states.now + length stack.old.items) }
-{
-    while let [rest @ .., last] = states {
-        stack.push(*last)?;
-        states = rest;
-    }
-    Ok(())
-}
 
 /// The state with this number, if there is one.
 fn state_at(states: &[State], id: StateID) -> Option<&State>
@@ -39,60 +28,73 @@ fn state_at(states: &[State], id: StateID) -> Option<&State>
     states.get(id.as_usize())
 }
 
-/// Puts out the node to which a byte leads.
+/// Puts out a thread at the node to which a byte leads.
 fn read(
     automaton: &SetAutomaton,
     on: StateID,
-    place: Place,
+    place: &Place,
     node: Node,
-    next: &mut Vec<Node>,
+    slots: &[Option<NonMaxUsize>],
+    next: &mut Threads,
 ) -> Result<(), AllocError>
-    ensures made { OnOk result ((i : ℕ) → (stack : List ℕ)
-        → IsMade (read_next (step_of automaton.now) node.0 on node.1 i place.byte) None
-        stack stack next.old.items next.new.items) }
-    ensures nodes { OnOk result ((states : List State) → MayStand (slice_get states node.0) 1
-        → All (IsNodeOf states) next.old.items → All (IsNodeOf states) next.new.items) }
+    requires slots { length slots.now ≡ next.old.slot_len }
+    ensures made { OnOk result ((i : ℕ) → (noted : Slots) → (w : Waiting)
+        → w.slots ≡ slots.now
+        → IsMade (read_next (step_of automaton.now) node.0 on node.1 i place.now.byte) noted None
+        w w next.old.threads next.new.threads) }
+    ensures threads { OnOk result ((states : List State) → MayStand (slice_get states node.0) 1
+        → All (IsThreadOf states) next.old.threads
+        → All (IsThreadOf states) next.new.threads) }
+    ensures slot_len { next.new.slot_len ≡ next.old.slot_len }
 {
     let Some(byte) = place.byte else {
         return Ok(());
     };
     match automaton.step(node.within(), byte) {
         None => {}
-        Some(None) => next.push(Node::first(on))?,
-        Some(Some(within)) => next.push(Node::new(node.state(), within))?,
+        Some(None) => next.push(Node::first(on), slots)?,
+        Some(Some(within)) => next.push(Node::new(node.state(), within), slots)?,
     }
     Ok(())
 }
 
-/// Makes the move of a state: a match ends, or states come onto the stack, or a node comes into the
+/// Makes the move of a state: a match ends, or threads wait at states, or a thread comes into the
 /// next list.
 fn make_move(
-    stack: &mut Vec<StateID>,
+    pending: &mut Pending,
     state: &State,
-    place: Place,
+    place: &Place,
     node: Node,
-    next: &mut Vec<Node>,
+    next: &mut Threads,
 ) -> Result<Option<PatternID>, AllocError>
-    ensures made { IfOk result (λ met. (i : ℕ) → IsMade (move_at place i node state.now) met
-        stack.old.items stack.new.items next.old.items next.new.items) }
-    ensures fan { OnOk result (length stack.new.items
-        ≤ length stack.old.items + fan_of state.now) }
-    ensures nodes { OnOk result ((states : List State) → slice_get states node.0 ≡ Some state.now
-        → All (IsNodeOf states) next.old.items → All (IsNodeOf states) next.new.items) }
+    requires slots { length pending.old.slots ≡ next.old.slot_len }
+    ensures made { IfOk result (λ met. (i : ℕ) → IsMade (move_at place.now i node state.now)
+        (noted_at place.now state.now pending.old.slots) met pending.old pending.new
+        next.old.threads next.new.threads) }
+    ensures fan { OnOk result (pending.new.size ≤ pending.old.size + fan_of state.now) }
+    ensures threads { OnOk result ((states : List State) → slice_get states node.0 ≡ Some state.now
+        → All (IsThreadOf states) next.old.threads
+        → All (IsThreadOf states) next.new.threads) }
+    ensures slots { OnOk result (length pending.new.slots ≡ length pending.old.slots) }
+    ensures slot_len { next.new.slot_len ≡ next.old.slot_len }
 {
     match state {
-        State::Ranges(automaton, on) => read(automaton, *on, place, node, next)?,
+        State::Ranges(automaton, on) => read(automaton, *on, place, node, pending.slots(), next)?,
         State::Look(look, on) => {
             if place.looks.has(*look) {
-                stack.push(*on)?;
+                pending.push(*on)?;
             }
         }
-        State::Empty(on) | State::Capture(_, on) => stack.push(*on)?,
-        State::BinaryUnion(first, second) => {
-            stack.push(*second)?;
-            stack.push(*first)?;
+        State::Empty(on) => pending.push(*on)?,
+        State::Capture(slot, on) => {
+            pending.note(*slot, place.at)?;
+            pending.push(*on)?;
         }
-        State::Union(alternates) => push_all(stack, alternates)?,
+        State::BinaryUnion(first, second) => {
+            pending.push(*second)?;
+            pending.push(*first)?;
+        }
+        State::Union(alternates) => pending.push_all(alternates)?,
         State::Match(pattern) => return Ok(Some(*pattern)),
     }
     Ok(None)
@@ -102,34 +104,37 @@ fn make_move(
 #[derive(Debug, Drop)]
 struct Closure {
     visited: Visited,
-    // The states still to follow, the next one last.
-    stack: Vec<StateID>,
+    pending: Pending,
 }
 
 impl Closure {
-    /// Follows a node, if it wasn't seen at this place.
+    /// Follows a node, if it wasn't seen at this place, with the slots at hand.
     fn enter(
         &mut self,
         program: &Program,
-        place: Place,
+        place: &Place,
         node: Node,
-        next: &mut Vec<Node>,
+        next: &mut Threads,
     ) -> Result<Option<PatternID>, AllocError>
         requires made { self.old.visited.widths ≡ widths_of program.now }
         requires node { IsNodeOf program.now.states node }
-        ensures followed { IfOk result (λ met. (m : Machine (ℕ × ℕ) (Unit {0})) → (i : ℕ)
-            → (nodes : List (ℕ × ℕ)) → (others : List (ℕ × ℕ))
-            → MakesMoves m i program.now.states place
-            → IsUnderWay m i nodes (widths_of program.now) self.old.visited.ids
-            (node ∷ waiting self.old.stack.items ++ others) next.old.items
-            → IsFollowed m i nodes (widths_of program.now) self.new.visited.ids
-            (waiting self.new.stack.items ++ others) next.new.items met) }
-        ensures nodes { OnOk result (All (IsNodeOf program.now.states) next.old.items
-            → All (IsNodeOf program.now.states) next.new.items) }
+        requires slots { length self.old.pending.slots ≡ next.old.slot_len }
+        ensures followed { IfOk result (λ met. (m : Machine (ℕ × ℕ) Slots) → (i : ℕ)
+            → (threads : List Thread) → (others : List Thread)
+            → MakesMoves m i program.now.states place.now
+            → AreUnderWay m i threads (widths_of program.now) self.old.visited.ids
+            ((self.old.pending.slots, node) ∷ self.old.pending.threads ++ others) next.old.threads
+            → AreFollowed m i threads (widths_of program.now) self.new.visited.ids
+            (self.new.pending.threads ++ others) next.new.threads self.new.pending.slots met) }
+        ensures threads { OnOk result (All (IsThreadOf program.now.states) next.old.threads
+            → All (IsThreadOf program.now.states) next.new.threads) }
         ensures widths { OnOk result (self.new.visited.widths ≡ self.old.visited.widths) }
         ensures less { OnOk result
-            (work_left program.now self.new.visited.ids self.new.stack.items
-            ≤ work_left program.now self.old.visited.ids self.old.stack.items) }
+            (work_left program.now self.new.visited.ids self.new.pending.size
+            ≤ work_left program.now self.old.visited.ids self.old.pending.size) }
+        ensures slots { OnOk result
+            (length self.new.pending.slots ≡ length self.old.pending.slots) }
+        ensures slot_len { next.new.slot_len ≡ next.old.slot_len }
     {
         let Some(state) = state_at(program.states(), node.state()) else {
             return Ok(None);
@@ -137,37 +142,39 @@ impl Closure {
         if !self.visited.insert(node) {
             return Ok(None);
         }
-        make_move(&mut self.stack, state, place, node, next)
+        make_move(&mut self.pending, state, place, node, next)
     }
 
-    /// Follows a node and all to which empty edges lead from it, in order of preference, up to an
-    /// end of a match.
+    /// Follows a thread and all to which empty edges lead from it, in order of preference, up to an
+    /// end of a match: then the slots at hand are those of that match.
     fn follow(
         &mut self,
         program: &Program,
-        place: Place,
+        place: &Place,
+        slots: &[Option<NonMaxUsize>],
         node: Node,
-        next: &mut Vec<Node>,
+        next: &mut Threads,
     ) -> Result<Option<PatternID>, AllocError>
         requires made { self.old.visited.widths ≡ widths_of program.now }
-        requires empty { self.old.stack.items ≡ [] }
         requires node { IsNodeOf program.now.states node }
-        ensures followed { IfOk result (λ met. (m : Machine (ℕ × ℕ) (Unit {0})) → (i : ℕ)
-            → (nodes : List (ℕ × ℕ)) → (others : List (ℕ × ℕ))
-            → MakesMoves m i program.now.states place
-            → IsUnderWay m i nodes (widths_of program.now) self.old.visited.ids
-            (node ∷ others) next.old.items
-            → IsFollowed m i nodes (widths_of program.now) self.new.visited.ids
-            others next.new.items met) }
-        ensures nodes { OnOk result (All (IsNodeOf program.now.states) next.old.items
-            → All (IsNodeOf program.now.states) next.new.items) }
+        requires slots { length slots.now ≡ next.old.slot_len }
+        ensures followed { IfOk result (λ met. (m : Machine (ℕ × ℕ) Slots) → (i : ℕ)
+            → (threads : List Thread) → (others : List Thread)
+            → MakesMoves m i program.now.states place.now
+            → AreUnderWay m i threads (widths_of program.now) self.old.visited.ids
+            ((slots.now, node) ∷ others) next.old.threads
+            → AreFollowed m i threads (widths_of program.now) self.new.visited.ids
+            others next.new.threads self.new.pending.slots met) }
+        ensures threads { OnOk result (All (IsThreadOf program.now.states) next.old.threads
+            → All (IsThreadOf program.now.states) next.new.threads) }
         ensures widths { OnOk result (self.new.visited.widths ≡ self.old.visited.widths) }
-        ensures empty { IfOk result (λ met. met ≡ None → self.new.stack.items ≡ []) }
+        ensures slot_len { next.new.slot_len ≡ next.old.slot_len }
     {
+        self.pending.begin(slots)?;
         if let Some(pattern) = self.enter(program, place, node, next)? {
             return Ok(Some(pattern));
         }
-        while let Some(state) = self.stack.pop() {
+        while let Some(state) = self.pending.pop() {
             if let Some(pattern) = self.enter(program, place, Node::first(state), next)? {
                 return Ok(Some(pattern));
             }
@@ -177,62 +184,75 @@ impl Closure {
 }
 
 /// What a step needs room for. Contracts see of it how many nodes each state is of the program that
-/// it was made for.
+/// it was made for, and slots: after a step that met an end, those of the match.
 #[derive(Debug, Drop)]
 pub struct Stepper {
     closure: Closure,
 }
 
 impl Model for Stepper {
-    ghost use Rattle.std.specs.Prelude.{ℕ, List};
+    ghost use Rattle.rx_chunk.specs.Threads.{StepperView};
 
-    ghost Value = { List ℕ };
+    ghost Value = { StepperView };
 
-    ghost view = { λ s. s.closure.visited.widths };
+    ghost view = { λ s. record {
+      widths = s.closure.visited.widths;
+      slots = s.closure.pending.slots;
+    } };
 }
 
 impl Stepper {
     /// Room for steps of a program. The one refusal is `Memory`. It takes memory in proportion to
     /// the program's states and those of their automata.
     pub fn new(alloc: Global, program: &Program) -> Result<Stepper, MatchError>
-        ensures made { IfOk result (λ stepper. stepper ≡ widths_of program.now) }
+        ensures made { IfOk result (λ stepper. stepper.widths ≡ widths_of program.now) }
         ensures refused { IfErr result (λ error. error ≡ MatchError.Memory) }
     {
         Ok(Stepper {
             closure: Closure {
                 visited: Visited::new(alloc, program)?,
-                stack: Vec::new(alloc),
+                pending: Pending::new(alloc),
             },
         })
     }
 
-    /// Puts into `next` the nodes at the next place, in order of preference, of walks that stand at
-    /// these nodes here: down to the first end of a match, whose pattern it answers. A node is
-    /// followed once at a place. The one refusal is `Memory`; what `next` then holds has no
-    /// meaning.
+    /// The slots of the match whose end the last step met, if it met one.
+    pub fn slots(&self) -> &[Option<NonMaxUsize>]
+        ensures { result.now ≡ self.now.slots }
+    {
+        self.closure.pending.slots()
+    }
+
+    /// Puts into `next` the threads at the next place, in order of preference, of walks that stand
+    /// as these threads do here: down to the first end of a match, whose pattern it answers, and
+    /// whose slots `slots` tells. A node is followed once at a place. The place is noted in the
+    /// slots that the program names; a slot past those of the threads is passed over. The one
+    /// refusal is `Memory`; what `next` then holds has no meaning.
     ///
-    /// It takes time in proportion to the edges of the nodes that are followed, and no memory but
-    /// what the program asks for.
+    /// It takes time in proportion to the edges of the nodes that are followed and to the slots of
+    /// the threads, and no memory but what the program asks for.
     pub fn next_list(
         &mut self,
         program: &Program,
-        place: Place,
-        nodes: &[Node],
-        next: &mut Vec<Node>,
+        place: &Place,
+        threads: &Threads,
+        next: &mut Threads,
     ) -> Result<Option<PatternID>, MatchError>
-        requires made { self.old ≡ widths_of program.now }
-        requires nodes { All (IsNodeOf program.now.states) nodes.now }
-        ensures list { IfOk result (λ met.
-            IsNextList program.now place nodes.now next.new.items met) }
-        ensures nodes { OnOk result (All (IsNodeOf program.now.states) next.new.items) }
-        ensures made { OnOk result (self.new ≡ self.old) }
+        requires made { self.old.widths ≡ widths_of program.now }
+        requires threads { All (IsThreadOf program.now.states) threads.now.threads }
+        ensures list { IfOk result (λ met. IsNextList program.now place.now threads.now.threads
+            next.new.threads met self.new.slots) }
+        ensures threads { OnOk result (All (IsThreadOf program.now.states) next.new.threads) }
+        ensures slot_len { next.new.slot_len ≡ threads.now.slot_len }
+        ensures made { OnOk result (self.new.widths ≡ self.old.widths) }
         ensures refused { IfErr result (λ error. error ≡ MatchError.Memory) }
     {
         self.closure.visited.clear();
-        self.closure.stack.clear();
-        next.clear();
-        for node in nodes {
-            if let Some(pattern) = self.closure.follow(program, place, *node, next)? {
+        next.clear(threads.slot_len());
+        for index in 0..threads.len() {
+            let slots = threads.slots(index);
+            let node = threads.node(index);
+            if let Some(pattern) = self.closure.follow(program, place, slots, node, next)? {
                 return Ok(Some(pattern));
             }
         }

@@ -1,31 +1,18 @@
 //! An example for each public type.
 
-use rx_captures::{PatternID, StateID};
-use rx_chunk::{Looks, Node, Place, Stepper};
+use crate::places::before;
+use rx_captures::{NonMaxUsize, PatternID, StateID};
+use rx_chunk::{Node, Stepper, Threads};
 use rx_grammar::syntax::Config;
 use rx_grammar::{Look, parse};
 use rx_program::compile;
 use std::test::Fail;
 
-/// A place before this byte, or at the end, inside a line and between letters.
-fn before(byte: Option<u8>) -> Place {
-    Place {
-        byte,
-        looks: Looks {
-            start: false,
-            end: false,
-            start_line: false,
-            end_line: false,
-            word_boundary: false,
-            no_word_boundary: true,
-        },
-    }
-}
-
-/// A place: the byte that comes next, and the looks that hold there.
+/// A place: where it is, the byte that comes next, and the looks that hold there.
 #[test]
 fn place(rt: HostRuntime) -> Result<(), Fail> {
-    let place = before(Some(b'a'));
+    let place = before(7, Some(b'a'));
+    assert_eq!(rt; place.at.get(), 7);
     assert_eq!(rt; place.byte, Some(b'a'));
     assert!(rt; place.looks.has(Look::WordUnicodeNegate));
     assert!(rt; !place.looks.has(Look::Start));
@@ -42,23 +29,46 @@ fn node(rt: HostRuntime) -> Result<(), Fail> {
     Ok(())
 }
 
-/// Steps: `ab?` over `ab` goes on after `a`, and ends behind it where nothing follows.
+/// Threads: each has its node and its slots, and all have as many.
+#[test]
+fn threads(rt: HostRuntime) -> Result<(), Fail> {
+    let alloc = rt.alloc();
+    let node = Node::first(StateID::new(3));
+    let mut threads = Threads::new(alloc, 2);
+    threads.push(node, &[NonMaxUsize::new(5), None])?;
+    threads.push(Node::new(StateID::new(4), 1), &[None, NonMaxUsize::new(6)])?;
+    assert_eq!(rt; threads.len(), 2);
+    assert_eq!(rt; threads.slot_len(), 2);
+    assert_eq!(rt; threads.node(0), node);
+    assert_eq!(rt; threads.slots(0)[0], NonMaxUsize::new(5));
+    assert_eq!(rt; threads.slots(1)[1], NonMaxUsize::new(6));
+    threads.clear(0);
+    assert_eq!(rt; threads.len(), 0);
+    Ok(())
+}
+
+/// Steps: `a(b)?` over `ab` goes on after `a`, and ends behind it where nothing follows. The slots
+/// are those of the whole match and of its group.
 #[test]
 fn stepper(rt: HostRuntime) -> Result<(), Fail> {
     let alloc = rt.alloc();
-    let hir = parse(alloc, "ab?", &Config::new())?;
+    let hir = parse(alloc, "a(b)?", &Config::new())?;
     let program = compile(alloc, &[&hir], b'\n', None)?;
     let mut stepper = Stepper::new(alloc, &program)?;
-    let (mut first, mut second, mut third) = (Vec::new(alloc), Vec::new(alloc), Vec::new(alloc));
-    first.push(Node::first(program.start()))?;
-    let met = stepper.next_list(&program, before(Some(b'a')), &first, &mut second)?;
-    assert_eq!(rt; met, None);
+    let (mut first, mut second) = (Threads::new(alloc, 4), Threads::new(alloc, 4));
+    let mut third = Threads::new(alloc, 4);
+    first.push(Node::first(program.start()), &[None; 4])?;
+    let place = before(7, Some(b'a'));
+    assert_eq!(rt;
+        stepper.next_list(&program, &place, &first, &mut second)?,
+        None
+    );
     assert_eq!(rt; second.len(), 1);
-    let met = stepper.next_list(&program, before(Some(b'b')), &second, &mut third)?;
+    let place = before(8, None);
+    let met = stepper.next_list(&program, &place, &second, &mut third)?;
     assert_eq!(rt; met, Some(PatternID::new(0)));
-    assert_eq!(rt; third.len(), 1);
-    let met = stepper.next_list(&program, before(None), &second, &mut third)?;
-    assert_eq!(rt; met, Some(PatternID::new(0)));
-    assert_eq!(rt; third.len(), 0);
+    assert_eq!(rt; stepper.slots().first(), Some(&NonMaxUsize::new(7)));
+    assert_eq!(rt; stepper.slots().get(1), Some(&NonMaxUsize::new(8)));
+    assert_eq!(rt; stepper.slots().last(), Some(&None));
     Ok(())
 }

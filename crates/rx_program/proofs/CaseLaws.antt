@@ -30,27 +30,27 @@ no_states = All-nil ReadsItsSet
 pub one_state : (s : State) → ReadsItsSet s → All ReadsItsSet (s ∷ [])
 one_state s h = All-cons ReadsItsSet s [] h no_states
 
-module _ (parts : List Tree) (at : ℕ) where
+module _ {slots : ℕ} (parts : List Tree) (at : ℕ) where
   -- a state by itself
-  pub does_state : (s : State) → ReadsItsSet s → Does parts at (job.State s) (s ∷ []) []
+  pub does_state : (s : State) → ReadsItsSet s → Does slots parts at (job.State s) (s ∷ []) []
   does_state s reads = record { code = refl; size = refl; work = omega arith; jobs = no_jobs parts; reads = one_state s reads }
 
   -- nothing is left of a row
-  pub does_no_row : (root size next : ℕ) → Does parts at (job.Row 0 root size next) [] []
+  pub does_no_row : (root size next : ℕ) → Does slots parts at (job.Row 0 root size next) [] []
   does_no_row root size next = record { code = refl; size = refl; work = omega arith; jobs = no_jobs parts; reads = no_states }
 
-  pub does_no_branches : (root next : ℕ) → Does parts at (job.Branches 0 root next) [] []
+  pub does_no_branches : (root next : ℕ) → Does slots parts at (job.Branches 0 root next) [] []
   does_no_branches root next = record { code = refl; size = refl; work = omega arith; jobs = no_jobs parts; reads = no_states }
 
-  pub does_no_copies : (root next : ℕ) → Does parts at (job.Copies 0 root next) [] []
+  pub does_no_copies : (root next : ℕ) → Does slots parts at (job.Copies 0 root next) [] []
   does_no_copies root next = record { code = refl; size = omega arith; work = omega arith; jobs = no_jobs parts; reads = no_states }
 
-  pub does_no_optional : (greedy : Bool) (root next : ℕ) → Does parts at (job.Optional greedy 0 root next) [] []
+  pub does_no_optional : (greedy : Bool) (root next : ℕ) → Does slots parts at (job.Optional greedy 0 root next) [] []
   does_no_optional greedy root next = record { code = refl; size = omega arith; work = omega arith; jobs = no_jobs parts; reads = no_states }
 
   -- a row: its last part, and before it the others
   pub does_row : (count root root' size size' start next : ℕ) → root' ≡ root - length (subtrees_of (part_at parts root)) → size' ≡ size - size_of (part_at parts root) → start ≡ at + size'
-      → IsJob parts (job.Row (suc count) root size next) → Does parts at (job.Row (suc count) root size next) [] (job.Row count root' size' start ∷ job.Part root next ∷ [])
+      → IsJob parts (job.Row (suc count) root size next) → Does slots parts at (job.Row (suc count) root size next) [] (job.Row count root' size' start ∷ job.Part root next ∷ [])
   does_row count root root' size size' start next root_is size_is start_is is =
       let t = part_at parts root in
       let ts = trees_before parts count (root - length (subtrees_of t)) in
@@ -62,9 +62,9 @@ module _ (parts : List Tree) (at : ℕ) where
       let from : at ≡ at + 0 = omega arith in
       let end : at + sizes_of ts ≡ at + 0 + sizes_of ts' = omega (arith, same_sizes) in
       record {
-        code = in_row-last ts t at next
-            ∙ ap₂ (λ x y. x ++ y) (ap (λ xs. in_row xs at (at + sizes_of ts)) same ∙ ap₂ (λ m n. in_row ts' m n) from here)
-            (ap (λ n. code_of 0 t n next) end ∙ sym (append-nil (code_of 0 t (at + 0 + sizes_of ts') next)));
+        code = in_row-last slots ts t at next
+            ∙ ap₂ (λ x y. x ++ y) (ap (λ xs. in_row slots xs at (at + sizes_of ts)) same ∙ ap₂ (λ m n. in_row slots ts' m n) from here)
+            (ap (λ n. code_of slots t n next) end ∙ sym (append-nil (code_of slots t (at + 0 + sizes_of ts') next)));
         size = omega (arith, sizes_of-append ts (t ∷ []), same_sizes);
         work = omega (arith, row_work-last ts t, ap row_work same);
         jobs = two_jobs parts (job.Row count root' size' start) (job.Part root next)
@@ -73,7 +73,7 @@ module _ (parts : List Tree) (at : ℕ) where
       }
 
   pub does_branches : (count root root' next : ℕ) → root' ≡ root - length (subtrees_of (part_at parts root)) → IsJob parts (job.Branches (suc count) root next)
-      → Does parts at (job.Branches (suc count) root next) [] (job.Branches count root' next ∷ job.Part root next ∷ [])
+      → Does slots parts at (job.Branches (suc count) root next) [] (job.Branches count root' next ∷ job.Part root next ∷ [])
   does_branches count root root' next root_is is =
       let t = part_at parts root in
       let ts = trees_before parts count (root - length (subtrees_of t)) in
@@ -83,8 +83,8 @@ module _ (parts : List Tree) (at : ℕ) where
       let from : at ≡ at + 0 = omega arith in
       let end : at + sizes_of ts ≡ at + 0 + sizes_of ts' = omega (arith, same_sizes) in
       record {
-        code = in_branches-last ts t at next
-            ∙ ap₂ (λ x y. x ++ y) (ap₂ (λ xs n. in_branches xs n next) same from) (ap (λ n. code_of 0 t n next) end ∙ sym (append-nil (code_of 0 t (at + 0 + sizes_of ts') next)));
+        code = in_branches-last slots ts t at next
+            ∙ ap₂ (λ x y. x ++ y) (ap₂ (λ xs n. in_branches slots xs n next) same from) (ap (λ n. code_of slots t n next) end ∙ sym (append-nil (code_of slots t (at + 0 + sizes_of ts') next)));
         size = omega (arith, sizes_of-append ts (t ∷ []), same_sizes);
         work = omega (arith, row_work-last ts t, ap row_work same);
         jobs = two_jobs parts (job.Branches count root' next) (job.Part root next) (subst (HasRow parts count) (sym root_is) is.1) is.0;
@@ -93,14 +93,14 @@ module _ (parts : List Tree) (at : ℕ) where
 
   -- copies: one, and then the others
   pub does_copies : (count root next on : ℕ) → on ≡ entry_of count (at + size_of (part_at parts root)) next → root < length parts
-      → Does parts at (job.Copies (suc count) root next) [] (job.Part root on ∷ job.Copies count root next ∷ [])
+      → Does slots parts at (job.Copies (suc count) root next) [] (job.Part root on ∷ job.Copies count root next ∷ [])
   does_copies count root next on on_is below =
       let t = part_at parts root in
       let s = size_of t in
       let from : at ≡ at + 0 = omega arith in
       let end : at + s ≡ at + 0 + s = omega arith in
       record {
-        code = ap₂ (λ x y. x ++ y) (ap₂ (λ m n. code_of 0 t m n) from (sym on_is)) (ap (λ n. copies s (code_of 0 t) count n next) end ∙ sym (append-nil (copies s (code_of 0 t) count (at + 0 + s) next)));
+        code = ap₂ (λ x y. x ++ y) (ap₂ (λ m n. code_of slots t m n) from (sym on_is)) (ap (λ n. copies s (code_of slots t) count n next) end ∙ sym (append-nil (copies s (code_of slots t) count (at + 0 + s) next)));
         size = omega arith;
         work = omega arith;
         jobs = two_jobs parts (job.Part root on) (job.Copies count root next) below below;
@@ -108,12 +108,12 @@ module _ (parts : List Tree) (at : ℕ) where
       }
 
   pub does_optional : (greedy : Bool) (count root next on : ℕ) (s : State) → node_of s ≡ fork greedy (at + 1) next → ReadsItsSet s → on ≡ entry_of count (at + 1 + size_of (part_at parts root)) next → root < length parts
-      → Does parts at (job.Optional greedy (suc count) root next) (s ∷ []) (job.Part root on ∷ job.Optional greedy count root next ∷ [])
+      → Does slots parts at (job.Optional greedy (suc count) root next) (s ∷ []) (job.Part root on ∷ job.Optional greedy count root next ∷ [])
   does_optional greedy count root next on s node reads on_is below =
       let t = part_at parts root in
       let z = size_of t in
       record {
-        code = ap₂ (λ x y. x ∷ y) (sym node) (ap₂ (λ x y. x ++ y) (ap (λ n. code_of 0 t (at + 1) n) (sym on_is)) (sym (append-nil (optional greedy z (code_of 0 t) count (at + 1 + z) next))));
+        code = ap₂ (λ x y. x ∷ y) (sym node) (ap₂ (λ x y. x ++ y) (ap (λ n. code_of slots t (at + 1) n) (sym on_is)) (sym (append-nil (optional greedy z (code_of slots t) count (at + 1 + z) next))));
         size = omega arith;
         work = omega arith;
         jobs = two_jobs parts (job.Part root on) (job.Optional greedy count root next) below below;
@@ -121,10 +121,10 @@ module _ (parts : List Tree) (at : ℕ) where
       }
 
   -- a part that is one state
-  pub does_leaf : (root next : ℕ) (s : State) (tree : Tree) → part_at parts root ≡ tree → code_of 0 tree at next ≡ node_of s ∷ [] → size_of tree ≡ 1 → 0 < work_of tree → ReadsItsSet s
-      → Does parts at (job.Part root next) (s ∷ []) []
+  pub does_leaf : (root next : ℕ) (s : State) (tree : Tree) → part_at parts root ≡ tree → code_of slots tree at next ≡ node_of s ∷ [] → size_of tree ≡ 1 → 0 < work_of tree → ReadsItsSet s
+      → Does slots parts at (job.Part root next) (s ∷ []) []
   does_leaf root next s tree is code size work reads = record {
-    code = ap (λ t. code_of 0 t at next) is ∙ code;
+    code = ap (λ t. code_of slots t at next) is ∙ code;
     size = ap size_of is ∙ size;
     work = omega (arith, ap work_of is, work);
     jobs = no_jobs parts;
@@ -133,11 +133,11 @@ module _ (parts : List Tree) (at : ℕ) where
 
   -- a group: the note of its start, what is in it, and the note of its end
   pub does_group : (root child number slot on next : ℕ) (name : Option Name) (tree : Tree) (first last : State) → part_at parts root ≡ group number name tree → part_at parts child ≡ tree → child < length parts
-      → ((n : ℕ) → node_of first ∷ (code_of 0 tree (at + 1) (at + 1 + size_of tree) ++ node_of last ∷ []) ≡ code_of 0 (group number name tree) at next)
+      → ((n : ℕ) → node_of first ∷ (code_of slots tree (at + 1) (at + 1 + size_of tree) ++ node_of last ∷ []) ≡ code_of slots (group number name tree) at next)
       → on ≡ at + 1 + size_of tree → ReadsItsSet first → ReadsItsSet last
-      → Does parts at (job.Part root next) (first ∷ []) (job.Part child on ∷ job.State last ∷ [])
+      → Does slots parts at (job.Part root next) (first ∷ []) (job.Part child on ∷ job.State last ∷ [])
   does_group root child number slot on next name tree first last is below_is below code on_is reads reads' = record {
-    code = ap (λ t. code_of 0 t at next) is ∙ sym (code 0) ∙ ap (λ x. node_of first ∷ (x ++ node_of last ∷ [])) (ap₂ (λ t n. code_of 0 t (at + 1) n) (sym below_is) (sym on_is));
+    code = ap (λ t. code_of slots t at next) is ∙ sym (code 0) ∙ ap (λ x. node_of first ∷ (x ++ node_of last ∷ [])) (ap₂ (λ t n. code_of slots t (at + 1) n) (sym below_is) (sym on_is));
     size = omega (arith, ap size_of is, ap size_of below_is);
     work = omega (arith, ap work_of is, ap work_of below_is);
     jobs = two_jobs parts (job.Part child on) (job.State last) below reads';
@@ -146,12 +146,12 @@ module _ (parts : List Tree) (at : ℕ) where
 
   -- trees one after the other
   pub does_concat : (root child size next : ℕ) (trees : Trees) → part_at parts root ≡ concat trees → IsRow parts (how_many trees) child (trees_in trees) → size ≡ size_of (concat trees)
-      → Does parts at (job.Part root next) [] (job.Row (how_many trees) child size next ∷ [])
+      → Does slots parts at (job.Part root next) [] (job.Row (how_many trees) child size next ∷ [])
   does_concat root child size next trees is row size_is =
       let from : at ≡ at + 0 = omega arith in
       let sizes : size_of (concat trees) ≡ sizes_of (trees_before parts (how_many trees) child) = sizes_are trees ∙ ap sizes_of (sym row.is) in
       record {
-        code = ap (λ t. code_of 0 t at next) is ∙ row_is trees at next ∙ ap₂ (λ xs n. in_row xs n next) (sym row.is) from ∙ sym (append-nil (in_row (trees_before parts (how_many trees) child) (at + 0) next));
+        code = ap (λ t. code_of slots t at next) is ∙ row_is slots trees at next ∙ ap₂ (λ xs n. in_row slots xs n next) (sym row.is) from ∙ sym (append-nil (in_row slots (trees_before parts (how_many trees) child) (at + 0) next));
         size = omega (arith, ap size_of is, sizes);
         work = omega (arith, ap work_of is, work_is trees, ap row_work row.is);
         jobs = one_job parts (job.Row (how_many trees) child size next) (row.has, size_is ∙ sizes);
@@ -160,13 +160,13 @@ module _ (parts : List Tree) (at : ℕ) where
 
   -- trees beside one another
   pub does_alternation : (root child next : ℕ) (trees : Trees) (s : State) → part_at parts root ≡ alternation trees → IsRow parts (how_many trees) child (trees_in trees)
-      → node_of s ∷ branches_code 0 trees (at + 1) next ≡ code_of 0 (alternation trees) at next → ReadsItsSet s
-      → Does parts at (job.Part root next) (s ∷ []) (job.Branches (how_many trees) child next ∷ [])
+      → node_of s ∷ branches_code slots trees (at + 1) next ≡ code_of slots (alternation trees) at next → ReadsItsSet s
+      → Does slots parts at (job.Part root next) (s ∷ []) (job.Branches (how_many trees) child next ∷ [])
   does_alternation root child next trees s is row code reads =
       let sizes : size_of (alternation trees) ≡ 1 + sizes_of (trees_before parts (how_many trees) child) = ap (λ n. 1 + n) (sizes_are trees ∙ ap sizes_of (sym row.is)) in
       record {
-        code = ap (λ t. code_of 0 t at next) is ∙ sym code
-            ∙ ap (λ x. node_of s ∷ x) (branches_are trees (at + 1) next ∙ ap (λ xs. in_branches xs (at + 1) next) (sym row.is) ∙ sym (append-nil (in_branches (trees_before parts (how_many trees) child) (at + 1) next)));
+        code = ap (λ t. code_of slots t at next) is ∙ sym code
+            ∙ ap (λ x. node_of s ∷ x) (branches_are slots trees (at + 1) next ∙ ap (λ xs. in_branches slots xs (at + 1) next) (sym row.is) ∙ sym (append-nil (in_branches slots (trees_before parts (how_many trees) child) (at + 1) next)));
         size = omega (arith, ap size_of is, sizes);
         work = omega (arith, ap work_of is, work_is trees, ap row_work row.is);
         jobs = one_job parts (job.Branches (how_many trees) child next) row.has;

@@ -7,8 +7,8 @@ use Rattle.rx_grammar.specs.Trees.{Tree, Trees, empty, one_of, look_at, group, c
 use Rattle.rx_grammar.specs.Weights.{may_be_empty, size_of, all_sizes_of, repeated_weight}
 use Rattle.rx_walks.specs.Looks as walks
 use Rattle.rx_walks.specs.Programs.{Node, match, pass, note, look, set}
-use Rattle.rx_program.specs.Code.{Code, place_of, fork, entry_of, copies, optional, repetition_code, branch_starts, code_of, row_code, branches_code, pattern_code, program_of}
-use Rattle.rx_program.specs.Closed.{LeadsBelow, IsClosed, PatternIsClosed}
+use Rattle.rx_program.specs.Code.{Code, place_of, fork, entry_of, copies, optional, repetition_code, branch_starts, code_of, row_code, branches_code, pattern_code}
+use Rattle.rx_program.specs.Closed.{LeadsBelow, PatternIsClosed}
 
 -- a part has a node
 some_times : (n : ℕ) (most : Option ℕ) (s : ℕ) (may : Bool) → 1 ≤ s → 1 ≤ repeated_weight n most s may

@@ -44,19 +44,19 @@ copies_fit rep tree most e some = subst (λ m. rep.min * size_of tree ≤ repeat
     fit zero None s true some = omega arith
     fit (suc n) None s may some = omega arith
 
-module _ (parts : List Tree) (states : List State) (jobs one two : List Job) (root next : ℕ) (rep : Repetition) (is : part_at parts (root + 1) ≡ repeated rep (part_at parts root)) (below : root < length parts) where
+module _ {slots : ℕ} (parts : List Tree) (states : List State) (jobs one two : List Job) (root next : ℕ) (rep : Repetition) (is : part_at parts (root + 1) ≡ repeated rep (part_at parts root)) (below : root < length parts) where
   pub times_done : (most on further : ℕ) → rep.max ≡ Some most → 0 < most → further ≡ most - rep.min → on ≡ entry_of further (length states + rep.min * size_of (part_at parts root)) next
-      → one ≡ jobs ++ job.Optional rep.greedy further root next ∷ [] → two ≡ one ++ job.Copies rep.min root on ∷ [] → DoesJob parts (job.Part (root + 1) next) states states jobs two
+      → one ≡ jobs ++ job.Optional rep.greedy further root next ∷ [] → two ≡ one ++ job.Copies rep.min root on ∷ [] → DoesJob slots parts (job.Part (root + 1) next) states states jobs two
   times_done most on further e some further_is on_is f g =
       let t = part_at parts root in
       let on_is' : on ≡ entry_of (most - rep.min) (length states + rep.min * size_of t) next = on_is ∙ ap (λ n. entry_of n (length states + rep.min * size_of t) next) further_is in
       let does = does_times parts (length states) (root + 1) root next rep t is refl below most on e some on_is' in
       done [] (job.Copies rep.min root on ∷ job.Optional rep.greedy further root next ∷ []) (no_more states)
       (pushed_two jobs one two (job.Optional rep.greedy further root next) (job.Copies rep.min root on) f g)
-      (subst (λ n. Does parts (length states) (job.Part (root + 1) next) [] (job.Copies rep.min root on ∷ job.Optional rep.greedy n root next ∷ [])) (sym further_is) does)
+      (subst (λ n. Does slots parts (length states) (job.Part (root + 1) next) [] (job.Copies rep.min root on ∷ job.Optional rep.greedy n root next ∷ [])) (sym further_is) does)
 
   pub from_done : (last end : ℕ) (back : State) → rep.max ≡ None → 0 < rep.min → last ≡ length states + (rep.min - 1) * size_of (part_at parts root) → end ≡ length states + rep.min * size_of (part_at parts root)
-      → node_of back ≡ fork rep.greedy last next → ReadsItsSet back → one ≡ jobs ++ job.State back ∷ [] → two ≡ one ++ job.Copies rep.min root end ∷ [] → DoesJob parts (job.Part (root + 1) next) states states jobs two
+      → node_of back ≡ fork rep.greedy last next → ReadsItsSet back → one ≡ jobs ++ job.State back ∷ [] → two ≡ one ++ job.Copies rep.min root end ∷ [] → DoesJob slots parts (job.Part (root + 1) next) states states jobs two
   from_done last end back e some last_is end_is node reads f g =
       let t = part_at parts root in
       let n = rep.min - 1 in
@@ -64,22 +64,22 @@ module _ (parts : List Tree) (states : List State) (jobs one two : List Job) (ro
       let end_is' : end ≡ length states + suc n * size_of t = end_is ∙ ap (λ k. length states + k * size_of t) min_is in
       let does = does_from parts (length states) (root + 1) root next rep t is refl below n end back e min_is (node ∙ ap (λ k. fork rep.greedy k next) last_is) end_is' reads in
       done [] (job.Copies rep.min root end ∷ job.State back ∷ []) (no_more states) (pushed_two jobs one two (job.State back) (job.Copies rep.min root end) f g)
-      (subst (λ k. Does parts (length states) (job.Part (root + 1) next) [] (job.Copies k root end ∷ job.State back ∷ [])) (sym min_is) does)
+      (subst (λ k. Does slots parts (length states) (job.Part (root + 1) next) [] (job.Copies k root end ∷ job.State back ∷ [])) (sym min_is) does)
 
   pub optional_loop_done : (more : List State) (s back : State) (on : ℕ) → rep.max ≡ None → rep.min ≡ 0 → may_be_empty (part_at parts root) ≡ true → node_of s ≡ fork rep.greedy (length states + 1) next
       → node_of back ≡ fork rep.greedy (length states + 1) next → on ≡ length states + 1 + size_of (part_at parts root) → ReadsItsSet s → ReadsItsSet back
-      → more ≡ states ++ s ∷ [] → one ≡ jobs ++ job.State back ∷ [] → two ≡ one ++ job.Part root on ∷ [] → DoesJob parts (job.Part (root + 1) next) states more jobs two
+      → more ≡ states ++ s ∷ [] → one ≡ jobs ++ job.State back ∷ [] → two ≡ one ++ job.Part root on ∷ [] → DoesJob slots parts (job.Part (root + 1) next) states more jobs two
   optional_loop_done more s back on e none may node node' on_is reads reads' more_is f g =
       done (s ∷ []) (job.Part root on ∷ job.State back ∷ []) more_is (pushed_two jobs one two (job.State back) (job.Part root on) f g)
       (does_optional_loop parts (length states) (root + 1) root next rep (part_at parts root) is refl below s back on e none may node node' on_is reads reads')
 
   pub loop_done : (more : List State) (s : State) (at : ℕ) → rep.max ≡ None → rep.min ≡ 0 → may_be_empty (part_at parts root) ≡ false → node_of s ≡ fork rep.greedy (length states + 1) next → ReadsItsSet s
-      → at ≡ length states → more ≡ states ++ s ∷ [] → one ≡ jobs ++ job.Part root at ∷ [] → DoesJob parts (job.Part (root + 1) next) states more jobs one
+      → at ≡ length states → more ≡ states ++ s ∷ [] → one ≡ jobs ++ job.Part root at ∷ [] → DoesJob slots parts (job.Part (root + 1) next) states more jobs one
   loop_done more s at e none never node reads at_is more_is f =
       done (s ∷ []) (job.Part root at ∷ []) more_is f
-      (subst (λ k. Does parts (length states) (job.Part (root + 1) next) (s ∷ []) (job.Part root k ∷ [])) (sym at_is)
+      (subst (λ k. Does slots parts (length states) (job.Part (root + 1) next) (s ∷ []) (job.Part root k ∷ [])) (sym at_is)
       (does_loop parts (length states) (root + 1) root next rep (part_at parts root) is refl below s e none never node reads))
 
-  pub none_done : (more : List State) (s : State) → rep.max ≡ Some 0 → node_of s ≡ pass (next ∷ []) → ReadsItsSet s → more ≡ states ++ s ∷ [] → DoesJob parts (job.Part (root + 1) next) states more jobs jobs
+  pub none_done : (more : List State) (s : State) → rep.max ≡ Some 0 → node_of s ≡ pass (next ∷ []) → ReadsItsSet s → more ≡ states ++ s ∷ [] → DoesJob slots parts (job.Part (root + 1) next) states more jobs jobs
   none_done more s e node reads more_is =
       done (s ∷ []) [] more_is (no_more jobs) (does_none parts (length states) (root + 1) root next rep (part_at parts root) is refl below s e (ap (λ n. n ∷ []) node) reads)

@@ -24,23 +24,23 @@ on_to : (xs : List Tree) (at s : ℕ) → entry_of (length xs) (at + s) (at + (s
 on_to [] at s = omega arith
 on_to (x ∷ xs) at s = refl
 
-pub in_row-last : (xs : List Tree) (tree : Tree) (at next : ℕ) → in_row (xs ++ tree ∷ []) at next ≡ in_row xs at (at + sizes_of xs) ++ code_of 0 tree (at + sizes_of xs) next
-in_row-last [] tree at next = append-nil (code_of 0 tree at next) ∙ ap (λ n. code_of 0 tree n next) (omega arith)
-in_row-last (x ∷ xs) tree at next =
+pub in_row-last : (slots : ℕ) (xs : List Tree) (tree : Tree) (at next : ℕ) → in_row slots (xs ++ tree ∷ []) at next ≡ in_row slots xs at (at + sizes_of xs) ++ code_of slots tree (at + sizes_of xs) next
+in_row-last slots [] tree at next = append-nil (code_of slots tree at next) ∙ ap (λ n. code_of slots tree n next) (omega arith)
+in_row-last slots (x ∷ xs) tree at next =
     let s = size_of x in
     let end : (at + s) + sizes_of xs ≡ at + (s + sizes_of xs) = omega arith in
-    ap₂ (λ k y. code_of 0 x at (entry_of k (at + s) next) ++ y) (last_length xs tree) (in_row-last xs tree (at + s) next)
-    ∙ ap (λ n. code_of 0 x at (at + s) ++ (in_row xs (at + s) n ++ code_of 0 tree n next)) end
-    ∙ sym (append_assoc (code_of 0 x at (at + s)) (in_row xs (at + s) (at + (s + sizes_of xs))) (code_of 0 tree (at + (s + sizes_of xs)) next))
-    ∙ ap (λ n. (code_of 0 x at n ++ in_row xs (at + s) (at + (s + sizes_of xs))) ++ code_of 0 tree (at + (s + sizes_of xs)) next) (sym (on_to xs at s))
+    ap₂ (λ k y. code_of slots x at (entry_of k (at + s) next) ++ y) (last_length xs tree) (in_row-last slots xs tree (at + s) next)
+    ∙ ap (λ n. code_of slots x at (at + s) ++ (in_row slots xs (at + s) n ++ code_of slots tree n next)) end
+    ∙ sym (append_assoc (code_of slots x at (at + s)) (in_row slots xs (at + s) (at + (s + sizes_of xs))) (code_of slots tree (at + (s + sizes_of xs)) next))
+    ∙ ap (λ n. (code_of slots x at n ++ in_row slots xs (at + s) (at + (s + sizes_of xs))) ++ code_of slots tree (at + (s + sizes_of xs)) next) (sym (on_to xs at s))
 
-pub in_branches-last : (xs : List Tree) (tree : Tree) (at next : ℕ) → in_branches (xs ++ tree ∷ []) at next ≡ in_branches xs at next ++ code_of 0 tree (at + sizes_of xs) next
-in_branches-last [] tree at next = append-nil (code_of 0 tree at next) ∙ ap (λ n. code_of 0 tree n next) (omega arith)
-in_branches-last (x ∷ xs) tree at next =
+pub in_branches-last : (slots : ℕ) (xs : List Tree) (tree : Tree) (at next : ℕ) → in_branches slots (xs ++ tree ∷ []) at next ≡ in_branches slots xs at next ++ code_of slots tree (at + sizes_of xs) next
+in_branches-last slots [] tree at next = append-nil (code_of slots tree at next) ∙ ap (λ n. code_of slots tree n next) (omega arith)
+in_branches-last slots (x ∷ xs) tree at next =
     let s = size_of x in
     let end : (at + s) + sizes_of xs ≡ at + (s + sizes_of xs) = omega arith in
-    ap (λ y. code_of 0 x at next ++ y) (in_branches-last xs tree (at + s) next ∙ ap (λ n. in_branches xs (at + s) next ++ code_of 0 tree n next) end)
-    ∙ sym (append_assoc (code_of 0 x at next) (in_branches xs (at + s) next) (code_of 0 tree (at + (s + sizes_of xs)) next))
+    ap (λ y. code_of slots x at next ++ y) (in_branches-last slots xs tree (at + s) next ∙ ap (λ n. in_branches slots xs (at + s) next ++ code_of slots tree n next) end)
+    ∙ sym (append_assoc (code_of slots x at next) (in_branches slots xs (at + s) next) (code_of slots tree (at + (s + sizes_of xs)) next))
 
 pub starts_of-last : (xs : List Tree) (tree : Tree) (at : ℕ) → starts_of (xs ++ tree ∷ []) at ≡ starts_of xs at ++ (at + sizes_of xs) ∷ []
 starts_of-last [] tree at = ap (λ n. n ∷ []) (omega arith)
@@ -53,19 +53,19 @@ abbrev pub trees_in : Trees → List Tree
 trees_in (two first second) = first ∷ second ∷ []
 trees_in (more first others) = first ∷ trees_in others
 
-pub row_is : (trees : Trees) (at next : ℕ) → row_code 0 trees at next ≡ in_row (trees_in trees) at next
-row_is (two first second) at next = ap (λ x. code_of 0 first at (at + size_of first) ++ x) (sym (append-nil (code_of 0 second (at + size_of first) next)))
-row_is (more first others) at next = some others (row_is others (at + size_of first) next)
+pub row_is : (slots : ℕ) (trees : Trees) (at next : ℕ) → row_code slots trees at next ≡ in_row slots (trees_in trees) at next
+row_is slots (two first second) at next = ap (λ x. code_of slots first at (at + size_of first) ++ x) (sym (append-nil (code_of slots second (at + size_of first) next)))
+row_is slots (more first others) at next = some others (row_is slots others (at + size_of first) next)
   where
-    some : (others : Trees) → row_code 0 others (at + size_of first) next ≡ in_row (trees_in others) (at + size_of first) next
-        → code_of 0 first at (at + size_of first) ++ row_code 0 others (at + size_of first) next
-        ≡ code_of 0 first at (entry_of (length (trees_in others)) (at + size_of first) next) ++ in_row (trees_in others) (at + size_of first) next
-    some (two a b) e = ap (λ x. code_of 0 first at (at + size_of first) ++ x) e
-    some (more a bs) e = ap (λ x. code_of 0 first at (at + size_of first) ++ x) e
+    some : (others : Trees) → row_code slots others (at + size_of first) next ≡ in_row slots (trees_in others) (at + size_of first) next
+        → code_of slots first at (at + size_of first) ++ row_code slots others (at + size_of first) next
+        ≡ code_of slots first at (entry_of (length (trees_in others)) (at + size_of first) next) ++ in_row slots (trees_in others) (at + size_of first) next
+    some (two a b) e = ap (λ x. code_of slots first at (at + size_of first) ++ x) e
+    some (more a bs) e = ap (λ x. code_of slots first at (at + size_of first) ++ x) e
 
-pub branches_are : (trees : Trees) (at next : ℕ) → branches_code 0 trees at next ≡ in_branches (trees_in trees) at next
-branches_are (two first second) at next = ap (λ x. code_of 0 first at next ++ x) (sym (append-nil (code_of 0 second (at + size_of first) next)))
-branches_are (more first others) at next = ap (λ x. code_of 0 first at next ++ x) (branches_are others (at + size_of first) next)
+pub branches_are : (slots : ℕ) (trees : Trees) (at next : ℕ) → branches_code slots trees at next ≡ in_branches slots (trees_in trees) at next
+branches_are slots (two first second) at next = ap (λ x. code_of slots first at next ++ x) (sym (append-nil (code_of slots second (at + size_of first) next)))
+branches_are slots (more first others) at next = ap (λ x. code_of slots first at next ++ x) (branches_are slots others (at + size_of first) next)
 
 pub starts_are : (trees : Trees) (at : ℕ) → branch_starts trees at ≡ starts_of (trees_in trees) at
 starts_are (two first second) at = refl

@@ -12,9 +12,9 @@ use Rattle.rx_program.specs.Jobs.{part_at, work_of, repetition_work, Does}
 use Rattle.rx_program.proofs.CaseLaws.{no_jobs, one_job, two_jobs, no_states, one_state}
 
 -- what a tree weighs and becomes, by the numbers of a repetition
-code_by : (rep : Repetition) (tree : Tree) (most : Option ℕ) (at next : ℕ) → rep.max ≡ most
-    → code_of 0 (repeated rep tree) at next ≡ repetition_code rep.greedy rep.min most (size_of tree) (may_be_empty tree) (code_of 0 tree) at next
-code_by rep tree most at next e = ap (λ m. repetition_code rep.greedy rep.min m (size_of tree) (may_be_empty tree) (code_of 0 tree) at next) e
+code_by : (slots : ℕ) (rep : Repetition) (tree : Tree) (most : Option ℕ) (at next : ℕ) → rep.max ≡ most
+    → code_of slots (repeated rep tree) at next ≡ repetition_code rep.greedy rep.min most (size_of tree) (may_be_empty tree) (code_of slots tree) at next
+code_by slots rep tree most at next e = ap (λ m. repetition_code rep.greedy rep.min m (size_of tree) (may_be_empty tree) (code_of slots tree) at next) e
 
 size_by : (rep : Repetition) (tree : Tree) (most : Option ℕ) → rep.max ≡ most → size_of (repeated rep tree) ≡ repeated_weight rep.min most (size_of tree) (may_be_empty tree)
 size_by rep tree most e = ap (λ m. repeated_weight rep.min m (size_of tree) (may_be_empty tree)) e
@@ -22,12 +22,12 @@ size_by rep tree most e = ap (λ m. repeated_weight rep.min m (size_of tree) (ma
 work_by : (rep : Repetition) (tree : Tree) (most : Option ℕ) → rep.max ≡ most → work_of (repeated rep tree) ≡ repetition_work rep.min most (work_of tree) (may_be_empty tree) + 1
 work_by rep tree most e = ap (λ m. repetition_work rep.min m (work_of tree) (may_be_empty tree) + 1) e
 
-module _ (parts : List Tree) (at root child next : ℕ) (rep : Repetition) (tree : Tree) (is : part_at parts root ≡ repeated rep tree) (below_is : part_at parts child ≡ tree) (below : child < length parts) where
+module _ {slots : ℕ} (parts : List Tree) (at root child next : ℕ) (rep : Repetition) (tree : Tree) (is : part_at parts root ≡ repeated rep tree) (below_is : part_at parts child ≡ tree) (below : child < length parts) where
   -- h{0}
-  pub does_none : (s : State) → rep.max ≡ Some 0 → node_of s ∷ [] ≡ repetition_code rep.greedy rep.min (Some 0) (size_of tree) (may_be_empty tree) (code_of 0 tree) at next → ReadsItsSet s
-      → Does parts at (job.Part root next) (s ∷ []) []
+  pub does_none : (s : State) → rep.max ≡ Some 0 → node_of s ∷ [] ≡ repetition_code rep.greedy rep.min (Some 0) (size_of tree) (may_be_empty tree) (code_of slots tree) at next → ReadsItsSet s
+      → Does slots parts at (job.Part root next) (s ∷ []) []
   does_none s e code reads = record {
-    code = ap (λ t. code_of 0 t at next) is ∙ code_by rep tree (Some 0) at next e ∙ sym code;
+    code = ap (λ t. code_of slots t at next) is ∙ code_by slots rep tree (Some 0) at next e ∙ sym code;
     size = ap size_of is ∙ size_by rep tree (Some 0) e;
     work = omega (arith, ap work_of is, work_by rep tree (Some 0) e);
     jobs = no_jobs parts;
@@ -36,7 +36,7 @@ module _ (parts : List Tree) (at root child next : ℕ) (rep : Repetition) (tree
 
   -- h{n,m}
   pub does_times : (most on : ℕ) → rep.max ≡ Some most → 0 < most → on ≡ entry_of (most - rep.min) (at + rep.min * size_of tree) next
-      → Does parts at (job.Part root next) [] (job.Copies rep.min child on ∷ job.Optional rep.greedy (most - rep.min) child next ∷ [])
+      → Does slots parts at (job.Part root next) [] (job.Copies rep.min child on ∷ job.Optional rep.greedy (most - rep.min) child next ∷ [])
   does_times zero on e some on_is = absurd (omega (arith, some))
   does_times (suc m) on e some on_is =
       let n = rep.min in
@@ -46,11 +46,11 @@ module _ (parts : List Tree) (at root child next : ℕ) (rep : Repetition) (tree
       let same = ap size_of below_is in
       let end : at + n * s ≡ at + 0 + n * size_of (part_at parts child) = ap (λ z. at + n * z) (sym same) ∙ omega arith in
       record {
-        code = ap (λ t. code_of 0 t at next) is ∙ code_by rep tree (Some (suc m)) at next e
+        code = ap (λ t. code_of slots t at next) is ∙ code_by slots rep tree (Some (suc m)) at next e
             ∙ ap₂ (λ x y. x ++ y)
-            (ap₂ (λ t k. copies (size_of t) (code_of 0 t) n at k) (sym below_is) (sym on_is) ∙ ap (λ k. copies (size_of (part_at parts child)) (code_of 0 (part_at parts child)) n k on) from)
-            (ap₂ (λ t k. optional rep.greedy (size_of t) (code_of 0 t) left k next) (sym below_is) end
-            ∙ sym (append-nil (optional rep.greedy (size_of (part_at parts child)) (code_of 0 (part_at parts child)) left (at + 0 + n * size_of (part_at parts child)) next)));
+            (ap₂ (λ t k. copies (size_of t) (code_of slots t) n at k) (sym below_is) (sym on_is) ∙ ap (λ k. copies (size_of (part_at parts child)) (code_of slots (part_at parts child)) n k on) from)
+            (ap₂ (λ t k. optional rep.greedy (size_of t) (code_of slots t) left k next) (sym below_is) end
+            ∙ sym (append-nil (optional rep.greedy (size_of (part_at parts child)) (code_of slots (part_at parts child)) left (at + 0 + n * size_of (part_at parts child)) next)));
         size = ap size_of is ∙ size_by rep tree (Some (suc m)) e ∙ ap (λ z. n * z + left * (1 + z)) (sym same) ∙ omega arith;
         work = omega (arith, ap work_of is ∙ work_by rep tree (Some (suc m)) e ∙ ap (λ w. repetition_work n (Some (suc m)) w (may_be_empty tree) + 1) (sym (ap work_of below_is)));
         jobs = two_jobs parts (job.Copies n child on) (job.Optional rep.greedy left child next) below below;
@@ -59,10 +59,10 @@ module _ (parts : List Tree) (at root child next : ℕ) (rep : Repetition) (tree
 
   -- h*, where h is never empty
   pub does_loop : (s : State) → rep.max ≡ None → rep.min ≡ 0 → may_be_empty tree ≡ false → node_of s ≡ fork rep.greedy (at + 1) next → ReadsItsSet s
-      → Does parts at (job.Part root next) (s ∷ []) (job.Part child at ∷ [])
+      → Does slots parts at (job.Part root next) (s ∷ []) (job.Part child at ∷ [])
   does_loop s e none never node reads = record {
-    code = ap (λ t. code_of 0 t at next) is ∙ code_by rep tree None at next e ∙ ap₂ (λ n may. repetition_code rep.greedy n None (size_of tree) may (code_of 0 tree) at next) none never
-        ∙ ap₂ (λ x y. x ∷ y) (sym node) (ap (λ t. code_of 0 t (at + 1) at) (sym below_is) ∙ sym (append-nil (code_of 0 (part_at parts child) (at + 1) at)));
+    code = ap (λ t. code_of slots t at next) is ∙ code_by slots rep tree None at next e ∙ ap₂ (λ n may. repetition_code rep.greedy n None (size_of tree) may (code_of slots tree) at next) none never
+        ∙ ap₂ (λ x y. x ∷ y) (sym node) (ap (λ t. code_of slots t (at + 1) at) (sym below_is) ∙ sym (append-nil (code_of slots (part_at parts child) (at + 1) at)));
     size = ap size_of is ∙ size_by rep tree None e ∙ ap₂ (λ n may. repeated_weight n None (size_of tree) may) none never ∙ ap (λ z. 1 + z) (sym (ap size_of below_is)) ∙ omega arith;
     work = omega (arith, ap work_of is ∙ work_by rep tree None e ∙ ap₂ (λ n w. repetition_work n None w (may_be_empty tree) + 1) none (sym (ap work_of below_is)));
     jobs = one_job parts (job.Part child at) below;
@@ -71,10 +71,10 @@ module _ (parts : List Tree) (at root child next : ℕ) (rep : Repetition) (tree
 
   -- h*, where h may be empty
   pub does_optional_loop : (s back : State) (on : ℕ) → rep.max ≡ None → rep.min ≡ 0 → may_be_empty tree ≡ true → node_of s ≡ fork rep.greedy (at + 1) next → node_of back ≡ fork rep.greedy (at + 1) next
-      → on ≡ at + 1 + size_of tree → ReadsItsSet s → ReadsItsSet back → Does parts at (job.Part root next) (s ∷ []) (job.Part child on ∷ job.State back ∷ [])
+      → on ≡ at + 1 + size_of tree → ReadsItsSet s → ReadsItsSet back → Does slots parts at (job.Part root next) (s ∷ []) (job.Part child on ∷ job.State back ∷ [])
   does_optional_loop s back on e none may node node' on_is reads reads' = record {
-    code = ap (λ t. code_of 0 t at next) is ∙ code_by rep tree None at next e ∙ ap₂ (λ n may. repetition_code rep.greedy n None (size_of tree) may (code_of 0 tree) at next) none may
-        ∙ ap₂ (λ x y. x ∷ y) (sym node) (ap₂ (λ x y. x ++ y ∷ []) (ap₂ (λ t k. code_of 0 t (at + 1) k) (sym below_is) (sym on_is)) (sym node'));
+    code = ap (λ t. code_of slots t at next) is ∙ code_by slots rep tree None at next e ∙ ap₂ (λ n may. repetition_code rep.greedy n None (size_of tree) may (code_of slots tree) at next) none may
+        ∙ ap₂ (λ x y. x ∷ y) (sym node) (ap₂ (λ x y. x ++ y ∷ []) (ap₂ (λ t k. code_of slots t (at + 1) k) (sym below_is) (sym on_is)) (sym node'));
     size = ap size_of is ∙ size_by rep tree None e ∙ ap₂ (λ n may. repeated_weight n None (size_of tree) may) none may ∙ ap (λ z. 2 + z) (sym (ap size_of below_is)) ∙ omega arith;
     work = omega (arith, ap work_of is ∙ work_by rep tree None e ∙ ap₂ (λ n w. repetition_work n None w (may_be_empty tree) + 1) none (sym (ap work_of below_is)));
     jobs = two_jobs parts (job.Part child on) (job.State back) below reads';
@@ -83,13 +83,13 @@ module _ (parts : List Tree) (at root child next : ℕ) (rep : Repetition) (tree
 
   -- h{n,}, where n is above 0
   pub does_from : (n end : ℕ) (back : State) → rep.max ≡ None → rep.min ≡ suc n → node_of back ≡ fork rep.greedy (at + n * size_of tree) next → end ≡ at + suc n * size_of tree → ReadsItsSet back
-      → Does parts at (job.Part root next) [] (job.Copies (suc n) child end ∷ job.State back ∷ [])
+      → Does slots parts at (job.Part root next) [] (job.Copies (suc n) child end ∷ job.State back ∷ [])
   does_from n end back e some node end_is reads =
       let from : at ≡ at + 0 = omega arith in
       record {
-        code = ap (λ t. code_of 0 t at next) is ∙ code_by rep tree None at next e ∙ ap (λ k. repetition_code rep.greedy k None (size_of tree) (may_be_empty tree) (code_of 0 tree) at next) some
+        code = ap (λ t. code_of slots t at next) is ∙ code_by slots rep tree None at next e ∙ ap (λ k. repetition_code rep.greedy k None (size_of tree) (may_be_empty tree) (code_of slots tree) at next) some
             ∙ ap₂ (λ x y. x ++ y ∷ [])
-            (ap₂ (λ t k. copies (size_of t) (code_of 0 t) (suc n) at k) (sym below_is) (sym end_is) ∙ ap (λ k. copies (size_of (part_at parts child)) (code_of 0 (part_at parts child)) (suc n) k end) from)
+            (ap₂ (λ t k. copies (size_of t) (code_of slots t) (suc n) at k) (sym below_is) (sym end_is) ∙ ap (λ k. copies (size_of (part_at parts child)) (code_of slots (part_at parts child)) (suc n) k end) from)
             (sym node);
         size = ap size_of is ∙ size_by rep tree None e ∙ ap₂ (λ k z. repeated_weight k None z (may_be_empty tree)) some (sym (ap size_of below_is)) ∙ omega arith;
         work = omega (arith, ap work_of is ∙ work_by rep tree None e ∙ ap₂ (λ k w. repetition_work k None w (may_be_empty tree) + 1) some (sym (ap work_of below_is)));

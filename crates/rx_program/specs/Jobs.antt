@@ -1,5 +1,5 @@
 -- What is left to be done while a tree is compiled. `parts` are the parts of the tree, each after
--- those that stand below it.
+-- those that stand below it; the slots of its group k are `slots` + 2 k and the one after it.
 use Rattle.std.specs.Prelude.{◌≡◌, ℕ, zero, suc, ◌+◌, ◌-◌, ◌*◌, ◌<◌, Bool, List, [], ◌∷◌, ◌++◌, length, map, reverse, get_or, All, Option, Some, None}
 use Rattle.rx_grammar.specs.Trees.{Tree, Trees, empty, one_of, look_at, group, concat, alternation, repeated, two, more}
 use Rattle.rx_grammar.specs.Subtrees.{subtrees_of}
@@ -26,32 +26,34 @@ sizes_of [] = 0
 sizes_of (tree ∷ trees) = size_of tree + sizes_of trees
 
 -- trees one after the other, and beside one another
-abbrev pub in_row : List Tree → ℕ → ℕ → Code
-in_row [] at next = []
-in_row (tree ∷ trees) at next =
-    code_of 0 tree at (entry_of (length trees) (at + size_of tree) next)
-    ++ in_row trees (at + size_of tree) next
+abbrev pub in_row : ℕ → List Tree → ℕ → ℕ → Code
+in_row slots [] at next = []
+in_row slots (tree ∷ trees) at next =
+    code_of slots tree at (entry_of (length trees) (at + size_of tree) next)
+    ++ in_row slots trees (at + size_of tree) next
 
-abbrev pub in_branches : List Tree → ℕ → ℕ → Code
-in_branches [] at next = []
-in_branches (tree ∷ trees) at next =
-    code_of 0 tree at next ++ in_branches trees (at + size_of tree) next
+abbrev pub in_branches : ℕ → List Tree → ℕ → ℕ → Code
+in_branches slots [] at next = []
+in_branches slots (tree ∷ trees) at next =
+    code_of slots tree at next ++ in_branches slots trees (at + size_of tree) next
 
 abbrev pub starts_of : List Tree → ℕ → List ℕ
 starts_of [] at = []
 starts_of (tree ∷ trees) at = at ∷ starts_of trees (at + size_of tree)
 
 -- what a job becomes
-abbrev pub job_code : List Tree → Job → ℕ → Code
-job_code parts (job.Part root next) at = code_of 0 (part_at parts root) at next
-job_code parts (job.State state) at = node_of state ∷ []
-job_code parts (job.Row count root size next) at = in_row (trees_before parts count root) at next
-job_code parts (job.Branches count root next) at =
-    in_branches (trees_before parts count root) at next
-job_code parts (job.Copies count root next) at =
-    copies (size_of (part_at parts root)) (code_of 0 (part_at parts root)) count at next
-job_code parts (job.Optional greedy count root next) at =
-    optional greedy (size_of (part_at parts root)) (code_of 0 (part_at parts root)) count at next
+abbrev pub job_code : ℕ → List Tree → Job → ℕ → Code
+job_code slots parts (job.Part root next) at = code_of slots (part_at parts root) at next
+job_code slots parts (job.State state) at = node_of state ∷ []
+job_code slots parts (job.Row count root size next) at =
+    in_row slots (trees_before parts count root) at next
+job_code slots parts (job.Branches count root next) at =
+    in_branches slots (trees_before parts count root) at next
+job_code slots parts (job.Copies count root next) at =
+    copies (size_of (part_at parts root)) (code_of slots (part_at parts root)) count at next
+job_code slots parts (job.Optional greedy count root next) at =
+    optional greedy (size_of (part_at parts root)) (code_of slots (part_at parts root)) count at
+    next
 
 -- how many nodes that are
 abbrev pub job_size : List Tree → Job → ℕ
@@ -63,10 +65,10 @@ job_size parts (job.Copies count root next) = count * size_of (part_at parts roo
 job_size parts (job.Optional greedy count root next) = count * (1 + size_of (part_at parts root))
 
 -- what jobs become, the first one of the list first
-abbrev pub jobs_code : List Tree → List Job → ℕ → Code
-jobs_code parts [] at = []
-jobs_code parts (job ∷ jobs) at =
-    job_code parts job at ++ jobs_code parts jobs (at + job_size parts job)
+abbrev pub jobs_code : ℕ → List Tree → List Job → ℕ → Code
+jobs_code slots parts [] at = []
+jobs_code slots parts (job ∷ jobs) at =
+    job_code slots parts job at ++ jobs_code slots parts jobs (at + job_size parts job)
 
 abbrev pub jobs_size : List Tree → List Job → ℕ
 jobs_size parts [] = 0
@@ -130,20 +132,20 @@ jobs_work parts (job ∷ jobs) = job_work parts job + jobs_work parts jobs
 
 -- what was emitted, and the jobs that were put up, the first one first, do a job: from the state on
 -- that it begins with they become what it becomes, and they are less work
-pub record Does (parts : List Tree) (at : ℕ) (job : Job) (emitted : List State)
+pub record Does (slots : ℕ) (parts : List Tree) (at : ℕ) (job : Job) (emitted : List State)
     (pushed : List Job) : Type 0 where
-  pub code : job_code parts job at
-      ≡ map node_of emitted ++ jobs_code parts pushed (at + length emitted)
+  pub code : job_code slots parts job at
+      ≡ map node_of emitted ++ jobs_code slots parts pushed (at + length emitted)
   pub size : job_size parts job ≡ length emitted + jobs_size parts pushed
   pub work : jobs_work parts pushed < job_work parts job
   pub jobs : All (IsJob parts) pushed
   pub reads : All ReadsItsSet emitted
 
 -- states and jobs were added that do a job
-pub record DoesJob (parts : List Tree) (job : Job) (states more : List State)
+pub record DoesJob (slots : ℕ) (parts : List Tree) (job : Job) (states more : List State)
     (jobs left : List Job) : Type 0 where
   pub emitted : List State
   pub pushed : List Job
   pub states_are : more ≡ states ++ emitted
   pub jobs_are : left ≡ jobs ++ reverse pushed
-  pub does : Does parts (length states) job emitted pushed
+  pub does : Does slots parts (length states) job emitted pushed

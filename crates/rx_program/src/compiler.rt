@@ -35,6 +35,8 @@ pub(crate) enum Job {
 #[derive(Drop)]
 pub(crate) struct Compiler {
     pub(crate) alloc: Global,
+    /// The slots of the present pattern's group k are this number + 2 k and the one after it.
+    pub(crate) slots: usize,
     pub(crate) states: Vec<State>,
     pub(crate) jobs: Vec<Job>,
     pub(crate) automata: Automata,
@@ -49,12 +51,14 @@ pub(crate) fn entry_of(count: usize, at: usize, next: usize) -> usize
 
 impl Compiler {
     /// Nothing is done yet.
-    pub(crate) fn new(alloc: Global) -> Compiler
+    pub(crate) fn new(alloc: Global, slots: usize) -> Compiler
+        ensures slots { result.slots ≡ slots }
         ensures states { result.states.items ≡ [] }
         ensures jobs { result.jobs.items ≡ [] }
     {
         Compiler {
             alloc,
+            slots,
             states: Vec::new(alloc),
             jobs: Vec::new(alloc),
             automata: Automata::new(alloc),
@@ -72,7 +76,8 @@ impl Compiler {
     ) -> Result<(), AllocError>
         requires job { IsJob (subtrees_of (tree_of hir.now)) (Job.Row count root size next) }
         requires room { length self.old.states.items + size + 1 < 2 ^ 64 }
-        ensures { OnOk result (DoesJob (subtrees_of (tree_of hir.now))
+        ensures slots { self.new.slots ≡ self.old.slots }
+        ensures done { OnOk result (DoesJob self.old.slots (subtrees_of (tree_of hir.now))
             (Job.Row count root size next) self.old.states.items self.new.states.items
             self.old.jobs.items self.new.jobs.items) }
     {
@@ -96,7 +101,8 @@ impl Compiler {
         next: usize,
     ) -> Result<(), AllocError>
         requires { IsJob (subtrees_of (tree_of hir.now)) (Job.Branches count root next) }
-        ensures { OnOk result (DoesJob (subtrees_of (tree_of hir.now))
+        ensures slots { self.new.slots ≡ self.old.slots }
+        ensures done { OnOk result (DoesJob self.old.slots (subtrees_of (tree_of hir.now))
             (Job.Branches count root next) self.old.states.items self.new.states.items
             self.old.jobs.items self.new.jobs.items) }
     {
@@ -120,7 +126,8 @@ impl Compiler {
         requires root { root < length (subtrees_of (tree_of hir.now)) }
         requires room { length self.old.states.items
             + job_size (subtrees_of (tree_of hir.now)) (Job.Copies count root next) + 1 < 2 ^ 64 }
-        ensures { OnOk result (DoesJob (subtrees_of (tree_of hir.now))
+        ensures slots { self.new.slots ≡ self.old.slots }
+        ensures done { OnOk result (DoesJob self.old.slots (subtrees_of (tree_of hir.now))
             (Job.Copies count root next) self.old.states.items self.new.states.items
             self.old.jobs.items self.new.jobs.items) }
     {
@@ -146,7 +153,8 @@ impl Compiler {
         requires root { root < length (subtrees_of (tree_of hir.now)) }
         requires room { length self.old.states.items + job_size (subtrees_of (tree_of hir.now))
             (Job.Optional greedy count root next) + 1 < 2 ^ 64 }
-        ensures { OnOk result (DoesJob (subtrees_of (tree_of hir.now))
+        ensures slots { self.new.slots ≡ self.old.slots }
+        ensures done { OnOk result (DoesJob self.old.slots (subtrees_of (tree_of hir.now))
             (Job.Optional greedy count root next) self.old.states.items self.new.states.items
             self.old.jobs.items self.new.jobs.items) }
     {

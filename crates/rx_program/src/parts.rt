@@ -61,7 +61,8 @@ impl Compiler {
             ≡ repeated repetition (part_at (subtrees_of (tree_of hir.now)) root) }
         requires room { length self.old.states.items
             + size_of (part_at (subtrees_of (tree_of hir.now)) (root + 1)) + 1 < 2 ^ 64 }
-        ensures { OnOk result (DoesJob (subtrees_of (tree_of hir.now))
+        ensures slots { self.new.slots ≡ self.old.slots }
+        ensures done { OnOk result (DoesJob self.old.slots (subtrees_of (tree_of hir.now))
             (Job.Part (root + 1) next) self.old.states.items self.new.states.items
             self.old.jobs.items self.new.jobs.items) }
     {
@@ -102,11 +103,14 @@ impl Compiler {
 
     /// The part with this root.
     fn part(&mut self, hir: &Hir, root: usize, next: usize) -> Result<(), AllocError>
+        requires slots { self.old.slots < 2 ^ 63 }
         requires root { root < length (subtrees_of (tree_of hir.now)) }
         requires room { length self.old.states.items
             + size_of (part_at (subtrees_of (tree_of hir.now)) root) + 1 < 2 ^ 64 }
-        ensures { OnOk result (DoesJob (subtrees_of (tree_of hir.now)) (Job.Part root next)
-            self.old.states.items self.new.states.items self.old.jobs.items self.new.jobs.items) }
+        ensures slots { self.new.slots ≡ self.old.slots }
+        ensures done { OnOk result (DoesJob self.old.slots (subtrees_of (tree_of hir.now))
+            (Job.Part root next) self.old.states.items self.new.states.items
+            self.old.jobs.items self.new.jobs.items) }
     {
         let at = self.states.len();
         let size = hir.properties()[root].size;
@@ -119,7 +123,7 @@ impl Compiler {
                 self.states.push(State::Ranges(automaton, on))?;
             }
             Node::Group(number, _) => {
-                let slot = 2 * *number as usize;
+                let slot = self.slots + 2 * *number as usize;
                 self.states
                     .push(State::Capture(slot, StateID::new(at + 1)))?;
                 self.jobs.push(Job::State(State::Capture(slot + 1, on)))?;
@@ -138,10 +142,12 @@ impl Compiler {
 
     /// One job.
     pub(crate) fn run(&mut self, hir: &Hir, job: Job) -> Result<(), AllocError>
+        requires slots { self.old.slots < 2 ^ 63 }
         requires job { IsJob (subtrees_of (tree_of hir.now)) job }
         requires room { length self.old.states.items
             + job_size (subtrees_of (tree_of hir.now)) job + 1 < 2 ^ 64 }
-        ensures { OnOk result (DoesJob (subtrees_of (tree_of hir.now)) job
+        ensures slots { self.new.slots ≡ self.old.slots }
+        ensures done { OnOk result (DoesJob self.old.slots (subtrees_of (tree_of hir.now)) job
             self.old.states.items self.new.states.items self.old.jobs.items self.new.jobs.items) }
     {
         match job {

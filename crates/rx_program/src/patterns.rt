@@ -1,6 +1,6 @@
 //! Patterns compiled to a program.
 
-ghost use Rattle.std.specs.Prelude.{◌≡◌, ◌<◌, ◌↔◌, ◌⊎◌, ◌^◌, [], ◌∷◌, length, map, All, IfOk, IfErr};
+ghost use Rattle.std.specs.Prelude.{◌≡◌, ◌+◌, ◌<◌, ◌↔◌, ◌⊎◌, ◌^◌, [], ◌∷◌, ◌++◌, length, map, All, IfOk, IfErr, OnOk};
 ghost use Rattle.rx_grammar.specs.Postorder.{tree_of};
 ghost use Rattle.rx_grammar.specs.Weights.{pattern_weight};
 ghost use Rattle.rx_program.specs.Code.{pattern_code, program_of};
@@ -9,34 +9,54 @@ ghost use Rattle.rx_program.specs.Programs.{node_of, ReadsItsSet, characters_of,
 
 use crate::compiler::{Compiler, Job};
 use crate::error::BuildError;
-use crate::program::{Program, program_of_one};
+use crate::program::Program;
 use crate::sizes::{is_too_large, told_limit};
 use crate::states::State;
 use rx_captures::{PatternID, StateID};
 use rx_grammar::Hir;
 use std::alloc::{AllocError, Global};
 
-/// The states of one pattern, with the group of the whole match, and the end.
+impl Compiler {
+    /// The pattern with this number, after the states that there are: with the group of the whole
+    /// match, and the end.
+    fn pattern(&mut self, hir: &Hir, number: usize) -> Result<(), AllocError>
+        requires number { number < 2 ^ 62 }
+        requires slots { self.old.slots < 2 ^ 63 }
+        requires idle { self.old.jobs.items ≡ [] }
+        requires room { length self.old.states.items + pattern_weight (tree_of hir.now) < 2 ^ 63 }
+        requires reads { All ReadsItsSet self.old.states.items }
+        ensures slots { OnOk result (self.new.slots ≡ self.old.slots) }
+        ensures idle { OnOk result (self.new.jobs.items ≡ []) }
+        ensures nodes { OnOk result (map node_of self.new.states.items
+            ≡ map node_of self.old.states.items ++ pattern_code self.old.slots number
+            (tree_of hir.now) (length self.old.states.items)) }
+        ensures reads { OnOk result (All ReadsItsSet self.new.states.items) }
+    {
+        let root = hir.nodes().len() - 1;
+        let start = self.states.len() + 1;
+        let end = start + hir.properties()[root].size;
+        self.states
+            .push(State::Capture(2 * number, StateID::new(start)))?;
+        self.jobs
+            .push(Job::State(State::Match(PatternID::new(number))))?;
+        self.jobs.push(Job::State(State::Capture(2 * number + 1, StateID::new(end + 1))))?;
+        self.jobs.push(Job::Part(root, end))?;
+        while let Some(job) = self.jobs.pop() {
+            self.run(hir, job)?;
+        }
+        Ok(())
+    }
+}
+
+/// The states of a pattern that stands alone.
 fn states_of(alloc: Global, hir: &Hir) -> Result<Vec<State>, AllocError>
     requires { pattern_weight (tree_of hir.now) < 2 ^ 63 }
     ensures nodes { IfOk result (λ states. map node_of states.items
         ≡ pattern_code 0 0 (tree_of hir.now) 0) }
     ensures reads { IfOk result (λ states. All ReadsItsSet states.items) }
 {
-    let root = hir.nodes().len() - 1;
-    let end = hir.properties()[root].size + 1;
-    let mut compiler = Compiler::new(alloc);
-    compiler.states.push(State::Capture(0, StateID::new(1)))?;
-    compiler
-        .jobs
-        .push(Job::State(State::Match(PatternID::ZERO)))?;
-    compiler
-        .jobs
-        .push(Job::State(State::Capture(1, StateID::new(end + 1))))?;
-    compiler.jobs.push(Job::Part(root, end))?;
-    while let Some(job) = compiler.jobs.pop() {
-        compiler.run(hir, job)?;
-    }
+    let mut compiler = Compiler::new(alloc, 0);
+    compiler.pattern(hir, 0)?;
     Ok(compiler.states)
 }
 
@@ -80,7 +100,7 @@ pub fn compile(
         });
     }
     let states = states_of(alloc, hir)?;
-    let program = program_of_one(states, first_state(alloc)?, line_terminator);
+    let program = Program::new(states, first_state(alloc)?, line_terminator);
     program.walks_are_those_of_characters();
     Ok(program)
 }

@@ -37,6 +37,24 @@ impl Model for Program {
 }
 
 impl Program {
+    /// A program of these states. Where no pattern is asked for, walks start from the first one.
+    pub(crate) fn new(states: Vec<State>, patterns: Vec<StateID>, line_terminator: u8) -> Program
+        requires { All ReadsItsSet states.items }
+        ensures { result ≡ record {
+          states = states.items;
+          start = 0;
+          patterns = patterns.items;
+          line_terminator = line_terminator;
+        } }
+    {
+        Program {
+            states,
+            start: StateID::ZERO,
+            patterns,
+            line_terminator,
+        }
+    }
+
     /// The states, by number.
     pub fn states(&self) -> &[State]
         ensures states { result.now ≡ self.now.states }
@@ -74,27 +92,5 @@ impl Program {
     {
         let _states = self.states();
         program_walks_agree::<CharacterSet>();
-    }
-}
-
-/// A program of one pattern.
-pub(crate) fn program_of_one(
-    states: Vec<State>,
-    patterns: Vec<StateID>,
-    line_terminator: u8,
-) -> Program
-    requires { All ReadsItsSet states.items }
-    ensures { result ≡ record {
-      states = states.items;
-      start = 0;
-      patterns = patterns.items;
-      line_terminator = line_terminator;
-    } }
-{
-    Program {
-        states,
-        start: StateID::ZERO,
-        patterns,
-        line_terminator,
     }
 }

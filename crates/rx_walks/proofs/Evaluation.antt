@@ -6,15 +6,19 @@ use Rattle.std.specs.Str.{IsCharBoundary}
 use Rattle.rx_walks.specs.Machines.{Move, ends, goes, reads, Machine, Outcome}
 use Rattle.rx_walks.specs.Walks.{IsNew}
 use Rattle.rx_walks.specs.Looks.{Look}
-use Rattle.rx_walks.specs.Finds.{Search, is_anchored, IsFind}
+use Rattle.rx_walks.specs.Finds.{Search, PatternMatch, is_anchored, IsFind, IsFindAll}
 use Rattle.rx_walks.specs.Programs.{Program, Notes, fresh_notes, put_note}
-use Rattle.rx_walks.specs.ProgramFinds.{start_node, machine_of, haystack_of, holds_in, IfStarts, ProgramFinds}
+use Rattle.rx_walks.specs.ProgramFinds.{start_node, machine_of, haystack_of, holds_in, IfStarts, ProgramFinds, ProgramFindsAll}
 use Rattle.rx_walks.specs.Steps.{Steps, done, passed, met, opened, read, either, Searches, over, started, stepped}
+use Rattle.rx_walks.specs.StepsAll.{SearchesAll}
 use Rattle.rx_walks.specs.Laws.{Begins}
 use Rattle.rx_walks.proofs.WalkLaws.{none_seen, Contains-cases, Contains-head, Contains-tail, thins_none, same_some}
 use Rattle.rx_walks.proofs.CharacterLaws.{both}
 use Rattle.rx_walks.proofs.SearchLaws.{search_finds}
 use Rattle.rx_walks.proofs.FindLaws.{find_from_finds}
+use Rattle.rx_walks.proofs.AllSearchLaws.{search_finds_all}
+use Rattle.rx_walks.proofs.AllFindLaws.{find_all_from_finds}
+use Rattle.rx_walks.proofs.ForwardLaws.{characters_forward, number_told}
 use Rattle.rx_walks.proofs.WholeLaws.{reads_whole}
 
 abbrev is_seen : List ℕ → ℕ → Bool
@@ -29,7 +33,7 @@ is_seen_true (x ∷ seen) q e = by_head (λ e'. is_seen_true seen q e') (x == q)
     by_head rest true is e = Contains-head seen x q (eqb-true x q is)
     by_head rest false is e = Contains-tail seen x q (rest e)
 
-is_seen_false : (seen : List ℕ) (q : ℕ) → is_seen seen q ≡ false → IsNew seen q
+pub is_seen_false : (seen : List ℕ) (q : ℕ) → is_seen seen q ≡ false → IsNew seen q
 is_seen_false [] q e = none_seen q
 is_seen_false (x ∷ seen) q e = by_head (λ e'. is_seen_false seen q e') (x == q) refl e
   where
@@ -193,7 +197,7 @@ true_may_be_cut content i at =
       ])
     ]
 
-begins_at_true : (s : Search) (i : ℕ) → begins_at s i ≡ true → Begins s i
+pub begins_at_true : (s : Search) (i : ℕ) → begins_at s i ≡ true → Begins s i
 begins_at_true s i e =
     let a = both (nat_le s.slice_start i) _ e in
     let b = both (nat_le i s.slice_end) _ a.1 in
@@ -232,3 +236,11 @@ pub computed : {S : Type 0} (member : S → ℕ → Bool) (is_word : ℕ → Boo
 computed member is_word p s q out at e = subst (λ o. IfStarts o (IsFind (machine_of member is_word p s) fresh_notes s) out) (sym at)
     (find_from_finds (reads_whole put_note member p.nodes (haystack_of (holds_in is_word p.line_terminator s) s))
     (search_finds (places_search (machine_of member is_word p s) 100 (begins_at s) (Begins s) (suc (length s.content)) fresh_notes q (suc (length s.content) - s.start) s.start [] None out (begins_at_tells s) (omega arith) e)))
+
+-- and where all matches are wanted, what the loop without a cut finds
+pub found_by_all : {S : Type 0} (member : S → ℕ → Bool) (is_word : ℕ → Bool) (p : Program Look S) (s : Search) (q : ℕ) (out : Option PatternMatch) → start_node p s.anchoring ≡ Some q
+    → SearchesAll (machine_of member is_word p s) (Begins s) q s.start [] None out → ProgramFindsAll member is_word p s out
+found_by_all member is_word p s q out at searches =
+    let h = haystack_of (holds_in is_word p.line_terminator s) s in
+    subst (λ o. IfStarts o (IsFindAll (machine_of member is_word p s) fresh_notes s) out) (sym at)
+    (find_all_from_finds fresh_notes number_told (reads_whole put_note member p.nodes h) (search_finds_all (characters_forward put_note member p.nodes h) number_told (fresh_notes 0) searches))

@@ -1,14 +1,16 @@
 -- What small programs find in small contents, each by computation.
-use Rattle.std.proofs.Common.{◌≡◌, ℕ, Bool, true, false, ◌==◌, List, [], ◌∷◌, Option, Some, None, refl, arith}
+use Rattle.std.proofs.Common.{◌≡◌, ℕ, ◌≤◌, Bool, true, false, ◌==◌, List, [], ◌∷◌, Option, Some, None, refl, arith}
 use Rattle.std.proofs.Math.Utf8.{encode}
 use Rattle.std.specs.Str.{is_utf8, chars}
-use Rattle.rx_walks.specs.Machines.{Outcome}
+use Rattle.rx_walks.specs.Machines.{Machine, Outcome}
 use Rattle.rx_walks.specs.Looks.{Look, start_line, word_boundary, no_word_boundary}
-use Rattle.rx_walks.specs.Finds.{Search, unanchored}
+use Rattle.rx_walks.specs.Finds.{Search, Anchoring, unanchored, anchored, anchored_pattern}
 use Rattle.rx_walks.specs.Matches.{first, one_more, last, at_once, moved}
 use Rattle.rx_walks.specs.Programs.{Node, Program, Notes, match, pass, note, look, set, slot_of}
-use Rattle.rx_walks.specs.ProgramFinds.{ProgramFinds, ProgramMatches, holds_in}
-use Rattle.rx_walks.proofs.Evaluation.{computed}
+use Rattle.rx_walks.specs.ProgramFinds.{ProgramFinds, ProgramFindsAll, ProgramMatches, holds_in, machine_of}
+use Rattle.rx_walks.specs.StepsAll as all
+use Rattle.rx_walks.specs.StepsAll.{StepsAll, Met, met_first, met_other}
+use Rattle.rx_walks.proofs.Evaluation.{computed, is_seen_false, begins_at_true, found_by_all}
 
 -- a program of one pattern that starts at its node 0; each of its sets has one character
 abbrev program : List (Node Look ℕ) → Program Look ℕ
@@ -176,3 +178,143 @@ other_before = refl
 other_after : holds_in is_x 10 (from_in se 0) no_word_boundary 3 ≡ true
 unfolding is_utf8 chars encode
 other_after = refl
+
+-- anchored, `a` is found at the span's start alone
+abbrev a_once : List (Node Look ℕ)
+a_once = set 97 1 ∷ match 0 ∷ []
+
+abbrev ba : List ℕ
+ba = 98 ∷ 97 ∷ []
+
+abbrev anchored_from : Anchoring → List ℕ → ℕ → Search
+anchored_from anchoring content start = record (from_in content start) { anchoring = anchoring }
+
+a_anywhere : Found a_once ba 0 (at 1 2)
+unfolding is_utf8 chars encode
+a_anywhere = computed is_letter is_x (program a_once) (from_in ba 0) 0 (at 1 2) refl refl
+
+a_not_at_once : ProgramFinds is_letter is_x (program a_once) (anchored_from anchored ba 0) None
+unfolding is_utf8 chars encode
+a_not_at_once = computed is_letter is_x (program a_once) (anchored_from anchored ba 0) 0 None refl refl
+
+a_at_once : ProgramFinds is_letter is_x (program a_once) (anchored_from anchored ba 1) (at 1 2)
+unfolding is_utf8 chars encode
+a_at_once = computed is_letter is_x (program a_once) (anchored_from anchored ba 1) 0 (at 1 2) refl refl
+
+-- `b` and `ba` as two patterns: the first is preferred, unless the second is asked for; of a third nothing is found
+abbrev b_and_ba : Program Look ℕ
+b_and_ba = record {
+  nodes = pass (1 ∷ 3 ∷ []) ∷ set 98 2 ∷ match 0 ∷ set 98 4 ∷ set 97 5 ∷ match 1 ∷ [];
+  start = 0;
+  patterns = 1 ∷ 3 ∷ [];
+  line_terminator = 10;
+}
+
+first_preferred : ProgramFinds is_letter is_x b_and_ba (anchored_from anchored ba 0) (at 0 1)
+unfolding is_utf8 chars encode
+first_preferred = computed is_letter is_x b_and_ba (anchored_from anchored ba 0) 0 (at 0 1) refl refl
+
+second_asked_for : ProgramFinds is_letter is_x b_and_ba (anchored_from (anchored_pattern 1) ba 0) (Some (record { pattern = 1; end = 2; notes = record { start = 0; noted = [] } }))
+unfolding is_utf8 chars encode
+second_asked_for = computed is_letter is_x b_and_ba (anchored_from (anchored_pattern 1) ba 0) 3 (Some (record { pattern = 1; end = 2; notes = record { start = 0; noted = [] } })) refl refl
+
+second_not_further_on : ProgramFinds is_letter is_x b_and_ba (anchored_from (anchored_pattern 1) (98 ∷ ba) 0) None
+unfolding is_utf8 chars encode
+second_not_further_on = computed is_letter is_x b_and_ba (anchored_from (anchored_pattern 1) (98 ∷ ba) 0) 3 None refl refl
+
+no_third : ProgramFinds is_letter is_x b_and_ba (anchored_from (anchored_pattern 2) ba 0) None
+no_third = refl
+
+-- `\bx*\b` from 1 in `xx`: what stands before the span is seen by looks, what stands before the slice is not
+abbrev xx : List ℕ
+xx = 120 ∷ 120 ∷ []
+
+word_in_span : Found word_of_x xx 1 (at 2 2)
+unfolding is_utf8 chars encode
+word_in_span = computed is_letter is_x (program word_of_x) (from_in xx 1) 0 (at 2 2) refl refl
+
+word_in_slice : ProgramFinds is_letter is_x (program word_of_x) (record (from_in xx 1) { slice_start = 1 }) (at 1 2)
+unfolding is_utf8 chars encode
+word_in_slice = computed is_letter is_x (program word_of_x) (record (from_in xx 1) { slice_start = 1 }) 0 (at 1 2) refl refl
+
+-- and what stands after the slice neither
+word_up_to_slice : ProgramFinds is_letter is_x (program word_of_x) (record (from_in xx 0) { slice_end = 1 }) (at 0 1)
+unfolding is_utf8 chars encode
+word_up_to_slice = computed is_letter is_x (program word_of_x) (record (from_in xx 0) { slice_end = 1 }) 0 (at 0 1) refl refl
+
+-- without `utf8_empty`, `x*` has an empty match inside a character
+x_star_inside : ProgramFinds is_letter is_x (program x_star) (record (from_in se 1) { utf8_empty = false }) (at 1 1)
+unfolding is_utf8 chars encode
+x_star_inside = computed is_letter is_x (program x_star) (record (from_in se 1) { utf8_empty = false }) 0 (at 1 1) refl refl
+
+-- `b`, `ab??` and `ab` as three patterns in `ab`: the preferred walk ends at 1
+abbrev three : Program Look ℕ
+three = record {
+  nodes = pass (1 ∷ 3 ∷ 7 ∷ []) ∷ set 98 2 ∷ match 0 ∷ set 97 4 ∷ pass (6 ∷ 5 ∷ []) ∷ set 98 6 ∷ match 1 ∷ set 97 8 ∷ set 98 9 ∷ match 2 ∷ [];
+  start = 0;
+  patterns = 1 ∷ 3 ∷ 7 ∷ [];
+  line_terminator = 10;
+}
+
+abbrev ab : Search
+ab = from_in (97 ∷ 98 ∷ []) 0
+
+preferred_of_three : ProgramFinds is_letter is_x three ab (Some (record { pattern = 1; end = 1; notes = record { start = 0; noted = [] } }))
+unfolding is_utf8 chars encode
+preferred_of_three = computed is_letter is_x three ab 0 (Some (record { pattern = 1; end = 1; notes = record { start = 0; noted = [] } })) refl refl
+
+-- where all matches are wanted: the greatest end is 2; the least start with it is 0, though `b` is the first pattern; the least pattern with both is `ab??`
+abbrev of_three : Machine ℕ Notes
+of_three = machine_of is_letter is_x three ab
+
+three_at_0 : StepsAll of_three 0 [] ((0, 0) ∷ []) ((0, 4) ∷ (0, 8) ∷ []) []
+unfolding is_utf8 chars encode
+three_at_0 =
+    all.opened (1 ∷ 3 ∷ 7 ∷ []) (is_seen_false [] 0 refl) refl (
+    all.opened [] (is_seen_false (0 ∷ []) 1 refl) refl (
+    all.read 4 (is_seen_false (1 ∷ 0 ∷ []) 3 refl) refl (
+    all.read 8 (is_seen_false (3 ∷ 1 ∷ 0 ∷ []) 7 refl) refl all.done)))
+
+three_at_1 : StepsAll of_three 1 [] ((0, 4) ∷ (0, 8) ∷ (1, 0) ∷ []) ((0, 6) ∷ (0, 9) ∷ (1, 2) ∷ []) ((0, 1) ∷ [])
+unfolding is_utf8 chars encode
+three_at_1 =
+    all.opened (6 ∷ 5 ∷ []) (is_seen_false [] 4 refl) refl (
+    all.met (is_seen_false (4 ∷ []) 6 refl) refl (
+    all.read 6 (is_seen_false (6 ∷ 4 ∷ []) 5 refl) refl (
+    all.read 9 (is_seen_false (5 ∷ 6 ∷ 4 ∷ []) 8 refl) refl (
+    all.opened (1 ∷ 3 ∷ 7 ∷ []) (is_seen_false (8 ∷ 5 ∷ 6 ∷ 4 ∷ []) 0 refl) refl (
+    all.read 2 (is_seen_false (0 ∷ 8 ∷ 5 ∷ 6 ∷ 4 ∷ []) 1 refl) refl (
+    all.opened [] (is_seen_false (1 ∷ 0 ∷ 8 ∷ 5 ∷ 6 ∷ 4 ∷ []) 3 refl) refl (
+    all.opened [] (is_seen_false (3 ∷ 1 ∷ 0 ∷ 8 ∷ 5 ∷ 6 ∷ 4 ∷ []) 7 refl) refl all.done)))))))
+
+three_at_2 : StepsAll of_three 2 [] ((0, 6) ∷ (0, 9) ∷ (1, 2) ∷ (2, 0) ∷ []) [] ((0, 1) ∷ (0, 2) ∷ (1, 0) ∷ [])
+unfolding is_utf8 chars encode
+three_at_2 =
+    all.met (is_seen_false [] 6 refl) refl (
+    all.met (is_seen_false (6 ∷ []) 9 refl) refl (
+    all.met (is_seen_false (9 ∷ 6 ∷ []) 2 refl) refl (
+    all.opened (1 ∷ 3 ∷ 7 ∷ []) (is_seen_false (2 ∷ 9 ∷ 6 ∷ []) 0 refl) refl (
+    all.opened [] (is_seen_false (0 ∷ 2 ∷ 9 ∷ 6 ∷ []) 1 refl) refl (
+    all.opened [] (is_seen_false (1 ∷ 0 ∷ 2 ∷ 9 ∷ 6 ∷ []) 3 refl) refl (
+    all.opened [] (is_seen_false (3 ∷ 1 ∷ 0 ∷ 2 ∷ 9 ∷ 6 ∷ []) 7 refl) refl all.done))))))
+
+none_of_three : (s p : ℕ) → Met s p [] → ⊥
+none_of_three s p met = elim met [ ]
+
+met_at_1 : (s p : ℕ) → Met s p ((0, 1) ∷ []) → (0 ≤ s) × (s ≡ 0 → 1 ≤ p)
+met_at_1 s p (met_first e e') = (omega arith, λ same. omega (arith, e'))
+met_at_1 s p (met_other met) = absurd (none_of_three s p met)
+
+met_at_2 : (s p : ℕ) → Met s p ((0, 1) ∷ (0, 2) ∷ (1, 0) ∷ []) → (0 ≤ s) × (s ≡ 0 → 1 ≤ p)
+met_at_2 s p (met_first e e') = (omega arith, λ same. omega (arith, e'))
+met_at_2 s p (met_other (met_first e e')) = (omega arith, λ same. omega (arith, e'))
+met_at_2 s p (met_other (met_other (met_first e e'))) = (omega arith, λ same. omega (arith, e, same))
+met_at_2 s p (met_other (met_other (met_other met))) = absurd (none_of_three s p met)
+
+greatest_of_three : ProgramFindsAll is_letter is_x three ab (Some (record { start = 0; pattern = 1; end = 2 }))
+unfolding is_utf8 chars encode
+greatest_of_three = found_by_all is_letter is_x three ab 0 (Some (record { start = 0; pattern = 1; end = 2 })) refl (
+    all.started (begins_at_true ab 0 refl) three_at_0 (all.none_met none_of_three) (
+    all.started (begins_at_true ab 1 refl) three_at_1 (all.some_met (met_first refl refl) met_at_1) (
+    all.started (begins_at_true ab 2 refl) three_at_2 (all.some_met (met_first refl refl) met_at_2) (
+    all.over (λ j from begins. omega (arith, from, begins.0.0.4))))))

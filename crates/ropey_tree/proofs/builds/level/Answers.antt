@@ -29,4 +29,4 @@ loop-from-preserved c =
       | inr big ↦ inr (omega (arith, big.0), omega (arith, big.1, len))
     ] in
     let pushed = ap views c.in_ok-push.ensures.items ∙ map-append (λ node. node.value) c.loop-from.above.items (c.in_ok-node.node ∷ []) in
-    rw pushed (level_step c.args.height below above c.in_ok-children.children c.loop-from.from to c.in_ok-node.node.value c.loop-from.invariant c.requires more c.in_ok-children.ensures within (omega (arith, c.share.ensures.some)) c.in_ok-node.ensures enough)
+    rw pushed (level_step c.args.height below above c.in_ok-children.children c.loop-from.from to c.in_ok-node.node.value c.loop-from.invariant c.requires more c.in_ok-children.ensures within (omega (arith, c.share.ensures.some)) c.in_ok-node.ensures.node enough)

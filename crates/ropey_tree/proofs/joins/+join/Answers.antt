@@ -34,7 +34,7 @@ returns-in_ok-joined-2 t c =
     let inner = rw c.deref-then-l-r-2.ensures at c.in-Inner.ensures.1 in
     let is = rw c.len.ensures.value at c.get.ensures in
     let lower = rw (c.height-l.ensures.value, c.height-r.ensures.value, c.deref.ensures, c.deref-2.ensures) at c.if-l-r-2.true in
-    let packed = rw (c.height-l.ensures.value, c.deref.ensures) at c.in_ok-joined-2.ensures in
+    let packed = rw (c.height-l.ensures.value, c.deref.ensures) at c.in_ok-joined-2.ensures.packed in
     left_joined l r c.requires c.in-Inner.front.now c.get.result.now.value l_is inner is lower c.in_ok-last.last (nodes_of c.in_ok-joined-2.joined) c.in_ok-last.ensures packed
 
 pub join-requires-else-l-r-2 : goal.join-requires-else-l-r-2
@@ -66,5 +66,5 @@ returns-in_ok-joined-3 t c =
     let inner = rw c.deref-else-l-r-2.ensures at c.in-Inner-parts.ensures.1 in
     let heights : c.height-l.result < c.height-r.result = omega (arith, c.if-l-r.false, c.if-l-r-2.false) in
     let lower = rw (c.height-l.ensures.value, c.height-r.ensures.value, c.deref.ensures, c.deref-2.ensures) at heights in
-    let packed = rw (c.height-r.ensures.value, c.deref-2.ensures) at c.in_ok-joined-3.ensures in
+    let packed = rw (c.height-r.ensures.value, c.deref-2.ensures) at c.in_ok-joined-3.ensures.packed in
     right_joined l r c.requires c.in-Inner-parts.back.now c.get-else-l-r-2.result.now.value r_is inner c.get-else-l-r-2.ensures lower c.in_ok-first.first (nodes_of c.in_ok-joined-3.joined) c.in_ok-first.ensures packed

@@ -19,7 +19,7 @@ returns-in_ok-joined-in-Inner c =
     let front = rw c.deref.ensures at c.in-Inner.ensures.1 in
     let r_is = rw c.deref-in-Inner.ensures at c.in-Inner-parts-2.ensures.0 in
     let back = rw c.deref-in-Inner.ensures at c.in-Inner-parts-2.ensures.1 in
-    let packed = rw (c.height.ensures.value, c.deref-in-Inner-2.ensures) at c.in_ok-joined-in-Inner.ensures in
+    let packed = rw (c.height.ensures.value, c.deref-in-Inner-2.ensures) at c.in_ok-joined-in-Inner.ensures.packed in
     beside_joined c.args.left.now.value c.args.right.now.value c.requires.text c.in-Inner.front.now c.in-Inner-parts-2.back.now l_is front r_is back c.requires.level
     (nodes_of c.in_ok-joined-in-Inner.joined) packed
 

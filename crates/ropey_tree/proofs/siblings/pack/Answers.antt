@@ -1,5 +1,5 @@
 use Rattle.std.proofs.Common.{◌≡◌, ◌/◌, ◌++◌, length, take, drop, ap, sym, ◌∙◌, arith, length-append, length-take-le, take-append-drop}
-use Rattle.std.proofs.Common.{[]}
+use Rattle.std.proofs.Common.{[], ◌∷◌}
 use Rattle.std.proofs.lemmas.List.{append-nil}
 use Rattle.std.proofs.Math.Seq.{take-length}
 use Rattle.ropey_tree.specs.Siblings.{siblings_of}
@@ -11,13 +11,21 @@ whole : (c : In_ok-gather) → c.in_ok-gather.field-0 ≡ siblings_of c.args.sib
 whole c = c.in_ok-gather.ensures ∙ ap (λ n. take n (siblings_of c.args.siblings)) c.len-n.ensures ∙ take-length (siblings_of c.args.siblings)
 
 pub over-requires : goal.over-requires
-over-requires c = rw (whole c) (front_inner c.args.height (siblings_of c.args.siblings) (siblings_of c.args.siblings) [] c.requires.nodes (append-nil (siblings_of c.args.siblings)) c.requires.nodes.branches)
+over-requires c =
+    let siblings = siblings_of c.args.siblings in
+    rw (whole (goal.at.over-requires c).In_ok-gather) (front_inner c.args.height siblings siblings [] c.requires.nodes (append-nil siblings) c.requires.nodes.branches)
 
-pub returns-then-n-le-MAX_CHILDREN : goal.returns-then-n-le-MAX_CHILDREN
-returns-then-n-le-MAX_CHILDREN c =
-    let is = whole (goal.at.returns-then-n-le-MAX_CHILDREN c).In_ok-gather in
-    let node = rw is at c.in_ok-node.ensures in
-    packed_one c.args.height (siblings_of c.args.siblings) c.in_ok-node.node.value c.requires.nodes (front_inner c.args.height (siblings_of c.args.siblings) (siblings_of c.args.siblings) [] c.requires.nodes (append-nil (siblings_of c.args.siblings)) c.requires.nodes.branches) node
+pub returns-then-n-le-MAX_CHILDREN-clause-packed : goal.returns-then-n-le-MAX_CHILDREN-clause-packed
+returns-then-n-le-MAX_CHILDREN-clause-packed c =
+    let siblings = siblings_of c.args.siblings in
+    let is = whole (goal.at.returns-then-n-le-MAX_CHILDREN-clause-packed c).In_ok-gather in
+    let node = rw is at c.in_ok-node.ensures.node in
+    packed_one c.args.height siblings c.in_ok-node.node.value c.requires.nodes (front_inner c.args.height siblings siblings [] c.requires.nodes (append-nil siblings) c.requires.nodes.branches) node
+
+pub returns-then-n-le-MAX_CHILDREN-clause-one : goal.returns-then-n-le-MAX_CHILDREN-clause-one
+returns-then-n-le-MAX_CHILDREN-clause-one c = λ few.
+    let is = whole (goal.at.returns-then-n-le-MAX_CHILDREN-clause-one c).In_ok-gather in
+    ap (λ v. v ∷ []) (rw is at c.in_ok-node.ensures.node)
 
 pub over-requires-2 : goal.over-requires-2
 over-requires-2 c =
@@ -36,12 +44,16 @@ front_len c = ap length c.in_ok-gather-2.ensures ∙ length-take-le (c.len-n.res
 
 pub over-requires-3 : goal.over-requires-3
 over-requires-3 c =
-    let sums = sym (length-append c.in_ok-gather-2.field-0 c.in_ok-gather-3.field-0) ∙ ap length (halves c) in
-    back_inner c.args.height (siblings_of c.args.siblings) c.in_ok-gather-2.field-0 c.in_ok-gather-3.field-0 c.requires.nodes (halves c) (omega (arith, sums, front_len c, c.len-n.ensures))
+    let at = (goal.at.over-requires-3 c).In_ok-gather-3 in
+    let sums = sym (length-append c.in_ok-gather-2.field-0 c.in_ok-gather-3.field-0) ∙ ap length (halves at) in
+    back_inner c.args.height (siblings_of c.args.siblings) c.in_ok-gather-2.field-0 c.in_ok-gather-3.field-0 c.requires.nodes (halves at) (omega (arith, sums, front_len at, c.len-n.ensures))
 
-pub returns : goal.returns
-returns c =
-    let at = (goal.at.returns c).In_ok-gather-3 in
+pub returns-clause-packed : goal.returns-clause-packed
+returns-clause-packed c =
+    let at = (goal.at.returns-clause-packed c).In_ok-gather-3 in
     let sums = sym (length-append c.in_ok-gather-2.field-0 c.in_ok-gather-3.field-0) ∙ ap length (halves at) in
     packed_two c.args.height (siblings_of c.args.siblings) c.in_ok-gather-2.field-0 c.in_ok-gather-3.field-0 c.in_ok-first.first.value c.in_ok-second.second.value c.requires.nodes (halves at)
-    (omega (arith, front_len at)) (omega (arith, sums, front_len at, c.len-n.ensures)) c.in_ok-first.ensures c.in_ok-second.ensures
+    (omega (arith, front_len at)) (omega (arith, sums, front_len at, c.len-n.ensures)) c.in_ok-first.ensures.node c.in_ok-second.ensures.node
+
+pub returns-clause-one : goal.returns-clause-one
+returns-clause-one c = λ few. absurd (omega (arith, few, c.len-n.ensures, c.if-n-le-MAX_CHILDREN.false))

@@ -1,46 +1,46 @@
-use Rattle.std.proofs.Common.{◌≡◌, ℕ, ◌∷◌, ◌++◌, List, [], map, sym, ap, subst, ◌∙◌}
-use Rattle.std.proofs.lemmas.List.{reverse-append}
+use Rattle.std.proofs.Common.{◌≡◌, ℕ, ◌∷◌, ◌++◌, List, [], length, sym, ap, ap₂, subst, ◌∙◌}
 use Rattle.rx_walks.specs.Machines.{Machine}
 use Rattle.rx_chunk.specs.Nodes.{widths_of}
-use Rattle.rx_chunk.specs.Lists.{waiting, first_node, IsUnderWay, IsFollowed}
+use Rattle.rx_chunk.specs.Threads.{Slots, Thread, first_node}
+use Rattle.rx_chunk.specs.Lists.{AreUnderWay, AreFollowed}
 use Rattle.rx_chunk.proofs.stepper.Closure.follow.Goals as goal
 
-begin : (m : Machine (ℕ × ℕ) (Unit {0})) (i : ℕ) (nodes : List (ℕ × ℕ)) (widths ids : List ℕ) (q : ℕ × ℕ) (stack : List ℕ) (others out : List (ℕ × ℕ)) → stack ≡ []
-    → IsUnderWay m i nodes widths ids (q ∷ others) out → IsUnderWay m i nodes widths ids (q ∷ waiting stack ++ others) out
-begin m i nodes widths ids q stack others out e way = subst (λ s. IsUnderWay m i nodes widths ids (q ∷ waiting s ++ others) out) (sym e) way
+-- a thread that begins: none waits
+begin : (m : Machine (ℕ × ℕ) Slots) (i : ℕ) (threads : List Thread) (widths ids : List ℕ) (n slots : Slots) (q : ℕ × ℕ) (waits others out : List Thread) → slots ≡ n → waits ≡ []
+    → AreUnderWay m i threads widths ids ((n, q) ∷ others) out → AreUnderWay m i threads widths ids ((slots, q) ∷ waits ++ others) out
+begin m i threads widths ids n slots q waits others out e f way = subst (λ xs. AreUnderWay m i threads widths ids xs out) (sym (ap₂ (λ s ws. (s, q) ∷ ws ++ others) e f)) way
 
-on_top : (items rest : List ℕ) (s : ℕ) → items ≡ rest ++ s ∷ [] → waiting items ≡ first_node s ∷ waiting rest
-on_top items rest s e = ap (λ xs. waiting xs) e ∙ ap (λ xs. map first_node xs) (reverse-append rest (s ∷ []))
-
-resume : (m : Machine (ℕ × ℕ) (Unit {0})) (i : ℕ) (nodes : List (ℕ × ℕ)) (widths ids items rest : List ℕ) (s : ℕ) (q : ℕ × ℕ) (others out : List (ℕ × ℕ)) → items ≡ rest ++ s ∷ [] → q ≡ (s, 0)
-    → IsUnderWay m i nodes widths ids (waiting items ++ others) out → IsUnderWay m i nodes widths ids (q ∷ waiting rest ++ others) out
-resume m i nodes widths ids items rest s q others out e f way =
-    subst (λ x. IsUnderWay m i nodes widths ids (x ∷ waiting rest ++ others) out) (sym f)
-    (subst (λ ws. IsUnderWay m i nodes widths ids (ws ++ others) out) (on_top items rest s e) way)
+-- a thread that waited
+resume : (m : Machine (ℕ × ℕ) Slots) (i : ℕ) (threads : List Thread) (widths ids : List ℕ) (slots : Slots) (s : ℕ) (q : ℕ × ℕ) (waits rest others out : List Thread) → waits ≡ (slots, first_node s) ∷ rest → q ≡ (s, 0)
+    → AreUnderWay m i threads widths ids (waits ++ others) out → AreUnderWay m i threads widths ids ((slots, q) ∷ rest ++ others) out
+resume m i threads widths ids slots s q waits rest others out e f way =
+    subst (λ x. AreUnderWay m i threads widths ids ((slots, x) ∷ rest ++ others) out) (sym f)
+    (subst (λ ws. AreUnderWay m i threads widths ids (ws ++ others) out) e way)
 
 pub returns-in-Some-clause-followed : goal.returns-in-Some-clause-followed
-returns-in-Some-clause-followed c = λ m i nodes others moves way.
+returns-in-Some-clause-followed c = λ m i threads others moves way.
     let widths = widths_of c.args.program.now in
-    subst (λ met. IsFollowed m i nodes widths c.enter.new.self.visited.ids (waiting c.enter.new.self.stack.items ++ others) c.enter.new.next.items met) c.in-Some.is
-    (c.in_ok-pattern.ensures.followed m i nodes others moves (begin m i nodes widths c.args.self.now.visited.ids c.args.node c.args.self.now.stack.items others c.args.next.now.items c.requires.empty way))
+    subst (λ met. AreFollowed m i threads widths c.enter.new.self.visited.ids (c.enter.new.self.pending.threads ++ others) c.enter.new.next.threads c.enter.new.self.pending.slots met) c.in-Some.is
+    (c.in_ok-pattern.ensures.followed m i threads others moves
+    (begin m i threads widths c.args.self.now.visited.ids c.args.slots.now c.begin.new.self.slots c.args.node c.begin.new.self.threads others c.args.next.now.threads c.in_ok-begin.ensures.slots c.in_ok-begin.ensures.threads way))
+
+pub loop-state-init : goal.loop-state-init
+loop-state-init c = record {
+  followed = λ m i threads others moves way.
+      let widths = widths_of c.args.program.now in
+      subst (λ met. AreFollowed m i threads widths c.enter.new.self.visited.ids (c.enter.new.self.pending.threads ++ others) c.enter.new.next.threads c.enter.new.self.pending.slots met) c.in_default.is
+      (c.in_ok-pattern.ensures.followed m i threads others moves
+      (begin m i threads widths c.args.self.now.visited.ids c.args.slots.now c.begin.new.self.slots c.args.node c.begin.new.self.threads others c.args.next.now.threads c.in_ok-begin.ensures.slots c.in_ok-begin.ensures.threads way));
+  threads = λ all. c.in_ok-pattern.ensures.threads all;
+  widths = c.in_ok-pattern.ensures.widths;
+  slots = c.in_ok-pattern.ensures.slots ∙ ap (λ xs. length xs) c.in_ok-begin.ensures.slots ∙ c.requires.slots ∙ sym c.in_ok-pattern.ensures.slot_len;
+  slot_len = c.in_ok-pattern.ensures.slot_len;
+}
 
 pub returns-in-Some-2-clause-followed : goal.returns-in-Some-2-clause-followed
-returns-in-Some-2-clause-followed c = λ m i nodes others moves way.
+returns-in-Some-2-clause-followed c = λ m i threads others moves way.
     let widths = widths_of c.args.program.now in
-    subst (λ met. IsFollowed m i nodes widths c.enter-in-Some-pop.new.self.visited.ids (waiting c.enter-in-Some-pop.new.self.stack.items ++ others) c.enter-in-Some-pop.new.next.items met) c.in-Some-2.is
-    (c.in_ok-pattern-2.ensures.followed m i nodes others moves (resume m i nodes widths c.loop-state.self.visited.ids c.loop-state.self.stack.items c.pop.new.self.items c.in-Some-pop.state c.first.result others c.loop-state.next.items c.in-Some-pop.ensures.items c.first.ensures
-    (c.loop-state.invariant.followed m i nodes others moves way)))
-
-pub returns-in-Some-2-clause-nodes : goal.returns-in-Some-2-clause-nodes
-returns-in-Some-2-clause-nodes c = λ all. c.in_ok-pattern-2.ensures.nodes (c.loop-state.invariant.nodes all)
-
-pub loop-state-preserved : goal.loop-state-preserved
-loop-state-preserved c = record {
-  followed = λ m i nodes others moves way.
-      let widths = widths_of c.args.program.now in
-      subst (λ met. IsFollowed m i nodes widths c.enter-in-Some-pop.new.self.visited.ids (waiting c.enter-in-Some-pop.new.self.stack.items ++ others) c.enter-in-Some-pop.new.next.items met) c.in_default-2.is
-      (c.in_ok-pattern-2.ensures.followed m i nodes others moves (resume m i nodes widths c.loop-state.self.visited.ids c.loop-state.self.stack.items c.pop.new.self.items c.in-Some-pop.state c.first.result others c.loop-state.next.items c.in-Some-pop.ensures.items c.first.ensures
-      (c.loop-state.invariant.followed m i nodes others moves way)));
-  nodes = λ all. c.in_ok-pattern-2.ensures.nodes (c.loop-state.invariant.nodes all);
-  widths = c.in_ok-pattern-2.ensures.widths ∙ c.loop-state.invariant.widths;
-}
+    subst (λ met. AreFollowed m i threads widths c.enter-in-Some-pop.new.self.visited.ids (c.enter-in-Some-pop.new.self.pending.threads ++ others) c.enter-in-Some-pop.new.next.threads c.enter-in-Some-pop.new.self.pending.slots met) c.in-Some-2.is
+    (c.in_ok-pattern-2.ensures.followed m i threads others moves
+    (resume m i threads widths c.loop-state.self.visited.ids c.pop.new.self.slots c.in-Some-pop.state c.first.result c.loop-state.self.pending.threads c.pop.new.self.threads others c.loop-state.next.threads c.in-Some-pop.ensures.next c.first.ensures
+    (c.loop-state.invariant.followed m i threads others moves way)))

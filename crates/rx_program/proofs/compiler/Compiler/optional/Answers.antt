@@ -8,11 +8,11 @@ use Rattle.rx_program.proofs.FactLaws.{known_any}
 use Rattle.rx_program.proofs.DoneLaws.{one_less, optional_done, no_optional_done}
 use Rattle.rx_program.proofs.compiler.Compiler.optional.Goals as goal
 
-pub returns-then-count-eq0 : goal.returns-then-count-eq0
-returns-then-count-eq0 c = no_optional_done (subtrees_of (tree_of c.args.hir.now)) c.args.self.now.states.items c.args.self.now.jobs.items c.args.greedy c.args.count c.args.root c.args.next c.if-count-eq0.true
+pub returns-then-count-eq0-clause-done : goal.returns-then-count-eq0-clause-done
+returns-then-count-eq0-clause-done c = no_optional_done (subtrees_of (tree_of c.args.hir.now)) c.args.self.now.states.items c.args.self.now.jobs.items c.args.greedy c.args.count c.args.root c.args.next c.if-count-eq0.true
 
-pub returns : goal.returns
-returns c =
+pub returns-clause-done : goal.returns-clause-done
+returns-clause-done c =
     let parts = subtrees_of (tree_of c.args.hir.now) in
     let states = c.args.self.now.states in
     let s = size_of (part_at parts c.args.root) in

@@ -32,24 +32,24 @@ overflow_sub-at c =
     let some = (group_some parts c.args.root stands c.in-Group.number name.0 kind).1 in
     subst (λ n. 1 ≤ c.len-at.result + n) (sym ((known_any parts c.properties.result.now c.args.root _ c.properties.ensures c.requires.root).size small)) (omega (arith, some))
 
-pub returns-in_ok-push-in-Empty : goal.returns-in_ok-push-in-Empty
-returns-in_ok-push-in-Empty c =
+pub returns-in_ok-push-in-Empty-clause-done : goal.returns-in_ok-push-in-Empty-clause-done
+returns-in_ok-push-in-Empty-clause-done c =
     let parts = subtrees_of (tree_of c.args.hir.now) in
     let stands = each_stands (tree_of c.args.hir.now) c.args.root c.requires.root in
     let node = node_at parts c.nodes.result.now c.args.root c.index-nodes-root.result (c.nodes.ensures.nodes ∙ c.nodes.ensures.exact) c.requires.root c.index-nodes-root.is in
     let kind : root_of (part_at parts c.args.root) ≡ an_empty = sym node ∙ ap kind_of c.in-Empty.is in
     empty_done parts c.args.root stands c.args.self.now.states.items c.push.new.self.items c.args.self.now.jobs.items [] [] c.args.next c.new-on.result c.new-on.ensures kind c.in_ok-push-in-Empty.ensures.items
 
-pub returns-in_ok-push-in-Look : goal.returns-in_ok-push-in-Look
-returns-in_ok-push-in-Look c =
+pub returns-in_ok-push-in-Look-clause-done : goal.returns-in_ok-push-in-Look-clause-done
+returns-in_ok-push-in-Look-clause-done c =
     let parts = subtrees_of (tree_of c.args.hir.now) in
     let stands = each_stands (tree_of c.args.hir.now) c.args.root c.requires.root in
     let node = node_at parts c.nodes.result.now c.args.root c.index-nodes-root.result (c.nodes.ensures.nodes ∙ c.nodes.ensures.exact) c.requires.root c.index-nodes-root.is in
     let kind : root_of (part_at parts c.args.root) ≡ a_look c.in-Look.look = sym node ∙ ap kind_of c.in-Look.is in
     look_done parts c.args.root stands c.args.self.now.states.items c.push-in-Look.new.self.items c.args.self.now.jobs.items [] [] c.args.next c.new-on.result c.new-on.ensures c.in-Look.look kind c.in_ok-push-in-Look.ensures.items
 
-pub returns-in_ok-push-in-Set : goal.returns-in_ok-push-in-Set
-returns-in_ok-push-in-Set c =
+pub returns-in_ok-push-in-Set-clause-done : goal.returns-in_ok-push-in-Set-clause-done
+returns-in_ok-push-in-Set-clause-done c =
     let parts = subtrees_of (tree_of c.args.hir.now) in
     let stands = each_stands (tree_of c.args.hir.now) c.args.root c.requires.root in
     let node = node_at parts c.nodes.result.now c.args.root c.index-nodes-root.result (c.nodes.ensures.nodes ∙ c.nodes.ensures.exact) c.requires.root c.index-nodes-root.is in
@@ -57,8 +57,8 @@ returns-in_ok-push-in-Set c =
     set_done parts c.args.root stands c.args.self.now.states.items c.push-in-Set.new.self.items c.args.self.now.jobs.items [] [] c.args.next c.new-on.result c.new-on.ensures c.in-Set.set.value
     (state.Ranges c.in_ok-automaton-in-Set.automaton c.new-on.result) kind (ap (λ x. programs.set x c.new-on.result) c.in_ok-automaton-in-Set.ensures.ranges) c.in_ok-automaton-in-Set.ensures.reader c.in_ok-push-in-Set.ensures.items
 
-pub returns-in_ok-push-in-Group-3 : goal.returns-in_ok-push-in-Group-3
-returns-in_ok-push-in-Group-3 c =
+pub returns-in_ok-push-in-Group-3-clause-done : goal.returns-in_ok-push-in-Group-3-clause-done
+returns-in_ok-push-in-Group-3-clause-done c =
     let parts = subtrees_of (tree_of c.args.hir.now) in
     let stands = each_stands (tree_of c.args.hir.now) c.args.root c.requires.root in
     let node = node_at parts c.nodes.result.now c.args.root c.index-nodes-root.result (c.nodes.ensures.nodes ∙ c.nodes.ensures.exact) c.requires.root c.index-nodes-root.is in
@@ -81,8 +81,8 @@ overflow_sub-root-in-Concat c =
     let kind : root_of (part_at parts c.args.root) ≡ a_concat c.in-Concat.count = sym node ∙ ap kind_of c.in-Concat.is in
     concat_some parts c.args.root stands c.in-Concat.count kind
 
-pub returns-in_ok-push-in-Concat : goal.returns-in_ok-push-in-Concat
-returns-in_ok-push-in-Concat c =
+pub returns-in_ok-push-in-Concat-clause-done : goal.returns-in_ok-push-in-Concat-clause-done
+returns-in_ok-push-in-Concat-clause-done c =
     let parts = subtrees_of (tree_of c.args.hir.now) in
     let stands = each_stands (tree_of c.args.hir.now) c.args.root c.requires.root in
     let node = node_at parts c.nodes.result.now c.args.root c.index-nodes-root.result (c.nodes.ensures.nodes ∙ c.nodes.ensures.exact) c.requires.root c.index-nodes-root.is in
@@ -125,8 +125,8 @@ branch_starts-requires-clause-room c =
     let sum = (alternation_row parts c.args.root stands c.in-Alternation.count kind).2 in
     subst (λ n. sizes_of (trees_before parts c.in-Alternation.count (c.args.root - 1)) < c.len-at.result + n) (sym ((known_any parts c.properties.result.now c.args.root _ c.properties.ensures c.requires.root).size small)) (omega (arith, sum))
 
-pub returns-in_ok-push-in-Alternation-2 : goal.returns-in_ok-push-in-Alternation-2
-returns-in_ok-push-in-Alternation-2 c =
+pub returns-in_ok-push-in-Alternation-2-clause-done : goal.returns-in_ok-push-in-Alternation-2-clause-done
+returns-in_ok-push-in-Alternation-2-clause-done c =
     let parts = subtrees_of (tree_of c.args.hir.now) in
     let stands = each_stands (tree_of c.args.hir.now) c.args.root c.requires.root in
     let node = node_at parts c.nodes.result.now c.args.root c.index-nodes-root.result (c.nodes.ensures.nodes ∙ c.nodes.ensures.exact) c.requires.root c.index-nodes-root.is in
@@ -167,12 +167,12 @@ repetition-requires-clause-room c =
     let back : c.args.root ≡ c.args.root - 1 + 1 = omega (arith, some) in
     subst (λ k. length c.args.self.now.states.items + size_of (part_at parts k) + 1 < 2 ^ 64) back c.requires.room
 
-pub returns-in_ok-repetition-in-Repeat : goal.returns-in_ok-repetition-in-Repeat
-returns-in_ok-repetition-in-Repeat c =
+pub returns-in_ok-repetition-in-Repeat-clause-done : goal.returns-in_ok-repetition-in-Repeat-clause-done
+returns-in_ok-repetition-in-Repeat-clause-done c =
     let parts = subtrees_of (tree_of c.args.hir.now) in
     let stands = each_stands (tree_of c.args.hir.now) c.args.root c.requires.root in
     let node = node_at parts c.nodes.result.now c.args.root c.index-nodes-root.result (c.nodes.ensures.nodes ∙ c.nodes.ensures.exact) c.requires.root c.index-nodes-root.is in
     let kind : root_of (part_at parts c.args.root) ≡ a_repetition c.in-Repeat.repetition = sym node ∙ ap kind_of c.in-Repeat.is in
     let some = (repetition_child parts c.args.root stands c.in-Repeat.repetition kind).0 in
     let back : c.args.root - 1 + 1 ≡ c.args.root = omega (arith, some) in
-    subst (λ k. DoesJob parts (job.Part k c.args.next) c.args.self.now.states.items c.repetition.new.self.states.items c.args.self.now.jobs.items c.repetition.new.self.jobs.items) back c.in_ok-repetition-in-Repeat.ensures
+    subst (λ k. DoesJob c.args.self.now.slots parts (job.Part k c.args.next) c.args.self.now.states.items c.repetition.new.self.states.items c.args.self.now.jobs.items c.repetition.new.self.jobs.items) back c.in_ok-repetition-in-Repeat.ensures.done

@@ -11,8 +11,8 @@ use Rattle.rx_program.proofs.compiler.Compiler.repetition.Goals as goal
 above_zero : (n : ℕ) → (n ≡ 0 → ⊥) → 0 < n
 above_zero n e = omega (arith, e)
 
-pub returns-in_ok-push-in-Some-2 : goal.returns-in_ok-push-in-Some-2
-returns-in_ok-push-in-Some-2 c =
+pub returns-in_ok-push-in-Some-2-clause-done : goal.returns-in_ok-push-in-Some-2-clause-done
+returns-in_ok-push-in-Some-2-clause-done c =
     let parts = subtrees_of (tree_of c.args.hir.now) in
     let states = c.args.self.now.states in
     let rep = c.args.repetition in
@@ -28,8 +28,8 @@ returns-in_ok-push-in-Some-2 c =
     (c.entry_of-on.ensures ∙ ap (λ n. entry_of c.saturating_sub-further.result n c.args.next) (ap₂ (λ a b. a + c.args.repetition.min * b) len ((known_any parts c.properties.result.now c.args.root _ c.properties.ensures below).size small)))
     c.in_ok-push-in-Some.ensures.items c.in_ok-push-in-Some-2.ensures.items
 
-pub returns-in_ok-push-in-None-2 : goal.returns-in_ok-push-in-None-2
-returns-in_ok-push-in-None-2 c =
+pub returns-in_ok-push-in-None-2-clause-done : goal.returns-in_ok-push-in-None-2-clause-done
+returns-in_ok-push-in-None-2-clause-done c =
     let parts = subtrees_of (tree_of c.args.hir.now) in
     let states = c.args.self.now.states in
     let rep = c.args.repetition in
@@ -44,8 +44,8 @@ returns-in_ok-push-in-None-2 c =
     (ap₂ (λ a b. a + c.args.repetition.min * b) len ((known_any parts c.properties.result.now c.args.root _ c.properties.ensures below).size small))
     c.fork-back.ensures.node c.fork-back.ensures.reads c.in_ok-push-in-None.ensures.items c.in_ok-push-in-None-2.ensures.items
 
-pub returns-in_ok-push-in-None-2-4 : goal.returns-in_ok-push-in-None-2-4
-returns-in_ok-push-in-None-2-4 c =
+pub returns-in_ok-push-in-None-2-4-clause-done : goal.returns-in_ok-push-in-None-2-4-clause-done
+returns-in_ok-push-in-None-2-4-clause-done c =
     let parts = subtrees_of (tree_of c.args.hir.now) in
     let states = c.args.self.now.states in
     let rep = c.args.repetition in
@@ -64,8 +64,8 @@ returns-in_ok-push-in-None-2-4 c =
     c.fork.ensures.reads c.fork-back-in-None-2.ensures.reads
     c.in_ok-push-in-None-2-2.ensures.items c.in_ok-push-in-None-2-3.ensures.items c.in_ok-push-in-None-2-4.ensures.items
 
-pub returns-in_ok-push-in-None-3-2 : goal.returns-in_ok-push-in-None-3-2
-returns-in_ok-push-in-None-3-2 c =
+pub returns-in_ok-push-in-None-3-2-clause-done : goal.returns-in_ok-push-in-None-3-2-clause-done
+returns-in_ok-push-in-None-3-2-clause-done c =
     let parts = subtrees_of (tree_of c.args.hir.now) in
     let states = c.args.self.now.states in
     let rep = c.args.repetition in

@@ -7,8 +7,8 @@ use Rattle.rx_program.proofs.FactLaws.{known_any}
 use Rattle.rx_program.proofs.DoneLaws.{one_less, row_sizes, row_done_from, no_row_done}
 use Rattle.rx_program.proofs.compiler.Compiler.row.Goals as goal
 
-pub returns-then-count-eq0 : goal.returns-then-count-eq0
-returns-then-count-eq0 c = no_row_done (subtrees_of (tree_of c.args.hir.now)) c.args.self.now.states.items c.args.self.now.jobs.items c.args.count c.args.root c.args.size c.args.next c.if-count-eq0.true
+pub returns-then-count-eq0-clause-done : goal.returns-then-count-eq0-clause-done
+returns-then-count-eq0-clause-done c = no_row_done (subtrees_of (tree_of c.args.hir.now)) c.args.self.now.states.items c.args.self.now.jobs.items c.args.count c.args.root c.args.size c.args.next c.if-count-eq0.true
 
 pub overflow_sub-before : goal.overflow_sub-before
 overflow_sub-before c =
@@ -18,8 +18,8 @@ overflow_sub-before c =
     let small : size_of (part_at parts c.args.root) + 1 < 2 ^ 64 = omega (arith, sizes.1, c.requires.room) in
     subst (λ n. n ≤ c.args.size) (sym ((known_any parts c.properties.result.now c.args.root _ c.properties.ensures sizes.0).size small)) sizes.1
 
-pub returns : goal.returns
-returns c =
+pub returns-clause-done : goal.returns-clause-done
+returns-clause-done c =
     let parts = subtrees_of (tree_of c.args.hir.now) in
     let states = c.args.self.now.states in
     let some : c.args.count ≡ suc (c.args.count - 1) = one_less c.args.count c.if-count-eq0.false in
