@@ -4,3 +4,11 @@ pub mod PlaceLaws
 pub mod ThreadLaws
 pub mod MoveLaws
 pub mod PendingLaws
+pub mod SideLaws
+pub mod SeenLaws
+pub mod ByteLaws
+pub mod SlotLaws
+pub mod ComeLaws
+pub mod WayLaws
+pub mod AnswerLaws
+pub mod OverLaws

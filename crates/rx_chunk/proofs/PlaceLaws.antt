@@ -33,13 +33,13 @@ reads_first : (step : Automaton) (q r s i : ℕ) (bytes : List ℕ) → read_byt
 reads_first step q r s i [] = refl
 reads_first step q r s i (b ∷ bytes) = refl
 
-moves_so : (p : ByteProgram) (h : Haystack walks.Look) (i : ℕ) (place : Place) (q : ℕ × ℕ) (x : State) → IsPlace h i place → slice_get p.states q.0 ≡ Some x
+moves_so : (p : ByteProgram) (h : Haystack walks.Look) (i : ℕ) (place : Place) (q : ℕ × ℕ) (x : State) → IsPlace p.states h i place → slice_get p.states q.0 ≡ Some x
     → by_byte (automata_of p) h i q.0 q.1 (Some (node_of x)) ≡ move_at place i q x
 moves_so p h i place q (state.Ranges automaton r) here is =
     ap (λ o. read_byte (automaton_of o) q.0 r q.1 i (left_from h i)) is
     ∙ reads_first (step_of automaton.value) q.0 r q.1 i (left_from h i)
     ∙ ap (λ b. read_next (step_of automaton.value) q.0 r q.1 i b) here.byte
-moves_so p h i place q (state.Look asked r) here is = ap (λ b. only_if b (goes (first_node r ∷ []))) (here.looks (place_of asked))
+moves_so p h i place q (state.Look asked r) here is = ap (λ b. only_if b (goes (first_node r ∷ []))) (here.looks (place_of asked) (record { number = q.0; asked = asked; next = r; stands = is; is = refl }))
 moves_so p h i place q (state.Empty r) here is = refl
 moves_so p h i place q (state.BinaryUnion first second) here is = refl
 moves_so p h i place q (state.Union alternates) here is = refl
@@ -55,7 +55,7 @@ noted_so place i (state.Union alternates) slots e = refl
 noted_so place i (state.Capture slot r) slots e = ap (λ j. note_slot slot j slots) (sym e)
 noted_so place i (state.Match k) slots e = refl
 
-pub moves_at_place : (p : ByteProgram) (h : Haystack walks.Look) (i : ℕ) (place : Place) → IsPlace h i place → MakesMoves (slot_machine p h) i p.states place
+pub moves_at_place : (p : ByteProgram) (h : Haystack walks.Look) (i : ℕ) (place : Place) → IsPlace p.states h i place → MakesMoves (slot_machine p h) i p.states place
 moves_at_place p h i place here = record {
   at_state = λ q x is. ap (λ b. only_if b (by_byte (automata_of p) h i q.0 q.1 (slice_get (map node_of p.states) q.0))) here.inside
       ∙ ap (λ o. by_byte (automata_of p) h i q.0 q.1 o) (node_at p.states q.0 x is)

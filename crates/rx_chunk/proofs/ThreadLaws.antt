@@ -1,8 +1,9 @@
 -- Threads that come one after another, and slots that are put back.
-use Rattle.std.proofs.Common.{◌≡◌, ℕ, zero, suc, ◌+◌, ◌*◌, ◌<◌, ◌≤◌, List, [], ◌∷◌, ◌++◌, length, take, drop, set, get_or, Option, Some, slice_get, refl, sym, ap, ap₂, ◌∙◌, arith}
+use Rattle.std.proofs.Common.{◌≡◌, ℕ, zero, suc, ◌+◌, ◌*◌, ◌<◌, ◌≤◌, List, [], ◌∷◌, ◌++◌, length, take, drop, set, get_or, Option, Some, None, slice_get, refl, sym, ap, ap₂, ◌∙◌, arith}
 use Rattle.std.proofs.Math.Nat.{suc-mul}
 use Rattle.std.proofs.lemmas.List.{drop-drop}
 use Rattle.rx_chunk.specs.Threads.{Slots, Thread, threads_of}
+use Rattle.rx_chunk.specs.Coming.{no_slots}
 
 take_whole : (xs : Slots) (n : ℕ) → length xs ≡ n → take n xs ≡ xs
 take_whole [] zero e = refl
@@ -25,14 +26,14 @@ drop_len xs zero m e = omega (arith, e)
 drop_len [] (suc n) m e = omega (arith, e)
 drop_len (x ∷ xs) (suc n) m e = drop_len xs n m (omega (arith, e))
 
-no_slots : (xs : Slots) → length xs ≡ 0 → xs ≡ []
-no_slots [] e = refl
-no_slots (x ∷ xs) e = absurd (omega (arith, e))
+none_left : (xs : Slots) → length xs ≡ 0 → xs ≡ []
+none_left [] e = refl
+none_left (x ∷ xs) e = absurd (omega (arith, e))
 
 pub thread_put : (n : ℕ) (nodes : List (ℕ × ℕ)) (slots own : Slots) (q : ℕ × ℕ) → length slots ≡ length nodes * n → length own ≡ n
     → threads_of n (nodes ++ q ∷ []) (slots ++ own) ≡ threads_of n nodes slots ++ (own, q) ∷ []
 thread_put n [] slots own q e f =
-    let none : slots ≡ [] = no_slots slots (omega (arith, e)) in
+    let none : slots ≡ [] = none_left slots (omega (arith, e)) in
     ap (λ xs. (take n (xs ++ own), q) ∷ []) none ∙ ap (λ xs. (xs, q) ∷ []) (take_whole own n f)
 thread_put n (y ∷ nodes) slots own q e f =
     let more : length slots ≡ n + length nodes * n = omega (arith, e, suc-mul (length nodes) n) in
@@ -78,3 +79,12 @@ put_back (x ∷ slots) zero old new e = ap (λ y. y ∷ slots) (was e)
     was : Some x ≡ Some old → old ≡ x
     was g = cc g
 put_back (x ∷ slots) (suc slot) old new e = ap (λ ys. x ∷ ys) (put_back slots slot old new e)
+
+one_more : (n : ℕ) → no_slots n ++ None ∷ [] ≡ no_slots (suc n)
+one_more zero = refl
+one_more (suc n) = ap (λ xs. None ∷ xs) (one_more n)
+
+pub no_slots_more : (n : ℕ) → no_slots n ++ None ∷ [] ≡ no_slots (n + 1)
+no_slots_more n =
+    let more : suc n ≡ n + 1 = omega arith in
+    one_more n ∙ ap no_slots more

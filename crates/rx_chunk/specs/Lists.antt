@@ -1,5 +1,5 @@
 -- The step from the ordered nodes at a place to those at the next one.
-use Rattle.std.specs.Prelude.{◌≡◌, ℕ, ◌+◌, ◌-◌, ◌*◌, Bool, true, List, [], ◌∷◌, ◌++◌, length, map, max, Option, Some, None, option_map, slice_get, Contains}
+use Rattle.std.specs.Prelude.{◌≡◌, ℕ, ◌+◌, ◌-◌, ◌*◌, Bool, true, List, [], ◌∷◌, ◌++◌, length, map, max, reverse, Option, Some, None, option_map, slice_get, Contains}
 use Rattle.rx_program.specs.declared.states.State.{State}
 use Rattle.rx_program.specs.declared.states.State.TheVariants as state
 use Rattle.rx_program.specs.Programs.{ByteProgram, characters_of, automata_of}
@@ -7,10 +7,12 @@ use Rattle.rx_program.specs.Code.{place_of}
 use Rattle.rx_automata.specs.Automata.{step_of}
 use Rattle.rx_walks.specs.Machines.{Move, ends, goes, reads, Machine, Outcome}
 use Rattle.rx_walks.specs.Looks as walks
-use Rattle.rx_walks.specs.Looks.{Look, start_text, end_text, start_line, end_line, word_boundary, no_word_boundary}
+use Rattle.rx_walks.specs.Looks.{Look, start_text, end_text, start_line, end_line, word_boundary, no_word_boundary, holds_between}
+use Rattle.unicode.specs.Perl.{is_word_char}
 use Rattle.rx_walks.specs.Programs.{Haystack, only_if, is_within, left_from}
 use Rattle.rx_walks.specs.Bytes.{read_on, over_bytes}
 use Rattle.rx_walks.specs.Steps.{Steps, StepsSoFar}
+use Rattle.rx_grammar.specs.declared.hir.Look as grammar
 use Rattle.rx_chunk.specs.declared.place.Looks.{Looks}
 use Rattle.rx_chunk.specs.declared.place.Place.{Place}
 use Rattle.rx_chunk.specs.Nodes.{index_from, end_from, widths_of}
@@ -25,16 +27,32 @@ is_among looks end_line = looks.end_line
 is_among looks word_boundary = looks.word_boundary
 is_among looks no_word_boundary = looks.no_word_boundary
 
+-- these are the looks that hold between bytes before a place and bytes behind it
+abbrev pub HoldBetween : Looks → List ℕ → List ℕ → ℕ → Type 0
+HoldBetween looks before after terminator =
+    (l : walks.Look)
+    → is_among looks l ≡ holds_between is_word_char terminator l (reverse before) after
+
 abbrev pub first_byte : List ℕ → Option ℕ
 first_byte [] = None
 first_byte (b ∷ bytes) = Some b
 
--- this is a place where walks may stand, this byte is the next one, and these looks hold
-pub record IsPlace (h : Haystack walks.Look) (i : ℕ) (place : Place) : Type 0 where
+-- some state of a program asks for this look
+pub record Asks (states : List State) (l : walks.Look) : Type 0 where
+  pub number : ℕ
+  pub asked : grammar.Look
+  pub next : ℕ
+  pub stands : slice_get states number ≡ Some (state.Look asked next)
+  pub is : place_of asked ≡ l
+
+-- this is a place where walks may stand, this byte is the next one, and of the looks that a program
+-- asks for these hold
+pub record IsPlace (states : List State) (h : Haystack walks.Look) (i : ℕ) (place : Place)
+    : Type 0 where
   pub at : place.at ≡ i
   pub inside : is_within h.low h.high i ≡ true
   pub byte : first_byte (left_from h i) ≡ place.byte
-  pub looks : (l : walks.Look) → h.holds l i ≡ is_among place.looks l
+  pub looks : (l : walks.Look) → Asks states l → h.holds l i ≡ is_among place.looks l
 
 -- the machine of a program's bytes, whose walks note places in their slots
 abbrev pub slot_machine : ByteProgram → Haystack walks.Look → Machine (ℕ × ℕ) Slots
@@ -46,7 +64,7 @@ met_at i met slots = option_map (λ k. record { pattern = k; end = i; notes = sl
 -- the step from these threads gives those, in order, and the pattern whose match ends, with its slots
 abbrev pub IsNextList : ByteProgram → Place → List Thread → List Thread → Option ℕ → Slots → Type 0
 IsNextList p place threads next met slots =
-    (h : Haystack walks.Look) (i : ℕ) → IsPlace h i place
+    (h : Haystack walks.Look) (i : ℕ) → IsPlace p.states h i place
     → Steps (slot_machine p h) i [] threads next (met_at i met slots)
 
 -- ---- inside a step

@@ -5,11 +5,14 @@
 mod node;
 mod pending;
 mod place;
+mod search;
+mod sides;
 mod stepper;
 mod threads;
 mod visited;
 
 pub use node::Node;
 pub use place::{Looks, Place};
+pub use search::{Cache, search_slots};
 pub use stepper::Stepper;
 pub use threads::Threads;

@@ -2,6 +2,7 @@
 
 ghost use Rattle.std.specs.Prelude.{◌≡◌, ◌+◌, ◌*◌, ◌<◌, ◌≤◌, ◌++◌, ◌∷◌, [], length, take, drop, get_or, OnOk};
 ghost use Rattle.rx_chunk.specs.Threads.{Thread, threads_of};
+ghost use Rattle.rx_chunk.specs.Coming.{no_slots};
 
 use crate::node::Node;
 use rx_captures::NonMaxUsize;
@@ -43,6 +44,23 @@ fn push_parts(
     ensures slots { OnOk result (slots.new.items ≡ slots.old.items ++ own.now) }
 {
     slots.extend_from_slice(own)?;
+    nodes.push(node)?;
+    Ok(())
+}
+
+/// Adds a node, and so many slots in which nothing is noted.
+fn push_fresh_parts(
+    nodes: &mut Vec<Node>,
+    slots: &mut Vec<Option<NonMaxUsize>>,
+    node: Node,
+    slot_len: usize,
+) -> Result<(), AllocError>
+    ensures nodes { OnOk result (nodes.new.items ≡ nodes.old.items ++ node ∷ []) }
+    ensures slots { OnOk result (slots.new.items ≡ slots.old.items ++ no_slots slot_len) }
+{
+    for _ in 0..slot_len {
+        slots.push(None)?;
+    }
     nodes.push(node)?;
     Ok(())
 }
@@ -117,6 +135,23 @@ impl Threads {
         ensures slot_len { self.new.slot_len ≡ self.old.slot_len }
     {
         match push_parts(&mut self.nodes, &mut self.slots, node, slots) {
+            Ok(()) => Ok(()),
+            Err(refused) => {
+                self.nodes.clear();
+                self.slots.clear();
+                Err(refused)
+            }
+        }
+    }
+
+    /// Adds a thread after the others, in whose slots nothing is noted. Where memory is refused no
+    /// thread is left.
+    pub fn push_fresh(&mut self, node: Node) -> Result<(), AllocError>
+        ensures threads { OnOk result (self.new.threads
+            ≡ self.old.threads ++ (no_slots self.old.slot_len, node) ∷ []) }
+        ensures slot_len { self.new.slot_len ≡ self.old.slot_len }
+    {
+        match push_fresh_parts(&mut self.nodes, &mut self.slots, node, self.slot_len) {
             Ok(()) => Ok(()),
             Err(refused) => {
                 self.nodes.clear();

@@ -6,6 +6,7 @@ use rx_chunk::{Node, Stepper, Threads};
 use rx_grammar::syntax::Config;
 use rx_grammar::{Look, parse};
 use rx_program::compile;
+use std::alloc::Global;
 use std::test::Fail;
 
 /// A place: where it is, the byte that comes next, and the looks that hold there.
@@ -47,26 +48,29 @@ fn threads(rt: HostRuntime) -> Result<(), Fail> {
     Ok(())
 }
 
-/// Steps: `a(b)?` over `ab` goes on after `a`, and ends behind it where nothing follows. The slots
-/// are those of the whole match and of its group.
-#[test]
-fn stepper(rt: HostRuntime) -> Result<(), Fail> {
-    let alloc = rt.alloc();
+/// The steps of `a(b)?` over `a` and its end: the stepper after them, how many threads live after
+/// the first one, and what both meet. They stand apart from the test's claims so that it is checked
+/// fast: a step has a long contract.
+fn two_steps(alloc: Global) -> Result<(Stepper, usize, [Option<PatternID>; 2]), Fail> {
     let hir = parse(alloc, "a(b)?", &Config::new())?;
     let program = compile(alloc, &[&hir], b'\n', None)?;
     let mut stepper = Stepper::new(alloc, &program)?;
-    let (mut first, mut second) = (Threads::new(alloc, 4), Threads::new(alloc, 4));
-    let mut third = Threads::new(alloc, 4);
-    first.push(Node::first(program.start()), &[None; 4])?;
-    let place = before(7, Some(b'a'));
-    assert_eq!(rt;
-        stepper.next_list(&program, &place, &first, &mut second)?,
-        None
-    );
-    assert_eq!(rt; second.len(), 1);
-    let place = before(8, None);
-    let met = stepper.next_list(&program, &place, &second, &mut third)?;
-    assert_eq!(rt; met, Some(PatternID::new(0)));
+    let mut threads = Threads::new(alloc, 4);
+    threads.push(Node::first(program.start()), &[None; 4])?;
+    let mut next = Threads::new(alloc, 4);
+    let first = stepper.next_list(&program, &before(7, Some(b'a')), &threads, &mut next)?;
+    let living = next.len();
+    let second = stepper.next_list(&program, &before(8, None), &next, &mut threads)?;
+    Ok((stepper, living, [first, second]))
+}
+
+/// Steps: `a(b)?` over `a` goes on after `a`, and ends behind it where nothing follows. The slots
+/// are those of the whole match and of its group.
+#[test]
+fn stepper(rt: HostRuntime) -> Result<(), Fail> {
+    let (stepper, living, met) = two_steps(rt.alloc())?;
+    assert_eq!(rt; living, 1);
+    assert_eq!(rt; met, [None, Some(PatternID::new(0))]);
     assert_eq!(rt; stepper.slots().first(), Some(&NonMaxUsize::new(7)));
     assert_eq!(rt; stepper.slots().get(1), Some(&NonMaxUsize::new(8)));
     assert_eq!(rt; stepper.slots().last(), Some(&None));

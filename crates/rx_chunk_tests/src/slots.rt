@@ -10,7 +10,7 @@ use std::alloc::Global;
 use std::test::Fail;
 
 /// Slots as text: a place or `-` for each.
-fn spelled(alloc: Global, slots: &[Option<NonMaxUsize>]) -> Result<String, Fail> {
+pub(crate) fn spelled(alloc: Global, slots: &[Option<NonMaxUsize>]) -> Result<String, Fail> {
     let mut all = String::new(alloc);
     for slot in slots {
         if !all.is_empty() {

@@ -1,11 +1,13 @@
 -- Walks with other notes, and steps from alike places.
-use Rattle.std.proofs.Common.{◌≡◌, ℕ, ◌+◌, List, [], ◌∷◌, ◌++◌, map, Option, Some, None, option_map, Contains, sym, ap, subst, ◌∙◌}
+use Rattle.std.proofs.Common.{◌≡◌, ℕ, ◌+◌, List, [], ◌∷◌, ◌++◌, map, Option, Some, None, option_map, Contains, slice_get, refl, sym, ap, subst, ◌∙◌}
 use Rattle.rx_walks.specs.Machines.{ends, goes, reads, Machine, Outcome}
 use Rattle.rx_walks.specs.Walks.{IsNew, Walk, ended, went, took, IsLeast, HasNoWalk}
 use Rattle.rx_walks.specs.Steps.{Steps, done, passed, met, opened, read, FindsFrom, nowhere, found, StepsSoFar}
+use Rattle.rx_walks.specs.Finds.{Search, MayEnd, Counts, IsFind, not_found, is_found}
+use Rattle.rx_walks.specs.Programs.{Node, match, pass, note, look, set, Haystack, Notes, put_note, note_at, over_characters}
 use Rattle.rx_walks.specs.Likenesses.{noted_by, HasNotes, AlikeAt, both_end, both_go, both_read, IsAlike, ended_at}
 use Rattle.std.proofs.lemmas.List.{append-nil, append_assoc}
-use Rattle.rx_walks.proofs.WalkLaws.{ends_not_goes, ends_not_reads, goes_not_reads, same_end, same_open, same_read, with_notes}
+use Rattle.rx_walks.proofs.WalkLaws.{ends_not_goes, ends_not_reads, goes_not_reads, same_end, same_open, same_read, same_walk, with_notes}
 
 pub renoted_by : {Q N M : Type 0} {m : Machine Q N} {other : Machine Q M} {h : N → M} {seen : List Q} {n : N} {q : Q} {i : ℕ} {cs : List ℕ} {t : Outcome N} → HasNotes m other h
     → Walk m seen n q i cs t → Walk other seen (h n) q i cs (noted_by h t)
@@ -31,6 +33,39 @@ pub finds_noted : {Q N M : Type 0} {m : Machine Q N} {other : Machine Q M} {h : 
     → FindsFrom m begins fresh q i out → FindsFrom other begins (λ j. h (fresh j)) q i (option_map (noted_by h) out)
 finds_noted same (nowhere never) = nowhere (λ j from b. never_noted same (never j from b))
 finds_noted same (found j from b one before) = found j from b (least_noted same one) (λ k from' below b'. never_noted same (before k from' below b'))
+
+counts_noted : {Q N M : Type 0} {m : Machine Q N} {other : Machine Q M} {h : N → M} {fresh : ℕ → N} {s : Search} {q : Q} {i : ℕ} {t : Outcome N} → HasNotes m other h → Counts m fresh s q i t
+    → Counts other (λ j. h (fresh j)) s q i (noted_by h t)
+counts_noted same counts = record { possible = counts.possible; least = least_noted same counts.least; may_end = counts.may_end }
+
+-- a find by other notes is that by the notes that they tell of
+pub find_noted_back : {Q N M : Type 0} {m : Machine Q N} {other : Machine Q M} {h : N → M} {fresh : ℕ → N} {s : Search} {q : Q} {out : Option (Outcome M)} → HasNotes m other h
+    → IsFind other (λ j. h (fresh j)) s q out → (own : Option (Outcome N)) × (option_map (noted_by h) own ≡ out) × IsFind m fresh s q own
+find_noted_back same (not_found never) = (None, refl, not_found (λ i t counts. never i _ (counts_noted same counts)))
+find_noted_back {h = h} {fresh = fresh} {s = s} same (is_found {i = i} {t = t} counts before) =
+    let back = noted_back (fresh i) same counts.least.walk in
+    let agrees : noted_by h back.0 ≡ t = same_walk (renoted_by same back.1) counts.least.walk in (
+      Some back.0,
+      ap Some agrees,
+      is_found (record {
+        possible = counts.possible;
+        least = record { choices = counts.least.choices; walk = back.1; least = λ ds u w. counts.least.least ds _ (renoted_by same w) };
+        may_end = subst (λ e. MayEnd s i e) (sym (ap (λ x. x.end) agrees)) counts.may_end;
+      }) (λ j u below counts'. before j _ below (counts_noted same counts')),
+    )
+
+-- what the machine of a program keeps, whatever that is, is kept of what it notes
+pub keeps_notes : {L S N : Type 0} (put : ℕ → ℕ → N → N) (kept : Notes → N) (first : S → List ℕ → Option ℕ) (nodes : List (Node L S)) (h : Haystack L) → ((slot i : ℕ) (n : Notes) → put slot i (kept n) ≡ kept (put_note slot i n))
+    → HasNotes (over_characters put_note first nodes h) (over_characters put first nodes h) kept
+keeps_notes {L} {S} put kept first nodes h keeps = record { moves = λ i q. refl; notes = λ i q n. at_node i n (slice_get nodes q) }
+  where
+    at_node : (i : ℕ) (n : Notes) (o : Option (Node L S)) → note_at put i o (kept n) ≡ kept (note_at put_note i o n)
+    at_node i n None = refl
+    at_node i n (Some (match k)) = refl
+    at_node i n (Some (pass rs)) = refl
+    at_node i n (Some (note slot r)) = keeps slot i n
+    at_node i n (Some (look l r)) = refl
+    at_node i n (Some (set x r)) = refl
 
 -- one step from a place and from one alike
 move_end : {Q N : Type 0} {m : Machine Q N} {i j p : ℕ} {q : Q} → AlikeAt m i j q → m.move i q ≡ ends p → m.move j q ≡ ends p

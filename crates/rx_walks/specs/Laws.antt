@@ -1,5 +1,5 @@
 -- Laws of walks and of what is found by them.
-use Rattle.std.specs.Prelude.{◌≡◌, ℕ, ◌+◌, ◌≤◌, ◌⊎◌, ◌↔◌, Bool, IsTrue, List, [], map, reverse, take, Option, None, Some, slice_get}
+use Rattle.std.specs.Prelude.{◌≡◌, ℕ, ◌+◌, ◌≤◌, ◌⊎◌, ◌↔◌, Bool, IsTrue, List, [], map, reverse, take, Option, None, Some, option_map, slice_get}
 use Rattle.std.specs.Str.{IsCharBoundary}
 use Rattle.rx_walks.specs.Machines.{Machine, Outcome, IsForward, reads}
 use Rattle.rx_walks.specs.Walks.{Walk, IsLeast, Reaches}
@@ -13,6 +13,7 @@ use Rattle.rx_walks.specs.Bytes.{Automaton, run, over_bytes}
 use Rattle.rx_walks.specs.Steps.{Best, Steps, Searches, either}
 use Rattle.rx_walks.specs.StepsAll.{SearchesAll}
 use Rattle.rx_walks.specs.Refinements.{Refines}
+use Rattle.rx_walks.specs.Likenesses.{noted_by}
 
 -- a start begins at each possible place at which an empty match may stand
 abbrev pub Begins : Search → ℕ → Type 0
@@ -194,6 +195,18 @@ ProgramIsSearched member is_word p step = ReadsMembers (first_by member) step p.
     → (s : Search) (q : ℕ) (out : Option (Outcome Notes)) → start_node p s.anchoring ≡ Some q
     → Searches (byte_machine_of is_word p step s) (Begins s) fresh_notes (q, 0) s.start [] None out
     → ProgramFinds member is_word p s out
+
+-- and by machines that keep something else of what is noted: `kept` tells what they keep
+abbrev pub ProgramIsSearchedKeeping : {S N : Type 0} → (ℕ → ℕ → N → N) → (Notes → N)
+    → (S → ℕ → Bool) → (ℕ → Bool) → Program Look S → (ℕ → Automaton) → Type 0
+ProgramIsSearchedKeeping {S} {N} put kept member is_word p step =
+    ReadsMembers (first_by member) step p.nodes
+    → ((slot i : ℕ) (n : Notes) → put slot i (kept n) ≡ kept (put_note slot i n))
+    → (s : Search) (q : ℕ) (out : Option (Outcome N)) → start_node p s.anchoring ≡ Some q
+    → Searches (over_bytes put step p.nodes (haystack_of (holds_in is_word p.line_terminator s) s))
+    (Begins s) (λ i. kept (fresh_notes i)) (q, 0) s.start [] None out
+    → (found : Option (Outcome Notes)) × (option_map (noted_by kept) found ≡ out)
+    × ProgramFinds member is_word p s found
 
 abbrev pub ProgramIsSearchedForAll : {S : Type 0} → (S → ℕ → Bool) → (ℕ → Bool) → Program Look S
     → (ℕ → Automaton) → Type 0

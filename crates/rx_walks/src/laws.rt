@@ -1,8 +1,8 @@
 //! Laws of walks and of what is found by them. Each function does nothing: its contract is the law.
 
-ghost use Rattle.rx_walks.specs.Laws.{BytesRefine, FindsAllAtMostOne, FindsAllLieInside, FindsAtMostOne, FindsLieInside, FirstCharacterStands, FourBytesTell, LastCharacterStands, MatchesAllAreOneList, MatchesAreOneList, PathsAgree, PathsHaveWalks, ProgramIsSearched, ProgramIsSearchedForAll, ProgramWalksAgree, ProgramsFind, ProgramsFindAll, ProgramsReadForward, SearchesFind, SearchesFindAll, StepsKeepBest, WalksAgree, WalksTakeNoPairTwice};
+ghost use Rattle.rx_walks.specs.Laws.{BytesRefine, FindsAllAtMostOne, FindsAllLieInside, FindsAtMostOne, FindsLieInside, FirstCharacterStands, FourBytesTell, LastCharacterStands, MatchesAllAreOneList, MatchesAreOneList, PathsAgree, PathsHaveWalks, ProgramIsSearched, ProgramIsSearchedForAll, ProgramIsSearchedKeeping, ProgramWalksAgree, ProgramsFind, ProgramsFindAll, ProgramsReadForward, SearchesFind, SearchesFindAll, StepsKeepBest, WalksAgree, WalksTakeNoPairTwice};
 ghost use Rattle.rx_walks.specs.Machines.{Machine};
-ghost use Rattle.rx_walks.specs.Programs.{Haystack, Node, Program};
+ghost use Rattle.rx_walks.specs.Programs.{Haystack, Node, Notes, Program};
 ghost use Rattle.rx_walks.specs.Looks.{Look};
 ghost use Rattle.rx_walks.specs.Bytes.{Automaton};
 ghost use Rattle.std.specs.Prelude.{ℕ, List, Option, Bool};
@@ -125,6 +125,13 @@ pub fn programs_find_all<L, S, N>()
 pub fn program_is_searched<S>()
     ensures { (member : S → ℕ → Bool) (is_word : ℕ → Bool) (p : Program Look S)
         (step : ℕ → Automaton) → ProgramIsSearched member is_word p step }
+{}
+
+/// And so it does where its walks keep a list of what they note, whatever that list is.
+pub fn program_is_searched_keeping<S, T>()
+    ensures { (put : ℕ → ℕ → List T → List T) (kept : Notes → List T) (member : S → ℕ → Bool)
+        (is_word : ℕ → Bool) (p : Program Look S) (step : ℕ → Automaton)
+        → ProgramIsSearchedKeeping put kept member is_word p step }
 {}
 
 /// And without a cut what it finds where all matches are wanted.
