@@ -1,7 +1,4 @@
-pub mod Nodes
-pub mod Threads
-pub mod Frames
-pub mod Lists
-pub mod Sides
-pub mod Searching
-pub mod Coming
+pub mod Engines
+pub mod Iterating
+pub mod Searchers
+pub mod FindMatches

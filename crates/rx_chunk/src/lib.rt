@@ -1,18 +1,6 @@
-//! Searches in contents that lie in pieces, by walks through a program that are followed side by
-//! side.
+//! Engines that search content which lies in pieces for a pattern.
 #![tactic(auto)]
 
-mod node;
-mod pending;
-mod place;
-mod search;
-mod sides;
-mod stepper;
-mod threads;
-mod visited;
-
-pub use node::Node;
-pub use place::{Looks, Place};
-pub use search::{Cache, search_slots};
-pub use stepper::Stepper;
-pub use threads::Threads;
+pub mod iter;
+pub mod laws;
+pub mod pikevm;

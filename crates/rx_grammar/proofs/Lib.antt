@@ -20,3 +20,4 @@ pub mod PlaceLaws
 pub mod SubtreeLaws
 pub mod RowLaws
 pub mod WellFormedLaws
+pub mod FewLaws

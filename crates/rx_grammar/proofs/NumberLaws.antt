@@ -17,12 +17,12 @@ all_numbers : (first second : Tree) (others : List Tree) → all_numbers_of (in_
 all_numbers first second [] = ap (λ x. numbers_of first ++ x) (sym (append-nil (numbers_of second)))
 all_numbers first second (third ∷ others) = ap (λ x. numbers_of first ++ x) (all_numbers second third others)
 
-numbers_of-concat : (items : List Tree) → numbers_of (concat_of items) ≡ flat_map numbers_of items
+pub numbers_of-concat : (items : List Tree) → numbers_of (concat_of items) ≡ flat_map numbers_of items
 numbers_of-concat [] = refl
 numbers_of-concat (only ∷ []) = sym (append-nil (numbers_of only))
 numbers_of-concat (first ∷ second ∷ others) = all_numbers first second others
 
-numbers_of-alternation : (first : Tree) (others : List Tree) → numbers_of (alternation_of first others) ≡ flat_map numbers_of (first ∷ others)
+pub numbers_of-alternation : (first : Tree) (others : List Tree) → numbers_of (alternation_of first others) ≡ flat_map numbers_of (first ∷ others)
 numbers_of-alternation branch [] = sym (append-nil (numbers_of branch))
 numbers_of-alternation first (second ∷ others) = all_numbers first second others
 
@@ -122,7 +122,7 @@ escape_numbers (character one is) = refl
 escape_numbers (letter_class kind negated e is) = refl
 escape_numbers (look letter e f) = refl
 
-plain_numbers : {s : Settings} {t u : List ℕ} {h : Tree} → PlainAtom s t h u → numbers_of h ≡ []
+pub plain_numbers : {s : Settings} {t u : List ℕ} {h : Tree} → PlainAtom s t h u → numbers_of h ≡ []
 plain_numbers (literal e is_one is) = refl
 plain_numbers (dot e allowed is) = refl
 plain_numbers (caret e) = refl
@@ -130,7 +130,7 @@ plain_numbers (dollar e) = refl
 plain_numbers (escape e one) = escape_numbers one
 plain_numbers (class e one is) = refl
 
-postfixes_numbers : {swap : Bool} {h g : Tree} {d e : ℕ} {t u : List ℕ} → Postfixes swap h d t g e u → numbers_of g ≡ numbers_of h
+pub postfixes_numbers : {swap : Bool} {h g : Tree} {d e : ℕ} {t u : List ℕ} → Postfixes swap h d t g e u → numbers_of g ≡ numbers_of h
 postfixes_numbers (no_more stops) = refl
 postfixes_numbers (further one others) = postfixes_numbers others
 

@@ -1,5 +1,5 @@
 -- Laws of the definitions themselves.
-use Rattle.std.specs.Prelude.{◌≡◌, ℕ, ◌+◌, ◌<◌, List, length, get_or}
+use Rattle.std.specs.Prelude.{◌≡◌, ℕ, ◌+◌, ◌<◌, ◌≤◌, List, length, get_or}
 use Rattle.rx_grammar.specs.Settings.{Settings}
 use Rattle.rx_grammar.specs.Trees.{Tree, numbers_of}
 use Rattle.rx_grammar.specs.Grammar.{Spells}
@@ -11,3 +11,8 @@ SpellsAtMostOne text settings = (tree other : Tree) → Spells text settings tre
 -- the groups of what the text spells have the numbers 1, 2 and so on, in the order in which they open
 abbrev pub NumbersGroups : List ℕ → Settings → Type 0
 NumbersGroups text settings = (tree : Tree) → Spells text settings tree → (k : ℕ) → k < length (numbers_of tree) → get_or (numbers_of tree) k 0 ≡ k + 1
+
+-- what the text spells has at most 65,536 groups
+abbrev pub HasFewGroups : List ℕ → Settings → Type 0
+HasFewGroups text settings = (tree : Tree) → Spells text settings tree
+    → length (numbers_of tree) ≤ 65536

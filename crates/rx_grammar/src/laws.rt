@@ -3,7 +3,7 @@
 
 ghost use Rattle.std.specs.Prelude.{ℕ, List};
 ghost use Rattle.rx_grammar.specs.Settings.{Settings};
-ghost use Rattle.rx_grammar.specs.Laws.{SpellsAtMostOne, NumbersGroups};
+ghost use Rattle.rx_grammar.specs.Laws.{HasFewGroups, NumbersGroups, SpellsAtMostOne};
 
 /// Under given settings a text spells at most one tree.
 pub fn spells_at_most_one()
@@ -13,4 +13,9 @@ pub fn spells_at_most_one()
 /// The groups of what a text spells have the numbers from 1 up, in the order in which they open.
 pub fn groups_are_numbered()
     ensures { (text : List ℕ) (settings : Settings) → NumbersGroups text settings }
+{}
+
+/// There are at most 65,536 of them.
+pub fn groups_are_few()
+    ensures { (text : List ℕ) (settings : Settings) → HasFewGroups text settings }
 {}

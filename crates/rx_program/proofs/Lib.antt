@@ -13,3 +13,4 @@ pub mod StartLaws
 pub mod NodeLaws
 pub mod PatternLaws
 pub mod ClosedLaws
+pub mod NoteLaws

@@ -4,3 +4,4 @@ pub mod Errors
 pub mod Programs
 pub mod Jobs
 pub mod Closed
+pub mod Laws

@@ -127,7 +127,8 @@ pub fn program_is_searched<S>()
         (step : ℕ → Automaton) → ProgramIsSearched member is_word p step }
 {}
 
-/// And so it does where its walks keep a list of what they note, whatever that list is.
+/// And so it does where its walks keep a list in place of their notes, if a note does to that list
+/// what it does to the notes.
 pub fn program_is_searched_keeping<S, T>()
     ensures { (put : ℕ → ℕ → List T → List T) (kept : Notes → List T) (member : S → ℕ → Bool)
         (is_word : ℕ → Bool) (p : Program Look S) (step : ℕ → Automaton)

@@ -1,0 +1,115 @@
+-- What a builder builds of a pattern, and what searches with an engine answer.
+use Rattle.std.proofs.Common.{◌≡◌, ℕ, ◌<◌, ◌≤◌, ◌⊎◌, Bool, true, List, [], ◌∷◌, ◌++◌, length, take, drop, Result, Ok, Err, IfOk, Option, Some, None, is_some, option_map, unwrap_or, chars, refl, sym, ap, subst, ◌∙◌, inl, inr}
+use Rattle.std.proofs.Math.Seq.{take-append_seam}
+use Rattle.std.proofs.lemmas.Option.{none-some}
+use Rattle.rx_sets.specs.Sets.{Range}
+use Rattle.rx_captures.specs.Groups.{Groups}
+use Rattle.rx_captures.specs.Captured.{Captured}
+use Rattle.rx_captures.specs.Lending.{with_slots}
+use Rattle.rx_grammar.specs.declared.error.SyntaxError.{SyntaxError}
+use Rattle.rx_grammar.specs.declared.error.SyntaxError.TheVariants as syntax
+use Rattle.rx_grammar.specs.Settings.{Settings}
+use Rattle.rx_grammar.specs.Trees.{Tree}
+use Rattle.rx_grammar.specs.Subtrees.{IsWellFormed}
+use Rattle.rx_grammar.specs.Grammar.{Spells, IsTooDeep, NeverSpells}
+use Rattle.rx_walks.specs.Looks as walks
+use Rattle.rx_walks.specs.Machines.{Outcome}
+use Rattle.rx_walks.specs.Programs.{Program, Notes}
+use Rattle.rx_walks.specs.Finds.{Search}
+use Rattle.rx_program.specs.declared.error.BuildError.{BuildError}
+use Rattle.rx_program.specs.declared.error.BuildError.TheVariants as build
+use Rattle.rx_program.specs.Code.{program_of}
+use Rattle.rx_program.specs.Programs.{ByteProgram, characters_of}
+use Rattle.rx_program.specs.Sizes.{IsTooLarge, told_limit, weight_of_all}
+use Rattle.rx_threads.specs.Threads.{Slots}
+use Rattle.rx_threads.specs.Searching.{IsAnswer}
+use Rattle.rx_chunk.specs.Engines.{Engine, Wanted, AreGroupsOf, IsOfTree, IsBuiltOf, IsRefused, too_long, nesting, outside, too_large, memory, refusal_of, match_of, TellsWhether, IsFound}
+
+-- ---- what is built
+
+-- a refusal for another reason than memory
+pub other_refusal : (error : SyntaxError) → (error ≡ syntax.Memory → ⊥) → build.Syntax 0 error ≡ refusal_of error
+other_refusal syntax.TooLong other = refl
+other_refusal syntax.Nesting other = refl
+other_refusal syntax.Outside other = refl
+other_refusal syntax.Memory other = absurd (other refl)
+
+-- what is told of a text that was refused so: T is what it would have spelled
+abbrev pub Refused : Type 0 → SyntaxError → SyntaxError → Type 0
+Refused T error reason = ◌≡◌ {A = Result T SyntaxError} (Err error) (Err reason)
+
+-- why a text is refused is why its pattern has no engine
+pub refused_text : {T : Type 0} (text : List ℕ) (settings : Settings) (error : SyntaxError) → (Refused T error syntax.TooLong → 65536 < length text)
+    → ((Refused T error syntax.Memory → ⊥) → Refused T error syntax.Nesting → IsTooDeep (chars text) settings)
+    → ((Refused T error syntax.Memory → ⊥) → Refused T error syntax.Outside → (length text ≤ 65536) × NeverSpells (chars text) settings)
+    → IsRefused text settings (refusal_of error)
+refused_text text settings syntax.TooLong long deep never = too_long (long refl)
+refused_text text settings syntax.Nesting long deep never = nesting (deep (λ e. cc) refl)
+refused_text text settings syntax.Outside long deep never = let told = never (λ e. cc) refl in outside told.0 told.1
+refused_text text settings syntax.Memory long deep never = memory
+
+-- so is why its tree has no program
+pub refused_tree : (text : List ℕ) (settings : Settings) (tree : Tree) (error : BuildError) → Spells (chars text) settings tree
+    → (error ≡ build.Size (told_limit None) → IsTooLarge None (weight_of_all (tree ∷ []))) → (error ≡ build.Size (told_limit None)) ⊎ (error ≡ build.Memory)
+    → IsRefused text settings error
+refused_tree text settings tree error spells large (inl is) = subst (λ e. IsRefused text settings e) (sym is) (too_large spells (large is))
+refused_tree text settings tree error spells large (inr is) = subst (λ e. IsRefused text settings e) (sym is) memory
+
+pub if_ok : {A E : Type 0} {P Q : A → Type 0} (r : Result A E) → ((x : A) → P x → Q x) → IfOk r P → IfOk r Q
+if_ok (Ok x) f h = f x h
+if_ok (Err e) f h = h
+
+-- what is there was not refused
+pub not_refused : {A E : Type 0} (x : A) (error : E) → ◌≡◌ {A = Result A E} (Ok x) (Err error) → ⊥
+not_refused x error is = cc
+
+abbrev pub engine_of : ByteProgram → Groups → Bool → Engine
+engine_of p groups utf8_empty = record { program = p; groups = groups; utf8_empty = utf8_empty }
+
+pub of_tree : (p : ByteProgram) (groups : Groups) (utf8_empty : Bool) (tree : Tree) (terminator : ℕ) → IsWellFormed tree → characters_of p ≡ program_of (tree ∷ []) terminator → AreGroupsOf tree groups
+    → IsOfTree (engine_of p groups utf8_empty) tree
+of_tree p groups utf8_empty tree terminator formed is are =
+    let same : p.line_terminator ≡ terminator = ap (λ (q : Program walks.Look (List Range)). q.line_terminator) is in
+    record { well_formed = formed; program = is ∙ ap (λ t. program_of (tree ∷ []) t) (sym same); groups = are }
+
+pub built : (text : List ℕ) (wanted : Wanted) (p : ByteProgram) (groups : Groups) (utf8_empty : Bool) (tree : Tree) (terminator : ℕ) → IsWellFormed tree → Spells (chars text) wanted.syntax tree
+    → (IsTooLarge None (weight_of_all (tree ∷ [])) → ⊥) → characters_of p ≡ program_of (tree ∷ []) terminator → AreGroupsOf tree groups
+    → terminator ≡ unwrap_or wanted.settings.line_terminator 10 → utf8_empty ≡ unwrap_or wanted.settings.utf8_empty true → IsBuiltOf text wanted (engine_of p groups utf8_empty)
+built text wanted p groups utf8_empty tree terminator formed spells fits is are set set' = record {
+  tree = tree;
+  spells = spells;
+  fits = fits;
+  of_tree = of_tree p groups utf8_empty tree terminator formed is are;
+  line_terminator = ap (λ (q : Program walks.Look (List Range)). q.line_terminator) is ∙ set;
+  utf8_empty = set';
+}
+
+-- ---- what is found
+
+abbrev pub pattern_in : Option (Outcome Notes) → Option ℕ
+pattern_in out = option_map (λ t. t.pattern) out
+
+some_pattern : (out : Option (Outcome Notes)) → is_some (pattern_in out) ≡ is_some out
+some_pattern None = refl
+some_pattern (Some t) = refl
+
+pub tells_whether : {p : ByteProgram} {s : Search} {pattern : Option ℕ} {slots : Slots} (is_there : Bool) → is_there ≡ is_some pattern → IsAnswer p s pattern slots → TellsWhether p s is_there
+tells_whether is_there is answer =
+    let same : is_there ≡ is_some answer.found = is ∙ ap is_some answer.pattern_is ∙ some_pattern answer.found in
+    (answer.found, answer.finds, (λ e. sym same ∙ e, λ e. same ∙ e))
+
+none_out : (out : Option (Outcome Notes)) → pattern_in out ≡ None → out ≡ None
+none_out None is = refl
+none_out (Some t) is = absurd (none-some t.pattern (sym is))
+
+pub none_found : {p : ByteProgram} {s : Search} {pattern : Option ℕ} {slots : Slots} → IsAnswer p s pattern slots → pattern ≡ None → IsFound p s None
+none_found answer is =
+    let none : answer.found ≡ None = none_out answer.found (sym answer.pattern_is ∙ is) in
+    (answer.found, answer.finds, sym (ap (option_map match_of) none))
+
+-- ---- slots that were lent
+
+-- where all slots were lent, what was left behind the reference is what they are then
+pub lent_slots : (caps : Captured) (slots : Slots) → length slots ≡ length caps.slots → (with_slots caps slots).slots ≡ slots
+lent_slots caps slots len =
+    ap (λ n. take n (slots ++ drop (length slots) caps.slots)) (sym len) ∙ take-append_seam slots (drop (length slots) caps.slots)

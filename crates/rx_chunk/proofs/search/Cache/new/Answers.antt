@@ -1,9 +1,0 @@
-use Rattle.std.proofs.Common.{subst}
-use Rattle.rx_chunk.specs.Lists.{Asks}
-use Rattle.rx_chunk.proofs.search.Cache.new.Goals as goal
-
-pub returns-clause-made : goal.returns-clause-made
-returns-clause-made c = record {
-  widths_are = c.in_ok-new.ensures.made;
-  looks = λ none l. subst (λ states. Asks states l → ⊥) c.states.ensures.states (c.asks_looks.ensures none l);
-}

@@ -1,0 +1,28 @@
+-- What an iterator over an engine's matches has left, and the cache that it was lent.
+use Rattle.std.specs.Prelude.{◌≡◌, Option, Result}
+use Rattle.std.specs.Borrow.{MutBor}
+use Rattle.rx_captures.specs.declared.search.MatchError.{MatchError}
+use Rattle.rx_captures.specs.Search.{Found}
+use Rattle.rx_input.specs.declared.cursor.Cursor.{Ghosts}
+use Rattle.rx_threads.specs.Coming.{CacheView}
+use Rattle.rx_threads.specs.Searching.{search_of}
+use Rattle.rx_chunk.specs.declared.pikevm.find_matches.FindMatches.{FindMatches}
+use Rattle.rx_chunk.specs.Iterating.{MatchesLeft, GivesMatch}
+
+abbrev pub left_of : {C : Type 0} {cursor : Ghosts C} → FindMatches C cursor → MatchesLeft
+left_of m = record {
+  program = m.vm.now.program;
+  search = search_of m.vm.now.utf8_empty m.input;
+  has_matched = m.has_matched;
+  is_over = m.is_over;
+}
+
+abbrev pub cache_of : {C : Type 0} {cursor : Ghosts C} → FindMatches C cursor → MutBor CacheView
+cache_of m = m.cache
+
+-- a step of the iterator, which searches with the same cache for the same program on
+pub record Gives {C : Type 0} {cursor : Ghosts C} (m : FindMatches C cursor)
+    (item : Option (Result Found MatchError)) (n : FindMatches C cursor) : Type 0 where
+  pub gives : GivesMatch (left_of m) item (left_of n)
+  pub same_program : (left_of n).program ≡ (left_of m).program
+  pub same_cache : (cache_of n).ghost_name ≡ (cache_of m).ghost_name

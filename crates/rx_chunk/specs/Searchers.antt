@@ -1,0 +1,106 @@
+-- What a searcher does with what a finder tells.
+use Rattle.std.specs.Prelude.{◌≡◌, ℕ, ◌≤◌, ◌+◌, ◌-◌, ◌<◌, ◌^◌, ◌⊎◌, Bool, true, false, Option, Some, None, is_some, Result, Ok, Err}
+use Rattle.std.specs.Borrow.{MutBor}
+use Rattle.std.specs.Fn.{Mut, CalledAtMut}
+use Rattle.std.specs.Iterator.{Count, at_most}
+use Rattle.rx_captures.specs.declared.search.MatchError.{MatchError}
+use Rattle.rx_captures.specs.Search.{Found, HalfFound}
+use Rattle.rx_input.specs.Inputs.{InputState, HasSpan}
+use Rattle.rx_chunk.specs.Iterating.{items_at_most}
+
+-- an input, whose span starts where the last match ended, and that end, if there was a match
+pub record SearcherState : Type 0 where
+  pub input : InputState
+  pub last_match_end : Option ℕ
+
+-- the span of an input was made to start here
+abbrev pub IsSetTo : InputState → InputState → ℕ → Type 0
+IsSetTo old new start = HasSpan old new (record old.asked.span { start = start })
+
+-- the span starts at the end of a match, which is kept
+abbrev pub HasPassed : InputState → ℕ → SearcherState → Type 0
+HasPassed old end new = IsSetTo old new.input end × (new.last_match_end ≡ Some end)
+
+-- what a finder, in a state before and a state after, tells of an input, and the input that it
+-- leaves
+abbrev pub Finder : Type 0 → Type 0 → Type 1
+Finder F A = F → F → InputState → Result (Option A) MatchError → InputState → Type 0
+
+-- what a closure tells; `state` shows its input
+abbrev pub finder_of : {F I A : Type 0}
+    → Mut F (MutBor I × Unit {0}) (Result (Option A) MatchError × (MutBor I × Unit {0}))
+    → (I → InputState) → Finder F A
+finder_of {F} {I} g state p q i r j =
+    (x y : I) × CalledAtMut g p x r q y × (state x ≡ i) × (state y ≡ j)
+
+-- a match that ends in the span, not before it and not at the greatest number
+pub record EndsInside (i : InputState) (end : ℕ) : Type 0 where
+  pub behind_start : i.asked.span.start ≤ end
+  pub before_end : end ≤ i.asked.span.end
+  pub fits : end + 1 < 2 ^ 64
+
+-- a finder tells matches that end in the span, and changes nothing of what is asked for
+pub record StaysInside {F A : Type 0} (tells : Finder F A) (end : A → ℕ) : Type 0 where
+  pub same : (p q : F) (i j : InputState) (r : Result (Option A) MatchError) → tells p q i r j
+      → j.asked ≡ i.asked
+  pub inside : (p q : F) (i j : InputState) (a : A) → tells p q i (Ok (Some a)) j
+      → EndsInside i (end a)
+
+-- what comes next: what is told, or, where that is a match to pass over, what is told then from one
+-- byte further on
+pub data TellsNext {F A : Type 0} (tells : Finder F A) (passes : A → Type 0) (p q : F)
+    (i : InputState) (r : Result (Option A) MatchError) (j : InputState) : Type 0 where
+  at_once : tells p q i r j → ((a : A) → r ≡ Ok (Some a) → passes a → ⊥)
+      → TellsNext tells passes p q i r j
+  further : (a : A) (m : F) (k l : InputState) → tells p m i (Ok (Some a)) k → passes a
+      → IsSetTo k l (k.asked.span.start + 1) → tells m q l r j
+      → TellsNext tells passes p q i r j
+
+-- behind a match the span starts at its end; else the searcher is as it was found
+abbrev pub GoesOn : {A : Type 0} → (A → ℕ) → SearcherState → Result (Option A) MatchError
+    → SearcherState → Type 0
+GoesOn end found (Ok (Some a)) new = HasPassed found.input (end a) new
+GoesOn end found (Ok None) new = new ≡ found
+GoesOn end found (Err e) new = new ≡ found
+
+-- a step of a searcher over a finder
+pub record Advances {F A : Type 0} (tells : Finder F A) (end : A → ℕ)
+    (passes : Option ℕ → A → Type 0) (p q : F) (old : SearcherState)
+    (r : Result (Option A) MatchError) (new : SearcherState) : Type 0 where
+  pub left : InputState
+  pub next : TellsNext tells (passes old.last_match_end) p q old.input r left
+  pub goes_on : GoesOn end (record old { input = left }) r new
+
+-- an empty match where the last one ended
+abbrev pub IsEmptyAtLast : Option ℕ → Found → Type 0
+IsEmptyAtLast last a = (a.span.start ≡ a.span.end) × (last ≡ Some a.span.end)
+
+-- a half match where the last one ended
+abbrev pub IsAtLast : Option ℕ → HalfFound → Type 0
+IsAtLast last a = last ≡ Some a.offset
+
+abbrev pub end_of_match : Found → ℕ
+end_of_match a = a.span.end
+
+abbrev pub end_of_half : HalfFound → ℕ
+end_of_half a = a.offset
+
+-- the span starts where the last match ended
+abbrev pub StandsAtLast : SearcherState → Type 0
+StandsAtLast s = (end : ℕ) → s.last_match_end ≡ Some end → s.input.asked.span.start ≡ end
+
+-- how many half matches come at most, where the span starts at the last one's end
+abbrev pub half_matches_left : SearcherState → Bool → Count
+half_matches_left s is_over = at_most (items_at_most is_over (is_some s.last_match_end)
+    (s.input.asked.span.end - s.input.asked.span.start))
+
+-- what an iterator gives, by what a step of its searcher answers: none comes where none is
+-- answered, and after that and a refusal
+abbrev pub GivesItem : {A : Type 0} → (Result (Option A) MatchError → Type 0) → Bool
+    → Option (Result A MatchError) → Bool → Type 0
+GivesItem answers was_over None is_over =
+    ((was_over ≡ true) ⊎ answers (Ok None)) × (is_over ≡ true)
+GivesItem answers was_over (Some (Ok a)) is_over =
+    (was_over ≡ false) × answers (Ok (Some a)) × (is_over ≡ false)
+GivesItem answers was_over (Some (Err e)) is_over =
+    (was_over ≡ false) × answers (Err e) × (is_over ≡ true)

@@ -1,0 +1,256 @@
+//! Matches one after the other.
+
+ghost use Rattle.std.specs.Prelude.{◌≡◌, ◌+◌, ◌^◌, ◌<◌, ◌≤◌, None, Some, true, false};
+ghost use Rattle.rx_chunk.specs.Searchers.{Advances, GivesItem, HasPassed, IsAtLast, IsEmptyAtLast, IsSetTo, StandsAtLast, StaysInside, end_of_half, end_of_match, half_matches_left, finder_of};
+
+use rx_captures::{HalfMatch, Match, MatchError};
+use rx_input::{Cursor, Input};
+use std::marker::Model;
+
+/// What a searcher goes through: an `Input`, over any cursor.
+pub trait Searched {
+    ghost use Rattle.std.specs.Prelude.{◌≡◌, ◌+◌, ◌≤◌};
+    ghost use Rattle.rx_input.specs.Inputs.{InputState, HasSpan};
+
+    // What is asked for.
+    ghost state: { Self → InputState };
+
+    /// Where the span starts.
+    fn start(&self) -> usize
+        ensures { result ≡ (state self.now).asked.span.start };
+
+    /// Has the span start elsewhere, at most one place past its end.
+    fn set_start(&mut self, start: usize)
+        requires { start ≤ (state self.old).asked.span.end + 1 }
+        ensures { HasSpan (state self.old) (state self.new)
+            (record (state self.old).asked.span { start = start }) };
+}
+
+impl<C: Cursor> Searched for Input<C> {
+    ghost state = { λ input. input };
+
+    fn start(&self) -> usize {
+        Input::start(self)
+    }
+
+    fn set_start(&mut self, start: usize) {
+        Input::set_start(self, start)
+    }
+}
+
+/// Goes over the matches in an input one after the other. Each comes from a finder, which searches
+/// in the input's span; the span starts then where the match ends. An empty match where the one
+/// before ends is thrown away, and the search repeated one byte further.
+#[derive(Drop)]
+pub struct Searcher<I: Searched> {
+    input: I,
+    last_match_end: Option<usize>,
+}
+
+impl<I: Searched> Model for Searcher<I> {
+    ghost use Rattle.rx_chunk.specs.Searchers.{SearcherState};
+
+    ghost Value = { SearcherState };
+
+    ghost view = { λ s. record {
+      input = I.state s.input;
+      last_match_end = s.last_match_end;
+    } };
+}
+
+impl<I: Searched> Searcher<I> {
+    /// Starts with the input's span as it is.
+    pub fn new(input: I) -> Searcher<I>
+        ensures { result ≡ record { input = I.state input; last_match_end = None } }
+    {
+        Searcher {
+            input,
+            last_match_end: None,
+        }
+    }
+
+    /// The input, in which the next search is.
+    pub fn input(&mut self) -> &mut I {
+        &mut self.input
+    }
+
+    /// The next match, as by `try_advance`.
+    pub fn advance<F>(&mut self, finder: F) -> Result<Option<Match>, MatchError>
+    where
+        F: FnMut(&mut I) -> Result<Option<Match>, MatchError>,
+        requires callable { F.IsAlwaysCallable finder }
+        requires inside { StaysInside (finder_of F.FnMut I.state) end_of_match }
+        ensures { (last : F) × Advances (finder_of F.FnMut I.state) end_of_match IsEmptyAtLast
+            finder last self.old result self.new }
+    {
+        self.try_advance(finder)
+    }
+
+    /// The next match. An empty one where the last one ended is thrown away. A refusal of the
+    /// finder is handed on.
+    pub fn try_advance<F>(&mut self, mut finder: F) -> Result<Option<Match>, MatchError>
+    where
+        F: FnMut(&mut I) -> Result<Option<Match>, MatchError>,
+        requires callable { F.IsAlwaysCallable finder }
+        requires inside { StaysInside (finder_of F.FnMut I.state) end_of_match }
+        ensures { (last : F) × Advances (finder_of F.FnMut I.state) end_of_match IsEmptyAtLast
+            finder last self.old result self.new }
+    {
+        let Some(found) = finder(&mut self.input)? else {
+            return Ok(None);
+        };
+        let end = found.end();
+        if !self.is_empty_at_last(&found) {
+            self.pass(end);
+            return Ok(Some(found));
+        }
+        self.step();
+        let Some(further) = finder(&mut self.input)? else {
+            return Ok(None);
+        };
+        let end_further = further.end();
+        self.pass(end_further);
+        Ok(Some(further))
+    }
+
+    /// The next half match. One at the end of the last one is thrown away. A refusal of the finder
+    /// is handed on.
+    pub fn try_advance_half<F>(&mut self, mut finder: F) -> Result<Option<HalfMatch>, MatchError>
+    where
+        F: FnMut(&mut I) -> Result<Option<HalfMatch>, MatchError>,
+        requires callable { F.IsAlwaysCallable finder }
+        requires inside { StaysInside (finder_of F.FnMut I.state) end_of_half }
+        ensures { (last : F) × Advances (finder_of F.FnMut I.state) end_of_half IsAtLast
+            finder last self.old result self.new }
+    {
+        self.advance_half_by(&mut finder)
+    }
+
+    /// The next half match, by a finder that is used again.
+    fn advance_half_by<F>(&mut self, finder: &mut F) -> Result<Option<HalfMatch>, MatchError>
+    where
+        F: FnMut(&mut I) -> Result<Option<HalfMatch>, MatchError>,
+        requires callable { F.IsAlwaysCallable finder.old }
+        requires inside { StaysInside (finder_of F.FnMut I.state) end_of_half }
+        ensures callable { F.IsAlwaysCallable finder.new }
+        ensures advances { Advances (finder_of F.FnMut I.state) end_of_half IsAtLast
+            finder.old finder.new self.old result self.new }
+    {
+        let Some(found) = finder(&mut self.input)? else {
+            return Ok(None);
+        };
+        let end = found.offset();
+        if !self.is_at_last(end) {
+            self.pass(end);
+            return Ok(Some(found));
+        }
+        self.step();
+        let Some(further) = finder(&mut self.input)? else {
+            return Ok(None);
+        };
+        let end_further = further.offset();
+        self.pass(end_further);
+        Ok(Some(further))
+    }
+
+    /// All half matches that are left, one after the other.
+    pub fn into_half_matches_iter<F>(self, finder: F) -> TryHalfMatchesIter<I, F>
+    where
+        F: FnMut(&mut I) -> Result<Option<HalfMatch>, MatchError>,
+        ensures searcher { result.searcher ≡ self }
+        ensures finder { result.finder ≡ finder }
+        ensures is_over { result.is_over ≡ false }
+    {
+        TryHalfMatchesIter {
+            searcher: self,
+            finder,
+            is_over: false,
+        }
+    }
+
+    /// Whether the last match ended here.
+    fn is_at_last(&self, end: usize) -> bool
+        ensures here { result ≡ true → self.now.last_match_end ≡ Some end }
+        ensures elsewhere { result ≡ false → self.now.last_match_end ≡ Some end → ⊥ }
+    {
+        match self.last_match_end {
+            Some(last) => last == end,
+            None => false,
+        }
+    }
+
+    /// Whether this is an empty match where the last one ended.
+    fn is_empty_at_last(&self, found: &Match) -> bool
+        ensures here { result ≡ true → IsEmptyAtLast self.now.last_match_end found.now }
+        ensures elsewhere { result ≡ false
+            → IsEmptyAtLast self.now.last_match_end found.now → ⊥ }
+    {
+        found.is_empty() && self.is_at_last(found.end())
+    }
+
+    /// Searches further on from the end of a match.
+    fn pass(&mut self, end: usize)
+        requires inside { end ≤ self.old.input.asked.span.end + 1 }
+        ensures { HasPassed self.old.input end self.new }
+    {
+        self.input.set_start(end);
+        self.last_match_end = Some(end);
+    }
+
+    /// Searches from one byte further on.
+    fn step(&mut self)
+        requires inside { self.old.input.asked.span.start ≤ self.old.input.asked.span.end }
+        requires fits { self.old.input.asked.span.start + 1 < 2 ^ 64 }
+        ensures further { IsSetTo self.old.input self.new.input
+            (self.old.input.asked.span.start + 1) }
+        ensures last { self.new.last_match_end ≡ self.old.last_match_end }
+    {
+        let start = self.input.start() + 1;
+        self.input.set_start(start);
+    }
+}
+
+/// Half matches one after the other, each or a refusal, after which there are no more. The input's
+/// span must start where the last match ended, as it does unless it was set.
+#[derive(Drop)]
+pub struct TryHalfMatchesIter<I: Searched, F> {
+    searcher: Searcher<I>,
+    finder: F,
+    // No more come.
+    is_over: bool,
+}
+
+impl<I, F> Iterator for TryHalfMatchesIter<I, F>
+where
+    I: Searched + Drop,
+    F: FnMut(&mut I) -> Result<Option<HalfMatch>, MatchError> + Drop,
+{
+    type Item = Result<HalfMatch, MatchError>;
+
+    ghost can_next = { λ it. F.IsAlwaysCallable it.finder
+        × StaysInside (finder_of F.FnMut I.state) end_of_half
+        × (it.is_over ≡ false → StandsAtLast it.searcher) };
+
+    ghost next_gives = { λ it item left. GivesItem (λ r.
+        Advances (finder_of F.FnMut I.state) end_of_half IsAtLast
+            it.finder left.finder it.searcher r left.searcher) it.is_over item left.is_over };
+
+    ghost remaining = { λ it. half_matches_left it.searcher it.is_over };
+
+    fn next(&mut self) -> Option<Result<HalfMatch, MatchError>> {
+        if self.is_over {
+            return None;
+        }
+        match self.searcher.advance_half_by(&mut self.finder) {
+            Ok(Some(found)) => Some(Ok(found)),
+            Ok(None) => {
+                self.is_over = true;
+                None
+            }
+            Err(error) => {
+                self.is_over = true;
+                Some(Err(error))
+            }
+        }
+    }
+}

@@ -1,0 +1,562 @@
+//! The engine that follows all walks through a program side by side.
+
+ghost use Rattle.std.specs.Prelude.{◌≡◌, ℕ, ◌+◌, ◌<◌, ◌≤◌, IfOk, IfErr, OnOk, OnErr, None, Some, MatchOption, length, option_map, option_copied, unwrap_or, string_bytes, true, false};
+ghost use Rattle.std.specs.Option.{ForSome};
+ghost use Rattle.std.specs.Str.{chars};
+ghost use Rattle.rx_captures.specs.declared.search.MatchError.{MatchError};
+ghost use Rattle.rx_captures.specs.declared.search.MatchKind.{MatchKind};
+ghost use Rattle.rx_captures.specs.Groups.{names_of, slot_len};
+ghost use Rattle.rx_captures.specs.Captured.{nothing_noted, place_in, span_between, group_span, match_found};
+ghost use Rattle.rx_grammar.specs.Grammar.{Spells};
+ghost use Rattle.rx_grammar.specs.Settings.{default_settings};
+ghost use Rattle.rx_grammar.specs.Trees.{numbers_of};
+ghost use Rattle.rx_grammar.specs.Subtrees.{IsWellFormed};
+ghost use Rattle.rx_grammar.specs.Postorder.{tree_of};
+ghost use Rattle.rx_input.specs.Cursors.{IsSameContent};
+ghost use Rattle.rx_threads.specs.Searching.{search_of, IsAnswer};
+ghost use Rattle.rx_threads.specs.Coming.{IsCacheOf};
+ghost use Rattle.rx_chunk.specs.Engines.{nothing_set, settings_over, AreNamesOf, IsEngine, IsBuiltOf, IsRefused, TellsWhether, IsFound, refusal_of, by_default, AreGroupsOf};
+ghost use Rattle.rx_chunk.specs.Iterating.{IsFoundAfter, StartsFrom, matches_from};
+ghost use Rattle.rx_chunk.specs.FindMatches.{cache_of, left_of};
+
+use rx_threads as search;
+use rx_captures::{
+    Captures, GroupInfo, Match, MatchError, MatchKind, NonMaxUsize, PatternID, Span,
+};
+use rx_grammar::laws::groups_are_few;
+use rx_grammar::{Hir, SyntaxError, parse, syntax};
+use rx_input::{Cursor, Input};
+use rx_program::laws::matches_note_their_places;
+use rx_program::{BuildError, Program, compile};
+use rx_sets::CharacterSet;
+use rx_walks::laws::finds_lie_inside;
+use std::alloc::{AllocError, Global};
+use std::marker::Model;
+
+mod find_matches;
+
+pub use find_matches::FindMatches;
+
+/// Settings of a `PikeVM`. One that wasn't set is the default.
+#[derive(Clone, Copy, Debug, PartialEq, Eq)]
+pub struct Config {
+    match_kind: Option<MatchKind>,
+    utf8_empty: Option<bool>,
+    line_terminator: Option<u8>,
+}
+
+impl Model for Config {
+    ghost use Rattle.rx_chunk.specs.Engines.{EngineSettings};
+
+    ghost Value = { EngineSettings };
+
+    ghost view = { λ c. record {
+      match_kind = c.match_kind;
+      utf8_empty = c.utf8_empty;
+      line_terminator = c.line_terminator;
+    } };
+
+    ghost inverse = { λ s. record {
+      match_kind = s.match_kind;
+      utf8_empty = s.utf8_empty;
+      line_terminator = s.line_terminator;
+    } };
+}
+
+impl Config {
+    /// Nothing is set.
+    pub fn new() -> Config
+        ensures { result ≡ nothing_set }
+    {
+        Config {
+            match_kind: None,
+            utf8_empty: None,
+            line_terminator: None,
+        }
+    }
+
+    /// Which of all matches a search finds.
+    pub fn match_kind(mut self, kind: MatchKind) -> Config
+        ensures { result ≡ record self { match_kind = Some kind } }
+    {
+        self.match_kind = Some(kind);
+        self
+    }
+
+    /// Whether empty matches inside a character are passed over.
+    pub fn utf8_empty(mut self, yes: bool) -> Config
+        ensures { result ≡ record self { utf8_empty = Some yes } }
+    {
+        self.utf8_empty = Some(yes);
+        self
+    }
+
+    /// The byte at which lines end for `^` and `$` under `(?m)`.
+    pub fn line_terminator(mut self, byte: u8) -> Config
+        ensures { result ≡ record self { line_terminator = Some byte } }
+    {
+        self.line_terminator = Some(byte);
+        self
+    }
+
+    /// Which of all matches a search finds: by default the leftmost one.
+    pub fn get_match_kind(&self) -> MatchKind
+        ensures { result ≡ unwrap_or self.now.match_kind MatchKind.LeftmostFirst }
+    {
+        self.match_kind.unwrap_or(MatchKind::LeftmostFirst)
+    }
+
+    /// Whether empty matches inside a character are passed over: by default they are.
+    pub fn get_utf8_empty(&self) -> bool
+        ensures { result ≡ unwrap_or self.now.utf8_empty true }
+    {
+        self.utf8_empty.unwrap_or(true)
+    }
+
+    /// The byte at which lines end for `^` and `$` under `(?m)`: by default LF.
+    pub fn get_line_terminator(&self) -> u8
+        ensures { result ≡ unwrap_or self.now.line_terminator 10 }
+    {
+        self.line_terminator.unwrap_or(b'\n')
+    }
+
+    /// These settings, and where one isn't set that of the others.
+    fn or(&self, others: &Config) -> Config
+        ensures { result ≡ settings_over self.now others.now }
+    {
+        Config {
+            match_kind: self.match_kind.or(others.match_kind),
+            utf8_empty: self.utf8_empty.or(others.utf8_empty),
+            line_terminator: self.line_terminator.or(others.line_terminator),
+        }
+    }
+}
+
+impl Default for Config {
+    fn default() -> Config
+        ensures { result ≡ nothing_set }
+    {
+        Config::new()
+    }
+}
+
+/// Builds a `PikeVM` of a pattern.
+#[derive(Debug, Drop)]
+pub struct Builder {
+    config: Config,
+    syntax: syntax::Config,
+}
+
+impl Model for Builder {
+    ghost use Rattle.rx_chunk.specs.Engines.{Wanted};
+
+    ghost Value = { Wanted };
+
+    ghost view = { λ b. record { settings = b.config; syntax = b.syntax } };
+}
+
+impl Builder {
+    /// Nothing is set.
+    pub fn new() -> Builder
+        ensures { result ≡ record { settings = nothing_set; syntax = default_settings } }
+    {
+        Builder {
+            config: Config::new(),
+            syntax: syntax::Config::new(),
+        }
+    }
+
+    /// Takes over the settings that are set in these, and leaves the others.
+    pub fn configure(&mut self, config: Config) -> &mut Builder
+        ensures set { result.now ≡ record self.old {
+          settings = settings_over config self.old.settings;
+        } }
+        ensures same_reference { result.ghost_name ≡ self.entry.ghost_name }
+    {
+        self.config = config.or(&self.config);
+        self
+    }
+
+    /// Takes these settings of the syntax in place of all that it has.
+    pub fn syntax(&mut self, config: syntax::Config) -> &mut Builder
+        ensures set { result.now ≡ record self.old { syntax = config } }
+        ensures same_reference { result.ghost_name ≡ self.entry.ghost_name }
+    {
+        self.syntax = config;
+        self
+    }
+
+    /// The engine for a pattern.
+    pub fn build(&self, alloc: Global, pattern: &str) -> Result<PikeVM, BuildError>
+        ensures built { IfOk result (λ vm. IsBuiltOf pattern.now self.now vm) }
+        ensures refused { IfErr result (λ error. IsRefused pattern.now self.now.syntax error) }
+    {
+        // A law, for the proof alone.
+        groups_are_few();
+        let hir = spelled(alloc, pattern, &self.syntax)?;
+        let groups = groups_of(alloc, &hir)?;
+        let program = compile(alloc, &[&hir], self.config.get_line_terminator(), None)?;
+        Ok(PikeVM {
+            program,
+            groups,
+            utf8_empty: self.config.get_utf8_empty(),
+        })
+    }
+}
+
+/// Why a pattern whose text is refused has no engine.
+fn refusal(error: SyntaxError) -> BuildError
+    ensures { result ≡ refusal_of error }
+{
+    match error {
+        SyntaxError::Memory => BuildError::Memory,
+        _ => BuildError::Syntax {
+            pattern: PatternID::ZERO,
+            error,
+        },
+    }
+}
+
+/// What a pattern spells under these settings.
+fn spelled(alloc: Global, pattern: &str, settings: &syntax::Config) -> Result<Hir, BuildError>
+    ensures spells { IfOk result (λ hir. Spells (chars pattern.now) settings.now (tree_of hir)) }
+    ensures refused { IfErr result (λ error. IsRefused pattern.now settings.now error) }
+{
+    match parse(alloc, pattern, settings) {
+        Ok(hir) => Ok(hir),
+        Err(error) => Err(refusal(error)),
+    }
+}
+
+/// A group's name, copied.
+fn copied(alloc: Global, name: Option<&str>) -> Result<Option<String>, AllocError>
+    ensures { IfOk result (λ copy. option_map string_bytes copy ≡ option_copied name.entry) }
+{
+    match name {
+        Some(name) => Ok(Some(String::from_str(alloc, name)?)),
+        None => Ok(None),
+    }
+}
+
+/// The names of a pattern's groups, from group 1 on.
+fn group_names(alloc: Global, hir: &Hir) -> Result<Vec<Option<String>>, AllocError>
+    ensures names { IfOk result (λ names. AreNamesOf (tree_of hir.now) (names_of names.items)) }
+    ensures well_formed { IsWellFormed (tree_of hir.now) }
+{
+    let mut names = Vec::new(alloc);
+    for index in 0..hir.group_count() {
+        let name = copied(alloc, hir.group_name(index + 1))?;
+        names.push(name)?;
+    }
+    Ok(names)
+}
+
+/// The groups of a pattern. A text that is read spells at most 65,536 of them.
+fn groups_of(alloc: Global, hir: &Hir) -> Result<GroupInfo, AllocError>
+    requires few { length (numbers_of (tree_of hir.now)) ≤ 65536 }
+    ensures groups { IfOk result (λ groups. AreGroupsOf (tree_of hir.now) groups) }
+    ensures well_formed { IsWellFormed (tree_of hir.now) }
+{
+    let names = group_names(alloc, hir)?;
+    let mut patterns = Vec::new(alloc);
+    patterns.push(names)?;
+    GroupInfo::new(alloc, patterns)
+}
+
+/// An engine that searches for a pattern. Contracts see its program, its groups, and whether it
+/// passes over empty matches inside a character.
+#[derive(Debug, Drop)]
+pub struct PikeVM {
+    program: Program,
+    groups: GroupInfo,
+    utf8_empty: bool,
+}
+
+impl Model for PikeVM {
+    ghost use Rattle.rx_chunk.specs.Engines.{Engine, IsEngine};
+
+    ghost Value = { Engine };
+
+    ghost view = { λ vm. record {
+      program = vm.program;
+      groups = vm.groups;
+      utf8_empty = vm.utf8_empty;
+    } };
+
+    ghost invariant = { λ vm. IsEngine (record {
+      program = vm.program;
+      groups = vm.groups;
+      utf8_empty = vm.utf8_empty;
+    }) };
+}
+
+impl PikeVM {
+    /// The engine for a pattern, under default settings.
+    pub fn new(alloc: Global, pattern: &str) -> Result<PikeVM, BuildError>
+        ensures built { IfOk result (λ vm. IsBuiltOf pattern.now by_default vm) }
+        ensures refused { IfErr result (λ error. IsRefused pattern.now default_settings error) }
+    {
+        Builder::new().build(alloc, pattern)
+    }
+
+    /// What searches with it need room for.
+    pub fn create_cache(&self, alloc: Global) -> Result<Cache, MatchError>
+        ensures made { IfOk result (λ cache. IsCacheOf self.now.program cache) }
+        ensures refused { IfErr result (λ error. error ≡ MatchError.Memory) }
+    {
+        Cache::new(alloc, self)
+    }
+
+    /// What a search notes of its groups: nothing yet.
+    pub fn create_captures(&self, alloc: Global) -> Result<Captures, MatchError>
+        ensures made { IfOk result (λ caps. caps
+            ≡ nothing_noted self.now.groups (slot_len self.now.groups)) }
+        ensures refused { IfErr result (λ error. error ≡ MatchError.Memory) }
+    {
+        Captures::all(alloc, &self.groups)
+    }
+
+    /// The groups of its pattern.
+    pub fn group_info(&self) -> &GroupInfo
+        ensures groups { result.now ≡ self.now.groups }
+        ensures engine { IsEngine self.now }
+    {
+        &self.groups
+    }
+}
+
+/// What searches with an engine keep from one to the next, so that they ask for memory once.
+#[derive(Debug, Drop)]
+pub struct Cache {
+    room: search::Cache,
+}
+
+impl Model for Cache {
+    ghost use Rattle.rx_threads.specs.Coming.{CacheView};
+
+    ghost Value = { CacheView };
+
+    ghost view = { λ c. c.room };
+}
+
+impl Cache {
+    /// A cache for searches with an engine. The one refusal is `Memory`.
+    pub fn new(alloc: Global, vm: &PikeVM) -> Result<Cache, MatchError>
+        ensures made { IfOk result (λ cache. IsCacheOf vm.now.program cache) }
+        ensures refused { IfErr result (λ error. error ≡ MatchError.Memory) }
+    {
+        Ok(Cache {
+            room: search::Cache::new(alloc, &vm.program)?,
+        })
+    }
+
+    /// Makes the cache one for searches with this engine. The one refusal is `Memory`; the cache is
+    /// then as it was.
+    pub fn reset(&mut self, alloc: Global, vm: &PikeVM) -> Result<(), MatchError>
+        ensures made { OnOk result (IsCacheOf vm.now.program self.new) }
+        ensures same { OnErr result (self.new ≡ self.old) }
+        ensures refused { IfErr result (λ error. error ≡ MatchError.Memory) }
+    {
+        self.room.reset(alloc, &vm.program)
+    }
+
+    /// About how many bytes its lists take: a count that no contract fixes.
+    pub fn memory_usage(&self) -> usize {
+        self.room.memory_usage()
+    }
+}
+
+/// Searches: answers the pattern of the match that is found, and puts its places into the slots;
+/// all other slots hold none. The one refusal is `Memory`: what the slots then hold has no meaning.
+pub fn search_slots<C: Cursor>(
+    vm: &PikeVM,
+    cache: &mut Cache,
+    input: &mut Input<C>,
+    slots: &mut [Option<NonMaxUsize>],
+) -> Result<Option<PatternID>, MatchError>
+    requires made { IsCacheOf vm.now.program cache.old }
+    ensures answer { IfOk result (λ pattern. IsAnswer vm.now.program
+        (search_of vm.now.utf8_empty input.old) pattern slots.new) }
+    ensures made { IsCacheOf vm.now.program cache.new }
+    ensures asked { input.new.asked ≡ input.old.asked }
+    ensures same { IsSameContent input.old.cursor input.new.cursor }
+    ensures refused { IfErr result (λ error. error ≡ MatchError.Memory) }
+{
+    search::search_slots(
+        &vm.program,
+        &mut cache.room,
+        input,
+        vm.utf8_empty,
+        slots,
+    )
+}
+
+/// Searches, and notes what is found. In captures that the engine made, or others of its groups
+/// with two slots and more, group 0 is then the whole match. The one refusal is `Memory`: then no
+/// pattern is noted.
+pub fn search<C: Cursor>(
+    vm: &PikeVM,
+    cache: &mut Cache,
+    input: &mut Input<C>,
+    caps: &mut Captures,
+) -> Result<(), MatchError>
+    requires made { IsCacheOf vm.now.program cache.old }
+    ensures answer { OnOk result (IsAnswer vm.now.program
+        (search_of vm.now.utf8_empty input.old) caps.new.pattern caps.new.slots) }
+    ensures found { OnOk result (caps.old.groups ≡ vm.now.groups → 2 ≤ length caps.old.slots
+        → IsFound vm.now.program (search_of vm.now.utf8_empty input.old) (match_found caps.new)) }
+    ensures ordered { OnOk result (caps.old.groups ≡ vm.now.groups → 2 ≤ length caps.old.slots
+        → ForSome (group_span caps.new 0) (λ span. span.start ≤ span.end)) }
+    ensures groups { caps.new.groups ≡ caps.old.groups }
+    ensures slot_len { length caps.new.slots ≡ length caps.old.slots }
+    ensures no_answer { OnErr result (caps.new.pattern ≡ None) }
+    ensures made { IsCacheOf vm.now.program cache.new }
+    ensures asked { input.new.asked ≡ input.old.asked }
+    ensures same { IsSameContent input.old.cursor input.new.cursor }
+    ensures refused { IfErr result (λ error. error ≡ MatchError.Memory) }
+{
+    // Laws, for the proof alone.
+    matches_note_their_places();
+    finds_lie_inside::<CharacterSet>();
+    let _groups = vm.group_info(); // tells that the program is that of a tree
+    caps.set_pattern(None);
+    let pattern = search_slots(vm, cache, input, caps.slots_mut())?;
+    caps.set_pattern(pattern);
+    Ok(())
+}
+
+/// Whether there is a match. The one refusal is `Memory`.
+pub fn is_match<C: Cursor>(
+    vm: &PikeVM,
+    cache: &mut Cache,
+    input: &mut Input<C>,
+) -> Result<bool, MatchError>
+    requires made { IsCacheOf vm.now.program cache.old }
+    ensures answer { IfOk result (λ yes. TellsWhether vm.now.program
+        (search_of vm.now.utf8_empty input.old) yes) }
+    ensures made { IsCacheOf vm.now.program cache.new }
+    ensures asked { input.new.asked ≡ input.old.asked }
+    ensures same { IsSameContent input.old.cursor input.new.cursor }
+    ensures refused { IfErr result (λ error. error ≡ MatchError.Memory) }
+{
+    let pattern = search_slots(vm, cache, input, &mut [])?;
+    Ok(pattern.is_some())
+}
+
+/// The place noted in a slot, if there is one.
+fn place_in(slots: &[Option<NonMaxUsize>], slot: usize) -> Option<usize>
+    ensures { result ≡ place_in slots.now slot }
+{
+    match slots.get(slot) {
+        Some(Some(place)) => Some(place.get()),
+        _ => None,
+    }
+}
+
+/// The match of a pattern from the place in slot 0 to that in slot 1, if both are there.
+fn match_in(pattern: PatternID, slots: &[Option<NonMaxUsize>]) -> Option<Match>
+    requires ordered { ForSome (span_between (place_in slots.now 0) (place_in slots.now 1))
+        (λ span. span.start ≤ span.end) }
+    ensures { result ≡ option_map (λ span. record { pattern = pattern; span = span })
+        (span_between (place_in slots.now 0) (place_in slots.now 1)) }
+{
+    let start = place_in(slots, 0)?;
+    let end = place_in(slots, 1)?;
+    Some(Match::new(pattern, Span { start, end }))
+}
+
+/// The match that is found.
+fn find<C: Cursor>(
+    vm: &PikeVM,
+    cache: &mut Cache,
+    input: &mut Input<C>,
+) -> Result<Option<Match>, MatchError>
+    requires made { IsCacheOf vm.now.program cache.old }
+    ensures answer { IfOk result (λ found. IsFound vm.now.program
+        (search_of vm.now.utf8_empty input.old) found) }
+    ensures made { IsCacheOf vm.now.program cache.new }
+    ensures asked { input.new.asked ≡ input.old.asked }
+    ensures same { IsSameContent input.old.cursor input.new.cursor }
+    ensures refused { IfErr result (λ error. error ≡ MatchError.Memory) }
+{
+    // Laws, for the proof alone.
+    matches_note_their_places();
+    finds_lie_inside::<CharacterSet>();
+    let _groups = vm.group_info(); // tells that the program is that of a tree
+    let mut slots = [None; 2];
+    let found = search_slots(vm, cache, input, &mut slots)?;
+    let Some(pattern) = found else {
+        return Ok(None);
+    };
+    Ok(match_in(pattern, &slots))
+}
+
+/// The match that is found next where one ended at the span's start: an empty one there is passed
+/// over, and the search goes on one byte further.
+fn find_after_match<C: Cursor>(
+    vm: &PikeVM,
+    cache: &mut Cache,
+    input: &mut Input<C>,
+) -> Result<Option<Match>, MatchError>
+    requires made { IsCacheOf vm.now.program cache.old }
+    ensures answer { IfOk result (λ found. IsFoundAfter vm.now.program true
+        (search_of vm.now.utf8_empty input.old) found) }
+    ensures made { IsCacheOf vm.now.program cache.new }
+    ensures same { (start : ℕ) × StartsFrom input.old input.new start }
+    ensures refused { IfErr result (λ error. error ≡ MatchError.Memory) }
+{
+    // A law, for the proof alone.
+    finds_lie_inside::<CharacterSet>();
+    let start = input.start();
+    let Some(found) = find(vm, cache, input)? else {
+        return Ok(None);
+    };
+    let end = found.end();
+    let ends_further = end != start;
+    if ends_further {
+        return Ok(Some(found));
+    }
+    // Behind the span's end nothing is found.
+    let last = input.end();
+    let is_last = start == last;
+    if is_last {
+        return Ok(None);
+    }
+    input.set_start(start + 1);
+    find(vm, cache, input)
+}
+
+/// The match that is found next, after one that ended at the span's start, or as the first one.
+fn find_next<C: Cursor>(
+    vm: &PikeVM,
+    cache: &mut Cache,
+    input: &mut Input<C>,
+    has_matched: bool,
+) -> Result<Option<Match>, MatchError>
+    requires made { IsCacheOf vm.now.program cache.old }
+    ensures answer { IfOk result (λ found. IsFoundAfter vm.now.program has_matched
+        (search_of vm.now.utf8_empty input.old) found) }
+    ensures made { IsCacheOf vm.now.program cache.new }
+    ensures same { (start : ℕ) × StartsFrom input.old input.new start }
+    ensures refused { IfErr result (λ error. error ≡ MatchError.Memory) }
+{
+    if has_matched {
+        return find_after_match(vm, cache, input);
+    }
+    find(vm, cache, input)
+}
+
+/// The matches in an input, one after the other. An empty match where the one before ended is passed
+/// over. Once the iterator is dropped the cache serves again.
+pub fn find_iter<'r, 'c, C: Cursor>(
+    vm: &'r PikeVM,
+    cache: &'c mut Cache,
+    input: Input<C>,
+) -> FindMatches<'r, 'c, C>
+    requires made { IsCacheOf vm.now.program cache.old }
+    ensures left { left_of result
+        ≡ matches_from vm.now.program (search_of vm.now.utf8_empty input) }
+    ensures same_cache { (cache_of result).ghost_name ≡ cache.entry.ghost_name }
+{
+    FindMatches::new(vm, cache, input)
+}

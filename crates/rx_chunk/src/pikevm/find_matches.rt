@@ -1,0 +1,89 @@
+//! The iterator over an engine's matches.
+
+ghost use Rattle.rx_threads.specs.Coming.{IsCacheOf};
+
+use super::{Cache, PikeVM, find_next};
+use rx_captures::{Match, MatchError};
+use rx_input::{Cursor, Input};
+use rx_sets::CharacterSet;
+use rx_walks::laws::finds_lie_inside;
+use std::iter::FusedIterator;
+
+/// Matches one after the other, each or a refusal, after which there are no more. An empty match
+/// where the one before ended is passed over. `find_iter` makes it.
+#[derive(Drop)]
+pub struct FindMatches<'r, 'c, C: Cursor> {
+    vm: &'r PikeVM,
+    cache: &'c mut Cache,
+    // The span starts where the last match ended.
+    input: Input<C>,
+    // A match ended there.
+    has_matched: bool,
+    // No more come.
+    is_over: bool,
+    ghost serves: { IsCacheOf vm.now.program cache.now },
+}
+
+impl<'r, 'c, C: Cursor> FindMatches<'r, 'c, C> {
+    ghost use Rattle.std.specs.Prelude.{◌≡◌};
+    ghost use Rattle.rx_threads.specs.Searching.{search_of};
+    ghost use Rattle.rx_chunk.specs.Iterating.{matches_from};
+    ghost use Rattle.rx_chunk.specs.FindMatches.{cache_of, left_of};
+
+    /// None of the matches in an input has come yet.
+    pub(super) fn new(
+        vm: &'r PikeVM,
+        cache: &'c mut Cache,
+        input: Input<C>,
+    ) -> FindMatches<'r, 'c, C>
+        requires made { IsCacheOf vm.now.program cache.old }
+        ensures left { left_of result
+            ≡ matches_from vm.now.program (search_of vm.now.utf8_empty input) }
+        ensures same_cache { (cache_of result).ghost_name ≡ cache.entry.ghost_name }
+    {
+        FindMatches {
+            vm,
+            cache,
+            input,
+            has_matched: false,
+            is_over: false,
+        }
+    }
+}
+
+impl<'r, 'c, C: Cursor + Drop> Iterator for FindMatches<'r, 'c, C> {
+    type Item = Result<Match, MatchError>;
+
+    ghost use Rattle.rx_chunk.specs.Iterating.{matches_left};
+    ghost use Rattle.rx_chunk.specs.FindMatches.{left_of, Gives};
+
+    ghost next_gives = { λ m item n. Gives m item n };
+
+    ghost remaining = { λ m. matches_left (left_of m) };
+
+    fn next(&mut self) -> Option<Result<Match, MatchError>> {
+        if self.is_over {
+            return None;
+        }
+        // A law, for the proof alone.
+        finds_lie_inside::<CharacterSet>();
+        match find_next(self.vm, self.cache, &mut self.input, self.has_matched) {
+            Ok(Some(found)) => {
+                let end = found.end();
+                self.input.set_start(end);
+                self.has_matched = true;
+                Some(Ok(found))
+            }
+            Ok(None) => {
+                self.is_over = true;
+                None
+            }
+            Err(error) => {
+                self.is_over = true;
+                Some(Err(error))
+            }
+        }
+    }
+}
+
+impl<'r, 'c, C: Cursor + Drop> FusedIterator for FindMatches<'r, 'c, C> {}

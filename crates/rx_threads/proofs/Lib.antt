@@ -1,0 +1,14 @@
+pub mod IndexLaws
+pub mod FollowLaws
+pub mod PlaceLaws
+pub mod ThreadLaws
+pub mod MoveLaws
+pub mod PendingLaws
+pub mod SideLaws
+pub mod SeenLaws
+pub mod ByteLaws
+pub mod SlotLaws
+pub mod ComeLaws
+pub mod WayLaws
+pub mod AnswerLaws
+pub mod OverLaws

@@ -1,0 +1,89 @@
+use Rattle.std.proofs.Common.{◌≡◌, ◌+◌, ◌-◌, length, ◌<◌, IsTrue, refl, sym, ap, subst, ◌∙◌, arith}
+use Rattle.rx_walks.specs.Finds.{IsInside, is_anchored}
+use Rattle.rx_walks.specs.ProgramFinds.{highest}
+use Rattle.rx_threads.specs.Searching.{search_of, anchoring_of}
+use Rattle.rx_threads.specs.Coming.{IsUnderWay}
+use Rattle.rx_threads.proofs.OverLaws.{same_search, way_begun, way_over, way_ended}
+use Rattle.rx_threads.proofs.search.Walks.follow.Goals as goal
+use Rattle.rx_threads.proofs.search.Walks.follow.Goals.{then-are_over-via-then-are_over, then-are_over-via-else-are_over+then-not-advance}
+
+pub loop-self-init : goal.loop-self-init
+loop-self-init g c = record {
+  made = c.requires.made;
+  inside = c.requires.inside;
+  slot_len = ap (λ t. t.slot_len) c.clear.ensures;
+  way = way_begun c.args.program.now (search_of c.args.utf8_empty c.args.input.now) c.args.start c.args.input.now.position c.clear.new.self.threads c.args.slots.now
+      c.requires.first (ap (λ t. t.threads) c.clear.ensures) c.requires.empty;
+  same = record { content = refl; is_sized = refl };
+  asked = refl;
+}
+
+pub returns-then-are_over-clause-over : goal.returns-then-are_over-clause-over
+returns-then-are_over-clause-over g c =
+    let p = c.args.program.now in
+    let b = c.args.utf8_empty in
+    let s = search_of b c.args.input.now in
+    let q = c.args.start in
+    let i = c.loop-self.input.position in
+    let before = c.loop-self.input in
+    let after = c.visit.new.input in
+    let self = c.visit.new.self in
+    let same : search_of b before ≡ s = same_search b before c.args.input.now c.loop-self.invariant.same.content c.loop-self.invariant.asked in
+    let asked : after.asked ≡ c.args.input.now.asked = c.in_ok-visit.ensures.same.asked_is ∙ c.loop-self.invariant.asked in
+    let same' : search_of b after ≡ s = same_search b after c.args.input.now (c.in_ok-visit.ensures.same.same.content ∙ c.loop-self.invariant.same.content) asked in
+    let way : IsUnderWay p s q (i + 1) self.live.threads self.met c.visit.new.slots = subst (λ x. IsUnderWay p x q (i + 1) self.live.threads self.met c.visit.new.slots) same c.in_ok-visit.ensures.way in
+    elim c.then-are_over.branch [
+      | then-are_over-via-then-are_over w ↦ way_over p s q i self.live.threads self.met c.visit.new.slots c.loop-self.invariant.inside (c.are_over.ensures.live w.if-are_over.true)
+          (λ unmet. subst (λ x. IsTrue (is_anchored (anchoring_of x))) (c.get_anchored.ensures ∙ ap (λ x. x.anchored) asked) (c.are_over.ensures.starts w.if-are_over.true unmet)) way
+      | then-are_over-via-else-are_over+then-not-advance w ↦
+          let past : highest (search_of b after) < after.position + 1 = w.advance.ensures.last w.if-not-advance.true b in
+          way_ended p s q i self.live.threads self.met c.visit.new.slots
+          (subst (λ j. highest s < j + 1) c.in_ok-visit.ensures.same.position_is (subst (λ x. highest x < after.position + 1) same' past)) way
+    ]
+
+pub loop-self-smaller : goal.loop-self-smaller
+loop-self-smaller g c =
+    let b = c.args.utf8_empty in
+    let content = c.args.input.now.cursor.content in
+    let after = c.visit.new.input in
+    let last = c.advance.new.input in
+    let i = c.loop-self.input.position in
+    let same : search_of b after ≡ search_of b c.args.input.now =
+    same_search b after c.args.input.now (c.in_ok-visit.ensures.same.same.content ∙ c.loop-self.invariant.same.content) (c.in_ok-visit.ensures.same.asked_is ∙ c.loop-self.invariant.asked) in
+    let here : IsInside (search_of b after) after.position =
+    subst (λ x. IsInside x after.position) (sym same) (subst (λ j. IsInside (search_of b c.args.input.now) j) (sym c.in_ok-visit.ensures.same.position_is) c.loop-self.invariant.inside) in
+    let inside : IsInside (search_of b c.args.input.now) last.position = subst (λ x. IsInside x last.position) same (c.advance.ensures.inside c.if-not-advance.false b here) in
+    let smaller : length content - last.position < length content - i =
+    omega (arith, inside.4, c.advance.ensures.next c.if-not-advance.false, c.in_ok-visit.ensures.same.position_is) in
+    smaller
+
+pub loop-self-preserved : goal.loop-self-preserved
+loop-self-preserved g c =
+    let p = c.args.program.now in
+    let b = c.args.utf8_empty in
+    let s = search_of b c.args.input.now in
+    let q = c.args.start in
+    let i = c.loop-self.input.position in
+    let before = c.loop-self.input in
+    let after = c.visit.new.input in
+    let last = c.advance.new.input in
+    let self = c.visit.new.self in
+    let same : search_of b before ≡ s = same_search b before c.args.input.now c.loop-self.invariant.same.content c.loop-self.invariant.asked in
+    let content : after.cursor.content ≡ c.args.input.now.cursor.content = c.in_ok-visit.ensures.same.same.content ∙ c.loop-self.invariant.same.content in
+    let asked : after.asked ≡ c.args.input.now.asked = c.in_ok-visit.ensures.same.asked_is ∙ c.loop-self.invariant.asked in
+    let same' : search_of b after ≡ s = same_search b after c.args.input.now content asked in
+    let here : IsInside (search_of b after) after.position =
+    subst (λ x. IsInside x after.position) (sym same') (subst (λ j. IsInside s j) (sym c.in_ok-visit.ensures.same.position_is) c.loop-self.invariant.inside) in
+    let next : last.position ≡ i + 1 = c.advance.ensures.next c.if-not-advance.false ∙ ap (λ j. j + 1) c.in_ok-visit.ensures.same.position_is in
+    record {
+      made = c.in_ok-visit.ensures.made;
+      inside = subst (λ x. IsInside x last.position) same' (c.advance.ensures.inside c.if-not-advance.false b here);
+      slot_len = c.in_ok-visit.ensures.slot_len;
+      way = subst (λ j. IsUnderWay p s q j self.live.threads self.met c.visit.new.slots) (sym next)
+          (subst (λ x. IsUnderWay p x q (i + 1) self.live.threads self.met c.visit.new.slots) same c.in_ok-visit.ensures.way);
+      same = record {
+        content = c.advance.ensures.same.same.content ∙ content;
+        is_sized = c.advance.ensures.same.same.is_sized ∙ c.in_ok-visit.ensures.same.same.is_sized ∙ c.loop-self.invariant.same.is_sized;
+      };
+      asked = c.advance.ensures.same.asked_is ∙ asked;
+    }

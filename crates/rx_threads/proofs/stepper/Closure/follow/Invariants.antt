@@ -1,0 +1,22 @@
+use Rattle.std.proofs.Common.{◌≡◌, ℕ, ◌∷◌, ◌++◌, List, All, length}
+use Rattle.rx_walks.specs.Machines.{Machine}
+use Rattle.rx_threads.specs.Nodes.{widths_of}
+use Rattle.rx_threads.specs.Threads.{Slots, Thread, IsThreadOf}
+use Rattle.rx_threads.specs.Lists.{MakesMoves, AreUnderWay, work_left}
+use Rattle.rx_threads.proofs.stepper.Closure.follow.Given as goal
+
+-- the step is under way with the threads that wait
+abbrev pub invariant-loop-state : goal.invariant-loop-state
+invariant-loop-state l = record {
+  followed : (m : Machine (ℕ × ℕ) Slots) (i : ℕ) (threads others : List Thread)
+      → MakesMoves m i l.program.states l.place
+      → AreUnderWay m i threads (widths_of l.program) l.fn.self.visited.ids ((l.fn.slots, l.fn.node) ∷ others) l.fn.next.threads
+      → AreUnderWay m i threads (widths_of l.program) l.self.visited.ids (l.self.pending.threads ++ others) l.next.threads;
+  threads : All (IsThreadOf l.program.states) l.fn.next.threads → All (IsThreadOf l.program.states) l.next.threads;
+  widths : l.self.visited.widths ≡ l.fn.self.visited.widths;
+  slots : length l.self.pending.slots ≡ l.next.slot_len;
+  slot_len : l.next.slot_len ≡ l.fn.next.slot_len;
+}
+
+abbrev pub decreases-loop-state : goal.decreases-loop-state
+decreases-loop-state l = work_left l.program l.self.visited.ids l.self.pending.size

@@ -1,0 +1,313 @@
+"""A small model of searches, by their definitions alone: patterns as trees, the programs that stand for them, the
+walks through these, and what a search finds. It is slow, and looks like no engine.
+
+Places are byte indices into a content, which may be any bytes.
+"""
+import sys
+import unicodedata
+from dataclasses import dataclass
+from typing import Callable, Optional, Tuple
+
+sys.setrecursionlimit(20_000)  # a walk takes some calls for each node
+CONTINUE = {bytes([byte]) for byte in range(0x80, 0xC0)}  # the bytes that continue a character
+
+
+# ---- patterns
+
+
+class Tree:
+    """What a pattern spells."""
+
+
+@dataclass(frozen=True)
+class Empty(Tree):
+    """No item."""
+
+
+@dataclass(frozen=True)
+class Set(Tree):
+    """One character of a set, which `text` spells."""
+
+    text: str
+    has: Callable[[str], bool]
+
+
+@dataclass(frozen=True)
+class Look(Tree):
+    """What has to stand around a place, a key of LOOKS."""
+
+    text: str
+
+
+@dataclass(frozen=True)
+class Group(Tree):
+    """A group with a number. Groups are numbered from 1 by where they open."""
+
+    number: int
+    inside: Tree
+
+
+@dataclass(frozen=True)
+class Concat(Tree):
+    """Two trees or more, one after the other."""
+
+    parts: Tuple[Tree, ...]
+
+
+@dataclass(frozen=True)
+class Alternation(Tree):
+    """One of two trees or more, an earlier one preferred."""
+
+    parts: Tuple[Tree, ...]
+
+
+@dataclass(frozen=True)
+class Repeat(Tree):
+    """So many of a tree, from the least number to the most (None: any), as many as may be or as few."""
+
+    inside: Tree
+    least: int
+    most: Optional[int]
+    is_greedy: bool = True
+
+
+def below(tree):
+    """The trees that a tree is made of."""
+    return getattr(tree, "parts", None) or ((tree.inside,) if hasattr(tree, "inside") else ())
+
+
+def spelled(tree, looks=None, bare=0):
+    """The pattern that spells a tree. `looks` has other spellings of looks. `bare` says what needs no `(?:` and
+    `)` around it where the tree stands: 0 all, 1 all but alternations, 2 neither these nor rows, 3 only atoms."""
+
+    def inner(part, bare):
+        return spelled(part, looks, bare)
+
+    if isinstance(tree, (Set, Look)):
+        return (looks or {}).get(tree.text, tree.text) if isinstance(tree, Look) else tree.text
+    if isinstance(tree, Group):
+        return f"({inner(tree.inside, 0)})"
+    if isinstance(tree, Repeat):
+        least, most = tree.least, "" if tree.most is None else tree.most
+        postfix = {(0, ""): "*", (1, ""): "+", (0, 1): "?"}.get((least, most), f"{{{least},{most}}}")
+        postfix = f"{{{least}}}" if least == most else postfix
+        text, needs = inner(tree.inside, 3) + postfix + ("" if tree.is_greedy else "?"), 3
+    elif isinstance(tree, Concat):
+        text, needs = "".join(inner(part, 2) for part in tree.parts), 2
+    elif isinstance(tree, Alternation):
+        text, needs = "|".join(inner(part, 1) for part in tree.parts), 1
+    else:
+        text, needs = "", 2
+    return f"(?:{text})" if bare >= needs else text
+
+
+def group_numbers(tree):
+    """The numbers of the groups in a tree, of which 0 is the whole of it."""
+    inside = [number for part in below(tree) for number in group_numbers(part)[1:]]
+    return [0] + ([tree.number] if isinstance(tree, Group) else []) + inside
+
+
+def may_be_empty(tree):
+    """Whether some path through the tree reads no character, whatever looks stand on it."""
+    if isinstance(tree, Alternation):
+        return any(map(may_be_empty, tree.parts))
+    if isinstance(tree, Repeat) and tree.least == 0:
+        return True
+    return not isinstance(tree, Set) and all(map(may_be_empty, below(tree)))
+
+
+# ---- characters and looks
+
+WHITE_SPACE = set("\t\n\v\f\r \x85\xa0\u1680\u2028\u2029\u202f\u205f\u3000") | set(map(chr, range(0x2000, 0x200B)))
+# The letters in circles and squares, which are alphabetic though no category tells it.
+ENCLOSED = [(0x24B6, 0x24E9), (0x1F130, 0x1F149), (0x1F150, 0x1F169), (0x1F170, 0x1F189)]
+WORD_CATEGORIES = {"Lu", "Ll", "Lt", "Lm", "Lo", "Nl", "Mn", "Mc", "Me", "Nd", "Pc"}
+
+
+def is_digit(character):
+    return unicodedata.category(character) == "Nd"
+
+
+def is_space(character):
+    return character in WHITE_SPACE
+
+
+def is_word(character):
+    """Whether it is a letter, a mark, a decimal digit, a connector such as `_`, or joins or parts letters."""
+    enclosed = any(low <= ord(character) <= high for low, high in ENCLOSED)
+    return unicodedata.category(character) in WORD_CATEGORIES or enclosed or character in "\u200c\u200d"
+
+
+def whole(data):
+    """The one character whose UTF-8 these bytes are, if they are that of one."""
+    try:
+        text = data.decode()
+    except UnicodeDecodeError:
+        return None
+    return text if len(text) == 1 else None
+
+
+def first_character(data):
+    """The character whose UTF-8 is the first one, two, three or four bytes."""
+    return next(filter(None, (whole(data[:size]) for size in range(1, 5))), None)
+
+
+def last_character(data):
+    return next(filter(None, (whole(data[-size:]) for size in range(1, 5))), None)
+
+
+def words(before, after):
+    """Whether a word character stands on each side. A side that is no whole character has none."""
+    sides = last_character(before), first_character(after)
+    return [side is not None and is_word(side) for side in sides]
+
+
+def is_cut(before, after):
+    """Whether bytes stand on a side that are no whole character."""
+    return (before and not last_character(before)) or (after and not first_character(after))
+
+
+# When each look holds, by the bytes before a place and those after it.
+LOOKS = {
+    "\\A": lambda before, after: not before,
+    "^": lambda before, after: not before,
+    "\\z": lambda before, after: not after,
+    "$": lambda before, after: not after,
+    "(?m:^)": lambda before, after: not before or before.endswith(b"\n"),
+    "(?m:$)": lambda before, after: not after or after.startswith(b"\n"),
+    "\\b": lambda before, after: sum(words(before, after)) == 1,
+    "\\B": lambda before, after: sum(words(before, after)) != 1 and not is_cut(before, after),
+}
+
+
+# ---- programs
+
+
+class Program:
+    """The nodes that stand for a tree, each as what it is, its ordered edges to other nodes, and the slot, the
+    look or the set that it has. A tree's nodes are made after those that they lead on to."""
+
+    def __init__(self, tree):
+        self.nodes = [("match", [], None)]
+        self.start = self.group(0, tree, 0)
+
+    def add(self, kind, edges, has=None):
+        self.nodes.append((kind, edges, has))
+        return len(self.nodes) - 1
+
+    def fork(self, into, on, is_greedy):
+        return self.add("pass", [into, on] if is_greedy else [on, into])
+
+    def group(self, number, inside, on):
+        """A node that notes the start, what is inside, and one that notes the end."""
+        end = self.add("note", [on], 2 * number + 1)
+        return self.add("note", [self.code(inside, end)], 2 * number)
+
+    def code(self, tree, on):
+        """Adds nodes for a tree from which walks go on to the node `on`. Answers the node that is entered."""
+        if isinstance(tree, Set):
+            return self.add("set", [on], tree.has)
+        if isinstance(tree, Look):
+            return self.add("look", [on], LOOKS[tree.text])
+        if isinstance(tree, Group):
+            return self.group(tree.number, tree.inside, on)
+        if isinstance(tree, Alternation):
+            return self.add("pass", [self.code(part, on) for part in tree.parts])
+        if isinstance(tree, Concat):
+            for part in reversed(tree.parts):
+                on = self.code(part, on)
+            return on
+        if isinstance(tree, Repeat) and tree.most != 0:
+            return self.repeat(tree, on)
+        return self.add("pass", [on])
+
+    def repeat(self, tree, on):
+        """The least number of copies; then optional ones, each inside the one before, or a loop. Where what may
+        be empty is repeated, `*` is an optional `+`."""
+        first, copies = on, tree.least
+        if tree.most is not None:
+            for _ in range(tree.most - tree.least):
+                first = self.fork(self.code(tree.inside, first), on, tree.is_greedy)
+        elif tree.least > 0:
+            first, copies = self.loop(tree, on)[0], tree.least - 1
+        elif may_be_empty(tree.inside):
+            first = self.fork(self.loop(tree, on)[0], on, tree.is_greedy)
+        else:
+            first = self.loop(tree, on)[1]
+        for _ in range(copies):
+            first = self.code(tree.inside, first)
+        return first
+
+    def loop(self, tree, on):
+        """A fork into what is repeated and on, to which that leads back. Answers the first node of what is
+        repeated, and the fork."""
+        edges = []
+        fork = self.add("pass", edges)
+        into = self.code(tree.inside, fork)
+        edges.extend([into, on] if tree.is_greedy else [on, into])
+        return into, fork
+
+
+# ---- searches
+
+
+class Search:
+    """Searches of a content for a tree, with a slice, outside of which nothing is seen, and a span, in which a
+    match has to lie. Both are whole contents if not told; ends beyond the content are as its end."""
+
+    def __init__(self, tree, content, slice_=None, span=None, is_anchored=False):
+        self.program, self.content, self.is_anchored = Program(tree), content, is_anchored
+        self.slice, self.span = slice_ or (0, len(content)), span or (0, len(content))
+        self.low = max(self.slice[0], self.span[0])
+        self.high = min(self.slice[1], self.span[1], len(content))
+        self.groups, self.known = group_numbers(tree), {}
+
+    def holds(self, look, place):
+        """Whether a look holds at a place, in the content cut to the slice."""
+        return look(self.content[self.slice[0] : place], self.content[place : self.slice[1]])
+
+    def least_walk(self, node, place, taken=frozenset()):
+        """The least walk from a node at a place, as where it ends and what it notes, or None. No pair of node
+        and place is taken twice: none of the nodes that were taken at this place, and a read leads to a further
+        place, where none was. The first edge that some walk goes on by is the least one's."""
+        key = node, place, taken
+        if key not in self.known:
+            self.known[key] = None if node in taken else self.walk_by_edges(node, place, taken | {node})
+        return self.known[key]
+
+    def walk_by_edges(self, node, place, taken):
+        kind, edges, has = self.program.nodes[node]
+        if kind == "match":
+            return place, ()
+        if kind == "look" and not self.holds(has, place):
+            return None
+        if kind == "set":
+            character = first_character(self.content[place : self.high])
+            is_read = character is not None and has(character)
+            return self.least_walk(edges[0], place + len(character.encode())) if is_read else None
+        walks = (self.least_walk(edge, place, taken) for edge in edges)
+        walk = next((walk for walk in walks if walk), None)
+        return (walk[0], ((has, place),) + walk[1]) if walk and kind == "note" else walk
+
+    def find(self, start):
+        """The least walk of the least start that counts, as the places in its slots, or None. Starts are the
+        places from `start` on, or that one alone. An empty walk counts only at the content's end and before a
+        byte that continues no character. A slot has the place that was noted last."""
+        last = min(start, self.high) if self.is_anchored else self.high
+        for place in range(start, last + 1):
+            walk = self.least_walk(self.program.start, place) if place >= self.low else None
+            if walk and (walk[0] != place or self.content[place : place + 1] not in CONTINUE):
+                return dict(walk[1])
+        return None
+
+    def matches(self):
+        """All matches, each as the spans of its groups, None for one that is absent. Each further match is the
+        find from the end of the one before, or, where that is empty there, from the next place."""
+        found, slots = [], self.find(self.span[0])
+        while slots:
+            found.append([(slots[2 * k], slots[2 * k + 1]) if 2 * k in slots else None for k in self.groups])
+            end = slots[1]
+            slots = self.find(end)
+            if slots and slots[0] == slots[1] == end:
+                slots = self.find(end + 1)
+        return found
