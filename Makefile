@@ -23,9 +23,10 @@ all: $(program)
 
 $(program): crate := rope_search_cli
 bin/memory-tests: crate := memory_tests
+bin/search-tests: crate := search_tests
 
 # rt builds a program only once it is proved, and then runs it: here on empty input.
-$(program) bin/memory-tests: $(sources)
+$(program) bin/memory-tests bin/search-tests: $(sources)
 	@:$(need_rt)
 	cd crates/$(crate) && $(RT) run < /dev/null
 	@mkdir -p $(@D)

@@ -78,7 +78,8 @@ class Maker:
             return self.random.choice([c for c in CHARACTERS if tree.has(c)] or [""])
         if isinstance(tree, Repeat):
             count = tree.least + self.random.choice([0, 0, 1, 1, 2])
-            return "".join(self.word(tree.inside) for _ in range(count if tree.most is None else min(count, tree.most)))
+            count = count if tree.most is None else min(count, tree.most)
+            return "".join(self.word(tree.inside) for _ in range(count))
         if isinstance(tree, Alternation):
             return self.word(self.random.choice(tree.parts))
         if isinstance(tree, Concat):

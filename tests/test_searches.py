@@ -19,7 +19,8 @@ from walks import LOOKS, Alternation, Concat, Empty, Group, Look, Repeat, Search
 SIZES = (0, 1, 2, 3)  # how many bytes a piece has; 0: all are one piece
 RANDOM_CASES, BROKEN_HAYSTACKS = 1_500, 400
 
-# Patterns, haystacks, and what is found in them, of the slice, the span and the anchoring that follow.
+# Patterns, haystacks and their answers; where not all is asked for as it is at first, also the slice, the span, and
+# whether matches start at the span's start alone.
 VECTORS = [
     ("\\b", "a b c", "0-0 1-1 2-2 3-3 4-4 5-5"),
     ("x*", "x", "0-1"),
@@ -32,32 +33,38 @@ VECTORS = [
     ("x*", "せ", "0-0 3-3"),
     ("$|:", ":a", "0-1 2-2"),
     ("a", "ba", "1-2"),
+    ("a|ab", "ab", "0-1"),
+    ("(a+?)(a*)", "aaa", "0-3,0-1,1-3"),
     ("", "", "0-0"),
     ("\\B", "", "0-0"),
     ("\\b", "é", "0-0 2-2"),
     ("(a){0}b", "ab", "1-2,-"),
+    ("(" * 250 + "a" + ")" * 250, "a", ",".join(["0-1"] * 251)),
     # After the turn that reads `b` none is taken that reads nothing: it would lead to the same fork again.
     ("(b|)+", "b", "0-1,0-1"),
     ("(a*)*", "b", "0-0,0-0 1-1,1-1"),
     # A group keeps what it had in an earlier turn.
     ("(?:(a)|b)+", "ab", "0-2,0-1"),
-    ("a|ab", "ab", "0-1"),
-    ("(a+?)(a*)", "aaa", "0-3,0-1,1-3"),
-    # Looks see the slice alone, and all of it.
-    ("foo$", "xfoox", "1-4", (1, 4)),
-    ("^foo$", "xfoox", "1-4", (1, 4)),
-    ("^foo$", "xfoox", "", (0, 5), (1, 4)),
-    ("\\bfoo\\b", "xfoox", "", (0, 5), (1, 4)),
-    ("\\Bfoo\\B", "xfoox", "1-4", (0, 5), (1, 4)),
+    # Looks see the slice, all of it and nothing else.
+    ("foo$", "xfoox", "1-4", ((1, 4), (1, 4), False)),
+    ("^foo$", "xfoox", "1-4", ((1, 4), (1, 4), False)),
+    ("^foo$", "xfoox", "", ((0, 5), (1, 4), False)),
+    ("\\bfoo\\b", "xfoox", "", ((0, 5), (1, 4), False)),
+    ("\\Bfoo\\B", "xfoox", "1-4", ((0, 5), (1, 4), False)),
     # A cut character is no word character, and beside it stands no `\B`.
-    ("\\B", "éé", "", (1, 3)),
-    ("\\b|\\B", "aé", "0-0 1-1", (0, 2)),
+    ("\\B", "éé", "", ((1, 3), (1, 3), False)),
+    ("\\b|\\B", "aé", "0-0 1-1", ((0, 2), (0, 2), False)),
     # A span may end past the content, start past it, or start past its end.
-    ("a*", "aa", "1-2", (0, 9), (1, 9)),
-    ("a*", "aa", "", (0, 9), (3, 9)),
-    ("a*", "aa", "", (0, 2), (2, 1)),
-    ("b", "ab", "", (0, 2), (0, 2), True),
-    ("b", "abb", "1-2 2-3", (0, 3), (1, 3), True),
+    ("a*", "aa", "1-2", ((0, 9), (1, 9), False)),
+    ("a*", "aa", "", ((0, 9), (3, 9), False)),
+    ("a*", "aa", "", ((0, 2), (2, 1), False)),
+    ("b", "ab", "", ((0, 2), (0, 2), True)),
+    ("b", "abb", "1-2 2-3", ((0, 3), (1, 3), True)),
+    # Why there is no answer.
+    ("(", "a", "the pattern isn't in the grammar"),
+    ("(" * 251 + "a" + ")" * 251, "a", "the pattern is nested too deeply"),
+    ("a" * 65_537, "a", "the pattern has more than 65,536 bytes"),
+    ("a{65535}{65535}", "a", "the patterns are too large"),
 ]
 
 A, ACUTE, WORD, ANY = character("a"), character("é"), Set("\\w", is_word), Set("(?s:.)", lambda c: True)
@@ -72,10 +79,11 @@ SMALL_TREES = [Look(text) for text in LOOKS] + [
 ]
 SMALL_HAYSTACKS = ["a a", "éa", "aaé\n", "a\na", "せ", "🐸a"]
 
-# What haystacks that are no UTF-8 are made of: characters, parts of them, a surrogate, a character spelled in more
+# What haystacks that are no UTF-8 are made of: characters; parts of them; a surrogate, a character spelled in more
 # bytes than it takes, a number past the last character, and a byte that no character has.
-UNITS = [text.encode() for text in "aab \né せ🐸"] + [b"\xc3", b"\xe3\x81", b"\x81", b"\xf0\x9f\x90", b"\xf0", b"\x9f\x90"]
-UNITS += [b"\xed\xa0\x80", b"\xc0\x81", b"\xf4\x90\x80\x80", b"\xff", b"\x80"]
+UNITS = [text.encode() for text in "aab \néせ🐸"]
+UNITS += [b"\xc3", b"\xe3\x81", b"\x81", b"\xf0\x9f\x90", b"\xf0", b"\x9f\x90", b"\x80"]
+UNITS += [b"\xed\xa0\x80", b"\xc0\x81", b"\xf4\x90\x80\x80", b"\xff"]
 
 NO_MEMORY = [b"there was no memory for the program\n", b"no memory\n"]
 
@@ -96,7 +104,7 @@ class Case:
 
     def __str__(self):
         asked = f" (slice, span, anchored: {self.asked})" if self.asked else ""
-        return f"{self.pattern!r} in {self.haystack!r}, pieces of {self.size}{asked}"
+        return f"{self.pattern[:70]!r} in {short(self.haystack)}, pieces of {self.size}{asked}"
 
 
 def written(matches):
@@ -139,11 +147,8 @@ def table():
 
 
 def vectors():
-    for size, (pattern, text, answer, *asked) in itertools.product(SIZES, VECTORS):
-        haystack = text.encode()
-        slice_, span, is_anchored = (*asked, None, None, None)[:3]
-        asked = (slice_, span or slice_, bool(is_anchored)) if asked else None
-        yield Case(pattern, haystack, answer, size, asked)
+    for size, (pattern, haystack, answer, *asked) in itertools.product(SIZES, VECTORS):
+        yield Case(pattern, haystack.encode(), answer, size, *asked)
 
 
 def asked_at_random(chance, length):

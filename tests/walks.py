@@ -6,26 +6,22 @@ Places are byte indices into a content, which may be any bytes.
 import sys
 import unicodedata
 from dataclasses import dataclass
-from typing import Callable, Optional, Tuple
+from typing import Any, Callable, Optional, Tuple
 
 sys.setrecursionlimit(20_000)  # a walk takes some calls for each node
 CONTINUE = {bytes([byte]) for byte in range(0x80, 0xC0)}  # the bytes that continue a character
 
 
-# ---- patterns
-
-
-class Tree:
-    """What a pattern spells."""
+# ---- patterns, as trees
 
 
 @dataclass(frozen=True)
-class Empty(Tree):
+class Empty:
     """No item."""
 
 
 @dataclass(frozen=True)
-class Set(Tree):
+class Set:
     """One character of a set, which `text` spells."""
 
     text: str
@@ -33,39 +29,39 @@ class Set(Tree):
 
 
 @dataclass(frozen=True)
-class Look(Tree):
-    """What has to stand around a place, a key of LOOKS."""
+class Look:
+    """What has to stand around a place: a key of LOOKS."""
 
     text: str
 
 
 @dataclass(frozen=True)
-class Group(Tree):
-    """A group with a number. Groups are numbered from 1 by where they open."""
+class Group:
+    """A tree with a number. Groups are numbered from 1 by where they open."""
 
     number: int
-    inside: Tree
+    inside: Any
 
 
 @dataclass(frozen=True)
-class Concat(Tree):
+class Concat:
     """Two trees or more, one after the other."""
 
-    parts: Tuple[Tree, ...]
+    parts: Tuple[Any, ...]
 
 
 @dataclass(frozen=True)
-class Alternation(Tree):
+class Alternation:
     """One of two trees or more, an earlier one preferred."""
 
-    parts: Tuple[Tree, ...]
+    parts: Tuple[Any, ...]
 
 
 @dataclass(frozen=True)
-class Repeat(Tree):
+class Repeat:
     """So many of a tree, from the least number to the most (None: any), as many as may be or as few."""
 
-    inside: Tree
+    inside: Any
     least: int
     most: Optional[int]
     is_greedy: bool = True
@@ -73,32 +69,34 @@ class Repeat(Tree):
 
 def below(tree):
     """The trees that a tree is made of."""
-    return getattr(tree, "parts", None) or ((tree.inside,) if hasattr(tree, "inside") else ())
+    if isinstance(tree, (Concat, Alternation)):
+        return tree.parts
+    return [tree.inside] if isinstance(tree, (Group, Repeat)) else []
 
 
-def spelled(tree, looks=None, bare=0):
-    """The pattern that spells a tree. `looks` has other spellings of looks. `bare` says what needs no `(?:` and
-    `)` around it where the tree stands: 0 all, 1 all but alternations, 2 neither these nor rows, 3 only atoms."""
+def postfix(tree):
+    """What spells a repetition, behind what is repeated."""
+    counts = f"{{{tree.least}}}" if tree.least == tree.most else f"{{{tree.least},{tree.most or ''}}}"
+    short = {(0, None): "*", (1, None): "+", (0, 1): "?"}
+    return short.get((tree.least, tree.most), counts) + ("" if tree.is_greedy else "?")
 
-    def inner(part, bare):
-        return spelled(part, looks, bare)
 
-    if isinstance(tree, (Set, Look)):
-        return (looks or {}).get(tree.text, tree.text) if isinstance(tree, Look) else tree.text
+def spelled(tree, looks=None, level=0):
+    """The pattern that spells a tree; `looks` has other spellings of looks. The level tells what is put between
+    `(?:` and `)`: at 1 alternations, at 2 also what is in a row or empty, at 3 also repetitions."""
+    if isinstance(tree, Set):
+        return tree.text
+    if isinstance(tree, Look):
+        return (looks or {}).get(tree.text, tree.text)
     if isinstance(tree, Group):
-        return f"({inner(tree.inside, 0)})"
-    if isinstance(tree, Repeat):
-        least, most = tree.least, "" if tree.most is None else tree.most
-        postfix = {(0, ""): "*", (1, ""): "+", (0, 1): "?"}.get((least, most), f"{{{least},{most}}}")
-        postfix = f"{{{least}}}" if least == most else postfix
-        text, needs = inner(tree.inside, 3) + postfix + ("" if tree.is_greedy else "?"), 3
-    elif isinstance(tree, Concat):
-        text, needs = "".join(inner(part, 2) for part in tree.parts), 2
-    elif isinstance(tree, Alternation):
-        text, needs = "|".join(inner(part, 1) for part in tree.parts), 1
+        return f"({spelled(tree.inside, looks)})"
+    if isinstance(tree, Alternation):
+        text, needs = "|".join(spelled(part, looks, 1) for part in tree.parts), 1
+    elif isinstance(tree, Repeat):
+        text, needs = spelled(tree.inside, looks, 3) + postfix(tree), 3
     else:
-        text, needs = "", 2
-    return f"(?:{text})" if bare >= needs else text
+        text, needs = "".join(spelled(part, looks, 2) for part in below(tree)), 2
+    return f"(?:{text})" if level >= needs else text
 
 
 def group_numbers(tree):
@@ -196,6 +194,7 @@ class Program:
         return len(self.nodes) - 1
 
     def fork(self, into, on, is_greedy):
+        """A node with edges into what is repeated and on, the first preferred where it is greedy."""
         return self.add("pass", [into, on] if is_greedy else [on, into])
 
     def group(self, number, inside, on):
@@ -239,12 +238,12 @@ class Program:
         return first
 
     def loop(self, tree, on):
-        """A fork into what is repeated and on, to which that leads back. Answers the first node of what is
-        repeated, and the fork."""
-        edges = []
-        fork = self.add("pass", edges)
+        """A fork into what is repeated and on, and what is repeated, which leads back to it. Answers the first
+        node of what is repeated, and the fork."""
+        fork = self.fork(None, on, tree.is_greedy)
         into = self.code(tree.inside, fork)
-        edges.extend([into, on] if tree.is_greedy else [on, into])
+        edges = self.nodes[fork][1]
+        edges[edges.index(None)] = into
         return into, fork
 
 

@@ -1,10 +1,11 @@
 -- What a builder builds of a pattern, and what searches with an engine answer.
-use Rattle.std.proofs.Common.{◌≡◌, ℕ, ◌<◌, ◌≤◌, ◌⊎◌, Bool, true, List, [], ◌∷◌, ◌++◌, length, take, drop, Result, Ok, Err, IfOk, Option, Some, None, is_some, option_map, unwrap_or, chars, refl, sym, ap, subst, ◌∙◌, inl, inr}
+use Rattle.std.proofs.Common.{◌≡◌, ℕ, ◌<◌, ◌≤◌, ◌⊎◌, Bool, true, List, [], ◌∷◌, ◌++◌, length, take, drop, Result, Ok, Err, IfOk, Option, Some, None, is_some, option_map, unwrap_or, chars, refl, sym, ap, subst, ◌∙◌, inl, inr, arith}
 use Rattle.std.proofs.Math.Seq.{take-append_seam}
+use Rattle.std.proofs.lemmas.List.{length-replicate}
 use Rattle.std.proofs.lemmas.Option.{none-some}
 use Rattle.rx_sets.specs.Sets.{Range}
-use Rattle.rx_captures.specs.Groups.{Groups}
-use Rattle.rx_captures.specs.Captured.{Captured}
+use Rattle.rx_captures.specs.Groups.{Groups, slot_len}
+use Rattle.rx_captures.specs.Captured.{Captured, nothing_noted}
 use Rattle.rx_captures.specs.Lending.{with_slots}
 use Rattle.rx_grammar.specs.declared.error.SyntaxError.{SyntaxError}
 use Rattle.rx_grammar.specs.declared.error.SyntaxError.TheVariants as syntax
@@ -23,7 +24,7 @@ use Rattle.rx_program.specs.Programs.{ByteProgram, characters_of}
 use Rattle.rx_program.specs.Sizes.{IsTooLarge, told_limit, weight_of_all}
 use Rattle.rx_threads.specs.Threads.{Slots}
 use Rattle.rx_threads.specs.Searching.{IsAnswer}
-use Rattle.rx_chunk.specs.Engines.{Engine, Wanted, AreGroupsOf, IsOfTree, IsBuiltOf, IsRefused, too_long, nesting, outside, too_large, memory, refusal_of, match_of, TellsWhether, IsFound}
+use Rattle.rx_chunk.specs.Engines.{Engine, Wanted, AreGroupsOf, IsOfTree, IsEngine, IsBuiltOf, IsRefused, too_long, nesting, outside, too_large, memory, refusal_of, match_of, TellsWhether, IsFound}
 
 -- ---- what is built
 
@@ -83,6 +84,17 @@ built text wanted p groups utf8_empty tree terminator formed spells fits is are 
   line_terminator = ap (λ (q : Program walks.Look (List Range)). q.line_terminator) is ∙ set;
   utf8_empty = set';
 }
+
+-- there are slots for the whole match
+two_slots : (e : Engine) → IsEngine e → 2 ≤ slot_len e.groups
+two_slots e of_a_tree =
+    let alone : length e.groups ≡ 1 = ap length of_a_tree.1.groups.groups_are in
+    omega (arith, alone)
+
+pub room_for_match : (e : Engine) (caps : Captured) → IsEngine e → caps ≡ nothing_noted e.groups (slot_len e.groups) → 2 ≤ length caps.slots
+room_for_match e caps of_a_tree is =
+    let len : length caps.slots ≡ slot_len e.groups = ap (λ c. length c.slots) is ∙ length-replicate (slot_len e.groups) None in
+    omega (arith, len, two_slots e of_a_tree)
 
 -- ---- what is found
 

@@ -17,6 +17,7 @@ ghost use Rattle.rx_threads.specs.Searching.{search_of, IsAnswer};
 ghost use Rattle.rx_threads.specs.Coming.{IsCacheOf};
 ghost use Rattle.rx_chunk.specs.Engines.{nothing_set, settings_over, AreNamesOf, IsEngine, IsBuiltOf, IsRefused, TellsWhether, IsFound, refusal_of, by_default, AreGroupsOf};
 ghost use Rattle.rx_chunk.specs.Iterating.{IsFoundAfter, StartsFrom, matches_from};
+ghost use Rattle.rx_chunk.specs.Searchers.{EndsInside};
 ghost use Rattle.rx_chunk.specs.FindMatches.{cache_of, left_of};
 
 use rx_threads as search;
@@ -311,6 +312,7 @@ impl PikeVM {
     pub fn create_captures(&self, alloc: Global) -> Result<Captures, MatchError>
         ensures made { IfOk result (λ caps. caps
             ≡ nothing_noted self.now.groups (slot_len self.now.groups)) }
+        ensures room { IfOk result (λ caps. 2 ≤ length caps.slots) }
         ensures refused { IfErr result (λ error. error ≡ MatchError.Memory) }
     {
         Captures::all(alloc, &self.groups)
@@ -407,6 +409,8 @@ pub fn search<C: Cursor>(
         → IsFound vm.now.program (search_of vm.now.utf8_empty input.old) (match_found caps.new)) }
     ensures ordered { OnOk result (caps.old.groups ≡ vm.now.groups → 2 ≤ length caps.old.slots
         → ForSome (group_span caps.new 0) (λ span. span.start ≤ span.end)) }
+    ensures inside { OnOk result (caps.old.groups ≡ vm.now.groups → 2 ≤ length caps.old.slots
+        → ForSome (match_found caps.new) (λ found. EndsInside input.old found.span.end)) }
     ensures groups { caps.new.groups ≡ caps.old.groups }
     ensures slot_len { length caps.new.slots ≡ length caps.old.slots }
     ensures no_answer { OnErr result (caps.new.pattern ≡ None) }
@@ -419,6 +423,7 @@ pub fn search<C: Cursor>(
     matches_note_their_places();
     finds_lie_inside::<CharacterSet>();
     let _groups = vm.group_info(); // tells that the program is that of a tree
+    let _at = input.position(); // tells how long the content may be
     caps.set_pattern(None);
     let pattern = search_slots(vm, cache, input, caps.slots_mut())?;
     caps.set_pattern(pattern);

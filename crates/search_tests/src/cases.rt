@@ -1,7 +1,11 @@
 //! One case: a pattern searched for in a haystack that lies in pieces.
 
+ghost use Rattle.std.specs.Prelude.{◌≡◌, ◌^◌, ◌<◌, ◌≤◌, IfOk, length};
+ghost use Rattle.rx_threads.specs.Coming.{IsCacheOf};
+ghost use Rattle.rx_input.specs.Chunks.{joined};
+
+use hex::FromHexError;
 use rx_captures::{Anchored, Captures, Match, MatchError, PatternID, Span};
-use rx_chunk::iter::Searcher;
 use rx_chunk::pikevm::{self, Cache, PikeVM};
 use rx_input::{ChunkCursor, Input};
 use rx_program::BuildError;
@@ -9,7 +13,7 @@ use std::alloc::{AllocError, Global};
 use thiserror::Error;
 
 /// What is asked of an input beside the pattern: its slice, its span, and whether matches start at
-/// the span's start alone.
+/// the span's start alone. One that starts more than a place past its end isn't asked for.
 #[derive(Drop)]
 struct Asked {
     slice: Span,
@@ -47,9 +51,14 @@ fn number(parts: &[&str], index: usize) -> Option<usize> {
 }
 
 /// An input over pieces of a haystack.
-fn input<'a>(pieces: &'a [&'a [u8]], asked: &Option<Asked>) -> Input<ChunkCursor<'a>> {
+fn input<'a>(pieces: &'a [&'a [u8]], asked: &Option<Asked>) -> Input<ChunkCursor<'a>>
+    requires { length (joined pieces.now) < 2 ^ 63 }
+{
     let mut input = Input::new(ChunkCursor::new(pieces));
-    if let Some(asked) = asked {
+    if let Some(asked) = asked
+        && asked.slice.start <= asked.slice.end.saturating_add(1)
+        && asked.span.start <= asked.span.end.saturating_add(1)
+    {
         input.slice_span(asked.slice);
         input.set_span(asked.span);
         if asked.is_anchored {
@@ -72,8 +81,8 @@ pub enum Fault {
     #[error("no memory")]
     Memory,
     /// Two calls that should agree don't.
-    #[error("{0} differs")]
-    Differs(&'static str),
+    #[error("calls differ")]
+    Differs,
 }
 
 impl From<AllocError> for Fault {
@@ -88,23 +97,29 @@ impl From<MatchError> for Fault {
     }
 }
 
-/// Bytes that are written in hexadecimal digits.
-fn bytes(alloc: Global, digits: &str) -> Result<Vec<u8>, Fault> {
-    match hex::decode(alloc, digits) {
+/// The part of a line with this index, which is bytes in hexadecimal digits.
+fn bytes(alloc: Global, parts: &[&str], index: usize) -> Result<Vec<u8>, Fault> {
+    let Some(digits) = parts.get(index) else {
+        return Err(Fault::Line);
+    };
+    match hex::decode(alloc, *digits) {
         Ok(bytes) => Ok(bytes),
+        Err(FromHexError::OutOfMemory) => Err(Fault::Memory),
         Err(_) => Err(Fault::Line),
     }
 }
 
-/// A haystack cut into pieces of so many bytes, the last one shorter.
-fn pieces(alloc: Global, haystack: &[u8], size: usize) -> Result<Vec<&[u8]>, AllocError> {
+/// A haystack cut into pieces of so many bytes, the last one shorter. With 0 it is one piece.
+fn pieces(alloc: Global, haystack: &[u8], size: usize) -> Result<Vec<&[u8]>, AllocError>
+    ensures { IfOk result (λ pieces. joined pieces.items ≡ haystack.now) }
+{
     let mut pieces = Vec::new(alloc);
-    if size == 0 {
-        pieces.push(haystack)?;
-        return Ok(pieces);
-    }
-    for piece in haystack.chunks(size) {
+    let size = if size == 0 { haystack.len() } else { size };
+    let mut rest = haystack;
+    while !rest.is_empty() {
+        let (piece, behind) = rest.split_at(size.max(1).min(rest.len()));
         pieces.push(piece)?;
+        rest = behind;
     }
     Ok(pieces)
 }
@@ -112,16 +127,15 @@ fn pieces(alloc: Global, haystack: &[u8], size: usize) -> Result<Vec<&[u8]>, All
 /// The answer to a case.
 pub fn answer(alloc: Global, line: &str) -> Result<String, Fault> {
     let parts: Vec<&str> = line.split(',').collect(alloc)?;
-    let (Some(size), Some(pattern), Some(haystack)) = (number(&parts, 0), parts.get(1), parts.get(2))
-    else {
+    let Some(size) = number(&parts, 0) else {
         return Err(Fault::Line);
     };
     let asked = Asked::read(&parts);
-    let pattern = bytes(alloc, pattern)?;
+    let haystack = bytes(alloc, &parts, 2)?;
+    let pattern = bytes(alloc, &parts, 1)?;
     let Ok(pattern) = str::from_utf8(&pattern) else {
         return Err(Fault::Line);
     };
-    let haystack = bytes(alloc, haystack)?;
     let vm = match PikeVM::new(alloc, pattern) {
         Ok(vm) => vm,
         Err(error) => return Err(Fault::Pattern(error)),
@@ -131,52 +145,98 @@ pub fn answer(alloc: Global, line: &str) -> Result<String, Fault> {
 }
 
 /// Searches for all matches, and tells their groups.
-fn search_all(
+fn search_all<'a>(
     alloc: Global,
-    vm: &PikeVM,
-    pieces: &[&[u8]],
+    vm: &'a PikeVM,
+    pieces: &'a [&'a [u8]],
     asked: &Option<Asked>,
-) -> Result<String, Fault> {
-    let mut out = String::new(alloc);
+) -> Result<String, Fault>
+    requires { length (joined pieces.now) < 2 ^ 63 }
+{
     let mut cache = vm.create_cache(alloc)?;
     let mut caps = vm.create_captures(alloc)?;
-    let mut searcher = Searcher::new(input(pieces, asked));
-    let mut found = spans(alloc, vm, pieces, asked)?.into_iter();
-    for _ in 0..u64::MAX {
-        let next = searcher.try_advance(|input| -> Result<Option<Match>, MatchError> {
-            pikevm::search(vm, &mut cache, input, &mut caps)?;
-            Ok(caps.get_match())
-        })?;
-        if next != found.next() {
-            return Err(Fault::Differs("find_iter"));
-        }
-        if next.is_none() {
-            break;
+    let mut input = input(pieces, asked);
+    let is_match = pikevm::is_match(vm, &mut cache, &mut input)?;
+    let found = spans(alloc, vm, input.clone())?;
+    let mut out = String::new(alloc);
+    let mut last = None;
+    for wanted in &found {
+        let next = next_match(vm, &mut cache, &mut input, &mut caps, last)?;
+        if next != Some(*wanted) {
+            return Err(Fault::Differs);
         }
         tell(alloc, &mut out, vm, &caps)?;
+        last = Some(wanted.end());
+    }
+    let next = next_match(vm, &mut cache, &mut input, &mut caps, last)?;
+    if next.is_some() || is_match != last.is_some() {
+        return Err(Fault::Differs);
     }
     Ok(out)
 }
 
 /// The matches that `find_iter` gives.
-fn spans(
+fn spans<'a>(
     alloc: Global,
-    vm: &PikeVM,
-    pieces: &[&[u8]],
-    asked: &Option<Asked>,
+    vm: &'a PikeVM,
+    input: Input<ChunkCursor<'a>>,
 ) -> Result<Vec<Match>, Fault> {
     let mut cache = vm.create_cache(alloc)?;
-    let mut input = input(pieces, asked);
-    let is_match = pikevm::is_match(vm, &mut cache, &mut input)?;
     let mut found = Vec::new(alloc);
     for next in pikevm::find_iter(vm, &mut cache, input) {
-        let next = next?;
-        found.push(next).map_err(|_| Fault::Memory)?;
-    }
-    if is_match == found.is_empty() {
-        return Err(Fault::Differs("is_match"));
+        found.push(next?).map_err(|_| Fault::Memory)?;
     }
     Ok(found)
+}
+
+/// The match that is found from the end of the last one on. An empty one there is passed over.
+fn next_match(
+    vm: &PikeVM,
+    cache: &mut Cache,
+    input: &mut Input<ChunkCursor>,
+    caps: &mut Captures,
+    last: Option<usize>,
+) -> Result<Option<Match>, MatchError>
+    requires made { IsCacheOf vm.now.program cache.old }
+    requires groups { caps.old.groups ≡ vm.now.groups }
+    requires slots { 2 ≤ length caps.old.slots }
+    ensures made { IsCacheOf vm.now.program cache.new }
+    ensures groups { caps.new.groups ≡ vm.now.groups }
+    ensures slots { 2 ≤ length caps.new.slots }
+{
+    let start = last.unwrap_or(input.start());
+    let found = find_from(vm, cache, input, caps, start)?;
+    let is_passed = match found {
+        Some(found) => found.is_empty() && last == Some(found.end()),
+        None => false,
+    };
+    if is_passed {
+        return find_from(vm, cache, input, caps, start.saturating_add(1));
+    }
+    Ok(found)
+}
+
+/// The match that is found from a place on, if the span goes so far.
+fn find_from(
+    vm: &PikeVM,
+    cache: &mut Cache,
+    input: &mut Input<ChunkCursor>,
+    caps: &mut Captures,
+    start: usize,
+) -> Result<Option<Match>, MatchError>
+    requires made { IsCacheOf vm.now.program cache.old }
+    requires groups { caps.old.groups ≡ vm.now.groups }
+    requires slots { 2 ≤ length caps.old.slots }
+    ensures made { IsCacheOf vm.now.program cache.new }
+    ensures groups { caps.new.groups ≡ vm.now.groups }
+    ensures slots { 2 ≤ length caps.new.slots }
+{
+    if start > input.end() {
+        return Ok(None);
+    }
+    input.set_start(start);
+    pikevm::search(vm, cache, input, caps)?;
+    Ok(caps.get_match())
 }
 
 /// Writes the groups of a match.

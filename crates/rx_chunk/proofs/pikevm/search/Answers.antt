@@ -1,8 +1,11 @@
-use Rattle.std.proofs.Common.{◌≡◌, ◌≤◌, length, sym, ap, subst, ◌∙◌, arith}
+use Rattle.std.proofs.Common.{◌≡◌, ◌≤◌, ◌<◌, ◌^◌, false, Some, length, sym, ap, subst, ◌∙◌, arith}
 use Rattle.rx_captures.specs.Captured.{Captured}
 use Rattle.rx_threads.specs.Searching.{search_of, IsAnswer}
+use Rattle.rx_chunk.specs.Engines.{IsFound}
+use Rattle.rx_chunk.specs.Iterating.{IsFoundAfter}
 use Rattle.rx_chunk.proofs.EngineLaws.{lent_slots}
 use Rattle.rx_chunk.proofs.FoundLaws.{AreFound, captured_found}
+use Rattle.rx_chunk.proofs.IterLaws.{found_ends}
 use Rattle.rx_chunk.proofs.pikevm.search.Goals as goal
 
 -- the answer in the captures as they are left
@@ -35,6 +38,16 @@ returns-clause-answer g c = answered g c
 
 pub returns-clause-found : goal.returns-clause-found
 returns-clause-found g c = λ same two. (told g c same two).found
+
+pub returns-clause-inside : goal.returns-clause-inside
+returns-clause-inside g c = λ same two a is.
+    let i = c.args.input.now in
+    let p = c.args.vm.now.program in
+    let s = search_of c.args.vm.now.utf8_empty i in
+    let found : IsFoundAfter p false s (Some a) = subst (λ o. IsFound p s o) is (told g c same two).found in
+    let ends = found_ends p false s a c.finds_lie_inside.ensures found in
+    let content : length i.cursor.content < 2 ^ 63 = c.position-at.ensures.holds.lawful.bound in
+    record { behind_start = ends.on; before_end = ends.in_span; fits = omega (arith, ends.in_content, content) }
 
 pub returns-clause-ordered : goal.returns-clause-ordered
 returns-clause-ordered g c = λ same two. (told g c same two).ordered

@@ -1,0 +1,11 @@
+use Rattle.std.proofs.Common.{◌≡◌, ◌≤◌, length}
+use Rattle.rx_threads.specs.Coming.{IsCacheOf}
+use Rattle.search_tests.proofs.cases.search_all.Given as goal
+
+-- the cache and the captures serve the engine
+abbrev pub invariant-loop-wanted : goal.invariant-loop-wanted
+invariant-loop-wanted l = record {
+  made : IsCacheOf l.vm.program l.cache;
+  groups : l.caps.groups ≡ l.vm.groups;
+  slots : 2 ≤ length l.caps.slots;
+}
