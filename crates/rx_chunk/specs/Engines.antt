@@ -120,4 +120,5 @@ TellsWhether p s is_there =
 
 -- what a search by the program finds, without its groups
 abbrev pub IsFound : ByteProgram → Search → Option Found → Type 0
-IsFound p s found = (out : Option (Outcome Notes)) × Finds p s out × (found ≡ option_map match_of out)
+IsFound p s found =
+    (out : Option (Outcome Notes)) × Finds p s out × (found ≡ option_map match_of out)

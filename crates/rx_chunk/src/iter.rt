@@ -70,7 +70,9 @@ impl<I: Searched> Searcher<I> {
     }
 
     /// The input, in which the next search is.
-    pub fn input(&mut self) -> &mut I {
+    pub fn input(&mut self) -> &mut I
+        ensures { I.state result.now ≡ self.old.input }
+    {
         &mut self.input
     }
 

@@ -356,7 +356,7 @@ impl Cache {
     /// then as it was.
     pub fn reset(&mut self, alloc: Global, vm: &PikeVM) -> Result<(), MatchError>
         ensures made { OnOk result (IsCacheOf vm.now.program self.new) }
-        ensures same { OnErr result (self.new ≡ self.old) }
+        ensures kept { OnErr result (self.new ≡ self.old) }
         ensures refused { IfErr result (λ error. error ≡ MatchError.Memory) }
     {
         self.room.reset(alloc, &vm.program)
@@ -551,8 +551,8 @@ fn find_next<C: Cursor>(
     find(vm, cache, input)
 }
 
-/// The matches in an input, one after the other. An empty match where the one before ended is passed
-/// over. Once the iterator is dropped the cache serves again.
+/// The matches in an input, one after the other. An empty match where the one before ended is
+/// passed over. Once the iterator is dropped the cache serves again.
 pub fn find_iter<'r, 'c, C: Cursor>(
     vm: &'r PikeVM,
     cache: &'c mut Cache,

@@ -57,7 +57,8 @@ slot_machine p h = over_bytes note_slot (automata_of p) (characters_of p).nodes 
 abbrev pub met_at : ℕ → Option ℕ → Slots → Option (Outcome Slots)
 met_at i met slots = option_map (λ k. record { pattern = k; end = i; notes = slots }) met
 
--- the step from these threads gives those, in order, and the pattern whose match ends, with its slots
+-- the step from these threads gives those, in order, and the pattern whose match ends, with its
+-- slots
 abbrev pub IsNextList : ByteProgram → Place → List Thread → List Thread → Option ℕ → Slots → Type 0
 IsNextList p place threads next met slots =
     (h : Haystack walks.Look) (i : ℕ) → IsPlace p.states h i place

@@ -43,7 +43,8 @@ abbrev pub answer_slots : ℕ → Option (Outcome Notes) → Slots
 answer_slots len None = no_slots len
 answer_slots len (Some t) = slots_from 0 len t.notes
 
--- what a search answers: the pattern that the program finds, and its slots, as many as are asked for
+-- what a search answers: the pattern that the program finds, and its slots, as many as are asked
+-- for
 pub record IsAnswer (p : ByteProgram) (s : Search) (pattern : Option ℕ) (slots : Slots)
     : Type 0 where
   pub found : Option (Outcome Notes)

@@ -1,0 +1,27 @@
+//! An example for each public type.
+
+use rx_captures::Span;
+use rx_chunk::pikevm::{self, PikeVM};
+use rx_input::{ChunkCursor, Input};
+use std::test::Fail;
+
+/// A match is told with its groups, and then all matches one after the other, in content that lies
+/// in pieces.
+#[test]
+fn groups_and_matches(rt: HostRuntime) -> Result<(), Fail> {
+    let vm = PikeVM::new(rt.alloc(), r"(?<name>\w+)@(\w+)")?;
+    let mut cache = vm.create_cache(rt.alloc())?;
+    let mut caps = vm.create_captures(rt.alloc())?;
+    let pieces: [&[u8]; 3] = [b"a frog@pond, ", b"to", b"ad@road"];
+    let mut input = Input::new(ChunkCursor::new(&pieces));
+    pikevm::search(&vm, &mut cache, &mut input, &mut caps)?;
+    assert_eq!(rt; caps.get_group(0), Some(Span { start: 2, end: 11 }));
+    assert_eq!(rt; caps.get_group_by_name("name"), Some(Span { start: 2, end: 6 }));
+    assert_eq!(rt; caps.get_group(2), Some(Span { start: 7, end: 11 }));
+    let mut last = None;
+    for found in pikevm::find_iter(&vm, &mut cache, input) {
+        last = Some(found?.span());
+    }
+    assert_eq!(rt; last, Some(Span { start: 13, end: 22 }));
+    Ok(())
+}

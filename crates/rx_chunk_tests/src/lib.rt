@@ -1,0 +1,10 @@
+//! Tests of `rx_chunk`: an example for each public type, settings, refusals, and matches one after
+//! the other.
+#![tactic(auto)]
+
+#[cfg(test)]
+mod engines;
+#[cfg(test)]
+mod examples;
+#[cfg(test)]
+mod searchers;

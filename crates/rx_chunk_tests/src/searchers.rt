@@ -1,0 +1,43 @@
+//! Matches that a searcher comes to, one after the other, by a finder.
+
+ghost use Rattle.std.specs.Prelude.{◌≡◌, IfOk};
+ghost use Rattle.std.specs.Option.{ForSome};
+ghost use Rattle.rx_chunk.specs.Searchers.{EndsInside};
+
+use rx_captures::{HalfMatch, Match, MatchError, PatternID, Span};
+use rx_chunk::iter::Searcher;
+use rx_chunk::pikevm::{self, PikeVM};
+use rx_input::Input;
+use std::alloc::Global;
+use std::test::Fail;
+
+/// The match that an engine finds, by a cache of its own.
+fn find(
+    alloc: Global,
+    vm: &PikeVM,
+    input: &mut Input<&str>,
+) -> Result<Option<Match>, MatchError>
+    ensures asked { input.new.asked ≡ input.old.asked }
+    ensures inside { IfOk result (λ found. ForSome found
+        (λ m. EndsInside input.old m.span.end)) }
+{
+    let mut cache = vm.create_cache(alloc)?;
+    let mut caps = vm.create_captures(alloc)?;
+    pikevm::search(vm, &mut cache, input, &mut caps)?;
+    Ok(caps.get_match())
+}
+
+/// An empty match where the one before ended is passed over.
+#[test]
+fn empty_matches(rt: HostRuntime) -> Result<(), Fail> {
+    let alloc = rt.alloc();
+    let vm = PikeVM::new(alloc, "x*")?;
+    let mut searcher = Searcher::new(Input::new("xせ"));
+    for wanted in [Some((0, 1)), Some((4, 4)), None] {
+        let found = searcher.try_advance(|input| find(alloc, &vm, input))?;
+        let found = found.map(|found| (found.start(), found.end()));
+        assert!(rt; found == wanted, "{found:?}");
+    }
+    assert_eq!(rt; searcher.input().get_span(), Span { start: 5, end: 4 });
+    Ok(())
+}
