@@ -20,7 +20,7 @@ SIZES = (0, 1, 2, 3)  # how many bytes a piece has; 0: all are one piece
 RANDOM_CASES, BROKEN_HAYSTACKS = 1_500, 400
 
 # Patterns, haystacks and their answers; where not all is asked for as it is at first, also the slice, the span, and
-# whether matches start at the span's start alone.
+# whether matches start at the span's start alone, and then perhaps the engine's settings.
 VECTORS = [
     ("\\b", "a b c", "0-0 1-1 2-2 3-3 4-4 5-5"),
     ("x*", "x", "0-1"),
@@ -60,6 +60,13 @@ VECTORS = [
     ("a*", "aa", "", ((0, 2), (2, 1), False)),
     ("b", "ab", "", ((0, 2), (0, 2), True)),
     ("b", "abb", "1-2 2-3", ((0, 3), (1, 3), True)),
+    # Empty matches inside a character are found where the engine is told so, and lines end where it is told so.
+    ("x*", "せ", "0-0 1-1 2-2 3-3", ((0, 9), (0, 9), False), (1,)),
+    ("x*", "せx", "0-0 3-4", ((0, 9), (0, 9), False), (0,)),
+    ("x*", "せ", "0-0 3-3", ((0, 9), (0, 9), False), (0, 10)),
+    ("^b", "a;b", "2-3", ((0, 9), (0, 9), False), (0, 59)),
+    ("a$|^b", "a\nb", "", ((0, 9), (0, 9), False), (0, 59)),
+    ("a$|^b", "a\nb", "0-1 2-3", ((0, 9), (0, 9), False), (1, 10)),
     # Why there is no answer.
     ("(", "a", "the pattern isn't in the grammar"),
     ("(" * 251 + "a" + ")" * 251, "a", "the pattern is nested too deeply"),
@@ -91,20 +98,22 @@ NO_MEMORY = [b"there was no memory for the program\n", b"no memory\n"]
 class Case:
     """A search, and what the program has to answer to it."""
 
-    def __init__(self, pattern, haystack, answer, size=0, asked=None):
+    def __init__(self, pattern, haystack, answer, size=0, asked=None, settings=()):
         self.pattern, self.haystack, self.answer, self.size = pattern, haystack, answer, size
         self.asked = asked  # the slice, the span, and whether matches start at the span's start alone
+        self.settings = settings  # 1 where empty matches inside a character are found, and the byte that ends lines
 
     def line(self):
         fields = [self.size, self.pattern.encode().hex(), self.haystack.hex()]
         if self.asked:
             slice_, span, is_anchored = self.asked
-            fields += [*slice_, *span, int(is_anchored)]
+            fields += [*slice_, *span, int(is_anchored), *self.settings]
         return ",".join(map(str, fields)) + "\n"
 
     def __str__(self):
         asked = f" (slice, span, anchored: {self.asked})" if self.asked else ""
-        return f"{self.pattern[:70]!r} in {short(self.haystack)}, pieces of {self.size}{asked}"
+        settings = f", settings {self.settings}" if self.settings else ""
+        return f"{self.pattern[:70]!r} in {short(self.haystack)}, pieces of {self.size}{asked}{settings}"
 
 
 def written(matches):

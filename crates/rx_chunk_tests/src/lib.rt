@@ -1,5 +1,4 @@
-//! Tests of `rx_chunk`: an example for each public type, settings, refusals, and matches one after
-//! the other.
+//! Tests of `rx_chunk`: an example, settings, refused patterns, and matches one after the other.
 #![tactic(auto)]
 
 #[cfg(test)]

@@ -6,7 +6,8 @@ ghost use Rattle.rx_input.specs.Chunks.{joined};
 
 use hex::FromHexError;
 use rx_captures::{Anchored, Captures, Match, MatchError, PatternID, Span};
-use rx_chunk::pikevm::{self, Cache, PikeVM};
+use rx_chunk::pikevm::{self, Builder, Cache, Config, PikeVM};
+use rx_grammar::syntax;
 use rx_input::{ChunkCursor, Input};
 use rx_program::BuildError;
 use std::alloc::{AllocError, Global};
@@ -124,6 +125,22 @@ fn pieces(alloc: Global, haystack: &[u8], size: usize) -> Result<Vec<&[u8]>, All
     Ok(pieces)
 }
 
+/// A builder with the settings that a line asks for: 1 where empty matches inside a character are
+/// found too, and the byte that ends lines.
+fn builder(parts: &[&str]) -> Builder {
+    let mut builder = Builder::new();
+    if let Some(1) = number(parts, 8) {
+        builder.configure(Config::new().utf8_empty(false));
+    }
+    if let Some(byte) = number(parts, 9)
+        && byte < 256
+    {
+        builder.configure(Config::new().line_terminator(byte as u8));
+        builder.syntax(syntax::Config::new().multi_line(true));
+    }
+    builder
+}
+
 /// The answer to a case.
 pub fn answer(alloc: Global, line: &str) -> Result<String, Fault> {
     let parts: Vec<&str> = line.split(',').collect(alloc)?;
@@ -136,7 +153,7 @@ pub fn answer(alloc: Global, line: &str) -> Result<String, Fault> {
     let Ok(pattern) = str::from_utf8(&pattern) else {
         return Err(Fault::Line);
     };
-    let vm = match PikeVM::new(alloc, pattern) {
+    let vm = match builder(&parts).build(alloc, pattern) {
         Ok(vm) => vm,
         Err(error) => return Err(Fault::Pattern(error)),
     };
@@ -157,6 +174,11 @@ fn search_all<'a>(
     let mut caps = vm.create_captures(alloc)?;
     let mut input = input(pieces, asked);
     let is_match = pikevm::is_match(vm, &mut cache, &mut input)?;
+    let pattern = pikevm::search_slots(vm, &mut cache, &mut input, &mut [None; 1])?;
+    if pattern.is_some() != is_match || cache.memory_usage() == 0 {
+        return Err(Fault::Differs);
+    }
+    cache.reset(alloc, vm)?;
     let found = spans(alloc, vm, input.clone())?;
     let mut out = String::new(alloc);
     let mut last = None;

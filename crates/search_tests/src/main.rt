@@ -1,7 +1,9 @@
 //! A program for tests of searches. Each line that it reads is a case: how many bytes a piece has
 //! (0: all are one piece), a pattern and a haystack, both in hexadecimal digits, parted by commas.
 //! Five numbers may follow: the ends of the slice and of the span, and 1 where matches start at the
-//! span's start alone. For each case it writes a line with all matches.
+//! span's start alone; then 1 where empty matches inside a character are found too; and then the
+//! byte that ends lines, where `^` and `$` are those of lines. For each case it writes a line with
+//! all matches.
 #![tactic(auto)]
 
 mod cases;
