@@ -235,7 +235,7 @@ where
 
     ghost next_gives = { λ it item left. GivesItem (λ r.
         Advances (finder_of F.FnMut I.state) end_of_half IsAtLast
-            it.finder left.finder it.searcher r left.searcher) it.is_over item left.is_over };
+        it.finder left.finder it.searcher r left.searcher) it.is_over item left.is_over };
 
     ghost remaining = { λ it. half_matches_left it.searcher it.is_over };
 

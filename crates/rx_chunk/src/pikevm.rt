@@ -20,7 +20,6 @@ ghost use Rattle.rx_chunk.specs.Iterating.{IsFoundAfter, StartsFrom, matches_fro
 ghost use Rattle.rx_chunk.specs.Searchers.{EndsInside};
 ghost use Rattle.rx_chunk.specs.FindMatches.{cache_of, left_of};
 
-use rx_threads as search;
 use rx_captures::{
     Captures, GroupInfo, Match, MatchError, MatchKind, NonMaxUsize, PatternID, Span,
 };
@@ -30,6 +29,7 @@ use rx_input::{Cursor, Input};
 use rx_program::laws::matches_note_their_places;
 use rx_program::{BuildError, Program, compile};
 use rx_sets::CharacterSet;
+use rx_threads as search;
 use rx_walks::laws::finds_lie_inside;
 use std::alloc::{AllocError, Global};
 use std::marker::Model;
@@ -384,13 +384,7 @@ pub fn search_slots<C: Cursor>(
     ensures same { IsSameContent input.old.cursor input.new.cursor }
     ensures refused { IfErr result (λ error. error ≡ MatchError.Memory) }
 {
-    search::search_slots(
-        &vm.program,
-        &mut cache.room,
-        input,
-        vm.utf8_empty,
-        slots,
-    )
+    search::search_slots(&vm.program, &mut cache.room, input, vm.utf8_empty, slots)
 }
 
 /// Searches, and notes what is found. In captures that the engine made, or others of its groups

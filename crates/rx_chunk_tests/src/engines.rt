@@ -30,7 +30,10 @@ fn refused_patterns(rt: HostRuntime) -> Result<(), Fail> {
             Ok(_) => assert!(rt; false, "{pattern}"),
             Err(error) => {
                 assert!(rt; error.syntax_error() == refused, "{pattern}");
-                assert!(rt; error.size_limit().is_some() == refused.is_none(), "{pattern}");
+                assert!(rt;
+                    error.size_limit().is_some() == refused.is_none(),
+                    "{pattern}"
+                );
             }
         }
     }

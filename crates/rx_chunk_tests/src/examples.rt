@@ -16,7 +16,10 @@ fn groups_and_matches(rt: HostRuntime) -> Result<(), Fail> {
     let mut input = Input::new(ChunkCursor::new(&pieces));
     pikevm::search(&vm, &mut cache, &mut input, &mut caps)?;
     assert_eq!(rt; caps.get_group(0), Some(Span { start: 2, end: 11 }));
-    assert_eq!(rt; caps.get_group_by_name("name"), Some(Span { start: 2, end: 6 }));
+    assert_eq!(rt;
+        caps.get_group_by_name("name"),
+        Some(Span { start: 2, end: 6 })
+    );
     assert_eq!(rt; caps.get_group(2), Some(Span { start: 7, end: 11 }));
     let mut last = None;
     for found in pikevm::find_iter(&vm, &mut cache, input) {

@@ -4,7 +4,7 @@ ghost use Rattle.std.specs.Prelude.{◌≡◌, IfOk};
 ghost use Rattle.std.specs.Option.{ForSome};
 ghost use Rattle.rx_chunk.specs.Searchers.{EndsInside};
 
-use rx_captures::{HalfMatch, Match, MatchError, PatternID, Span};
+use rx_captures::{HalfMatch, Match, MatchError, Span};
 use rx_chunk::iter::Searcher;
 use rx_chunk::pikevm::{self, PikeVM};
 use rx_input::Input;
@@ -12,11 +12,7 @@ use std::alloc::Global;
 use std::test::Fail;
 
 /// The match that an engine finds, by a cache of its own.
-fn find(
-    alloc: Global,
-    vm: &PikeVM,
-    input: &mut Input<&str>,
-) -> Result<Option<Match>, MatchError>
+fn find(alloc: Global, vm: &PikeVM, input: &mut Input<&str>) -> Result<Option<Match>, MatchError>
     ensures asked { input.new.asked ≡ input.old.asked }
     ensures inside { IfOk result (λ found. ForSome found
         (λ m. EndsInside input.old m.span.end)) }
@@ -25,6 +21,22 @@ fn find(
     let mut caps = vm.create_captures(alloc)?;
     pikevm::search(vm, &mut cache, input, &mut caps)?;
     Ok(caps.get_match())
+}
+
+/// Where the match ends that an engine finds.
+fn find_end(
+    alloc: Global,
+    vm: &PikeVM,
+    input: &mut Input<&str>,
+) -> Result<Option<HalfMatch>, MatchError>
+    ensures asked { input.new.asked ≡ input.old.asked }
+    ensures inside { IfOk result (λ found. ForSome found
+        (λ m. EndsInside input.old m.offset)) }
+{
+    match find(alloc, vm, input)? {
+        Some(found) => Ok(Some(HalfMatch::new(found.pattern(), found.end()))),
+        None => Ok(None),
+    }
 }
 
 /// An empty match where the one before ended is passed over.
@@ -39,5 +51,21 @@ fn empty_matches(rt: HostRuntime) -> Result<(), Fail> {
         assert!(rt; found == wanted, "{found:?}");
     }
     assert_eq!(rt; searcher.input().get_span(), Span { start: 5, end: 4 });
+    Ok(())
+}
+
+/// So is any half match that ends there.
+#[test]
+fn half_matches(rt: HostRuntime) -> Result<(), Fail> {
+    let alloc = rt.alloc();
+    let vm = PikeVM::new(alloc, "x*")?;
+    let searcher = Searcher::new(Input::new("xせx"));
+    let mut ends = 0;
+    for found in searcher.into_half_matches_iter(|input| find_end(alloc, &vm, input)) {
+        let end = found?.offset();
+        assert!(rt; [1, 5].get(ends).copied() == Some(end), "{end}");
+        ends = ends.saturating_add(1);
+    }
+    assert_eq!(rt; ends, 2);
     Ok(())
 }

@@ -192,10 +192,10 @@ noting slot next = note slot next
 inner_stands : (nodes code after : Code) (x : Node walks.Look (List Range)) (least low high at q c : ℕ) → q ≡ at + suc c → c < length code → slice_get nodes (at + suc c) ≡ slice_get (x ∷ (code ++ after)) (suc c)
     → All (Stays least low high) code → IsInner nodes least low high q
 inner_stands nodes code after x least low high at q c here below same all = record {
-    node = get_or code c x;
-    is = ap (slice_get nodes) here ∙ same ∙ in_front code after c below ∙ slice_get-get_or code c x below;
-    stays = All-get_or (Stays least low high) code c x below all;
-  }
+  node = get_or code c x;
+  is = ap (slice_get nodes) here ∙ same ∙ in_front code after c below ∙ slice_get-get_or code c x below;
+  stays = All-get_or (Stays least low high) code c x below all;
+}
 
 pattern_stands : (nodes : Code) (slots k : ℕ) (tree : Tree) (at : ℕ) → 2 * k ≤ slots → FromOne (numbers_of tree) → length (code_of slots tree (at + 1) (at + 1 + size_of tree)) ≡ size_of tree
     → ((c : ℕ) → c < 3 + size_of tree → slice_get nodes (at + c) ≡ slice_get (pattern_code slots k tree at) c) → HasPattern nodes k at (at + 1 + size_of tree)
@@ -363,19 +363,19 @@ module _ (first : List Range → List ℕ → Option ℕ) (h : Haystack walks.Lo
     from_inner i from to start (went {seen = seen} {n = n} {q = q} {i = j} {k = c} rs r new is on w) = elim (cases_order q last) [
       | inl e ↦ at_last {seen = seen} {n = n} {q = q} {j = j} k i last (ap (slice_get nodes) e ∙ has.last_is) has.end_is start (went {seen = seen} {n = n} {q = q} {i = j} {k = c} rs r new is on w)
       | inr (inl below) ↦
-        let here = has.inner q from below in
-        let among : Among at last r = stays_goes first h has.least at last j here.node rs c r here.stays (goes_by q j rs c r (Some here.node) here.is is on) on in
-        let kept : slot_of (note_at put_note j (slice_get nodes q) n) (2 * k) ≡ slot_of n (2 * k) =
-        ap (λ z. slot_of (note_at put_note j z n) (2 * k)) here.is ∙ stays_notes first h has.least at last j here.node n (2 * k) (omega (arith, has.above)) here.stays in
-        from_inner {n = note_at put_note j (slice_get nodes q) n} {q = r} {j = j} i among.0 among.1 (kept ∙ start) w
+          let here = has.inner q from below in
+          let among : Among at last r = stays_goes first h has.least at last j here.node rs c r here.stays (goes_by q j rs c r (Some here.node) here.is is on) on in
+          let kept : slot_of (note_at put_note j (slice_get nodes q) n) (2 * k) ≡ slot_of n (2 * k) =
+          ap (λ z. slot_of (note_at put_note j z n) (2 * k)) here.is ∙ stays_notes first h has.least at last j here.node n (2 * k) (omega (arith, has.above)) here.stays in
+          from_inner {n = note_at put_note j (slice_get nodes q) n} {q = r} {j = j} i among.0 among.1 (kept ∙ start) w
       | inr (inr above) ↦ absurd (omega (arith, to, above))
     ]
     from_inner i from to start (took {seen = seen} {n = n} {q = q} {i = j} r j' new is w) = elim (cases_order q last) [
       | inl e ↦ at_last {seen = seen} {n = n} {q = q} {j = j} k i last (ap (slice_get nodes) e ∙ has.last_is) has.end_is start (took {seen = seen} {n = n} {q = q} {i = j} r j' new is w)
       | inr (inl below) ↦
-        let here = has.inner q from below in
-        let among : Among at last r = stays_reads first h has.least at last j here.node r j' here.stays (reads_by q j r j' (Some here.node) here.is is) in
-        from_inner {n = n} {q = r} {j = j'} i among.0 among.1 start w
+          let here = has.inner q from below in
+          let among : Among at last r = stays_reads first h has.least at last j here.node r j' here.stays (reads_by q j r j' (Some here.node) here.is is) in
+          from_inner {n = n} {q = r} {j = j'} i among.0 among.1 start w
       | inr (inr above) ↦ absurd (omega (arith, to, above))
     ]
 

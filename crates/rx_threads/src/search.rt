@@ -156,8 +156,7 @@ impl Walks {
             (met_at input.old.position met self.new.stepper.slots)) }
         ensures threads { OnOk result (All (IsThreadOf program.now.states) self.new.live.threads) }
         ensures met { self.new.met ≡ self.old.met }
-        ensures made {
-            AreOfProgram program.now self.new.stepper.widths self.new.asks_looks }
+        ensures made { AreOfProgram program.now self.new.stepper.widths self.new.asks_looks }
         ensures slot_len { OnOk result (self.new.live.slot_len ≡ self.old.live.slot_len) }
         ensures same { IsMoved input.old input.new input.old.position input.old.asked }
         ensures refused { IfErr result (λ error. error ≡ MatchError.Memory) }
@@ -187,8 +186,7 @@ impl Walks {
             input.old.position self.old.live.threads self.old.met slots.old }
         ensures way { OnOk result (IsUnderWay program.now (search_of utf8_empty input.old) start
             (input.old.position + 1) self.new.live.threads self.new.met slots.new) }
-        ensures made {
-            AreOfProgram program.now self.new.stepper.widths self.new.asks_looks }
+        ensures made { AreOfProgram program.now self.new.stepper.widths self.new.asks_looks }
         ensures slot_len { OnOk result (self.new.live.slot_len ≡ length slots.new) }
         ensures same { IsMoved input.old input.new input.old.position input.old.asked }
         ensures refused { IfErr result (λ error. error ≡ MatchError.Memory) }
@@ -228,8 +226,7 @@ impl Walks {
         requires empty { slots.old ≡ no_slots (length slots.old) }
         ensures over { IfOk result (λ pattern. IsOver program.now
             (search_of utf8_empty input.old) start pattern slots.new) }
-        ensures made {
-            AreOfProgram program.now self.new.stepper.widths self.new.asks_looks }
+        ensures made { AreOfProgram program.now self.new.stepper.widths self.new.asks_looks }
         ensures same { IsSameContent input.old.cursor input.new.cursor }
         ensures asked { input.new.asked ≡ input.old.asked }
         ensures refused { IfErr result (λ error. error ≡ MatchError.Memory) }

@@ -2,10 +2,10 @@
 
 use crate::places::before;
 use rx_captures::{NonMaxUsize, PatternID, StateID};
-use rx_threads::{Node, Stepper, Threads};
 use rx_grammar::syntax::Config;
 use rx_grammar::{Look, parse};
 use rx_program::compile;
+use rx_threads::{Node, Stepper, Threads};
 use std::alloc::Global;
 use std::test::Fail;
 

@@ -3,9 +3,9 @@
 ghost use Rattle.std.specs.Prelude.{◌+◌, ◌<◌, ◌^◌};
 
 use rx_captures::NonMaxUsize;
-use rx_threads::{Looks, Place};
 use rx_grammar::Look;
 use rx_input::{ChunkCursor, Input};
+use rx_threads::{Looks, Place};
 use std::alloc::Global;
 use std::test::Fail;
 

@@ -2,11 +2,11 @@
 
 use crate::slots::spelled;
 use rx_captures::{Anchored, NonMaxUsize, PatternID};
-use rx_threads::{Cache, search_slots};
 use rx_grammar::parse;
 use rx_grammar::syntax::Config;
 use rx_input::{ChunkCursor, Cursor, Input};
 use rx_program::compile;
+use rx_threads::{Cache, search_slots};
 use std::alloc::Global;
 use std::test::Fail;
 

@@ -1,6 +1,6 @@
 //! One case: a pattern searched for in a haystack that lies in pieces.
 
-ghost use Rattle.std.specs.Prelude.{◌≡◌, ◌^◌, ◌<◌, ◌≤◌, IfOk, length};
+ghost use Rattle.std.specs.Prelude.{◌≡◌, ◌^◌, ◌<◌, ◌≤◌, IfOk, OnOk, length};
 ghost use Rattle.rx_threads.specs.Coming.{IsCacheOf};
 ghost use Rattle.rx_input.specs.Chunks.{joined};
 
@@ -170,31 +170,67 @@ fn search_all<'a>(
 ) -> Result<String, Fault>
     requires { length (joined pieces.now) < 2 ^ 63 }
 {
+    let found = spans(alloc, vm, input(pieces, asked))?;
     let mut cache = vm.create_cache(alloc)?;
     let mut caps = vm.create_captures(alloc)?;
-    let mut input = input(pieces, asked);
-    let is_match = pikevm::is_match(vm, &mut cache, &mut input)?;
-    let pattern = pikevm::search_slots(vm, &mut cache, &mut input, &mut [None; 1])?;
+    tell_all(
+        alloc,
+        vm,
+        &mut cache,
+        &mut caps,
+        &mut input(pieces, asked),
+        &found,
+    )
+}
+
+/// Whether there is a match, as two calls tell it.
+fn is_match(
+    alloc: Global,
+    vm: &PikeVM,
+    cache: &mut Cache,
+    input: &mut Input<ChunkCursor>,
+) -> Result<bool, Fault>
+    requires { IsCacheOf vm.now.program cache.old }
+    ensures { OnOk result (IsCacheOf vm.now.program cache.new) }
+{
+    let is_match = pikevm::is_match(vm, cache, input)?;
+    let pattern = pikevm::search_slots(vm, cache, input, &mut [None; 1])?;
+    cache.reset(alloc, vm)?;
     if pattern.is_some() != is_match || cache.memory_usage() == 0 {
         return Err(Fault::Differs);
     }
-    cache.reset(alloc, vm)?;
-    let found = spans(alloc, vm, input.clone())?;
-    let mut out = String::new(alloc);
-    let mut last = None;
-    for wanted in &found {
-        let next = next_match(vm, &mut cache, &mut input, &mut caps, last)?;
-        if next != Some(*wanted) {
-            return Err(Fault::Differs);
-        }
-        tell(alloc, &mut out, vm, &caps)?;
-        last = Some(wanted.end());
-    }
-    let next = next_match(vm, &mut cache, &mut input, &mut caps, last)?;
-    if next.is_some() || is_match != last.is_some() {
+    Ok(is_match)
+}
+
+/// The groups of these matches, which must be those that are found one after the other.
+fn tell_all(
+    alloc: Global,
+    vm: &PikeVM,
+    cache: &mut Cache,
+    caps: &mut Captures,
+    input: &mut Input<ChunkCursor>,
+    found: &[Match],
+) -> Result<String, Fault>
+    requires made { IsCacheOf vm.now.program cache.old }
+    requires groups { caps.old.groups ≡ vm.now.groups }
+    requires slots { 2 ≤ length caps.old.slots }
+{
+    if is_match(alloc, vm, cache, input)? == found.is_empty() {
         return Err(Fault::Differs);
     }
-    Ok(out)
+    let mut out = String::new(alloc);
+    let mut last = None;
+    for wanted in found {
+        if next_match(vm, cache, input, caps, last)? != Some(*wanted) {
+            return Err(Fault::Differs);
+        }
+        tell(alloc, &mut out, vm, caps)?;
+        last = Some(wanted.end());
+    }
+    match next_match(vm, cache, input, caps, last)? {
+        Some(_) => Err(Fault::Differs),
+        None => Ok(out),
+    }
 }
 
 /// The matches that `find_iter` gives.
