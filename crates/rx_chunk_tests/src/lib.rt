@@ -1,4 +1,4 @@
-//! Tests of `rx_chunk`: an example, settings, refused patterns, and matches one after the other.
+//! Tests of `rx_chunk`: an example, settings, and matches one after the other.
 #![tactic(auto)]
 
 #[cfg(test)]
