@@ -1,6 +1,6 @@
 //! The engine that follows all walks through a program side by side.
 
-ghost use Rattle.std.specs.Prelude.{◌≡◌, ℕ, ◌+◌, ◌<◌, ◌≤◌, IfOk, IfErr, OnOk, OnErr, None, Some, MatchOption, length, option_map, option_copied, unwrap_or, string_bytes, true, false};
+ghost use Rattle.std.specs.Prelude.{◌≡◌, ℕ, ◌+◌, ◌*◌, ◌<◌, ◌≤◌, IfOk, IfErr, OnOk, OnErr, None, Some, MatchOption, length, option_map, option_copied, unwrap_or, string_bytes, true, false};
 ghost use Rattle.std.specs.Option.{ForSome};
 ghost use Rattle.std.specs.Str.{chars};
 ghost use Rattle.rx_captures.specs.declared.search.MatchError.{MatchError};
@@ -13,8 +13,9 @@ ghost use Rattle.rx_grammar.specs.Trees.{numbers_of};
 ghost use Rattle.rx_grammar.specs.Subtrees.{IsWellFormed};
 ghost use Rattle.rx_grammar.specs.Postorder.{tree_of};
 ghost use Rattle.rx_input.specs.Cursors.{IsSameContent};
+ghost use Rattle.rx_threads.specs.Nodes.{node_count};
 ghost use Rattle.rx_threads.specs.Searching.{search_of, IsAnswer};
-ghost use Rattle.rx_threads.specs.Coming.{IsCacheOf};
+ghost use Rattle.rx_threads.specs.Coming.{place_count, IsCacheOf};
 ghost use Rattle.rx_chunk.specs.Engines.{nothing_set, settings_over, AreNamesOf, IsEngine, IsBuiltOf, IsRefused, TellsWhether, IsFound, refusal_of, by_default, AreGroupsOf};
 ghost use Rattle.rx_chunk.specs.Iterating.{IsFoundAfter, StartsFrom, matches_from};
 ghost use Rattle.rx_chunk.specs.Searchers.{EndsInside};
@@ -76,7 +77,7 @@ impl Config {
         }
     }
 
-    /// Which of all matches a search finds.
+    /// Sets which of all matches a search finds.
     pub fn match_kind(mut self, kind: MatchKind) -> Config
         ensures { result ≡ record self { match_kind = Some kind } }
     {
@@ -84,7 +85,7 @@ impl Config {
         self
     }
 
-    /// Whether empty matches inside a character are passed over.
+    /// Sets whether empty matches inside a character are passed over.
     pub fn utf8_empty(mut self, yes: bool) -> Config
         ensures { result ≡ record self { utf8_empty = Some yes } }
     {
@@ -92,7 +93,8 @@ impl Config {
         self
     }
 
-    /// The byte at which lines end for `^` and `$` under `(?m)`.
+    /// Sets the byte at which lines end for `^` and `$` under `(?m)`. The one that `.` doesn't
+    /// match is a setting of the syntax.
     pub fn line_terminator(mut self, byte: u8) -> Config
         ensures { result ≡ record self { line_terminator = Some byte } }
     {
@@ -187,7 +189,11 @@ impl Builder {
         self
     }
 
-    /// The engine for a pattern.
+    /// The engine for a pattern. There is none for a pattern of more than 65,536 bytes (`TooLong`),
+    /// one that would be a pattern at a greater nest limit (`Nesting`), one outside the grammar
+    /// (`Outside`), and one that weighs more than 2,147,483,646 (`Size`). `Memory` may be told in
+    /// place of the engine and of each refusal but the first. It takes time and memory in
+    /// proportion to the pattern's weight and to the automata of its sets.
     pub fn build(&self, alloc: Global, pattern: &str) -> Result<PikeVM, BuildError>
         ensures built { IfOk result (λ vm. IsBuiltOf pattern.now self.now vm) }
         ensures refused { IfErr result (λ error. IsRefused pattern.now self.now.syntax error) }
@@ -292,7 +298,7 @@ impl Model for PikeVM {
 }
 
 impl PikeVM {
-    /// The engine for a pattern, under default settings.
+    /// The engine for a pattern, under default settings, and refused as by `Builder::build`.
     pub fn new(alloc: Global, pattern: &str) -> Result<PikeVM, BuildError>
         ensures built { IfOk result (λ vm. IsBuiltOf pattern.now by_default vm) }
         ensures refused { IfErr result (λ error. IsRefused pattern.now default_settings error) }
@@ -300,7 +306,8 @@ impl PikeVM {
         Builder::new().build(alloc, pattern)
     }
 
-    /// What searches with it need room for.
+    /// A cache for searches with it. The one refusal is `Memory`. It takes memory in proportion to
+    /// the program's states and those of their automata.
     pub fn create_cache(&self, alloc: Global) -> Result<Cache, MatchError>
         ensures made { IfOk result (λ cache. IsCacheOf self.now.program cache) }
         ensures refused { IfErr result (λ error. error ≡ MatchError.Memory) }
@@ -308,7 +315,8 @@ impl PikeVM {
         Cache::new(alloc, self)
     }
 
-    /// What a search notes of its groups: nothing yet.
+    /// Captures with slots for all groups, in which nothing is noted. The one refusal is `Memory`.
+    /// `O(n)` in the number of groups.
     pub fn create_captures(&self, alloc: Global) -> Result<Captures, MatchError>
         ensures made { IfOk result (λ caps. caps
             ≡ nothing_noted self.now.groups (slot_len self.now.groups)) }
@@ -318,7 +326,7 @@ impl PikeVM {
         Captures::all(alloc, &self.groups)
     }
 
-    /// The groups of its pattern.
+    /// The groups of its pattern. `O(1)`.
     pub fn group_info(&self) -> &GroupInfo
         ensures groups { result.now ≡ self.now.groups }
         ensures engine { IsEngine self.now }
@@ -327,7 +335,8 @@ impl PikeVM {
     }
 }
 
-/// What searches with an engine keep from one to the next, so that they ask for memory once.
+/// What searches with an engine keep from one to the next, so that they ask for memory once. It
+/// serves the engine that it was made for or reset for, after each search again, refused or not.
 #[derive(Debug, Drop)]
 pub struct Cache {
     room: search::Cache,
@@ -342,7 +351,7 @@ impl Model for Cache {
 }
 
 impl Cache {
-    /// A cache for searches with an engine. The one refusal is `Memory`.
+    /// A cache for searches with an engine, as by `create_cache`.
     pub fn new(alloc: Global, vm: &PikeVM) -> Result<Cache, MatchError>
         ensures made { IfOk result (λ cache. IsCacheOf vm.now.program cache) }
         ensures refused { IfErr result (λ error. error ≡ MatchError.Memory) }
@@ -368,8 +377,11 @@ impl Cache {
     }
 }
 
-/// Searches: answers the pattern of the match that is found, and puts its places into the slots;
-/// all other slots hold none. The one refusal is `Memory`: what the slots then hold has no meaning.
+/// Searches: answers the pattern of the match that is found, and puts its places into the slots, as
+/// many as there are; all others hold none. Those of group k are 2k and 2k + 1. The cache must be
+/// one for the engine. The one refusal is `Memory`: what the slots then hold has no meaning. It
+/// follows each node of the program once at most at each place (`work`), which takes time in
+/// proportion to the program times the content times the slots.
 pub fn search_slots<C: Cursor>(
     vm: &PikeVM,
     cache: &mut Cache,
@@ -380,6 +392,8 @@ pub fn search_slots<C: Cursor>(
     ensures answer { IfOk result (λ pattern. IsAnswer vm.now.program
         (search_of vm.now.utf8_empty input.old) pattern slots.new) }
     ensures made { IsCacheOf vm.now.program cache.new }
+    ensures work { cache.new.followed ≤ cache.old.followed
+        + node_count vm.now.program * place_count (search_of vm.now.utf8_empty input.old) }
     ensures asked { input.new.asked ≡ input.old.asked }
     ensures same { IsSameContent input.old.cursor input.new.cursor }
     ensures refused { IfErr result (λ error. error ≡ MatchError.Memory) }
@@ -387,9 +401,9 @@ pub fn search_slots<C: Cursor>(
     search::search_slots(&vm.program, &mut cache.room, input, vm.utf8_empty, slots)
 }
 
-/// Searches, and notes what is found. In captures that the engine made, or others of its groups
-/// with two slots and more, group 0 is then the whole match. The one refusal is `Memory`: then no
-/// pattern is noted.
+/// Searches, and notes what is found, as `search_slots` does. In captures that the engine made, or
+/// others of its groups with two slots and more, group 0 is then the whole match. The one refusal
+/// is `Memory`: then no pattern is noted.
 pub fn search<C: Cursor>(
     vm: &PikeVM,
     cache: &mut Cache,
@@ -409,6 +423,8 @@ pub fn search<C: Cursor>(
     ensures slot_len { length caps.new.slots ≡ length caps.old.slots }
     ensures no_answer { OnErr result (caps.new.pattern ≡ None) }
     ensures made { IsCacheOf vm.now.program cache.new }
+    ensures work { cache.new.followed ≤ cache.old.followed
+        + node_count vm.now.program * place_count (search_of vm.now.utf8_empty input.old) }
     ensures asked { input.new.asked ≡ input.old.asked }
     ensures same { IsSameContent input.old.cursor input.new.cursor }
     ensures refused { IfErr result (λ error. error ≡ MatchError.Memory) }
@@ -424,7 +440,8 @@ pub fn search<C: Cursor>(
     Ok(())
 }
 
-/// Whether there is a match. The one refusal is `Memory`.
+/// Whether there is a match. The cache must be one for the engine. The one refusal is `Memory`. It
+/// takes time in proportion to the program times the content at most.
 pub fn is_match<C: Cursor>(
     vm: &PikeVM,
     cache: &mut Cache,
@@ -434,6 +451,8 @@ pub fn is_match<C: Cursor>(
     ensures answer { IfOk result (λ yes. TellsWhether vm.now.program
         (search_of vm.now.utf8_empty input.old) yes) }
     ensures made { IsCacheOf vm.now.program cache.new }
+    ensures work { cache.new.followed ≤ cache.old.followed
+        + node_count vm.now.program * place_count (search_of vm.now.utf8_empty input.old) }
     ensures asked { input.new.asked ≡ input.old.asked }
     ensures same { IsSameContent input.old.cursor input.new.cursor }
     ensures refused { IfErr result (λ error. error ≡ MatchError.Memory) }
@@ -546,7 +565,7 @@ fn find_next<C: Cursor>(
 }
 
 /// The matches in an input, one after the other. An empty match where the one before ended is
-/// passed over. Once the iterator is dropped the cache serves again.
+/// passed over. The cache must be one for the engine; once the iterator is dropped it serves again.
 pub fn find_iter<'r, 'c, C: Cursor>(
     vm: &'r PikeVM,
     cache: &'c mut Cache,

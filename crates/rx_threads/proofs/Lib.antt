@@ -12,3 +12,4 @@ pub mod ComeLaws
 pub mod WayLaws
 pub mod AnswerLaws
 pub mod OverLaws
+pub mod WorkLaws

@@ -1,10 +1,10 @@
 -- How far a search through a program has come.
-use Rattle.std.specs.Prelude.{◌≡◌, ℕ, ◌<◌, ◌⊎◌, Bool, false, All, List, [], ◌∷◌, ◌++◌, length, Option, None}
+use Rattle.std.specs.Prelude.{◌≡◌, ℕ, ◌+◌, ◌-◌, ◌<◌, ◌⊎◌, Bool, false, All, List, [], ◌∷◌, ◌++◌, length, Option, None}
 use Rattle.rx_walks.specs.Looks as walks
 use Rattle.rx_walks.specs.Finds.{Search}
 use Rattle.rx_walks.specs.Laws.{Begins}
 use Rattle.rx_walks.specs.Machines.{Machine, Outcome}
-use Rattle.rx_walks.specs.ProgramFinds.{highest}
+use Rattle.rx_walks.specs.ProgramFinds.{lowest, highest}
 use Rattle.rx_walks.specs.Steps.{Searches}
 use Rattle.rx_program.specs.Programs.{ByteProgram}
 use Rattle.rx_threads.specs.Nodes.{widths_of}
@@ -19,11 +19,16 @@ HasSlots len thread = length thread.0 ≡ len
 abbrev pub machine_in : ByteProgram → Search → Machine (ℕ × ℕ) Slots
 machine_in p s = slot_machine p (haystack_in p.line_terminator s)
 
--- how many nodes each state is of the program that a cache was made for, and whether that program
--- asks for looks
+-- at how many places walks may stand in a search
+abbrev pub place_count : Search → ℕ
+place_count s = highest s + 1 - lowest s
+
+-- how many nodes each state is of the program that a cache was made for, whether that program asks
+-- for looks, and how many nodes searches have followed with it so far
 pub record CacheView : Type 0 where
   pub widths : List ℕ
   pub asks_looks : Bool
+  pub followed : ℕ
 
 -- they are those of this program: where no look is asked for, no state asks for one
 pub record AreOfProgram (p : ByteProgram) (widths : List ℕ) (asks_looks : Bool) : Type 0 where

@@ -15,7 +15,7 @@ use Rattle.rx_walks.specs.Steps.{Steps, StepsSoFar}
 use Rattle.rx_grammar.specs.declared.hir.Look as grammar
 use Rattle.rx_threads.specs.declared.place.Looks.{Looks}
 use Rattle.rx_threads.specs.declared.place.Place.{Place}
-use Rattle.rx_threads.specs.Nodes.{index_from, end_from, widths_of}
+use Rattle.rx_threads.specs.Nodes.{index_from, widths_of, node_count}
 use Rattle.rx_threads.specs.Threads.{Slots, Thread, Waiting, note_slot, first_node}
 
 -- whether a look is among those that hold
@@ -110,8 +110,7 @@ widest_fan (x ∷ states) = max (fan_of x) (widest_fan states)
 
 -- how often a node may still be followed, at most, by the indices seen and the size of the stack
 abbrev pub work_left : ByteProgram → List ℕ → ℕ → ℕ
-work_left p ids size =
-    (end_from 0 (widths_of p) - length ids) * (widest_fan p.states + 1) + size
+work_left p ids size = (node_count p - length ids) * (widest_fan p.states + 1) + size
 
 -- a machine makes these moves at a place, and notes so
 pub record MakesMoves (m : Machine (ℕ × ℕ) Slots) (i : ℕ) (states : List State) (place : Place)

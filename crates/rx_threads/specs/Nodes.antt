@@ -41,10 +41,20 @@ widths_in [] = []
 widths_in (first ∷ []) = []
 widths_in (first ∷ second ∷ starts) = (second - first) ∷ widths_in (second ∷ starts)
 
--- the nodes of a program by how many each state is, and the indices of those that were seen
+-- how many nodes a program has
+abbrev pub node_count : ByteProgram → ℕ
+node_count p = end_from 0 (widths_of p)
+
+-- the nodes of a program by how many each state is, the indices of those that were seen, and how
+-- many were followed so far
 pub record SeenNodes : Type 0 where
   pub widths : List ℕ
   pub ids : List ℕ
+  pub followed : ℕ
+
+-- as many nodes were followed in between as came among those that were seen
+abbrev pub AreCounted : SeenNodes → SeenNodes → Type 0
+AreCounted before after = after.followed + length before.ids ≡ before.followed + length after.ids
 
 -- a node's index comes into a set, if it has one and that is none of the set; the flag tells so
 abbrev pub IsInserted : Option ℕ → Bool → List ℕ → List ℕ → Type 0

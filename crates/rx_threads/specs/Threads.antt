@@ -43,7 +43,9 @@ pub record Waiting : Type 0 where
   pub threads : List Thread
   pub size : ℕ
 
--- how many nodes each state is of the program that a stepper was made for, and its slots
+-- how many nodes each state is of the program that a stepper was made for, its slots, and how many
+-- nodes it has followed so far
 pub record StepperView : Type 0 where
   pub widths : List ℕ
   pub slots : Slots
+  pub followed : ℕ

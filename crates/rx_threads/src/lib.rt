@@ -2,6 +2,7 @@
 //! side.
 #![tactic(auto)]
 
+mod followed;
 mod node;
 mod pending;
 mod place;

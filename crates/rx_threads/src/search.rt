@@ -1,6 +1,6 @@
 //! The loop over the places of a content.
 
-ghost use Rattle.std.specs.Prelude.{ℕ, Bool, List, ◌≡◌, ◌+◌, ◌<◌, ◌↔◌, [], Some, None, true, false, All, IsTrue, IfOk, IfErr, OnOk, OnErr, length, min, max};
+ghost use Rattle.std.specs.Prelude.{ℕ, Bool, List, ◌≡◌, ◌+◌, ◌*◌, ◌<◌, ◌≤◌, ◌↔◌, [], Some, None, true, false, All, IsTrue, IfOk, IfErr, OnOk, OnErr, length, min, max};
 ghost use Rattle.rx_captures.specs.declared.search.MatchError.{MatchError};
 ghost use Rattle.rx_walks.specs.Finds.{IsInside, is_anchored};
 ghost use Rattle.rx_walks.specs.Laws.{Begins};
@@ -12,9 +12,10 @@ ghost use Rattle.rx_program.specs.Programs.{characters_of};
 ghost use Rattle.rx_input.specs.Cursors.{IsSameContent};
 ghost use Rattle.rx_input.specs.Inputs.{IsMoved};
 ghost use Rattle.rx_threads.specs.Lists.{Asks, met_at};
+ghost use Rattle.rx_threads.specs.Nodes.{node_count};
 ghost use Rattle.rx_threads.specs.Threads.{IsThreadOf, no_slots};
 ghost use Rattle.rx_threads.specs.Searching.{search_of, anchoring_of, IsAnswer};
-ghost use Rattle.rx_threads.specs.Coming.{machine_in, AreOfProgram, IsCacheOf, HasStarted, IsUnderWay, IsOver};
+ghost use Rattle.rx_threads.specs.Coming.{machine_in, place_count, AreOfProgram, IsCacheOf, HasStarted, IsUnderWay, IsOver};
 
 use crate::node::Node;
 use crate::place::Place;
@@ -158,6 +159,8 @@ impl Walks {
         ensures met { self.new.met ≡ self.old.met }
         ensures made { AreOfProgram program.now self.new.stepper.widths self.new.asks_looks }
         ensures slot_len { OnOk result (self.new.live.slot_len ≡ self.old.live.slot_len) }
+        ensures work { self.new.stepper.followed
+            ≤ self.old.stepper.followed + node_count program.now }
         ensures same { IsMoved input.old input.new input.old.position input.old.asked }
         ensures refused { IfErr result (λ error. error ≡ MatchError.Memory) }
     {
@@ -188,6 +191,8 @@ impl Walks {
             (input.old.position + 1) self.new.live.threads self.new.met slots.new) }
         ensures made { AreOfProgram program.now self.new.stepper.widths self.new.asks_looks }
         ensures slot_len { OnOk result (self.new.live.slot_len ≡ length slots.new) }
+        ensures work { self.new.stepper.followed
+            ≤ self.old.stepper.followed + node_count program.now }
         ensures same { IsMoved input.old input.new input.old.position input.old.asked }
         ensures refused { IfErr result (λ error. error ≡ MatchError.Memory) }
     {
@@ -227,6 +232,8 @@ impl Walks {
         ensures over { IfOk result (λ pattern. IsOver program.now
             (search_of utf8_empty input.old) start pattern slots.new) }
         ensures made { AreOfProgram program.now self.new.stepper.widths self.new.asks_looks }
+        ensures work { self.new.stepper.followed ≤ self.old.stepper.followed
+            + node_count program.now * place_count (search_of utf8_empty input.old) }
         ensures same { IsSameContent input.old.cursor input.new.cursor }
         ensures asked { input.new.asked ≡ input.old.asked }
         ensures refused { IfErr result (λ error. error ≡ MatchError.Memory) }
@@ -243,8 +250,8 @@ impl Walks {
 }
 
 /// What searches with one program keep from one to the next, so that they ask for memory once.
-/// Contracts see of it how many nodes each state is of the program that it was made for, and
-/// whether that program asks for looks.
+/// Contracts see of it how many nodes each state is of the program that it was made for, whether
+/// that program asks for looks, and how many nodes searches have followed with it.
 #[derive(Debug, Drop)]
 pub struct Cache {
     walks: Walks,
@@ -258,6 +265,7 @@ impl Model for Cache {
     ghost view = { λ c. record {
       widths = c.walks.stepper.widths;
       asks_looks = c.walks.asks_looks;
+      followed = c.walks.stepper.followed;
     } };
 }
 
@@ -312,6 +320,9 @@ fn clear_slots(slots: &mut [Option<NonMaxUsize>])
 /// slots, as many as there are; all others hold none. `utf8_empty` passes over empty matches inside
 /// a character. The cache must be one for searches with the program, and still is one afterwards.
 /// The one refusal is `Memory`: what the slots then hold has no meaning.
+///
+/// It follows each node of the program once at most at each place, which takes time in proportion to
+/// the edges of that node.
 pub fn search_slots<C: Cursor>(
     program: &Program,
     cache: &mut Cache,
@@ -323,6 +334,8 @@ pub fn search_slots<C: Cursor>(
     ensures answer { IfOk result (λ pattern. IsAnswer program.now
         (search_of utf8_empty input.old) pattern slots.new) }
     ensures made { IsCacheOf program.now cache.new }
+    ensures work { cache.new.followed ≤ cache.old.followed
+        + node_count program.now * place_count (search_of utf8_empty input.old) }
     ensures same { IsSameContent input.old.cursor input.new.cursor }
     ensures asked { input.new.asked ≡ input.old.asked }
     ensures refused { IfErr result (λ error. error ≡ MatchError.Memory) }

@@ -5,7 +5,7 @@ ghost use Rattle.rx_captures.specs.declared.search.MatchError.{MatchError};
 ghost use Rattle.rx_program.specs.declared.states.State.{State};
 ghost use Rattle.rx_walks.specs.Machines.{Machine};
 ghost use Rattle.rx_automata.specs.Automata.{step_of};
-ghost use Rattle.rx_threads.specs.Nodes.{widths_of, IsNodeOf, MayStand};
+ghost use Rattle.rx_threads.specs.Nodes.{widths_of, node_count, IsNodeOf, MayStand, AreCounted};
 ghost use Rattle.rx_threads.specs.Threads.{Slots, Thread, Waiting, IsThreadOf};
 ghost use Rattle.rx_threads.specs.Lists.{IsNextList, IsMade, move_at, noted_at, fan_of, MakesMoves, AreUnderWay, AreFollowed, read_next, work_left};
 
@@ -132,6 +132,9 @@ impl Closure {
         ensures less { OnOk result
             (work_left program.now self.new.visited.ids self.new.pending.size
             ≤ work_left program.now self.old.visited.ids self.old.pending.size) }
+        ensures counted { AreCounted self.old.visited self.new.visited }
+        ensures room { length self.old.visited.ids ≤ node_count program.now
+            → length self.new.visited.ids ≤ node_count program.now }
         ensures slots { OnOk result
             (length self.new.pending.slots ≡ length self.old.pending.slots) }
         ensures slot_len { next.new.slot_len ≡ next.old.slot_len }
@@ -168,6 +171,9 @@ impl Closure {
         ensures threads { OnOk result (All (IsThreadOf program.now.states) next.old.threads
             → All (IsThreadOf program.now.states) next.new.threads) }
         ensures widths { self.new.visited.widths ≡ self.old.visited.widths }
+        ensures counted { AreCounted self.old.visited self.new.visited }
+        ensures room { length self.old.visited.ids ≤ node_count program.now
+            → length self.new.visited.ids ≤ node_count program.now }
         ensures slot_len { next.new.slot_len ≡ next.old.slot_len }
     {
         self.pending.begin(slots)?;
@@ -184,7 +190,8 @@ impl Closure {
 }
 
 /// What a step needs room for. Contracts see of it how many nodes each state is of the program that
-/// it was made for, and slots: after a step that met an end, those of the match.
+/// it was made for, slots, which after a step that met an end are those of the match, and how many
+/// nodes its steps have followed.
 #[derive(Debug, Drop)]
 pub struct Stepper {
     closure: Closure,
@@ -198,6 +205,7 @@ impl Model for Stepper {
     ghost view = { λ s. record {
       widths = s.closure.visited.widths;
       slots = s.closure.pending.slots;
+      followed = s.closure.visited.followed;
     } };
 }
 
@@ -237,8 +245,8 @@ impl Stepper {
     /// slots that the program names; a slot past those of the threads is passed over. The one
     /// refusal is `Memory`; what `next` then holds has no meaning.
     ///
-    /// It takes time in proportion to the edges of the nodes that are followed and to the slots of
-    /// the threads, and no memory but what the program asks for.
+    /// It takes time in proportion to the edges of the nodes that are followed, each of them once at
+    /// most, and to the slots of the threads, and no memory but what the program asks for.
     pub fn next_list(
         &mut self,
         program: &Program,
@@ -253,6 +261,7 @@ impl Stepper {
         ensures threads { OnOk result (All (IsThreadOf program.now.states) next.new.threads) }
         ensures slot_len { next.new.slot_len ≡ threads.now.slot_len }
         ensures made { self.new.widths ≡ self.old.widths }
+        ensures work { self.new.followed ≤ self.old.followed + node_count program.now }
         ensures refused { IfErr result (λ error. error ≡ MatchError.Memory) }
     {
         self.closure.visited.clear();

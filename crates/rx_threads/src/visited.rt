@@ -2,8 +2,9 @@
 
 ghost use Rattle.std.specs.Prelude.{◌≡◌, ◌<◌, ◌≤◌, [], true, map, length, slice_get, IfSome, IfOk, IfErr};
 ghost use Rattle.rx_captures.specs.declared.search.MatchError.{MatchError};
-ghost use Rattle.rx_threads.specs.Nodes.{widths_of, width_of, starts_from, end_from, index_from, IsInserted};
+ghost use Rattle.rx_threads.specs.Nodes.{widths_of, width_of, starts_from, end_from, index_from, IsInserted, AreCounted};
 
+use crate::followed::Followed;
 use crate::node::Node;
 use rx_captures::{MatchError, SparseSet, StateID};
 use rx_program::{Program, State};
@@ -22,12 +23,14 @@ fn width(state: &State) -> usize
 }
 
 /// A set of nodes of a program, by their index among all of them. Contracts see how many nodes each
-/// state is, and the indices of the members.
+/// state is, the indices of the members, and how many came in since it was made, also those that
+/// were taken out again.
 #[derive(Debug, Drop)]
 pub(crate) struct Visited {
     // Where the nodes of each state start, and where those of the last one end.
     starts: Vec<usize>,
     set: SparseSet,
+    followed: Followed,
 }
 
 impl Model for Visited {
@@ -36,7 +39,11 @@ impl Model for Visited {
 
     ghost Value = { SeenNodes };
 
-    ghost view = { λ v. record { widths = widths_in v.starts.items; ids = v.set.members } };
+    ghost view = { λ v. record {
+      widths = widths_in v.starts.items;
+      ids = v.set.members;
+      followed = v.followed;
+    } };
 
     ghost invariant = { λ v. (v.starts.items ≡ starts_from 0 (widths_in v.starts.items))
         × (v.set.capacity ≡ end_from 0 (widths_in v.starts.items)) };
@@ -76,13 +83,18 @@ impl Visited {
     {
         let (starts, end) = starts_of(alloc, program.states())?;
         let set = SparseSet::new(alloc, end)?;
-        Ok(Visited { starts, set })
+        Ok(Visited {
+            starts,
+            set,
+            followed: Followed::new(),
+        })
     }
 
     /// Empties the set.
     pub(crate) fn clear(&mut self)
         ensures widths { self.new.widths ≡ self.old.widths }
         ensures ids { self.new.ids ≡ [] }
+        ensures followed { self.new.followed ≡ self.old.followed }
     {
         self.set.clear();
     }
@@ -108,13 +120,17 @@ impl Visited {
             self.old.ids self.new.ids }
         ensures widths { self.new.widths ≡ self.old.widths }
         ensures room { result ≡ true → length self.new.ids ≤ end_from 0 self.old.widths }
+        ensures counted { AreCounted self.old self.new }
     {
         let Some(index) = self.index(node) else {
             return false;
         };
-        let is_new = self.set.insert(StateID::new(index));
+        if !self.set.insert(StateID::new(index)) {
+            return false;
+        }
         let _len = self.set.len(); // tells that no member is there twice
-        is_new
+        self.followed.add();
+        true
     }
 
     /// About how many bytes its lists take.

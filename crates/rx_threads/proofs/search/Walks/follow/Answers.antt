@@ -2,7 +2,9 @@ use Rattle.std.proofs.Common.{◌≡◌, ◌+◌, ◌-◌, length, ◌<◌, IsTr
 use Rattle.rx_walks.specs.Finds.{IsInside, is_anchored}
 use Rattle.rx_walks.specs.ProgramFinds.{highest}
 use Rattle.rx_threads.specs.Searching.{search_of, anchoring_of}
-use Rattle.rx_threads.specs.Coming.{IsUnderWay}
+use Rattle.rx_threads.specs.Coming.{place_count, IsUnderWay}
+use Rattle.rx_threads.specs.Nodes.{node_count}
+use Rattle.rx_threads.proofs.WorkLaws.{none_done, one_more, is_among_places, next_done, come_so_far}
 use Rattle.rx_threads.proofs.OverLaws.{same_search, way_begun, way_over, way_ended}
 use Rattle.rx_threads.proofs.search.Walks.follow.Goals as goal
 use Rattle.rx_threads.proofs.search.Walks.follow.Goals.{then-are_over-via-then-are_over, then-are_over-via-else-are_over+then-not-advance}
@@ -16,7 +18,24 @@ loop-self-init g c = record {
       c.requires.first (ap (λ t. t.threads) c.clear.ensures) c.requires.empty;
   same = record { content = refl; is_sized = refl };
   asked = refl;
+  work = none_done (node_count c.args.program.now) c.args.self.now.stepper.followed c.args.input.now.position;
 }
+
+pub returns-in_err-visit-clause-work : goal.returns-in_err-visit-clause-work
+returns-in_err-visit-clause-work g c =
+    let s = search_of c.args.utf8_empty c.args.input.now in
+    let first = c.args.input.now.position in
+    let i = c.loop-self.input.position in
+    one_more (node_count c.args.program.now) c.args.self.now.stepper.followed c.loop-self.self.stepper.followed c.visit.new.self.stepper.followed (i - first) (place_count s)
+    c.loop-self.invariant.work c.in_err-visit.ensures.work (is_among_places s first i c.requires.first c.loop-self.invariant.inside)
+
+pub returns-then-are_over-clause-work : goal.returns-then-are_over-clause-work
+returns-then-are_over-clause-work g c =
+    let s = search_of c.args.utf8_empty c.args.input.now in
+    let first = c.args.input.now.position in
+    let i = c.loop-self.input.position in
+    one_more (node_count c.args.program.now) c.args.self.now.stepper.followed c.loop-self.self.stepper.followed c.visit.new.self.stepper.followed (i - first) (place_count s)
+    c.loop-self.invariant.work c.in_ok-visit.ensures.work (is_among_places s first i c.requires.first c.loop-self.invariant.inside)
 
 pub returns-then-are_over-clause-over : goal.returns-then-are_over-clause-over
 returns-then-are_over-clause-over g c =
@@ -86,4 +105,6 @@ loop-self-preserved g c =
         is_sized = c.advance.ensures.same.same.is_sized ∙ c.in_ok-visit.ensures.same.same.is_sized ∙ c.loop-self.invariant.same.is_sized;
       };
       asked = c.advance.ensures.same.asked_is ∙ asked;
+      work = next_done (node_count p) c.args.self.now.stepper.followed c.loop-self.self.stepper.followed self.stepper.followed c.args.input.now.position i last.position
+          c.loop-self.invariant.work c.in_ok-visit.ensures.work (come_so_far s c.args.input.now.position i c.requires.first c.loop-self.invariant.inside) next;
     }

@@ -1,6 +1,7 @@
-use Rattle.std.proofs.Common.{◌≡◌, ◌-◌, length}
+use Rattle.std.proofs.Common.{◌≡◌, ◌+◌, ◌-◌, ◌*◌, ◌≤◌, length}
 use Rattle.rx_walks.specs.Finds.{IsInside}
 use Rattle.rx_input.specs.Cursors.{IsSameContent}
+use Rattle.rx_threads.specs.Nodes.{node_count}
 use Rattle.rx_threads.specs.Searching.{search_of}
 use Rattle.rx_threads.specs.Coming.{AreOfProgram, IsUnderWay}
 use Rattle.rx_threads.proofs.search.Walks.follow.Given as goal
@@ -14,6 +15,7 @@ invariant-loop-self g l = record {
   way : IsUnderWay l.program (search_of l.utf8_empty l.fn.input) l.start l.input.position l.self.live.threads l.self.met l.slots;
   same : IsSameContent l.fn.input.cursor l.input.cursor;
   asked : l.input.asked ≡ l.fn.input.asked;
+  work : l.self.stepper.followed ≤ l.fn.self.stepper.followed + node_count l.program * (l.input.position - l.fn.input.position);
 }
 
 abbrev pub decreases-loop-self : goal.decreases-loop-self

@@ -35,6 +35,8 @@ loop-state-init c = record {
   widths = c.in_ok-pattern.ensures.widths;
   slots = c.in_ok-pattern.ensures.slots ∙ ap (λ xs. length xs) c.in_ok-begin.ensures.slots ∙ c.requires.slots ∙ sym c.in_ok-pattern.ensures.slot_len;
   slot_len = c.in_ok-pattern.ensures.slot_len;
+  counted = c.in_ok-pattern.ensures.counted;
+  room = c.in_ok-pattern.ensures.room;
 }
 
 pub returns-in-Some-2-clause-followed : goal.returns-in-Some-2-clause-followed

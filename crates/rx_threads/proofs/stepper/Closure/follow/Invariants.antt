@@ -1,6 +1,6 @@
-use Rattle.std.proofs.Common.{◌≡◌, ℕ, ◌∷◌, ◌++◌, List, All, length}
+use Rattle.std.proofs.Common.{◌≡◌, ℕ, ◌≤◌, ◌∷◌, ◌++◌, List, All, length}
 use Rattle.rx_walks.specs.Machines.{Machine}
-use Rattle.rx_threads.specs.Nodes.{widths_of}
+use Rattle.rx_threads.specs.Nodes.{widths_of, node_count, AreCounted}
 use Rattle.rx_threads.specs.Threads.{Slots, Thread, IsThreadOf}
 use Rattle.rx_threads.specs.Lists.{MakesMoves, AreUnderWay, work_left}
 use Rattle.rx_threads.proofs.stepper.Closure.follow.Given as goal
@@ -16,6 +16,8 @@ invariant-loop-state l = record {
   widths : l.self.visited.widths ≡ l.fn.self.visited.widths;
   slots : length l.self.pending.slots ≡ l.next.slot_len;
   slot_len : l.next.slot_len ≡ l.fn.next.slot_len;
+  counted : AreCounted l.fn.self.visited l.self.visited;
+  room : length l.fn.self.visited.ids ≤ node_count l.program → length l.self.visited.ids ≤ node_count l.program;
 }
 
 abbrev pub decreases-loop-state : goal.decreases-loop-state

@@ -66,6 +66,8 @@ loop-index-preserved c = record {
   threads = c.in_ok-pattern.ensures.threads c.loop-index.invariant.threads;
   widths = c.in_ok-pattern.ensures.widths ∙ c.loop-index.invariant.widths;
   slot_len = c.in_ok-pattern.ensures.slot_len ∙ c.loop-index.invariant.slot_len;
+  counted = omega (arith, c.in_ok-pattern.ensures.counted, c.loop-index.invariant.counted);
+  room = c.in_ok-pattern.ensures.room c.loop-index.invariant.room;
 }
 
 pub returns-clause-list : goal.returns-clause-list

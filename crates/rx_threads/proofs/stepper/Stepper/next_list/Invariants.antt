@@ -1,6 +1,6 @@
-use Rattle.std.proofs.Common.{◌≡◌, ℕ, All, drop}
+use Rattle.std.proofs.Common.{◌≡◌, ℕ, ◌+◌, ◌≤◌, All, length, drop}
 use Rattle.rx_walks.specs.Machines.{Machine}
-use Rattle.rx_threads.specs.Nodes.{widths_of}
+use Rattle.rx_threads.specs.Nodes.{widths_of, node_count}
 use Rattle.rx_threads.specs.Threads.{Slots, IsThreadOf}
 use Rattle.rx_threads.specs.Lists.{MakesMoves, AreUnderWay}
 use Rattle.rx_threads.proofs.stepper.Stepper.next_list.Given as goal
@@ -13,4 +13,6 @@ invariant-loop-index l = record {
   threads : All (IsThreadOf l.program.states) l.next.threads;
   widths : l.self-inside.closure.visited.widths ≡ widths_of l.program;
   slot_len : l.next.slot_len ≡ l.threads.slot_len;
+  counted : l.self-inside.closure.visited.followed ≡ l.fn.self.followed + length l.self-inside.closure.visited.ids;
+  room : length l.self-inside.closure.visited.ids ≤ node_count l.program;
 }
