@@ -49,7 +49,7 @@ behind (x ∷ xs) (suc s) k =
     let more : suc (s + k) ≡ suc s + k = omega arith in
     behind xs s k ∙ ap (λ j. slice_get (x ∷ xs) j) more
 
-below_or_not : (k n : ℕ) → (k < n) ⊎ (n ≤ k)
+pub below_or_not : (k n : ℕ) → (k < n) ⊎ (n ≤ k)
 below_or_not k zero = inr (omega arith)
 below_or_not zero (suc n) = inl (omega arith)
 below_or_not (suc k) (suc n) = elim (below_or_not k n) [ inl lt ↦ inl (omega (arith, lt)) | inr le ↦ inr (omega (arith, le)) ]

@@ -13,3 +13,4 @@ pub mod WayLaws
 pub mod AnswerLaws
 pub mod OverLaws
 pub mod WorkLaws
+pub mod IdleLaws

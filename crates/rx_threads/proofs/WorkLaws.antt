@@ -23,7 +23,7 @@ is_among_places s first i is (low, high, start, end, within) =
     omega (arith, is, above, below)
 
 -- after one place more
-pub next_done : (nodes before now after first i j : ℕ) → now ≤ before + nodes * (i - first) → after ≤ now + nodes → first ≤ i → j ≡ i + 1 → after ≤ before + nodes * (j - first)
+pub next_done : (nodes before now after first i j : ℕ) → now ≤ before + nodes * (i - first) → after ≤ now + nodes → first ≤ i → i + 1 ≤ j → after ≤ before + nodes * (j - first)
 next_done nodes before now after first i j come step above is = one_more nodes before now after (i - first) (j - first) come step (omega (arith, above, is))
 
 -- a place inside is not before the first one

@@ -4,4 +4,5 @@ pub mod Frames
 pub mod Lists
 pub mod Sides
 pub mod Searching
+pub mod Idle
 pub mod Coming

@@ -3,6 +3,7 @@
 #![tactic(auto)]
 
 mod followed;
+mod idle;
 mod node;
 mod pending;
 mod place;

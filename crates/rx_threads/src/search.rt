@@ -1,6 +1,6 @@
 //! The loop over the places of a content.
 
-ghost use Rattle.std.specs.Prelude.{ℕ, Bool, List, ◌≡◌, ◌+◌, ◌*◌, ◌<◌, ◌≤◌, ◌↔◌, [], Some, None, true, false, All, IsTrue, IfOk, IfErr, OnOk, OnErr, length, min, max};
+ghost use Rattle.std.specs.Prelude.{ℕ, Bool, List, ◌≡◌, ◌+◌, ◌*◌, ◌<◌, ◌≤◌, ◌↔◌, [], ◌∷◌, Some, None, true, false, All, IsTrue, IfOk, IfErr, OnOk, OnErr, length, min, max};
 ghost use Rattle.rx_captures.specs.declared.search.MatchError.{MatchError};
 ghost use Rattle.rx_walks.specs.Finds.{IsInside, is_anchored};
 ghost use Rattle.rx_walks.specs.Laws.{Begins};
@@ -13,10 +13,12 @@ ghost use Rattle.rx_input.specs.Cursors.{IsSameContent};
 ghost use Rattle.rx_input.specs.Inputs.{IsMoved};
 ghost use Rattle.rx_threads.specs.Lists.{Asks, met_at};
 ghost use Rattle.rx_threads.specs.Nodes.{node_count};
-ghost use Rattle.rx_threads.specs.Threads.{IsThreadOf, no_slots};
+ghost use Rattle.rx_threads.specs.Idle.{IsKnownAt, AreIdle};
+ghost use Rattle.rx_threads.specs.Threads.{Slots, IsThreadOf, no_slots, first_node};
 ghost use Rattle.rx_threads.specs.Searching.{search_of, anchoring_of, IsAnswer};
 ghost use Rattle.rx_threads.specs.Coming.{machine_in, place_count, AreOfProgram, IsCacheOf, HasStarted, IsUnderWay, IsOver};
 
+use crate::idle::{IdleBytes, last_place, skip};
 use crate::node::Node;
 use crate::place::Place;
 use crate::stepper::Stepper;
@@ -50,13 +52,6 @@ fn start_state(program: &Program, anchored: Anchored) -> Option<StateID>
         Anchored::No | Anchored::Yes => Some(program.start()),
         Anchored::Pattern(pattern) => program.patterns().get(pattern.as_usize()).copied(),
     }
-}
-
-/// The last place at which a walk may stand, if the content goes so far.
-fn last_place<C: Cursor>(input: &Input<C>) -> usize
-    ensures { result ≡ min input.now.asked.slice.end input.now.asked.span.end }
-{
-    input.get_slice().end.min(input.end())
 }
 
 /// Moves an input to the first place inside its span, its slice and its content, if there is one.
@@ -101,12 +96,35 @@ fn begins<C: Cursor>(input: &Input<C>, utf8_empty: bool) -> bool
         && (!utf8_empty || input.is_char_boundary())
 }
 
+/// Whether there is one thread alone, at a program's start.
+fn is_fresh(program: &Program, threads: &Threads) -> bool
+    ensures { result ≡ true → (slots : Slots)
+        × (threads.now.threads ≡ (slots, first_node program.now.start) ∷ []) }
+{
+    if threads.len() != 1 {
+        return false;
+    }
+    threads.node(0) == Node::first(program.start())
+}
+
+/// Whether a step of these threads was one of a walk alone, from a program's start, and came to
+/// nothing.
+fn came_to_nothing(program: &Program, threads: &Threads, next: &Threads, has_ended: bool) -> bool
+    ensures fresh { result ≡ true → (slots : Slots)
+        × (threads.now.threads ≡ (slots, first_node program.now.start) ∷ []) }
+    ensures nothing { result ≡ true → (next.now.threads ≡ []) × (has_ended ≡ false) }
+{
+    !has_ended && next.len() == 0 && is_fresh(program, threads)
+}
+
 /// Walks through a program that are followed side by side, from place to place.
 #[derive(Debug, Drop)]
 struct Walks {
     stepper: Stepper,
     // Whether the program asks for looks.
     asks_looks: bool,
+    // Bytes before which no match begins, as far as the search has met them.
+    idle: IdleBytes,
     // The threads at the place, in order of preference.
     live: Threads,
     // Room for those at the next place.
@@ -133,6 +151,7 @@ impl Walks {
         ensures slot_len { self.new.live.slot_len ≡ self.old.live.slot_len }
         ensures stepper { self.new.stepper ≡ self.old.stepper }
         ensures asks_looks { self.new.asks_looks ≡ self.old.asks_looks }
+        ensures idle { self.new.idle ≡ self.old.idle }
         ensures met { self.new.met ≡ self.old.met }
     {
         if self.met.is_none() && begins(input, utf8_empty) {
@@ -150,6 +169,7 @@ impl Walks {
     ) -> Result<Option<PatternID>, MatchError>
         requires made { AreOfProgram program.now self.old.stepper.widths self.old.asks_looks }
         requires threads { All (IsThreadOf program.now.states) self.old.live.threads }
+        requires idle { AreIdle program.now self.old.idle }
         ensures steps { IfOk result (λ met. (utf8_empty : Bool)
             → IsInside (search_of utf8_empty input.old) input.old.position
             → Steps (machine_in program.now (search_of utf8_empty input.old)) input.old.position []
@@ -157,6 +177,7 @@ impl Walks {
             (met_at input.old.position met self.new.stepper.slots)) }
         ensures threads { OnOk result (All (IsThreadOf program.now.states) self.new.live.threads) }
         ensures met { self.new.met ≡ self.old.met }
+        ensures idle { AreIdle program.now self.new.idle }
         ensures made { AreOfProgram program.now self.new.stepper.widths self.new.asks_looks }
         ensures slot_len { OnOk result (self.new.live.slot_len ≡ self.old.live.slot_len) }
         ensures work { self.new.stepper.followed
@@ -168,6 +189,10 @@ impl Walks {
         let ended = self
             .stepper
             .next_list(program, &place, &self.live, &mut self.next)?;
+        // Where looks are asked for they may be why nothing came of it.
+        if !self.asks_looks && came_to_nothing(program, &self.live, &self.next, ended.is_some()) {
+            self.idle.insert(place.byte);
+        }
         mem::swap(&mut self.live, &mut self.next);
         Ok(ended)
     }
@@ -184,12 +209,14 @@ impl Walks {
     ) -> Result<(), MatchError>
         requires made { AreOfProgram program.now self.old.stepper.widths self.old.asks_looks }
         requires inside { IsInside (search_of utf8_empty input.old) input.old.position }
+        requires idle { AreIdle program.now self.old.idle }
         requires slot_len { self.old.live.slot_len ≡ length slots.old }
         requires way { IsUnderWay program.now (search_of utf8_empty input.old) start
             input.old.position self.old.live.threads self.old.met slots.old }
         ensures way { OnOk result (IsUnderWay program.now (search_of utf8_empty input.old) start
             (input.old.position + 1) self.new.live.threads self.new.met slots.new) }
         ensures made { AreOfProgram program.now self.new.stepper.widths self.new.asks_looks }
+        ensures idle { AreIdle program.now self.new.idle }
         ensures slot_len { OnOk result (self.new.live.slot_len ≡ length slots.new) }
         ensures work { self.new.stepper.followed
             ≤ self.old.stepper.followed + node_count program.now }
@@ -209,8 +236,33 @@ impl Walks {
         ensures live { result ≡ true → self.now.live.threads ≡ [] }
         ensures starts { result ≡ true → self.now.met ≡ None
             → IsTrue (is_anchored (anchoring_of anchored)) }
+        ensures goes_on { result ≡ false → self.now.live.threads ≡ [] → self.now.met ≡ None
+            → is_anchored (anchoring_of anchored) ≡ false }
     {
         self.live.len() == 0 && (self.met.is_some() || anchored.is_anchored())
+    }
+
+    /// Moves an input to the next place inside its span, its slice and its content, if there is one;
+    /// while no thread lives and no end was met, to the next one at which a match may begin.
+    fn go_on<C: Cursor>(&self, input: &mut Input<C>) -> bool
+        ensures above { result ≡ true → input.old.position + 1 ≤ input.new.position }
+        ensures inside { result ≡ true → (utf8_empty : Bool)
+            → IsInside (search_of utf8_empty input.old) input.old.position
+            → IsInside (search_of utf8_empty input.old) input.new.position }
+        ensures skipped { result ≡ true → (k : ℕ) → input.old.position + 1 ≤ k
+            → k < input.new.position → (self.now.live.threads ≡ []) × (self.now.met ≡ None)
+            × IsKnownAt self.now.idle input.old.cursor.content k }
+        ensures last { result ≡ false → (utf8_empty : Bool)
+            → highest (search_of utf8_empty input.old) < input.old.position + 1 }
+        ensures same { IsMoved input.old input.new input.new.position input.old.asked }
+    {
+        if !advance(input) {
+            return false;
+        }
+        if self.live.len() == 0 && self.met.is_none() {
+            skip(&self.idle, input);
+        }
+        true
     }
 
     /// Follows the walks from a state, from the place at which an input stands on, which is the
@@ -225,6 +277,8 @@ impl Walks {
         slots: &mut [Option<NonMaxUsize>],
     ) -> Result<Option<PatternID>, MatchError>
         requires made { AreOfProgram program.now self.old.stepper.widths self.old.asks_looks }
+        requires start { start_node (characters_of program.now)
+            (anchoring_of input.old.asked.anchored) ≡ Some start }
         requires inside { IsInside (search_of utf8_empty input.old) input.old.position }
         requires first { input.old.position
             ≡ max input.old.asked.slice.start input.old.asked.span.start }
@@ -240,9 +294,10 @@ impl Walks {
     {
         self.live.clear(slots.len());
         self.met = None;
+        self.idle = IdleBytes::new();
         loop {
             self.visit(program, input, start, utf8_empty, slots)?;
-            if self.are_over(input.get_anchored()) || !advance(input) {
+            if self.are_over(input.get_anchored()) || !self.go_on(input) {
                 return Ok(self.met);
             }
         }
@@ -280,6 +335,7 @@ impl Cache {
             walks: Walks {
                 stepper: Stepper::new(alloc, program)?,
                 asks_looks: asks_looks(program.states()),
+                idle: IdleBytes::new(),
                 live: Threads::new(alloc, 0),
                 next: Threads::new(alloc, 0),
                 met: None,

@@ -1,4 +1,4 @@
-use Rattle.std.proofs.Common.{◌≡◌, Some, None, sym, subst, ◌∙◌}
+use Rattle.std.proofs.Common.{◌≡◌, Some, None, sym, ap, subst, ◌∙◌}
 use Rattle.rx_walks.specs.Finds.{IsInside}
 use Rattle.rx_walks.specs.ProgramFinds.{start_node}
 use Rattle.rx_program.specs.Programs.{characters_of}
@@ -31,6 +31,13 @@ follow-requires-clause-inside g c =
     let new = c.enter.new.input in
     let same : search_of b new ≡ search_of b old = same_search b new old c.enter.ensures.same.same.content c.enter.ensures.same.asked_is in
     subst (λ x. IsInside x new.position) (sym same) (c.enter.ensures.inside c.if-not-enter.false b)
+
+pub follow-requires-clause-start : goal.follow-requires-clause-start
+follow-requires-clause-start g c =
+    let p = c.args.program.now in
+    let starts : start_node (characters_of p) (anchoring_of c.args.input.now.asked.anchored) ≡ Some c.in-Some.start =
+    subst (λ a. start_node (characters_of p) (anchoring_of a) ≡ Some c.in-Some.start) c.get_anchored.ensures (sym c.start_state.ensures ∙ c.in-Some.is) in
+    subst (λ x. start_node (characters_of p) (anchoring_of x) ≡ Some c.in-Some.start) (sym (ap (λ x. x.anchored) c.enter.ensures.same.asked_is)) starts
 
 pub returns-clause-answer : goal.returns-clause-answer
 returns-clause-answer g c =

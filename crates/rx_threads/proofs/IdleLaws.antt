@@ -1,0 +1,292 @@
+-- Bytes before which no match begins: which they are, and that they may be skipped.
+use Rattle.std.proofs.Common.{inl, inr, ◌≡◌, ◌⊎◌, ℕ, zero, suc, ◌+◌, ◌-◌, ◌<◌, ◌≤◌, Bool, true, false, ◌&&◌, eqb, IsTrue, Contains, List, [], ◌∷◌, ◌++◌, All, map, length, take, drop, min, replicate, get_or, Option, Some, None, slice_get, slice_index, refl, sym, ap, ap₂, subst, ◌∙◌, arith}
+use Rattle.std.proofs.lemmas.List.{get_or-take, get_or-drop, length-take, length-drop}
+use Rattle.std.proofs.lemmas.List.Elements.{All-nil}
+use Rattle.std.proofs.lemmas.Bool.{eqb-true}
+use Rattle.std.proofs.lemmas.Option.{slice_get-get_or, slice_get_within, get_or_from_slice_get}
+use Rattle.std.specs.Option.{is_some}
+use Rattle.std.specs.Str.{IsCharBoundary}
+use Rattle.rx_program.specs.declared.states.State.{State}
+use Rattle.rx_program.specs.declared.states.State.TheVariants as state
+use Rattle.rx_program.specs.Programs.{ByteProgram, characters_of}
+use Rattle.rx_program.specs.Code.{place_of}
+use Rattle.rx_automata.specs.Automata.{step_of}
+use Rattle.rx_walks.specs.Looks as walks
+use Rattle.rx_walks.specs.Machines.{Machine, Outcome, goes, reads}
+use Rattle.rx_walks.specs.Programs.{Haystack, is_within, left_from}
+use Rattle.rx_walks.specs.Bytes.{read_on}
+use Rattle.rx_walks.specs.Finds.{Search, IsInside, IsPossible, Anchoring, unanchored, anchored, anchored_pattern, is_anchored}
+use Rattle.rx_walks.specs.ProgramFinds.{start_node, lowest, highest}
+use Rattle.rx_walks.specs.Laws.{Begins}
+use Rattle.rx_walks.specs.Steps.{Steps, done, passed, met, opened, read}
+use Rattle.rx_input.specs.Cursors.{CursorState, piece_of}
+use Rattle.rx_threads.specs.declared.place.Place.{Place}
+use Rattle.rx_threads.specs.Threads.{Slots, Thread, ThreadList, IsThreadOf, first_node, no_slots}
+use Rattle.rx_threads.specs.Lists.{Asks, IsPlace, IsNextList, MakesMoves, met_at, move_at, read_next, slot_machine}
+use Rattle.rx_threads.specs.Searching.{haystack_in}
+use Rattle.rx_threads.specs.Coming.{machine_in, HasStarted, IsUnderWay}
+use Rattle.rx_threads.specs.Idle.{Knows, IsKnownAt, IsIdle, AreIdle}
+use Rattle.rx_threads.proofs.PlaceLaws.{moves_at_place}
+use Rattle.rx_threads.proofs.ByteLaws.{below_or_not, within_is, next_byte_is}
+use Rattle.rx_threads.proofs.WayLaws.{way_passed}
+
+-- ---- the set
+
+pub none_known : (n b : ℕ) → Knows (replicate n false) b → ⊥
+none_known zero b e = absurd (cc e)
+none_known (suc n) zero e = absurd (cc e)
+none_known (suc n) (suc b) e = none_known n b e
+
+-- so many are known, and one more
+pub one_more_known : (idle : List Bool) (bytes : List ℕ) (n b : ℕ) → ((k : ℕ) → k < n → IsKnownAt idle bytes k) → slice_get bytes n ≡ Some b → Knows idle b → (k : ℕ) → k < n + 1 → IsKnownAt idle bytes k
+one_more_known idle bytes n b known is member k lt = elim (below_or_not k n) [
+  | inl less ↦ known k less
+  | inr le ↦ (b, ap (λ j. slice_get bytes j) (omega (arith, le, lt)) ∙ is, member)
+]
+
+-- what is known of the bytes of a part is known of the whole
+known_in_part : (idle : List Bool) (bytes : List ℕ) (pos few k : ℕ) → IsKnownAt idle (take few (drop pos bytes)) k → IsKnownAt idle bytes (pos + k)
+known_in_part idle bytes pos few k (b, is, member) =
+    let part = take few (drop pos bytes) in
+    let inside : k < length part = slice_get_within part k b is in
+    let lt : k < few = omega (arith, inside, length-take few (drop pos bytes)) in
+    let within : pos + k < length bytes = omega (arith, inside, length-take few (drop pos bytes), length-drop pos bytes) in
+    let same : get_or part k 0 ≡ get_or bytes (pos + k) 0 = get_or-take few (drop pos bytes) k 0 lt ∙ get_or-drop pos bytes k 0 in
+    (b, slice_get-get_or bytes (pos + k) 0 within ∙ ap Some (sym same ∙ get_or_from_slice_get part k b 0 is), member)
+
+-- and what is known of a piece is known of the content
+pub known_in_piece : (idle : List Bool) (c : CursorState) (i pos : ℕ) (piece : List ℕ) (few n k : ℕ) → piece ≡ piece_of c → c.start + pos ≡ i → i ≤ k → k < i + n
+    → ((j : ℕ) → j < n → IsKnownAt idle (take few (take (length piece - pos) (drop pos piece))) j) → IsKnownAt idle c.content k
+known_in_piece idle c i pos piece few n k is at from to known =
+    let j = k - i in
+    let here : IsKnownAt idle (take (length piece - pos) (drop pos piece)) j =
+    subst (λ x. IsKnownAt idle (take (length piece - pos) (drop pos piece)) x) (omega arith) (known_in_part idle (take (length piece - pos) (drop pos piece)) 0 few j (known j (omega (arith, from, to)))) in
+    let there : IsKnownAt idle piece (pos + j) = known_in_part idle piece pos (length piece - pos) j here in
+    let far : IsKnownAt idle c.content (c.start + (pos + j)) = known_in_part idle c.content c.start (c.end - c.start) (pos + j) (subst (λ xs. IsKnownAt idle xs (pos + j)) is there) in
+    subst (λ x. IsKnownAt idle c.content x) (omega (arith, at, from)) far
+
+pub known_joined : (idle : List Bool) (content : List ℕ) (first i j : ℕ) → ((k : ℕ) → first ≤ k → k < i → IsKnownAt idle content k) → ((k : ℕ) → i ≤ k → k < j → IsKnownAt idle content k)
+    → (k : ℕ) → first ≤ k → k < j → IsKnownAt idle content k
+known_joined idle content first i j before behind k from to = elim (below_or_not k i) [ inl less ↦ before k from less | inr le ↦ behind k le to ]
+
+-- ---- which bytes are learnt
+
+same_node : (a b : ℕ × ℕ) → (eqb a.0 b.0 && eqb a.1 b.1) ≡ true → a ≡ b
+same_node a b e = ap₂ (λ x y. (x, y)) (eqb-true a.0 b.0 (first_of (eqb a.0 b.0) (eqb a.1 b.1) e)) (eqb-true a.1 b.1 (second_of (eqb a.0 b.0) (eqb a.1 b.1) e))
+  where
+    first_of : (x y : Bool) → (x && y) ≡ true → x ≡ true
+    first_of true y f = refl
+    first_of false y f = absurd (cc f)
+    second_of : (x y : Bool) → (x && y) ≡ true → y ≡ true
+    second_of true y f = f
+    second_of false y f = absurd (cc f)
+
+-- one thread, at this node
+pub alone : (threads : List Thread) (a b : ℕ × ℕ) (is_same : Bool) → length threads ≡ 1 → ((x : Thread) → a ≡ (get_or threads 0 x).1) → is_same ≡ (eqb a.0 b.0 && eqb a.1 b.1) → is_same ≡ true
+    → (slots : Slots) × (threads ≡ (slots, b) ∷ [])
+alone [] a b is_same len node told is = absurd (omega (arith, len))
+alone ((slots, q) ∷ []) a b is_same len node told is =
+    let here : q ≡ b = sym (node (slots, q)) ∙ same_node a b (sym told ∙ is) in
+    (slots, ap (λ r. (slots, r) ∷ []) here)
+alone (x ∷ y ∷ threads) a b is_same len node told is = absurd (omega (arith, len))
+
+pub no_threads : (threads : List Thread) → length threads ≡ 0 → threads ≡ []
+no_threads [] e = refl
+no_threads (x ∷ threads) e = absurd (omega (arith, e))
+
+pub no_value : (o : Option ℕ) → is_some o ≡ false → o ≡ None
+no_value None e = refl
+no_value (Some k) e = absurd (cc e)
+
+abbrev nodes_of : List Thread → List (ℕ × ℕ)
+nodes_of threads = map (λ t. t.1) threads
+
+-- threads at the same nodes, whatever they noted, go on to threads at the same nodes
+same_on : (rs : List (ℕ × ℕ)) (n n' : Slots) (threads threads' : List Thread) → nodes_of threads' ≡ nodes_of threads
+    → nodes_of (map (λ r. (n', r)) rs ++ threads') ≡ nodes_of (map (λ r. (n, r)) rs ++ threads)
+same_on [] n n' threads threads' e = e
+same_on (r ∷ rs) n n' threads threads' e = ap (λ xs. r ∷ xs) (same_on rs n n' threads threads' e)
+
+abbrev SlotMachine : Type 0
+SlotMachine = Machine (ℕ × ℕ) Slots
+
+-- where a node goes on without a read it does so in both
+abbrev GoesAlike : SlotMachine → ℕ → SlotMachine → ℕ → Type 0
+GoesAlike m i m' i' = (q : ℕ × ℕ) (rs : List (ℕ × ℕ)) → m.move i q ≡ goes rs → m'.move i' q ≡ goes rs
+
+head_is : (a b : ℕ × ℕ) (xs ys : List (ℕ × ℕ)) → a ∷ xs ≡ b ∷ ys → a ≡ b
+head_is a b xs ys e = cc e
+
+tail_is : (a b : ℕ × ℕ) (xs ys : List (ℕ × ℕ)) → a ∷ xs ≡ b ∷ ys → xs ≡ ys
+tail_is a b xs ys e = cc e
+
+-- so a step that comes to nothing does so wherever nodes go on alike
+nothing_alike : (m : SlotMachine) (i : ℕ) (m' : SlotMachine) (i' : ℕ) → GoesAlike m i m' i' → {seen : List (ℕ × ℕ)} {threads next : List Thread} {ended : Option (Outcome Slots)}
+    → Steps m i seen threads next ended → next ≡ [] → ended ≡ None → (threads' : List Thread) → nodes_of threads' ≡ nodes_of threads → Steps m' i' seen threads' [] None
+nothing_alike m i m' i' alike done e f [] g = done
+nothing_alike m i m' i' alike done e f (t ∷ threads') g = absurd (cc g)
+nothing_alike m i m' i' alike (passed c rest) e f [] g = absurd (cc g)
+nothing_alike m i m' i' alike {seen = seen} (passed {q = q} {others = others} c rest) e f ((n', q') ∷ threads') g =
+    let here : q' ≡ q = head_is q' q (nodes_of threads') (nodes_of others) g in
+    passed (subst (Contains seen) (sym here) c) (nothing_alike m i m' i' alike rest e f threads' (tail_is q' q (nodes_of threads') (nodes_of others) g))
+nothing_alike m i m' i' alike (met new is) e f threads' g = absurd (cc f)
+nothing_alike m i m' i' alike (opened rs new is rest) e f [] g = absurd (cc g)
+nothing_alike m i m' i' alike {seen = seen} (opened {n = n} {q = q} {others = others} rs new is rest) e f ((n', q') ∷ threads') g =
+    let here : q' ≡ q = head_is q' q (nodes_of threads') (nodes_of others) g in
+    let behind = tail_is q' q (nodes_of threads') (nodes_of others) g in
+    subst (λ r. Steps m' i' seen ((n', r) ∷ threads') [] None) (sym here)
+    (opened rs new (alike q rs is) (nothing_alike m i m' i' alike rest e f (map (λ r. (m'.note i' q n', r)) rs ++ threads') (same_on rs (m.note i q n) (m'.note i' q n') others threads' behind)))
+nothing_alike m i m' i' alike (read r new is rest) e f threads' g = absurd (cc e)
+
+-- at two places with the same next byte the states of a program that asks for no look go on alike
+reads_alike : (step : ℕ → ℕ → Option (Option ℕ)) (q r s i i' : ℕ) (o : Option ℕ) (rs : List (ℕ × ℕ)) → read_next step q r s i o ≡ goes rs → read_next step q r s i' o ≡ goes rs
+reads_alike step q r s i i' None rs e = e
+reads_alike step q r s i i' (Some b) rs e = on (step s b) e
+  where
+    on : (o : Option (Option ℕ)) → read_on q r i o ≡ goes rs → read_on q r i' o ≡ goes rs
+    on None f = f
+    on (Some None) f = absurd (cc f)
+    on (Some (Some s')) f = absurd (cc f)
+
+moves_alike : (states : List State) (place place' : Place) (i i' : ℕ) (q : ℕ × ℕ) (x : State) (rs : List (ℕ × ℕ)) → place.byte ≡ place'.byte → ((l : walks.Look) → Asks states l → ⊥) → slice_get states q.0 ≡ Some x
+    → move_at place i q x ≡ goes rs → move_at place' i' q x ≡ goes rs
+moves_alike states place place' i i' q (state.Ranges automaton r) rs same never is e =
+    subst (λ o. read_next (step_of automaton.value) q.0 r q.1 i' o ≡ goes rs) same (reads_alike (step_of automaton.value) q.0 r q.1 i i' place.byte rs e)
+moves_alike states place place' i i' q (state.Look asked r) rs same never is e = absurd (never (place_of asked) (record { number = q.0; asked = asked; next = r; stands = is; is = refl }))
+moves_alike states place place' i i' q (state.Empty r) rs same never is e = e
+moves_alike states place place' i i' q (state.BinaryUnion first second) rs same never is e = e
+moves_alike states place place' i i' q (state.Union alternates) rs same never is e = e
+moves_alike states place place' i i' q (state.Capture slot r) rs same never is e = e
+moves_alike states place place' i i' q (state.Match k) rs same never is e = e
+
+goes_alike : (p : ByteProgram) (m m' : SlotMachine) (i i' : ℕ) (place place' : Place) → place.byte ≡ place'.byte → ((l : walks.Look) → Asks p.states l → ⊥)
+    → MakesMoves m i p.states place → MakesMoves m' i' p.states place' → GoesAlike m i m' i'
+goes_alike p m m' i i' place place' same never moves moves' q rs is = by_state (slice_get p.states q.0) refl
+  where
+    by_state : (o : Option State) → slice_get p.states q.0 ≡ o → m'.move i' q ≡ goes rs
+    by_state None none = moves'.elsewhere q none ∙ sym (moves.elsewhere q none) ∙ is
+    by_state (Some x) here = moves'.at_state q x here ∙ moves_alike p.states place place' i i' q x rs same never here (sym (moves.at_state q x here) ∙ is)
+
+-- the byte stands last in so many and one of it
+last_of : (n b : ℕ) → slice_get (drop n (take (suc n) (replicate (suc n) b))) 0 ≡ Some b
+last_of zero b = refl
+last_of (suc n) b = last_of n b
+
+-- a content with this byte at this place
+abbrev with_byte : ℕ → ℕ → Haystack walks.Look
+with_byte i b = record { content = replicate (suc i) b; low = 0; high = suc i; holds = λ l j. false }
+
+-- a step of one thread at the start that comes to nothing tells of its byte that it is idle
+pub is_idle : (p : ByteProgram) (place : Place) (b : ℕ) (threads next : List Thread) (ended : Option ℕ) (noted slots : Slots) → IsNextList p place threads next ended noted
+    → threads ≡ (slots, first_node p.start) ∷ [] → next ≡ [] → ended ≡ None → place.byte ≡ Some b → ((l : walks.Look) → Asks p.states l → ⊥) → IsIdle p b
+is_idle p place b threads next ended noted slots list are none unmet byte never h i slots' inside left =
+    let h0 = with_byte place.at b in
+    let here : IsPlace p.states h0 place.at place = record {
+      at = refl;
+      inside = within_is 0 (suc place.at) place.at (omega arith) (omega arith);
+      byte = last_of place.at b ∙ sym byte;
+      looks = λ l asks. absurd (never l asks);
+    } in
+    let place' : Place = record place { at = i } in
+    let there : IsPlace p.states h i place' = record {
+      at = refl;
+      inside = inside;
+      byte = left ∙ sym byte;
+      looks = λ l asks. absurd (never l asks);
+    } in
+    let alike = goes_alike p (slot_machine p h0) (slot_machine p h) place.at i place place' refl never (moves_at_place p h0 place.at place here) (moves_at_place p h i place' there) in
+    nothing_alike (slot_machine p h0) place.at (slot_machine p h) i alike (list h0 place.at here) none (ap (λ k. met_at place.at k noted) unmet)
+    ((slots', first_node p.start) ∷ []) (sym (ap (λ xs. nodes_of xs) are))
+
+-- ---- what is idle may be skipped
+
+-- whether a start begins at a place inside is known
+begins_or_not : (s : Search) (i : ℕ) → s.anchoring ≡ unanchored → IsInside s i → Begins s i ⊎ (Begins s i → ⊥)
+begins_or_not s i free inside = by_flag s.utf8_empty refl
+  where
+    possible : IsPossible s i
+    possible = (inside, λ tied. absurd (cc (subst (λ a. IsTrue (is_anchored a)) free tied)))
+    by_bytes : IsCharBoundary s.content i ⊎ (IsCharBoundary s.content i → ⊥)
+    by_bytes = elim (below_or_not i (length s.content)) [
+      | inr past ↦ inl (inside.4, λ lt. absurd (omega (arith, lt, past)))
+      | inl before ↦ elim (below_or_not (slice_index s.content i) 192) [
+        | inr lead ↦ inl (inside.4, λ lt high. lead)
+        | inl low ↦ elim (below_or_not (slice_index s.content i) 128) [
+          | inl ascii ↦ inl (inside.4, λ lt high. absurd (omega (arith, ascii, high)))
+          | inr high ↦ inr (λ cut. let lead = cut.1 before high in absurd (omega (arith, lead, low)))
+        ]
+      ]
+    ]
+    by_flag : (b : Bool) → s.utf8_empty ≡ b → Begins s i ⊎ (Begins s i → ⊥)
+    by_flag false e = inl (possible, λ told. absurd (cc (subst (λ x. IsTrue x) e told)))
+    by_flag true e = elim by_bytes [
+      | inl cut ↦ inl (possible, λ told. cut)
+      | inr never ↦ inr (λ begins. never (begins.1 e))
+    ]
+
+-- an unanchored search starts at the program's start
+pub unanchored_start : (p : ByteProgram) (a : Anchoring) (q : ℕ) → is_anchored a ≡ false → start_node (characters_of p) a ≡ Some q → (a ≡ unanchored) × (q ≡ p.start)
+unanchored_start p unanchored q free starts = (refl, sym (some_is starts))
+  where
+    some_is : {x y : ℕ} → Some x ≡ Some y → x ≡ y
+    some_is e = cc e
+unanchored_start p anchored q free starts = absurd (cc free)
+unanchored_start p (anchored_pattern k) q free starts = absurd (cc free)
+
+-- one place
+one_skipped : (p : ByteProgram) (s : Search) (i b : ℕ) (slots : Slots) → s.anchoring ≡ unanchored → IsInside s i → i < highest s → IsIdle p b → slice_get s.content i ≡ Some b
+    → IsUnderWay p s p.start i [] None slots → IsUnderWay p s p.start (i + 1) [] None slots
+one_skipped p s i b slots free inside lt idle is way = elim (begins_or_not s i free inside) [
+  | inl begins ↦ way_passed p s p.start i live ((fresh, (p.start, 0)) ∷ []) [] None slots None slots inside refl (inl (refl, begins, refl)) steps (All-nil (IsThreadOf p.states)) way
+  | inr never ↦ way_passed p s p.start i live [] [] None slots None slots inside refl (inr (λ none. never, refl)) done (All-nil (IsThreadOf p.states)) way
+]
+  where
+    live : ThreadList
+    live = record { slot_len = length slots; threads = [] }
+    fresh : Slots
+    fresh = no_slots (length slots)
+    h : Haystack walks.Look
+    h = haystack_in p.line_terminator s
+    steps : Steps (machine_in p s) i [] ((fresh, (p.start, 0)) ∷ []) [] None
+    steps = idle h i fresh (within_is (lowest s) (highest s) i (omega (arith, inside.0, inside.2)) (omega (arith, lt)))
+        (next_byte_is s.content (min s.slice_end s.end) i (omega (arith, lt)) ∙ is)
+
+-- so many places
+many_skipped : (p : ByteProgram) (s : Search) (idle : List Bool) (n i : ℕ) (slots : Slots) → s.anchoring ≡ unanchored → AreIdle p idle → lowest s ≤ i → i + n ≤ highest s
+    → ((k : ℕ) → i ≤ k → k < i + n → IsKnownAt idle s.content k) → IsUnderWay p s p.start i [] None slots → IsUnderWay p s p.start (i + n) [] None slots
+many_skipped p s idle zero i slots free are low high known way = subst (λ j. IsUnderWay p s p.start j [] None slots) (omega arith) way
+many_skipped p s idle (suc n) i slots free are low high known way =
+    let here = known i (omega arith) (omega arith) in
+    let inside : IsInside s i = (omega (arith, low), omega (arith, high), omega (arith, low), omega (arith, high), omega (arith, high)) in
+    let on = one_skipped p s i here.0 slots free inside (omega (arith, high)) (are here.0 here.2) here.1 way in
+    let more : i + 1 + n ≡ i + suc n = omega arith in
+    subst (λ j. IsUnderWay p s p.start j [] None slots) more
+    (many_skipped p s idle n (i + 1) slots free are (omega (arith, low)) (omega (arith, high)) (λ k from to. known k (omega (arith, from)) (omega (arith, to))) on)
+
+-- what a search knows of the places between two, of which it passes over all
+abbrev pub AreSkipped : List Bool → List ℕ → ℕ → ℕ → List Thread → Option ℕ → Type 0
+AreSkipped idle content i j live pattern =
+    (k : ℕ) → i ≤ k → k < j → (live ≡ []) × (pattern ≡ None) × IsKnownAt idle content k
+
+pub way_skipped : (p : ByteProgram) (s : Search) (q i j : ℕ) (idle : List Bool) (live : List Thread) (pattern : Option ℕ) (slots : Slots) → i ≤ j → lowest s ≤ i → j ≤ highest s → AreIdle p idle
+    → (live ≡ [] → pattern ≡ None → (s.anchoring ≡ unanchored) × (q ≡ p.start)) → AreSkipped idle s.content i j live pattern → IsUnderWay p s q i live pattern slots → IsUnderWay p s q j live pattern slots
+way_skipped p s q i j idle live pattern slots le low high are free skipped way = elim (below_or_not i j) [
+  | inr past ↦ subst (λ k. IsUnderWay p s q k live pattern slots) (omega (arith, le, past)) way
+  | inl lt ↦
+      let none : live ≡ [] = no_thread (skipped i (omega arith) lt) in
+      let unmet : pattern ≡ None = no_end (skipped i (omega arith) lt) in
+      let tied = free none unmet in
+      let at_start : IsUnderWay p s p.start i [] None slots =
+      subst (λ r. IsUnderWay p s r i [] None slots) tied.1 (subst (λ k. IsUnderWay p s q i [] k slots) unmet (subst (λ xs. IsUnderWay p s q i xs pattern slots) none way)) in
+      let so_many : i + (j - i) ≡ j = omega (arith, le) in
+      let there : IsUnderWay p s p.start j [] None slots = subst (λ k. IsUnderWay p s p.start k [] None slots) so_many
+          (many_skipped p s idle (j - i) i slots tied.0 are low (omega (arith, le, high)) (λ k from to. is_known k (skipped k from (omega (arith, to, so_many)))) at_start) in
+      subst (λ xs. IsUnderWay p s q j xs pattern slots) (sym none) (subst (λ k. IsUnderWay p s q j [] k slots) (sym unmet) (subst (λ r. IsUnderWay p s r j [] None slots) (sym tied.1) there))
+]
+  where
+    no_thread : {A B C : Type 0} → A × B × C → A
+    no_thread (a, b, c) = a
+    no_end : {A B C : Type 0} → A × B × C → B
+    no_end (a, b, c) = b
+    is_known : (k : ℕ) → (live ≡ []) × (pattern ≡ None) × IsKnownAt idle s.content k → IsKnownAt idle s.content k
+    is_known k (a, b, c) = c
