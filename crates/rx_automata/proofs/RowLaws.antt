@@ -1,5 +1,5 @@
 -- Rows of ranges of bytes.
-use Rattle.std.proofs.Common.{◌≡◌, ℕ, ◌+◌, ◌<◌, ◌≤◌, ◌⊎◌, Bool, true, false, ◌&&◌, cond, nat_le, nat_eq, List, [], ◌∷◌, ◌++◌, Option, Some, None, refl, sym, ap, subst, ◌∙◌, arith, inl, inr}
+use Rattle.std.proofs.Common.{◌≡◌, ℕ, zero, suc, ◌+◌, length, drop, get_or, ◌<◌, ◌≤◌, ◌⊎◌, Bool, true, false, ◌&&◌, cond, nat_le, nat_eq, List, [], ◌∷◌, ◌++◌, Option, Some, None, refl, sym, ap, subst, ◌∙◌, arith, inl, inr}
 use Rattle.std.proofs.lemmas.Bool.Decides.{nat_tests}
 use Rattle.rx_automata.specs.declared.byte_ranges.ByteRange.{ByteRange}
 use Rattle.rx_automata.specs.Automata.{look_up, RiseWithin}
@@ -24,6 +24,18 @@ rise_above low high [] b rise past = refl
 rise_above low high (x ∷ row) b rise past =
     let last = low_high (x.last + 1) high row rise.2 in
     skips (nat_le x.first b && nat_le b x.last) x.next (look_up row b) (not_in x b (inr (omega (arith, last, past)))) (rise_above (x.last + 1) high row b rise.2 past)
+
+pub rise_below : (low high : ℕ) (row : List ByteRange) (b : ℕ) → RiseWithin low high row → b < low → look_up row b ≡ None
+rise_below low high [] b rise before = refl
+rise_below low high (x ∷ row) b rise before =
+    skips (nat_le x.first b && nat_le b x.last) x.next (look_up row b) (not_in x b (inl (omega (arith, rise.0, before)))) (rise_below (x.last + 1) high row b rise.2 (omega (arith, rise.0, rise.1, before)))
+
+-- a byte before the first of the ranges that are left leads nowhere
+pub stops : (row : List ByteRange) (i low b : ℕ) (d : ByteRange) → i < length row → RiseWithin low 256 (drop i row) → b < (get_or row i d).first → look_up (drop i row) b ≡ None
+stops [] i low b d lt rise before = absurd (omega (arith, lt))
+stops (x ∷ row) zero low b d lt rise before =
+    skips (nat_le x.first b && nat_le b x.last) x.next (look_up row b) (not_in x b (inl before)) (rise_below (x.last + 1) 256 row b rise.2 (omega (arith, rise.1, before)))
+stops (x ∷ row) (suc i) low b d lt rise before = stops row i low b d (omega (arith, lt)) rise before
 
 -- two rows in a row
 abbrev pub or_else : Option (Option ℕ) → Option (Option ℕ) → Option (Option ℕ)

@@ -1,7 +1,7 @@
 //! Ranges of bytes that lead to a state, and rows of them.
 
 ghost use Rattle.std.specs.Prelude.{ℕ, ◌≡◌, ◌+◌, ◌≤◌, ◌<◌, cond, nat_eq, Some, OnOk, MatchBool};
-ghost use Rattle.rx_automata.specs.Automata.{look_up, RiseWithin};
+ghost use Rattle.rx_automata.specs.Automata.{look_up, IsRow, RiseWithin};
 
 use std::alloc::AllocError;
 
@@ -25,12 +25,16 @@ impl ByteRange {
     }
 }
 
-/// Where a byte leads.
+/// Where a byte leads by the ranges of a row, which are in order.
 pub(crate) fn look_up(row: &[ByteRange], byte: u8) -> Option<Option<usize>>
+    requires { IsRow row.now }
     ensures { result ≡ look_up row.now byte }
 {
     for range in row {
-        if range.first <= byte && byte <= range.last {
+        if byte < range.first {
+            return None;
+        }
+        if byte <= range.last {
             return Some(range.next);
         }
     }

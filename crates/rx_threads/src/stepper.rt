@@ -109,6 +109,7 @@ struct Closure {
 
 impl Closure {
     /// Follows a node, if it wasn't seen at this place, with the slots at hand.
+    #[inline(always)]
     fn enter(
         &mut self,
         program: &Program,

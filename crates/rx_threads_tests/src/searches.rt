@@ -1,11 +1,15 @@
 //! Searches of content that lies in pieces.
 
+ghost use Rattle.std.specs.Prelude.{◌<◌, ◌^◌, length};
+ghost use Rattle.rx_input.specs.Chunks.{joined};
+ghost use Rattle.rx_threads.specs.Coming.{IsCacheOf};
+
 use crate::slots::spelled;
 use rx_captures::{Anchored, NonMaxUsize, PatternID};
 use rx_grammar::parse;
 use rx_grammar::syntax::Config;
 use rx_input::{ChunkCursor, Cursor, Input};
-use rx_program::compile;
+use rx_program::{Program, compile};
 use rx_threads::{Cache, search_slots};
 use std::alloc::Global;
 use std::test::Fail;
@@ -118,5 +122,54 @@ fn anchored_searches(rt: HostRuntime) -> Result<(), Fail> {
     let mut input = Input::new("foobar");
     input.set_anchored(Anchored::Yes);
     assert!(rt; found(alloc, "bar", input)?.as_str() == "");
+    Ok(())
+}
+
+/// The place where a search with a cache finds a pattern's match, as `found` spells it.
+fn found_with(
+    program: &Program,
+    cache: &mut Cache,
+    content: &[&[u8]],
+    alloc: Global,
+) -> Result<String, Fail>
+    requires made { IsCacheOf program.now cache.old }
+    requires len { length (joined content.now) < 2 ^ 63 }
+    ensures made { IsCacheOf program.now cache.new }
+{
+    let mut slots = [None; 2];
+    let mut input = Input::new(ChunkCursor::new(content));
+    search_slots(program, cache, &mut input, true, &mut slots)?;
+    spelled(alloc, &slots)
+}
+
+/// A byte that was passed over at one place is one at which a match begins for another program.
+#[test]
+fn a_cache_for_another_program(rt: HostRuntime) -> Result<(), Fail> {
+    let alloc = rt.alloc();
+    let first = compile(alloc, &[&parse(alloc, "x", &Config::new())?], b'\n', None)?;
+    let second = compile(alloc, &[&parse(alloc, "a", &Config::new())?], b'\n', None)?;
+    let content: [&[u8]; 3] = [b"bab", b"", b"ax"];
+    let mut cache = Cache::new(alloc, &first)?;
+    assert!(rt; found_with(&first, &mut cache, &content, alloc)?.as_str() == "4 5");
+    assert!(rt; found_with(&first, &mut cache, &content, alloc)?.as_str() == "4 5");
+    cache.reset(alloc, &second)?;
+    assert!(rt; found_with(&second, &mut cache, &content, alloc)?.as_str() == "1 2");
+    Ok(())
+}
+
+/// A byte at which a look was refused isn't passed over where the look holds.
+#[test]
+fn a_look_that_is_refused_first(rt: HostRuntime) -> Result<(), Fail> {
+    let alloc = rt.alloc();
+    let table = [
+        (r"\bb", "5 6 - - - -"),
+        (r"(?m)^b|c", "8 9 - - - -"),
+        ("[b]$", "9 10 - - - -"),
+    ];
+    for (pattern, wanted) in table {
+        let chunks: [&[u8]; 3] = [b"abab ", b"b.", b"\nbb"];
+        let found = found(alloc, pattern, Input::new(ChunkCursor::new(&chunks)))?;
+        assert!(rt; found.as_str() == wanted, "{pattern}: {found}");
+    }
     Ok(())
 }
