@@ -4,7 +4,7 @@
 # make edits    tries each edit of code that the prover must refuse: those of crates/NAME/must-fail,
 #               which the gate tries too, and those of crates/NAME/must-fail-more. CRATES='NAME ..'
 #               names some crates, JOBS=N tries N of them at a time
-# make bench    times large texts, their reports, edits, ropes and patterns
+# make bench    times large texts, their reports, edits, ropes, patterns and searches
 # make clean    removes what these made
 
 # The command of the Rattle kit; make RT=PROGRAM names another.
@@ -54,6 +54,7 @@ bench: $(program)
 	@RT='$(RT)' sh bench/live.sh
 	@RT='$(RT)' sh bench/patterns.sh
 	@RT='$(RT)' sh bench/programs.sh
+	@RT='$(RT)' sh bench/searches.sh
 
 clean:
 	rm -rf bin $(wildcard crates/*/out)

@@ -77,6 +77,7 @@ same_node a b e = ap₂ (λ x y. (x, y)) (eqb-true a.0 b.0 (first_of (eqb a.0 b.
     first_of : (x y : Bool) → (x && y) ≡ true → x ≡ true
     first_of true y f = refl
     first_of false y f = absurd (cc f)
+
     second_of : (x y : Bool) → (x && y) ≡ true → y ≡ true
     second_of true y f = f
     second_of false y f = absurd (cc f)
@@ -206,6 +207,7 @@ begins_or_not s i free inside = by_flag s.utf8_empty refl
   where
     possible : IsPossible s i
     possible = (inside, λ tied. absurd (cc (subst (λ a. IsTrue (is_anchored a)) free tied)))
+
     by_bytes : IsCharBoundary s.content i ⊎ (IsCharBoundary s.content i → ⊥)
     by_bytes = elim (below_or_not i (length s.content)) [
       | inr past ↦ inl (inside.4, λ lt. absurd (omega (arith, lt, past)))
@@ -217,6 +219,7 @@ begins_or_not s i free inside = by_flag s.utf8_empty refl
         ]
       ]
     ]
+
     by_flag : (b : Bool) → s.utf8_empty ≡ b → Begins s i ⊎ (Begins s i → ⊥)
     by_flag false e = inl (possible, λ told. absurd (cc (subst (λ x. IsTrue x) e told)))
     by_flag true e = elim by_bytes [
@@ -243,10 +246,13 @@ one_skipped p s i b slots free inside lt idle is way = elim (begins_or_not s i f
   where
     live : ThreadList
     live = record { slot_len = length slots; threads = [] }
+
     fresh : Slots
     fresh = no_slots (length slots)
+
     h : Haystack walks.Look
     h = haystack_in p.line_terminator s
+
     steps : Steps (machine_in p s) i [] ((fresh, (p.start, 0)) ∷ []) [] None
     steps = idle h i fresh (within_is (lowest s) (highest s) i (omega (arith, inside.0, inside.2)) (omega (arith, lt)))
         (next_byte_is s.content (min s.slice_end s.end) i (omega (arith, lt)) ∙ is)
@@ -280,13 +286,15 @@ way_skipped p s q i j idle live pattern slots le low high are free skipped way =
       subst (λ r. IsUnderWay p s r i [] None slots) tied.1 (subst (λ k. IsUnderWay p s q i [] k slots) unmet (subst (λ xs. IsUnderWay p s q i xs pattern slots) none way)) in
       let so_many : i + (j - i) ≡ j = omega (arith, le) in
       let there : IsUnderWay p s p.start j [] None slots = subst (λ k. IsUnderWay p s p.start k [] None slots) so_many
-          (many_skipped p s idle (j - i) i slots tied.0 are low (omega (arith, le, high)) (λ k from to. is_known k (skipped k from (omega (arith, to, so_many)))) at_start) in
+      (many_skipped p s idle (j - i) i slots tied.0 are low (omega (arith, le, high)) (λ k from to. is_known k (skipped k from (omega (arith, to, so_many)))) at_start) in
       subst (λ xs. IsUnderWay p s q j xs pattern slots) (sym none) (subst (λ k. IsUnderWay p s q j [] k slots) (sym unmet) (subst (λ r. IsUnderWay p s r j [] None slots) (sym tied.1) there))
 ]
   where
     no_thread : {A B C : Type 0} → A × B × C → A
     no_thread (a, b, c) = a
+
     no_end : {A B C : Type 0} → A × B × C → B
     no_end (a, b, c) = b
+
     is_known : (k : ℕ) → (live ≡ []) × (pattern ≡ None) × IsKnownAt idle s.content k → IsKnownAt idle s.content k
     is_known k (a, b, c) = c

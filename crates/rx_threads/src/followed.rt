@@ -4,8 +4,8 @@ use counters::Counter;
 use std::fmt;
 use std::marker::Model;
 
-/// How many nodes were followed. It takes no bytes when the program runs, so that only contracts can
-/// read it, and only what follows a node changes it.
+/// How many nodes were followed. It takes no bytes when the program runs, so that only contracts
+/// can read it, and only what follows a node changes it.
 #[derive(Drop)]
 pub(crate) struct Followed {
     nodes: Counter,

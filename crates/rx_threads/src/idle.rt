@@ -76,7 +76,8 @@ pub(crate) fn last_place<C: Cursor>(input: &Input<C>) -> usize
 /// How many members stand where an input stands, in the piece that is shown and up to the last
 /// place.
 fn idle_ahead<C: Cursor>(idle: &IdleBytes, input: &Input<C>) -> usize
-    ensures inside { (utf8_empty : Bool) → IsInside (search_of utf8_empty input.now) input.now.position
+    ensures inside { (utf8_empty : Bool)
+        → IsInside (search_of utf8_empty input.now) input.now.position
         → IsInside (search_of utf8_empty input.now) (input.now.position + result) }
     ensures known { (k : ℕ) → input.now.position ≤ k → k < input.now.position + result
         → IsKnownAt idle.now input.now.cursor.content k }
@@ -89,7 +90,8 @@ fn idle_ahead<C: Cursor>(idle: &IdleBytes, input: &Input<C>) -> usize
 /// Moves an input behind the members that stand where it stands, at most to the last place.
 pub(crate) fn skip<C: Cursor>(idle: &IdleBytes, input: &mut Input<C>)
     ensures above { input.old.position ≤ input.new.position }
-    ensures inside { (utf8_empty : Bool) → IsInside (search_of utf8_empty input.old) input.old.position
+    ensures inside { (utf8_empty : Bool)
+        → IsInside (search_of utf8_empty input.old) input.old.position
         → IsInside (search_of utf8_empty input.old) input.new.position }
     ensures known { (k : ℕ) → input.old.position ≤ k → k < input.new.position
         → IsKnownAt idle.now input.old.cursor.content k }

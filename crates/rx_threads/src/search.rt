@@ -242,8 +242,8 @@ impl Walks {
         self.live.len() == 0 && (self.met.is_some() || anchored.is_anchored())
     }
 
-    /// Moves an input to the next place inside its span, its slice and its content, if there is one;
-    /// while no thread lives and no end was met, to the next one at which a match may begin.
+    /// Moves an input to the next place inside its span, its slice and its content, if there is
+    /// one; while no thread lives and no end was met, to the next one at which a match may begin.
     fn go_on<C: Cursor>(&self, input: &mut Input<C>) -> bool
         ensures above { result ≡ true → input.old.position + 1 ≤ input.new.position }
         ensures inside { result ≡ true → (utf8_empty : Bool)
@@ -377,8 +377,8 @@ fn clear_slots(slots: &mut [Option<NonMaxUsize>])
 /// a character. The cache must be one for searches with the program, and still is one afterwards.
 /// The one refusal is `Memory`: what the slots then hold has no meaning.
 ///
-/// It follows each node of the program once at most at each place, which takes time in proportion to
-/// the edges of that node.
+/// It follows each node of the program once at most at each place, which takes time in proportion
+/// to the edges of that node.
 pub fn search_slots<C: Cursor>(
     program: &Program,
     cache: &mut Cache,

@@ -246,8 +246,8 @@ impl Stepper {
     /// slots that the program names; a slot past those of the threads is passed over. The one
     /// refusal is `Memory`; what `next` then holds has no meaning.
     ///
-    /// It takes time in proportion to the edges of the nodes that are followed, each of them once at
-    /// most, and to the slots of the threads, and no memory but what the program asks for.
+    /// It follows each node once at most, and takes time in proportion to the edges of those that it
+    /// follows and to the slots of the threads, and no memory but what the program asks for.
     pub fn next_list(
         &mut self,
         program: &Program,

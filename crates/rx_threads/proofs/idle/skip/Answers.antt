@@ -15,10 +15,10 @@ loop-len-preserved g c =
     -- as far as the bytes go that are ahead, which are there
     let moved : (utf8_empty : Bool) → IsInside (search_of utf8_empty old) here.position → IsInside (search_of utf8_empty old) there.position =
     λ b inside.
-        let same : search_of b here ≡ search_of b old = same_search b here old c.loop-len.invariant.same.content c.loop-len.invariant.asked in
-        let ahead : IsInside (search_of b old) (here.position + n) =
-        subst (λ s. IsInside s (here.position + n)) same (c.idle_ahead-len.ensures.inside b (subst (λ s. IsInside s here.position) (sym same) inside)) in
-        subst (λ i. IsInside (search_of b old) i) (omega (arith, c.move_to.ensures.position_is, c.position.ensures.position, ahead.4, ap (λ xs. length xs) c.loop-len.invariant.same.content)) ahead in
+    let same : search_of b here ≡ search_of b old = same_search b here old c.loop-len.invariant.same.content c.loop-len.invariant.asked in
+    let ahead : IsInside (search_of b old) (here.position + n) =
+    subst (λ s. IsInside s (here.position + n)) same (c.idle_ahead-len.ensures.inside b (subst (λ s. IsInside s here.position) (sym same) inside)) in
+    subst (λ i. IsInside (search_of b old) i) (omega (arith, c.move_to.ensures.position_is, c.position.ensures.position, ahead.4, ap (λ xs. length xs) c.loop-len.invariant.same.content)) ahead in
     let content : here.cursor.content ≡ old.cursor.content = c.loop-len.invariant.same.content in
     record {
       above = omega (arith, c.loop-len.invariant.above, c.move_to.ensures.position_is, c.position.ensures.position, c.position.ensures.holds.before_end, c.position.ensures.holds.lawful.within);

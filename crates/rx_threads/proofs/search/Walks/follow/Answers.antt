@@ -104,7 +104,7 @@ loop-self-preserved g c =
     (λ k from to. c.go_on.ensures.skipped c.if-not-go_on.false k (omega (arith, from, c.in_ok-visit.ensures.same.position_is)) to) in
     let free : self.live.threads ≡ [] → self.met ≡ None → (s.anchoring ≡ unanchored) × (q ≡ p.start) =
     λ none unmet. unanchored_start p s.anchoring q
-        (subst (λ x. is_anchored (anchoring_of x) ≡ false) (c.get_anchored.ensures ∙ ap (λ x. x.anchored) asked) (c.are_over.ensures.goes_on c.if-are_over.false none unmet)) c.requires.start in
+    (subst (λ x. is_anchored (anchoring_of x) ≡ false) (c.get_anchored.ensures ∙ ap (λ x. x.anchored) asked) (c.are_over.ensures.goes_on c.if-are_over.false none unmet)) c.requires.start in
     record {
       made = c.in_ok-visit.ensures.made;
       idle = c.in_ok-visit.ensures.idle;
