@@ -6,11 +6,17 @@ here=$(cd "$(dirname "$0")" && pwd)
 work=$(mktemp -d)
 trap 'rm -rf "$work"' EXIT
 
+# source_text: writes lines of source text.
+source_text() {
+    cat "$here"/../crates/*/src/*.rt | tr -cd '\11\12\15\40-\176' | head -c 250000
+}
+
 # text KIND BYTES FILE: writes a file of so many bytes, and few more, which repeats lines of source text
-# (ascii), Japanese text (japanese) or emoji (emoji).
+# (ascii), Japanese text (japanese), source text with Japanese comments (mixed) or emoji (emoji).
 text() {
     case $1 in
-        ascii) cat "$here"/../crates/*/src/*.rt | tr -cd '\11\12\15\40-\176' | head -c 250000 ;;
+        ascii) source_text ;;
+        mixed) source_text | sed 's|$| // こんにちは世界、これは文章です。|' ;;
         japanese) yes 'こんにちは世界、これは文章です。
 テキストの行と文字を数えます。' | head -n 5000 ;;
         emoji) yes '🐸🐹🐻🐼🐽🐾👀👁' | head -n 7500 ;;

@@ -22,9 +22,9 @@ def library():
     return None if problems else made
 
 
-def counted(runs, **settings):
-    """A run with the library, which `runs` makes of an environment, the number of its requests and the
-    greatest of them, in bytes."""
+def tallied(runs, **settings):
+    """A run with the library, which `runs` makes of an environment, the number of its requests, the greatest
+    of them and all of them together, in bytes."""
     tally = os.path.join(ROOM, "tally")
     if os.path.exists(tally):
         os.remove(tally)
@@ -32,7 +32,12 @@ def counted(runs, **settings):
     environment.update({f"REFUSE_MEMORY_{name.upper()}": str(value) for name, value in settings.items()})
     ended = runs(environment)
     if not os.path.exists(tally):
-        return ended, 0, 0
+        return ended, 0, 0, 0
     with open(tally) as told_by:
-        count, largest = map(int, told_by.read().split())
-    return ended, count, largest
+        count, largest, total = map(int, told_by.read().split())
+    return ended, count, largest, total
+
+
+def counted(runs, **settings):
+    """Such a run, the number of its requests and the greatest of them, in bytes."""
+    return tallied(runs, **settings)[:3]

@@ -3,8 +3,9 @@
 //
 //   REFUSE_MEMORY_AT=N       refuses the N-th request alone, counted from 1
 //   REFUSE_MEMORY_FROM=N     refuses the N-th request and each one after it
-//   REFUSE_MEMORY_TELL=FILE  writes 'COUNT LARGEST' and LF to FILE as the program ends: the number of
-//                            requests, and the most bytes that one of them asked for
+//   REFUSE_MEMORY_TELL=FILE  writes 'COUNT LARGEST TOTAL' and LF to FILE as the program ends: the number
+//                            of requests, the most bytes that one of them asked for, and the bytes that
+//                            all of them asked for
 //
 // Requests made before the library is set up, by the dynamic loader, are granted and not counted.
 
@@ -23,6 +24,7 @@ extern void *__libc_memalign(size_t, size_t);
 static int ready;
 static unsigned long count;
 static unsigned long largest;
+static unsigned long total;
 static unsigned long refuse_at;
 static unsigned long refuse_from;
 
@@ -32,6 +34,7 @@ static int refused(size_t bytes)
     if (!ready)
         return 0;
     count++;
+    total += bytes;
     if (bytes > largest)
         largest = bytes;
     return count == refuse_at || (refuse_from != 0 && count >= refuse_from);
@@ -111,8 +114,8 @@ __attribute__((destructor)) static void tell(void)
     const char *name = getenv("REFUSE_MEMORY_TELL");
     if (name == NULL)
         return;
-    char line[64];
-    int length = snprintf(line, sizeof line, "%lu %lu\n", count, largest);
+    char line[80];
+    int length = snprintf(line, sizeof line, "%lu %lu %lu\n", count, largest, total);
     int file = open(name, O_WRONLY | O_CREAT | O_TRUNC, 0600);
     if (file < 0)
         return;

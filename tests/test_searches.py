@@ -11,7 +11,7 @@ import os
 import random
 
 from harness import SEARCH_PROGRAM, TOP, differences, end_of, open_input, short, start, test
-from memory import counted, library
+from memory import counted, library, tallied
 from protocol import is_utf8
 from random_patterns import Maker, character
 from walks import LOOKS, Alternation, Concat, Empty, Group, Look, Repeat, Search, Set, is_word, spelled
@@ -93,6 +93,15 @@ UNITS += [b"\xc3", b"\xe3\x81", b"\x81", b"\xf0\x9f\x90", b"\xf0", b"\x9f\x90", 
 UNITS += [b"\xed\xa0\x80", b"\xc0\x81", b"\xf4\x90\x80\x80", b"\xff"]
 
 NO_MEMORY = [b"there was no memory for the program\n", b"no memory\n"]
+
+# A content that begins anew after each 50 bytes, so that its long part leads a search to nothing that its short one
+# doesn't. Both parts start at one place, and the places where they end have as many digits, so that all cases take as
+# much memory to read. And patterns that match nothing in a part, or all of it: then with the places of their groups,
+# as far before its end.
+LONG = "fn aab(é: &str) -> 🐸 { abab_9 + b } // ééé\n".encode() * 20_000
+START, SHORT_END, LONG_END = 100_000, 101_000, 999_000
+MATCHING_NOTHING = ["(a|b|ab)*c", "(\\w+)\\s*=>\\s*(\\w+)", "(?i)todo|error", "(?:([a-é]+?)|\\b){2,5}x"]
+MATCHING_ALL = [("(?s).+", []), ("(?:(\\w+)|(\\W))+", [(7, 1), (1, 0)]), ("(?s)(?:(.)(.)?)*", [(3, 1), (1, 0)])]
 
 
 class Case:
@@ -248,6 +257,25 @@ def check_memory(case):
     test(f"{case}, with each of its {count} requests refused, alone and with all that follow", refusals(case, count))
 
 
+def memory_for(pattern, groups, end):
+    """What is wrong with the answer to a search in a part of the long content, and how often and for how many bytes
+    the program asks for memory."""
+    matches = [] if groups is None else [[(START, end)] + [(end - first, end - last) for first, last in groups]]
+    case = Case(pattern, LONG, written(matches), 984, ((0, len(LONG)), (START, end), False))
+    ended, count, _, total = tallied(lambda environment: answer_to(case.line(), environment))
+    return differences(ended, f"{case.answer}\n".encode(), 0), (count, total)
+
+
+def check_long(pattern, groups=None):
+    """A search asks for memory as often in the long part as in the short one, and for as many bytes."""
+    wrong, little = memory_for(pattern, groups, SHORT_END)
+    more_wrong, much = memory_for(pattern, groups, LONG_END)
+    if little != much:
+        more_wrong.append("%d requests for %d bytes in the short part, %d for %d in the long one" % (*little, *much))
+    parts = f"{SHORT_END - START} and {LONG_END - START} bytes"
+    test(f"{pattern!r} in parts of {parts} of a content, with {little[0]} requests for memory", wrong + more_wrong)
+
+
 def test_all():
     parts = [
         ("searches of the table, in one piece and in pieces of 1, 2 and 3 bytes", table()),
@@ -263,3 +291,7 @@ def test_all():
         check_memory(Case("(a)|b", b"ab", "0-1,0-1 1-2,-", 1))
         check_memory(Case("(?:([a-é]+?)|\\b){2}x?", "aé 🐸".encode(), "0-3,1-3", 2))
         check_memory(Case("a*", b"xaa", "1-2", 1, ((0, 3), (1, 2), True)))
+        for pattern in MATCHING_NOTHING:
+            check_long(pattern)
+        for pattern, groups in MATCHING_ALL:
+            check_long(pattern, groups)
