@@ -21,17 +21,17 @@ use Rattle.rx_threads.proofs.IndexLaws.{one_index, behind, same_number}
 abbrev SlotMachine : Type 0
 SlotMachine = Machine (ℕ × ℕ) Slots
 
-Contains-first : (xs : List (ℕ × ℕ)) (x : ℕ × ℕ) → Contains (x ∷ xs) x
+pub Contains-first : (xs : List (ℕ × ℕ)) (x : ℕ × ℕ) → Contains (x ∷ xs) x
 Contains-first xs x = (0, omega arith, refl)
 
-Contains-next : (xs : List (ℕ × ℕ)) (y x : ℕ × ℕ) → Contains xs x → Contains (y ∷ xs) x
+pub Contains-next : (xs : List (ℕ × ℕ)) (y x : ℕ × ℕ) → Contains xs x → Contains (y ∷ xs) x
 Contains-next xs y x (k, within, is) = (suc k, omega (arith, within), is)
 
-Contains-split : (xs : List (ℕ × ℕ)) (y x : ℕ × ℕ) → Contains (y ∷ xs) x → (y ≡ x) ⊎ Contains xs x
+pub Contains-split : (xs : List (ℕ × ℕ)) (y x : ℕ × ℕ) → Contains (y ∷ xs) x → (y ≡ x) ⊎ Contains xs x
 Contains-split xs y x (zero, within, is) = inl is
 Contains-split xs y x (suc k, within, is) = inr (k, omega (arith, within), is)
 
-none_yet : (x : ℕ × ℕ) → Contains [] x → ⊥
+pub none_yet : (x : ℕ × ℕ) → Contains [] x → ⊥
 none_yet x (k, within, is) = absurd (omega (arith, within))
 
 -- ---- whether a node was seen is known
@@ -42,7 +42,7 @@ same_node (a, s) (b, t) = elim (same_number a b) [
   | inr n ↦ inr (λ g. n (ap (λ z. z.0) g))
 ]
 
-seen_or_new : (seen : List (ℕ × ℕ)) (q : ℕ × ℕ) → Contains seen q ⊎ IsNew seen q
+pub seen_or_new : (seen : List (ℕ × ℕ)) (q : ℕ × ℕ) → Contains seen q ⊎ IsNew seen q
 seen_or_new [] q = inr (none_yet q)
 seen_or_new (x ∷ seen) q = elim (same_node x q) [
   | inl e ↦ inl (subst (λ y. Contains (x ∷ seen) y) e (Contains-first seen x))

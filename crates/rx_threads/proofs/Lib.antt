@@ -14,3 +14,4 @@ pub mod AnswerLaws
 pub mod OverLaws
 pub mod WorkLaws
 pub mod IdleLaws
+pub mod MadeLaws

@@ -1,5 +1,5 @@
 -- How much a search does from place to place.
-use Rattle.std.proofs.Common.{◌≡◌, ℕ, ◌+◌, ◌-◌, ◌*◌, ◌≤◌, subst, arith}
+use Rattle.std.proofs.Common.{◌≡◌, ℕ, ◌+◌, ◌-◌, ◌*◌, ◌≤◌, arith}
 use Rattle.std.proofs.Math.Nat.{mul-le-mul_left}
 use Rattle.rx_walks.specs.Finds.{Search, IsInside}
 use Rattle.rx_walks.specs.ProgramFinds.{lowest, highest}

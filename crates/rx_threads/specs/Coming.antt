@@ -11,6 +11,7 @@ use Rattle.rx_threads.specs.Nodes.{widths_of}
 use Rattle.rx_threads.specs.Threads.{Slots, Thread, ThreadList, IsThreadOf, no_slots}
 use Rattle.rx_threads.specs.Lists.{Asks, slot_machine, met_at}
 use Rattle.rx_threads.specs.Searching.{haystack_in}
+use Rattle.rx_threads.specs.Idle.{AreIdle}
 
 abbrev pub HasSlots : ℕ → Thread → Type 0
 HasSlots len thread = length thread.0 ≡ len
@@ -24,20 +25,25 @@ abbrev pub place_count : Search → ℕ
 place_count s = highest s + 1 - lowest s
 
 -- how many nodes each state is of the program that a cache was made for, whether that program asks
--- for looks, and how many nodes searches have followed with it so far
+-- for looks, before which bytes its walks are known to come to nothing, and how many nodes searches
+-- have followed with the cache so far
 pub record CacheView : Type 0 where
   pub widths : List ℕ
   pub asks_looks : Bool
+  pub idle : List Bool
   pub followed : ℕ
 
--- they are those of this program: where no look is asked for, no state asks for one
-pub record AreOfProgram (p : ByteProgram) (widths : List ℕ) (asks_looks : Bool) : Type 0 where
+-- they are those of this program: where no look is asked for, no state asks for one, and before the
+-- bytes that are known no match begins
+pub record AreOfProgram (p : ByteProgram) (widths : List ℕ) (asks_looks : Bool) (idle : List Bool)
+    : Type 0 where
   pub widths_are : widths ≡ widths_of p
   pub looks : asks_looks ≡ false → (l : walks.Look) → Asks p.states l → ⊥
+  pub are_idle : AreIdle p idle
 
 -- a cache made for a program
 abbrev pub IsCacheOf : ByteProgram → CacheView → Type 0
-IsCacheOf p cache = AreOfProgram p cache.widths cache.asks_looks
+IsCacheOf p cache = AreOfProgram p cache.widths cache.asks_looks cache.idle
 
 -- a search has come to a place with these threads, and this end was met last: what it comes to from
 -- there on is what it comes to at all

@@ -15,7 +15,7 @@ use Rattle.rx_walks.specs.Steps.{Steps, StepsSoFar}
 use Rattle.rx_grammar.specs.declared.hir.Look as grammar
 use Rattle.rx_threads.specs.declared.place.Looks.{Looks}
 use Rattle.rx_threads.specs.declared.place.Place.{Place}
-use Rattle.rx_threads.specs.Nodes.{index_from, widths_of, node_count}
+use Rattle.rx_threads.specs.Nodes.{index_from, node_count}
 use Rattle.rx_threads.specs.Threads.{Slots, Thread, Waiting, note_slot, first_node}
 
 -- whether a look is among those that hold

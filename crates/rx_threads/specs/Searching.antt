@@ -1,5 +1,5 @@
 -- The search that an input asks for.
-use Rattle.std.specs.Prelude.{◌≡◌, ℕ, zero, suc, Bool, List, [], ◌∷◌, length, Option, Some, None, option_map}
+use Rattle.std.specs.Prelude.{◌≡◌, ℕ, zero, suc, Bool, [], ◌∷◌, length, Option, Some, None, option_map}
 use Rattle.unicode.specs.Perl.{is_word_char}
 use Rattle.rx_captures.specs.declared.search.Anchored.{Anchored}
 use Rattle.rx_captures.specs.declared.search.Anchored.TheVariants.{No, Yes, Pattern}

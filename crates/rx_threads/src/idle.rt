@@ -1,9 +1,9 @@
 //! Bytes before which no match begins.
 
-ghost use Rattle.std.specs.Prelude.{ℕ, Bool, ◌≡◌, ◌+◌, ◌<◌, ◌≤◌, ◌⊎◌, Some, true, length, min};
+ghost use Rattle.std.specs.Prelude.{ℕ, ◌≡◌, ◌+◌, ◌<◌, ◌≤◌, ◌⊎◌, Some, true, length, min};
 ghost use Rattle.rx_walks.specs.Finds.{IsInside};
 ghost use Rattle.rx_input.specs.Inputs.{IsMoved};
-ghost use Rattle.rx_threads.specs.Idle.{Knows, IsKnownAt};
+ghost use Rattle.rx_threads.specs.Idle.{Knows, IsPassed, IsPassedAt};
 ghost use Rattle.rx_threads.specs.Searching.{search_of};
 
 use rx_input::{Cursor, Input};
@@ -43,21 +43,25 @@ impl IdleBytes {
         }
     }
 
-    /// Whether a byte is a member.
-    fn contains(&self, byte: u8) -> bool
-        ensures { result ≡ true → Knows self.now byte }
+    /// Whether a byte is passed over: it is a member, or it continues a character and no match may
+    /// begin inside one.
+    fn passes(&self, byte: u8, utf8_empty: bool) -> bool
+        ensures { result ≡ true → IsPassed self.now utf8_empty byte }
     {
+        if utf8_empty && 128 <= byte && byte < 192 {
+            return true;
+        }
         self.known[usize::from(byte)]
     }
 
-    /// How many members stand at the front of these bytes, one after the other.
-    fn len_of(&self, bytes: &[u8]) -> usize
+    /// How many bytes that are passed over stand at the front of these, one after the other.
+    fn len_of(&self, bytes: &[u8], utf8_empty: bool) -> usize
         ensures within { result ≤ length bytes.now }
-        ensures known { (k : ℕ) → k < result → IsKnownAt self.now bytes.now k }
+        ensures passed { (k : ℕ) → k < result → IsPassedAt self.now utf8_empty bytes.now k }
     {
         let mut len = 0_usize;
         for byte in bytes {
-            if !self.contains(*byte) {
+            if !self.passes(*byte, utf8_empty) {
                 return len;
             }
             len += 1;
@@ -73,32 +77,30 @@ pub(crate) fn last_place<C: Cursor>(input: &Input<C>) -> usize
     input.get_slice().end.min(input.end())
 }
 
-/// How many members stand where an input stands, in the piece that is shown and up to the last
-/// place.
-fn idle_ahead<C: Cursor>(idle: &IdleBytes, input: &Input<C>) -> usize
-    ensures inside { (utf8_empty : Bool)
-        → IsInside (search_of utf8_empty input.now) input.now.position
+/// How many bytes that are passed over stand where an input stands, in the piece that is shown and
+/// up to the last place.
+fn passed_ahead<C: Cursor>(idle: &IdleBytes, input: &Input<C>, utf8_empty: bool) -> usize
+    ensures inside { IsInside (search_of utf8_empty input.now) input.now.position
         → IsInside (search_of utf8_empty input.now) (input.now.position + result) }
-    ensures known { (k : ℕ) → input.now.position ≤ k → k < input.now.position + result
-        → IsKnownAt idle.now input.now.cursor.content k }
+    ensures passed { (k : ℕ) → input.now.position ≤ k → k < input.now.position + result
+        → IsPassedAt idle.now utf8_empty input.now.cursor.content k }
 {
     let left = last_place(input).saturating_sub(input.position());
     let ahead = &input.chunk()[input.chunk_pos()..];
-    idle.len_of(&ahead[..left.min(ahead.len())])
+    idle.len_of(&ahead[..left.min(ahead.len())], utf8_empty)
 }
 
-/// Moves an input behind the members that stand where it stands, at most to the last place.
-pub(crate) fn skip<C: Cursor>(idle: &IdleBytes, input: &mut Input<C>)
+/// Moves an input behind the bytes that are passed over where it stands, at most to the last place.
+pub(crate) fn skip<C: Cursor>(idle: &IdleBytes, input: &mut Input<C>, utf8_empty: bool)
     ensures above { input.old.position ≤ input.new.position }
-    ensures inside { (utf8_empty : Bool)
-        → IsInside (search_of utf8_empty input.old) input.old.position
+    ensures inside { IsInside (search_of utf8_empty input.old) input.old.position
         → IsInside (search_of utf8_empty input.old) input.new.position }
-    ensures known { (k : ℕ) → input.old.position ≤ k → k < input.new.position
-        → IsKnownAt idle.now input.old.cursor.content k }
+    ensures passed { (k : ℕ) → input.old.position ≤ k → k < input.new.position
+        → IsPassedAt idle.now utf8_empty input.old.cursor.content k }
     ensures same { IsMoved input.old input.new input.new.position input.old.asked }
 {
     loop {
-        let len = idle_ahead(idle, input);
+        let len = passed_ahead(idle, input, utf8_empty);
         if len == 0 {
             return;
         }

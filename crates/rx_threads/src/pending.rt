@@ -50,6 +50,7 @@ impl Pending {
     }
 
     /// Begins with a thread that has these slots: none waits.
+    #[inline(always)]
     pub(crate) fn begin(&mut self, slots: &[Option<NonMaxUsize>]) -> Result<(), AllocError>
         ensures slots { OnOk result (self.new.slots ≡ slots.now) }
         ensures threads { OnOk result (self.new.threads ≡ []) }
@@ -82,6 +83,7 @@ impl Pending {
 
     /// Notes a place in a slot, if there is that slot, for the threads that come from now on until
     /// those that wait.
+    #[inline(always)]
     pub(crate) fn note(&mut self, slot: usize, at: NonMaxUsize) -> Result<(), AllocError>
         ensures slots { OnOk result (self.new.slots ≡ note_slot slot at self.old.slots) }
         ensures threads { OnOk result (self.new.threads ≡ self.old.threads) }
@@ -96,6 +98,7 @@ impl Pending {
     }
 
     /// Lets a thread at a state wait before the others, with the slots at hand.
+    #[inline(always)]
     pub(crate) fn push(&mut self, state: StateID) -> Result<(), AllocError>
         ensures slots { OnOk result (self.new.slots ≡ self.old.slots) }
         ensures threads { OnOk result (self.new.threads
@@ -123,6 +126,7 @@ impl Pending {
 
     /// Takes the next thread that waits: its slots are those at hand then, and it stands at this
     /// state.
+    #[inline(always)]
     pub(crate) fn pop(&mut self) -> Option<StateID>
         ensures next { MatchOption result (self.old.threads ≡ []) (λ state. self.old.threads
             ≡ (self.new.slots, first_node state) ∷ self.new.threads) }

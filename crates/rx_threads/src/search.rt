@@ -13,7 +13,7 @@ ghost use Rattle.rx_input.specs.Cursors.{IsSameContent};
 ghost use Rattle.rx_input.specs.Inputs.{IsMoved};
 ghost use Rattle.rx_threads.specs.Lists.{Asks, met_at};
 ghost use Rattle.rx_threads.specs.Nodes.{node_count};
-ghost use Rattle.rx_threads.specs.Idle.{IsKnownAt, AreIdle};
+ghost use Rattle.rx_threads.specs.Idle.{IsPassedAt};
 ghost use Rattle.rx_threads.specs.Threads.{Slots, IsThreadOf, no_slots, first_node};
 ghost use Rattle.rx_threads.specs.Searching.{search_of, anchoring_of, IsAnswer};
 ghost use Rattle.rx_threads.specs.Coming.{machine_in, place_count, AreOfProgram, IsCacheOf, HasStarted, IsUnderWay, IsOver};
@@ -123,7 +123,7 @@ struct Walks {
     stepper: Stepper,
     // Whether the program asks for looks.
     asks_looks: bool,
-    // Bytes before which no match begins, as far as the search has met them.
+    // Bytes before which no match begins, as far as searches have met them.
     idle: IdleBytes,
     // The threads at the place, in order of preference.
     live: Threads,
@@ -167,9 +167,9 @@ impl Walks {
         program: &Program,
         input: &mut Input<C>,
     ) -> Result<Option<PatternID>, MatchError>
-        requires made { AreOfProgram program.now self.old.stepper.widths self.old.asks_looks }
+        requires made { AreOfProgram program.now self.old.stepper.widths self.old.asks_looks
+            self.old.idle }
         requires threads { All (IsThreadOf program.now.states) self.old.live.threads }
-        requires idle { AreIdle program.now self.old.idle }
         ensures steps { IfOk result (λ met. (utf8_empty : Bool)
             → IsInside (search_of utf8_empty input.old) input.old.position
             → Steps (machine_in program.now (search_of utf8_empty input.old)) input.old.position []
@@ -177,8 +177,8 @@ impl Walks {
             (met_at input.old.position met self.new.stepper.slots)) }
         ensures threads { OnOk result (All (IsThreadOf program.now.states) self.new.live.threads) }
         ensures met { self.new.met ≡ self.old.met }
-        ensures idle { AreIdle program.now self.new.idle }
-        ensures made { AreOfProgram program.now self.new.stepper.widths self.new.asks_looks }
+        ensures made { AreOfProgram program.now self.new.stepper.widths self.new.asks_looks
+            self.new.idle }
         ensures slot_len { OnOk result (self.new.live.slot_len ≡ self.old.live.slot_len) }
         ensures work { self.new.stepper.followed
             ≤ self.old.stepper.followed + node_count program.now }
@@ -207,16 +207,16 @@ impl Walks {
         utf8_empty: bool,
         slots: &mut [Option<NonMaxUsize>],
     ) -> Result<(), MatchError>
-        requires made { AreOfProgram program.now self.old.stepper.widths self.old.asks_looks }
+        requires made { AreOfProgram program.now self.old.stepper.widths self.old.asks_looks
+            self.old.idle }
         requires inside { IsInside (search_of utf8_empty input.old) input.old.position }
-        requires idle { AreIdle program.now self.old.idle }
         requires slot_len { self.old.live.slot_len ≡ length slots.old }
         requires way { IsUnderWay program.now (search_of utf8_empty input.old) start
             input.old.position self.old.live.threads self.old.met slots.old }
         ensures way { OnOk result (IsUnderWay program.now (search_of utf8_empty input.old) start
             (input.old.position + 1) self.new.live.threads self.new.met slots.new) }
-        ensures made { AreOfProgram program.now self.new.stepper.widths self.new.asks_looks }
-        ensures idle { AreIdle program.now self.new.idle }
+        ensures made { AreOfProgram program.now self.new.stepper.widths self.new.asks_looks
+            self.new.idle }
         ensures slot_len { OnOk result (self.new.live.slot_len ≡ length slots.new) }
         ensures work { self.new.stepper.followed
             ≤ self.old.stepper.followed + node_count program.now }
@@ -244,15 +244,15 @@ impl Walks {
 
     /// Moves an input to the next place inside its span, its slice and its content, if there is
     /// one; while no thread lives and no end was met, to the next one at which a match may begin.
-    fn go_on<C: Cursor>(&self, input: &mut Input<C>) -> bool
+    fn go_on<C: Cursor>(&self, input: &mut Input<C>, utf8_empty: bool) -> bool
         ensures above { result ≡ true → input.old.position + 1 ≤ input.new.position }
-        ensures inside { result ≡ true → (utf8_empty : Bool)
+        ensures inside { result ≡ true
             → IsInside (search_of utf8_empty input.old) input.old.position
             → IsInside (search_of utf8_empty input.old) input.new.position }
         ensures skipped { result ≡ true → (k : ℕ) → input.old.position + 1 ≤ k
             → k < input.new.position → (self.now.live.threads ≡ []) × (self.now.met ≡ None)
-            × IsKnownAt self.now.idle input.old.cursor.content k }
-        ensures last { result ≡ false → (utf8_empty : Bool)
+            × IsPassedAt self.now.idle utf8_empty input.old.cursor.content k }
+        ensures last { result ≡ false
             → highest (search_of utf8_empty input.old) < input.old.position + 1 }
         ensures same { IsMoved input.old input.new input.new.position input.old.asked }
     {
@@ -260,7 +260,7 @@ impl Walks {
             return false;
         }
         if self.live.len() == 0 && self.met.is_none() {
-            skip(&self.idle, input);
+            skip(&self.idle, input, utf8_empty);
         }
         true
     }
@@ -276,7 +276,8 @@ impl Walks {
         utf8_empty: bool,
         slots: &mut [Option<NonMaxUsize>],
     ) -> Result<Option<PatternID>, MatchError>
-        requires made { AreOfProgram program.now self.old.stepper.widths self.old.asks_looks }
+        requires made { AreOfProgram program.now self.old.stepper.widths self.old.asks_looks
+            self.old.idle }
         requires start { start_node (characters_of program.now)
             (anchoring_of input.old.asked.anchored) ≡ Some start }
         requires inside { IsInside (search_of utf8_empty input.old) input.old.position }
@@ -285,7 +286,8 @@ impl Walks {
         requires empty { slots.old ≡ no_slots (length slots.old) }
         ensures over { IfOk result (λ pattern. IsOver program.now
             (search_of utf8_empty input.old) start pattern slots.new) }
-        ensures made { AreOfProgram program.now self.new.stepper.widths self.new.asks_looks }
+        ensures made { AreOfProgram program.now self.new.stepper.widths self.new.asks_looks
+            self.new.idle }
         ensures work { self.new.stepper.followed ≤ self.old.stepper.followed
             + node_count program.now * place_count (search_of utf8_empty input.old) }
         ensures same { IsSameContent input.old.cursor input.new.cursor }
@@ -294,10 +296,9 @@ impl Walks {
     {
         self.live.clear(slots.len());
         self.met = None;
-        self.idle = IdleBytes::new();
         loop {
             self.visit(program, input, start, utf8_empty, slots)?;
-            if self.are_over(input.get_anchored()) || !self.go_on(input) {
+            if self.are_over(input.get_anchored()) || !self.go_on(input, utf8_empty) {
                 return Ok(self.met);
             }
         }
@@ -306,7 +307,8 @@ impl Walks {
 
 /// What searches with one program keep from one to the next, so that they ask for memory once.
 /// Contracts see of it how many nodes each state is of the program that it was made for, whether
-/// that program asks for looks, and how many nodes searches have followed with it.
+/// that program asks for looks, before which bytes its matches are known not to begin, and how many
+/// nodes searches have followed with it.
 #[derive(Debug, Drop)]
 pub struct Cache {
     walks: Walks,
@@ -320,6 +322,7 @@ impl Model for Cache {
     ghost view = { λ c. record {
       widths = c.walks.stepper.widths;
       asks_looks = c.walks.asks_looks;
+      idle = c.walks.idle;
       followed = c.walks.stepper.followed;
     } };
 }
@@ -352,6 +355,7 @@ impl Cache {
     {
         self.walks.stepper = Stepper::new(alloc, program)?;
         self.walks.asks_looks = asks_looks(program.states());
+        self.walks.idle = IdleBytes::new();
         Ok(())
     }
 

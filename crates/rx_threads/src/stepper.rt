@@ -21,6 +21,7 @@ use std::alloc::{AllocError, Global};
 use std::marker::Model;
 
 /// The state with this number, if there is one.
+#[inline(always)]
 fn state_at(states: &[State], id: StateID) -> Option<&State>
     ensures { MatchOption result (slice_get states.now id ≡ None)
         (λ state. slice_get states.now id ≡ Some state.now) }
@@ -29,6 +30,7 @@ fn state_at(states: &[State], id: StateID) -> Option<&State>
 }
 
 /// Puts out a thread at the node to which a byte leads.
+#[inline(always)]
 fn read(
     automaton: &SetAutomaton,
     on: StateID,
@@ -60,6 +62,7 @@ fn read(
 
 /// Makes the move of a state: a match ends, or threads wait at states, or a thread comes into the
 /// next list.
+#[inline(always)]
 fn make_move(
     pending: &mut Pending,
     state: &State,
@@ -246,8 +249,8 @@ impl Stepper {
     /// slots that the program names; a slot past those of the threads is passed over. The one
     /// refusal is `Memory`; what `next` then holds has no meaning.
     ///
-    /// It follows each node once at most, and takes time in proportion to the edges of those that it
-    /// follows and to the slots of the threads, and no memory but what the program asks for.
+    /// It follows each node once at most, and takes time in proportion to the edges of those that
+    /// it follows and to the slots of the threads, and no memory but what the program asks for.
     pub fn next_list(
         &mut self,
         program: &Program,

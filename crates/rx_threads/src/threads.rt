@@ -34,6 +34,7 @@ impl Model for Threads {
 }
 
 /// Adds a node and its slots.
+#[inline(always)]
 fn push_parts(
     nodes: &mut Vec<Node>,
     slots: &mut Vec<Option<NonMaxUsize>>,
@@ -66,6 +67,7 @@ fn push_fresh_parts(
 }
 
 /// Of parts of this length that stand one after another, the one with this index.
+#[inline(always)]
 fn part(all: &[Option<NonMaxUsize>], len: usize, index: usize) -> &[Option<NonMaxUsize>]
     requires within { index * len + len ≤ length all.now }
     ensures part { result.now ≡ take len (drop (index * len) all.now) }
@@ -121,6 +123,7 @@ impl Threads {
     }
 
     /// The node of the thread at this index.
+    #[inline(always)]
     pub fn node(&self, index: usize) -> Node
         requires { index < length self.now.threads }
         ensures { (x : Thread) → result ≡ (get_or self.now.threads index x).1 }
@@ -129,6 +132,7 @@ impl Threads {
     }
 
     /// The slots of the thread at this index.
+    #[inline(always)]
     pub fn slots(&self, index: usize) -> &[Option<NonMaxUsize>]
         requires { index < length self.now.threads }
         ensures slots { (x : Thread) → result.now ≡ (get_or self.now.threads index x).0 }
@@ -138,6 +142,7 @@ impl Threads {
     }
 
     /// Adds a thread after the others. Where memory is refused no thread is left.
+    #[inline(always)]
     pub fn push(&mut self, node: Node, slots: &[Option<NonMaxUsize>]) -> Result<(), AllocError>
         requires slots { length slots.now ≡ self.old.slot_len }
         ensures threads { OnOk result

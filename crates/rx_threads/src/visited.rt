@@ -69,6 +69,7 @@ fn starts_of(alloc: Global, states: &[State]) -> Result<(Vec<usize>, usize), All
 }
 
 /// Where the nodes of a state start.
+#[inline(always)]
 fn start_at(starts: &[usize], state: usize) -> Option<usize>
     ensures { result ≡ slice_get starts.now state }
 {
@@ -100,6 +101,7 @@ impl Visited {
     }
 
     /// The index of a node.
+    #[inline(always)]
     fn index(&self, node: Node) -> Option<usize>
         ensures index { result ≡ index_from 0 self.now.widths node.0 node.1 }
         ensures below { IfSome result (λ k. k < end_from 0 self.now.widths) }
@@ -115,6 +117,7 @@ impl Visited {
     }
 
     /// Adds a node that has an index and is no member yet, and tells whether it was so.
+    #[inline(always)]
     pub(crate) fn insert(&mut self, node: Node) -> bool
         ensures inserted { IsInserted (index_from 0 self.old.widths node.0 node.1) result
             self.old.ids self.new.ids }

@@ -6,4 +6,5 @@ pub returns-clause-made : goal.returns-clause-made
 returns-clause-made c = record {
   widths_are = c.in_ok-new.ensures.made;
   looks = λ none l. subst (λ states. Asks states l → ⊥) c.states.ensures.states (c.asks_looks.ensures none l);
+  are_idle = λ b known. absurd (c.new-2.ensures b known);
 }

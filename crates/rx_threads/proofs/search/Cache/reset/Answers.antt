@@ -6,4 +6,5 @@ pub returns-clause-made : goal.returns-clause-made
 returns-clause-made c = record {
   widths_are = c.in_ok-self-inside.ensures.made;
   looks = λ none l. subst (λ states. Asks states l → ⊥) c.states.ensures.states (c.asks_looks-self-inside.ensures none l);
+  are_idle = λ b known. absurd (c.new-self-inside.ensures b known);
 }

@@ -13,7 +13,6 @@ use Rattle.rx_threads.proofs.search.Walks.follow.Goals.{then-are_over-via-then-a
 pub loop-self-init : goal.loop-self-init
 loop-self-init g c = record {
   made = c.requires.made;
-  idle = λ b known. absurd (c.new-self.ensures b known);
   inside = c.requires.inside;
   slot_len = ap (λ t. t.slot_len) c.clear.ensures;
   way = way_begun c.args.program.now (search_of c.args.utf8_empty c.args.input.now) c.args.start c.args.input.now.position c.clear.new.self.threads c.args.slots.now
@@ -57,7 +56,7 @@ returns-then-are_over-clause-over g c =
       | then-are_over-via-then-are_over w ↦ way_over p s q i self.live.threads self.met c.visit.new.slots c.loop-self.invariant.inside (c.are_over.ensures.live w.if-are_over.true)
           (λ unmet. subst (λ x. IsTrue (is_anchored (anchoring_of x))) (c.get_anchored.ensures ∙ ap (λ x. x.anchored) asked) (c.are_over.ensures.starts w.if-are_over.true unmet)) way
       | then-are_over-via-else-are_over+then-not-go_on w ↦
-          let past : highest (search_of b after) < after.position + 1 = w.go_on.ensures.last w.if-not-go_on.true b in
+          let past : highest (search_of b after) < after.position + 1 = w.go_on.ensures.last w.if-not-go_on.true in
           way_ended p s q i self.live.threads self.met c.visit.new.slots
           (subst (λ j. highest s < j + 1) c.in_ok-visit.ensures.same.position_is (subst (λ x. highest x < after.position + 1) same' past)) way
     ]
@@ -73,7 +72,7 @@ loop-self-smaller g c =
     same_search b after c.args.input.now (c.in_ok-visit.ensures.same.same.content ∙ c.loop-self.invariant.same.content) (c.in_ok-visit.ensures.same.asked_is ∙ c.loop-self.invariant.asked) in
     let here : IsInside (search_of b after) after.position =
     subst (λ x. IsInside x after.position) (sym same) (subst (λ j. IsInside (search_of b c.args.input.now) j) (sym c.in_ok-visit.ensures.same.position_is) c.loop-self.invariant.inside) in
-    let inside : IsInside (search_of b c.args.input.now) last.position = subst (λ x. IsInside x last.position) same (c.go_on.ensures.inside c.if-not-go_on.false b here) in
+    let inside : IsInside (search_of b c.args.input.now) last.position = subst (λ x. IsInside x last.position) same (c.go_on.ensures.inside c.if-not-go_on.false here) in
     let smaller : length content - last.position < length content - i =
     omega (arith, inside.4, c.go_on.ensures.above c.if-not-go_on.false, c.in_ok-visit.ensures.same.position_is) in
     smaller
@@ -95,23 +94,22 @@ loop-self-preserved g c =
     let same' : search_of b after ≡ s = same_search b after c.args.input.now content asked in
     let here : IsInside (search_of b after) after.position =
     subst (λ x. IsInside x after.position) (sym same') (subst (λ j. IsInside s j) (sym c.in_ok-visit.ensures.same.position_is) c.loop-self.invariant.inside) in
-    let there : IsInside s last.position = subst (λ x. IsInside x last.position) same' (c.go_on.ensures.inside c.if-not-go_on.false b here) in
+    let there : IsInside s last.position = subst (λ x. IsInside x last.position) same' (c.go_on.ensures.inside c.if-not-go_on.false here) in
     let inside = c.loop-self.invariant.inside in
     let next : i + 1 ≤ last.position = omega (arith, c.go_on.ensures.above c.if-not-go_on.false, c.in_ok-visit.ensures.same.position_is) in
     let way : IsUnderWay p s q (i + 1) self.live.threads self.met c.visit.new.slots = subst (λ x. IsUnderWay p x q (i + 1) self.live.threads self.met c.visit.new.slots) same c.in_ok-visit.ensures.way in
-    let skipped : AreSkipped self.idle s.content (i + 1) last.position self.live.threads self.met =
-    subst (λ xs. AreSkipped self.idle xs (i + 1) last.position self.live.threads self.met) content
+    let skipped : AreSkipped self.idle b s.content (i + 1) last.position self.live.threads self.met =
+    subst (λ xs. AreSkipped self.idle b xs (i + 1) last.position self.live.threads self.met) content
     (λ k from to. c.go_on.ensures.skipped c.if-not-go_on.false k (omega (arith, from, c.in_ok-visit.ensures.same.position_is)) to) in
     let free : self.live.threads ≡ [] → self.met ≡ None → (s.anchoring ≡ unanchored) × (q ≡ p.start) =
     λ none unmet. unanchored_start p s.anchoring q
     (subst (λ x. is_anchored (anchoring_of x) ≡ false) (c.get_anchored.ensures ∙ ap (λ x. x.anchored) asked) (c.are_over.ensures.goes_on c.if-are_over.false none unmet)) c.requires.start in
     record {
       made = c.in_ok-visit.ensures.made;
-      idle = c.in_ok-visit.ensures.idle;
       inside = there;
       slot_len = c.in_ok-visit.ensures.slot_len;
       way = way_skipped p s q (i + 1) last.position self.idle self.live.threads self.met c.visit.new.slots next (omega (arith, inside.0, inside.2)) (omega (arith, there.1, there.3, there.4))
-          c.in_ok-visit.ensures.idle free skipped way;
+          c.in_ok-visit.ensures.made.are_idle free skipped way;
       same = record {
         content = c.go_on.ensures.same.same.content ∙ content;
         is_sized = c.go_on.ensures.same.same.is_sized ∙ c.in_ok-visit.ensures.same.same.is_sized ∙ c.loop-self.invariant.same.is_sized;

@@ -4,14 +4,12 @@ use Rattle.rx_input.specs.Cursors.{IsSameContent}
 use Rattle.rx_threads.specs.Nodes.{node_count}
 use Rattle.rx_threads.specs.Searching.{search_of}
 use Rattle.rx_threads.specs.Coming.{AreOfProgram, IsUnderWay}
-use Rattle.rx_threads.specs.Idle.{AreIdle}
 use Rattle.rx_threads.proofs.search.Walks.follow.Given as goal
 
 -- the search has come to the place at which the input stands
 abbrev pub invariant-loop-self : goal.invariant-loop-self
 invariant-loop-self g l = record {
-  made : AreOfProgram l.program l.self.stepper.widths l.self.asks_looks;
-  idle : AreIdle l.program l.self.idle;
+  made : AreOfProgram l.program l.self.stepper.widths l.self.asks_looks l.self.idle;
   inside : IsInside (search_of l.utf8_empty l.fn.input) l.input.position;
   slot_len : l.self.live.slot_len ≡ length l.slots;
   way : IsUnderWay l.program (search_of l.utf8_empty l.fn.input) l.start l.input.position l.self.live.threads l.self.met l.slots;

@@ -1,6 +1,5 @@
-use Rattle.std.proofs.Common.{◌≡◌, List, [], inl, inr, sym, ap, subst, ◌∙◌}
+use Rattle.std.proofs.Common.{◌≡◌, [], inl, inr, sym, ap, subst, ◌∙◌}
 use Rattle.rx_walks.specs.Steps.{Steps}
-use Rattle.rx_threads.specs.Threads.{Thread}
 use Rattle.rx_threads.specs.Lists.{IsPlace, met_at}
 use Rattle.rx_threads.specs.Searching.{search_of, haystack_in}
 use Rattle.rx_threads.specs.Coming.{machine_in}
@@ -30,28 +29,24 @@ returns-clause-steps g c = λ utf8_empty inside.
 
 pub returns-clause-made : goal.returns-clause-made
 returns-clause-made g c =
+    let p = c.args.program.now in
     let made = c.requires.made in
     elim c.if-not-self.branch [
-      | then-not-self+then-came_to_nothing w ↦ record {
-        widths_are = ap (λ x. x.stepper.widths) w.self-is ∙ c.in_ok-ended.ensures.made ∙ made.widths_are;
-        looks = λ unasked. made.looks (sym (ap (λ x. x.asks_looks) w.self-is) ∙ unasked);
-      }
+      | then-not-self+then-came_to_nothing w ↦
+          let fresh = w.came_to_nothing.ensures.fresh w.if-came_to_nothing.true in
+          let nothing = w.came_to_nothing.ensures.nothing w.if-came_to_nothing.true in
+          record {
+            widths_are = ap (λ x. x.stepper.widths) w.self-is ∙ c.in_ok-ended.ensures.made ∙ made.widths_are;
+            looks = λ unasked. made.looks (sym (ap (λ x. x.asks_looks) w.self-is) ∙ unasked);
+            are_idle = λ b known. elim (w.insert.ensures b (subst (λ xs. Knows xs b) (ap (λ x. x.idle) w.self-is) known)) [
+              | inl byte ↦ is_idle p c.of-place.result b c.args.self.now.live.threads c.next_list.new.next.threads c.in_ok-ended.ended c.next_list.new.self.slots fresh.0
+                  c.in_ok-ended.ensures.list fresh.1 nothing.0 (no_value c.in_ok-ended.ended (sym w.is_some.ensures ∙ nothing.1)) byte (made.looks w.if-not-self.true)
+              | inr old ↦ made.are_idle b old
+            ];
+          }
       | else-not-self w ↦ record {
         widths_are = ap (λ x. x.stepper.widths) w.self-is ∙ c.in_ok-ended.ensures.made ∙ made.widths_are;
         looks = λ unasked. made.looks (sym (ap (λ x. x.asks_looks) w.self-is) ∙ unasked);
+        are_idle = λ b known. made.are_idle b (subst (λ xs. Knows xs b) (ap (λ x. x.idle) w.self-is) known);
       }
     ]
-
-pub returns-clause-idle : goal.returns-clause-idle
-returns-clause-idle g c = λ b known. elim c.if-not-self.branch [
-  | then-not-self+then-came_to_nothing w ↦
-      let p = c.args.program.now in
-      let fresh = w.came_to_nothing.ensures.fresh w.if-came_to_nothing.true in
-      let nothing = w.came_to_nothing.ensures.nothing w.if-came_to_nothing.true in
-      elim (w.insert.ensures b (subst (λ xs. Knows xs b) (ap (λ x. x.idle) w.self-is) known)) [
-        | inl byte ↦ is_idle p c.of-place.result b c.args.self.now.live.threads c.next_list.new.next.threads c.in_ok-ended.ended c.next_list.new.self.slots fresh.0
-            c.in_ok-ended.ensures.list fresh.1 nothing.0 (no_value c.in_ok-ended.ended (sym w.is_some.ensures ∙ nothing.1)) byte (c.requires.made.looks w.if-not-self.true)
-        | inr old ↦ c.requires.idle b old
-      ]
-  | else-not-self w ↦ c.requires.idle b (subst (λ xs. Knows xs b) (ap (λ x. x.idle) w.self-is) known)
-]
