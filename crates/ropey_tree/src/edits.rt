@@ -55,6 +55,7 @@ fn one_or_two(text: &str) -> Leaves
     ensures text { concat (leaves_of result) ≡ chars text.now }
     ensures cut { IsCutting (leaves_of result) }
     ensures number { AreOneOrTwo (leaves_of result) }
+    ensures one { length (leaves_of result) ≡ 1 → byte_len (concat (leaves_of result)) < 984 }
 {
     if text.len() < MAX_BYTES {
         return Leaves::One(Leaf::new(text));
@@ -99,6 +100,8 @@ fn with_text_replaced(leaf: &Leaf, from: usize, to: usize, text: &str) -> Option
     ensures replaced { IfSome result (λ new. IsReplaced leaf.now from to (chars text.now)
         (concat (leaves_of new))) }
     ensures may_stand { IfSome result (λ new. MayStandFor leaf.now (leaves_of new)) }
+    ensures one { IfSome result (λ new. length (leaves_of new) ≡ 1
+        → byte_len (concat (leaves_of new)) < 984) }
     ensures none { IfNone result ((leaves : List (List ℕ)) →
         IsReplaced leaf.now from to (chars text.now) (concat leaves)
         → MayStandFor leaf.now leaves → 1_960 < byte_len (concat leaves)) }
