@@ -5,9 +5,10 @@
 //! halves; a removal splits at both its ends and appends what is left of the first to what is right
 //! of the second.
 
-ghost use Rattle.std.specs.Prelude.{◌≡◌, ◌+◌, ◌<◌, ◌≤◌, ◌^◌, ◌++◌, [], ◌∷◌, false, length, take, drop, IfOk, IfSome, IfNone};
+ghost use Rattle.std.specs.Prelude.{◌≡◌, ◌+◌, ◌<◌, ◌≤◌, ◌^◌, ◌⊎◌, ◌++◌, [], ◌∷◌, true, false, length, take, drop, IfOk, IfSome, IfNone};
 ghost use Rattle.std.specs.List.{concat};
 ghost use Rattle.std.specs.Str.{chars, IsCharBoundary};
+ghost use Rattle.str_indices.specs.Text.{byte_len};
 ghost use Rattle.ropey_tree.specs.Counts.{total};
 ghost use Rattle.ropey_tree.specs.Cutting.{IsText, cuts_cr_lf};
 ghost use Rattle.ropey_tree.specs.Seams.{IsBetween};
@@ -59,6 +60,9 @@ impl Seam {
             (first.now ∷ []) seam.to) }
         ensures some { IfSome result (λ seam. 1 ≤ seam.to) }
         ensures none { IfNone result (cuts_cr_lf last.now first.now ≡ false) }
+        ensures full { IfNone result (984 ≤ byte_len last.now + byte_len first.now) }
+        ensures front { IfNone result (462 < byte_len last.now) }
+        ensures back { IfNone result ((is_end ≡ true) ⊎ (462 < byte_len first.now)) }
     {
         let (front, back) = (last.as_str(), first.as_str());
         let len = front.len() + back.len();
