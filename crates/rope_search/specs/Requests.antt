@@ -33,12 +33,12 @@ TakesLine (Err broken) line old new source source' =
     × TakesUntil broken old new source source' bytes
 
 -- of a payload with this many bytes in all, what is kept of those before; it is judged alone
--- exactly where it is over the limit
+-- exactly where it is over the limit, and may be lost only where it isn't
 abbrev pub Collects : ℕ → ℕ → Collected → List ℕ → Type 0
 Collects limit len (Kept bytes) before = (len ≤ limit) × (bytes.items ≡ before)
 Collects limit len (Judged judge) before =
     (limit < len) × ((more : List ℕ) → IsUtf8 (before ++ more) ↔ Continues judge more)
-Collects limit len Lost before = Unit {0}
+Collects limit len Lost before = len ≤ limit
 
 -- what is kept of more bytes, where it was of those before
 abbrev pub CollectsMore : Collected → Collected → List ℕ → Type 0

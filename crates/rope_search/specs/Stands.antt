@@ -1,5 +1,5 @@
 -- Which commands a command with what was kept of its payload stands for.
-use Rattle.std.specs.Prelude.{◌≡◌, ℕ, ◌<◌, ◌↔◌, List, length, IsTrue, IsUtf8}
+use Rattle.std.specs.Prelude.{◌≡◌, ℕ, ◌<◌, ◌↔◌, List, length, IsTrue, IsUtf8, Option, None, Some}
 use Rattle.rope_search.specs.declared.commands.CommandOf.{CommandOf}
 use Rattle.rope_search.specs.declared.commands.Payload.{Payload}
 use Rattle.rope_search.specs.declared.commands.Payload.TheVariants.{Kept, Long, Lost}
@@ -15,6 +15,19 @@ StandsFor limit Lost payload = Unit {0}
 -- the command stands for this one, whose payload is in full
 abbrev pub Stands : ℕ → CommandOf Payload → Order → Type 0
 Stands limit command order = IsOf StandsFor limit command order
+
+-- what was kept of the command's payload, where it has one
+abbrev pub kept_of : CommandOf Payload → Option Payload
+kept_of (SetText payload) = Some payload
+kept_of (EditText from to payload) = Some payload
+kept_of UndoEdit = None
+kept_of RedoEdit = None
+kept_of PrintText = None
+kept_of ForkBuffer = None
+kept_of (SetPattern payload) = Some payload
+kept_of DropPattern = None
+kept_of ListMatches = None
+kept_of (UseBuffer k) = None
 
 -- how many bytes of a command's payload are kept at most, under a limit on texts
 abbrev pub limit_on : {P : Type 0} → CommandOf P → ℕ → ℕ

@@ -1,9 +1,9 @@
 //! What a session is asked, and what it answers.
-ghost use Rattle.std.specs.Prelude.{◌≡◌, ℕ, length};
+ghost use Rattle.std.specs.Prelude.{◌≡◌, ℕ, length, Some};
 ghost use Rattle.rope_search.specs.Order.{Order};
 ghost use Rattle.rope_search.specs.Reads.{payload_of};
 ghost use Rattle.rope_search.specs.Header.{IsHeaderOf};
-ghost use Rattle.rope_search.specs.Stands.{Stands, StandsFor, limit_on};
+ghost use Rattle.rope_search.specs.Stands.{Stands, StandsFor, kept_of, limit_on};
 
 use crate::limits::Limits;
 use rope_search_reports::{PATTERN_LEN, Position};
@@ -83,9 +83,10 @@ impl CommandOf<u64> {
 
     /// The command with what was kept of its payload.
     pub(crate) fn with(self, payload: Payload<'_>) -> Command<'_>
-        ensures { (limit : ℕ) (order : Order) → IsHeaderOf self order
+        ensures stands { (limit : ℕ) (order : Order) → IsHeaderOf self order
             → StandsFor (limit_on self limit) payload.entry (payload_of order)
             → Stands limit result order }
+        ensures lost { kept_of result ≡ Some Payload.Lost → payload.entry ≡ Payload.Lost }
     {
         match self {
             CommandOf::Text(_) => Command::Text(payload),

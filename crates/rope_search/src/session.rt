@@ -1,11 +1,11 @@
 //! A session: buffers, of which one is chosen.
-ghost use Rattle.std.specs.Prelude.{◌≡◌, ◌+◌, ◌<◌, ◌≤◌, ◌↔◌, [], ◌∷◌, ◌++◌, List, ℕ, length, OnOk, OnErr, IfOk, IfErr, IsOk, None};
+ghost use Rattle.std.specs.Prelude.{◌≡◌, ◌+◌, ◌<◌, ◌≤◌, ◌↔◌, [], ◌∷◌, ◌++◌, List, ℕ, length, Bool, Err, OnOk, OnErr, IfOk, IfErr, IsOk, None, Some};
 ghost use Rattle.rope_search.specs.Order.{Order, SetText, EditText, UndoEdit, RedoEdit, SetPattern, ListMatches};
 ghost use Rattle.rope_search.specs.Session.{first, fresh, current_text, chosen_buffer, with_pattern, with_chosen};
 ghost use Rattle.rope_search_reports.specs.Pattern.{pattern_limit};
 ghost use Rattle.rope_search.specs.Laws.{HasCurrent};
 ghost use Rattle.rope_search.specs.Step.{Step};
-ghost use Rattle.rope_search.specs.Stands.{Stands, StandsFor};
+ghost use Rattle.rope_search.specs.Stands.{Stands, StandsFor, kept_of};
 ghost use Rattle.rope_search.specs.Cost.{Costs, whole_searches};
 
 use crate::buffer::Buffer;
@@ -137,6 +137,12 @@ impl Session {
         // What it answers and leaves is a step, for each command that this one stands for.
         ensures step { (order : Order) → Stands self.old.limit command.entry order
             → Step self.old.limit self.old.state order result self.new.state }
+
+        // Want of memory is told where the payload was lost, and not where it is too long.
+        ensures lost { kept_of command.entry ≡ Some Payload.Lost → result ≡ Err Fault.Memory }
+        ensures long { (utf8 : Bool) → kept_of command.entry ≡ Some (Payload.Long utf8)
+            → result ≡ Err Fault.Memory → ⊥ }
+
         ensures limit { self.new.limit ≡ self.old.limit }
 
         // It makes at most the rows that the command costs.
@@ -170,6 +176,9 @@ impl Session {
     fn set_text(&mut self, tick: &mut Lines, payload: Payload<'_>) -> Result<Reply, Fault>
         ensures step { (bytes : List ℕ) → StandsFor self.old.limit payload.entry bytes
             → Step self.old.limit self.old.state (SetText bytes) result self.new.state }
+        ensures lost { payload.entry ≡ Payload.Lost → result ≡ Err Fault.Memory }
+        ensures long { (utf8 : Bool) → payload.entry ≡ Payload.Long utf8
+            → result ≡ Err Fault.Memory → ⊥ }
         ensures limit { self.new.limit ≡ self.old.limit }
         ensures rows { (bytes : List ℕ) (cost : ℕ) → StandsFor self.old.limit payload.entry bytes
             → Costs self.old.limit self.old.state (SetText bytes) cost
@@ -201,6 +210,9 @@ impl Session {
     ) -> Result<Reply, Fault>
         ensures step { (bytes : List ℕ) → StandsFor self.old.limit payload.entry bytes
             → Step self.old.limit self.old.state (EditText from to bytes) result self.new.state }
+        ensures lost { payload.entry ≡ Payload.Lost → result ≡ Err Fault.Memory }
+        ensures long { (utf8 : Bool) → payload.entry ≡ Payload.Long utf8
+            → result ≡ Err Fault.Memory → ⊥ }
         ensures limit { self.new.limit ≡ self.old.limit }
         ensures rows { (bytes : List ℕ) (cost : ℕ) → StandsFor self.old.limit payload.entry bytes
             → Costs self.old.limit self.old.state (EditText from to bytes) cost
@@ -249,6 +261,9 @@ impl Session {
     fn set_pattern(&mut self, tick: &mut Lines, payload: Payload<'_>) -> Result<Reply, Fault>
         ensures step { (bytes : List ℕ) → StandsFor pattern_limit payload.entry bytes
             → Step self.old.limit self.old.state (SetPattern bytes) result self.new.state }
+        ensures lost { payload.entry ≡ Payload.Lost → result ≡ Err Fault.Memory }
+        ensures long { (utf8 : Bool) → payload.entry ≡ Payload.Long utf8
+            → result ≡ Err Fault.Memory → ⊥ }
         ensures limit { self.new.limit ≡ self.old.limit }
         ensures rows { (bytes : List ℕ) (cost : ℕ) → StandsFor pattern_limit payload.entry bytes
             → Costs self.old.limit self.old.state (SetPattern bytes) cost
