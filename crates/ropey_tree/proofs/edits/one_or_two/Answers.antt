@@ -35,6 +35,7 @@ returns-clause-number c =
     let front : c.new-2.result ≡ chars (take at text) = c.new-2.ensures ∙ ap chars (c.range.ensures.value ∙ slice_front text at) in
     let back : c.new-3.result ≡ chars (drop at text) = c.new-3.ensures ∙ ap chars c.range_from.ensures.value in
     two_number text at c.new-2.result c.new-3.result c.utf8.text e.boundary e.front.0 e.back.0 (omega (arith, c.if-text-lt-MAX_BYTES.false)) front back
+
 pub returns-then-text-lt-MAX_BYTES-clause-one : goal.returns-then-text-lt-MAX_BYTES-clause-one
 returns-then-text-lt-MAX_BYTES-clause-one c = λ _.
     let text = c.args.text.now in
