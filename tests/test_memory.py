@@ -1,7 +1,7 @@
 """What bin/rope-search does where memory is refused: each request of several sessions in turn, alone and
 with all that follow it."""
 from harness import FIRST, differences, run, short, test, told
-from memory import counted, library
+from memory import counted, library, tallied
 from protocol import HAS_PAYLOAD, NUMBER_LIMIT, TEXT_LIMIT, Session, answer, read_commands, spelled, takers
 
 # Without a pattern `undo` and `redo` take no memory, and an edit that changes nothing drops what could be
@@ -13,6 +13,11 @@ UNDER_PATTERN = (
     b"edit 0 1 4 0 0\nlist\nedit 0 0 0 0 12\nb\nb\nb\nb\nb\nb\nlist\nundo\nundo\nundo\nlist\nprint\n"
 )
 SENT_AGAIN = (HISTORY, UNDER_PATTERN)
+
+# A text of a megabyte, and how many of its lines are edited, each in a fork of its own and all in one buffer.
+LINES, LINE, EDITED = 20_000, b"a line of fifty bytes, which holds one mark: here\n", 50
+# What a fork with an edit may take, or an edit with its rows, whatever the text: a path of nodes and a few lists.
+MOST_FOR_AN_EDIT = 16_384
 
 # Inputs on which memory is refused. The payload of the second is as long as several reads and
 # spells commands, which must not be carried out where it is lost.
@@ -124,3 +129,26 @@ def test_all():
                     yield f"{command[0]} {number} with two bytes asks for {largest} bytes"
 
     test("a line that claims many bytes takes no memory for them", claims())
+
+    def edited_lines(before):
+        """Commands that put a letter in lines all over the text, each after what `before` gives for it."""
+        step = LINES // EDITED
+        return b"".join(before(k) + spelled("edit", (k * step, 0, k * step, 0, 1), b"x") for k in range(EDITED))
+
+    def taken_for_edits(first, edits):
+        """What an edit takes after these first commands, where there is too much of it, in bytes."""
+        text = spelled("text", (LINES * len(LINE),), LINE * LINES) + first
+        _, _, _, alone = tallied(lambda environment: run(text, environment=environment))
+        ended, _, _, total = tallied(lambda environment: run(text + edits, environment=environment))
+        yield from differences(ended, ended.out, 0)
+        if b"error" in ended.out:
+            yield "a command is refused"
+        each = (total - alone) // EDITED
+        if not 0 < each <= MOST_FOR_AN_EDIT:
+            yield f"it takes {each} bytes"
+
+    forks = edited_lines(lambda k: b"fork\nuse %d\n" % (k + 1))
+    test("a fork with an edit takes memory for the edit, not for the text", taken_for_edits(b"", forks))
+    one = edited_lines(lambda k: b"")
+    test("an edit takes memory for what it changes, not for the text", taken_for_edits(b"", one))
+    test("so does an edit under a pattern", taken_for_edits(spelled("pattern", (4,), b"mark"), one))
