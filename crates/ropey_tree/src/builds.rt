@@ -12,8 +12,12 @@ use crate::{MAX_CHILDREN, MIN_CHILDREN};
 use std::alloc::{AllocError, Global};
 use std::rc::Rc;
 
+/// How many children a node of a new tree has where there are enough nodes: two fewer than there is
+/// room for, so that the first edits below it don't make it two, and all nodes above it neither.
+const NEW_CHILDREN: usize = 22;
+
 /// How many of the nodes that are left the next node takes: all of them, or so many that both it
-/// and the rest are full.
+/// and the rest have children enough.
 fn share(left: usize) -> usize
     requires { 2 ≤ left }
     ensures some { 2 ≤ result }
@@ -23,10 +27,10 @@ fn share(left: usize) -> usize
 {
     if left <= MAX_CHILDREN {
         left
-    } else if left < MAX_CHILDREN + MIN_CHILDREN {
+    } else if left < NEW_CHILDREN + MIN_CHILDREN {
         left - MIN_CHILDREN
     } else {
-        MAX_CHILDREN
+        NEW_CHILDREN
     }
 }
 
@@ -47,7 +51,7 @@ fn level(alloc: Global, height: usize, nodes: &[Rc<Node>]) -> Result<Vec<Rc<Node
     Ok(above)
 }
 
-/// A tree over leaves. Its nodes are full but for the last two of each level.
+/// A tree over leaves. Its nodes have `NEW_CHILDREN` children but for the last two of each level.
 pub fn build(alloc: Global, leaves: Vec<Rc<Node>>) -> Result<Rc<Node>, AllocError>
     requires some { 1 ≤ vec_len leaves }
     requires leaves { AreNodes 0 12 (views leaves.items) }

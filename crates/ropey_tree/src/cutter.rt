@@ -105,7 +105,7 @@ fn leaf_node(alloc: Global, text: LeafBuffer) -> Result<Rc<Node>, AllocError>
     ensures node { IfOk result (λ node. node.value ≡ leaf_view text) }
     ensures piece { IsPiece text }
 {
-    Ok(Rc::new(alloc, Node::from_leaf(text.into_leaf()))?)
+    Ok(Rc::new(alloc, Node::from_leaf(alloc, text.into_leaf())?)?)
 }
 
 /// The leaves of a text, each but the last with room for less than a character.

@@ -142,12 +142,12 @@ fn replaced(
         Parts::Leaf(leaf) => match with_text_replaced(leaf, from, to, text) {
             None => Ok(None),
             Some(Leaves::One(new)) => {
-                let only = made.share(alloc, Node::from_leaf(new))?;
+                let only = made.share(alloc, Node::from_leaf(alloc, new)?)?;
                 Ok(Some(Joined::One(only)))
             }
             Some(Leaves::Two(front, back)) => {
-                let first = made.share(alloc, Node::from_leaf(front))?;
-                let second = made.share(alloc, Node::from_leaf(back))?;
+                let first = made.share(alloc, Node::from_leaf(alloc, front)?)?;
+                let second = made.share(alloc, Node::from_leaf(alloc, back)?)?;
                 Ok(Some(Joined::Two(first, second)))
             }
         },

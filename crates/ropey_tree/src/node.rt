@@ -22,8 +22,9 @@ pub struct Node {
 #[cycle(node)]
 #[derive(Drop)]
 enum Body {
-    Leaf(Leaf),
-    // The height, and the children, which lie elsewhere: a leaf takes no room for any.
+    // What a node has lies elsewhere: a leaf takes no room for children, nor they for a leaf.
+    Leaf(Box<Leaf>),
+    // The height, and the children.
     Inner(usize, Box<Children>),
 }
 
@@ -48,14 +49,15 @@ impl Model for Node {
 
 impl Node {
     /// A leaf as a node.
-    pub fn from_leaf(leaf: Leaf) -> Self
-        ensures { result ≡ leaf_view leaf }
+    pub fn from_leaf(alloc: Global, leaf: Leaf) -> Result<Self, AllocError>
+        ensures { IfOk result (λ node. node ≡ leaf_view leaf) }
     {
         // For its facts alone.
         let _ = leaf.as_str();
-        Node {
+        let leaf = Box::new(alloc, leaf)?;
+        Ok(Node {
             body: Body::Leaf(leaf),
-        }
+        })
     }
 
     /// A node over children that are one level below its height.

@@ -147,7 +147,7 @@ fn append_both(alloc: Global, left: &Rc<Node>, right: &Rc<Node>) -> Result<Rc<No
     };
     let Halves { left: before, .. } = split(alloc, left, start + from)?;
     let Halves { right: after, .. } = split(alloc, right, to)?;
-    let leaf = Rc::new(alloc, Node::from_leaf(leaf))?;
+    let leaf = Rc::new(alloc, Node::from_leaf(alloc, leaf)?)?;
     let back = match after {
         None => leaf,
         Some(rest) => append_both(alloc, &leaf, &rest)?,

@@ -48,8 +48,8 @@ fn split_leaf(alloc: Global, node: &Rc<Node>, leaf: &Leaf, at: usize) -> Result<
             right: None,
         });
     }
-    let left = Rc::new(alloc, Node::from_leaf(Leaf::new(&text[..at])))?;
-    let right = Rc::new(alloc, Node::from_leaf(Leaf::new(&text[at..])))?;
+    let left = Rc::new(alloc, Node::from_leaf(alloc, Leaf::new(&text[..at]))?)?;
+    let right = Rc::new(alloc, Node::from_leaf(alloc, Leaf::new(&text[at..]))?)?;
     Ok(Halves {
         left: Some(left),
         right: Some(right),

@@ -10,6 +10,7 @@ use ropey_tree::MAX_BYTES;
 use ropey_tree::builds::build;
 use ropey_tree::counts::{By, Counts};
 use ropey_tree::cutter::leaves_of;
+use ropey_tree::leaf::Leaf;
 use ropey_tree::node::{Node, leaf_at};
 use ropey_tree::seams::append;
 use ropey_tree::splits::{Halves, split};
@@ -98,13 +99,14 @@ fn is_tree_of(tree: &Option<Rc<Node>>, text: &str) -> bool {
     }
 }
 
-// A leaf takes no room for children.
+// A leaf takes no room for children, and a node over children none for a leaf.
 #[test]
-fn leaves_are_small(rt: HostRuntime) {
+fn nodes_are_small(rt: HostRuntime) {
+    assert!(rt; size_of::<Node>() <= 24, "{} bytes", size_of::<Node>());
     assert!(rt;
-        size_of::<Node>() <= MAX_BYTES + 24,
+        size_of::<Leaf>() <= MAX_BYTES + 8,
         "{} bytes",
-        size_of::<Node>()
+        size_of::<Leaf>()
     );
 }
 

@@ -9,7 +9,7 @@ use std::test::Fail;
 
 #[test]
 fn bytes(rt: HostRuntime) -> Result<(), Fail> {
-    let node = Node::from_leaf(Leaf::new("aé"));
+    let node = Node::from_leaf(rt.alloc(), Leaf::new("aé"))?;
     let slice = RopeSlice::new(Some(&node));
     let mut bytes = slice.bytes();
     assert_eq!(rt; bytes.len(), 3);
@@ -28,7 +28,7 @@ fn bytes(rt: HostRuntime) -> Result<(), Fail> {
 
 #[test]
 fn chars(rt: HostRuntime) -> Result<(), Fail> {
-    let node = Node::from_leaf(Leaf::new("aé🐸"));
+    let node = Node::from_leaf(rt.alloc(), Leaf::new("aé🐸"))?;
     let slice = RopeSlice::new(Some(&node));
     let mut chars = slice.chars_at(1);
     assert_eq!(rt; chars.next(), Some('é'));
@@ -50,7 +50,7 @@ fn is_line(line: Option<RopeSlice<'_>>, text: &str) -> bool {
 
 #[test]
 fn lines(rt: HostRuntime) -> Result<(), Fail> {
-    let node = Node::from_leaf(Leaf::new("one\r\ntwo\n"));
+    let node = Node::from_leaf(rt.alloc(), Leaf::new("one\r\ntwo\n"))?;
     let slice = RopeSlice::new(Some(&node));
     let mut lines = slice.lines();
     assert_eq!(rt; lines.len(), 3);
@@ -70,7 +70,7 @@ fn lines(rt: HostRuntime) -> Result<(), Fail> {
 
 #[test]
 fn texts(rt: HostRuntime) -> Result<(), Fail> {
-    let node = Node::from_leaf(Leaf::new("one\r\ntwo"));
+    let node = Node::from_leaf(rt.alloc(), Leaf::new("one\r\ntwo"))?;
     let slice = RopeSlice::new(Some(&node));
     assert!(rt; slice.to_text(rt.alloc())?.as_str() == "one\r\ntwo");
     assert!(rt; RopeSlice::new(None).to_text(rt.alloc())?.is_empty());

@@ -34,7 +34,7 @@ fn with_leaf(
 ) -> Result<Option<Rc<Node>>, Fail> {
     assert!(rt; !text.is_empty());
     assert!(rt; text.len() <= 984);
-    let leaf = Some(Rc::new(alloc, Node::from_leaf(Leaf::new(text)))?);
+    let leaf = Some(Rc::new(alloc, Node::from_leaf(alloc, Leaf::new(text))?)?);
     assert!(rt; bytes_in(&tree) < 1_000_000_000);
     assert!(rt; bytes_in(&leaf) < 1_000_000_000);
     let tree = append(alloc, tree, leaf)?;
@@ -225,7 +225,7 @@ fn faults<R: TextRange, S: TextRange>(
 
 #[test]
 fn ranges_that_are_refused(rt: HostRuntime) -> Result<(), Fail> {
-    let node = Node::from_leaf(Leaf::new("aé\r\n"));
+    let node = Node::from_leaf(rt.alloc(), Leaf::new("aé\r\n"))?;
     let slice = RopeSlice::new(Some(&node));
     let most = usize::MAX;
     // Invalid first, also where the range goes past the end too.
@@ -276,7 +276,7 @@ fn ranges_that_are_refused(rt: HostRuntime) -> Result<(), Fail> {
 
 #[test]
 fn ranges_that_are_taken(rt: HostRuntime) -> Result<(), Fail> {
-    let node = Node::from_leaf(Leaf::new("aé\r\n"));
+    let node = Node::from_leaf(rt.alloc(), Leaf::new("aé\r\n"))?;
     let slice = RopeSlice::new(Some(&node));
     assert!(rt; slice.slice(..).as_str() == Some("aé\r\n"));
     assert!(rt;

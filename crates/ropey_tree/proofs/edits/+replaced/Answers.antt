@@ -68,7 +68,7 @@ returns-in_ok-only-in-Some-One-clause-edited t c =
     let e = rw c.in-Some-One.field-0-is at c.in-Some-One.ensures in
     let made = c.in_ok-only-in-Some-One.ensures in
     one_replaces c.args.node.now.value c.in_ok-only-in-Some-One.only.value c.in-Leaf.leaf.now c.in-Some-One.new c.args.from c.args.to (chars c.args.text.now) (c.share.new.self.nodes - c.args.made.now.nodes) v_is
-    (made.shared ∙ c.from_leaf.ensures) e.replaced e.may_stand (omega (arith, made.counted))
+    (made.shared ∙ c.in_ok-from_leaf-in-Some-One.ensures) e.replaced e.may_stand (omega (arith, made.counted))
 
 pub returns-in_ok-second-in-Some-Two-clause-edited : goal.returns-in_ok-second-in-Some-Two-clause-edited
 returns-in_ok-second-in-Some-Two-clause-edited t c =
@@ -77,7 +77,7 @@ returns-in_ok-second-in-Some-Two-clause-edited t c =
     let first = c.in_ok-first-in-Some-Two.ensures in
     let second = c.in_ok-second-in-Some-Two.ensures in
     two_replace c.args.node.now.value c.in_ok-first-in-Some-Two.first.value c.in_ok-second-in-Some-Two.second.value c.in-Leaf.leaf.now c.in-Some-Two.front c.in-Some-Two.back c.args.from c.args.to (chars c.args.text.now)
-    (c.share-in-Some-Two-2.new.self.nodes - c.args.made.now.nodes) v_is (first.shared ∙ c.from_leaf-in-Some-Two.ensures) (second.shared ∙ c.from_leaf-in-Some-Two-2.ensures) e.replaced e.may_stand (omega (arith, first.counted, second.counted))
+    (c.share-in-Some-Two-2.new.self.nodes - c.args.made.now.nodes) v_is (first.shared ∙ c.in_ok-from_leaf-in-Some-Two.ensures) (second.shared ∙ c.in_ok-from_leaf-in-Some-Two-2.ensures) e.replaced e.may_stand (omega (arith, first.counted, second.counted))
 
 pub returns-in-None-2-clause-none : goal.returns-in-None-2-clause-none
 returns-in-None-2-clause-none t c = λ pieces h.

@@ -82,13 +82,13 @@ append_both-requires t c =
     let low = shorter ps qs mid at c.in-Some.field-0.to (seam_is t a) l x y r c.in-Some.ensures.some c.requires.fits c.in_ok-before.ensures c.in_ok-after.ensures in
     let fits = rest_fits ps qs mid at c.in-Some.field-0.to (seam_is t a) l x y r c.in-Some.ensures.some c.requires.fits c.in_ok-before.ensures c.in_ok-after.ensures in
     let rest : r ≡ c.in-Some-after.rest.value.pieces = ap pieces_in c.in-Some-after.is in
-    let leaf : c.in_ok-leaf.leaf.value.pieces ≡ mid ∷ [] = ap (λ v. v.pieces) (c.in_ok-leaf.ensures.ok ∙ c.from_leaf.ensures) in
+    let leaf : c.in_ok-leaf.leaf.value.pieces ≡ mid ∷ [] = ap (λ v. v.pieces) (c.in_ok-leaf.ensures.ok ∙ c.in_ok-from_leaf.ensures) in
     let rest_bytes = ap (λ ps. (total ps).bytes) rest in
     (omega (arith, c.decreases, low, rest_bytes), omega (arith, fits, rest_bytes, ap (λ ps. (total ps).bytes) leaf, sum_by-cons byte_len mid []))
 
 record Joins (t : ℕ) (c : After-height-3 t) : Type 0 where
-  whole : IsText (pieces_in c.in_ok-before.field-0.left ++ c.match-after-2.back.value.pieces)
-  text : concat (pieces_in c.in_ok-before.field-0.left ++ c.match-after-2.back.value.pieces) ≡ concat c.args.left.now.value.pieces ++ concat c.args.right.now.value.pieces
+  whole : IsText (pieces_in c.in_ok-before.field-0.left ++ c.match-after-3.back.value.pieces)
+  text : concat (pieces_in c.in_ok-before.field-0.left ++ c.match-after-3.back.value.pieces) ≡ concat c.args.left.now.value.pieces ++ concat c.args.right.now.value.pieces
 
 joins : (t : ℕ) (c : After-height-3 t) → IsBetween c.args.left.now.value.pieces (c.counts-end.result.bytes - length c.as_str.result.now + c.in-Some.field-0.from) c.in-Some.field-0.leaf c.args.right.now.value.pieces c.in-Some.field-0.to → Joins t c
 joins t c between =
@@ -100,10 +100,10 @@ joins t c between =
     let x = pieces_in c.in_ok-before.field-0.right in
     let y = pieces_in c.in_ok-after.field-0.left in
     let r = pieces_in c.in_ok-after.field-0.right in
-    let bs = c.match-after-2.back.value.pieces in
-    let leaf : c.in_ok-leaf.leaf.value.pieces ≡ mid ∷ [] = ap (λ v. v.pieces) (c.in_ok-leaf.ensures.ok ∙ c.from_leaf.ensures) in
+    let bs = c.match-after-3.back.value.pieces in
+    let leaf : c.in_ok-leaf.leaf.value.pieces ≡ mid ∷ [] = ap (λ v. v.pieces) (c.in_ok-leaf.ensures.ok ∙ c.in_ok-from_leaf.ensures) in
     let one : concat c.in_ok-leaf.leaf.value.pieces ≡ mid = ap concat leaf ∙ append-nil mid in
-    let joined : concat bs ≡ mid ++ concat r = elim c.match-after-2.branch [
+    let joined : concat bs ≡ mid ++ concat r = elim c.match-after-3.branch [
       | in-None w ↦ ap (λ n. concat n.value.pieces) w.back-is ∙ one ∙ sym (append-nil mid) ∙ ap (λ ps. mid ++ concat ps) (sym (ap pieces_in w.in-None.is))
       | in-Some-after+in_ok-back-in-Some-after w ↦
           ap (λ n. concat n.value.pieces) w.back-is ∙ w.in_ok-back-in-Some-after.ensures ∙ ap (λ t. t ++ concat w.in-Some-after.rest.value.pieces) one ∙ ap (λ ps. mid ++ concat ps) (sym (ap pieces_in w.in-Some-after.is))
