@@ -1,5 +1,5 @@
 -- Where a match is shown: at two boundaries of the text.
-use Rattle.std.proofs.Common.{◌≡◌, ℕ, zero, suc, ◌+◌, ◌-◌, ◌<◌, ◌≤◌, true, ◌⊎◌, inl, inr, Option, Some, List, [], ◌∷◌, ◌++◌, length, map, take, drop, slice_index_or, refl, sym, ap, ◌∙◌, subst, All, append_assoc, arith, chars}
+use Rattle.std.proofs.Common.{◌≡◌, ℕ, zero, suc, ◌+◌, ◌-◌, ◌<◌, ◌≤◌, true, ◌⊎◌, inl, inr, Some, List, [], ◌∷◌, ◌++◌, length, map, take, drop, slice_index_or, refl, sym, ap, ◌∙◌, subst, All, append_assoc, arith, chars}
 use Rattle.std.specs.Str.{all_scalars, IsUtf8, IsCharBoundary}
 use Rattle.std.proofs.lemmas.Bool.{cases_lt}
 use Rattle.std.proofs.lemmas.List.{take-take}
@@ -12,7 +12,7 @@ use Rattle.rope_search_reports.specs.Text.{IsText, bytes_of, line_count}
 use Rattle.rope_search_reports.specs.Report.{line_texts, column, columns, IsMatches, IsRow, AreRows, IsReport}
 use Rattle.rope_search_reports.specs.Matches.{AreFurther, IsNext, at_once, moved}
 use Rattle.rope_search_reports.specs.Pattern.{IsPattern, IsSpanOf, FindsNeedle}
-use Rattle.rope_search_reports.specs.Position.{line_at, line_start, line_text, text_end, position, IsAt, StandsAtBoundaries}
+use Rattle.rope_search_reports.specs.Position.{line_at, line_start, line_text, text_end, IsAt, StandsAtBoundaries}
 use Rattle.rope_search_reports.specs.Laws.{PlaceLaws}
 use Rattle.rope_search_reports.proofs.LineLemmas.{byte_len-append, byte_len-one, lines-counted, lines-in-place}
 use Rattle.rope_search_reports.proofs.PatternLemmas.{bytes_some}

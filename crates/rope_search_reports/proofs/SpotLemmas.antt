@@ -13,7 +13,7 @@ use Rattle.rope_search_reports.specs.Text.{bytes_of, line_count}
 use Rattle.rope_search_reports.specs.Laws.{PlaceLaws}
 use Rattle.rope_search_reports.specs.Position.{line_at, line_start, line_text, text_end, position, IsAt}
 use Rattle.rope_search_reports.proofs.LineLemmas.{byte_len-append, byte_len-one, ends-joined_cr, lines-in-place}
-use Rattle.rope_search_reports.proofs.PlaceLemmas.{front_within, InLine, in_line, line_inside, cut_off, IsFrontOf, front_of, units_there, chars_there, split_at}
+use Rattle.rope_search_reports.proofs.PlaceLemmas.{front_within, InLine, in_line, line_inside, cut_off, IsFrontOf, front_of, units_there, chars_there, split_at, reached}
 
 -- ---- no CR LF is cut in a line's text or at its end
 
@@ -231,24 +231,37 @@ module _ (law : PlaceLaws) (text : List ℕ) (scalars : all_scalars text ≡ tru
         within = subst (λ (line : ℕ). byte_idx ≤ text_end text line) (sym (ap (λ (p : ℕ × ℕ). p.0) same)) low;
       }
 
+  -- the place that its code unit leads to is that of the position, where it is in the position's line
+  pub there : (spot : ℕ × ℕ) (start_char start unit char_idx byte_idx : ℕ) → Led char_idx byte_idx → spot.0 ≡ line_at text byte_idx
+      → start_char ≡ ends_up_to (line_start text spot.0) (char_ends text) → start ≡ ends_up_to (end_place (char_ends text) start_char (byte_len text)) (unit_ends text)
+      → unit ≡ start + spot.1 → unit ≡ ends_up_to (end_place (char_ends text) char_idx (byte_len text)) (unit_ends text)
+      → spot ≡ position text byte_idx
+  there spot start_char start unit char_idx byte_idx l line_is start_char_is start_is unit_is at_is =
+      let char_is = l.char_is ∙ sym (chars_there law text l.front byte_idx (front_of law text l.front l.back l.parts) l.byte_is) in
+      let r = reached law text byte_idx spot.0 start_char start char_idx unit scalars l.boundary line_is start_char_is start_is char_is at_is in
+      let column = r.column in
+      ap (λ n. (n, spot.1)) line_is ∙ ap (λ n. (line_at text byte_idx, n)) (omega (arith, unit_is, column))
+
   -- no other place is that of the position
-  pub record Found (spot : ℕ × ℕ) (char_idx byte_idx : ℕ) : Type 0 where
+  pub record Found (spot : ℕ × ℕ) (unit char_idx byte_idx : ℕ) : Type 0 where
     pub same : spot ≡ position text byte_idx
+    pub unit_there : ends_up_to (end_place (char_ends text) char_idx (byte_len text)) (unit_ends text) ≡ unit
     pub uncut_there : cuts_cr_lf (take char_idx text) (drop char_idx text) ≡ false
 
   pub found : (spot : ℕ × ℕ) (place start unit char_idx byte_idx : ℕ) → Spotted spot place start → IsAt text spot place → unit ≡ start + spot.1 → Led char_idx byte_idx
       → char_idx ≡ ends_up_to (slice_index_or (unit_starts text) unit (byte_len text)) (char_ends text)
-      → Found spot char_idx byte_idx
+      → Found spot unit char_idx byte_idx
   found spot place start unit char_idx byte_idx s at unit_is l char_is =
       let f = s.of_front in
-      let unit_there : unit ≡ units s.front = unit_is ∙ s.unit_is in
+      let unit_before : unit ≡ units s.front = unit_is ∙ s.unit_is in
       let chars : char_idx ≡ length s.front =
-      char_is ∙ ap (λ n. ends_up_to (slice_index_or (unit_starts text) n (byte_len text)) (char_ends text)) unit_there ∙ ap (λ n. ends_up_to n (char_ends text)) f.back_from_units ∙ f.chars_are in
+      char_is ∙ ap (λ n. ends_up_to (slice_index_or (unit_starts text) n (byte_len text)) (char_ends text)) unit_before ∙ ap (λ n. ends_up_to n (char_ends text)) f.back_from_units ∙ f.chars_are in
       let fronts : l.front ≡ s.front = same_length l.front l.back s.front s.back (sym l.parts ∙ s.parts) (sym l.char_is ∙ chars) in
       let backs : l.back ≡ s.back = cut_off l.front l.back s.back (sym l.parts ∙ s.parts ∙ ap (λ t. t ++ s.back) (sym fronts)) in
       let there : byte_idx ≡ place = l.byte_is ∙ ap byte_len fronts ∙ sym s.place_is in
       record {
         same = at.same ∙ ap (position text) (sym there);
+        unit_there = ap (λ n. ends_up_to (end_place (char_ends text) n (byte_len text)) (unit_ends text)) chars ∙ ap (λ n. ends_up_to n (unit_ends text)) f.back_from_chars ∙ f.units_are ∙ sym unit_before;
         uncut_there = looked_at char_idx byte_idx l ∙ ap (λ t. cuts_cr_lf t l.back) fronts ∙ ap (cuts_cr_lf s.front) backs ∙ s.whole;
       }
     where

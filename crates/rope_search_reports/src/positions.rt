@@ -94,14 +94,20 @@ pub fn place_of(text: &Rope, position: Position) -> Option<Place>
     if position.column > text.len_utf16_cu() - start {
         return None;
     }
-    let char_idx = text.utf16_cu_to_char(start + position.column);
+    let unit = start + position.column;
+    let char_idx = text.utf16_cu_to_char(unit);
+    // Inside a surrogate pair?
+    if text.char_to_utf16_cu(char_idx) != unit {
+        return None;
+    }
     let byte_idx = text.char_to_byte(char_idx);
+    // Behind its line?
+    if text.byte_to_line(byte_idx) != position.line {
+        return None;
+    }
+    // Between the CR and the LF of its break?
     if is_in_cr_lf(text, char_idx) {
         return None;
     }
-    if position_of(text, byte_idx) == position {
-        Some(Place { byte_idx, char_idx })
-    } else {
-        None
-    }
+    Some(Place { byte_idx, char_idx })
 }

@@ -161,6 +161,10 @@ fn chunks_of_lines(text: &Rope, first: usize, end: usize) -> Chunks<'_>
 {
     // Laws, for the proof alone.
     laws::places();
+    // One line takes half as many ways down the tree.
+    if end == first + 1 {
+        return text.line(first).chunks();
+    }
     let start = text.line_to_char(first);
     text.slice(start..text.line_to_char(end)).chunks()
 }
