@@ -17,7 +17,7 @@ SENT_AGAIN = (HISTORY, UNDER_PATTERN)
 # A text of a megabyte, and how many of its lines are edited, each in a fork of its own and all in one buffer.
 LINES, LINE, EDITED = 20_000, b"a line of fifty bytes, which holds one mark: here\n", 50
 # What a fork with an edit may take, or an edit with its rows, whatever the text: a path of nodes and a few lists.
-MOST_FOR_AN_EDIT = 16_384
+MOST_FOR_AN_EDIT = 8_192
 
 # Inputs on which memory is refused. The payload of the second is as long as several reads and
 # spells commands, which must not be carried out where it is lost.
