@@ -6,7 +6,7 @@
 # of one piece. Takes the command `rt` from RT, if it is set.
 . "$(dirname "$0")/common.sh"
 
-build searches rx_chunk rx_captures rx_input rx_threads
+build searches rx_chunk rx_util rx_input rx_steps
 cd "$work"
 for kind in ascii mixed japanese; do
     text $kind 10000000 $kind

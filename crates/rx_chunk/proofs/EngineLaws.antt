@@ -4,9 +4,9 @@ use Rattle.std.proofs.Math.Seq.{take-append_seam}
 use Rattle.std.proofs.lemmas.List.{length-replicate}
 use Rattle.std.proofs.lemmas.Option.{none-some}
 use Rattle.rx_sets.specs.Sets.{Range}
-use Rattle.rx_captures.specs.Groups.{Groups, slot_len}
-use Rattle.rx_captures.specs.Captured.{Captured, nothing_noted}
-use Rattle.rx_captures.specs.Lending.{with_slots}
+use Rattle.rx_util.specs.Groups.{Groups, slot_len}
+use Rattle.rx_util.specs.Captured.{Captured, nothing_noted}
+use Rattle.rx_util.specs.Lending.{with_slots}
 use Rattle.rx_grammar.specs.declared.error.SyntaxError.{SyntaxError}
 use Rattle.rx_grammar.specs.declared.error.SyntaxError.TheVariants as syntax
 use Rattle.rx_grammar.specs.Settings.{Settings}
@@ -22,8 +22,8 @@ use Rattle.rx_program.specs.declared.error.BuildError.TheVariants as build
 use Rattle.rx_program.specs.Code.{program_of}
 use Rattle.rx_program.specs.Programs.{ByteProgram, characters_of}
 use Rattle.rx_program.specs.Sizes.{IsTooLarge, told_limit, weight_of_all}
-use Rattle.rx_threads.specs.Threads.{Slots}
-use Rattle.rx_threads.specs.Searching.{IsAnswer}
+use Rattle.rx_steps.specs.Threads.{Slots}
+use Rattle.rx_steps.specs.Searching.{IsAnswer}
 use Rattle.rx_chunk.specs.Engines.{Engine, Wanted, AreGroupsOf, IsOfTree, IsEngine, IsBuiltOf, IsRefused, too_long, nesting, outside, too_large, memory, refusal_of, match_of, TellsWhether, IsFound}
 
 -- ---- what is built

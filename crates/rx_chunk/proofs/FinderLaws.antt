@@ -1,14 +1,14 @@
 -- A searcher over a finder that tells what a program finds comes to what an engine's iterator gives.
 use Rattle.std.proofs.Common.{◌≡◌, ◌≢◌, ℕ, ◌+◌, Bool, true, Option, Some, None, is_some, option_map, Ok, refl, sym, ap, subst, ◌∙◌, arith}
 use Rattle.std.proofs.lemmas.Option.{same_Some}
-use Rattle.rx_captures.specs.Search.{Found}
+use Rattle.rx_util.specs.Search.{Found}
 use Rattle.rx_input.specs.Inputs.{InputState}
 use Rattle.rx_walks.specs.Machines.{Outcome}
 use Rattle.rx_walks.specs.Programs.{Notes}
 use Rattle.rx_walks.specs.Finds.{Search, from_place_on}
 use Rattle.rx_program.specs.Programs.{ByteProgram}
 use Rattle.rx_chunk.specs.Engines.{Finds, IsFound, match_of}
-use Rattle.rx_threads.specs.Searching.{search_of}
+use Rattle.rx_steps.specs.Searching.{search_of}
 use Rattle.rx_chunk.specs.Iterating.{IsFoundAfter, StartsFrom}
 use Rattle.rx_chunk.specs.Searchers.{SearcherState, Finder, TellsNext, at_once, further, IsEmptyAtLast, StandsAtLast}
 use Rattle.rx_chunk.proofs.IterLaws.{InsideLaw, lies, nothing_after, found_after, moved_after, moved_search, moved_on, set_to}

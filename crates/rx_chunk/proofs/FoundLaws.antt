@@ -5,11 +5,11 @@ use Rattle.std.proofs.lemmas.Bool.{lt-ltb}
 use Rattle.std.proofs.lemmas.Option.{none-some}
 use Rattle.unicode.specs.Perl.{is_word_char}
 use Rattle.rx_sets.specs.Sets.{Range}
-use Rattle.rx_automata.specs.Automata.{is_in}
-use Rattle.rx_captures.specs.declared.search.Span.{Span}
-use Rattle.rx_captures.specs.Search.{Found}
-use Rattle.rx_captures.specs.Groups.{Groups, Name}
-use Rattle.rx_captures.specs.Captured.{Captured, place_in, span_between, group_span, match_found}
+use Rattle.rx_utf8.specs.Automata.{is_in}
+use Rattle.rx_util.specs.declared.search.Span.{Span}
+use Rattle.rx_util.specs.Search.{Found}
+use Rattle.rx_util.specs.Groups.{Groups, Name}
+use Rattle.rx_util.specs.Captured.{Captured, place_in, span_between, group_span, match_found}
 use Rattle.rx_walks.specs.Looks as walks
 use Rattle.rx_walks.specs.Machines.{Outcome}
 use Rattle.rx_walks.specs.Programs.{Program, Notes}
@@ -18,8 +18,8 @@ use Rattle.rx_walks.specs.ProgramFinds.{start_of, end_of}
 use Rattle.rx_walks.specs.Laws.{FindsLieInside}
 use Rattle.rx_program.specs.Laws.{HasNoted, MatchesNoteTheirPlaces}
 use Rattle.rx_program.specs.Programs.{ByteProgram, characters_of}
-use Rattle.rx_threads.specs.Threads.{Slots}
-use Rattle.rx_threads.specs.Searching.{answer_slots, IsAnswer}
+use Rattle.rx_steps.specs.Threads.{Slots}
+use Rattle.rx_steps.specs.Searching.{answer_slots, IsAnswer}
 use Rattle.rx_chunk.specs.Engines.{Engine, IsEngine, Finds, match_of, IsFound}
 use Rattle.rx_chunk.proofs.EngineLaws.{pattern_in, none_found}
 

@@ -6,7 +6,7 @@ use Rattle.std.proofs.lemmas.List.{map-append, length_push, get_or_push, get_or_
 use Rattle.std.proofs.lemmas.List.Concat.{flat_map-append}
 use Rattle.std.proofs.lemmas.List.Elements.{Contains-append_right}
 use Rattle.std.proofs.lemmas.Option.{none-some, slice_get_within, slice_get-get_or}
-use Rattle.rx_captures.specs.Groups.{Groups, name_among, HasDistinctNames, slot_len}
+use Rattle.rx_util.specs.Groups.{Groups, name_among, HasDistinctNames, slot_len}
 use Rattle.rx_grammar.specs.Trees.{Name, Tree, Trees, empty, one_of, look_at, group, concat, alternation, repeated, two, more, names_of, all_names_of, numbers_of, all_numbers_of}
 use Rattle.rx_grammar.specs.Subtrees.{NodeKind, a_group, root_of, subtrees_of, all_subtrees_of, nodes_of, HasName, IsWellFormed}
 use Rattle.rx_grammar.specs.Postorder.{own_names, names_in}

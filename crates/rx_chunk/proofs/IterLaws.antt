@@ -4,9 +4,9 @@ use Rattle.std.proofs.lemmas.Option.{same_Some}
 use Rattle.std.specs.Iterator.{Yields, YieldsThen, Drains, size}
 use Rattle.unicode.specs.Perl.{is_word_char}
 use Rattle.rx_sets.specs.Sets.{Range}
-use Rattle.rx_automata.specs.Automata.{is_in}
-use Rattle.rx_captures.specs.declared.search.MatchError.{MatchError}
-use Rattle.rx_captures.specs.Search.{Found}
+use Rattle.rx_utf8.specs.Automata.{is_in}
+use Rattle.rx_util.specs.declared.search.MatchError.{MatchError}
+use Rattle.rx_util.specs.Search.{Found}
 use Rattle.rx_input.specs.Cursors.{IsSameContent}
 use Rattle.rx_input.specs.Inputs.{InputState, Asked, HasSpan}
 use Rattle.rx_walks.specs.Looks as walks
@@ -18,7 +18,7 @@ use Rattle.rx_walks.specs.Matches.{Next, no_more, at_once, moved, Further, last,
 use Rattle.rx_walks.specs.Laws.{FindsLieInside, LiesInside}
 use Rattle.rx_program.specs.Programs.{ByteProgram, characters_of}
 use Rattle.rx_chunk.specs.Engines.{Finds, IsFound, match_of}
-use Rattle.rx_threads.specs.Searching.{search_of, anchoring_of}
+use Rattle.rx_steps.specs.Searching.{search_of, anchoring_of}
 use Rattle.rx_chunk.specs.Iterating.{FindsAfter, IsFoundAfter, StartsFrom, MatchesLeft, matches_from, FindsNext, GivesFound, GivesMatch, items_at_most, matches_left, AreMatches, IteratorStep, not_refused}
 
 -- the law of rx_walks on where finds lie, as a call of `finds_lie_inside` tells it

@@ -1,8 +1,8 @@
 -- Steps of a searcher, by what a finder tells.
 use Rattle.std.proofs.Common.{◌≡◌, ◌≢◌, ℕ, ◌+◌, ◌-◌, ◌≤◌, ◌<◌, Bool, true, false, Option, Some, None, is_some, Result, Ok, Err, refl, sym, ap, subst, ◌∙◌, arith}
 use Rattle.std.specs.Iterator.{size}
-use Rattle.rx_captures.specs.declared.search.MatchError.{MatchError}
-use Rattle.rx_captures.specs.Search.{HalfFound}
+use Rattle.rx_util.specs.declared.search.MatchError.{MatchError}
+use Rattle.rx_util.specs.Search.{HalfFound}
 use Rattle.rx_input.specs.Inputs.{InputState}
 use Rattle.rx_chunk.specs.Iterating.{items_at_most}
 use Rattle.rx_chunk.specs.Searchers.{SearcherState, Finder, IsSetTo, HasPassed, EndsInside, StaysInside, TellsNext, at_once, further, Advances, IsAtLast, end_of_half, StandsAtLast, half_matches_left}

@@ -3,9 +3,9 @@ use Rattle.std.specs.Prelude.{◌≡◌, ◌↔◌, ◌<◌, ◌≤◌, ℕ, ◌
 use Rattle.std.specs.Option.{option_or}
 use Rattle.std.specs.Str.{chars}
 use Rattle.unicode.specs.Perl.{is_word_char}
-use Rattle.rx_captures.specs.declared.search.MatchKind.{MatchKind}
-use Rattle.rx_captures.specs.Groups.{Groups, Name}
-use Rattle.rx_captures.specs.Search.{Found}
+use Rattle.rx_util.specs.declared.search.MatchKind.{MatchKind}
+use Rattle.rx_util.specs.Groups.{Groups, Name}
+use Rattle.rx_util.specs.Search.{Found}
 use Rattle.rx_grammar.specs.declared.error.SyntaxError.{SyntaxError}
 use Rattle.rx_grammar.specs.declared.error.SyntaxError.TheVariants as syntax
 use Rattle.rx_grammar.specs.Trees.{Tree, numbers_of}
@@ -16,7 +16,7 @@ use Rattle.rx_walks.specs.Machines.{Outcome}
 use Rattle.rx_walks.specs.Programs.{Notes}
 use Rattle.rx_walks.specs.Finds.{Search}
 use Rattle.rx_walks.specs.ProgramFinds.{ProgramFinds, start_of, end_of}
-use Rattle.rx_automata.specs.Automata.{is_in}
+use Rattle.rx_utf8.specs.Automata.{is_in}
 use Rattle.rx_program.specs.declared.error.BuildError.{BuildError}
 use Rattle.rx_program.specs.declared.error.BuildError.TheVariants as build
 use Rattle.rx_program.specs.Code.{program_of}

@@ -1,11 +1,11 @@
 -- What an iterator over an engine's matches has left, and the cache that it was lent.
 use Rattle.std.specs.Prelude.{◌≡◌, Option, Result}
 use Rattle.std.specs.Borrow.{MutBor}
-use Rattle.rx_captures.specs.declared.search.MatchError.{MatchError}
-use Rattle.rx_captures.specs.Search.{Found}
+use Rattle.rx_util.specs.declared.search.MatchError.{MatchError}
+use Rattle.rx_util.specs.Search.{Found}
 use Rattle.rx_input.specs.declared.cursor.Cursor.{Ghosts}
-use Rattle.rx_threads.specs.Coming.{CacheView}
-use Rattle.rx_threads.specs.Searching.{search_of}
+use Rattle.rx_steps.specs.Coming.{CacheView}
+use Rattle.rx_steps.specs.Searching.{search_of}
 use Rattle.rx_chunk.specs.declared.pikevm.find_matches.FindMatches.{FindMatches}
 use Rattle.rx_chunk.specs.Iterating.{MatchesLeft, GivesMatch}
 

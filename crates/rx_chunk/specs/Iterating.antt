@@ -2,9 +2,9 @@
 use Rattle.std.specs.Prelude.{◌≡◌, ℕ, ◌+◌, ◌-◌, Bool, true, false, List, length, map, Option, Some, None, option_map, Result, Ok, Err}
 use Rattle.std.specs.Iterator.{Count, at_most, Drains}
 use Rattle.unicode.specs.Perl.{is_word_char}
-use Rattle.rx_captures.specs.declared.search.MatchError.{MatchError}
-use Rattle.rx_captures.specs.declared.search.MatchError.TheVariants.{Memory}
-use Rattle.rx_captures.specs.Search.{Found}
+use Rattle.rx_util.specs.declared.search.MatchError.{MatchError}
+use Rattle.rx_util.specs.declared.search.MatchError.TheVariants.{Memory}
+use Rattle.rx_util.specs.Search.{Found}
 use Rattle.rx_input.specs.Cursors.{IsSameContent}
 use Rattle.rx_input.specs.Inputs.{InputState}
 use Rattle.rx_walks.specs.Machines.{Outcome}
@@ -12,7 +12,7 @@ use Rattle.rx_walks.specs.Programs.{Notes}
 use Rattle.rx_walks.specs.Finds.{Search, from_place_on}
 use Rattle.rx_walks.specs.ProgramFinds.{ProgramMatches, start_of, end_of}
 use Rattle.rx_walks.specs.Matches.{Next}
-use Rattle.rx_automata.specs.Automata.{is_in}
+use Rattle.rx_utf8.specs.Automata.{is_in}
 use Rattle.rx_program.specs.Programs.{ByteProgram, characters_of}
 use Rattle.rx_chunk.specs.Engines.{Finds, match_of}
 

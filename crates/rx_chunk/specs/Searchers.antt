@@ -3,8 +3,8 @@ use Rattle.std.specs.Prelude.{◌≡◌, ℕ, ◌≤◌, ◌+◌, ◌-◌, ◌<�
 use Rattle.std.specs.Borrow.{MutBor}
 use Rattle.std.specs.Fn.{Mut, CalledAtMut}
 use Rattle.std.specs.Iterator.{Count, at_most}
-use Rattle.rx_captures.specs.declared.search.MatchError.{MatchError}
-use Rattle.rx_captures.specs.Search.{Found, HalfFound}
+use Rattle.rx_util.specs.declared.search.MatchError.{MatchError}
+use Rattle.rx_util.specs.Search.{Found, HalfFound}
 use Rattle.rx_input.specs.Inputs.{InputState, HasSpan}
 use Rattle.rx_chunk.specs.Iterating.{items_at_most}
 

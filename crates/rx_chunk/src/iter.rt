@@ -3,7 +3,7 @@
 ghost use Rattle.std.specs.Prelude.{◌≡◌, ◌+◌, ◌^◌, ◌<◌, ◌≤◌, None, Some, true, false};
 ghost use Rattle.rx_chunk.specs.Searchers.{Advances, GivesItem, HasPassed, IsAtLast, IsEmptyAtLast, IsSetTo, StandsAtLast, StaysInside, end_of_half, end_of_match, half_matches_left, finder_of};
 
-use rx_captures::{HalfMatch, Match, MatchError};
+use rx_util::{HalfMatch, Match, MatchError};
 use rx_input::{Cursor, Input};
 use std::marker::Model;
 

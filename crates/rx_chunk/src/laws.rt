@@ -2,7 +2,7 @@
 
 ghost use Rattle.rx_chunk.specs.Iterating.{GivesAllMatches, MatchesLeft};
 
-use rx_captures::{Match, MatchError};
+use rx_util::{Match, MatchError};
 
 /// What an iterator over matches gives up to the first `None` is, where nothing is refused, the
 /// list of all matches, in order.

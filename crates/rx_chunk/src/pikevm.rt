@@ -3,25 +3,25 @@
 ghost use Rattle.std.specs.Prelude.{◌≡◌, ℕ, ◌+◌, ◌*◌, ◌<◌, ◌≤◌, IfOk, IfErr, OnOk, OnErr, None, Some, MatchOption, length, option_map, option_copied, unwrap_or, string_bytes, true, false};
 ghost use Rattle.std.specs.Option.{ForSome};
 ghost use Rattle.std.specs.Str.{chars};
-ghost use Rattle.rx_captures.specs.declared.search.MatchError.{MatchError};
-ghost use Rattle.rx_captures.specs.declared.search.MatchKind.{MatchKind};
-ghost use Rattle.rx_captures.specs.Groups.{names_of, slot_len};
-ghost use Rattle.rx_captures.specs.Captured.{nothing_noted, place_in, span_between, group_span, match_found};
+ghost use Rattle.rx_util.specs.declared.search.MatchError.{MatchError};
+ghost use Rattle.rx_util.specs.declared.search.MatchKind.{MatchKind};
+ghost use Rattle.rx_util.specs.Groups.{names_of, slot_len};
+ghost use Rattle.rx_util.specs.Captured.{nothing_noted, place_in, span_between, group_span, match_found};
 ghost use Rattle.rx_grammar.specs.Grammar.{Spells};
 ghost use Rattle.rx_grammar.specs.Settings.{default_settings};
 ghost use Rattle.rx_grammar.specs.Trees.{numbers_of};
 ghost use Rattle.rx_grammar.specs.Subtrees.{IsWellFormed};
 ghost use Rattle.rx_grammar.specs.Postorder.{tree_of};
 ghost use Rattle.rx_input.specs.Cursors.{IsSameContent};
-ghost use Rattle.rx_threads.specs.Nodes.{node_count};
-ghost use Rattle.rx_threads.specs.Searching.{search_of, IsAnswer};
-ghost use Rattle.rx_threads.specs.Coming.{place_count, IsCacheOf};
+ghost use Rattle.rx_steps.specs.Nodes.{node_count};
+ghost use Rattle.rx_steps.specs.Searching.{search_of, IsAnswer};
+ghost use Rattle.rx_steps.specs.Coming.{place_count, IsCacheOf};
 ghost use Rattle.rx_chunk.specs.Engines.{nothing_set, settings_over, AreNamesOf, IsEngine, IsBuiltOf, IsRefused, TellsWhether, IsFound, refusal_of, by_default, AreGroupsOf};
 ghost use Rattle.rx_chunk.specs.Iterating.{IsFoundAfter, StartsFrom, matches_from};
 ghost use Rattle.rx_chunk.specs.Searchers.{EndsInside};
 ghost use Rattle.rx_chunk.specs.FindMatches.{cache_of, left_of};
 
-use rx_captures::{
+use rx_util::{
     Captures, GroupInfo, Match, MatchError, MatchKind, NonMaxUsize, PatternID, Span,
 };
 use rx_grammar::laws::groups_are_few;
@@ -30,7 +30,7 @@ use rx_input::{Cursor, Input};
 use rx_program::laws::matches_note_their_places;
 use rx_program::{BuildError, Program, compile};
 use rx_sets::CharacterSet;
-use rx_threads as search;
+use rx_steps as search;
 use rx_walks::laws::finds_lie_inside;
 use std::alloc::{AllocError, Global};
 use std::marker::Model;
@@ -343,7 +343,7 @@ pub struct Cache {
 }
 
 impl Model for Cache {
-    ghost use Rattle.rx_threads.specs.Coming.{CacheView};
+    ghost use Rattle.rx_steps.specs.Coming.{CacheView};
 
     ghost Value = { CacheView };
 

@@ -1,6 +1,6 @@
 //! Settings of engines.
 
-use rx_captures::MatchKind;
+use rx_util::MatchKind;
 use rx_chunk::pikevm::Config;
 
 /// A setting that isn't set is the default, and one that is set is told.

@@ -1,6 +1,6 @@
 //! An example for each public type.
 
-use rx_captures::Span;
+use rx_util::Span;
 use rx_chunk::pikevm::{self, PikeVM};
 use rx_input::{ChunkCursor, Input};
 use std::test::Fail;

@@ -4,7 +4,7 @@ ghost use Rattle.std.specs.Prelude.{◌≡◌, IfOk};
 ghost use Rattle.std.specs.Option.{ForSome};
 ghost use Rattle.rx_chunk.specs.Searchers.{EndsInside};
 
-use rx_captures::{HalfMatch, Match, MatchError, Span};
+use rx_util::{HalfMatch, Match, MatchError, Span};
 use rx_chunk::iter::Searcher;
 use rx_chunk::pikevm::{self, PikeVM};
 use rx_input::Input;

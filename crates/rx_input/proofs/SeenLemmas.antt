@@ -1,7 +1,7 @@
 -- What is seen around a place.
 use Rattle.std.proofs.Common.{◌≡◌, ℕ, List, ◌++◌, ◌≤◌, ◌+◌, ◌-◌, length, take, drop, min, max, ap, sym, ◌∙◌, arith}
 use Rattle.std.proofs.lemmas.List.{length-take-le, take-append-le}
-use Rattle.rx_captures.specs.declared.search.Span.{Span}
+use Rattle.rx_util.specs.declared.search.Span.{Span}
 use Rattle.rx_input.specs.Inputs.{Seen, between, seen_from, seen_bytes}
 use Rattle.rx_input.proofs.PieceLemmas.{between_is}
 

@@ -3,9 +3,9 @@
 use Rattle.std.specs.Prelude.{◌≡◌, ℕ, ◌+◌, ◌-◌, ◌^◌, ◌<◌, ◌≤◌, Bool, false, not, ◌&&◌, nat_lt, List, length, take, drop, min, max, if◌then◌else◌, unwrap_or}
 use Rattle.std.specs.Range.Bound.{start_index, end_index}
 use Rattle.std.specs.declared.ops.Bound.{Bound}
-use Rattle.rx_captures.specs.declared.search.Span.{Span}
-use Rattle.rx_captures.specs.declared.search.Anchored.{Anchored}
-use Rattle.rx_captures.specs.declared.search.Anchored.TheVariants.{No}
+use Rattle.rx_util.specs.declared.search.Span.{Span}
+use Rattle.rx_util.specs.declared.search.Anchored.{Anchored}
+use Rattle.rx_util.specs.declared.search.Anchored.TheVariants.{No}
 use Rattle.rx_input.specs.Cursors.{CursorState, IsLawful, IsSameContent, told_length}
 
 -- what a search is asked for: where a match may lie, what looks may see, where a match may start,

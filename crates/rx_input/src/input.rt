@@ -3,14 +3,14 @@
 ghost use Rattle.std.specs.Prelude.{◌≡◌, ℕ, ◌+◌, ◌-◌, ◌^◌, ◌<◌, ◌≤◌, ◌↔◌, IsTrue, length, min, false};
 ghost use Rattle.std.specs.Bool.{OnTrue};
 ghost use Rattle.std.specs.Str.{IsCharBoundary};
-ghost use Rattle.rx_captures.specs.declared.search.Span.{Span};
+ghost use Rattle.rx_util.specs.declared.search.Span.{Span};
 ghost use Rattle.rx_input.specs.Cursors.{piece_of};
 ghost use Rattle.rx_input.specs.Inputs.{HoldsPlace, asked_first, is_done, IsSpan, HasSpan, HasSlice, IsMoved, IsRange, span_of, seen_around};
 
 use crate::cursor::Cursor;
 use crate::look_around::{LookAround, SIDE};
 use crate::places::{move_to, read_at, span_of};
-use rx_captures::{Anchored, Span};
+use rx_util::{Anchored, Span};
 use std::marker::Model;
 use std::ops::RangeBounds;
 

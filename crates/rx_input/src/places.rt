@@ -6,7 +6,7 @@ ghost use Rattle.rx_input.specs.Cursors.{IsSameContent};
 ghost use Rattle.rx_input.specs.Inputs.{HoldsPlace};
 
 use crate::cursor::Cursor;
-use rx_captures::Span;
+use rx_util::Span;
 use std::ops::{Bound, RangeBounds};
 
 /// The span of a range, where an open end is this place.

@@ -1,6 +1,6 @@
 //! An example for each public type of `rx_input`.
 
-use rx_captures::{Anchored, Span};
+use rx_util::{Anchored, Span};
 use rx_input::{ChunkCursor, Cursor, Input};
 use std::test::Fail;
 

@@ -1,7 +1,7 @@
 -- Laws of the programs that patterns become.
 use Rattle.std.specs.Prelude.{◌≡◌, ℕ, Bool, List, [], ◌∷◌, Some}
 use Rattle.rx_sets.specs.Sets.{Range}
-use Rattle.rx_automata.specs.Automata.{is_in}
+use Rattle.rx_utf8.specs.Automata.{is_in}
 use Rattle.rx_grammar.specs.Trees.{Tree}
 use Rattle.rx_grammar.specs.Subtrees.{IsWellFormed}
 use Rattle.rx_walks.specs.Machines.{Outcome}

@@ -3,7 +3,7 @@ use Rattle.std.specs.Prelude.{ℕ, Bool, List, [], ◌∷◌, map, Option, Some,
 use Rattle.rx_program.specs.declared.states.State.{State}
 use Rattle.rx_program.specs.declared.states.State.TheVariants as state
 use Rattle.rx_sets.specs.Sets.{Range}
-use Rattle.rx_automata.specs.Automata.{step_of, is_in, IsReader}
+use Rattle.rx_utf8.specs.Automata.{step_of, is_in, IsReader}
 use Rattle.rx_walks.specs.Looks as walks
 use Rattle.rx_walks.specs.Programs.{Node, match, pass, note, look, set, Program}
 use Rattle.rx_walks.specs.ProgramFinds.{first_by, machine_of}

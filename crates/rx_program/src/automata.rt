@@ -1,9 +1,9 @@
 //! The automata of a program's sets, each made once and shared.
 
 ghost use Rattle.std.specs.Prelude.{◌≡◌, IsTrue, IfOk};
-ghost use Rattle.rx_automata.specs.Automata.{IsReader};
+ghost use Rattle.rx_utf8.specs.Automata.{IsReader};
 
-use rx_automata::SetAutomaton;
+use rx_utf8::SetAutomaton;
 use rx_sets::{CharacterSet, Range};
 use std::alloc::{AllocError, Global};
 use std::cmp::Ordering;

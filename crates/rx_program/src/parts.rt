@@ -10,7 +10,7 @@ ghost use Rattle.rx_program.specs.Jobs.{DoesJob, IsJob, job_size, HasRow, part_a
 
 use crate::compiler::{Compiler, Job, entry_of};
 use crate::states::State;
-use rx_captures::StateID;
+use rx_util::StateID;
 use rx_grammar::{Hir, Node, Properties, Repetition};
 use std::alloc::{AllocError, Global};
 

@@ -12,7 +12,7 @@ use crate::error::BuildError;
 use crate::program::Program;
 use crate::sizes::{is_too_large, told_limit};
 use crate::states::State;
-use rx_captures::{PatternID, StateID};
+use rx_util::{PatternID, StateID};
 use rx_grammar::Hir;
 use std::alloc::{AllocError, Global};
 

@@ -4,8 +4,8 @@ ghost use Rattle.std.specs.Prelude.{◌≡◌};
 ghost use Rattle.rx_program.specs.Code.{fork};
 ghost use Rattle.rx_program.specs.Programs.{node_of, ReadsItsSet};
 
-use rx_automata::SetAutomaton;
-use rx_captures::{PatternID, StateID};
+use rx_utf8::SetAutomaton;
+use rx_util::{PatternID, StateID};
 use rx_grammar::Look;
 use std::rc::Rc;
 

@@ -1,6 +1,6 @@
 //! An example for each public type.
 
-use rx_captures::{PatternID, StateID};
+use rx_util::{PatternID, StateID};
 use rx_grammar::syntax::Config;
 use rx_grammar::{SyntaxError, parse};
 use rx_program::{BuildError, State, compile};

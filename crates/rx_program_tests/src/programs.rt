@@ -1,6 +1,6 @@
 //! The states of small patterns, spelled out, against the table of programs.
 
-use rx_captures::StateID;
+use rx_util::StateID;
 use rx_grammar::syntax::Config;
 use rx_grammar::{Look, parse};
 use rx_program::{State, compile};

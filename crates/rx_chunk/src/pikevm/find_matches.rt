@@ -1,9 +1,9 @@
 //! The iterator over an engine's matches.
 
-ghost use Rattle.rx_threads.specs.Coming.{IsCacheOf};
+ghost use Rattle.rx_steps.specs.Coming.{IsCacheOf};
 
 use super::{Cache, PikeVM, find_next};
-use rx_captures::{Match, MatchError};
+use rx_util::{Match, MatchError};
 use rx_input::{Cursor, Input};
 use rx_sets::CharacterSet;
 use rx_walks::laws::finds_lie_inside;
@@ -26,7 +26,7 @@ pub struct FindMatches<'r, 'c, C: Cursor> {
 
 impl<'r, 'c, C: Cursor> FindMatches<'r, 'c, C> {
     ghost use Rattle.std.specs.Prelude.{◌≡◌};
-    ghost use Rattle.rx_threads.specs.Searching.{search_of};
+    ghost use Rattle.rx_steps.specs.Searching.{search_of};
     ghost use Rattle.rx_chunk.specs.Iterating.{matches_from};
     ghost use Rattle.rx_chunk.specs.FindMatches.{cache_of, left_of};
 

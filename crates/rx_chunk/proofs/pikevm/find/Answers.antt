@@ -1,5 +1,5 @@
 use Rattle.std.proofs.Common.{◌≤◌, length, arith}
-use Rattle.rx_threads.specs.Searching.{search_of}
+use Rattle.rx_steps.specs.Searching.{search_of}
 use Rattle.rx_chunk.proofs.EngineLaws.{none_found}
 use Rattle.rx_chunk.proofs.FoundLaws.{IsNoted, is_noted, noted_in_order, noted_found}
 use Rattle.rx_chunk.proofs.pikevm.find.Goals as goal

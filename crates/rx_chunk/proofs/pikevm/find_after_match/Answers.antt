@@ -1,7 +1,7 @@
 use Rattle.std.proofs.Common.{◌≡◌, ◌+◌, ◌≤◌, sym, ap, subst, ◌∙◌, arith}
 use Rattle.rx_walks.specs.Finds.{from_place_on}
 use Rattle.rx_chunk.specs.Engines.{IsFound}
-use Rattle.rx_threads.specs.Searching.{search_of}
+use Rattle.rx_steps.specs.Searching.{search_of}
 use Rattle.rx_chunk.specs.Iterating.{StartsFrom}
 use Rattle.rx_chunk.proofs.EngineLaws.{if_ok}
 use Rattle.rx_chunk.proofs.IterLaws.{nothing_after, found_after, moved_after, ended_after, span_ordered, moved_search, moved_on, same_start, set_to}

@@ -1,5 +1,5 @@
 use Rattle.std.proofs.Common.{IfOk, sym, subst}
-use Rattle.rx_threads.specs.Searching.{search_of}
+use Rattle.rx_steps.specs.Searching.{search_of}
 use Rattle.rx_chunk.specs.Iterating.{IsFoundAfter}
 use Rattle.rx_chunk.proofs.IterLaws.{same_start}
 use Rattle.rx_chunk.proofs.pikevm.find_next.Goals as goal

@@ -1,6 +1,6 @@
 use Rattle.std.proofs.Common.{[], ◌∷◌, option_map, string_bytes, ap, ◌∙◌}
 use Rattle.std.proofs.lemmas.List.{map-append}
-use Rattle.rx_captures.specs.Groups.{names_of}
+use Rattle.rx_util.specs.Groups.{names_of}
 use Rattle.rx_grammar.specs.Postorder.{tree_of}
 use Rattle.rx_chunk.proofs.GroupLaws.{no_names, one_more_name, all_names}
 use Rattle.rx_chunk.proofs.pikevm.group_names.Goals as goal

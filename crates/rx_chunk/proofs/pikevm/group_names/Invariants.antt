@@ -1,4 +1,4 @@
-use Rattle.rx_captures.specs.Groups.{names_of}
+use Rattle.rx_util.specs.Groups.{names_of}
 use Rattle.rx_grammar.specs.Postorder.{tree_of}
 use Rattle.rx_chunk.proofs.GroupLaws.{AreNamesUpTo}
 use Rattle.rx_chunk.proofs.pikevm.group_names.Given as goal

@@ -1,5 +1,5 @@
 use Rattle.std.proofs.Common.{◌≡◌, [], ◌∷◌, ◌++◌, ap, ◌∙◌}
-use Rattle.rx_captures.specs.Groups.{names_of, named_groups}
+use Rattle.rx_util.specs.Groups.{names_of, named_groups}
 use Rattle.rx_grammar.specs.Postorder.{tree_of}
 use Rattle.rx_chunk.proofs.EngineLaws.{if_ok}
 use Rattle.rx_chunk.proofs.GroupLaws.{distinct_names, slots_fit}

@@ -1,6 +1,6 @@
 use Rattle.std.proofs.Common.{◌≡◌, ◌≤◌, ◌<◌, ◌^◌, false, Some, length, sym, ap, subst, ◌∙◌, arith}
-use Rattle.rx_captures.specs.Captured.{Captured}
-use Rattle.rx_threads.specs.Searching.{search_of, IsAnswer}
+use Rattle.rx_util.specs.Captured.{Captured}
+use Rattle.rx_steps.specs.Searching.{search_of, IsAnswer}
 use Rattle.rx_chunk.specs.Engines.{IsFound}
 use Rattle.rx_chunk.specs.Iterating.{IsFoundAfter}
 use Rattle.rx_chunk.proofs.EngineLaws.{lent_slots}

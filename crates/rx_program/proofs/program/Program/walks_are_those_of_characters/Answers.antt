@@ -1,6 +1,6 @@
 use Rattle.std.proofs.Common.{subst}
 use Rattle.std.specs.List.{All}
-use Rattle.rx_automata.specs.Automata.{is_in}
+use Rattle.rx_utf8.specs.Automata.{is_in}
 use Rattle.rx_program.specs.Programs.{ReadsItsSet, characters_of, automata_of}
 use Rattle.rx_program.proofs.ProgramLaws.{reads_members}
 use Rattle.rx_program.proofs.program.Program.walks_are_those_of_characters.Goals as goal

@@ -1,6 +1,6 @@
 use Rattle.std.proofs.Common.{◌≡◌, true, None, Some, refl, sym, ap, ◌∙◌, arith}
 use Rattle.rx_walks.specs.Finds.{from_place_on}
-use Rattle.rx_threads.specs.Searching.{search_of}
+use Rattle.rx_steps.specs.Searching.{search_of}
 use Rattle.rx_chunk.specs.Iterating.{MatchesLeft, IsFoundAfter}
 use Rattle.rx_chunk.specs.FindMatches.{left_of}
 use Rattle.rx_chunk.proofs.IterLaws.{found_ends, moved_search, moved_on, set_to, gives_match, gives_none, fewer_left, none_left}

@@ -1,7 +1,0 @@
-use Rattle.std.proofs.Common.{◌≡◌, ℕ, drop}
-use Rattle.rx_automata.specs.Blocks.{shifted_into}
-use Rattle.rx_automata.proofs.code_points.push_shifted.Given as goal
-
--- the ranges left complete the codes
-abbrev pub invariant-loop-range : goal.invariant-loop-range
-invariant-loop-range l = (c : ℕ) → shifted_into l.codes.items (drop l.range-index l.ranges) l.low l.high l.shift c ≡ shifted_into l.fn.codes.items l.ranges l.low l.high l.shift c

@@ -1,7 +1,0 @@
-use Rattle.std.proofs.Common.{◌≡◌}
-use Rattle.rx_captures.specs.Groups.{named_groups}
-use Rattle.rx_captures.proofs.SlotLemmas.{AreStartsUpTo}
-use Rattle.rx_captures.proofs.captures.GroupInfo.new.Given as goal
-
-abbrev pub invariant-loop-pattern : goal.invariant-loop-pattern
-invariant-loop-pattern l = AreStartsUpTo (named_groups l.fn.names.items) l.pattern-index l.starts.items l.slot_len

@@ -1,7 +1,0 @@
-use Rattle.std.proofs.Common.{◌≡◌, ap, sym, ◌∙◌, arith}
-use Rattle.rx_captures.proofs.NameLemmas.{name_at}
-use Rattle.rx_captures.proofs.captures.name_of_group.Goals as goal
-
-pub returns : goal.returns
-returns c =
-    c.text_of.ensures ∙ sym (name_at c.args.groups.now c.args.group c.index-groups-group.result c.if-group-eq0.false c.if-group-groups.false c.index-groups-group.is)

@@ -1,5 +1,0 @@
-use Rattle.rx_captures.proofs.SparseSetLemmas.{members_are_a_set}
-use Rattle.rx_captures.proofs.sparse_set.SparseSet.len.Goals as goal
-
-pub returns-clause-set : goal.returns-clause-set
-returns-clause-set c = rw (← c.self.view_is) (members_are_a_set c.self.invariant)

@@ -1,0 +1,79 @@
+-- Where a search begins, and where it is over.
+use Rattle.std.proofs.Common.{◌≡◌, ℕ, ◌+◌, ◌-◌, ◌≤◌, ◌<◌, Bool, All, IsTrue, List, [], length, max, Option, Some, None, sym, ap₂, subst, arith}
+use Rattle.std.proofs.lemmas.List.Elements.{All-nil}
+use Rattle.rx_walks.specs.Finds.{Search, IsInside, is_anchored}
+use Rattle.rx_walks.specs.ProgramFinds.{start_node, highest}
+use Rattle.rx_walks.specs.Laws.{Begins}
+use Rattle.rx_input.specs.Inputs.{InputState, Asked}
+use Rattle.rx_program.specs.Programs.{ByteProgram, IsByteProgram, characters_of}
+use Rattle.rx_steps.specs.Threads.{Slots, Thread, IsThreadOf, no_slots}
+use Rattle.rx_steps.specs.Lists.{met_at}
+use Rattle.rx_steps.specs.Searching.{search_of, anchoring_of, IsAnswer}
+use Rattle.rx_steps.specs.Coming.{HasSlots, machine_in, HasCome, IsUnderWay, IsOver}
+use Rattle.rx_steps.proofs.ComeLaws.{begun, skipped_all, is_over}
+use Rattle.rx_steps.proofs.WayLaws.{no_pattern}
+use Rattle.rx_steps.proofs.AnswerLaws.{KeepingLaw, over_is_answer}
+
+abbrev search_by : Bool → List ℕ → Asked → Search
+search_by utf8_empty content asked = record {
+  content = content;
+  slice_start = asked.slice.start;
+  slice_end = asked.slice.end;
+  start = asked.span.start;
+  end = asked.span.end;
+  anchoring = anchoring_of asked.anchored;
+  utf8_empty = utf8_empty;
+}
+
+-- an input that was moved asks for the same search
+pub same_search : (utf8_empty : Bool) (i j : InputState) → i.cursor.content ≡ j.cursor.content → i.asked ≡ j.asked → search_of utf8_empty i ≡ search_of utf8_empty j
+same_search utf8_empty i j content asked = ap₂ (search_by utf8_empty) content asked
+
+pub way_begun : (p : ByteProgram) (s : Search) (q i : ℕ) (live : List Thread) (slots : Slots) → i ≡ max s.slice_start s.start → live ≡ [] → slots ≡ no_slots (length slots)
+    → IsUnderWay p s q i live None slots
+way_begun p s q i live slots first none empty =
+    let m = machine_in p s in
+    let fresh = no_slots (length slots) in
+    let k = i - s.start in
+    let whole : s.start + k ≡ i = omega (arith, first) in
+    let come : HasCome m s q fresh (s.start + k) [] None =
+    skipped_all m s q fresh k s.start (λ j from below begins. omega (arith, first, from, below, begins.0.0.0)) (begun m s q fresh) in
+    record {
+      end = 0;
+      come = subst (λ xs. HasCome m s q fresh i xs None) (sym none) (subst (λ j. HasCome m s q fresh j [] None) whole come);
+      none_met = λ e. empty;
+      nodes = subst (λ xs. All (IsThreadOf p.states) xs) (sym none) (All-nil (IsThreadOf p.states));
+      slot_lens = subst (λ xs. All (HasSlots (length slots)) xs) (sym none) (All-nil (HasSlots (length slots)));
+      past_end = λ past. none;
+    }
+
+over_by : (p : ByteProgram) (s : Search) (q i : ℕ) (live : List Thread) (pattern : Option ℕ) (slots : Slots) → live ≡ [] → (pattern ≡ None → (j : ℕ) → i ≤ j → Begins s j → ⊥)
+    → IsUnderWay p s q i live pattern slots → IsOver p s q pattern slots
+over_by p s q i live pattern slots none never way =
+    let m = machine_in p s in
+    let fresh = no_slots (length slots) in
+    record {
+      end = way.end;
+      searches = is_over m s q fresh i (met_at way.end pattern slots) (λ unmet. never (no_pattern way.end pattern slots unmet))
+          (subst (λ xs. HasCome m s q fresh i xs (met_at way.end pattern slots)) none way.come);
+      none_met = way.none_met;
+    }
+
+-- no thread lives, and none starts past the search's start, or an end was met
+pub way_over : (p : ByteProgram) (s : Search) (q i : ℕ) (live : List Thread) (pattern : Option ℕ) (slots : Slots) → IsInside s i → live ≡ [] → (pattern ≡ None → IsTrue (is_anchored s.anchoring))
+    → IsUnderWay p s q (i + 1) live pattern slots → IsOver p s q pattern slots
+way_over p s q i live pattern slots inside none anchored way =
+    over_by p s q (i + 1) live pattern slots none (λ unmet j from begins. omega (arith, from, begins.0.1 (anchored unmet), inside.2)) way
+
+-- the last place was passed
+pub way_ended : (p : ByteProgram) (s : Search) (q i : ℕ) (live : List Thread) (pattern : Option ℕ) (slots : Slots) → highest s < i + 1 → IsUnderWay p s q (i + 1) live pattern slots → IsOver p s q pattern slots
+way_ended p s q i live pattern slots past way =
+    over_by p s q (i + 1) live pattern slots (way.past_end past)
+    (λ unmet j from begins. let inside = begins.0.0 in omega (arith, past, from, inside.1, inside.3, inside.4)) way
+
+-- what a search that is over answers
+pub over_answers : (p : ByteProgram) (s other : Search) (q : ℕ) (pattern : Option ℕ) (slots : Slots) → other ≡ s → IsByteProgram p → KeepingLaw → start_node (characters_of p) s.anchoring ≡ Some q
+    → IsOver p other q pattern slots → IsAnswer p s pattern slots
+over_answers p s other q pattern slots same reads law starts way =
+    let is : IsOver p s q pattern slots = subst (λ x. IsOver p x q pattern slots) same way in
+    over_is_answer p s q is.end pattern slots reads law starts is.searches is.none_met

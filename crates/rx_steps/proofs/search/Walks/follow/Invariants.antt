@@ -1,0 +1,22 @@
+use Rattle.std.proofs.Common.{◌≡◌, ◌+◌, ◌-◌, ◌*◌, ◌≤◌, length}
+use Rattle.rx_walks.specs.Finds.{IsInside}
+use Rattle.rx_input.specs.Cursors.{IsSameContent}
+use Rattle.rx_steps.specs.Nodes.{node_count}
+use Rattle.rx_steps.specs.Searching.{search_of}
+use Rattle.rx_steps.specs.Coming.{AreOfProgram, IsUnderWay}
+use Rattle.rx_steps.proofs.search.Walks.follow.Given as goal
+
+-- the search has come to the place at which the input stands
+abbrev pub invariant-loop-self : goal.invariant-loop-self
+invariant-loop-self g l = record {
+  made : AreOfProgram l.program l.self.stepper.widths l.self.asks_looks l.self.idle;
+  inside : IsInside (search_of l.utf8_empty l.fn.input) l.input.position;
+  slot_len : l.self.live.slot_len ≡ length l.slots;
+  way : IsUnderWay l.program (search_of l.utf8_empty l.fn.input) l.start l.input.position l.self.live.threads l.self.met l.slots;
+  same : IsSameContent l.fn.input.cursor l.input.cursor;
+  asked : l.input.asked ≡ l.fn.input.asked;
+  work : l.self.stepper.followed ≤ l.fn.self.stepper.followed + node_count l.program * (l.input.position - l.fn.input.position);
+}
+
+abbrev pub decreases-loop-self : goal.decreases-loop-self
+decreases-loop-self g l = length l.fn.input.cursor.content - l.input.position

@@ -1,0 +1,25 @@
+use Rattle.std.proofs.Common.{◌≡◌, ◌∷◌, ◌++◌, ◌*◌, [], length, sym, ap, ap₂, ◌∙◌}
+use Rattle.std.proofs.lemmas.List.{length-append}
+use Rattle.rx_steps.specs.Threads.{threads_of}
+use Rattle.rx_steps.proofs.ThreadLaws.{thread_put, more_slots}
+use Rattle.rx_steps.proofs.threads.Threads.push.Goals as goal
+
+pub invariant_of-self : goal.invariant_of-self
+invariant_of-self c =
+    let n = c.self.inside.slot_len in
+    let nodes = c.self.inside.nodes.items in
+    let slots = c.self.inside.slots.items in
+    let own : length c.args.slots.now ≡ n = c.requires.slots ∙ sym (ap (λ v. v.slot_len) c.self.view_is) in
+    ap (λ xs. length xs) c.in-Ok.ensures.slots ∙ length-append slots c.args.slots.now
+    ∙ more_slots (length nodes) n (length slots) (length c.args.slots.now) c.self.invariant own
+    ∙ ap (λ k. k * n) (sym (length-append nodes (c.args.node ∷ [])) ∙ ap (λ xs. length xs) (sym c.in-Ok.ensures.nodes))
+
+pub returns-in-Ok-clause-threads : goal.returns-in-Ok-clause-threads
+returns-in-Ok-clause-threads c =
+    let n = c.self.inside.slot_len in
+    let nodes = c.self.inside.nodes.items in
+    let slots = c.self.inside.slots.items in
+    let own : length c.args.slots.now ≡ n = c.requires.slots ∙ sym (ap (λ v. v.slot_len) c.self.view_is) in
+    ap₂ (λ xs ys. threads_of n xs ys) c.in-Ok.ensures.nodes c.in-Ok.ensures.slots
+    ∙ thread_put n nodes slots c.args.slots.now c.args.node c.self.invariant own
+    ∙ ap (λ v. v.threads ++ (c.args.slots.now, c.args.node) ∷ []) c.self.view_is

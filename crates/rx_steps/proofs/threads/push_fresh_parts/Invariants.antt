@@ -1,0 +1,11 @@
+use Rattle.std.proofs.Common.{◌≡◌, ◌≤◌, ◌++◌}
+use Rattle.rx_steps.specs.Threads.{no_slots}
+use Rattle.rx_steps.proofs.threads.push_fresh_parts.Given as goal
+
+-- so many slots were put at the end
+abbrev pub invariant-loop : goal.invariant-loop
+invariant-loop l = record {
+  slots : l.slots.items ≡ l.fn.slots.items ++ no_slots l.counter;
+  nodes : l.nodes.items ≡ l.fn.nodes.items;
+  within : l.counter ≤ l.slot_len;
+}

@@ -1,0 +1,148 @@
+//! The threads that wait while empty edges are followed.
+
+ghost use Rattle.std.specs.Prelude.{◌≡◌, ◌+◌, ◌<◌, ◌≤◌, ◌++◌, ◌∷◌, [], map, length, OnOk, IfSome, MatchOption};
+ghost use Rattle.rx_steps.specs.Threads.{first_node, note_slot};
+
+use rx_util::{NonMaxUsize, StateID};
+use std::alloc::{AllocError, Global};
+use std::marker::Model;
+use std::mem::size_of;
+
+/// What is left to do while empty edges are followed.
+#[derive(Clone, Copy, Debug)]
+enum FollowEpsilon {
+    /// A state is to be followed.
+    Explore(StateID),
+    /// A slot gets back what it held.
+    RestoreCapture(usize, Option<NonMaxUsize>),
+}
+
+/// The slots of the thread that is followed, and the threads that wait. Contracts see these slots,
+/// the threads, the next one first, and how much lies on the stack.
+#[derive(Debug, Drop)]
+pub(crate) struct Pending {
+    slots: Vec<Option<NonMaxUsize>>,
+    // The next one last.
+    stack: Vec<FollowEpsilon>,
+}
+
+impl Model for Pending {
+    ghost use Rattle.std.specs.Prelude.{length, reverse};
+    ghost use Rattle.rx_steps.specs.Threads.{Waiting};
+    ghost use Rattle.rx_steps.specs.Frames.{waiting};
+
+    ghost Value = { Waiting };
+
+    ghost view = { λ p. record {
+      slots = p.slots.items;
+      threads = waiting p.slots.items (reverse p.stack.items);
+      size = length p.stack.items;
+    } };
+}
+
+impl Pending {
+    /// No slots, and no thread.
+    pub(crate) fn new(alloc: Global) -> Pending {
+        Pending {
+            slots: Vec::new(alloc),
+            stack: Vec::new(alloc),
+        }
+    }
+
+    /// Begins with a thread that has these slots: none waits.
+    #[inline(always)]
+    pub(crate) fn begin(&mut self, slots: &[Option<NonMaxUsize>]) -> Result<(), AllocError>
+        ensures slots { OnOk result (self.new.slots ≡ slots.now) }
+        ensures threads { OnOk result (self.new.threads ≡ []) }
+    {
+        self.stack.clear();
+        self.slots.clear();
+        self.slots.extend_from_slice(slots)?;
+        Ok(())
+    }
+
+    /// About how many bytes its lists take.
+    pub(crate) fn memory_usage(&self) -> usize {
+        let slots = self
+            .slots
+            .capacity()
+            .saturating_mul(size_of::<Option<NonMaxUsize>>());
+        let stack = self
+            .stack
+            .capacity()
+            .saturating_mul(size_of::<FollowEpsilon>());
+        slots.saturating_add(stack)
+    }
+
+    /// The slots of the thread that is followed.
+    pub(crate) fn slots(&self) -> &[Option<NonMaxUsize>]
+        ensures { result.now ≡ self.now.slots }
+    {
+        &self.slots
+    }
+
+    /// Notes a place in a slot, if there is that slot, for the threads that come from now on until
+    /// those that wait.
+    #[inline(always)]
+    pub(crate) fn note(&mut self, slot: usize, at: NonMaxUsize) -> Result<(), AllocError>
+        ensures slots { OnOk result (self.new.slots ≡ note_slot slot at self.old.slots) }
+        ensures threads { OnOk result (self.new.threads ≡ self.old.threads) }
+        ensures size { OnOk result (self.new.size ≤ self.old.size + 1) }
+    {
+        if slot < self.slots.len() {
+            let held = self.slots[slot];
+            self.stack.push(FollowEpsilon::RestoreCapture(slot, held))?;
+            self.slots[slot] = Some(at);
+        }
+        Ok(())
+    }
+
+    /// Lets a thread at a state wait before the others, with the slots at hand.
+    #[inline(always)]
+    pub(crate) fn push(&mut self, state: StateID) -> Result<(), AllocError>
+        ensures slots { OnOk result (self.new.slots ≡ self.old.slots) }
+        ensures threads { OnOk result (self.new.threads
+            ≡ (self.old.slots, first_node state) ∷ self.old.threads) }
+        ensures size { OnOk result (self.new.size ≡ self.old.size + 1) }
+    {
+        self.stack.push(FollowEpsilon::Explore(state))?;
+        Ok(())
+    }
+
+    /// Lets a thread at each of the states wait before the others, the first one first, with the
+    /// slots at hand.
+    pub(crate) fn push_all(&mut self, mut states: &[StateID]) -> Result<(), AllocError>
+        ensures slots { OnOk result (self.new.slots ≡ self.old.slots) }
+        ensures threads { OnOk result (self.new.threads
+            ≡ map (λ q. (self.old.slots, q)) (map first_node states.now) ++ self.old.threads) }
+        ensures size { OnOk result (self.new.size ≡ length states.now + self.old.size) }
+    {
+        while let [rest @ .., last] = states {
+            self.push(*last)?;
+            states = rest;
+        }
+        Ok(())
+    }
+
+    /// Takes the next thread that waits: its slots are those at hand then, and it stands at this
+    /// state.
+    #[inline(always)]
+    pub(crate) fn pop(&mut self) -> Option<StateID>
+        ensures next { MatchOption result (self.old.threads ≡ []) (λ state. self.old.threads
+            ≡ (self.new.slots, first_node state) ∷ self.new.threads) }
+        ensures slot_len { length self.new.slots ≡ length self.old.slots }
+        ensures size { IfSome result (λ state. self.new.size < self.old.size) }
+    {
+        while let Some(frame) = self.stack.pop() {
+            match frame {
+                FollowEpsilon::Explore(state) => return Some(state),
+                FollowEpsilon::RestoreCapture(slot, held) => {
+                    if slot < self.slots.len() {
+                        self.slots[slot] = held;
+                    }
+                }
+            }
+        }
+        None
+    }
+}

@@ -1,0 +1,414 @@
+//! The loop over the places of a content.
+
+ghost use Rattle.std.specs.Prelude.{ℕ, Bool, List, ◌≡◌, ◌+◌, ◌*◌, ◌<◌, ◌≤◌, ◌↔◌, [], ◌∷◌, Some, None, true, false, All, IsTrue, IfOk, IfErr, OnOk, OnErr, length, min, max};
+ghost use Rattle.rx_util.specs.declared.search.MatchError.{MatchError};
+ghost use Rattle.rx_walks.specs.Finds.{IsInside, is_anchored};
+ghost use Rattle.rx_walks.specs.Laws.{Begins};
+ghost use Rattle.rx_walks.specs.Looks as walks;
+ghost use Rattle.rx_walks.specs.ProgramFinds.{start_node, highest};
+ghost use Rattle.rx_walks.specs.Steps.{Steps};
+ghost use Rattle.rx_program.specs.declared.states.State.{State};
+ghost use Rattle.rx_program.specs.Programs.{characters_of};
+ghost use Rattle.rx_input.specs.Cursors.{IsSameContent};
+ghost use Rattle.rx_input.specs.Inputs.{IsMoved};
+ghost use Rattle.rx_steps.specs.Lists.{Asks, met_at};
+ghost use Rattle.rx_steps.specs.Nodes.{node_count};
+ghost use Rattle.rx_steps.specs.Idle.{IsPassedAt};
+ghost use Rattle.rx_steps.specs.Threads.{Slots, IsThreadOf, no_slots, first_node};
+ghost use Rattle.rx_steps.specs.Searching.{search_of, anchoring_of, IsAnswer};
+ghost use Rattle.rx_steps.specs.Coming.{machine_in, place_count, AreOfProgram, IsCacheOf, HasStarted, IsUnderWay, IsOver};
+
+use crate::idle::{IdleBytes, last_place, skip};
+use crate::node::Node;
+use crate::place::Place;
+use crate::stepper::Stepper;
+use crate::threads::Threads;
+use rx_util::{Anchored, MatchError, NonMaxUsize, PatternID, StateID};
+use rx_input::{Cursor, Input};
+use rx_program::{Program, State};
+use rx_sets::CharacterSet;
+use rx_walks::laws::program_is_searched_keeping;
+use std::alloc::{AllocError, Global};
+use std::marker::Model;
+use std::mem;
+
+/// Whether a program of these states may ask for a look.
+fn asks_looks(states: &[State]) -> bool
+    ensures { result ≡ false → (l : walks.Look) → Asks states.now l → ⊥ }
+{
+    for state in states {
+        if let State::Look(_, _) = state {
+            return true;
+        }
+    }
+    false
+}
+
+/// The state from which walks start, if there is one: an unknown pattern has none.
+fn start_state(program: &Program, anchored: Anchored) -> Option<StateID>
+    ensures { result ≡ start_node (characters_of program.now) (anchoring_of anchored) }
+{
+    match anchored {
+        Anchored::No | Anchored::Yes => Some(program.start()),
+        Anchored::Pattern(pattern) => program.patterns().get(pattern.as_usize()).copied(),
+    }
+}
+
+/// Moves an input to the first place inside its span, its slice and its content, if there is one.
+fn enter<C: Cursor>(input: &mut Input<C>) -> bool
+    ensures inside { result ≡ true → (utf8_empty : Bool)
+        → IsInside (search_of utf8_empty input.old) input.new.position }
+    ensures first { result ≡ true
+        → input.new.position ≡ max input.old.asked.slice.start input.old.asked.span.start }
+    ensures none { result ≡ false → (utf8_empty : Bool) → (i : ℕ)
+        → IsInside (search_of utf8_empty input.old) i → ⊥ }
+    ensures same { IsMoved input.old input.new input.new.position input.old.asked }
+{
+    let start = input.get_slice().start.max(input.start());
+    input.move_to(start);
+    input.position() == start && start <= last_place(input)
+}
+
+/// Moves an input to the next place inside its span, its slice and its content, if there is one.
+fn advance<C: Cursor>(input: &mut Input<C>) -> bool
+    ensures next { result ≡ true → input.new.position ≡ input.old.position + 1 }
+    ensures inside { result ≡ true → (utf8_empty : Bool)
+        → IsInside (search_of utf8_empty input.old) input.old.position
+        → IsInside (search_of utf8_empty input.old) input.new.position }
+    ensures last { result ≡ false → (utf8_empty : Bool)
+        → highest (search_of utf8_empty input.old) < input.old.position + 1 }
+    ensures same { IsMoved input.old input.new input.new.position input.old.asked }
+{
+    let at = input.position();
+    if at >= last_place(input) {
+        return false;
+    }
+    input.move_to(at + 1);
+    input.position() > at
+}
+
+/// Whether a match may start where an input stands.
+fn begins<C: Cursor>(input: &Input<C>, utf8_empty: bool) -> bool
+    ensures { IsInside (search_of utf8_empty input.now) input.now.position
+        → IsTrue result ↔ Begins (search_of utf8_empty input.now) input.now.position }
+{
+    (!input.get_anchored().is_anchored() || input.position() == input.start())
+        && (!utf8_empty || input.is_char_boundary())
+}
+
+/// Whether there is one thread alone, at a program's start.
+fn is_fresh(program: &Program, threads: &Threads) -> bool
+    ensures { result ≡ true → (slots : Slots)
+        × (threads.now.threads ≡ (slots, first_node program.now.start) ∷ []) }
+{
+    if threads.len() != 1 {
+        return false;
+    }
+    threads.node(0) == Node::first(program.start())
+}
+
+/// Whether a step of these threads was one of a walk alone, from a program's start, and came to
+/// nothing.
+fn came_to_nothing(program: &Program, threads: &Threads, next: &Threads, has_ended: bool) -> bool
+    ensures fresh { result ≡ true → (slots : Slots)
+        × (threads.now.threads ≡ (slots, first_node program.now.start) ∷ []) }
+    ensures nothing { result ≡ true → (next.now.threads ≡ []) × (has_ended ≡ false) }
+{
+    !has_ended && next.len() == 0 && is_fresh(program, threads)
+}
+
+/// Walks through a program that are followed side by side, from place to place.
+#[derive(Debug, Drop)]
+struct Walks {
+    stepper: Stepper,
+    // Whether the program asks for looks.
+    asks_looks: bool,
+    // Bytes before which no match begins, as far as searches have met them.
+    idle: IdleBytes,
+    // The threads at the place, in order of preference.
+    live: Threads,
+    // Room for those at the next place.
+    next: Threads,
+    // The pattern whose end was met last.
+    met: Option<PatternID>,
+}
+
+impl Walks {
+    /// Starts a walk where an input stands, after the others, if no end was met and a match may
+    /// begin there.
+    fn start_walk<C: Cursor>(
+        &mut self,
+        input: &Input<C>,
+        start: StateID,
+        utf8_empty: bool,
+    ) -> Result<(), AllocError>
+        requires inside { IsInside (search_of utf8_empty input.now) input.now.position }
+        ensures started { OnOk result (HasStarted (search_of utf8_empty input.now) start
+            input.now.position self.old.met self.old.live self.new.live.threads) }
+        ensures threads { OnOk result ((states : List State)
+            → All (IsThreadOf states) self.old.live.threads
+            → All (IsThreadOf states) self.new.live.threads) }
+        ensures slot_len { self.new.live.slot_len ≡ self.old.live.slot_len }
+        ensures stepper { self.new.stepper ≡ self.old.stepper }
+        ensures asks_looks { self.new.asks_looks ≡ self.old.asks_looks }
+        ensures idle { self.new.idle ≡ self.old.idle }
+        ensures met { self.new.met ≡ self.old.met }
+    {
+        if self.met.is_none() && begins(input, utf8_empty) {
+            self.live.push_fresh(Node::first(start))?;
+        }
+        Ok(())
+    }
+
+    /// The step from the place at which an input stands: the threads at the next place are those
+    /// that live then.
+    fn pass<C: Cursor>(
+        &mut self,
+        program: &Program,
+        input: &mut Input<C>,
+    ) -> Result<Option<PatternID>, MatchError>
+        requires made { AreOfProgram program.now self.old.stepper.widths self.old.asks_looks
+            self.old.idle }
+        requires threads { All (IsThreadOf program.now.states) self.old.live.threads }
+        ensures steps { IfOk result (λ met. (utf8_empty : Bool)
+            → IsInside (search_of utf8_empty input.old) input.old.position
+            → Steps (machine_in program.now (search_of utf8_empty input.old)) input.old.position []
+            self.old.live.threads self.new.live.threads
+            (met_at input.old.position met self.new.stepper.slots)) }
+        ensures threads { OnOk result (All (IsThreadOf program.now.states) self.new.live.threads) }
+        ensures met { self.new.met ≡ self.old.met }
+        ensures made { AreOfProgram program.now self.new.stepper.widths self.new.asks_looks
+            self.new.idle }
+        ensures slot_len { OnOk result (self.new.live.slot_len ≡ self.old.live.slot_len) }
+        ensures work { self.new.stepper.followed
+            ≤ self.old.stepper.followed + node_count program.now }
+        ensures same { IsMoved input.old input.new input.old.position input.old.asked }
+        ensures refused { IfErr result (λ error. error ≡ MatchError.Memory) }
+    {
+        let place = Place::of(input, program.line_terminator(), self.asks_looks);
+        let ended = self
+            .stepper
+            .next_list(program, &place, &self.live, &mut self.next)?;
+        // Where looks are asked for they may be why nothing came of it.
+        if !self.asks_looks && came_to_nothing(program, &self.live, &self.next, ended.is_some()) {
+            self.idle.insert(place.byte);
+        }
+        mem::swap(&mut self.live, &mut self.next);
+        Ok(ended)
+    }
+
+    /// Visits the place at which an input stands: while no end was met, a walk starts there if a
+    /// match may begin there; and where an end is met, it is the answer, with its slots.
+    fn visit<C: Cursor>(
+        &mut self,
+        program: &Program,
+        input: &mut Input<C>,
+        start: StateID,
+        utf8_empty: bool,
+        slots: &mut [Option<NonMaxUsize>],
+    ) -> Result<(), MatchError>
+        requires made { AreOfProgram program.now self.old.stepper.widths self.old.asks_looks
+            self.old.idle }
+        requires inside { IsInside (search_of utf8_empty input.old) input.old.position }
+        requires slot_len { self.old.live.slot_len ≡ length slots.old }
+        requires way { IsUnderWay program.now (search_of utf8_empty input.old) start
+            input.old.position self.old.live.threads self.old.met slots.old }
+        ensures way { OnOk result (IsUnderWay program.now (search_of utf8_empty input.old) start
+            (input.old.position + 1) self.new.live.threads self.new.met slots.new) }
+        ensures made { AreOfProgram program.now self.new.stepper.widths self.new.asks_looks
+            self.new.idle }
+        ensures slot_len { OnOk result (self.new.live.slot_len ≡ length slots.new) }
+        ensures work { self.new.stepper.followed
+            ≤ self.old.stepper.followed + node_count program.now }
+        ensures same { IsMoved input.old input.new input.old.position input.old.asked }
+        ensures refused { IfErr result (λ error. error ≡ MatchError.Memory) }
+    {
+        self.start_walk(input, start, utf8_empty)?;
+        if let Some(pattern) = self.pass(program, input)? {
+            self.met = Some(pattern);
+            slots.copy_from_slice(self.stepper.slots());
+        }
+        Ok(())
+    }
+
+    /// Whether no thread lives, and none will start at a further place.
+    fn are_over(&self, anchored: Anchored) -> bool
+        ensures live { result ≡ true → self.now.live.threads ≡ [] }
+        ensures starts { result ≡ true → self.now.met ≡ None
+            → IsTrue (is_anchored (anchoring_of anchored)) }
+        ensures goes_on { result ≡ false → self.now.live.threads ≡ [] → self.now.met ≡ None
+            → is_anchored (anchoring_of anchored) ≡ false }
+    {
+        self.live.len() == 0 && (self.met.is_some() || anchored.is_anchored())
+    }
+
+    /// Moves an input to the next place inside its span, its slice and its content, if there is
+    /// one; while no thread lives and no end was met, to the next one at which a match may begin.
+    fn go_on<C: Cursor>(&self, input: &mut Input<C>, utf8_empty: bool) -> bool
+        ensures above { result ≡ true → input.old.position + 1 ≤ input.new.position }
+        ensures inside { result ≡ true
+            → IsInside (search_of utf8_empty input.old) input.old.position
+            → IsInside (search_of utf8_empty input.old) input.new.position }
+        ensures skipped { result ≡ true → (k : ℕ) → input.old.position + 1 ≤ k
+            → k < input.new.position → (self.now.live.threads ≡ []) × (self.now.met ≡ None)
+            × IsPassedAt self.now.idle utf8_empty input.old.cursor.content k }
+        ensures last { result ≡ false
+            → highest (search_of utf8_empty input.old) < input.old.position + 1 }
+        ensures same { IsMoved input.old input.new input.new.position input.old.asked }
+    {
+        if !advance(input) {
+            return false;
+        }
+        if self.live.len() == 0 && self.met.is_none() {
+            skip(&self.idle, input, utf8_empty);
+        }
+        true
+    }
+
+    /// Follows the walks from a state, from the place at which an input stands on, which is the
+    /// first one inside: answers the pattern of the match that is found, and puts its places into
+    /// the slots.
+    fn follow<C: Cursor>(
+        &mut self,
+        program: &Program,
+        input: &mut Input<C>,
+        start: StateID,
+        utf8_empty: bool,
+        slots: &mut [Option<NonMaxUsize>],
+    ) -> Result<Option<PatternID>, MatchError>
+        requires made { AreOfProgram program.now self.old.stepper.widths self.old.asks_looks
+            self.old.idle }
+        requires start { start_node (characters_of program.now)
+            (anchoring_of input.old.asked.anchored) ≡ Some start }
+        requires inside { IsInside (search_of utf8_empty input.old) input.old.position }
+        requires first { input.old.position
+            ≡ max input.old.asked.slice.start input.old.asked.span.start }
+        requires empty { slots.old ≡ no_slots (length slots.old) }
+        ensures over { IfOk result (λ pattern. IsOver program.now
+            (search_of utf8_empty input.old) start pattern slots.new) }
+        ensures made { AreOfProgram program.now self.new.stepper.widths self.new.asks_looks
+            self.new.idle }
+        ensures work { self.new.stepper.followed ≤ self.old.stepper.followed
+            + node_count program.now * place_count (search_of utf8_empty input.old) }
+        ensures same { IsSameContent input.old.cursor input.new.cursor }
+        ensures asked { input.new.asked ≡ input.old.asked }
+        ensures refused { IfErr result (λ error. error ≡ MatchError.Memory) }
+    {
+        self.live.clear(slots.len());
+        self.met = None;
+        loop {
+            self.visit(program, input, start, utf8_empty, slots)?;
+            if self.are_over(input.get_anchored()) || !self.go_on(input, utf8_empty) {
+                return Ok(self.met);
+            }
+        }
+    }
+}
+
+/// What searches with one program keep from one to the next, so that they ask for memory once.
+/// Contracts see of it how many nodes each state is of the program that it was made for, whether
+/// that program asks for looks, before which bytes its matches are known not to begin, and how many
+/// nodes searches have followed with it.
+#[derive(Debug, Drop)]
+pub struct Cache {
+    walks: Walks,
+}
+
+impl Model for Cache {
+    ghost use Rattle.rx_steps.specs.Coming.{CacheView};
+
+    ghost Value = { CacheView };
+
+    ghost view = { λ c. record {
+      widths = c.walks.stepper.widths;
+      asks_looks = c.walks.asks_looks;
+      idle = c.walks.idle;
+      followed = c.walks.stepper.followed;
+    } };
+}
+
+impl Cache {
+    /// A cache for searches with a program. The one refusal is `Memory`. It takes memory in
+    /// proportion to the program's states and those of their automata.
+    pub fn new(alloc: Global, program: &Program) -> Result<Cache, MatchError>
+        ensures made { IfOk result (λ cache. IsCacheOf program.now cache) }
+        ensures refused { IfErr result (λ error. error ≡ MatchError.Memory) }
+    {
+        Ok(Cache {
+            walks: Walks {
+                stepper: Stepper::new(alloc, program)?,
+                asks_looks: asks_looks(program.states()),
+                idle: IdleBytes::new(),
+                live: Threads::new(alloc, 0),
+                next: Threads::new(alloc, 0),
+                met: None,
+            },
+        })
+    }
+
+    /// Makes the cache one for searches with this program. The one refusal is `Memory`; the cache
+    /// is then as it was.
+    pub fn reset(&mut self, alloc: Global, program: &Program) -> Result<(), MatchError>
+        ensures made { OnOk result (IsCacheOf program.now self.new) }
+        ensures kept { OnErr result (self.new ≡ self.old) }
+        ensures refused { IfErr result (λ error. error ≡ MatchError.Memory) }
+    {
+        self.walks.stepper = Stepper::new(alloc, program)?;
+        self.walks.asks_looks = asks_looks(program.states());
+        self.walks.idle = IdleBytes::new();
+        Ok(())
+    }
+
+    /// About how many bytes its lists take: a count that no contract fixes.
+    pub fn memory_usage(&self) -> usize {
+        self.walks
+            .stepper
+            .memory_usage()
+            .saturating_add(self.walks.live.memory_usage())
+            .saturating_add(self.walks.next.memory_usage())
+    }
+}
+
+/// Puts none into each slot.
+fn clear_slots(slots: &mut [Option<NonMaxUsize>])
+    ensures { slots.new ≡ no_slots (length slots.new) }
+{
+    slots.fill(None);
+}
+
+/// Searches: answers the pattern of the match that the program finds, and puts its places into the
+/// slots, as many as there are; all others hold none. `utf8_empty` passes over empty matches inside
+/// a character. The cache must be one for searches with the program, and still is one afterwards.
+/// The one refusal is `Memory`: what the slots then hold has no meaning.
+///
+/// It follows each node of the program once at most at each place, which takes time in proportion
+/// to the edges of that node.
+pub fn search_slots<C: Cursor>(
+    program: &Program,
+    cache: &mut Cache,
+    input: &mut Input<C>,
+    utf8_empty: bool,
+    slots: &mut [Option<NonMaxUsize>],
+) -> Result<Option<PatternID>, MatchError>
+    requires made { IsCacheOf program.now cache.old }
+    ensures answer { IfOk result (λ pattern. IsAnswer program.now
+        (search_of utf8_empty input.old) pattern slots.new) }
+    ensures made { IsCacheOf program.now cache.new }
+    ensures work { cache.new.followed ≤ cache.old.followed
+        + node_count program.now * place_count (search_of utf8_empty input.old) }
+    ensures same { IsSameContent input.old.cursor input.new.cursor }
+    ensures asked { input.new.asked ≡ input.old.asked }
+    ensures refused { IfErr result (λ error. error ≡ MatchError.Memory) }
+{
+    clear_slots(slots);
+    let Some(start) = start_state(program, input.get_anchored()) else {
+        return Ok(None);
+    };
+    // Laws, for the proof alone.
+    program.walks_are_those_of_characters();
+    program_is_searched_keeping::<CharacterSet, Option<NonMaxUsize>>();
+    if !enter(input) {
+        return Ok(None);
+    }
+    cache.walks.follow(program, input, start, utf8_empty, slots)
+}

@@ -1,0 +1,282 @@
+//! The step from the ordered threads at a place to those at the next one.
+
+ghost use Rattle.std.specs.Prelude.{ℕ, ◌≡◌, ◌+◌, ◌++◌, ◌≤◌, ◌∷◌, All, List, length, None, Some, IfOk, OnOk, IfErr, MatchOption, slice_get};
+ghost use Rattle.rx_util.specs.declared.search.MatchError.{MatchError};
+ghost use Rattle.rx_program.specs.declared.states.State.{State};
+ghost use Rattle.rx_walks.specs.Machines.{Machine};
+ghost use Rattle.rx_utf8.specs.Automata.{step_of};
+ghost use Rattle.rx_steps.specs.Nodes.{widths_of, node_count, IsNodeOf, MayStand, AreCounted};
+ghost use Rattle.rx_steps.specs.Threads.{Slots, Thread, Waiting, IsThreadOf};
+ghost use Rattle.rx_steps.specs.Lists.{IsNextList, IsMade, move_at, noted_at, fan_of, MakesMoves, AreUnderWay, AreFollowed, read_next, work_left};
+
+use crate::node::Node;
+use crate::pending::Pending;
+use crate::place::Place;
+use crate::threads::Threads;
+use crate::visited::Visited;
+use rx_utf8::SetAutomaton;
+use rx_util::{MatchError, NonMaxUsize, PatternID, StateID};
+use rx_program::{Program, State};
+use std::alloc::{AllocError, Global};
+use std::marker::Model;
+
+/// The state with this number, if there is one.
+#[inline(always)]
+fn state_at(states: &[State], id: StateID) -> Option<&State>
+    ensures { MatchOption result (slice_get states.now id ≡ None)
+        (λ state. slice_get states.now id ≡ Some state.now) }
+{
+    states.get(id.as_usize())
+}
+
+/// Puts out a thread at the node to which a byte leads.
+#[inline(always)]
+fn read(
+    automaton: &SetAutomaton,
+    on: StateID,
+    place: &Place,
+    node: Node,
+    slots: &[Option<NonMaxUsize>],
+    next: &mut Threads,
+) -> Result<(), AllocError>
+    requires slots { length slots.now ≡ next.old.slot_len }
+    ensures made { OnOk result ((i : ℕ) → (noted : Slots) → (w : Waiting)
+        → w.slots ≡ slots.now
+        → IsMade (read_next (step_of automaton.now) node.0 on node.1 i place.now.byte) noted None
+        w w next.old.threads next.new.threads) }
+    ensures threads { OnOk result ((states : List State) → MayStand (slice_get states node.0) 1
+        → All (IsThreadOf states) next.old.threads
+        → All (IsThreadOf states) next.new.threads) }
+    ensures slot_len { next.new.slot_len ≡ next.old.slot_len }
+{
+    let Some(byte) = place.byte else {
+        return Ok(());
+    };
+    match automaton.step(node.within(), byte) {
+        None => {}
+        Some(None) => next.push(Node::first(on), slots)?,
+        Some(Some(within)) => next.push(Node::new(node.state(), within), slots)?,
+    }
+    Ok(())
+}
+
+/// Makes the move of a state: a match ends, or threads wait at states, or a thread comes into the
+/// next list.
+#[inline(always)]
+fn make_move(
+    pending: &mut Pending,
+    state: &State,
+    place: &Place,
+    node: Node,
+    next: &mut Threads,
+) -> Result<Option<PatternID>, AllocError>
+    requires slots { length pending.old.slots ≡ next.old.slot_len }
+    ensures made { IfOk result (λ met. (i : ℕ) → IsMade (move_at place.now i node state.now)
+        (noted_at place.now state.now pending.old.slots) met pending.old pending.new
+        next.old.threads next.new.threads) }
+    ensures fan { OnOk result (pending.new.size ≤ pending.old.size + fan_of state.now) }
+    ensures threads { OnOk result ((states : List State) → slice_get states node.0 ≡ Some state.now
+        → All (IsThreadOf states) next.old.threads
+        → All (IsThreadOf states) next.new.threads) }
+    ensures slots { OnOk result (length pending.new.slots ≡ length pending.old.slots) }
+    ensures slot_len { next.new.slot_len ≡ next.old.slot_len }
+{
+    match state {
+        State::Ranges(automaton, on) => read(automaton, *on, place, node, pending.slots(), next)?,
+        State::Look(look, on) => {
+            if place.looks.has(*look) {
+                pending.push(*on)?;
+            }
+        }
+        State::Empty(on) => pending.push(*on)?,
+        State::Capture(slot, on) => {
+            pending.note(*slot, place.at)?;
+            pending.push(*on)?;
+        }
+        State::BinaryUnion(first, second) => {
+            pending.push(*second)?;
+            pending.push(*first)?;
+        }
+        State::Union(alternates) => pending.push_all(alternates)?,
+        State::Match(pattern) => return Ok(Some(*pattern)),
+    }
+    Ok(None)
+}
+
+/// What empty edges lead to, while they are followed.
+#[derive(Debug, Drop)]
+struct Closure {
+    visited: Visited,
+    pending: Pending,
+}
+
+impl Closure {
+    /// Follows a node, if it wasn't seen at this place, with the slots at hand.
+    #[inline(always)]
+    fn enter(
+        &mut self,
+        program: &Program,
+        place: &Place,
+        node: Node,
+        next: &mut Threads,
+    ) -> Result<Option<PatternID>, AllocError>
+        requires made { self.old.visited.widths ≡ widths_of program.now }
+        requires node { IsNodeOf program.now.states node }
+        requires slots { length self.old.pending.slots ≡ next.old.slot_len }
+        ensures followed { IfOk result (λ met. (m : Machine (ℕ × ℕ) Slots) → (i : ℕ)
+            → (threads : List Thread) → (others : List Thread)
+            → MakesMoves m i program.now.states place.now
+            → AreUnderWay m i threads (widths_of program.now) self.old.visited.ids
+            ((self.old.pending.slots, node) ∷ self.old.pending.threads ++ others) next.old.threads
+            → AreFollowed m i threads (widths_of program.now) self.new.visited.ids
+            (self.new.pending.threads ++ others) next.new.threads self.new.pending.slots met) }
+        ensures threads { OnOk result (All (IsThreadOf program.now.states) next.old.threads
+            → All (IsThreadOf program.now.states) next.new.threads) }
+        ensures widths { self.new.visited.widths ≡ self.old.visited.widths }
+        ensures less { OnOk result
+            (work_left program.now self.new.visited.ids self.new.pending.size
+            ≤ work_left program.now self.old.visited.ids self.old.pending.size) }
+        ensures counted { AreCounted self.old.visited self.new.visited }
+        ensures room { length self.old.visited.ids ≤ node_count program.now
+            → length self.new.visited.ids ≤ node_count program.now }
+        ensures slots { OnOk result
+            (length self.new.pending.slots ≡ length self.old.pending.slots) }
+        ensures slot_len { next.new.slot_len ≡ next.old.slot_len }
+    {
+        let Some(state) = state_at(program.states(), node.state()) else {
+            return Ok(None);
+        };
+        if !self.visited.insert(node) {
+            return Ok(None);
+        }
+        make_move(&mut self.pending, state, place, node, next)
+    }
+
+    /// Follows a thread and all to which empty edges lead from it, in order of preference, up to an
+    /// end of a match: then the slots at hand are those of that match.
+    fn follow(
+        &mut self,
+        program: &Program,
+        place: &Place,
+        slots: &[Option<NonMaxUsize>],
+        node: Node,
+        next: &mut Threads,
+    ) -> Result<Option<PatternID>, AllocError>
+        requires made { self.old.visited.widths ≡ widths_of program.now }
+        requires node { IsNodeOf program.now.states node }
+        requires slots { length slots.now ≡ next.old.slot_len }
+        ensures followed { IfOk result (λ met. (m : Machine (ℕ × ℕ) Slots) → (i : ℕ)
+            → (threads : List Thread) → (others : List Thread)
+            → MakesMoves m i program.now.states place.now
+            → AreUnderWay m i threads (widths_of program.now) self.old.visited.ids
+            ((slots.now, node) ∷ others) next.old.threads
+            → AreFollowed m i threads (widths_of program.now) self.new.visited.ids
+            others next.new.threads self.new.pending.slots met) }
+        ensures threads { OnOk result (All (IsThreadOf program.now.states) next.old.threads
+            → All (IsThreadOf program.now.states) next.new.threads) }
+        ensures widths { self.new.visited.widths ≡ self.old.visited.widths }
+        ensures counted { AreCounted self.old.visited self.new.visited }
+        ensures room { length self.old.visited.ids ≤ node_count program.now
+            → length self.new.visited.ids ≤ node_count program.now }
+        ensures slot_len { next.new.slot_len ≡ next.old.slot_len }
+    {
+        self.pending.begin(slots)?;
+        if let Some(pattern) = self.enter(program, place, node, next)? {
+            return Ok(Some(pattern));
+        }
+        while let Some(state) = self.pending.pop() {
+            if let Some(pattern) = self.enter(program, place, Node::first(state), next)? {
+                return Ok(Some(pattern));
+            }
+        }
+        Ok(None)
+    }
+}
+
+/// What a step needs room for. Contracts see of it how many nodes each state is of the program that
+/// it was made for, slots, which after a step that met an end are those of the match, and how many
+/// nodes its steps have followed.
+#[derive(Debug, Drop)]
+pub struct Stepper {
+    closure: Closure,
+}
+
+impl Model for Stepper {
+    ghost use Rattle.rx_steps.specs.Threads.{StepperView};
+
+    ghost Value = { StepperView };
+
+    ghost view = { λ s. record {
+      widths = s.closure.visited.widths;
+      slots = s.closure.pending.slots;
+      followed = s.closure.visited.followed;
+    } };
+}
+
+impl Stepper {
+    /// Room for steps of a program. The one refusal is `Memory`. It takes memory in proportion to
+    /// the program's states and those of their automata.
+    pub fn new(alloc: Global, program: &Program) -> Result<Stepper, MatchError>
+        ensures made { IfOk result (λ stepper. stepper.widths ≡ widths_of program.now) }
+        ensures refused { IfErr result (λ error. error ≡ MatchError.Memory) }
+    {
+        Ok(Stepper {
+            closure: Closure {
+                visited: Visited::new(alloc, program)?,
+                pending: Pending::new(alloc),
+            },
+        })
+    }
+
+    /// About how many bytes its lists take.
+    pub(crate) fn memory_usage(&self) -> usize {
+        self.closure
+            .visited
+            .memory_usage()
+            .saturating_add(self.closure.pending.memory_usage())
+    }
+
+    /// The slots of the match whose end the last step met, if it met one.
+    pub fn slots(&self) -> &[Option<NonMaxUsize>]
+        ensures { result.now ≡ self.now.slots }
+    {
+        self.closure.pending.slots()
+    }
+
+    /// Puts into `next` the threads at the next place, in order of preference, of walks that stand
+    /// as these threads do here: down to the first end of a match, whose pattern it answers, and
+    /// whose slots `slots` tells. A node is followed once at a place. The place is noted in the
+    /// slots that the program names; a slot past those of the threads is passed over. The one
+    /// refusal is `Memory`; what `next` then holds has no meaning.
+    ///
+    /// It follows each node once at most, and takes time in proportion to the edges of those that
+    /// it follows and to the slots of the threads, and no memory but what the program asks for.
+    pub fn next_list(
+        &mut self,
+        program: &Program,
+        place: &Place,
+        threads: &Threads,
+        next: &mut Threads,
+    ) -> Result<Option<PatternID>, MatchError>
+        requires made { self.old.widths ≡ widths_of program.now }
+        requires threads { All (IsThreadOf program.now.states) threads.now.threads }
+        ensures list { IfOk result (λ met. IsNextList program.now place.now threads.now.threads
+            next.new.threads met self.new.slots) }
+        ensures threads { OnOk result (All (IsThreadOf program.now.states) next.new.threads) }
+        ensures slot_len { next.new.slot_len ≡ threads.now.slot_len }
+        ensures made { self.new.widths ≡ self.old.widths }
+        ensures work { self.new.followed ≤ self.old.followed + node_count program.now }
+        ensures refused { IfErr result (λ error. error ≡ MatchError.Memory) }
+    {
+        self.closure.visited.clear();
+        next.clear(threads.slot_len());
+        for index in 0..threads.len() {
+            let slots = threads.slots(index);
+            let node = threads.node(index);
+            if let Some(pattern) = self.closure.follow(program, place, slots, node, next)? {
+                return Ok(Some(pattern));
+            }
+        }
+        Ok(None)
+    }
+}

@@ -1,0 +1,180 @@
+//! The threads at a place, in order of preference.
+
+ghost use Rattle.std.specs.Prelude.{◌≡◌, ◌+◌, ◌*◌, ◌<◌, ◌≤◌, ◌++◌, ◌∷◌, [], length, take, drop, get_or, OnErr, OnOk};
+ghost use Rattle.rx_steps.specs.Threads.{Thread, no_slots, threads_of};
+
+use crate::node::Node;
+use rx_util::NonMaxUsize;
+use std::alloc::{AllocError, Global};
+use std::marker::Model;
+use std::mem::size_of;
+
+/// Threads, those that are preferred first: each a node, and slots with places that were noted.
+/// All have as many slots. Contracts see that number and the list of threads.
+#[derive(Debug, Drop)]
+pub struct Threads {
+    slot_len: usize,
+    nodes: Vec<Node>,
+    // Those of each thread one after another.
+    slots: Vec<Option<NonMaxUsize>>,
+}
+
+impl Model for Threads {
+    ghost use Rattle.std.specs.Prelude.{◌≡◌, ◌*◌, length};
+    ghost use Rattle.rx_steps.specs.Threads.{ThreadList, threads_of};
+
+    ghost Value = { ThreadList };
+
+    ghost view = { λ t. record {
+      slot_len = t.slot_len;
+      threads = threads_of t.slot_len t.nodes.items t.slots.items;
+    } };
+
+    ghost invariant = { λ t. length t.slots.items ≡ length t.nodes.items * t.slot_len };
+}
+
+/// Adds a node and its slots.
+#[inline(always)]
+fn push_parts(
+    nodes: &mut Vec<Node>,
+    slots: &mut Vec<Option<NonMaxUsize>>,
+    node: Node,
+    own: &[Option<NonMaxUsize>],
+) -> Result<(), AllocError>
+    ensures nodes { OnOk result (nodes.new.items ≡ nodes.old.items ++ node ∷ []) }
+    ensures slots { OnOk result (slots.new.items ≡ slots.old.items ++ own.now) }
+{
+    slots.extend_from_slice(own)?;
+    nodes.push(node)?;
+    Ok(())
+}
+
+/// Adds a node, and so many slots in which nothing is noted.
+fn push_fresh_parts(
+    nodes: &mut Vec<Node>,
+    slots: &mut Vec<Option<NonMaxUsize>>,
+    node: Node,
+    slot_len: usize,
+) -> Result<(), AllocError>
+    ensures nodes { OnOk result (nodes.new.items ≡ nodes.old.items ++ node ∷ []) }
+    ensures slots { OnOk result (slots.new.items ≡ slots.old.items ++ no_slots slot_len) }
+{
+    for _ in 0..slot_len {
+        slots.push(None)?;
+    }
+    nodes.push(node)?;
+    Ok(())
+}
+
+/// Of parts of this length that stand one after another, the one with this index.
+#[inline(always)]
+fn part(all: &[Option<NonMaxUsize>], len: usize, index: usize) -> &[Option<NonMaxUsize>]
+    requires within { index * len + len ≤ length all.now }
+    ensures part { result.now ≡ take len (drop (index * len) all.now) }
+    ensures len { length result.now ≡ len }
+{
+    let start = index * len;
+    &all[start..start + len]
+}
+
+impl Threads {
+    /// No thread, with so many slots for each that comes.
+    pub fn new(alloc: Global, slot_len: usize) -> Threads
+        ensures { result ≡ record { slot_len = slot_len; threads = [] } }
+    {
+        Threads {
+            slot_len,
+            nodes: Vec::new(alloc),
+            slots: Vec::new(alloc),
+        }
+    }
+
+    /// How many slots each thread has.
+    pub fn slot_len(&self) -> usize
+        ensures { result ≡ self.now.slot_len }
+    {
+        self.slot_len
+    }
+
+    /// How many threads there are.
+    pub fn len(&self) -> usize
+        ensures { result ≡ length self.now.threads }
+    {
+        self.nodes.len()
+    }
+
+    /// About how many bytes its lists take.
+    pub(crate) fn memory_usage(&self) -> usize {
+        let nodes = self.nodes.capacity().saturating_mul(size_of::<Node>());
+        let slots = self
+            .slots
+            .capacity()
+            .saturating_mul(size_of::<Option<NonMaxUsize>>());
+        nodes.saturating_add(slots)
+    }
+
+    /// Takes all threads out, and has so many slots for each that comes. The memory is kept.
+    pub fn clear(&mut self, slot_len: usize)
+        ensures { self.new ≡ record { slot_len = slot_len; threads = [] } }
+    {
+        self.nodes.clear();
+        self.slots.clear();
+        self.slot_len = slot_len;
+    }
+
+    /// The node of the thread at this index.
+    #[inline(always)]
+    pub fn node(&self, index: usize) -> Node
+        requires { index < length self.now.threads }
+        ensures { (x : Thread) → result ≡ (get_or self.now.threads index x).1 }
+    {
+        self.nodes[index]
+    }
+
+    /// The slots of the thread at this index.
+    #[inline(always)]
+    pub fn slots(&self, index: usize) -> &[Option<NonMaxUsize>]
+        requires { index < length self.now.threads }
+        ensures slots { (x : Thread) → result.now ≡ (get_or self.now.threads index x).0 }
+        ensures len { length result.now ≡ self.now.slot_len }
+    {
+        part(&self.slots, self.slot_len, index)
+    }
+
+    /// Adds a thread after the others. Where memory is refused no thread is left.
+    #[inline(always)]
+    pub fn push(&mut self, node: Node, slots: &[Option<NonMaxUsize>]) -> Result<(), AllocError>
+        requires slots { length slots.now ≡ self.old.slot_len }
+        ensures threads { OnOk result
+            (self.new.threads ≡ self.old.threads ++ (slots.now, node) ∷ []) }
+        ensures none_left { OnErr result (self.new.threads ≡ []) }
+        ensures slot_len { self.new.slot_len ≡ self.old.slot_len }
+    {
+        match push_parts(&mut self.nodes, &mut self.slots, node, slots) {
+            Ok(()) => Ok(()),
+            Err(refused) => {
+                self.nodes.clear();
+                self.slots.clear();
+                Err(refused)
+            }
+        }
+    }
+
+    /// Adds a thread after the others, in whose slots nothing is noted. Where memory is refused no
+    /// thread is left.
+    pub fn push_fresh(&mut self, node: Node) -> Result<(), AllocError>
+        ensures threads { OnOk result (self.new.threads
+            ≡ self.old.threads ++ (no_slots self.old.slot_len, node) ∷ []) }
+        ensures none_left { OnErr result (self.new.threads ≡ []) }
+        ensures slot_len { self.new.slot_len ≡ self.old.slot_len }
+    {
+        match push_fresh_parts(&mut self.nodes, &mut self.slots, node, self.slot_len) {
+            Ok(()) => Ok(()),
+            Err(refused) => {
+                self.nodes.clear();
+                self.slots.clear();
+                Err(refused)
+            }
+        }
+    }
+}

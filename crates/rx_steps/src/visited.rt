@@ -1,0 +1,146 @@
+//! The nodes that were seen at a place.
+
+ghost use Rattle.std.specs.Prelude.{◌≡◌, ◌<◌, ◌≤◌, [], true, map, length, slice_get, IfSome, IfOk, IfErr};
+ghost use Rattle.rx_util.specs.declared.search.MatchError.{MatchError};
+ghost use Rattle.rx_steps.specs.Nodes.{widths_of, width_of, starts_from, end_from, index_from, IsInserted, AreCounted};
+
+use crate::followed::Followed;
+use crate::node::Node;
+use rx_util::{MatchError, SparseSet, StateID};
+use rx_program::{Program, State};
+use std::alloc::{AllocError, Global};
+use std::marker::Model;
+use std::mem::size_of;
+
+/// How many nodes a state is.
+fn width(state: &State) -> usize
+    ensures { result ≡ width_of state.now }
+{
+    match state {
+        State::Ranges(automaton, _) => automaton.state_count(),
+        _ => 1,
+    }
+}
+
+/// A set of nodes of a program, by their index among all of them. Contracts see how many nodes each
+/// state is, the indices of the members, and how many came in since it was made, also those that
+/// were taken out again.
+#[derive(Debug, Drop)]
+pub(crate) struct Visited {
+    // Where the nodes of each state start, and where those of the last one end.
+    starts: Vec<usize>,
+    set: SparseSet,
+    followed: Followed,
+}
+
+impl Model for Visited {
+    ghost use Rattle.std.specs.Prelude.{◌≡◌};
+    ghost use Rattle.rx_steps.specs.Nodes.{SeenNodes, widths_in, starts_from, end_from};
+
+    ghost Value = { SeenNodes };
+
+    ghost view = { λ v. record {
+      widths = widths_in v.starts.items;
+      ids = v.set.members;
+      followed = v.followed;
+    } };
+
+    ghost invariant = { λ v. (v.starts.items ≡ starts_from 0 (widths_in v.starts.items))
+        × (v.set.capacity ≡ end_from 0 (widths_in v.starts.items)) };
+}
+
+/// Where the nodes of each state start and those of the last one end, as a list; and that end.
+fn starts_of(alloc: Global, states: &[State]) -> Result<(Vec<usize>, usize), AllocError>
+    ensures starts { IfOk result (λ made. made.0.items
+        ≡ starts_from 0 (map width_of states.now)) }
+    ensures end { IfOk result (λ made. made.1 ≡ end_from 0 (map width_of states.now)) }
+{
+    let mut starts = Vec::new(alloc);
+    let mut end = 0_usize;
+    for state in states {
+        starts.push(end)?;
+        let Some(next) = end.checked_add(width(state)) else {
+            return Err(AllocError);
+        };
+        end = next;
+    }
+    starts.push(end)?;
+    Ok((starts, end))
+}
+
+/// Where the nodes of a state start.
+#[inline(always)]
+fn start_at(starts: &[usize], state: usize) -> Option<usize>
+    ensures { result ≡ slice_get starts.now state }
+{
+    starts.get(state).copied()
+}
+
+impl Visited {
+    /// The empty set, for the nodes of a program.
+    pub(crate) fn new(alloc: Global, program: &Program) -> Result<Visited, MatchError>
+        ensures widths { IfOk result (λ v. v.widths ≡ widths_of program.now) }
+        ensures refused { IfErr result (λ error. error ≡ MatchError.Memory) }
+    {
+        let (starts, end) = starts_of(alloc, program.states())?;
+        let set = SparseSet::new(alloc, end)?;
+        Ok(Visited {
+            starts,
+            set,
+            followed: Followed::new(),
+        })
+    }
+
+    /// Empties the set.
+    pub(crate) fn clear(&mut self)
+        ensures widths { self.new.widths ≡ self.old.widths }
+        ensures ids { self.new.ids ≡ [] }
+        ensures followed { self.new.followed ≡ self.old.followed }
+    {
+        self.set.clear();
+    }
+
+    /// The index of a node.
+    #[inline(always)]
+    fn index(&self, node: Node) -> Option<usize>
+        ensures index { result ≡ index_from 0 self.now.widths node.0 node.1 }
+        ensures below { IfSome result (λ k. k < end_from 0 self.now.widths) }
+    {
+        let state = node.state().as_usize();
+        let start = start_at(&self.starts, state)?;
+        let end = start_at(&self.starts, state + 1)?;
+        if node.within() < end - start {
+            Some(start + node.within())
+        } else {
+            None
+        }
+    }
+
+    /// Adds a node that has an index and is no member yet, and tells whether it was so.
+    #[inline(always)]
+    pub(crate) fn insert(&mut self, node: Node) -> bool
+        ensures inserted { IsInserted (index_from 0 self.old.widths node.0 node.1) result
+            self.old.ids self.new.ids }
+        ensures widths { self.new.widths ≡ self.old.widths }
+        ensures room { result ≡ true → length self.new.ids ≤ end_from 0 self.old.widths }
+        ensures counted { AreCounted self.old self.new }
+    {
+        let Some(index) = self.index(node) else {
+            return false;
+        };
+        if !self.set.insert(StateID::new(index)) {
+            return false;
+        }
+        let _len = self.set.len(); // tells that no member is there twice
+        self.followed.add();
+        true
+    }
+
+    /// About how many bytes its lists take.
+    pub(crate) fn memory_usage(&self) -> usize {
+        self.starts
+            .capacity()
+            .saturating_mul(size_of::<usize>())
+            .saturating_add(self.set.memory_usage())
+    }
+}

@@ -1,5 +1,0 @@
-use Rattle.rx_threads.proofs.SideLaws.{back_is}
-use Rattle.rx_threads.proofs.sides.back.Goals as goal
-
-pub returns : goal.returns
-returns c = back_is c.args.bytes.now c.args.len c.min.result c.min.ensures

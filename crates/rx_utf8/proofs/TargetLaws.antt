@@ -1,0 +1,158 @@
+-- The states of blocks of characters.
+use Rattle.std.proofs.Common.{◌≡◌, ℕ, zero, suc, ◌+◌, ◌-◌, ◌*◌, ◌<◌, ◌≤◌, ◌⊎◌, Bool, true, false, ◌&&◌, cond, nat_lt, nat_le, nat_eq, List, [], ◌∷◌, ◌++◌, length, get_or, Option, Some, None, refl, sym, ap, subst, ◌∙◌, arith, inl, inr}
+use Rattle.std.specs.Prelude.{Vec}
+use Rattle.std.proofs.lemmas.Bool.Decides.{nat_tests}
+use Rattle.std.proofs.lemmas.List.{length-map}
+use Rattle.rx_utf8.specs.Blocks.{high, is_next, Fits, Extends, any_next, prepared, limit, size, AllBetween, rows_of}
+use Rattle.rx_utf8.specs.declared.byte_ranges.ByteRange.{ByteRange}
+use Rattle.std.specs.List.{All}
+use Rattle.std.proofs.lemmas.List.Elements.{All-append, All-cons, All-nil, All-get_or}
+use Rattle.rx_utf8.specs.Automata.{look_up, step_in, RiseWithin, IsRow}
+use Rattle.rx_utf8.proofs.RowLaws.{rise_above, rise_more, leads_here, leads_before}
+use Rattle.rx_utf8.proofs.FirstLaws.{next_range}
+use Rattle.rx_utf8.proofs.FitLaws.{Full, full_fits, fits_on, fits_alike}
+
+abbrev pub Rows : Type 0
+Rows = List (List ByteRange)
+
+pub extends_on : (R S T : Rows) → Extends R S → Extends S T → Extends R T
+extends_on R S T rs st = (omega (arith, rs.0, st.0), λ s below. st.1 s (omega (arith, below, rs.0)) ∙ rs.1 s below)
+
+pub extends_same : (R : Rows) → Extends R R
+extends_same R = (omega arith, λ s below. refl)
+
+get_or-left : (R S : Rows) (s : ℕ) → s < length R → get_or (R ++ S) s [] ≡ get_or R s []
+get_or-left [] S s below = absurd (omega (arith, below))
+get_or-left (row ∷ R) S zero below = refl
+get_or-left (row ∷ R) S (suc s) below = get_or-left R S s (omega (arith, below))
+
+length-left : (R S : Rows) → length R ≤ length (R ++ S)
+length-left [] S = omega arith
+length-left (row ∷ R) S = omega (arith, length-left R S)
+
+pub extends_append : (R S : Rows) → Extends R (R ++ S)
+extends_append R S = (length-left R S, λ s below. get_or-left R S s below)
+
+pub fits_extend : (R S : Rows) (p : ℕ → Bool) (r v : ℕ) (t : Option (Option ℕ)) → Extends R S → Fits (step_in R) (length R) p r v t → Fits (step_in S) (length S) p r v t
+fits_extend R S p r v t rs fits = fits_on (step_in R) (step_in S) (length R) (length S) rs.0 (λ s past b. ap (λ row. look_up row b) (sym (rs.1 s past.1))) p r v t fits
+
+-- whole blocks
+abbrev full_state : ℕ → Option (Option ℕ)
+full_state zero = Some None
+full_state (suc r) = Some (Some (suc r))
+
+next_byte : (b : ℕ) → (nat_le 128 b && nat_le b 191) ≡ is_next b
+next_byte b = ap (λ x. nat_le 128 b && x) (below b)
+  where
+    below : (b : ℕ) → nat_le b 191 ≡ nat_lt b 192
+    below b = grind (arith, nat_tests)
+
+row_at : (R : Rows) (s : ℕ) (t : Option ℕ) → get_or R s [] ≡ any_next t → (b : ℕ) → step_in R s b ≡ cond (is_next b) (Some t) None
+row_at R s t e b = ap (λ row. look_up row b) e ∙ ap (λ x. cond x (Some t) None) (next_byte b)
+
+full_from : (R : Rows) → Extends prepared R → (r : ℕ) → r ≤ 3 → Full (step_in R) (length R) full_state r
+full_from R on zero few = refl
+full_from R on (suc zero) few = (1, refl, (omega arith, omega (arith, on.0)), row_at R 1 None (on.1 1 (omega arith)), full_from R on zero (omega arith))
+full_from R on (suc (suc zero)) few = (2, refl, (omega arith, omega (arith, on.0)), row_at R 2 (Some 1) (on.1 2 (omega arith)), full_from R on (suc zero) (omega arith))
+full_from R on (suc (suc (suc zero))) few = (3, refl, (omega arith, omega (arith, on.0)), row_at R 3 (Some 2) (on.1 3 (omega arith)), full_from R on (suc (suc zero)) (omega arith))
+full_from R on (suc (suc (suc (suc r)))) few = absurd (omega (arith, few))
+
+block : (r v c : ℕ) → r ≤ 3 → high r c ≡ v → (v * size r ≤ c) × (c ≤ v * size r + (size r - 1))
+block zero v c few e = (omega (arith, e), omega (arith, e))
+block (suc zero) v c few e = (omega (arith, e), omega (arith, e))
+block (suc (suc zero)) v c few e = (omega (arith, e), omega (arith, e))
+block (suc (suc (suc zero))) v c few e = (omega (arith, e), omega (arith, e))
+block (suc (suc (suc (suc r)))) v c few e = absurd (omega (arith, few))
+
+pub whole_fits : (R : Rows) (p : ℕ → Bool) (r v : ℕ) → 0 < r → r ≤ 3 → Extends prepared R → AllBetween p (v * size r) (v * size r + (size r - 1)) true → Fits (step_in R) (length R) p r v (Some (Some r))
+whole_fits R p zero v some few on all = absurd (omega (arith, some))
+whole_fits R p (suc r) v some few on all = full_fits (step_in R) (length R) p full_state (suc r) v (full_from R on (suc r) few) (λ c e. let at = block (suc r) v c few e in all c at.0 at.1)
+
+pub none_fits : (R : Rows) (p : ℕ → Bool) (r v : ℕ) → 0 < r → r ≤ 3 → AllBetween p (v * size r) (v * size r + (size r - 1)) false → Fits (step_in R) (length R) p r v None
+none_fits R p zero v some few all = absurd (omega (arith, some))
+none_fits R p (suc r) v some few all = λ c e. let at = block (suc r) v c few e in all c at.0 at.1
+
+-- ranges that hold the same characters of the block
+pub part_fits : (R : Rows) (p q : ℕ → Bool) (r v : ℕ) (t : Option (Option ℕ)) → r ≤ 3 → ((c : ℕ) → v * size r ≤ c → c ≤ v * size r + (size r - 1) → p c ≡ q c) → Fits (step_in R) (length R) p r v t → Fits (step_in R) (length R) q r v t
+part_fits R p q r v t few same fits = fits_alike (step_in R) (length R) p q r v t (λ c e. let at = block r v c few e in same c at.0 at.1) fits
+
+pub limit_next : (r v d : ℕ) → 0 < r → r ≤ 3 → v < limit r → d < 64 → v * 64 + d < limit (r - 1)
+limit_next zero v d some few within low = absurd (omega (arith, some))
+limit_next (suc zero) v d some few within low = omega (arith, within, low)
+limit_next (suc (suc zero)) v d some few within low = omega (arith, within, low)
+limit_next (suc (suc (suc zero))) v d some few within low = omega (arith, within, low)
+limit_next (suc (suc (suc (suc r)))) v d some few within low = absurd (omega (arith, few))
+
+-- a row is filled up to a byte
+pub record Filled (R : Rows) (p : ℕ → Bool) (r v to : ℕ) (row : List ByteRange) : Type 0 where
+  pub fits : (b : ℕ) → 128 ≤ b → b < to → Fits (step_in R) (length R) p r (v * 64 + (b - 128)) (look_up row b)
+  pub below : (b : ℕ) → b < 128 → look_up row b ≡ None
+  pub rises : RiseWithin 0 to row
+
+pub filled_none : (R : Rows) (p : ℕ → Bool) (r v : ℕ) → Filled R p r v 128 []
+filled_none R p r v = record { fits = λ b low high. absurd (omega (arith, low, high)); below = λ b low. refl; rises = omega arith }
+
+pub before_or_at : (b to : ℕ) → b < to + 1 → (b < to) ⊎ (to ≡ b)
+before_or_at b to e = grind arith
+
+filled_next : (R S : Rows) (p : ℕ → Bool) (r v to : ℕ) (row more : List ByteRange) (t : Option (Option ℕ)) → Extends R S → 128 ≤ to → Filled R p r v to row
+    → Fits (step_in S) (length S) p r (v * 64 + (to - 128)) t → look_up more to ≡ t → ((b : ℕ) → b < to → look_up more b ≡ look_up row b) → RiseWithin 0 (to + 1) more → Filled S p r v (to + 1) more
+filled_next R S p r v to row more t on high filled fit at others rises = record {
+  fits = λ b low before. elim (before_or_at b to before) [
+    | inl less ↦ subst (Fits (step_in S) (length S) p r (v * 64 + (b - 128))) (sym (others b less)) (fits_extend R S p r (v * 64 + (b - 128)) (look_up row b) on (filled.fits b low less))
+    | inr e ↦ subst (λ x. Fits (step_in S) (length S) p r (v * 64 + (x - 128)) (look_up more x)) e (subst (Fits (step_in S) (length S) p r (v * 64 + (to - 128))) (sym at) fit)
+  ];
+  below = λ b low. others b (omega (arith, low, high)) ∙ filled.below b low;
+  rises = rises;
+}
+
+pub filled_skip : (R S : Rows) (p : ℕ → Bool) (r v to : ℕ) (row : List ByteRange) → Extends R S → 128 ≤ to → Filled R p r v to row
+    → Fits (step_in S) (length S) p r (v * 64 + (to - 128)) None → Filled S p r v (to + 1) row
+filled_skip R S p r v to row on high filled fit =
+    filled_next R S p r v to row row None on high filled fit (rise_above 0 to row to filled.rises (omega arith)) (λ b less. refl) (rise_more 0 to (to + 1) row (omega arith) filled.rises)
+
+pub filled_push : (R S : Rows) (p : ℕ → Bool) (r v to : ℕ) (row more : List ByteRange) (t : Option ℕ) → Extends R S → 128 ≤ to → Filled R p r v to row
+    → Fits (step_in S) (length S) p r (v * 64 + (to - 128)) (Some t) → ((b : ℕ) → look_up more b ≡ cond (nat_eq b to) (Some t) (look_up row b)) → RiseWithin 0 (to + 1) more
+    → Filled S p r v (to + 1) more
+filled_push R S p r v to row more t on high filled fit leads rises =
+    filled_next R S p r v to row more (Some t) on high filled fit (leads_here to t row more leads) (λ b less. leads_before to t row more leads b less) rises
+
+-- and becomes a state
+get_or-end : (R : Rows) (row : List ByteRange) → get_or (R ++ row ∷ []) (length R) [] ≡ row
+get_or-end [] row = refl
+get_or-end (x ∷ R) row = get_or-end R row
+
+length-end : (R : Rows) (row : List ByteRange) → length R < length (R ++ row ∷ [])
+length-end [] row = omega arith
+length-end (x ∷ R) row = omega (arith, length-end R row)
+
+next_at : (b : ℕ) → is_next b ≡ false → (b < 128) ⊎ (192 ≤ b)
+next_at b e = grind (arith, nat_tests)
+
+pub filled_fits : (R : Rows) (p : ℕ → Bool) (r v : ℕ) (row : List ByteRange) → 0 < r → 0 < length R → Filled R p (r - 1) v 192 row → Fits (step_in (R ++ row ∷ [])) (length (R ++ row ∷ [])) p r v (Some (Some (length R)))
+filled_fits R p zero v row some more filled = absurd (omega (arith, some))
+filled_fits R p (suc r) v row some more filled =
+    let less : suc r - 1 ≡ r = omega arith in
+    let filled' : Filled R p r v 192 row = subst (λ x. Filled R p x v 192 row) less filled in
+    let here = λ (b : ℕ). ap (λ x. look_up x b) (get_or-end R row) in (
+      (more, length-end R row),
+      (λ b is. let within = next_range b is in subst (Fits (step_in (R ++ row ∷ [])) (length (R ++ row ∷ [])) p r (v * 64 + (b - 128))) (sym (here b))
+          (fits_extend R (R ++ row ∷ []) p r (v * 64 + (b - 128)) (look_up row b) (extends_append R (row ∷ [])) (filled'.fits b within.0 within.1))),
+      (λ b is. here b ∙ elim (next_at b is) [ inl low ↦ filled'.below b low | inr high ↦ rise_above 0 192 row b filled'.rises high ]),
+    )
+
+-- one row more, whose ranges are disjoint
+pub rows_one_more : (R : Rows) (row : List ByteRange) (to : ℕ) → to ≤ 256 → All IsRow R → RiseWithin 0 to row → All IsRow (R ++ row ∷ [])
+rows_one_more R row to few all rises = All-append IsRow R (row ∷ []) all (All-cons IsRow row [] (rise_more 0 to 256 row few rises) (All-nil IsRow))
+
+item_of : {Z : Type 0} (rows : List (Vec ByteRange Z)) (s : ℕ) (row : Vec ByteRange Z) → s < length rows → get_or (rows_of rows) s [] ≡ (get_or rows s row).items
+item_of [] s row below = absurd (omega (arith, below))
+item_of (x ∷ rows) zero row below = refl
+item_of (x ∷ rows) (suc s) row below = item_of rows s row (omega (arith, below))
+
+pub row_in : {Z : Type 0} (rows list : List (Vec ByteRange Z)) (s : ℕ) (row : Vec ByteRange Z) (items : List ByteRange) → list ≡ rows → s < length list → row ≡ get_or list s row → items ≡ row.items
+    → All IsRow (rows_of rows) → IsRow items
+row_in {Z = Z} rows list s row items same below at is all =
+    let below' : s < length rows = omega (arith, below, ap length same) in
+    let here : get_or (rows_of rows) s [] ≡ items = item_of rows s row below' ∙ ap (λ (x : Vec ByteRange Z). x.items) (ap (λ xs. get_or xs s row) (sym same) ∙ sym at) ∙ sym is in
+    subst IsRow here (All-get_or IsRow (rows_of rows) s [] (omega (arith, below', length-map rows (λ (x : Vec ByteRange Z). x.items))) all)

@@ -1,0 +1,142 @@
+//! The states of blocks of characters: those whose first bytes are the same.
+
+ghost use Rattle.std.specs.Prelude.{ℕ, ◌≡◌, ◌<◌, ◌≤◌, ◌+◌, ◌++◌, [], ◌∷◌, length, All, IfOk, OnOk, IfSome};
+ghost use Rattle.rx_sets.specs.Sets.{in_ranges};
+ghost use Rattle.rx_utf8.specs.Automata.{step_in, IsRow};
+ghost use Rattle.rx_utf8.specs.Blocks.{Extends, prepared, limit, size, AllBetween, Fits, rows_of, any_next};
+
+use crate::byte_ranges::{ByteRange, push_byte};
+use rx_sets::Range;
+use std::alloc::{AllocError, Global};
+
+/// Whether the code point is in one of the ranges.
+fn contains(ranges: &[Range], code: u32) -> bool
+    ensures { result ≡ in_ranges ranges.now code }
+{
+    ranges
+        .iter()
+        .any(|range| range.0 <= code && code <= range.1)
+}
+
+/// Whether all code points between these are in the ranges, or none; or it isn't known.
+fn cover(ranges: &[Range], low: u32, high: u32) -> Option<bool>
+    ensures { IfSome result (λ all. AllBetween (in_ranges ranges.now) low high all) }
+{
+    for range in ranges {
+        if range.0 <= low && high <= range.1 {
+            return Some(true);
+        }
+        if range.0 <= high && low <= range.1 {
+            return None;
+        }
+    }
+    Some(false)
+}
+
+/// The ranges without those in front that end below this code point.
+fn ranges_from(mut ranges: &[Range], low: u32) -> &[Range]
+    ensures { (c : ℕ) → low ≤ c → in_ranges result.now c ≡ in_ranges ranges.now c }
+{
+    while let [first, rest @ ..] = ranges
+        && first.1 < low
+    {
+        ranges = rest;
+    }
+    ranges
+}
+
+/// The ranges without those at the end that start above this code point.
+fn ranges_up_to(mut ranges: &[Range], high: u32) -> &[Range]
+    ensures { (c : ℕ) → c ≤ high → in_ranges result.now c ≡ in_ranges ranges.now c }
+{
+    while let [rest @ .., last] = ranges
+        && high < last.0
+    {
+        ranges = rest;
+    }
+    ranges
+}
+
+/// How many code points there are with these bytes still to come.
+fn size(rest: u32) -> u32
+    requires { rest ≤ 3 }
+    ensures { result ≡ size rest }
+{
+    match rest {
+        0 => 1,
+        1 => 64,
+        2 => 4096,
+        _ => 262_144,
+    }
+}
+
+/// Where the bytes lead after which `rest` more are to come, and whose value so far is `value`.
+pub(crate) fn target(
+    rows: &mut Vec<Vec<ByteRange>>,
+    ranges: &[Range],
+    rest: u32,
+    value: u32,
+) -> Result<Option<Option<usize>>, AllocError>
+    requires rest { rest ≤ 3 }
+    requires value { value < limit rest }
+    requires prepared { Extends prepared (rows_of rows.old.items) }
+    requires disjoint { All IsRow (rows_of rows.old.items) }
+    ensures grows { OnOk result (Extends (rows_of rows.old.items) (rows_of rows.new.items)) }
+    ensures fits { IfOk result (λ t. Fits (step_in (rows_of rows.new.items))
+        (length (rows_of rows.new.items)) (in_ranges ranges.now) rest value t) }
+    ensures kept { OnOk result (All IsRow (rows_of rows.new.items)) }
+{
+    if rest == 0 {
+        return Ok(if contains(ranges, value) {
+            Some(None)
+        } else {
+            None
+        });
+    }
+    let low = value * size(rest);
+    let high = low + (size(rest) - 1);
+    match cover(ranges, low, high) {
+        Some(false) => return Ok(None),
+        Some(true) => return Ok(Some(Some(rest as usize))),
+        None => {}
+    }
+    // What lies outside the block is left out, so that its parts don't look at it again.
+    let part = ranges_up_to(ranges_from(ranges, low), high);
+    let mut row = Vec::new(*rows.allocator());
+    for byte in 128..192 {
+        if let Some(next) = target(rows, part, rest - 1, value * 64 + (byte as u32 - 128))? {
+            push_byte(&mut row, byte, next)?;
+        }
+    }
+    let state = rows.len();
+    rows.push(row)?;
+    Ok(Some(Some(state)))
+}
+
+/// Appends a row that leads from each byte that continues a character to this state.
+fn push_any(rows: &mut Vec<Vec<ByteRange>>, next: Option<usize>) -> Result<(), AllocError>
+    ensures { OnOk result (rows_of rows.new.items ≡ rows_of rows.old.items
+        ++ (any_next next ∷ [])) }
+{
+    let mut row = Vec::new(*rows.allocator());
+    row.push(ByteRange {
+        first: 128,
+        last: 191,
+        next,
+    })?;
+    rows.push(row)?;
+    Ok(())
+}
+
+/// The rows that stand in each automaton: the first one to be written, and those of the states that
+/// read one, two or three bytes, whatever they are.
+pub(crate) fn prepared(alloc: Global) -> Result<Vec<Vec<ByteRange>>, AllocError>
+    ensures { IfOk result (λ rows. rows_of rows.items ≡ prepared) }
+{
+    let mut rows = Vec::new(alloc);
+    rows.push(Vec::new(alloc))?;
+    push_any(&mut rows, None)?;
+    push_any(&mut rows, Some(1))?;
+    push_any(&mut rows, Some(2))?;
+    Ok(rows)
+}

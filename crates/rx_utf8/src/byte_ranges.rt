@@ -1,0 +1,76 @@
+//! Ranges of bytes that lead to a state, and rows of them.
+
+ghost use Rattle.std.specs.Prelude.{ℕ, ◌≡◌, ◌+◌, ◌≤◌, ◌<◌, cond, nat_eq, Some, OnOk, MatchBool};
+ghost use Rattle.rx_utf8.specs.Automata.{look_up, IsRow, RiseWithin};
+
+use std::alloc::AllocError;
+
+/// Bytes that lead to one state.
+#[derive(Debug, Clone, Copy, PartialEq, Eq)]
+pub struct ByteRange {
+    /// The first byte.
+    pub first: u8,
+    /// The last byte, which is in the range.
+    pub last: u8,
+    /// The number of the state that they lead to, and `None` where they end a character.
+    pub next: Option<usize>,
+}
+
+impl ByteRange {
+    /// Whether the byte comes right after the range and leads to the same state.
+    fn takes_in(self, byte: u8, next: Option<usize>) -> bool
+        ensures { MatchBool result ((self.last + 1 ≡ byte) × (self.next ≡ next)) (Unit {0}) }
+    {
+        u32::from(self.last) + 1 == u32::from(byte) && self.next == next
+    }
+}
+
+/// Where a byte leads by the ranges of a row, which are in order.
+pub(crate) fn look_up(row: &[ByteRange], byte: u8) -> Option<Option<usize>>
+    requires { IsRow row.now }
+    ensures { result ≡ look_up row.now byte }
+{
+    for range in row {
+        if byte < range.first {
+            return None;
+        }
+        if byte <= range.last {
+            return Some(range.next);
+        }
+    }
+    None
+}
+
+/// Appends a byte that leads to this state. A range that ends right before it and leads there takes
+/// it in.
+pub(crate) fn push_byte(
+    row: &mut Vec<ByteRange>,
+    byte: u8,
+    next: Option<usize>,
+) -> Result<(), AllocError>
+    requires { RiseWithin 0 byte row.old.items }
+    ensures rises { OnOk result (RiseWithin 0 (byte + 1) row.new.items) }
+    ensures leads { OnOk result ((b : ℕ) → look_up row.new.items b
+        ≡ cond (nat_eq b byte) (Some next) (look_up row.old.items b)) }
+{
+    let one = ByteRange {
+        first: byte,
+        last: byte,
+        next,
+    };
+    let Some(before) = row.pop() else {
+        row.push(one)?;
+        return Ok(());
+    };
+    if before.takes_in(byte, next) {
+        row.push(ByteRange {
+            first: before.first,
+            last: byte,
+            next,
+        })?;
+        return Ok(());
+    }
+    row.push(before)?;
+    row.push(one)?;
+    Ok(())
+}

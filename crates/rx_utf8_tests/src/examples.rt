@@ -1,0 +1,40 @@
+//! An example for each public type.
+
+use rx_utf8::{ByteRange, SetAutomaton};
+use rx_sets::AtomSets;
+use std::test::Fail;
+
+/// A set's automaton: U+00E9 is C3 A9 in UTF-8.
+#[test]
+fn set_automaton(rt: HostRuntime) -> Result<(), Fail> {
+    let alloc = rt.alloc();
+    let sets = AtomSets::new(alloc);
+    let automaton = SetAutomaton::new(alloc, sets.literal(false, '\u{E9}')?)?;
+    assert_eq!(rt; automaton.ranges(), [(0xE9, 0xE9)].as_slice());
+    assert_eq!(rt; automaton.step(0, b'e'), None);
+    match automaton.step(0, 0xC3) {
+        Some(Some(state)) => {
+            assert_eq!(rt; automaton.step(state, 0xA9), Some(None));
+            assert_eq!(rt; automaton.step(state, 0xA8), None);
+        }
+        _ => assert!(rt; false),
+    }
+    Ok(())
+}
+
+/// The ranges of a row: neighbours that lead to one state are joined.
+#[test]
+fn byte_range(rt: HostRuntime) -> Result<(), Fail> {
+    let alloc = rt.alloc();
+    let sets = AtomSets::new(alloc);
+    let automaton = SetAutomaton::new(alloc, sets.all_but('a')?)?;
+    let ascii = ByteRange {
+        first: 0,
+        last: b'`',
+        next: None,
+    };
+    assert_eq!(rt; automaton.row(0).first(), Some(&ascii));
+    assert_eq!(rt; automaton.row(0).len(), 10);
+    assert_eq!(rt; automaton.state_count(), 8);
+    Ok(())
+}
