@@ -1,8 +1,8 @@
 -- Whole inputs: each may be answered, and what follows a bad line changes nothing.
 use Rattle.std.proofs.Common.{ℕ, List, ◌++◌, refl, sym, subst}
 use Rattle.rope_search_reports.specs.Laws.{HasOnePlace, HasReport}
-use Rattle.rope_search.specs.declared.runs.Ended.{Ended}
-use Rattle.rope_search.specs.declared.runs.Ended.TheVariants.{Command}
+use Rattle.rope_search.specs.declared.endings.Ended.{Ended}
+use Rattle.rope_search.specs.declared.endings.Ended.TheVariants.{Command}
 use Rattle.rope_search.specs.Order.{Order}
 use Rattle.rope_search.specs.Session.{first}
 use Rattle.rope_search.specs.Reads.{Reads}

@@ -6,7 +6,7 @@ use Rattle.std.proofs.Math.Utf8.{encode}
 use Rattle.rope_search_io.specs.declared.faults.Fault.{Fault}
 use Rattle.rope_search_io.specs.declared.faults.Fault.TheVariants.{Nothing, Range, Utf8, Pattern, Limit, Size, Memory}
 use Rattle.rope_search.specs.declared.commands.Reply.TheVariants.{Done, Print}
-use Rattle.rope_search.specs.declared.runs.Ended.TheVariants.{Input, Command, Cut}
+use Rattle.rope_search.specs.declared.endings.Ended.TheVariants.{Input, Command, Cut}
 use Rattle.rope_search.specs.Order.{Order, SetText, PrintText, UseBuffer}
 use Rattle.rope_search.specs.Session.{first}
 use Rattle.rope_search.specs.Step.{Refuses, Accepts, Step}

@@ -8,8 +8,8 @@ use Rattle.rope_search_io.specs.Sources.{SourceState, SinkState}
 use Rattle.rope_search_io.specs.ReadBuffer.{to_come, most_to_come}
 use Rattle.rope_search_io.specs.WriteBuffer.{Writes, WritesFront}
 use Rattle.rope_search_reports.specs.Laws.{HasOnePlace, HasReport}
-use Rattle.rope_search.specs.declared.runs.Ended.{Ended}
-use Rattle.rope_search.specs.declared.runs.Ended.TheVariants.{Input, Command, Cut}
+use Rattle.rope_search.specs.declared.endings.Ended.{Ended}
+use Rattle.rope_search.specs.declared.endings.Ended.TheVariants.{Input, Command, Cut}
 use Rattle.rope_search_reports.specs.Ticks.{Ticks}
 use Rattle.rope_search.specs.Session.{first}
 use Rattle.rope_search.specs.Shows.{closing}

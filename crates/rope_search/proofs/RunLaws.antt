@@ -1,7 +1,7 @@
 -- Commands one after the other: how they are spelled, read, run and answered.
 use Rattle.std.proofs.Common.{◌≡◌, ℕ, ◌+◌, List, [], ◌∷◌, ◌++◌, refl, sym, ap, ◌∙◌, subst, inl, inr, add_assoc, append_assoc, append-nil, arith}
-use Rattle.rope_search.specs.declared.runs.Ended.{Ended}
-use Rattle.rope_search.specs.declared.runs.Ended.TheVariants.{Command}
+use Rattle.rope_search.specs.declared.endings.Ended.{Ended}
+use Rattle.rope_search.specs.declared.endings.Ended.TheVariants.{Command}
 use Rattle.rope_search.specs.Order.{Order}
 use Rattle.rope_search.specs.Session.{State}
 use Rattle.rope_search.specs.Step.{Answer, Step}

@@ -1,6 +1,6 @@
 -- What is to be written for an input: a run of steps from the first session, shown.
 use Rattle.std.specs.Prelude.{◌≡◌, ℕ, ◌+◌, List, [], ◌∷◌, ◌++◌}
-use Rattle.rope_search.specs.declared.runs.Ended.{Ended}
+use Rattle.rope_search.specs.declared.endings.Ended.{Ended}
 use Rattle.rope_search.specs.Order.{Order}
 use Rattle.rope_search.specs.Session.{State, first}
 use Rattle.rope_search.specs.Step.{Answer, Step}

@@ -1,8 +1,8 @@
 -- How commands are spelled, and how the bytes of an input are read as commands and an ending.
 use Rattle.std.specs.Prelude.{◌≡◌, ◌≢◌, ℕ, ◌+◌, ◌-◌, ◌*◌, ◌^◌, ◌<◌, ◌≤◌, ◌⊎◌, List, [], ◌∷◌, ◌++◌, length, codes}
 use Rattle.std.specs.List.{AllByRecursion}
-use Rattle.rope_search.specs.declared.runs.Ended.{Ended}
-use Rattle.rope_search.specs.declared.runs.Ended.TheVariants.{Input, Command, Cut}
+use Rattle.rope_search.specs.declared.endings.Ended.{Ended}
+use Rattle.rope_search.specs.declared.endings.Ended.TheVariants.{Input, Command, Cut}
 use Rattle.rope_search.specs.Order.{Order, SetText, EditText, UndoEdit, RedoEdit, PrintText, ForkBuffer, SetPattern, DropPattern, ListMatches, UseBuffer}
 
 -- the number that decimal digits spell after those of n

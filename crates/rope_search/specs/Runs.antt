@@ -6,8 +6,8 @@ use Rattle.rope_search_io.specs.declared.faults.Broken.TheVariants.{Read, Write,
 use Rattle.rope_search_io.specs.Sources.{SourceState, SinkState}
 use Rattle.rope_search_io.specs.ReadBuffer.{Unread, Takes}
 use Rattle.rope_search_io.specs.WriteBuffer.{Writes, WritesFront}
-use Rattle.rope_search.specs.declared.runs.Ended.{Ended}
-use Rattle.rope_search.specs.declared.runs.Ended.TheVariants.{Input, Command, Cut}
+use Rattle.rope_search.specs.declared.endings.Ended.{Ended}
+use Rattle.rope_search.specs.declared.endings.Ended.TheVariants.{Input, Command, Cut}
 use Rattle.rope_search.specs.Order.{Order}
 use Rattle.rope_search_reports.specs.Ticks.{Ticks}
 use Rattle.rope_search.specs.Session.{State, first}

@@ -2,8 +2,8 @@
 use Rattle.std.specs.Prelude.{◌≡◌, ℕ, ◌+◌, List, [], ◌∷◌, ◌++◌, flat_map, length, codes, decimal, Ok, Err}
 use Rattle.rope_search_io.specs.Faults.{word_of}
 use Rattle.rope_search.specs.declared.commands.Reply.TheVariants.{Done, Number, List as Listing, Print}
-use Rattle.rope_search.specs.declared.runs.Ended.{Ended}
-use Rattle.rope_search.specs.declared.runs.Ended.TheVariants.{Input, Command, Cut}
+use Rattle.rope_search.specs.declared.endings.Ended.{Ended}
+use Rattle.rope_search.specs.declared.endings.Ended.TheVariants.{Input, Command, Cut}
 use Rattle.rope_search_reports.specs.Text.{bytes_of}
 use Rattle.rope_search.specs.Session.{State, current_text, chosen_buffer, IsReportIn}
 use Rattle.rope_search_reports.specs.Report.{match_count}

@@ -1,10 +1,11 @@
-//! A regular expression kept live over a text that is edited, undone and forked: commands in,
+//! The matches of a pattern kept live over a text that is edited, undone and forked: commands in,
 //! replies out.
 #![tactic(auto)]
 
 mod buffer;
 mod command_lines;
 mod commands;
+mod endings;
 mod headers;
 mod history;
 pub mod laws;
@@ -21,9 +22,10 @@ mod texts;
 
 pub use buffer::Buffer;
 pub use commands::{Command, CommandOf, Payload, Reply};
+pub use endings::Ended;
 pub use limits::Limits;
 pub use rope_search_io::{Broken, Device, Failed, Fault, MemorySink, MemorySource, Sink, Source};
 pub use rope_search_reports::{Finder, Lines, Position, Row, byte_of, position_of, search_line};
 pub use ropey::Rope;
-pub use runs::{Ended, run, run_limited};
+pub use runs::{run, run_limited};
 pub use session::Session;

@@ -3,10 +3,10 @@ ghost use Rattle.rope_search.specs.Requests.{TakesRequest, TakesRest};
 
 use crate::command_lines::{LINE_LEN, LineRead, read_line};
 use crate::commands::Header;
+use crate::endings::Ended;
 use crate::headers::header_of;
 use crate::limits::Limits;
 use crate::payloads::{Collected, collect};
-use crate::runs::Ended;
 use rope_search_io::{Broken, ReadBuffer, Source};
 use std::alloc::Global;
 

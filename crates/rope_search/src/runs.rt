@@ -3,6 +3,7 @@ ghost use Rattle.std.specs.Prelude.{◌≡◌, ◌+◌, ◌^◌, ◌<◌, ◌≤
 ghost use Rattle.rope_search.specs.Shows.{closing};
 ghost use Rattle.rope_search.specs.Runs.{AnswersWhole, Ran, TakesTurn, Closes};
 
+use crate::endings::Ended;
 use crate::limits::Limits;
 use crate::replies::write_answer;
 use crate::requests::{Request, read_request};
@@ -10,17 +11,6 @@ use crate::session::Session;
 use rope_search_io::{Broken, Failed, ReadBuffer, Sink, Source, WriteBuffer};
 use rope_search_reports::Lines;
 use std::alloc::Global;
-
-/// How an input ended.
-#[derive(Clone, Copy, Debug, PartialEq, Eq)]
-pub enum Ended {
-    /// The input ended before a line's first byte.
-    Input,
-    /// A line was no command. What follows it isn't read as commands.
-    Command,
-    /// The input ended inside a line or a payload. That command did nothing.
-    Cut,
-}
 
 /// Reads commands to the input's end and writes their replies, under the default limits: a text has
 /// at most 1,073,741,824 bytes. What it promises is what `run_limited` does.

@@ -10,7 +10,7 @@ use Rattle.rx_program.specs.Programs.{ByteProgram}
 use Rattle.rx_chunk.specs.Engines.{Finds, IsFound, match_of}
 use Rattle.rx_steps.specs.Searching.{search_of}
 use Rattle.rx_chunk.specs.Iterating.{IsFoundAfter, StartsFrom}
-use Rattle.rx_chunk.specs.Searchers.{SearcherState, Finder, TellsNext, at_once, further, IsEmptyAtLast, StandsAtLast}
+use Rattle.rx_input.specs.Searchers.{SearcherState, Finder, TellsNext, at_once, further, IsEmptyAtLast, StandsAtLast}
 use Rattle.rx_chunk.proofs.IterLaws.{InsideLaw, lies, nothing_after, found_after, moved_after, moved_search, moved_on, set_to}
 
 -- a finder tells what a program finds, and leaves an input of which the same is asked

@@ -19,7 +19,8 @@ use Rattle.rx_walks.specs.Laws.{FindsLieInside, LiesInside}
 use Rattle.rx_program.specs.Programs.{ByteProgram, characters_of}
 use Rattle.rx_chunk.specs.Engines.{Finds, IsFound, match_of}
 use Rattle.rx_steps.specs.Searching.{search_of, anchoring_of}
-use Rattle.rx_chunk.specs.Iterating.{FindsAfter, IsFoundAfter, StartsFrom, MatchesLeft, matches_from, FindsNext, GivesFound, GivesMatch, items_at_most, matches_left, AreMatches, IteratorStep, not_refused}
+use Rattle.rx_input.specs.Searchers.{items_at_most}
+use Rattle.rx_chunk.specs.Iterating.{FindsAfter, IsFoundAfter, StartsFrom, MatchesLeft, matches_from, FindsNext, GivesFound, GivesMatch, matches_left, AreMatches, IteratorStep, not_refused}
 
 -- the law of rx_walks on where finds lie, as a call of `finds_lie_inside` tells it
 abbrev pub InsideLaw : Type 0

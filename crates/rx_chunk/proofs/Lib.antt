@@ -2,5 +2,4 @@ pub mod GroupLaws
 pub mod EngineLaws
 pub mod FoundLaws
 pub mod IterLaws
-pub mod SearcherLaws
 pub mod FinderLaws

@@ -4,7 +4,7 @@ use Rattle.std.specs.Borrow.{MutBor}
 use Rattle.rx_util.specs.declared.search.MatchError.{MatchError}
 use Rattle.rx_util.specs.Search.{Found}
 use Rattle.rx_input.specs.declared.cursor.Cursor.{Ghosts}
-use Rattle.rx_steps.specs.Coming.{CacheView}
+use Rattle.rx_steps.specs.Caches.{CacheView}
 use Rattle.rx_steps.specs.Searching.{search_of}
 use Rattle.rx_chunk.specs.declared.pikevm.find_matches.FindMatches.{FindMatches}
 use Rattle.rx_chunk.specs.Iterating.{MatchesLeft, GivesMatch}

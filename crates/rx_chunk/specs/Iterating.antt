@@ -7,6 +7,7 @@ use Rattle.rx_util.specs.declared.search.MatchError.TheVariants.{Memory}
 use Rattle.rx_util.specs.Search.{Found}
 use Rattle.rx_input.specs.Cursors.{IsSameContent}
 use Rattle.rx_input.specs.Inputs.{InputState}
+use Rattle.rx_input.specs.Searchers.{items_at_most}
 use Rattle.rx_walks.specs.Machines.{Outcome}
 use Rattle.rx_walks.specs.Programs.{Notes}
 use Rattle.rx_walks.specs.Finds.{Search, from_place_on}
@@ -61,13 +62,6 @@ abbrev pub GivesMatch : MatchesLeft → Option (Result Found MatchError) → Mat
 GivesMatch m None n = (m.is_over ≡ false → FindsNext m None) × (n.is_over ≡ true)
 GivesMatch m (Some (Ok a)) n = GivesFound m a n
 GivesMatch m (Some (Err e)) n = (m.is_over ≡ false) × (e ≡ Memory) × (n.is_over ≡ true)
-
--- at most so many items come, with so many bytes ahead: each match but the first ends further on
--- than the one before, and a refusal is the last
-abbrev pub items_at_most : Bool → Bool → ℕ → ℕ
-items_at_most true has_matched ahead = 0
-items_at_most false true ahead = ahead + 1
-items_at_most false false ahead = ahead + 2
 
 abbrev pub matches_left : MatchesLeft → Count
 matches_left m = at_most

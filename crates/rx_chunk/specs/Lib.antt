@@ -1,4 +1,3 @@
 pub mod Engines
 pub mod Iterating
-pub mod Searchers
 pub mod FindMatches

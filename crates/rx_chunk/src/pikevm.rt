@@ -15,15 +15,12 @@ ghost use Rattle.rx_grammar.specs.Postorder.{tree_of};
 ghost use Rattle.rx_input.specs.Cursors.{IsSameContent};
 ghost use Rattle.rx_steps.specs.Nodes.{node_count};
 ghost use Rattle.rx_steps.specs.Searching.{search_of, IsAnswer};
-ghost use Rattle.rx_steps.specs.Coming.{place_count, IsCacheOf};
+ghost use Rattle.rx_steps.specs.Caches.{place_count, IsCacheOf};
 ghost use Rattle.rx_chunk.specs.Engines.{nothing_set, settings_over, AreNamesOf, IsEngine, IsBuiltOf, IsRefused, TellsWhether, IsFound, refusal_of, by_default, AreGroupsOf};
 ghost use Rattle.rx_chunk.specs.Iterating.{IsFoundAfter, StartsFrom, matches_from};
-ghost use Rattle.rx_chunk.specs.Searchers.{EndsInside};
+ghost use Rattle.rx_input.specs.Searchers.{EndsInside};
 ghost use Rattle.rx_chunk.specs.FindMatches.{cache_of, left_of};
 
-use rx_util::{
-    Captures, GroupInfo, Match, MatchError, MatchKind, NonMaxUsize, PatternID, Span,
-};
 use rx_grammar::laws::groups_are_few;
 use rx_grammar::{Hir, SyntaxError, parse, syntax};
 use rx_input::{Cursor, Input};
@@ -31,6 +28,7 @@ use rx_program::laws::matches_note_their_places;
 use rx_program::{BuildError, Program, compile};
 use rx_sets::CharacterSet;
 use rx_steps as search;
+use rx_util::{Captures, GroupInfo, Match, MatchError, MatchKind, NonMaxUsize, PatternID, Span};
 use rx_walks::laws::finds_lie_inside;
 use std::alloc::{AllocError, Global};
 use std::marker::Model;
@@ -343,7 +341,7 @@ pub struct Cache {
 }
 
 impl Model for Cache {
-    ghost use Rattle.rx_steps.specs.Coming.{CacheView};
+    ghost use Rattle.rx_steps.specs.Caches.{CacheView};
 
     ghost Value = { CacheView };
 

@@ -1,7 +1,7 @@
 //! Settings of engines.
 
-use rx_util::MatchKind;
 use rx_chunk::pikevm::Config;
+use rx_util::MatchKind;
 
 /// A setting that isn't set is the default, and one that is set is told.
 #[test]

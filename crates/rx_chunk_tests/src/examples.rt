@@ -1,8 +1,8 @@
 //! An example for each public type.
 
-use rx_util::Span;
 use rx_chunk::pikevm::{self, PikeVM};
 use rx_input::{ChunkCursor, Input};
+use rx_util::Span;
 use std::test::Fail;
 
 /// A match is told with its groups, and then all matches one after the other, in content that lies

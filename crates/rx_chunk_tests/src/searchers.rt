@@ -2,12 +2,12 @@
 
 ghost use Rattle.std.specs.Prelude.{◌≡◌, IfOk};
 ghost use Rattle.std.specs.Option.{ForSome};
-ghost use Rattle.rx_chunk.specs.Searchers.{EndsInside};
+ghost use Rattle.rx_input.specs.Searchers.{EndsInside};
 
-use rx_util::{HalfMatch, Match, MatchError, Span};
-use rx_chunk::iter::Searcher;
 use rx_chunk::pikevm::{self, PikeVM};
 use rx_input::Input;
+use rx_input::iter::Searcher;
+use rx_util::{HalfMatch, Match, MatchError, Span};
 use std::alloc::Global;
 use std::test::Fail;
 

@@ -1,3 +1,4 @@
 pub mod ChunkLemmas
 pub mod PieceLemmas
 pub mod SeenLemmas
+pub mod SearcherLaws

@@ -1,3 +1,4 @@
 pub mod Cursors
 pub mod Chunks
 pub mod Inputs
+pub mod Searchers

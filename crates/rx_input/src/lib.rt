@@ -1,9 +1,10 @@
-//! Contents that lie in pieces, and what a search in one is asked for.
+//! Contents that lie in pieces, what a search in one is asked for, and matches one after the other.
 #![tactic(auto)]
 
 mod chunk_cursor;
 pub mod cursor;
 pub mod input;
+pub mod iter;
 mod look_around;
 mod places;
 

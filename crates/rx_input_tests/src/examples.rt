@@ -1,7 +1,7 @@
 //! An example for each public type of `rx_input`.
 
-use rx_util::{Anchored, Span};
 use rx_input::{ChunkCursor, Cursor, Input};
+use rx_util::{Anchored, Span};
 use std::test::Fail;
 
 /// A content in two chunks, which is walked by pieces.

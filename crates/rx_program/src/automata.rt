@@ -3,8 +3,8 @@
 ghost use Rattle.std.specs.Prelude.{◌≡◌, IsTrue, IfOk};
 ghost use Rattle.rx_utf8.specs.Automata.{IsReader};
 
-use rx_utf8::SetAutomaton;
 use rx_sets::{CharacterSet, Range};
+use rx_utf8::SetAutomaton;
 use std::alloc::{AllocError, Global};
 use std::cmp::Ordering;
 use std::rc::Rc;

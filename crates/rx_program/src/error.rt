@@ -4,8 +4,8 @@ ghost use Rattle.std.specs.Prelude.{◌≡◌, IsTrue, ◌↔◌};
 ghost use Rattle.rx_program.specs.Errors.{pattern_in, limit_in, syntax_in};
 ghost use Rattle.rx_program.specs.declared.error.BuildError.TheVariants.{Memory};
 
-use rx_util::PatternID;
 use rx_grammar::SyntaxError;
+use rx_util::PatternID;
 use std::alloc::AllocError;
 use thiserror::Error;
 

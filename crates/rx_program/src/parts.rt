@@ -10,8 +10,8 @@ ghost use Rattle.rx_program.specs.Jobs.{DoesJob, IsJob, job_size, HasRow, part_a
 
 use crate::compiler::{Compiler, Job, entry_of};
 use crate::states::State;
-use rx_util::StateID;
 use rx_grammar::{Hir, Node, Properties, Repetition};
+use rx_util::StateID;
 use std::alloc::{AllocError, Global};
 
 /// What is known of the part with this root.

@@ -12,8 +12,8 @@ use crate::error::BuildError;
 use crate::program::Program;
 use crate::sizes::{is_too_large, told_limit};
 use crate::states::State;
-use rx_util::{PatternID, StateID};
 use rx_grammar::Hir;
+use rx_util::{PatternID, StateID};
 use std::alloc::{AllocError, Global};
 
 impl Compiler {

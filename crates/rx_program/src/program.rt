@@ -4,8 +4,8 @@ ghost use Rattle.std.specs.Prelude.{◌≡◌, All};
 ghost use Rattle.rx_program.specs.Programs.{ReadsItsSet, characters_of, IsByteProgram, HasWalksOfProgram};
 
 use crate::states::State;
-use rx_util::StateID;
 use rx_sets::CharacterSet;
+use rx_util::StateID;
 use rx_walks::laws::program_walks_agree;
 use std::marker::Model;
 

@@ -4,9 +4,9 @@ ghost use Rattle.std.specs.Prelude.{◌≡◌};
 ghost use Rattle.rx_program.specs.Code.{fork};
 ghost use Rattle.rx_program.specs.Programs.{node_of, ReadsItsSet};
 
+use rx_grammar::Look;
 use rx_utf8::SetAutomaton;
 use rx_util::{PatternID, StateID};
-use rx_grammar::Look;
 use std::rc::Rc;
 
 /// A state of a program, with the states that its edges lead to.

@@ -1,9 +1,9 @@
 //! An example for each public type.
 
-use rx_util::{PatternID, StateID};
 use rx_grammar::syntax::Config;
 use rx_grammar::{SyntaxError, parse};
 use rx_program::{BuildError, State, compile};
+use rx_util::{PatternID, StateID};
 use std::test::Fail;
 
 /// A program: the note of the start, a fork, a letter, the note of the end, and the end.

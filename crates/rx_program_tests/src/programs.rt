@@ -1,9 +1,9 @@
 //! The states of small patterns, spelled out, against the table of programs.
 
-use rx_util::StateID;
 use rx_grammar::syntax::Config;
 use rx_grammar::{Look, parse};
 use rx_program::{State, compile};
+use rx_util::StateID;
 use std::alloc::{AllocError, Global};
 use std::rc::Rc;
 use std::test::Fail;

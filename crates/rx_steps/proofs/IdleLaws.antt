@@ -23,7 +23,7 @@ use Rattle.rx_walks.specs.Steps.{Steps, done, passed, met, opened, read}
 use Rattle.rx_input.specs.Cursors.{CursorState, piece_of}
 use Rattle.rx_steps.specs.declared.place.Looks.{Looks}
 use Rattle.rx_steps.specs.declared.place.Place.{Place}
-use Rattle.rx_steps.specs.Threads.{Slots, Thread, ThreadList, IsThreadOf, first_node, no_slots}
+use Rattle.rx_steps.specs.Threads.{Slots, Thread, ThreadListView, IsThreadOf, first_node, no_slots}
 use Rattle.rx_steps.specs.Lists.{Asks, is_among, IsPlace, IsNextList, MakesMoves, met_at, move_at, read_next, slot_machine}
 use Rattle.rx_steps.specs.Searching.{haystack_in}
 use Rattle.rx_steps.specs.Coming.{machine_in, IsUnderWay}
@@ -303,7 +303,7 @@ one_skipped p s idle i slots free inside lt are (b, is, one) way = elim (begins_
   | inr never ↦ way_passed p s p.start i live [] [] None slots None slots inside refl (inr (λ none. never, refl)) done (All-nil (IsThreadOf p.states)) way
 ]
   where
-    live : ThreadList
+    live : ThreadListView
     live = record { slot_len = length slots; threads = [] }
 
     fresh : Slots

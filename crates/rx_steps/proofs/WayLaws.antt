@@ -11,7 +11,7 @@ use Rattle.rx_walks.specs.Finds.{Search, IsInside}
 use Rattle.rx_walks.specs.ProgramFinds.{highest}
 use Rattle.rx_walks.specs.Steps.{Steps, done, passed, met, opened, read, either}
 use Rattle.rx_program.specs.Programs.{ByteProgram, automata_of, characters_of}
-use Rattle.rx_steps.specs.Threads.{Slots, Thread, ThreadList, IsThreadOf, no_slots, note_slot}
+use Rattle.rx_steps.specs.Threads.{Slots, Thread, ThreadListView, IsThreadOf, no_slots, note_slot}
 use Rattle.rx_steps.specs.Lists.{slot_machine, met_at}
 use Rattle.rx_steps.specs.Searching.{haystack_in}
 use Rattle.rx_steps.specs.Coming.{HasSlots, machine_in, HasCome, HasStarted, IsUnderWay}
@@ -111,7 +111,7 @@ alone None = refl
 alone (Some t) = refl
 
 -- the threads of which a step is made have so many slots
-all_started : (s : Search) (q i len : ℕ) (pattern : Option ℕ) (live : ThreadList) (threads : List Thread) → live.slot_len ≡ len → HasStarted s q i pattern live threads
+all_started : (s : Search) (q i len : ℕ) (pattern : Option ℕ) (live : ThreadListView) (threads : List Thread) → live.slot_len ≡ len → HasStarted s q i pattern live threads
     → All (HasSlots len) live.threads → All (HasSlots len) threads
 all_started s q i len pattern live threads e (inl begun) all =
     let fresh : All (HasSlots len) ((no_slots live.slot_len, (q, 0)) ∷ []) =
@@ -119,7 +119,7 @@ all_started s q i len pattern live threads e (inl begun) all =
     subst (All (HasSlots len)) (sym begun.2) (All-append (HasSlots len) live.threads ((no_slots live.slot_len, (q, 0)) ∷ []) all fresh)
 all_started s q i len pattern live threads e (inr waits) all = subst (All (HasSlots len)) (sym waits.1) all
 
-come_on : (p : ByteProgram) (s : Search) (q i : ℕ) (live : ThreadList) (threads next : List Thread) (pattern : Option ℕ) (end : ℕ) (slots : Slots) (ended : Option (Outcome Slots))
+come_on : (p : ByteProgram) (s : Search) (q i : ℕ) (live : ThreadListView) (threads next : List Thread) (pattern : Option ℕ) (end : ℕ) (slots : Slots) (ended : Option (Outcome Slots))
     → live.slot_len ≡ length slots → HasStarted s q i pattern live threads → Steps (machine_in p s) i [] threads next ended
     → HasCome (machine_in p s) s q (no_slots (length slots)) i live.threads (met_at end pattern slots)
     → HasCome (machine_in p s) s q (no_slots (length slots)) (i + 1) next (either ended (met_at end pattern slots))
@@ -137,7 +137,7 @@ come_on p s q i live threads next pattern end slots ended e (inr waits) steps co
     passed_on m s q (no_slots (length slots)) i live.threads next (met_at end pattern slots) ended (λ none. waits.0 (no_pattern end pattern slots none))
     (subst (λ xs. Steps m i [] xs next ended) waits.1 steps) come
 
-pub way_passed : (p : ByteProgram) (s : Search) (q i : ℕ) (live : ThreadList) (threads next : List Thread) (pattern : Option ℕ) (slots : Slots) (k : Option ℕ) (noted : Slots)
+pub way_passed : (p : ByteProgram) (s : Search) (q i : ℕ) (live : ThreadListView) (threads next : List Thread) (pattern : Option ℕ) (slots : Slots) (k : Option ℕ) (noted : Slots)
     → IsInside s i → live.slot_len ≡ length slots → HasStarted s q i pattern live threads → Steps (machine_in p s) i [] threads next (met_at i k noted) → All (IsThreadOf p.states) next
     → IsUnderWay p s q i live.threads pattern slots → IsUnderWay p s q (i + 1) next (pattern_after k pattern) (slots_after k noted slots)
 way_passed p s q i live threads next pattern slots None noted inside e started steps nodes way =
@@ -166,7 +166,7 @@ way_passed p s q i live threads next pattern slots (Some k) noted inside e start
     }
 
 -- the slots of an end are as many
-pub noted_len : (p : ByteProgram) (s : Search) (q i : ℕ) (live : ThreadList) (threads next : List Thread) (pattern : Option ℕ) (slots : Slots) (k : ℕ) (noted : Slots)
+pub noted_len : (p : ByteProgram) (s : Search) (q i : ℕ) (live : ThreadListView) (threads next : List Thread) (pattern : Option ℕ) (slots : Slots) (k : ℕ) (noted : Slots)
     → live.slot_len ≡ length slots → HasStarted s q i pattern live threads → Steps (machine_in p s) i [] threads next (met_at i (Some k) noted) → All (HasSlots (length slots)) live.threads → length slots ≡ length noted
 noted_len p s q i live threads next pattern slots k noted e started steps all =
     sym (slots_stay p (haystack_in p.line_terminator s) i (length slots) steps (all_started s q i (length slots) pattern live threads e started all)).1

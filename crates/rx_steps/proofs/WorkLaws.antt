@@ -3,7 +3,7 @@ use Rattle.std.proofs.Common.{◌≡◌, ℕ, ◌+◌, ◌-◌, ◌*◌, ◌≤�
 use Rattle.std.proofs.Math.Nat.{mul-le-mul_left}
 use Rattle.rx_walks.specs.Finds.{Search, IsInside}
 use Rattle.rx_walks.specs.ProgramFinds.{lowest, highest}
-use Rattle.rx_steps.specs.Coming.{place_count}
+use Rattle.rx_steps.specs.Caches.{place_count}
 
 -- nothing was done yet
 pub none_done : (nodes before first : ℕ) → before ≤ before + nodes * (first - first)

@@ -1,17 +1,14 @@
 -- How far a search through a program has come.
-use Rattle.std.specs.Prelude.{◌≡◌, ℕ, ◌+◌, ◌-◌, ◌<◌, ◌⊎◌, Bool, false, All, List, [], ◌∷◌, ◌++◌, length, Option, None}
-use Rattle.rx_walks.specs.Looks as walks
+use Rattle.std.specs.Prelude.{◌≡◌, ℕ, ◌<◌, ◌⊎◌, All, List, [], ◌∷◌, ◌++◌, length, Option, None}
 use Rattle.rx_walks.specs.Finds.{Search}
 use Rattle.rx_walks.specs.Laws.{Begins}
 use Rattle.rx_walks.specs.Machines.{Machine, Outcome}
-use Rattle.rx_walks.specs.ProgramFinds.{lowest, highest}
+use Rattle.rx_walks.specs.ProgramFinds.{highest}
 use Rattle.rx_walks.specs.Steps.{Searches}
 use Rattle.rx_program.specs.Programs.{ByteProgram}
-use Rattle.rx_steps.specs.Nodes.{widths_of}
-use Rattle.rx_steps.specs.Threads.{Slots, Thread, ThreadList, IsThreadOf, no_slots}
-use Rattle.rx_steps.specs.Lists.{Asks, slot_machine, met_at}
+use Rattle.rx_steps.specs.Threads.{Slots, Thread, ThreadListView, IsThreadOf, no_slots}
+use Rattle.rx_steps.specs.Lists.{slot_machine, met_at}
 use Rattle.rx_steps.specs.Searching.{haystack_in}
-use Rattle.rx_steps.specs.Idle.{AreIdle}
 
 abbrev pub HasSlots : ℕ → Thread → Type 0
 HasSlots len thread = length thread.0 ≡ len
@@ -19,31 +16,6 @@ HasSlots len thread = length thread.0 ≡ len
 -- the machine of a program in a search
 abbrev pub machine_in : ByteProgram → Search → Machine (ℕ × ℕ) Slots
 machine_in p s = slot_machine p (haystack_in p.line_terminator s)
-
--- at how many places walks may stand in a search
-abbrev pub place_count : Search → ℕ
-place_count s = highest s + 1 - lowest s
-
--- how many nodes each state is of the program that a cache was made for, whether that program asks
--- for looks, before which bytes its walks are known to come to nothing, and how many nodes searches
--- have followed with the cache so far
-pub record CacheView : Type 0 where
-  pub widths : List ℕ
-  pub asks_looks : Bool
-  pub idle : List Bool
-  pub followed : ℕ
-
--- they are those of this program: where no look is asked for, no state asks for one, and before the
--- bytes that are known no match begins
-pub record AreOfProgram (p : ByteProgram) (widths : List ℕ) (asks_looks : Bool) (idle : List Bool)
-    : Type 0 where
-  pub widths_are : widths ≡ widths_of p
-  pub looks : asks_looks ≡ false → (l : walks.Look) → Asks p.states l → ⊥
-  pub are_idle : AreIdle p idle
-
--- a cache made for a program
-abbrev pub IsCacheOf : ByteProgram → CacheView → Type 0
-IsCacheOf p cache = AreOfProgram p cache.widths cache.asks_looks cache.idle
 
 -- a search has come to a place with these threads, and this end was met last: what it comes to from
 -- there on is what it comes to at all
@@ -67,7 +39,7 @@ pub record IsUnderWay (p : ByteProgram) (s : Search) (q i : ℕ) (live : List Th
 
 -- at a place a walk starts after the threads that live, if no end was met and a match may begin
 -- there
-abbrev pub HasStarted : Search → ℕ → ℕ → Option ℕ → ThreadList → List Thread → Type 0
+abbrev pub HasStarted : Search → ℕ → ℕ → Option ℕ → ThreadListView → List Thread → Type 0
 HasStarted s q i met live threads =
     ((met ≡ None) × Begins s i × (threads ≡ live.threads ++ (no_slots live.slot_len, (q, 0)) ∷ []))
     ⊎ ((met ≡ None → Begins s i → ⊥) × (threads ≡ live.threads))

@@ -5,4 +5,5 @@ pub mod Lists
 pub mod Sides
 pub mod Searching
 pub mod Idle
+pub mod Caches
 pub mod Coming

@@ -16,7 +16,7 @@ abbrev pub Thread : Type 0
 Thread = Slots × (ℕ × ℕ)
 
 -- threads in order of preference, and how many slots each has
-pub record ThreadList : Type 0 where
+pub record ThreadListView : Type 0 where
   pub slot_len : ℕ
   pub threads : List Thread
 

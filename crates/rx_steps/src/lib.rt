@@ -10,11 +10,11 @@ mod place;
 mod search;
 mod sides;
 mod stepper;
-mod threads;
+mod thread_list;
 mod visited;
 
 pub use node::Node;
 pub use place::{Looks, Place};
 pub use search::{Cache, search_slots};
 pub use stepper::Stepper;
-pub use threads::Threads;
+pub use thread_list::ThreadList;

@@ -10,9 +10,9 @@ ghost use Rattle.rx_program.specs.Code.{place_of};
 ghost use Rattle.rx_steps.specs.Lists.{is_among, Asks, HoldBetween, IsPlace};
 
 use crate::sides::Side;
-use rx_util::NonMaxUsize;
 use rx_grammar::Look;
 use rx_input::{Cursor, Input};
+use rx_util::NonMaxUsize;
 use rx_walks::laws::four_bytes_tell;
 
 /// Which looks hold at a place.

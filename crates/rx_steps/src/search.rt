@@ -16,17 +16,18 @@ ghost use Rattle.rx_steps.specs.Nodes.{node_count};
 ghost use Rattle.rx_steps.specs.Idle.{IsPassedAt};
 ghost use Rattle.rx_steps.specs.Threads.{Slots, IsThreadOf, no_slots, first_node};
 ghost use Rattle.rx_steps.specs.Searching.{search_of, anchoring_of, IsAnswer};
-ghost use Rattle.rx_steps.specs.Coming.{machine_in, place_count, AreOfProgram, IsCacheOf, HasStarted, IsUnderWay, IsOver};
+ghost use Rattle.rx_steps.specs.Caches.{AreOfProgram, IsCacheOf, place_count};
+ghost use Rattle.rx_steps.specs.Coming.{machine_in, HasStarted, IsUnderWay, IsOver};
 
 use crate::idle::{IdleBytes, last_place, skip};
 use crate::node::Node;
 use crate::place::Place;
 use crate::stepper::Stepper;
-use crate::threads::Threads;
-use rx_util::{Anchored, MatchError, NonMaxUsize, PatternID, StateID};
+use crate::thread_list::ThreadList;
 use rx_input::{Cursor, Input};
 use rx_program::{Program, State};
 use rx_sets::CharacterSet;
+use rx_util::{Anchored, MatchError, NonMaxUsize, PatternID, StateID};
 use rx_walks::laws::program_is_searched_keeping;
 use std::alloc::{AllocError, Global};
 use std::marker::Model;
@@ -97,7 +98,7 @@ fn begins<C: Cursor>(input: &Input<C>, utf8_empty: bool) -> bool
 }
 
 /// Whether there is one thread alone, at a program's start.
-fn is_fresh(program: &Program, threads: &Threads) -> bool
+fn is_fresh(program: &Program, threads: &ThreadList) -> bool
     ensures { result ≡ true → (slots : Slots)
         × (threads.now.threads ≡ (slots, first_node program.now.start) ∷ []) }
 {
@@ -109,7 +110,12 @@ fn is_fresh(program: &Program, threads: &Threads) -> bool
 
 /// Whether a step of these threads was one of a walk alone, from a program's start, and came to
 /// nothing.
-fn came_to_nothing(program: &Program, threads: &Threads, next: &Threads, has_ended: bool) -> bool
+fn came_to_nothing(
+    program: &Program,
+    threads: &ThreadList,
+    next: &ThreadList,
+    has_ended: bool,
+) -> bool
     ensures fresh { result ≡ true → (slots : Slots)
         × (threads.now.threads ≡ (slots, first_node program.now.start) ∷ []) }
     ensures nothing { result ≡ true → (next.now.threads ≡ []) × (has_ended ≡ false) }
@@ -126,9 +132,9 @@ struct Walks {
     // Bytes before which no match begins, as far as searches have met them.
     idle: IdleBytes,
     // The threads at the place, in order of preference.
-    live: Threads,
+    live: ThreadList,
     // Room for those at the next place.
-    next: Threads,
+    next: ThreadList,
     // The pattern whose end was met last.
     met: Option<PatternID>,
 }
@@ -315,7 +321,7 @@ pub struct Cache {
 }
 
 impl Model for Cache {
-    ghost use Rattle.rx_steps.specs.Coming.{CacheView};
+    ghost use Rattle.rx_steps.specs.Caches.{CacheView};
 
     ghost Value = { CacheView };
 
@@ -339,8 +345,8 @@ impl Cache {
                 stepper: Stepper::new(alloc, program)?,
                 asks_looks: asks_looks(program.states()),
                 idle: IdleBytes::new(),
-                live: Threads::new(alloc, 0),
-                next: Threads::new(alloc, 0),
+                live: ThreadList::new(alloc, 0),
+                next: ThreadList::new(alloc, 0),
                 met: None,
             },
         })

@@ -12,11 +12,11 @@ ghost use Rattle.rx_steps.specs.Lists.{IsNextList, IsMade, move_at, noted_at, fa
 use crate::node::Node;
 use crate::pending::Pending;
 use crate::place::Place;
-use crate::threads::Threads;
+use crate::thread_list::ThreadList;
 use crate::visited::Visited;
+use rx_program::{Program, State};
 use rx_utf8::SetAutomaton;
 use rx_util::{MatchError, NonMaxUsize, PatternID, StateID};
-use rx_program::{Program, State};
 use std::alloc::{AllocError, Global};
 use std::marker::Model;
 
@@ -37,7 +37,7 @@ fn read(
     place: &Place,
     node: Node,
     slots: &[Option<NonMaxUsize>],
-    next: &mut Threads,
+    next: &mut ThreadList,
 ) -> Result<(), AllocError>
     requires slots { length slots.now ≡ next.old.slot_len }
     ensures made { OnOk result ((i : ℕ) → (noted : Slots) → (w : Waiting)
@@ -68,7 +68,7 @@ fn make_move(
     state: &State,
     place: &Place,
     node: Node,
-    next: &mut Threads,
+    next: &mut ThreadList,
 ) -> Result<Option<PatternID>, AllocError>
     requires slots { length pending.old.slots ≡ next.old.slot_len }
     ensures made { IfOk result (λ met. (i : ℕ) → IsMade (move_at place.now i node state.now)
@@ -118,7 +118,7 @@ impl Closure {
         program: &Program,
         place: &Place,
         node: Node,
-        next: &mut Threads,
+        next: &mut ThreadList,
     ) -> Result<Option<PatternID>, AllocError>
         requires made { self.old.visited.widths ≡ widths_of program.now }
         requires node { IsNodeOf program.now.states node }
@@ -160,7 +160,7 @@ impl Closure {
         place: &Place,
         slots: &[Option<NonMaxUsize>],
         node: Node,
-        next: &mut Threads,
+        next: &mut ThreadList,
     ) -> Result<Option<PatternID>, AllocError>
         requires made { self.old.visited.widths ≡ widths_of program.now }
         requires node { IsNodeOf program.now.states node }
@@ -255,8 +255,8 @@ impl Stepper {
         &mut self,
         program: &Program,
         place: &Place,
-        threads: &Threads,
-        next: &mut Threads,
+        threads: &ThreadList,
+        next: &mut ThreadList,
     ) -> Result<Option<PatternID>, MatchError>
         requires made { self.old.widths ≡ widths_of program.now }
         requires threads { All (IsThreadOf program.now.states) threads.now.threads }

@@ -6,8 +6,8 @@ ghost use Rattle.rx_steps.specs.Nodes.{widths_of, width_of, starts_from, end_fro
 
 use crate::followed::Followed;
 use crate::node::Node;
-use rx_util::{MatchError, SparseSet, StateID};
 use rx_program::{Program, State};
+use rx_util::{MatchError, SparseSet, StateID};
 use std::alloc::{AllocError, Global};
 use std::marker::Model;
 use std::mem::size_of;

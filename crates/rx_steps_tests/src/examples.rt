@@ -1,11 +1,11 @@
 //! An example for each public type.
 
 use crate::places::before;
-use rx_util::{NonMaxUsize, PatternID, StateID};
 use rx_grammar::syntax::Config;
 use rx_grammar::{Look, parse};
 use rx_program::compile;
-use rx_steps::{Node, Stepper, Threads};
+use rx_steps::{Node, Stepper, ThreadList};
+use rx_util::{NonMaxUsize, PatternID, StateID};
 use std::alloc::Global;
 use std::test::Fail;
 
@@ -35,7 +35,7 @@ fn node(rt: HostRuntime) -> Result<(), Fail> {
 fn threads(rt: HostRuntime) -> Result<(), Fail> {
     let alloc = rt.alloc();
     let node = Node::first(StateID::new(3));
-    let mut threads = Threads::new(alloc, 2);
+    let mut threads = ThreadList::new(alloc, 2);
     threads.push(node, &[NonMaxUsize::new(5), None])?;
     threads.push(Node::new(StateID::new(4), 1), &[None, NonMaxUsize::new(6)])?;
     assert_eq!(rt; threads.len(), 2);
@@ -55,9 +55,9 @@ fn two_steps(alloc: Global) -> Result<(Stepper, usize, [Option<PatternID>; 2]), 
     let hir = parse(alloc, "a(b)?", &Config::new())?;
     let program = compile(alloc, &[&hir], b'\n', None)?;
     let mut stepper = Stepper::new(alloc, &program)?;
-    let mut threads = Threads::new(alloc, 4);
+    let mut threads = ThreadList::new(alloc, 4);
     threads.push(Node::first(program.start()), &[None; 4])?;
-    let mut next = Threads::new(alloc, 4);
+    let mut next = ThreadList::new(alloc, 4);
     let first = stepper.next_list(&program, &before(7, Some(b'a')), &threads, &mut next)?;
     let living = next.len();
     let second = stepper.next_list(&program, &before(8, None), &next, &mut threads)?;

@@ -2,10 +2,10 @@
 
 ghost use Rattle.std.specs.Prelude.{◌+◌, ◌<◌, ◌^◌};
 
-use rx_util::NonMaxUsize;
 use rx_grammar::Look;
 use rx_input::{ChunkCursor, Input};
 use rx_steps::{Looks, Place};
+use rx_util::NonMaxUsize;
 use std::alloc::Global;
 use std::test::Fail;
 

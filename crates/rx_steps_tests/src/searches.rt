@@ -2,15 +2,15 @@
 
 ghost use Rattle.std.specs.Prelude.{◌<◌, ◌^◌, length};
 ghost use Rattle.rx_input.specs.Chunks.{joined};
-ghost use Rattle.rx_steps.specs.Coming.{IsCacheOf};
+ghost use Rattle.rx_steps.specs.Caches.{IsCacheOf};
 
 use crate::slots::spelled;
-use rx_util::{Anchored, NonMaxUsize, PatternID};
 use rx_grammar::parse;
 use rx_grammar::syntax::Config;
 use rx_input::{ChunkCursor, Cursor, Input};
 use rx_program::{Program, compile};
 use rx_steps::{Cache, search_slots};
+use rx_util::{Anchored, NonMaxUsize, PatternID};
 use std::alloc::Global;
 use std::test::Fail;
 

@@ -1,11 +1,11 @@
 //! Slots that are noted, put back, and told at a match.
 
 use crate::places::before;
-use rx_util::NonMaxUsize;
 use rx_grammar::parse;
 use rx_grammar::syntax::Config;
 use rx_program::compile;
-use rx_steps::{Node, Stepper, Threads};
+use rx_steps::{Node, Stepper, ThreadList};
+use rx_util::NonMaxUsize;
 use std::alloc::Global;
 use std::test::Fail;
 
@@ -36,9 +36,9 @@ fn slots_of(
     let hir = parse(alloc, pattern, &Config::new())?;
     let program = compile(alloc, &[&hir], b'\n', None)?;
     let mut stepper = Stepper::new(alloc, &program)?;
-    let mut threads = Threads::new(alloc, fresh.len());
+    let mut threads = ThreadList::new(alloc, fresh.len());
     threads.push(Node::first(program.start()), fresh)?;
-    let mut next = Threads::new(alloc, 0);
+    let mut next = ThreadList::new(alloc, 0);
     let _ = stepper.next_list(&program, &before(0, Some(first)), &threads, &mut next)?;
     let met = stepper.next_list(&program, &before(1, second), &next, &mut threads)?;
     if met.is_none() {

@@ -1,7 +1,7 @@
 //! Automata against the members of their sets.
 
-use rx_utf8::SetAutomaton;
 use rx_sets::{AtomSets, CharacterSet, ClassItem, ClassPerlKind, from_ordinal, ordinal};
+use rx_utf8::SetAutomaton;
 use std::alloc::Global;
 use std::rc::Rc;
 use std::str;

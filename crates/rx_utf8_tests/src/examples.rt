@@ -1,7 +1,7 @@
 //! An example for each public type.
 
-use rx_utf8::{ByteRange, SetAutomaton};
 use rx_sets::AtomSets;
+use rx_utf8::{ByteRange, SetAutomaton};
 use std::test::Fail;
 
 /// A set's automaton: U+00E9 is C3 A9 in UTF-8.

@@ -1,15 +1,15 @@
 //! One case: a pattern searched for in a haystack that lies in pieces.
 
 ghost use Rattle.std.specs.Prelude.{◌≡◌, ◌^◌, ◌<◌, ◌≤◌, IfOk, OnOk, length};
-ghost use Rattle.rx_steps.specs.Coming.{IsCacheOf};
+ghost use Rattle.rx_steps.specs.Caches.{IsCacheOf};
 ghost use Rattle.rx_input.specs.Chunks.{joined};
 
 use hex::FromHexError;
-use rx_util::{Anchored, Captures, Match, MatchError, PatternID, Span};
 use rx_chunk::pikevm::{self, Builder, Cache, Config, PikeVM};
 use rx_grammar::syntax;
 use rx_input::{ChunkCursor, Input};
 use rx_program::BuildError;
+use rx_util::{Anchored, Captures, Match, MatchError, PatternID, Span};
 use std::alloc::{AllocError, Global};
 use thiserror::Error;
 

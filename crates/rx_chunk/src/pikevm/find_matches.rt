@@ -1,11 +1,11 @@
 //! The iterator over an engine's matches.
 
-ghost use Rattle.rx_steps.specs.Coming.{IsCacheOf};
+ghost use Rattle.rx_steps.specs.Caches.{IsCacheOf};
 
 use super::{Cache, PikeVM, find_next};
-use rx_util::{Match, MatchError};
 use rx_input::{Cursor, Input};
 use rx_sets::CharacterSet;
+use rx_util::{Match, MatchError};
 use rx_walks::laws::finds_lie_inside;
 use std::iter::FusedIterator;
 

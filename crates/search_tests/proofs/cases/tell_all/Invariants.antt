@@ -1,5 +1,5 @@
 use Rattle.std.proofs.Common.{◌≡◌, ◌≤◌, length}
-use Rattle.rx_steps.specs.Coming.{IsCacheOf}
+use Rattle.rx_steps.specs.Caches.{IsCacheOf}
 use Rattle.search_tests.proofs.cases.tell_all.Given as goal
 
 -- the cache and the captures serve the engine

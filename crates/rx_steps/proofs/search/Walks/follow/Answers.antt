@@ -2,7 +2,8 @@ use Rattle.std.proofs.Common.{◌≡◌, ◌+◌, ◌-◌, length, ◌<◌, ◌�
 use Rattle.rx_walks.specs.Finds.{IsInside, unanchored, is_anchored}
 use Rattle.rx_walks.specs.ProgramFinds.{highest}
 use Rattle.rx_steps.specs.Searching.{search_of, anchoring_of}
-use Rattle.rx_steps.specs.Coming.{place_count, IsUnderWay}
+use Rattle.rx_steps.specs.Caches.{place_count}
+use Rattle.rx_steps.specs.Coming.{IsUnderWay}
 use Rattle.rx_steps.specs.Nodes.{node_count}
 use Rattle.rx_steps.proofs.WorkLaws.{none_done, one_more, is_among_places, next_done, come_so_far}
 use Rattle.rx_steps.proofs.IdleLaws.{AreSkipped, unanchored_start, way_skipped}

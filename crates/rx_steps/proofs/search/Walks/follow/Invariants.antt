@@ -3,7 +3,8 @@ use Rattle.rx_walks.specs.Finds.{IsInside}
 use Rattle.rx_input.specs.Cursors.{IsSameContent}
 use Rattle.rx_steps.specs.Nodes.{node_count}
 use Rattle.rx_steps.specs.Searching.{search_of}
-use Rattle.rx_steps.specs.Coming.{AreOfProgram, IsUnderWay}
+use Rattle.rx_steps.specs.Caches.{AreOfProgram}
+use Rattle.rx_steps.specs.Coming.{IsUnderWay}
 use Rattle.rx_steps.proofs.search.Walks.follow.Given as goal
 
 -- the search has come to the place at which the input stands

@@ -1,7 +1,7 @@
 use Rattle.std.proofs.Common.{◌≡◌, ◌<◌, length, get_or, sym, ap, ◌∙◌, arith, vec_len}
 use Rattle.std.proofs.lemmas.Grind.{common_steps}
 use Rattle.rx_steps.proofs.ThreadLaws.{thread_len, thread_node}
-use Rattle.rx_steps.proofs.threads.Threads.node.Goals as goal
+use Rattle.rx_steps.proofs.thread_list.ThreadList.node.Goals as goal
 
 pub index-requires : goal.index-requires
 index-requires c =

@@ -1,7 +1,7 @@
 use Rattle.std.proofs.Common.{◌++◌, ◌∷◌, [], None, refl, ap, ◌∙◌, arith, append_assoc}
 use Rattle.rx_steps.specs.Threads.{no_slots}
 use Rattle.rx_steps.proofs.ThreadLaws.{no_slots_more}
-use Rattle.rx_steps.proofs.threads.push_fresh_parts.Goals as goal
+use Rattle.rx_steps.proofs.thread_list.push_fresh_parts.Goals as goal
 
 pub loop-preserved : goal.loop-preserved
 loop-preserved c =

@@ -1,10 +1,11 @@
 //! Matches one after the other.
 
 ghost use Rattle.std.specs.Prelude.{◌≡◌, ◌+◌, ◌^◌, ◌<◌, ◌≤◌, None, Some, true, false};
-ghost use Rattle.rx_chunk.specs.Searchers.{Advances, GivesItem, HasPassed, IsAtLast, IsEmptyAtLast, IsSetTo, StandsAtLast, StaysInside, end_of_half, end_of_match, half_matches_left, finder_of};
+ghost use Rattle.rx_input.specs.Searchers.{Advances, GivesItem, HasPassed, IsAtLast, IsEmptyAtLast, IsSetTo, StandsAtLast, StaysInside, end_of_half, end_of_match, half_matches_left, finder_of};
 
+use crate::cursor::Cursor;
+use crate::input::Input;
 use rx_util::{HalfMatch, Match, MatchError};
-use rx_input::{Cursor, Input};
 use std::marker::Model;
 
 /// What a searcher goes through: an `Input`, over any cursor.
@@ -48,7 +49,7 @@ pub struct Searcher<I: Searched> {
 }
 
 impl<I: Searched> Model for Searcher<I> {
-    ghost use Rattle.rx_chunk.specs.Searchers.{SearcherState};
+    ghost use Rattle.rx_input.specs.Searchers.{SearcherState};
 
     ghost Value = { SearcherState };
 

@@ -1,7 +1,7 @@
 use Rattle.std.proofs.Common.{◌≡◌, length, sym, ap, ◌∙◌, arith, vec_len}
 use Rattle.std.proofs.lemmas.Grind.{common_steps}
 use Rattle.rx_steps.proofs.ThreadLaws.{thread_len}
-use Rattle.rx_steps.proofs.threads.Threads.len.Goals as goal
+use Rattle.rx_steps.proofs.thread_list.ThreadList.len.Goals as goal
 
 pub returns : goal.returns
 returns c =

@@ -6,7 +6,6 @@ use Rattle.std.specs.Iterator.{Count, at_most}
 use Rattle.rx_util.specs.declared.search.MatchError.{MatchError}
 use Rattle.rx_util.specs.Search.{Found, HalfFound}
 use Rattle.rx_input.specs.Inputs.{InputState, HasSpan}
-use Rattle.rx_chunk.specs.Iterating.{items_at_most}
 
 -- an input, whose span starts where the last match ended, and that end, if there was a match
 pub record SearcherState : Type 0 where
@@ -88,6 +87,13 @@ end_of_half a = a.offset
 -- the span starts where the last match ended
 abbrev pub StandsAtLast : SearcherState → Type 0
 StandsAtLast s = (end : ℕ) → s.last_match_end ≡ Some end → s.input.asked.span.start ≡ end
+
+-- at most so many items come, with so many bytes ahead: each match but the first ends further on
+-- than the one before, and a refusal is the last
+abbrev pub items_at_most : Bool → Bool → ℕ → ℕ
+items_at_most true has_matched ahead = 0
+items_at_most false true ahead = ahead + 1
+items_at_most false false ahead = ahead + 2
 
 -- how many half matches come at most, where the span starts at the last one's end
 abbrev pub half_matches_left : SearcherState → Bool → Count

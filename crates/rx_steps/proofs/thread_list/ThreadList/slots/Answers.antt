@@ -1,6 +1,6 @@
 use Rattle.std.proofs.Common.{◌≡◌, ◌<◌, ◌≤◌, ◌+◌, ◌*◌, length, get_or, take, drop, sym, ap, ◌∙◌, arith}
 use Rattle.rx_steps.proofs.ThreadLaws.{thread_len, thread_slots, thread_room}
-use Rattle.rx_steps.proofs.threads.Threads.slots.Goals as goal
+use Rattle.rx_steps.proofs.thread_list.ThreadList.slots.Goals as goal
 
 pub part-requires : goal.part-requires
 part-requires c =

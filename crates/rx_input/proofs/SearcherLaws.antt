@@ -4,8 +4,7 @@ use Rattle.std.specs.Iterator.{size}
 use Rattle.rx_util.specs.declared.search.MatchError.{MatchError}
 use Rattle.rx_util.specs.Search.{HalfFound}
 use Rattle.rx_input.specs.Inputs.{InputState}
-use Rattle.rx_chunk.specs.Iterating.{items_at_most}
-use Rattle.rx_chunk.specs.Searchers.{SearcherState, Finder, IsSetTo, HasPassed, EndsInside, StaysInside, TellsNext, at_once, further, Advances, IsAtLast, end_of_half, StandsAtLast, half_matches_left}
+use Rattle.rx_input.specs.Searchers.{SearcherState, Finder, IsSetTo, HasPassed, EndsInside, StaysInside, TellsNext, at_once, further, Advances, IsAtLast, end_of_half, StandsAtLast, items_at_most, half_matches_left}
 
 module _ {F A : Type 0} (tells : Finder F A) (end : A → ℕ) (passes : Option ℕ → A → Type 0) (p q : F) (old new : SearcherState) where
   -- ---- by one call

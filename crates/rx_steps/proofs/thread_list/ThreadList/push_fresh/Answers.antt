@@ -3,7 +3,7 @@ use Rattle.std.proofs.lemmas.List.{length-append, length-replicate}
 use Rattle.rx_steps.specs.Threads.{threads_of}
 use Rattle.rx_steps.specs.Threads.{no_slots}
 use Rattle.rx_steps.proofs.ThreadLaws.{thread_put, more_slots}
-use Rattle.rx_steps.proofs.threads.Threads.push_fresh.Goals as goal
+use Rattle.rx_steps.proofs.thread_list.ThreadList.push_fresh.Goals as goal
 
 pub invariant_of-self : goal.invariant_of-self
 invariant_of-self c =

@@ -1,6 +1,6 @@
 use Rattle.std.proofs.Common.{◌≡◌, ◌≤◌, ◌++◌}
 use Rattle.rx_steps.specs.Threads.{no_slots}
-use Rattle.rx_steps.proofs.threads.push_fresh_parts.Given as goal
+use Rattle.rx_steps.proofs.thread_list.push_fresh_parts.Given as goal
 
 -- so many slots were put at the end
 abbrev pub invariant-loop : goal.invariant-loop

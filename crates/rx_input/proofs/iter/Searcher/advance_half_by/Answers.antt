@@ -1,9 +1,9 @@
 use Rattle.std.proofs.Common.{Some, None, Ok, Err, refl, sym, ap, subst, ◌∙◌, arith}
 use Rattle.std.proofs.RetainMut.{Called-Mut}
 use Rattle.std.proofs.lemmas.Result.{err_from_is_err_and}
-use Rattle.rx_chunk.specs.Searchers.{SearcherState, HasPassed, finder_of, Advances, IsAtLast, end_of_half}
-use Rattle.rx_chunk.proofs.SearcherLaws.{err_told, none_told, found_told, err_further, none_further, found_further, may_start}
-use Rattle.rx_chunk.proofs.iter.Searcher.advance_half_by.Goals as goal
+use Rattle.rx_input.specs.Searchers.{SearcherState, HasPassed, finder_of, Advances, IsAtLast, end_of_half}
+use Rattle.rx_input.proofs.SearcherLaws.{err_told, none_told, found_told, err_further, none_further, found_further, may_start}
+use Rattle.rx_input.proofs.iter.Searcher.advance_half_by.Goals as goal
 
 -- ---- by one call
 pub returns-in_err-found-clause-advances : goal.returns-in_err-found-clause-advances

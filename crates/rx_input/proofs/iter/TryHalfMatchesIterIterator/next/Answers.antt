@@ -1,8 +1,8 @@
 use Rattle.std.proofs.Common.{◌<◌, true, inl, inr, refl, sym, subst}
 use Rattle.std.specs.Iterator.{size}
-use Rattle.rx_chunk.specs.Searchers.{finder_of, half_matches_left}
-use Rattle.rx_chunk.proofs.SearcherLaws.{half_fewer, half_stands, some_left}
-use Rattle.rx_chunk.proofs.iter.TryHalfMatchesIterIterator.next.Goals as goal
+use Rattle.rx_input.specs.Searchers.{finder_of, half_matches_left}
+use Rattle.rx_input.proofs.SearcherLaws.{half_fewer, half_stands, some_left}
+use Rattle.rx_input.proofs.iter.TryHalfMatchesIterIterator.next.Goals as goal
 
 -- ---- nothing comes any more
 pub returns-then-self-clause-steps : goal.returns-then-self-clause-steps

@@ -1,9 +1,9 @@
 use Rattle.std.proofs.Common.{Some, None, Ok, Err, refl, ap, subst, ◌∙◌, arith}
 use Rattle.std.proofs.RetainMut.{Called-Mut}
 use Rattle.std.proofs.lemmas.Result.{err_from_is_err_and}
-use Rattle.rx_chunk.specs.Searchers.{SearcherState, HasPassed, finder_of, Advances, IsEmptyAtLast, end_of_match}
-use Rattle.rx_chunk.proofs.SearcherLaws.{err_told, none_told, found_told, err_further, none_further, found_further, may_start}
-use Rattle.rx_chunk.proofs.iter.Searcher.try_advance.Goals as goal
+use Rattle.rx_input.specs.Searchers.{SearcherState, HasPassed, finder_of, Advances, IsEmptyAtLast, end_of_match}
+use Rattle.rx_input.proofs.SearcherLaws.{err_told, none_told, found_told, err_further, none_further, found_further, may_start}
+use Rattle.rx_input.proofs.iter.Searcher.try_advance.Goals as goal
 
 -- ---- by one call
 pub returns-in_err-found : goal.returns-in_err-found

@@ -2,7 +2,7 @@ use Rattle.std.proofs.Common.{◌≡◌, ◌∷◌, ◌++◌, ◌*◌, [], lengt
 use Rattle.std.proofs.lemmas.List.{length-append}
 use Rattle.rx_steps.specs.Threads.{threads_of}
 use Rattle.rx_steps.proofs.ThreadLaws.{thread_put, more_slots}
-use Rattle.rx_steps.proofs.threads.Threads.push.Goals as goal
+use Rattle.rx_steps.proofs.thread_list.ThreadList.push.Goals as goal
 
 pub invariant_of-self : goal.invariant_of-self
 invariant_of-self c =

@@ -12,18 +12,18 @@ use std::mem::size_of;
 /// Threads, those that are preferred first: each a node, and slots with places that were noted.
 /// All have as many slots. Contracts see that number and the list of threads.
 #[derive(Debug, Drop)]
-pub struct Threads {
+pub struct ThreadList {
     slot_len: usize,
     nodes: Vec<Node>,
     // Those of each thread one after another.
     slots: Vec<Option<NonMaxUsize>>,
 }
 
-impl Model for Threads {
+impl Model for ThreadList {
     ghost use Rattle.std.specs.Prelude.{◌≡◌, ◌*◌, length};
-    ghost use Rattle.rx_steps.specs.Threads.{ThreadList, threads_of};
+    ghost use Rattle.rx_steps.specs.Threads.{ThreadListView, threads_of};
 
-    ghost Value = { ThreadList };
+    ghost Value = { ThreadListView };
 
     ghost view = { λ t. record {
       slot_len = t.slot_len;
@@ -77,12 +77,12 @@ fn part(all: &[Option<NonMaxUsize>], len: usize, index: usize) -> &[Option<NonMa
     &all[start..start + len]
 }
 
-impl Threads {
+impl ThreadList {
     /// No thread, with so many slots for each that comes.
-    pub fn new(alloc: Global, slot_len: usize) -> Threads
+    pub fn new(alloc: Global, slot_len: usize) -> ThreadList
         ensures { result ≡ record { slot_len = slot_len; threads = [] } }
     {
-        Threads {
+        ThreadList {
             slot_len,
             nodes: Vec::new(alloc),
             slots: Vec::new(alloc),
