@@ -1,5 +1,6 @@
 # make          builds bin/rope-search, the proved program
-# make demo     gives it the commands of examples/first.session, and shows each with its reply
+# make demo     gives it the commands of examples/first.session, and shows each with its reply; where
+#               it isn't built, rt runs it with checks in place of proofs, within a minute
 # make test     the gate: every proof and test, then the tests of the built program
 # make edits    tries each edit of code that the prover must refuse: those of crates/NAME/must-fail,
 #               which the gate tries too, and those of crates/NAME/must-fail-more. CRATES='NAME ..'
@@ -16,6 +17,10 @@ sources := crates.txt $(shell find crates -name out -prune -o -type f \
 missing := the command '$(RT)' was not found: install the Rattle kit and put its folder bin on PATH
 need_rt = $(if $(shell command -v $(RT) 2>/dev/null),,$(error $(missing)))
 
+# Of what rt says while it proves: the crate that it is at, how far it is, and each that is done.
+news := sed -unE -e 's/^rt: chose .* for (.*)/\1/p' -e 's/^so far: ([0-9]+ of [0-9]+ functions).*/    \1/p' \
+	-e 's/^(logic=[^ ]+ functions=[0-9]+).*/    \1/p'
+
 .PHONY: all demo test edits bench clean
 .DELETE_ON_ERROR:
 
@@ -24,16 +29,22 @@ all: $(program)
 $(program): crate := rope_search_cli
 bin/memory-tests: crate := memory_tests
 bin/search-tests: crate := search_tests
+minutes := some minutes
+$(program): minutes := ten minutes on four cores
 
-# rt builds a program only once it is proved, and then runs it: here on empty input.
+# rt builds a program only once it is proved, with all crates below it, and then runs it: here on empty
+# input. All that rt says stands in out/rt.log of the program's crate.
 $(program) bin/memory-tests bin/search-tests: $(sources)
 	@:$(need_rt)
-	cd crates/$(crate) && $(RT) run < /dev/null
-	@mkdir -p $(@D)
+	@echo '$@ is built once all its crates are proved: $(minutes) in a fresh clone, seconds where nothing changed'
+	@mkdir -p $(@D) crates/$(crate)/out
+	@cd crates/$(crate) && { $(RT) run < /dev/null 2>&1; echo $$? > out/rt.status; } | tee out/rt.log | $(news)
+	@cd crates/$(crate) && [ "$$(cat out/rt.status)" = 0 ] || { tail -n 40 out/rt.log; false; }
 	@cp crates/$(crate)/out/$(crate) $@.new && mv $@.new $@
 
-demo: $(program)
-	@examples/demo.py $(session) $(program)
+demo:
+	@$(if $(wildcard $(program)),,:$(need_rt))
+	@RT='$(RT)' examples/demo.py $(session)
 
 test:
 	@:$(need_rt)

@@ -5,6 +5,17 @@ import subprocess
 PROGRAM = os.path.join(os.path.dirname(os.path.dirname(os.path.abspath(__file__))), "bin", "rope-search")
 
 
+def read_reply(replies):
+    """The next reply of a file of replies, whole."""
+    line = reply = replies.readline()
+    while line.startswith(b"m "):  # of list, which ends with a line 'ok' and a number
+        line = replies.readline()
+        reply += line
+    if line.startswith(b"text "):  # of print: so many bytes, and LF
+        reply += replies.read(int(line[5:]) + 1)
+    return reply
+
+
 class Client:
     """A session, which ends as the client is closed."""
 
@@ -15,13 +26,7 @@ class Client:
         """Gives the program one command, with its payload, and answers the whole reply."""
         self.child.stdin.write(command)
         self.child.stdin.flush()
-        line = reply = self.child.stdout.readline()
-        while line.startswith(b"m "):  # of list, which ends with a line 'ok' and a number
-            line = self.child.stdout.readline()
-            reply += line
-        if line.startswith(b"text "):  # of print: so many bytes, and LF
-            reply += self.child.stdout.read(int(line[5:]) + 1)
-        return reply
+        return read_reply(self.child.stdout)
 
     def close(self):
         self.child.stdin.close()

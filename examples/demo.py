@@ -1,17 +1,24 @@
 #!/usr/bin/env python3
-"""Gives the commands of a session to bin/rope-search one by one, and shows each with its reply.
+"""Gives the commands of a session to the program, and shows each with its reply.
 
     examples/demo.py [SESSION [PROGRAM]]     SESSION is examples/first.session where none is given
 
-What is sent stands behind '>', a payload on lines of its own.
+The program is PROGRAM, or bin/rope-search where that has been built: it is proved, and gets one command
+after the other. Where there is neither, rt runs it over the whole session, compiled with checks and with
+nothing proved, which needs no more than a minute; RT names another command than rt. What is sent stands
+behind '>', a payload on lines of its own.
 """
+import io
 import os
+import subprocess
 import sys
 
 sys.dont_write_bytecode = True
-from client import PROGRAM, Client
+from client import PROGRAM, Client, read_reply
 
-FIRST = os.path.join(os.path.dirname(os.path.abspath(__file__)), "first.session")
+TOP = os.path.dirname(os.path.dirname(os.path.abspath(__file__)))
+FIRST = os.path.join(TOP, "examples", "first.session")
+RT = os.environ.get("RT") or "rt"
 
 
 def commands(file):
@@ -21,14 +28,40 @@ def commands(file):
         yield line + (file.read(int(numbers[-1])) if word in (b"text", b"edit", b"pattern") else b"")
 
 
-def main(session=FIRST, program=PROGRAM):
-    search = Client(program)
+def show(session, ask):
+    """Shows each command with what `ask` answers to it."""
     with open(session, "rb") as file:
         for command in commands(file):
             for sent in command.decode().splitlines():
                 print(">", sent)
-            print(search.ask(command).decode(), end="")
+            print(ask(command).decode(), end="", flush=True)
+
+
+def show_proved(session, program):
+    """Shows what the proved program answers, command by command; returns its status."""
+    search = Client(program)
+    show(session, search.ask)
     return search.close()
+
+
+def show_tried(session):
+    """Shows what the program answered in a run by rt, once that has ended; returns its status."""
+    print("bin/rope-search isn't built yet: rt compiles the program, with checks in place of proofs ..", flush=True)
+    with open(session, "rb") as file:
+        crate = os.path.join(TOP, "crates", "rope_search_cli")
+        ran = subprocess.run([RT, "try"], cwd=crate, stdin=file, stdout=subprocess.PIPE, stderr=subprocess.PIPE)
+    if ran.stdout:
+        replies = io.BytesIO(ran.stdout)
+        show(session, lambda command: read_reply(replies))
+    if ran.returncode != 0:
+        print(ran.stderr.decode(errors="replace"), end="", file=sys.stderr)
+    return ran.returncode
+
+
+def main(session=FIRST, program=None):
+    if program is None and not os.path.exists(PROGRAM):
+        return show_tried(session)
+    return show_proved(session, program or PROGRAM)
 
 
 if __name__ == "__main__":

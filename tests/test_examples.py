@@ -30,6 +30,12 @@ def test_demo():
     out = subprocess.run([PROGRAM], input=data, stdout=subprocess.PIPE).stdout.decode()
     told = "".join(line for line in shown.splitlines(True) if not line.startswith("> "))
     test("the demo shows what the program answers to the whole session", [] if told == out else [f"it shows {told!r}"])
+    tried = [sys.executable, "-c", "import demo, sys; sys.exit(demo.show_tried(sys.argv[1]))", session]
+    environment = dict(os.environ, RT=PROGRAM)  # which ignores that it is told to try
+    ended = subprocess.run(tried, cwd=os.path.dirname(demo), env=environment, stdout=subprocess.PIPE)
+    first, _, rest = ended.stdout.decode().partition("\n")
+    same = ended.returncode == 0 and first and rest == shown
+    test("the demo shows the same where all replies come at the end", [] if same else [f"it shows {rest!r}"])
     with open(os.path.join(TOP, "README.md"), encoding="utf-8") as file:
         block = "".join(f"    {line}".rstrip() + "\n" for line in shown.splitlines())
         test("README.md shows the demo's session", [] if block in file.read() else ["it shows another"])
