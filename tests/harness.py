@@ -1,6 +1,7 @@
 """What all tests of the built programs share: running a program, comparing what it wrote, and counting
 which tests passed."""
 import atexit
+import functools
 import os
 import re
 import shutil
@@ -35,6 +36,21 @@ def test(name, problems):
     else:
         print(f"passed: {name}")
     sys.stdout.flush()
+
+
+@functools.lru_cache(maxsize=None)
+def library(name, what):
+    """The library that tests/NAME.c makes, to preload into a program, built once, or None where that fails."""
+    made = os.path.join(ROOM, name + ".so")
+    build = [os.environ.get("CC", "cc"), "-std=c11", "-D_GNU_SOURCE", "-O2", "-Wall", "-Wextra", "-shared", "-fPIC"]
+    build += ["-o", made, os.path.join(TOP, "tests", name + ".c")]
+    try:
+        built = subprocess.run(build, stdin=subprocess.DEVNULL, stderr=subprocess.PIPE, text=True)
+        problems = [] if built.returncode == 0 else built.stderr.splitlines() or ["the compiler failed"]
+    except OSError as error:
+        problems = [f"no C compiler: {error}"]
+    test(f"the library that {what} is built", problems)
+    return None if problems else made
 
 
 def example_rows(page, form):

@@ -1,25 +1,14 @@
 """A program run with each of its requests for memory counted, and one of them refused, or one and all that
 follow it, by the library that tests/refuse_memory.c makes."""
-import functools
 import os
-import subprocess
 
-from harness import ROOM, TOP, test
+import harness
+from harness import ROOM
 
 
-@functools.lru_cache(maxsize=None)
 def library():
-    """The library that refuses memory, built once, or None where that fails."""
-    made = os.path.join(ROOM, "refuse_memory.so")
-    build = [os.environ.get("CC", "cc"), "-std=c11", "-D_GNU_SOURCE", "-O2", "-Wall", "-Wextra", "-shared", "-fPIC"]
-    build += ["-o", made, os.path.join(TOP, "tests", "refuse_memory.c")]
-    try:
-        built = subprocess.run(build, stdin=subprocess.DEVNULL, stderr=subprocess.PIPE, text=True)
-        problems = [] if built.returncode == 0 else built.stderr.splitlines() or ["the compiler failed"]
-    except OSError as error:
-        problems = [f"no C compiler: {error}"]
-    test("the library that refuses memory is built", problems)
-    return None if problems else made
+    """The library that refuses memory, or None where it can't be built."""
+    return harness.library("refuse_memory", "refuses memory")
 
 
 def tallied(runs, **settings):

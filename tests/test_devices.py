@@ -8,8 +8,9 @@ import subprocess
 import tempfile
 import tty
 
-from harness import FIRST, ROOM, differences, end_of, open_input, short, start, test, told
+from harness import FIRST, ROOM, differences, end_of, library, open_input, run, short, start, test, told
 from protocol import answer, read_commands, replies
+from test_replies import MORE_EXAMPLES, examples_of_page
 
 
 def test_failing_reads():
@@ -72,10 +73,54 @@ def test_failing_writes():
             for wrong in differences(ended, out[:room], *end):
                 yield f"room for {room}: {wrong}"
 
-    for data in (FIRST, b"use 1\ntext 1\n\xffjump\n", b"text 1\naprint\ntext 5\nab", b"text 3\na\napattern 1\nalist\n"):
+    for data in (FIRST, b"text 2\nhifork\n", b"use 1\ntext 1\n\xffjump\n", b"text 1\naprint\ntext 5\nab", b"text 3\na\napattern 1\nalist\n"):
         test(f"{short(data)} with room for each number of bytes", rooms(data))
+
+
+def in_pieces(data, **settings):
+    """A run with the library that cuts reads and writes and can fail one of them."""
+    environment = {f"FAIL_IO_{name.upper()}": str(value) for name, value in settings.items()}
+    return run(data, environment=dict(environment, LD_PRELOAD=library("fail_io", "fails reads and writes")))
+
+
+def short_writes(data):
+    """A write takes one byte, or two."""
+    for most in (1, 2):
+        for wrong in differences(in_pieces(data, write_most=most), *answer(data)):
+            yield f"writes of {most}: {wrong}"
+
+
+def each_read(data):
+    """Each read of a byte, or of the end, fails, and the next one would go on. Where the bytes before it
+    end the run, it isn't made."""
+    for at in range(1, len(data) + 2):
+        commands, ending = read_commands(data[: at - 1])
+        is_over = ending == "command"
+        expected = answer(data[: at - 1]) if is_over else (b"".join(replies(commands)), 1, told(b"read failed"))
+        for wrong in differences(in_pieces(data, read_most=1, read_at=at), *expected):
+            yield f"read {at}: {wrong}"
+
+
+def each_write(data):
+    """Each write of a byte fails, and the next one would go on."""
+    out, _ = answer(data)
+    for at in range(1, len(out) + 1):
+        ended = in_pieces(data, write_most=1, write_at=at)
+        for wrong in differences(ended, out[: at - 1], 1, told(b"write failed")):
+            yield f"write {at}: {wrong}"
+
+
+def test_each_call():
+    if library("fail_io", "fails reads and writes") is None:
+        return
+    for data in [data for data, _, _ in examples_of_page() + MORE_EXAMPLES if len(data) <= 400]:
+        name = short(data[:60])
+        test(f"{name} with writes of one byte and of two", short_writes(data))
+        test(f"{name} with each of its reads failed", each_read(data))
+        test(f"{name} with each of its writes failed", each_write(data))
 
 
 def test_all():
     test_failing_reads()
     test_failing_writes()
+    test_each_call()

@@ -25,7 +25,39 @@ def examples_of_page():
     return [(bytes_of(row[1] or ""), bytes_of(row[2] or ""), int(row[3])) for row in rows]
 
 
-LONG_EXAMPLES = [
+# What has no character that stands for itself, or is empty; and what is a pattern.
+REFUSED_PATTERNS = ["\\", ".", "+", "*", "?", "(", ")", "|", "[", "{", "^", "$", "", "a.", "a*", "b\\c", "(b", "(d"]
+PATTERNS = ["]", "}", "-", "&", "a", " ", "\n", "é", "🐸", "]a}"]
+
+
+def with_payload(word, text):
+    """A command with a payload."""
+    payload = text.encode()
+    return spelled(word, (len(payload),), payload)
+
+
+def listed_after(patterns, reply, report):
+    """Patterns for the empty text, each with `list` after it."""
+    data = b"".join(with_payload("pattern", pattern) + b"list\n" for pattern in patterns)
+    return data, (reply + report) * len(patterns), 0
+
+
+def long_lines(length):
+    """Four lines, of which the first and the last may lie across chunks, which have 984 bytes at most, and
+    what is listed of them under the pattern `éb`."""
+    text = "a" * length + "éb\r\nébéb\r\r\n" + "é" * length + "b"
+    places = [(0, length, length + 2), (1, 0, 2), (1, 2, 4), (3, length - 1, length + 1)]
+    matches = b"".join(b"m %d %d %d\n" % place for place in places)
+    return with_payload("text", text) + b"list\n", b"ok\n" + matches + b"ok 4\n"
+
+
+MOST = 2**64 - 1
+TEXT = "a🐸b\r\nc\r"
+# Positions that are nowhere in this text.
+NOWHERE = [(0, 2), (0, 5), (0, 6), (1, 2), (2, 1), (3, 0), (MOST, 0), (0, MOST), (2, MOST)]
+LONG_LINES = [long_lines(length) for length in (981, 982, 983, 984, 985, 1_967, 1_968, 3_000)]
+
+MORE_EXAMPLES = [
     (b"x" * 128, b"error end\n", 2),
     (b"x" * 129, b"error command\n", 2),
     (b"x" * 128 + b"\n", b"error command\n", 2),
@@ -33,18 +65,67 @@ LONG_EXAMPLES = [
     (b"text 0\n" + b" " * 128, b"ok\nerror end\n", 2),
     (b"text 0\n" + b" " * 129, b"ok\nerror command\n", 2),
     (b"use 0" + b" " * 123 + b"\n", b"error command\n", 2),
+    (b"text  2\nhi", b"error command\n", 2),
+    (b"edit 0 0 0 0\n", b"error command\n", 2),
+    (b"list 1\n", b"error command\n", 2),
+    (b"undo\nredo\n", b"error none\nerror none\n", 0),
+    # buffers
+    (b"use 1\nfork\nuse 1\nuse 2\nuse 0\n", b"error none\nok 1\nok\nerror none\nok\n", 0),
+    (b"text 2\nabfork\nuse 2\nuse 1\nprint\nfork\nuse 2\nuse 3\n",
+     b"ok\nok 1\nerror none\nok\ntext 2\nab\nok 2\nok\nerror none\n", 0),
+    (with_payload("text", "aé") + b"fork\nuse 1\ntext 0\nprint\nuse 0\nprint\n",
+     "ok\nok 1\nok\nok\ntext 0\n\nok\ntext 3\naé\n".encode(), 0),
+    (b"fork\n" * 300 + b"use 300\nuse 301\n", b"".join(b"ok %d\n" % k for k in range(1, 301)) + b"ok\nerror none\n", 0),
+    # payloads that spell commands
+    (b"text 5\nlist\npattern 5\nlist\nlist\n", b"ok\nok\nok 0\n", 0),
     (b"text 9000\n" + b"print\n" * 1500 + b"print\n", b"ok\ntext 9000\n" + b"print\n" * 1500 + b"\n", 0),
     (b"text 9001\n" + b"print\n" * 1500 + b"\xff" + b"print\n", b"error utf8\ntext 0\n\n", 0),
+    # what is a pattern, and what is left of the one before
+    listed_after(REFUSED_PATTERNS, b"error pattern\n", b"error none\n"),
+    listed_after(PATTERNS, b"ok\n", b"ok 0\n"),
+    (b"list\noff\npattern 1\n\xffpattern 2\na*list\npattern 5\nabcdelist\ntext 3\na\nalist\noff\nlist\n",
+     b"error none\nok\nerror utf8\nerror pattern\nerror none\nok\nok 0\nok\nok 0\nok\nerror none\n", 0),
+    (b"text 2\nabpattern 1\nbpattern 7\n(\nlist\npattern 2\na\xfflist\n",
+     b"ok\nok\nerror pattern\nerror utf8\nm 0 1 2\nok 1\n", 0),
     (b"pattern 65536\n" + b"a" * 65536 + b"list\n", b"ok\nok 0\n", 0),
     (b"pattern 65537\n" + b"a" * 65537 + b"list\n", b"error limit\nerror none\n", 0),
     (b"pattern 65537\n" + b"a" * 65536 + b"\xfflist\n", b"error utf8\nerror none\n", 0),
     (b"pattern 65537\n" + b"*" * 65537 + b"list\n", b"error limit\nerror none\n", 0),
     (b"pattern 65536\n" + b"a" * 65535 + b"*list\n", b"error pattern\nerror none\n", 0),
+    # the matches in a line
+    (with_payload("text", "\na\na🐸b") + b"pattern 1\nblist\n", b"ok\nok\nm 2 3 4\nok 1\n", 0),
+    (with_payload("text", "é🐸🐸") + with_payload("pattern", "🐸") + b"list\n", b"ok\nok\nm 0 1 3\nm 0 3 5\nok 2\n", 0),
+    (with_payload("text", "Ãé©é") + with_payload("pattern", "é") + b"list\n", b"ok\nok\nm 0 1 2\nm 0 3 4\nok 2\n", 0),
+    (b"text 9\naaa\naaaaapattern 2\naalist\n", b"ok\nok\nm 0 0 2\nm 1 0 2\nm 1 2 4\nok 3\n", 0),
+    (b"text 10\nabacababab" + b"pattern 4\nabablist\n", b"ok\nok\nm 0 4 8\nok 1\n", 0),
+    (with_payload("text", "🐸こんに") + with_payload("pattern", "こん") + b"list\n", b"ok\nok\nm 0 2 4\nok 1\n", 0),
+    # the report follows the text, and stays with its buffer
+    (b"text 2\nabpattern 1\nblist\ntext 3\nb\nblist\n", b"ok\nok\nm 0 1 2\nok 1\nok\nm 0 0 1\nm 1 0 1\nok 2\n", 0),
+    (b"text 1\napattern 1\nafork\nuse 1\nlist\nuse 0\nlist\n", b"ok\nok\nok 1\nok\nerror none\nok\nm 0 0 1\nok 1\n", 0),
+    (with_payload("text", "ab\r\nba\u2028") + b"pattern 1\nalist\nfork\nuse 1\nlist\nuse 0\npattern 2\na*text 1\na"
+     + b"list\noff\nlist\noff\n",
+     b"ok\nok\nm 0 0 1\nm 1 1 2\nok 2\nok 1\nok\nerror none\nok\nerror pattern\nok\n"
+     + b"m 0 0 1\nok 1\nok\nerror none\nok\n", 0),
+    # where a CR and an LF meet, and are apart again
+    (b"text 5\nx\rb\nypattern 1\nyedit 1 0 1 1 0\nundo\nlist\nredo\nlist\n",
+     b"ok\nok\nok\nok\nm 2 0 1\nok 1\nok\nm 1 0 1\nok 1\n", 0),
+    (b"text 3\nx\rypattern 1\nyedit 1 0 1 0 1\n\nundo\nlist\nredo\nlist\n",
+     b"ok\nok\nok\nok\nm 1 0 1\nok 1\nok\nm 1 0 1\nok 1\n", 0),
+    (b"text 3\nb\nypattern 1\nyedit 0 1 0 1 1\n\rundo\nlist\nredo\nlist\n",
+     b"ok\nok\nok\nok\nm 1 0 1\nok 1\nok\nm 1 0 1\nok 1\n", 0),
+    (b"text 5\nx\rb\nypattern 1\nyedit 1 0 1 1 2\n\n\rundo\nlist\nredo\nlist\n",
+     b"ok\nok\nok\nok\nm 2 0 1\nok 1\nok\nm 2 0 1\nok 1\n", 0),
+    # lines and breaks at the end of a chunk of 984 bytes, and lines over several chunks
     (b"text 1969\n" + b"a" * 983 + b"xyz" + b"a" * 983 + b"pattern 3\nxyzlist\n", b"ok\nok\nm 0 983 986\nok 1\n", 0),
-    # lines and breaks at the end of a chunk of 984 bytes, and a line over several chunks
-    (b"pattern 1\nbtext 1004\n" + b"a" * 982 + b"b\r\n" + b"a" * 18 + b"blist\n", b"ok\nok\nm 0 982 983\nm 1 18 19\nok 2\n", 0),
-    (b"pattern 2\nabtext 3006\n" + b"a" * 3000 + b"b\n\nab\nlist\nprint\n", b"ok\nok\nm 0 2999 3001\nm 2 0 2\nok 2\ntext 3006\n" + b"a" * 3000 + b"b\n\nab\n\n", 0),
-    (b"fork\n" * 300 + b"use 300\nuse 301\n", b"".join(b"ok %d\n" % k for k in range(1, 301)) + b"ok\nerror none\n", 0),
+    (b"pattern 1\nbtext 1004\n" + b"a" * 982 + b"b\r\n" + b"a" * 18 + b"blist\n",
+     b"ok\nok\nm 0 982 983\nm 1 18 19\nok 2\n", 0),
+    (b"pattern 2\nabtext 3006\n" + b"a" * 3000 + b"b\n\nab\nlist\nprint\n",
+     b"ok\nok\nm 0 2999 3001\nm 2 0 2\nok 2\ntext 3006\n" + b"a" * 3000 + b"b\n\nab\n\n", 0),
+    (with_payload("pattern", "éb") + b"".join(data for data, _ in LONG_LINES),
+     b"ok\n" + b"".join(out for _, out in LONG_LINES), 0),
+    # positions that are nowhere: inside the frog's pair, between CR and LF, behind a line's text, past the last
+    (with_payload("text", TEXT) + b"".join(b"edit %d %d %d %d 1\nx" % (place * 2) for place in NOWHERE) + b"undo\n",
+     b"ok\n" + b"error range\n" * len(NOWHERE) + b"error none\n", 0),
 ]
 
 
@@ -67,7 +148,7 @@ def test_examples(examples):
     with open(os.path.join(TOP, "crates", "rope_search_cli", "stdin"), "rb") as stored:
         same = stored.read() == examples[0][0] == FIRST
     test("the program's stored run is the first example", [] if same else ["it is not"])
-    for data, out, status in examples + LONG_EXAMPLES:
+    for data, out, status in examples + MORE_EXAMPLES:
         name = short(data[:60]) + (f".. ({len(data)} bytes)" if len(data) > 60 else "")
         model = [] if answer(data) == (out, status) else [f"the model answers {answer(data)}"]
         test(f"{name} in a file", model + differences(run(data), out, status))

@@ -35,49 +35,84 @@ fn a_run_over_memory(rt: HostRuntime) -> Result<(), Fail> {
     Ok(())
 }
 
+// Nothing is said of what it answers: so what follows is proved without the contract of a command, and
+// shows what that does.
+fn apply(session: &mut Session, tick: &mut Lines, command: Command<'_>) -> Result<Reply, Fault> {
+    session.apply(tick, command)
+}
+
 /// `Reply`: what an accepted command is answered. A fork is a buffer of its own.
 #[test]
 fn replies(rt: HostRuntime) -> Result<(), Fail> {
     let mut tick = Lines::new(&rt);
     let mut session = Session::new(rt.alloc(), Limits::default())?;
-    let text = Command::Text(Payload::Kept(b"a frog"));
-    assert!(rt; session.apply(&mut tick, text) == Ok(Reply::Done));
-    assert!(rt; session.apply(&mut tick, Command::Print) == Ok(Reply::Print));
-    assert!(rt; session.apply(&mut tick, Command::Fork) == Ok(Reply::Number(1)));
-    assert!(rt; session.apply(&mut tick, Command::Use(1)) == Ok(Reply::Done));
-    assert!(rt; session.apply(&mut tick, Command::List) == Err(Fault::Nothing));
-    let pattern = Command::Pattern(Payload::Kept(b"frog"));
-    assert!(rt; session.apply(&mut tick, pattern) == Ok(Reply::Done));
-    assert!(rt; session.apply(&mut tick, Command::List) == Ok(Reply::List));
-    assert!(rt; session.apply(&mut tick, Command::Off) == Ok(Reply::Done));
+    let cases = [
+        (Command::Text(Payload::Kept(b"a frog")), Ok(Reply::Done)),
+        (Command::Print, Ok(Reply::Print)),
+        (Command::Fork, Ok(Reply::Number(1))),
+        (Command::Use(1), Ok(Reply::Done)),
+        (Command::List, Err(Fault::Nothing)),
+        (Command::Pattern(Payload::Kept(b"frog")), Ok(Reply::Done)),
+        (Command::List, Ok(Reply::List)),
+        (Command::Off, Ok(Reply::Done)),
+    ];
+    for (command, answer) in cases {
+        assert!(rt;
+            apply(&mut session, &mut tick, command) == answer,
+            "{command:?}"
+        );
+    }
+    assert!(rt; session.fork() == Ok(2));
+    assert!(rt; session.choose(2) == Ok(()));
+    assert!(rt; session.choose(3) == Err(Fault::Nothing));
     Ok(())
 }
 
-/// `Payload`: one that is too long to keep, and one for which there was no memory.
+/// `Payload`: one that was kept, one that is too long to keep, and one for which there was no memory.
+/// `Limits`: one on the bytes of a text, and not of a pattern. A refusal leaves the text.
 #[test]
 fn payloads(rt: HostRuntime) -> Result<(), Fail> {
     let mut tick = Lines::new(&rt);
-    let mut session = Session::new(rt.alloc(), Limits::default())?;
-    let long = Command::Text(Payload::Long { utf8: true });
-    assert!(rt; session.apply(&mut tick, long) == Err(Fault::Size));
-    let lost = Command::Pattern(Payload::Lost);
-    assert!(rt; session.apply(&mut tick, lost) == Err(Fault::Memory));
+    let mut session = Session::new(rt.alloc(), Limits { text: 4 })?;
+    let cases = [
+        (Command::Text(Payload::Kept(b"frog")), Ok(Reply::Done)),
+        (Command::Text(Payload::Kept(b"\xff")), Err(Fault::Utf8)),
+        (Command::Text(Payload::Kept(b"frogs")), Err(Fault::Size)),
+        (Command::Text(Payload::Kept(b"frog\xff")), Err(Fault::Utf8)),
+        (
+            Command::Text(Payload::Long { utf8: true }),
+            Err(Fault::Size),
+        ),
+        (
+            Command::Text(Payload::Long { utf8: false }),
+            Err(Fault::Utf8),
+        ),
+        (Command::Text(Payload::Lost), Err(Fault::Memory)),
+        (
+            Command::Pattern(Payload::Long { utf8: true }),
+            Err(Fault::Limit),
+        ),
+        (
+            Command::Pattern(Payload::Long { utf8: false }),
+            Err(Fault::Utf8),
+        ),
+        (Command::Pattern(Payload::Lost), Err(Fault::Memory)),
+        (Command::List, Err(Fault::Nothing)),
+        (Command::Pattern(Payload::Kept(b"frogs")), Ok(Reply::Done)),
+        (Command::List, Ok(Reply::List)),
+    ];
+    for (command, answer) in cases {
+        assert!(rt;
+            apply(&mut session, &mut tick, command) == answer,
+            "{command:?}"
+        );
+        assert!(rt; session.buffer().text().eq_str("frog"));
+    }
     Ok(())
 }
 
-/// `Buffer` and `Limits`: a text within a limit on its bytes. A refusal leaves the text before.
-#[test]
-fn a_buffer_within_a_limit(rt: HostRuntime) -> Result<(), Fail> {
-    let mut tick = Lines::new(&rt);
-    let mut buffer = Buffer::new(rt.alloc(), Limits { text: 6 })?;
-    buffer.set_text(&mut tick, "a frog")?;
-    assert!(rt; buffer.set_text(&mut tick, "two frogs") == Err(Fault::Size));
-    let text = buffer.text().to_text()?;
-    assert!(rt; text.as_str() == "a frog");
-    Ok(())
-}
-
-/// `Position`: an edit between two, and back. The line that it is in is searched again alone.
+/// `Buffer`, `Position` and `Lines`: an edit between two positions, and back. The line that it is in is
+/// searched again alone, as the count of rows tells.
 #[test]
 fn an_edit_of_a_line(rt: HostRuntime) -> Result<(), Fail> {
     let mut tick = Lines::new(&rt);
@@ -97,14 +132,22 @@ fn an_edit_of_a_line(rt: HostRuntime) -> Result<(), Fail> {
     Ok(())
 }
 
-/// `Lines`: each row that a report is made of is counted, so that one sees what a command cost.
+/// What is refused leaves the report: here a pattern for whose payload there was no memory.
 #[test]
-fn rows_that_are_counted(rt: HostRuntime) -> Result<(), Fail> {
+fn a_pattern_that_has_no_memory(rt: HostRuntime) -> Result<(), Fail> {
     let mut tick = Lines::new(&rt);
-    let mut buffer = Buffer::new(rt.alloc(), Limits::default())?;
-    buffer.set_text(&mut tick, "a frog\na toad")?;
-    assert!(rt; tick.count() == 0);
-    buffer.set_pattern(&mut tick, "frog")?;
-    assert!(rt; tick.count() == 2);
+    let mut session = Session::new(rt.alloc(), Limits::default())?;
+    let text = Command::Text(Payload::Kept(b"ab"));
+    assert!(rt; session.apply(&mut tick, text) == Ok(Reply::Done));
+    let pattern = Command::Pattern(Payload::Kept(b"b"));
+    assert!(rt; session.apply(&mut tick, pattern) == Ok(Reply::Done));
+    let lost = Command::Pattern(Payload::Lost);
+    assert!(rt; session.apply(&mut tick, lost) == Err(Fault::Memory));
+    assert!(rt; session.apply(&mut tick, Command::List) == Ok(Reply::List));
+    let rows = session.buffer().report().unwrap_or(&[]);
+    assert!(rt; rows.len() == 1);
+    for row in rows {
+        assert!(rt; row.matches() == [(1, 2)].as_slice());
+    }
     Ok(())
 }

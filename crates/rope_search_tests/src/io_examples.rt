@@ -1,7 +1,5 @@
 //! Examples of where bytes come from and where they go, one for each type.
-use rope_search::{
-    Broken, Device, Ended, Failed, Fault, Lines, MemorySink, MemorySource, Sink, Source, run,
-};
+use rope_search::{Broken, Device, Failed, Fault, MemorySink, MemorySource, Sink, Source};
 use rope_search_io::{ReadBuffer, Utf8Judge, WriteBuffer, write_all};
 use std::test::Fail;
 
@@ -44,18 +42,6 @@ fn a_device(rt: HostRuntime) -> Result<(), Fail> {
     assert!(rt; reader.read(&mut buf) == Ok(4));
     assert!(rt; buf.starts_with(b"rope"));
     assert!(rt; reader.read(&mut buf) == Ok(0), "the end");
-    Ok(())
-}
-
-/// A whole run, from the bytes of its commands to those of the replies.
-#[test]
-fn a_run(rt: HostRuntime) -> Result<(), Fail> {
-    let mut tick = Lines::new(&rt);
-    let mut source = MemorySource::new(b"text 2\nhiprint\n", 4096, None);
-    let mut sink = MemorySink::new(rt.alloc(), 4096, 4096, None)?;
-    let result = run(&mut tick, rt.alloc(), &mut source, &mut sink);
-    assert!(rt; result == Ok(Ended::Input));
-    assert!(rt; sink.written() == b"ok\ntext 2\nhi\n".as_slice());
     Ok(())
 }
 
@@ -106,17 +92,19 @@ fn a_utf8_judge(rt: HostRuntime) {
 /// is told.
 #[test]
 fn a_fault(rt: HostRuntime) -> Result<(), Fail> {
-    assert!(rt; Fault::Nothing.word() == "none");
-    let text = format!(in rt.alloc(); "error {}", Fault::Utf8)?;
-    assert!(rt; text.as_str() == "error utf8");
-    let ranks = [
-        Fault::Nothing.rank(),
-        Fault::Utf8.rank(),
-        Fault::Pattern.rank(),
-        Fault::Limit.rank(),
-        Fault::Size.rank(),
-        Fault::Memory.rank(),
+    let cases = [
+        (Fault::Nothing, "none", 1),
+        (Fault::Range, "range", 2),
+        (Fault::Utf8, "utf8", 3),
+        (Fault::Pattern, "pattern", 4),
+        (Fault::Limit, "limit", 5),
+        (Fault::Size, "size", 6),
+        (Fault::Memory, "memory", 7),
     ];
-    assert!(rt; ranks == [1, 3, 4, 5, 6, 7]);
+    for (fault, word, rank) in cases {
+        let text = format!(in rt.alloc(); "error {fault}")?;
+        assert!(rt; text.strip_prefix("error ") == Some(word) && fault.word() == word);
+        assert!(rt; fault.rank() == rank);
+    }
     Ok(())
 }

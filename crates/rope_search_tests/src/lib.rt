@@ -1,25 +1,14 @@
-//! Tests of `rope_search` on worked inputs, and with sources and sinks that fail.
+//! Tests of `rope_search` and the crates below it: an example of each public type, what is counted,
+//! and sources and sinks that are made up.
 #![tactic(auto)]
 
 #[cfg(test)]
-mod cases;
-#[cfg(test)]
 mod devices;
-#[cfg(test)]
-mod edits;
 #[cfg(test)]
 mod examples;
 #[cfg(test)]
 mod io_examples;
 #[cfg(test)]
-mod patterns;
-#[cfg(test)]
-mod position_examples;
-#[cfg(test)]
-mod reports;
-#[cfg(test)]
-mod row_examples;
+mod report_examples;
 #[cfg(test)]
 mod runs;
-#[cfg(test)]
-mod sessions;

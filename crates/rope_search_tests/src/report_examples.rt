@@ -1,0 +1,48 @@
+//! An example for each public type of `rope_search_reports`.
+use rope_search::{Finder, Lines, Position, Rope, byte_of, position_of, search_line};
+use std::test::Fail;
+
+/// `Finder`, `Row` and `search_line`: a finder is made once for a pattern and searches many lines. A
+/// row has the columns of the matches, in UTF-16 code units: the frog has two.
+#[test]
+fn one_finder_for_many_lines(rt: HostRuntime) -> Result<(), Fail> {
+    let mut tick = Lines::new(&rt);
+    let mut finder = Finder::new(rt.alloc(), "ab")?;
+    let row = search_line(&mut tick, &mut finder, "ab🐸ab")?;
+    assert!(rt; row.matches() == [(0, 2), (4, 6)].as_slice());
+    assert!(rt; tick.count() == 1);
+    // Each search of a line is counted, whatever it finds.
+    for line in ["ba", ""] {
+        let row = search_line(&mut tick, &mut finder, line)?;
+        assert!(rt; row.matches().is_empty());
+    }
+    assert!(rt; (tick.count(), tick.wholes()) == (3, 0));
+    Ok(())
+}
+
+/// `Position`: one in the text of a line, or at that text's end, is at one place, whose position it
+/// is. The frog has four bytes and two code units, and its line ends before CR LF.
+#[test]
+fn positions_and_their_places(rt: HostRuntime) -> Result<(), Fail> {
+    let text = Rope::from_str(rt.alloc(), "a🐸b\r\nc\r")?;
+    let cases = [
+        (0, 0, 0),
+        (0, 1, 1),
+        (0, 3, 5),
+        (0, 4, 6),
+        (1, 0, 8),
+        (1, 1, 9),
+        (2, 0, 10),
+    ];
+    for (line, column, byte_idx) in cases {
+        let position = Position { line, column };
+        match byte_of(&text, position) {
+            None => assert!(rt; false, "{position:?}"),
+            Some(place) => {
+                assert!(rt; place == byte_idx, "{position:?}");
+                assert!(rt; position_of(&text, place) == position, "{position:?}");
+            }
+        }
+    }
+    Ok(())
+}
