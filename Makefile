@@ -27,6 +27,7 @@ news := sed -unE -e 's/^rt: chose .* for (.*)/\1/p' -e 's/^so far: ([0-9]+ of [0
 all: $(program)
 
 $(program): crate := rope_search_cli
+bin/rope-driver: crate := rope_driver
 bin/memory-tests: crate := memory_tests
 bin/search-tests: crate := search_tests
 minutes := some minutes
@@ -34,7 +35,7 @@ $(program): minutes := ten minutes on four cores
 
 # rt builds a program only once it is proved, with all crates below it, and then runs it: here on empty
 # input. All that rt says stands in out/rt.log of the program's crate.
-$(program) bin/memory-tests bin/search-tests: $(sources)
+$(program) bin/rope-driver bin/memory-tests bin/search-tests: $(sources)
 	@:$(need_rt)
 	@echo '$@ is built once all its crates are proved: $(minutes) in a fresh clone, seconds where nothing changed'
 	@mkdir -p $(@D) crates/$(crate)/out

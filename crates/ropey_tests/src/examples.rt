@@ -94,6 +94,7 @@ fn chunks(rt: HostRuntime) -> Result<(), Fail> {
     let (mut behind, byte, char, line) = rope.chunks_at_byte(rope.len_bytes());
     assert!(rt; (byte, char, line) == (8, 8, 1));
     assert!(rt; behind.prev() == Some("one\r\ntwo"));
+    assert!(rt; behind.reversed().prev() == Some("one\r\ntwo"));
     let mut ahead = rope.chunks_at_char(0).0;
     assert!(rt; ahead.next() == Some("one\r\ntwo"));
     assert!(rt; rope.chunks_at_line_break(rope.len_lines()).1 == 8);
@@ -163,6 +164,14 @@ fn text_range(rt: HostRuntime) -> Result<(), Fail> {
     assert!(rt; first_char(&rope, ..=2) == Some('o'));
     assert!(rt; first_char(&rope, ..) == Some('o'));
     assert!(rt; first_char(&rope, ..=3).is_none());
+
+    // A range that was iterated to its end is empty.
+    let mut spent = 1..=1;
+    assert!(rt; spent.next() == Some(1) && spent.next().is_none());
+    assert!(rt;
+        rope.get_slice(spent)
+            .is_some_and(|slice| slice.len_chars() == 0)
+    );
 
     // What a range tells of its ends.
     let ends = (1..=2).ends();

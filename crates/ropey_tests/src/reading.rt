@@ -1,7 +1,5 @@
-//! Ropes that are read from readers, and ropes that are cut anew.
+//! Ropes that are read from readers which give few bytes, or fail.
 
-use crate::building::are_chunks_long;
-use crate::checks::check_chunks;
 use crate::texts::text_of;
 use ropey::{ReadFault, Rope};
 use std::io;
@@ -46,21 +44,11 @@ fn texts_read_in_steps(rt: HostRuntime) -> Result<(), Fail> {
             for step in [1, 2, 3, 4095, 100_000] {
                 let mut source = reader(text.as_bytes(), step, 0);
                 let rope = Rope::from_reader(rt.alloc(), &mut source)?;
-                check_chunks(&rt, &rope, &text);
-                assert!(rt; are_chunks_long(&rope), "{unit}, {bytes} bytes by {step}");
+                assert!(rt; rope.eq_str(&text), "{unit}, {bytes} bytes by {step}");
                 assert!(rt; source.left.is_empty());
             }
         }
     }
-    Ok(())
-}
-
-#[test]
-fn slices_of_bytes_are_readers(rt: HostRuntime) -> Result<(), Fail> {
-    let mut bytes: &[u8] = "Here\r\nare some せ".as_bytes();
-    let rope = Rope::from_reader(rt.alloc(), &mut bytes)?;
-    assert!(rt; rope.eq_str("Here\r\nare some せ"));
-    assert!(rt; bytes.is_empty());
     Ok(())
 }
 
@@ -146,19 +134,5 @@ fn ends_inside_a_character(rt: HostRuntime) -> Result<(), Fail> {
 fn faults_have_texts(rt: HostRuntime) -> Result<(), Fail> {
     let shown = format!(in rt.alloc(); "{}; {}", ReadFault::Read, ReadFault::Turns)?;
     assert!(rt; shown.as_str() == "a read failed; the end didn't come in 2^62 reads");
-    Ok(())
-}
-
-#[test]
-fn ropes_that_are_shrunk(rt: HostRuntime) -> Result<(), Fail> {
-    for bytes in [0, 1, 984, 985, 20_000] {
-        let text = text_of(rt.alloc(), "é\r\n", bytes)?;
-        let mut rope = Rope::from_str(rt.alloc(), &text)?;
-        let copy = rope.clone()?;
-        rope.shrink_to_fit()?;
-        check_chunks(&rt, &rope, &text);
-        assert!(rt; are_chunks_long(&rope), "{bytes} bytes");
-        assert!(rt; copy == rope, "{bytes} bytes");
-    }
     Ok(())
 }

@@ -1,0 +1,94 @@
+//! What is asked of a rope and of a slice alike, as macros: both have these calls.
+
+use crate::texts::{tell_slice, tell_text};
+use ropey::{Error, RopeSlice};
+use std::alloc::AllocError;
+
+/// Writes how much a text has: bytes, characters, UTF-16 code units and lines.
+macro_rules! tell_lengths {
+    ($text:expr, $out:expr) => {
+        write!(
+            $out,
+            "{} {} {} {}",
+            $text.len_bytes(),
+            $text.len_chars(),
+            $text.len_utf16_cu(),
+            $text.len_lines()
+        )
+    };
+}
+
+pub(crate) use tell_lengths;
+
+/// Writes what an index stands for, as that of a byte, a character, a code unit and a line.
+macro_rules! tell_places {
+    ($text:expr, $idx:expr, $out:expr) => {{
+        let idx: usize = $idx;
+        write!($out, "{:?} ", $text.try_byte_to_char(idx))?;
+        write!($out, "{:?} ", $text.try_byte_to_line(idx))?;
+        write!($out, "{:?} ", $text.try_char_to_byte(idx))?;
+        write!($out, "{:?} ", $text.try_char_to_line(idx))?;
+        write!($out, "{:?} ", $text.try_char_to_utf16_cu(idx))?;
+        write!($out, "{:?} ", $text.try_utf16_cu_to_char(idx))?;
+        write!($out, "{:?} ", $text.try_line_to_byte(idx))?;
+        write!($out, "{:?} ", $text.try_line_to_char(idx))?;
+        write!($out, "{:?} ", $text.get_byte(idx))?;
+        write!($out, "{:?} ", $text.get_char(idx).map(|c| c as u32))?;
+        tell_part($out, $text.get_line(idx))
+    }};
+}
+
+pub(crate) use tell_places;
+
+/// Writes the parts that the six ranges from one index up to another are.
+macro_rules! tell_parts {
+    ($text:expr, $call:ident, $tell:ident, $start:expr, $end:expr, $out:expr) => {{
+        let (start, end): (usize, usize) = ($start, $end);
+        $tell($out, $text.$call(start..end))?;
+        $tell($out, $text.$call(start..=end))?;
+        $tell($out, $text.$call(start..))?;
+        $tell($out, $text.$call(..end))?;
+        $tell($out, $text.$call(..=end))?;
+        $tell($out, $text.$call(..))
+    }};
+}
+
+pub(crate) use tell_parts;
+
+/// Writes a part of a text, if there is one.
+pub fn tell_part(out: &mut String, part: Option<RopeSlice<'_>>) -> Result<(), AllocError> {
+    match part {
+        None => out.push_str("None|")?,
+        Some(part) => {
+            tell_slice(out, part)?;
+            write!(out, "/{}|", part.len_lines())?;
+        }
+    }
+    Ok(())
+}
+
+/// Writes a part of a text, or why there is none.
+pub fn tell_part_or_error(
+    out: &mut String,
+    part: Result<RopeSlice<'_>, Error>,
+) -> Result<(), AllocError> {
+    match part {
+        Ok(part) => tell_part(out, Some(part)),
+        Err(error) => write!(out, "{error:?}|"),
+    }
+}
+
+/// Writes a chunk, and the byte, the character and the line at which it starts.
+pub fn tell_chunk(
+    out: &mut String,
+    chunk: Option<(&str, usize, usize, usize)>,
+) -> Result<(), AllocError> {
+    match chunk {
+        None => out.push_str("None|")?,
+        Some((text, byte, char, line)) => {
+            tell_text(out, text)?;
+            write!(out, "/{byte}/{char}/{line}|")?;
+        }
+    }
+    Ok(())
+}

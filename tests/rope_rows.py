@@ -1,0 +1,202 @@
+"""Rows for bin/rope-driver, and what is wrong with its answers to them.
+
+A row is a line that is sent, and what is due: a line, or a call that tells what is wrong with one.
+"""
+from harness import ROPE_PROGRAM, differences, end_of, open_input, start
+from rope_model import MOST_BYTES, Cut, hexed, lengths, ok, range_refusal, refused, text_of
+
+BATCH = 20_000  # how many rows go into one run
+
+
+def answers_to(lines, environment=None):
+    with open_input(lines.encode()) as given:
+        return end_of(start((), environment, program=ROPE_PROGRAM, stdin=given))
+
+
+def problems(rows):
+    """What is wrong with the answers to rows."""
+    rows = list(rows)
+    for first in range(0, len(rows), BATCH):
+        batch = rows[first : first + BATCH]
+        ended = answers_to("".join(line + "\n" for line, _ in batch))
+        answers = ended.out.decode(errors="replace").split("\n")
+        if len(answers) != len(batch) + 1:
+            yield f"{len(answers) - 1} answers to {len(batch)} rows"
+        for (line, due), answer in zip(batch, answers):
+            if callable(due):
+                yield from due(answer)
+            elif answer != due:
+                yield difference(line, due, answer)
+        yield from differences(ended, ended.out, 0)
+
+
+def short(line, size=150):
+    return line if len(line) <= size else f"{line[:size]}.."
+
+
+def difference(line, due, answer):
+    """Where an answer differs first from what is due."""
+    dues, answers = due.split(";"), answer.split(";")
+    at = next((k for k, pair in enumerate(zip(dues, answers)) if pair[0] != pair[1]), 0)
+    told = answers[at] if at < len(answers) else ""
+    return f"{short(line)}: answer {at} is {short(told)!r}, not {short(dues[at])!r}"
+
+
+def leaves_row(pieces, asks, answers, parts=()):
+    """A row on the slice of a tree of these leaves, or on a part of it."""
+    leaves = "|".join(map(hexed, pieces))
+    return " ".join(["tree", leaves, *parts, *asks]), "".join(f"{answer};" for answer in answers)
+
+
+def wrong_chunks(chunks, least=980):
+    """What is wrong with the lengths of chunks, of which each but the last has some bytes at least, and where a text
+    is cut into them. What is removed at the start of a text leaves the first chunk as short as it may be."""
+    for number, chunk in enumerate(chunks):
+        size, is_last = len(chunk.encode()), number + 1 == len(chunks)
+        may_be_short = is_last or (number == 0 and least < 980)
+        if not 1 <= size <= MOST_BYTES or (size < least and not may_be_short):
+            yield f"chunk {number} has {size} bytes"
+        if not is_last and chunk.endswith("\r") and chunks[number + 1].startswith("\n"):
+            yield f"a CR LF is cut after chunk {number}"
+
+
+def cut_at(text, sizes):
+    """A text in chunks of so many bytes, or None where a character is cut or the sizes are others together."""
+    data, at, pieces = text.encode(), 0, []
+    for size in sizes:
+        pieces.append(data[at : at + size])
+        at += size
+    try:
+        return tuple(piece.decode() for piece in pieces) if at == len(data) else None
+    except UnicodeDecodeError:
+        return None
+
+
+class RopeRow:
+    """A row on a rope, whose answers are checked one after the other: where a request for memory may be refused, an
+    edit may answer so, and then changes nothing."""
+
+    def __init__(self, maker, parts, asks, may_refuse=False):
+        self.maker, self.parts, self.asks, self.may_refuse = maker, parts, list(asks), may_refuse
+        self.refusals = set()  # the names of what was refused
+
+    def line(self):
+        return " ".join([self.maker, "|".join(map(hexed, self.parts)), *self.asks])
+
+    def row(self):
+        return self.line(), self.wrong
+
+    def __str__(self):
+        return short(self.line())
+
+    def wrong(self, line):
+        """What is wrong with the answers."""
+        self.text, self.kept, self.pieces = "", [], None
+        self.least = 980  # the fewest bytes of a chunk but the last, in a rope that is made and not edited
+        first, *answers = line.split(";")
+        end = answers.pop() if answers else ""
+        if self.may_refuse and first.endswith("Memory"):
+            self.refusals.add(self.maker)
+            return [] if not answers and not end else [f"{self}: answers after a refusal"]
+        skipped = set(map(int, first.split()))
+        if skipped and not (self.may_refuse and self.maker == "builder"):
+            return [f"{self}: parts {first} are refused"]
+        self.refusals |= {"append_part"} if skipped else set()
+        self.text = "".join(part for number, part in enumerate(self.parts) if number not in skipped)
+        if len(answers) != len(self.asks) or end:
+            return [f"{self}: {len(answers)} answers to {len(self.asks)} asks: {short(line)!r}"]
+        return list(self.wrong_answers(answers))
+
+    def wrong_answers(self, answers):
+        for number, (ask, answer) in enumerate(zip(self.asks, answers)):
+            name, *arguments = ask.split(",")
+            if self.may_refuse and answer == "Err(Memory)":
+                self.refusals.add(name)
+                self.lose(name)
+            elif name == "cut":
+                yield from (f"{self}: ask {number}: {wrong}" for wrong in self.cut(answer))
+            else:
+                due = self.due(name, arguments)
+                if answer != due:
+                    yield f"{self}: ask {number}, {short(ask)}: {short(answer)!r}, not {short(due)!r}"
+
+    def lose(self, name):
+        """A refused `append` drops what it is given."""
+        if name == "append" and self.kept:
+            self.kept.pop()
+
+    def cut(self, answer):
+        """What is wrong with the chunks, of which later answers are about."""
+        *sizes, capacity = map(int, answer.split())
+        pieces = cut_at(self.text, sizes)
+        if pieces is None:
+            return [f"the chunks have {sizes} bytes"]
+        self.pieces = Cut(pieces)
+        wrong = list(wrong_chunks(pieces, self.least))
+        return wrong + ([] if capacity == MOST_BYTES * len(sizes) else [f"the capacity is {capacity}"])
+
+    def due(self, name, arguments):
+        """The answer that is due, of which an edit changes the text."""
+        if name == "lengths":
+            return lengths(self.text)
+        if name in ("text", "display", "written"):
+            return hexed(self.text)
+        if name == "same":
+            return "true true Equal"
+        if name == "places":
+            return text_of(self.text).places(int(arguments[0]))
+        if name == "parts":
+            return text_of(self.text).parts(*map(int, arguments), tells_why=False)
+        if name == "chunk":
+            return self.pieces.chunk(int(arguments[0]), tells_why=False)
+        if name in ("bytes", "chars", "lines") or name.startswith("chunks_at"):
+            pieces = self.pieces or Cut((self.text,) if self.text else ())
+            return pieces.walk(name, int(arguments[0]), arguments[1])
+        return self.edit(name, arguments)
+
+    def edit(self, name, arguments):
+        """The answer to an edit, which is made."""
+        error = self.refusal(name, arguments)
+        if error:
+            return f"Err({error})"
+        self.pieces, text = None, self.text
+        if name != "clone":
+            self.least = 980 if name in ("shrink_to_fit", "slice") else min(self.least, 462)
+        if "insert" in name:
+            other = bytes.fromhex(arguments[1]).decode()
+            other, at = other[:1] if "char" in name else other, int(arguments[0])
+            self.text = text[:at] + other + text[at:]
+        elif "remove" in name:
+            start, end = self.ends(arguments)
+            self.text = text[: start or 0] + text[len(text) if end is None else end :]
+        elif "split_off" in name:
+            at = int(arguments[0])
+            self.text = text[:at]
+            self.kept.append(text[at:])
+        elif name == "slice":
+            start, end = map(int, arguments)
+            self.text = text[start:end]
+        elif name == "clone":
+            self.kept.append(text)
+        elif name == "append":
+            self.text += self.kept.pop()
+        elif name == "swap":
+            self.text, self.kept[-1], self.least = self.kept[-1], text, 0
+        return ok("()")
+
+    def ends(self, arguments):
+        return [int(argument) if argument else None for argument in arguments]
+
+    def refusal(self, name, arguments):
+        """Why an edit is refused, if it is."""
+        if "remove" in name:
+            return range_refusal("Char", len(self.text), *self.ends(arguments))
+        if "insert" in name or "split_off" in name:
+            at = int(arguments[0])
+            return refused("CharIndexOutOfBounds", at, len(self.text)) if at > len(self.text) else None
+        # What the program answers where no rope is kept, or a slice doesn't lie in the text.
+        if name in ("append", "swap") and not self.kept:
+            return "Size"
+        if name == "slice" and int(arguments[1]) > len(self.text):
+            return "Size"
+        return None
