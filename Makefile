@@ -1,7 +1,10 @@
 # make          builds bin/rope-search, the proved program
 # make demo     gives it the commands of examples/first.session, and shows each with its reply; where
 #               it isn't built, rt runs it with checks in place of proofs, within a minute
-# make test     the gate: every proof and test, then the tests of the built program
+# make check    while one works and before a commit: lays out, proves and tests what changed and all that
+#               stands on it, over the work that earlier runs kept, then the edits of the crates that
+#               changed, the programs and their tests. CRATES='NAME ..' names more crates
+# make test     the gate: every proof and test from nothing, then the tests of the built programs
 # make edits    tries each edit of code that the prover must refuse: those of crates/NAME/must-fail,
 #               which the gate tries too, and those of crates/NAME/must-fail-more. CRATES='NAME ..'
 #               names some crates, JOBS=N tries N of them at a time
@@ -11,6 +14,8 @@
 # The command of the Rattle kit; make RT=PROGRAM names another.
 RT ?= rt
 program := bin/rope-search
+# It, and those that only tests take.
+programs := $(program) bin/rope-driver bin/search-driver
 session := examples/first.session
 sources := crates.txt $(shell find crates -name out -prune -o -type f \
 	\( -name '*.rt' -o -name '*.antt' \) -print 2>/dev/null)
@@ -21,21 +26,22 @@ need_rt = $(if $(shell command -v $(RT) 2>/dev/null),,$(error $(missing)))
 news := sed -unE -e 's/^rt: chose .* for (.*)/\1/p' -e 's/^so far: ([0-9]+ of [0-9]+ functions).*/    \1/p' \
 	-e 's/^(logic=[^ ]+ functions=[0-9]+).*/    \1/p'
 
-.PHONY: all demo test edits bench clean
+.PHONY: all programs demo check test edits bench clean
 .DELETE_ON_ERROR:
 
 all: $(program)
 
 $(program): crate := rope_search_cli
 bin/rope-driver: crate := rope_driver
-bin/memory-tests: crate := memory_tests
-bin/search-tests: crate := search_tests
+bin/search-driver: crate := search_driver
 minutes := some minutes
 $(program): minutes := ten minutes on four cores
 
+programs: $(programs)
+
 # rt builds a program only once it is proved, with all crates below it, and then runs it: here on empty
 # input. All that rt says stands in out/rt.log of the program's crate.
-$(program) bin/rope-driver bin/memory-tests bin/search-tests: $(sources)
+$(programs): $(sources)
 	@:$(need_rt)
 	@echo '$@ is built once all its crates are proved: $(minutes) in a fresh clone, seconds where nothing changed'
 	@mkdir -p $(@D) crates/$(crate)/out
@@ -46,6 +52,10 @@ $(program) bin/rope-driver bin/memory-tests bin/search-tests: $(sources)
 demo:
 	@$(if $(wildcard $(program)),,:$(need_rt))
 	@RT='$(RT)' examples/demo.py $(session)
+
+check:
+	@:$(need_rt)
+	@RT='$(RT)' JOBS='$(JOBS)' MAKE='$(MAKE)' tests/check $(CRATES)
 
 test:
 	@:$(need_rt)

@@ -1,13 +1,161 @@
-"""What patterns spell: the examples of docs/patterns.md, on bin/memory-tests."""
+"""What patterns spell, on bin/search-driver: the examples of docs/patterns.md and more of them, what patterns weigh,
+which are refused and why, and that each refused request for memory is told."""
 import re
 
-from harness import MEMORY_PROGRAM, differences, end_of, example_rows, start, test
+from driver import OUTSIDE, PATTERN_WANT, TOO_DEEP, TOO_LONG, Settings, about, answers, check_memory, problems
+from harness import example_rows, short, test
+from memory import library
 
 NODE = re.compile(
     r"(?P<empty>Empty)|Set\(CharacterSet \{ ranges: \[(?P<ranges>.*?)\] \}\)|Look\((?P<look>\w+)\)"
     r'|Group\((?P<number>\d+), (?:None|Some\("(?P<name>.*?)"\))\)|(?P<row>Concat|Alternation)\((?P<count>\d+)\)'
     r"|Repeat\(Repetition \{ min: (?P<min>\d+), max: (?:None|Some\((?P<max>\d+)\)), greedy: (?P<greedy>\w+) \}\)"
 )
+PART = re.compile(r"Properties \{ extent: (\d+), weight: (\d+), size: (\d+), may_be_empty: (\w+) \}")
+
+# What patterns spell, known from the grammar of `regex-syntax` with Unicode on, as docs/patterns.md writes it.
+TREES = [
+    ("a", "Set(a)"),
+    ("a|", "Alternation(Set(a), Empty)"),
+    ("|", "Alternation(Empty, Empty)"),
+    ("()", "Group 1(Empty)"),
+    ("(a)(b)", "Concat(Group 1(Set(a)), Group 2(Set(b)))"),
+    ("((a)b)", "Group 1(Concat(Group 2(Set(a)), Set(b)))"),
+    ("((a)|(?<b>c)*)", "Group 1(Alternation(Group 2(Set(a)), Repeat{0,}(Group 3 b(Set(c)))))"),
+    ("(?:a)", "Set(a)"),
+    ("(?:a)(?i:b)(?i)", "Concat(Set(a), Set(B, b))"),
+    ("(?:ab)*", "Repeat{0,}(Concat(Set(a), Set(b)))"),
+    ("(?P<ab>a)", "Group 1 ab(Set(a))"),
+    ("(?<a_1>a)", "Group 1 a_1(Set(a))"),
+    ("^(?<word>a)*?", "Concat(Start, Repeat{0,}?(Group 1 word(Set(a))))"),
+    ("a+??", "Repeat{0,1}(Repeat{1,}?(Set(a)))"),
+    ("a{2,}", "Repeat{2,}(Set(a))"),
+    ("a{3,}?", "Repeat{3,}?(Set(a))"),
+    ("a{0}", "Repeat{0,0}(Set(a))"),
+    ("a{65535}", "Repeat{65535,65535}(Set(a))"),
+    ("a{0000065535}", "Repeat{65535,65535}(Set(a))"),
+    ("(?m:^)^", "Concat(StartLine, Start)"),
+    ("[\\d\\-x]", "Set(..)"),
+    ("[a&b]", "Set(&, a-b)"),
+    ("[\\--a]", "Set(--a)"),
+    ("(?i-m)a", "Set(A, a)"),
+    ("(?-i)a", "Set(a)"),
+    ("(?i)", "Empty"),
+    # Escapes.
+    ("\\a", "Set(U+0007)"),
+    ("\\f", "Set(U+000C)"),
+    ("\\t", "Set(U+0009)"),
+    ("\\n", "Set(U+000A)"),
+    ("\\r", "Set(U+000D)"),
+    ("\\v", "Set(U+000B)"),
+    ("\\ ", "Set(U+0020)"),
+    ("\\\t", "Set(U+0009)"),
+    ("\\\u007f", "Set(U+007F)"),
+    ("\\-", "Set(-)"),
+    ("\\u212a", "Set(U+212A)"),
+    ("\\u{10FFFF}", "Set(U+10FFFF)"),
+]
+# The same under settings.
+TREES_UNDER = [
+    (".", Settings("i", no_dot=ord("k")), "Set(U+0000-j, l-U+10FFFF)"),
+    ("(?s).", Settings(no_dot=0x80), "Set(U+0000-U+10FFFF)"),
+    ("a", Settings(no_dot=0x80), "Set(a)"),
+    (".", Settings("s", no_dot=0x80), "Set(U+0000-U+10FFFF)"),
+    ("a*^.$", Settings("imsU"), "Concat(Repeat{0,}?(Set(A, a)), StartLine, Set(U+0000-U+10FFFF), EndLine)"),
+    ("(?-imsU)a*^.$", Settings("imsU"), "Concat(Repeat{0,}(Set(a)), Start, Set(U+0000-U+0009, U+000B-U+10FFFF), End)"),
+]
+
+REFUSED = """
+    (*) + ? {2} a{ a{} a{2 ( ) a) (a (? (?ii) (?-) (?i (?P<>a) (?<1a>a) (?<a-b>a) (?<a.b>a) (?<é>a) (?P=a) (?=a) (?<=a)
+    (?P<a>(?<a>b)) [ [^] [a [a[b]] [a--b] [a~~b] [a-z-9] [\\A] \\ \\q \\1 \\pL \\x4 \\x{} \\x{000000041} \\Z \\G \\é *
+""".split() + ["a{2 }"]
+
+# How many nodes a tree has, or why there is none, where it is deep or long.
+LARGE = [
+    ("(" * 250 + "a" + ")" * 250, Settings(), 251),
+    ("(" * 251 + "a" + ")" * 251, Settings(), TOO_DEEP),
+    ("(" * 251 + "*" + ")" * 251, Settings(), OUTSIDE),
+    ("a" + "*" * 250, Settings(), 251),
+    ("a" + "*" * 251, Settings(), TOO_DEEP),
+    ("(" * 32_767 + ")" * 32_767, Settings(nest_limit=65_535), 32_768),
+    ("a" + "*" * 65_535, Settings(nest_limit=65_535), 65_536),
+    ("a" * 65_536, Settings(), 65_537),
+    ("a" * 65_537, Settings(), TOO_LONG),
+    ("é" * 32_769, Settings(), TOO_LONG),
+    ("(a*)", Settings(nest_limit=1), TOO_DEEP),
+    ("(a*)", Settings(nest_limit=2), 3),
+    (".", Settings(no_dot=0x80), OUTSIDE),
+    ("(?P<a>(?i)[a-z]+|\\w{2,3}?)(b)", Settings(), 9),
+]
+
+MOST = 2**64 - 1  # what weighs or has more is told as this
+# What patterns weigh, or None where the version of Unicode tells it, and how many nodes their programs have.
+WEIGHTS = [
+    ("", 4, 1),
+    ("a", 5, 1),
+    ("^", 4, 1),
+    ("$", 4, 1),
+    ("\\b", 4, 1),
+    (".", 6, 1),
+    ("[a-cx]", 6, 1),
+    ("ab", 7, 2),
+    ("a|b|c", 10, 4),
+    ("((a))", 9, 5),
+    ("[^\\s\\S]", 4, 1),
+    ("[\\x{D7FF}-\\x{E000}]", 5, 1),
+    ("(a)|b", 10, 5),
+    ("[a-c]{2,4}", 13, 6),
+    ("a?", 6, 2),
+    ("a*", 6, 2),
+    ("a*?", 6, 2),
+    ("\\w*", None, 2),
+    ("a{0,0}", 4, 1),
+    ("a{0,2}", 9, 4),
+    ("(?:a*)*", 8, 4),
+    ("(?:a*){0,}", 8, 4),
+    ("(?:a*){2,}", 10, 5),
+    ("(?:a?)*", 8, 4),
+    ("(?:\\b)*", 6, 3),
+    ("a+", 6, 2),
+    ("a{3,}", 10, 4),
+    ("a{3}", 9, 3),
+    ("a{65535}{65535}{0}", 4, 1),
+    ("^a{65535}a{65535}", 262_144, 131_071),
+    ("^^a{65535}a{65535}", 262_145, 131_072),
+    ("a{65535}{65535}{65535}{65535}", MOST, 65_535**4),
+    ("a{65535}{65535}{65535}{65535}{2}", MOST, MOST),
+    ("(?:a{65535}{65535}{65535}{65535}){0}", 4, 1),
+]
+
+# What is known of each part of a tree: its extent, weight and size, and whether it may be empty.
+PARTS = [
+    ("a*", [(1, 2, 1, False), (2, 3, 2, True)]),
+    (
+        "(a)|bc",
+        [(1, 2, 1), (2, 4, 3), (1, 2, 1), (1, 2, 1), (3, 4, 2), (6, 9, 6)],
+    ),
+]
+# Whether each part of a tree may be empty.
+EMPTY_PARTS = [("(?:\\b|a)+", [True, False, True, True])]
+
+GROUPS = [
+    ("", ""),
+    ("(?:a)(?i:b)(?i)", ""),
+    ("((a)|(?<b>c)*)", "- - b"),
+    ("(?<year>a)(b)|(?P<day>)", "year - day"),
+]
+
+# Each has its requests for memory refused in turn.
+IN_NEED = [
+    ("a", Settings()),
+    ("x*|(b|c)+?\\d{2,3}", Settings()),
+    ("(?P<year>\\d{4})-(?<month>[^\\W_])\\b|^$", Settings()),
+    ("(?P<a>(?i)[a-z]+|\\w{2,3}?)(b)", Settings()),
+    ("[k-m\\s](?-i:s)(?m)^.\\D", Settings("i")),
+    ("\\w[\\w]\\W[^\\w-][\\wa]", Settings("i")),
+    ("(" * 250 + ")" * 250, Settings()),
+    ("(a|b", Settings()),
+]
 
 
 def set_of(ranges):
@@ -25,7 +173,7 @@ def set_of(ranges):
 
 
 def tree_of(out):
-    """A tree as the page writes it, from the nodes that bin/memory-tests writes, each after those below it."""
+    """A tree as the page writes it, from the nodes that bin/search-driver writes, each after those below it."""
     trees = []
     for node in NODE.finditer(out):
         below = int(node["count"] or (1 if node["number"] or node["min"] else 0))
@@ -44,15 +192,68 @@ def tree_of(out):
     return ", ".join(trees)
 
 
-def test_all():
+def examples():
+    """The rows of the page, each as a pattern and its tree, or None where it is outside the grammar."""
     rows = example_rows("patterns.md", r"\| (?:`(.+)`|nothing) \| (?:`(.+)`|outside) \|")
+    return [((row[1] or "").replace("\\|", "|"), Settings(), row[2]) for row in rows]
+
+
+def wrong_trees(rows):
+    """What is wrong with the trees of patterns, of which each row has the settings and the tree, or None."""
+    told, wrong = answers([about("parse", pattern, settings=settings) for pattern, settings, _ in rows])
+    for (pattern, settings, tree), answer in zip(rows, told):
+        found = tree_of(answer) if answer != OUTSIDE else None
+        if found != tree or (not found and answer != OUTSIDE):
+            yield f"{pattern!r} under {settings} spells {found}, not {tree}: {short(answer.encode())}"
+    yield from wrong
+
+
+def wrong_parts():
+    """What is wrong with what is known of the parts of trees."""
+    rows = PARTS + EMPTY_PARTS
+    told, wrong = answers([about("parse", pattern) for pattern, _ in rows])
+    for (pattern, parts), answer in zip(rows, told):
+        found = [(*map(int, part[:3]), part[3] == "true") for part in PART.findall(answer)]
+        for part, due in zip(found, parts):
+            due = (*part[:3], due) if isinstance(due, bool) else (*due, False)[:4]
+            if part != due:
+                wrong.append(f"{pattern!r} has a part {part}, not {due}")
+        if len(found) != len(parts):
+            wrong.append(f"{pattern!r} has {len(found)} parts")
+    return wrong
+
+
+def wrong_sizes():
+    """What is wrong with how many nodes trees have, or why there is none."""
+    told, wrong = answers([about("weigh", pattern, settings=settings) for pattern, settings, _ in LARGE])
+    for (pattern, settings, due), answer in zip(LARGE, told):
+        if answer != due and answer.split(" ")[0] != str(due):
+            wrong.append(f"{pattern[:40]!r} .. of {len(pattern)} characters: {short(answer.encode())}, not {due}")
+    return wrong
+
+
+def wrong_weights():
+    told, wrong = answers([about("weigh", pattern) for pattern, _, _ in WEIGHTS])
+    for (pattern, weight, size), answer in zip(WEIGHTS, told):
+        numbers = (answer.split(" ") + [""] * 3)[1:3]
+        if str(size) != numbers[1] or str(weight or numbers[0]) != numbers[0]:
+            wrong.append(f"{pattern!r}: {answer}, not {weight} {size}")
+    return wrong
+
+
+def test_all():
+    rows = examples()
     test(f"the page of patterns has its examples ({len(rows)})", [] if len(rows) >= 40 else ["fewer than 40"])
-    for row in rows:
-        pattern = (row[1] or "").replace("\\|", "|")
-        ended = end_of(start(["parse", pattern], program=MEMORY_PROGRAM))
-        if row[2]:
-            spelled = tree_of(ended.out.decode())
-            wrong = [] if spelled == row[2] else [f"it spells {spelled}"]
-            test(f"{pattern!r} spells {row[2]}", wrong + differences(ended, ended.out, 0))
-        else:
-            test(f"{pattern!r} is outside the grammar", differences(ended, b"outside the grammar\n", 0))
+    test(f"{len(rows)} patterns of the page spell what it says", wrong_trees(rows))
+    rows = [(pattern, Settings(), tree) for pattern, tree in TREES] + TREES_UNDER
+    test(f"{len(rows)} further patterns spell what is told", wrong_trees(rows))
+    rows = [(pattern, Settings(), None) for pattern in REFUSED]
+    test(f"{len(rows)} texts are outside the grammar", wrong_trees(rows))
+    test(f"{len(LARGE)} patterns that are deep or long, or nearly so", wrong_sizes())
+    rows = [about("groups", pattern, names) for pattern, names in GROUPS]
+    test(f"the names of groups of {len(rows)} patterns", problems(rows))
+    test(f"what is known of the parts of {len(PARTS + EMPTY_PARTS)} patterns", wrong_parts())
+    test(f"{len(WEIGHTS)} patterns weigh what is told, and have programs of the size that is told", wrong_weights())
+    if library() is not None:
+        for pattern, settings in IN_NEED:
+            check_memory(about("parse", pattern, settings=settings), [PATTERN_WANT])

@@ -1,26 +1,31 @@
-"""What searches find, on bin/search-tests, which reads cases, one a line: patterns, haystacks in pieces, and
-perhaps slices, spans and anchoring.
+"""What searches find, on bin/search-driver: all matches with their groups, and what one search notes in slots, in
+haystacks that lie in pieces, and perhaps in slices and spans, anchored, and under settings of the engine.
 
 Its answers are those of the table tests/searches.jsonl, which Python's re made, those that stand here, and
-those of the model of tests/walks.py, to cases at random and to all slices and spans of short haystacks. SEARCH_TESTS
-names another program than bin/search-tests.
+those of the model of tests/walks.py, to cases at random and to all slices and spans of short haystacks. SEARCH_DRIVER
+names another program than bin/search-driver.
 """
 import itertools
 import json
 import os
 import random
 
-from harness import SEARCH_PROGRAM, TOP, differences, end_of, open_input, short, start, test
-from memory import counted, library, tallied
+from driver import OUTSIDE, PROGRAM_WANT, TOO_DEEP, TOO_LARGE, TOO_LONG, WANT, Case, Settings
+from driver import answer_to, check_memory, line_of, problems, written
+from harness import TOP, differences, short, test
+from memory import library, tallied
 from protocol import is_utf8
 from random_patterns import Maker, character
 from walks import LOOKS, Alternation, Concat, Empty, Group, Look, Repeat, Search, Set, is_word, spelled
 
 SIZES = (0, 1, 2, 3)  # how many bytes a piece has; 0: all are one piece
-RANDOM_CASES, BROKEN_HAYSTACKS = 1_500, 400
+RANDOM_CASES, CASES_UNDER_SETTINGS, RANDOM_SLOTS, BROKEN_HAYSTACKS = 1_500, 700, 500, 400
+
+ALL, FIRST, SECOND = True, 2, 3  # anchored: matches start at the span's start alone; of pattern 0, or of pattern 1
+BY_SEMICOLON, BY_LINE_FEED = Settings("m", line_end=ord(";")), Settings("m", line_end=ord("\n"))
 
 # Patterns, haystacks and their answers; where not all is asked for as it is at first, also the slice, the span, and
-# whether matches start at the span's start alone, and then perhaps the engine's settings.
+# where matches start, and then perhaps whether empty matches inside a character are found, and settings.
 VECTORS = [
     ("\\b", "a b c", "0-0 1-1 2-2 3-3 4-4 5-5"),
     ("x*", "x", "0-1"),
@@ -60,18 +65,75 @@ VECTORS = [
     ("a*", "aa", "", ((0, 2), (2, 1), False)),
     ("b", "ab", "", ((0, 2), (0, 2), True)),
     ("b", "abb", "1-2 2-3", ((0, 3), (1, 3), True)),
+    ("b", "abb", "1-2 2-3", ((0, 3), (1, 3), FIRST)),
+    ("b", "abb", "", ((0, 3), (1, 3), SECOND)),
     # Empty matches inside a character are found where the engine is told so, and lines end where it is told so.
-    ("x*", "せ", "0-0 1-1 2-2 3-3", ((0, 9), (0, 9), False), (1,)),
-    ("x*", "せx", "0-0 3-4", ((0, 9), (0, 9), False), (0,)),
-    ("x*", "せ", "0-0 3-3", ((0, 9), (0, 9), False), (0, 10)),
-    ("^b", "a;b", "2-3", ((0, 9), (0, 9), False), (0, 59)),
-    ("a$|^b", "a\nb", "", ((0, 9), (0, 9), False), (0, 59)),
-    ("a$|^b", "a\nb", "0-1 2-3", ((0, 9), (0, 9), False), (1, 10)),
+    ("x*", "せ", "0-0 1-1 2-2 3-3", ((0, 9), (0, 9), False), True),
+    ("x*", "せx", "0-0 3-4", ((0, 9), (0, 9), False), False),
+    ("x*", "せ", "0-0 3-3", ((0, 9), (0, 9), False), False, BY_LINE_FEED),
+    ("^b", "a;b", "2-3", ((0, 9), (0, 9), False), False, BY_SEMICOLON),
+    ("a$|^b", "a\nb", "", ((0, 9), (0, 9), False), False, BY_SEMICOLON),
+    ("a$|^b", "a\nb", "0-1 2-3", ((0, 9), (0, 9), False), True, BY_LINE_FEED),
+    ("a.", "aka;", "2-4", ((0, 9), (0, 9), False), False, Settings(no_dot=ord("k"))),
+    ("A+", "aAb", "0-1 1-2", ((0, 9), (0, 9), False), False, Settings("iU")),
     # Why there is no answer.
-    ("(", "a", "the pattern isn't in the grammar"),
-    ("(" * 251 + "a" + ")" * 251, "a", "the pattern is nested too deeply"),
-    ("a" * 65_537, "a", "the pattern has more than 65,536 bytes"),
-    ("a{65535}{65535}", "a", "the patterns are too large"),
+    ("(", "a", OUTSIDE),
+    ("(" * 251 + "a" + ")" * 251, "a", TOO_DEEP),
+    ("a" * 65_537, "a", TOO_LONG),
+    ("a{65535}{65535}", "a", TOO_LARGE),
+]
+
+# Patterns, how haystacks are cut, these, what is asked for, and what the first match notes in slots: its pattern, or
+# that there is none, and then a place or a dash for each slot.
+SLOTS = [
+    # Groups are told, and looks see the bytes of the neighbouring pieces.
+    ("(b)|(c)", "1", "a b c", None, "0 2 3 2 3 - -"),
+    ("(\\w) (\\w)$", "1", "a b c", None, "0 2 5 2 3 4 5"),
+    ("(?:(\\w) ?)*", "1", "a b c", None, "0 0 5 4 5 - -"),
+    (" \\b(.)", "1", "a b c", None, "0 1 3 2 3 - -"),
+    ("x*", "1", "a b c", None, "0 0 0 - - - -"),
+    ("^b", "1", "a b c", None, "none - - - - - -"),
+    ("\\Bb", "1", "a b c", None, "none - - - - - -"),
+    # Pieces may cut a character, and be empty.
+    ("(.)b", "1.3", "せb", None, "0 0 4 0 3 - -"),
+    ("\\B", "1.3", "せb", None, "0 3 3 - - - -"),
+    ("b\\b", "1.3", "せb", None, "0 3 4 - - - -"),
+    ("[^b]$", "1.3", "せb", None, "none - - - - - -"),
+    # No empty match stands inside a character, wherever the span starts.
+    ("x*", "0", "せb", ((0, 9), (1, 4), False), "0 3 3 - - - -"),
+    ("(.)", "0", "せb", ((0, 9), (1, 4), False), "0 3 4 3 4 - -"),
+    # A slice hides what stands outside from looks, and a span doesn't.
+    ("^bar", "0", "foobar", ((0, 6), (3, 6), False), "none - - - - - -"),
+    ("^bar", "0", "foobar", ((3, 6), (3, 6), False), "0 3 6 - - - -"),
+    ("fo(o*?)", "0", "foobar", ((0, 6), (0, 2), False), "0 0 2 2 2 - -"),
+    # An anchored search finds what starts with the span; that of a pattern which isn't there finds nothing.
+    ("bar", "0", "foobar", ((0, 6), (3, 6), False), "0 3 6 - - - -"),
+    ("bar", "0", "foobar", ((0, 6), (3, 6), ALL), "0 3 6 - - - -"),
+    ("bar", "0", "foobar", ((0, 6), (3, 6), FIRST), "0 3 6 - - - -"),
+    ("bar", "0", "foobar", ((0, 6), (3, 6), SECOND), "none - - - - - -"),
+    ("bar", "0", "foobar", ((0, 6), (0, 6), ALL), "none - - - - - -"),
+    # A byte that was passed over where a look was refused isn't where it holds.
+    ("\\bb", "5.2.3", "abab b.\nbb", None, "0 5 6 - - - -"),
+    ("(?m)^b|c", "5.2.3", "abab b.\nbb", None, "0 8 9 - - - -"),
+    ("[b]$", "5.2.3", "abab b.\nbb", None, "0 9 10 - - - -"),
+    # Slots are noted, and put back.
+    ("(a)|(b)", "0", "b", None, "0 0 1 - - 0 1"),
+    ("(b)|(b)", "0", "b", None, "0 0 1 0 1 - -"),
+    ("(b*)(b*)", "0", "b", None, "0 0 1 0 1 1 1"),
+    ("(b*?)(b*)", "0", "b", None, "0 0 1 0 0 0 1"),
+    ("(?:(a)|(b))*", "0", "b", None, "0 0 1 - - 0 1"),
+    ("(?:(b)|(a))*", "0", "b", None, "0 0 1 0 1 - -"),
+    ("((b)a|b)", "0", "b", None, "0 0 1 0 1 - -"),
+    ("(b)(a)", "0", "b", None, "none - - - - - -"),
+    # There may be fewer slots than the program names, and more.
+    ("(a)", "0", "a", None, "0"),
+    ("(a)", "0", "ab", None, "0 0"),
+    ("(a)", "0", "a", None, "0 0 1"),
+    ("(a)", "0", "aa", None, "0 0 1 0"),
+    ("(a)", "0", "aa", None, "0 0 1 0 1"),
+    ("(a)", "0", "ba", None, "0 1 2 1 2 - - - -"),
+    ("(a)", "0", "b", None, "none"),
+    ("(a)", "0", "b", None, "none - - - - -"),
 ]
 
 A, ACUTE, WORD, ANY = character("a"), character("é"), Set("\\w", is_word), Set("(?s:.)", lambda c: True)
@@ -92,8 +154,6 @@ UNITS = [text.encode() for text in "aab \néせ🐸"]
 UNITS += [b"\xc3", b"\xe3\x81", b"\x81", b"\xf0\x9f\x90", b"\xf0", b"\x9f\x90", b"\x80"]
 UNITS += [b"\xed\xa0\x80", b"\xc0\x81", b"\xf4\x90\x80\x80", b"\xff"]
 
-NO_MEMORY = [b"there was no memory for the program\n", b"no memory\n"]
-
 # A content that begins anew after each 50 bytes, so that its long part leads a search to nothing that its short one
 # doesn't. Both parts start at one place, and the places where they end have as many digits, so that all cases take as
 # much memory to read. And patterns that match nothing in a part, or all of it: then with the places of their groups,
@@ -104,28 +164,7 @@ MATCHING_NOTHING = ["(a|b|ab)*c", "(\\w+)\\s*=>\\s*(\\w+)", "(?i)todo|error", "(
 MATCHING_ALL = [("(?s).+", []), ("(?:(\\w+)|(\\W))+", [(7, 1), (1, 0)]), ("(?s)(?:(.)(.)?)*", [(3, 1), (1, 0)])]
 
 
-class Case:
-    """A search, and what the program has to answer to it."""
-
-    def __init__(self, pattern, haystack, answer, size=0, asked=None, settings=()):
-        self.pattern, self.haystack, self.answer, self.size = pattern, haystack, answer, size
-        self.asked = asked  # the slice, the span, and whether matches start at the span's start alone
-        self.settings = settings  # 1 where empty matches inside a character are found, and the byte that ends lines
-
-    def line(self):
-        fields = [self.size, self.pattern.encode().hex(), self.haystack.hex()]
-        if self.asked:
-            slice_, span, is_anchored = self.asked
-            fields += [*slice_, *span, int(is_anchored), *self.settings]
-        return ",".join(map(str, fields)) + "\n"
-
-    def __str__(self):
-        asked = f" (slice, span, anchored: {self.asked})" if self.asked else ""
-        settings = f", settings {self.settings}" if self.settings else ""
-        return f"{self.pattern[:70]!r} in {short(self.haystack)}, pieces of {self.size}{asked}{settings}"
-
-
-def written(matches):
+def listed(matches):
     """Matches as the program writes them."""
 
     def place(span):
@@ -134,39 +173,50 @@ def written(matches):
     return " ".join(",".join(map(place, groups)) for groups in matches)
 
 
-def case_of(tree, haystack, size=0, asked=None):
+def search(pattern, haystack, answer, cut=0, asked=None, inside=False, settings=Settings(), slots=None, taken=None):
+    """A search for all matches, or for the first one, of which so many slots are told. It is asked for a slice, a span,
+    and where matches start, in so many bytes of the haystack."""
+    slice_, span, anchored = asked or ((None, None), (None, None), None)
+    fields = [written(pattern), *settings.fields(), cut, haystack.hex(), *slice_, *span]
+    fields += ["" if anchored is None else int(anchored), int(inside)]
+    line = line_of("search", *fields, taken) if slots is None else line_of("slots", *fields, slots)
+    name = f"{pattern[:70]!r} in {short(haystack)}, cut by {cut}" + ("" if slots is None else f", {slots} slots")
+    name += f" (slice, span, anchored: {asked})" if asked else ""
+    name += f", inside characters {inside}, {settings}" if inside or settings != Settings() else ""
+    return Case(name, line, answer)
+
+
+def case_of(tree, haystack, cut=0, asked=None, inside=False, line_end=b"\n"):
     """A case that the model answers."""
-    matches = Search(tree, haystack, *(asked or ())).matches()
-    return Case(spelled(tree), haystack, written(matches), size, asked)
+    matches = Search(tree, haystack, *(asked or (None, None, False)), inside, line_end).matches()
+    settings = Settings(line_end=line_end[0])
+    return search(spelled(tree), haystack, listed(matches), cut, asked, inside, settings)
 
 
-def answer_to(lines, environment=None):
-    with open_input(lines.encode()) as given:
-        return end_of(start((), environment, program=SEARCH_PROGRAM, stdin=given))
-
-
-def problems(cases):
-    """What is wrong with the answers to cases, which are sent in one run."""
-    ended = answer_to("".join(case.line() for case in cases))
-    answers = ended.out.decode(errors="replace").split("\n")
-    if len(answers) != len(cases) + 1:
-        yield f"{len(answers) - 1} answers to {len(cases)} cases"
-    for case, answer in zip(cases, answers):
-        if answer != case.answer:
-            yield f"{case}: {answer!r}, not {case.answer!r}"
-    yield from differences(ended, ended.out, 0)
+def slots_of(tree, haystack, count, cut=0, asked=None):
+    """A case about so many slots that the model answers."""
+    model = Search(tree, haystack, *(asked or ()))
+    found = model.find(model.span[0])
+    places = [str((found or {}).get(slot, "-")) for slot in range(count)]
+    answer = " ".join(["none" if found is None else "0", *places])
+    return search(spelled(tree), haystack, answer, cut, asked, slots=count)
 
 
 def table():
     with open(os.path.join(TOP, "tests", "searches.jsonl"), encoding="utf-8") as file:
         rows = [json.loads(line) for line in file]
     for size, row in itertools.product(SIZES, rows):
-        yield Case(row["pattern"], row["haystack"].encode(), written(row["matches"]), size)
+        yield search(row["pattern"], row["haystack"].encode(), listed(row["matches"]), size)
 
 
 def vectors():
     for size, (pattern, haystack, answer, *asked) in itertools.product(SIZES, VECTORS):
-        yield Case(pattern, haystack.encode(), answer, size, *asked)
+        yield search(pattern, haystack.encode(), answer, size, *asked)
+
+
+def told_slots():
+    for pattern, cut, haystack, asked, answer in SLOTS:
+        yield search(pattern, haystack.encode(), answer, cut, asked, slots=len(answer.split()) - 1)
 
 
 def asked_at_random(chance, length):
@@ -187,17 +237,31 @@ def is_worth(chance, case):
     return any(start != end for start, end in wholes) or chance.random() < 0.3
 
 
-def at_random(count=RANDOM_CASES):
-    chance = random.Random(11)
+def at_random(seed, count, has_settings=False):
+    """Cases at random, perhaps with empty matches inside characters and another byte that ends lines."""
+    chance, settings = random.Random(seed), ()
     maker = Maker(chance)
     while count > 0:
         tree = maker.tree()
         haystack = maker.haystack(tree).encode()
         asked = asked_at_random(chance, len(haystack)) if count % 3 else None
-        case = case_of(tree, haystack, chance.choice((0, 1, 2, 3, 5)), asked)
+        size = chance.choice((0, 1, 2, 3, 5))
+        if has_settings:
+            settings = (chance.random() < 0.5, chance.choice([b"\n", b"a", b" ", b"\x81"]))
+        case = case_of(tree, haystack, size, asked, *settings)
         if is_worth(chance, case):
             count -= 1
             yield case
+
+
+def slots_at_random(count=RANDOM_SLOTS):
+    chance = random.Random(13)
+    maker = Maker(chance)
+    for _ in range(count):
+        tree = maker.tree()
+        haystack = maker.haystack(tree).encode()
+        asked = chance.choice([None, asked_at_random(chance, len(haystack))])
+        yield slots_of(tree, haystack, chance.randint(0, 2 * maker.groups + 4), chance.choice((0, 1, 2)), asked)
 
 
 def pairs(low, high):
@@ -236,51 +300,53 @@ def not_utf8(count=BROKEN_HAYSTACKS):
             yield from cases
 
 
-def refusals(case, count):
-    """The case is answered, or want of memory is told, whichever request is refused, alone or with all that
-    follow. Where the program can't read its input, it says nothing."""
-    whole, seen = f"{case.answer}\n".encode(), set()
-    for number, name in itertools.product(range(1, count + 1), ("at", "from")):
-        ended, _, _ = counted(lambda environment: answer_to(case.line(), environment), **{name: number})
-        seen.add(ended.out)
-        if ended.status != 1 or ended.out:
-            for line in differences(ended, ended.out if ended.out in NO_MEMORY else whole, 0):
-                yield f"{name} request {number}: {line}"
-    for word in NO_MEMORY:
-        if word not in seen:
-            yield f"no refusal came to {short(word)}"
+# Each has its requests for memory refused in turn.
+IN_NEED = [
+    search("(a)|b", b"ab", "0-1,0-1 1-2,-", 1),
+    search("(?:([a-é]+?)|\\b){2}x?", "aé 🐸".encode(), "0-3,1-3", 2),
+    search("a*", b"xaa", "1-2", 1, ((0, 3), (1, 2), True)),
+]
 
 
-def check_memory(case):
-    ended, count, _ = counted(lambda environment: answer_to(case.line(), environment))
-    test(f"{case}, nothing refused", differences(ended, f"{case.answer}\n".encode(), 0))
-    test(f"{case}, with each of its {count} requests refused, alone and with all that follow", refusals(case, count))
-
-
-def memory_for(pattern, groups, end):
+def memory_for(pattern, groups, end, *how):
     """What is wrong with the answer to a search in a part of the long content, and how often and for how many bytes
     the program asks for memory."""
     matches = [] if groups is None else [[(START, end)] + [(end - first, end - last) for first, last in groups]]
-    case = Case(pattern, LONG, written(matches), 984, ((0, len(LONG)), (START, end), False))
-    ended, count, _, total = tallied(lambda environment: answer_to(case.line(), environment))
+    case = search(pattern, LONG, listed(matches), *how)
+    ended, count, _, total = tallied(lambda environment: answer_to(case.line, environment))
     return differences(ended, f"{case.answer}\n".encode(), 0), (count, total)
 
 
+def in_part(end):
+    """A search in a part of the long content, which lies in pieces."""
+    return 984, ((0, len(LONG)), (START, end), False)
+
+
+def in_front(end):
+    """A search in the last part of the long content, which is cut there, and lies in one piece."""
+    return 0, ((0, end), (START, end), False), False, Settings(), None, end
+
+
 def check_long(pattern, groups=None):
-    """A search asks for memory as often in the long part as in the short one, and for as many bytes."""
-    wrong, little = memory_for(pattern, groups, SHORT_END)
-    more_wrong, much = memory_for(pattern, groups, LONG_END)
-    if little != much:
-        more_wrong.append("%d requests for %d bytes in the short part, %d for %d in the long one" % (*little, *much))
-    parts = f"{SHORT_END - START} and {LONG_END - START} bytes"
-    test(f"{pattern!r} in parts of {parts} of a content, with {little[0]} requests for memory", wrong + more_wrong)
+    """A search asks for memory as often in the long part as in the short one, and for as many bytes, and so in a long
+    content and in a short one."""
+    for name, how in [("parts of a content", in_part), ("contents", in_front)]:
+        wrong, little = memory_for(pattern, groups, SHORT_END, *how(SHORT_END))
+        more_wrong, much = memory_for(pattern, groups, LONG_END, *how(LONG_END))
+        if little != much:
+            more_wrong.append("%d requests for %d bytes in short %s, %d for %d in long ones" % (*little, name, *much))
+        name = f"{pattern!r} in {name} that end at {SHORT_END} and {LONG_END}, with {little[0]} requests for memory"
+        test(name, wrong + more_wrong)
 
 
 def test_all():
     parts = [
         ("searches of the table, in one piece and in pieces of 1, 2 and 3 bytes", table()),
         ("searches with answers that are told, in such pieces", vectors()),
-        ("searches at random, in slices, spans and pieces at random", at_random()),
+        ("searches of which the slots are told, more or fewer than there are", told_slots()),
+        ("searches at random, in slices, spans and pieces at random", at_random(11, RANDOM_CASES)),
+        ("searches at random, under settings at random", at_random(14, CASES_UNDER_SETTINGS, True)),
+        ("searches at random for the first match's slots", slots_at_random()),
         ("searches in all slices and spans of short haystacks", slices_and_spans()),
         ("searches in bytes that are no UTF-8", not_utf8()),
     ]
@@ -288,9 +354,9 @@ def test_all():
         cases = list(cases)
         test(f"{len(cases)} {name}", problems(cases))
     if library() is not None:
-        check_memory(Case("(a)|b", b"ab", "0-1,0-1 1-2,-", 1))
-        check_memory(Case("(?:([a-é]+?)|\\b){2}x?", "aé 🐸".encode(), "0-3,1-3", 2))
-        check_memory(Case("a*", b"xaa", "1-2", 1, ((0, 3), (1, 2), True)))
+        due = [PROGRAM_WANT, WANT, b"again"]
+        for case in IN_NEED:
+            check_memory(case, due, f"{case.answer}\n".encode())
         for pattern in MATCHING_NOTHING:
             check_long(pattern)
         for pattern, groups in MATCHING_ALL:

@@ -165,16 +165,16 @@ def is_cut(before, after):
     return (before and not last_character(before)) or (after and not first_character(after))
 
 
-# When each look holds, by the bytes before a place and those after it.
+# When each look holds, by the bytes before a place and those after it, and the byte that ends lines.
 LOOKS = {
-    "\\A": lambda before, after: not before,
-    "^": lambda before, after: not before,
-    "\\z": lambda before, after: not after,
-    "$": lambda before, after: not after,
-    "(?m:^)": lambda before, after: not before or before.endswith(b"\n"),
-    "(?m:$)": lambda before, after: not after or after.startswith(b"\n"),
-    "\\b": lambda before, after: sum(words(before, after)) == 1,
-    "\\B": lambda before, after: sum(words(before, after)) != 1 and not is_cut(before, after),
+    "\\A": lambda before, after, line_end: not before,
+    "^": lambda before, after, line_end: not before,
+    "\\z": lambda before, after, line_end: not after,
+    "$": lambda before, after, line_end: not after,
+    "(?m:^)": lambda before, after, line_end: not before or before.endswith(line_end),
+    "(?m:$)": lambda before, after, line_end: not after or after.startswith(line_end),
+    "\\b": lambda before, after, line_end: sum(words(before, after)) == 1,
+    "\\B": lambda before, after, line_end: sum(words(before, after)) != 1 and not is_cut(before, after),
 }
 
 
@@ -252,10 +252,12 @@ class Program:
 
 class Search:
     """Searches of a content for a tree, with a slice, outside of which nothing is seen, and a span, in which a
-    match has to lie. Both are whole contents if not told; ends beyond the content are as its end."""
+    match has to lie. Both are whole contents if not told; ends beyond the content are as its end. Empty matches
+    inside a character are found if `inside` is told, and lines end in the byte `line_end`."""
 
-    def __init__(self, tree, content, slice_=None, span=None, is_anchored=False):
+    def __init__(self, tree, content, slice_=None, span=None, is_anchored=False, inside=False, line_end=b"\n"):
         self.program, self.content, self.is_anchored = Program(tree), content, is_anchored
+        self.inside, self.line_end = inside, line_end
         self.slice, self.span = slice_ or (0, len(content)), span or (0, len(content))
         self.low = max(self.slice[0], self.span[0])
         self.high = min(self.slice[1], self.span[1], len(content))
@@ -263,7 +265,7 @@ class Search:
 
     def holds(self, look, place):
         """Whether a look holds at a place, in the content cut to the slice."""
-        return look(self.content[self.slice[0] : place], self.content[place : self.slice[1]])
+        return look(self.content[self.slice[0] : place], self.content[place : self.slice[1]], self.line_end)
 
     def least_walk(self, node, place, taken=frozenset()):
         """The least walk from a node at a place, as where it ends and what it notes, or None. No pair of node
@@ -290,12 +292,13 @@ class Search:
 
     def find(self, start):
         """The least walk of the least start that counts, as the places in its slots, or None. Starts are the
-        places from `start` on, or that one alone. An empty walk counts only at the content's end and before a
-        byte that continues no character. A slot has the place that was noted last."""
+        places from `start` on, or that one alone. An empty walk counts at the content's end and before a byte that
+        continues no character, and anywhere if `inside`. A slot has the place that was noted last."""
         last = min(start, self.high) if self.is_anchored else self.high
         for place in range(start, last + 1):
             walk = self.least_walk(self.program.start, place) if place >= self.low else None
-            if walk and (walk[0] != place or self.content[place : place + 1] not in CONTINUE):
+            is_inside = self.content[place : place + 1] in CONTINUE
+            if walk and (walk[0] != place or self.inside or not is_inside):
                 return dict(walk[1])
         return None
 

@@ -1,6 +1,6 @@
 use Rattle.std.proofs.Common.{◌≡◌, ◌++◌, length}
 use Rattle.rx_input.specs.Chunks.{joined}
-use Rattle.search_tests.proofs.cases.pieces.Given as goal
+use Rattle.search_driver.proofs.haystacks.even_pieces.Given as goal
 
 -- the pieces and what is left are the haystack
 abbrev pub invariant-loop-rest : goal.invariant-loop-rest

@@ -1,163 +1,57 @@
-//! One case: a pattern searched for in a haystack that lies in pieces.
+//! All matches of a pattern in a haystack that lies in pieces.
 
-ghost use Rattle.std.specs.Prelude.{◌≡◌, ◌^◌, ◌<◌, ◌≤◌, IfOk, OnOk, length};
+ghost use Rattle.std.specs.Prelude.{◌≡◌, ◌^◌, ◌<◌, ◌≤◌, OnOk, length};
 ghost use Rattle.rx_steps.specs.Caches.{IsCacheOf};
 ghost use Rattle.rx_input.specs.Chunks.{joined};
 
-use hex::FromHexError;
+use crate::fields::{Fault, Fields, TERMINATOR};
+use crate::haystacks::{Asked, haystack, input, pieces};
 use rx_chunk::pikevm::{self, Builder, Cache, Config, PikeVM};
-use rx_grammar::syntax;
 use rx_input::{ChunkCursor, Input};
-use rx_program::BuildError;
-use rx_util::{Anchored, Captures, Match, MatchError, PatternID, Span};
+use rx_util::{Captures, Match, MatchError, PatternID};
 use std::alloc::{AllocError, Global};
-use thiserror::Error;
 
-/// What is asked of an input beside the pattern: its slice, its span, and whether matches start at
-/// the span's start alone. One that starts more than a place past its end isn't asked for.
-#[derive(Drop)]
-struct Asked {
-    slice: Span,
-    span: Span,
-    is_anchored: bool,
-}
+/// Where it stands in a line how the haystack is cut, and the haystack and what is asked for
+/// behind it.
+pub const CUT: usize = 6;
 
-impl Asked {
-    /// The parts of a line from the fourth on, if there are so many: five numbers, the last of them
-    /// 0 or 1.
-    fn read(parts: &[&str]) -> Option<Asked> {
-        let slice = Span {
-            start: number(parts, 3)?,
-            end: number(parts, 4)?,
-        };
-        let span = Span {
-            start: number(parts, 5)?,
-            end: number(parts, 6)?,
-        };
-        let is_anchored = number(parts, 7)? > 0;
-        Some(Asked {
-            slice,
-            span,
-            is_anchored,
-        })
-    }
-}
+pub const HAYSTACK: usize = 7;
 
-/// The part of a line with this index, if it is a number.
-fn number(parts: &[&str], index: usize) -> Option<usize> {
-    match parts.get(index)?.parse::<usize>() {
-        Ok(number) => Some(number),
-        Err(_) => None,
-    }
-}
+pub const ASKED: usize = 8;
 
-/// An input over pieces of a haystack.
-fn input<'a>(pieces: &'a [&'a [u8]], asked: &Option<Asked>) -> Input<ChunkCursor<'a>>
-    requires { length (joined pieces.now) < 2 ^ 63 }
-{
-    let mut input = Input::new(ChunkCursor::new(pieces));
-    if let Some(asked) = asked
-        && asked.slice.start <= asked.slice.end.saturating_add(1)
-        && asked.span.start <= asked.span.end.saturating_add(1)
-    {
-        input.slice_span(asked.slice);
-        input.set_span(asked.span);
-        if asked.is_anchored {
-            input.set_anchored(Anchored::Yes);
-        }
-    }
-    input
-}
+/// Where it stands whether empty matches inside a character are found.
+const INSIDE: usize = 13;
 
-/// Why a case has no answer.
-#[derive(Debug, Drop, Error)]
-pub enum Fault {
-    /// The line is no case.
-    #[error("no case")]
-    Line,
-    /// The pattern is refused.
-    #[error("{0}")]
-    Pattern(BuildError),
-    /// There was no memory.
-    #[error("no memory")]
-    Memory,
-    /// Two calls that should agree don't.
-    #[error("calls differ")]
-    Differs,
-}
+/// Where the length stands that the haystack is cut to before the search.
+const TAKEN: usize = 14;
 
-impl From<AllocError> for Fault {
-    fn from(_: AllocError) -> Fault {
-        Fault::Memory
-    }
-}
-
-impl From<MatchError> for Fault {
-    fn from(_: MatchError) -> Fault {
-        Fault::Memory
-    }
-}
-
-/// The part of a line with this index, which is bytes in hexadecimal digits.
-fn bytes(alloc: Global, parts: &[&str], index: usize) -> Result<Vec<u8>, Fault> {
-    let Some(digits) = parts.get(index) else {
-        return Err(Fault::Line);
-    };
-    match hex::decode(alloc, *digits) {
-        Ok(bytes) => Ok(bytes),
-        Err(FromHexError::OutOfMemory) => Err(Fault::Memory),
-        Err(_) => Err(Fault::Line),
-    }
-}
-
-/// A haystack cut into pieces of so many bytes, the last one shorter. With 0 it is one piece.
-fn pieces(alloc: Global, haystack: &[u8], size: usize) -> Result<Vec<&[u8]>, AllocError>
-    ensures { IfOk result (λ pieces. joined pieces.items ≡ haystack.now) }
-{
-    let mut pieces = Vec::new(alloc);
-    let size = if size == 0 { haystack.len() } else { size };
-    let mut rest = haystack;
-    while !rest.is_empty() {
-        let (piece, behind) = rest.split_at(size.max(1).min(rest.len()));
-        pieces.push(piece)?;
-        rest = behind;
-    }
-    Ok(pieces)
-}
-
-/// A builder with the settings that a line asks for: 1 where empty matches inside a character are
-/// found too, and the byte that ends lines.
-fn builder(parts: &[&str]) -> Builder {
+/// The engine that a line asks for.
+pub fn engine(alloc: Global, fields: &Fields) -> Result<PikeVM, Fault> {
+    let pattern = fields.pattern(alloc)?;
     let mut builder = Builder::new();
-    if let Some(1) = number(parts, 8) {
+    builder.syntax(fields.settings());
+    if fields.number(INSIDE) == Some(1) {
         builder.configure(Config::new().utf8_empty(false));
     }
-    if let Some(byte) = number(parts, 9)
-        && byte < 256
-    {
-        builder.configure(Config::new().line_terminator(byte as u8));
-        builder.syntax(syntax::Config::new().multi_line(true));
+    if let Some(byte) = fields.byte(TERMINATOR) {
+        builder.configure(Config::new().line_terminator(byte));
     }
-    builder
+    Ok(builder.build(alloc, &pattern)?)
 }
 
-/// The answer to a case.
-pub fn answer(alloc: Global, line: &str) -> Result<String, Fault> {
-    let parts: Vec<&str> = line.split(',').collect(alloc)?;
-    let Some(size) = number(&parts, 0) else {
-        return Err(Fault::Line);
-    };
-    let asked = Asked::read(&parts);
-    let haystack = bytes(alloc, &parts, 2)?;
-    let pattern = bytes(alloc, &parts, 1)?;
-    let Ok(pattern) = str::from_utf8(&pattern) else {
-        return Err(Fault::Line);
-    };
-    let vm = match builder(&parts).build(alloc, pattern) {
-        Ok(vm) => vm,
-        Err(error) => return Err(Fault::Pattern(error)),
-    };
-    let pieces = pieces(alloc, &haystack, size)?;
+/// All matches, parted by blanks, each as the places of its groups, parted by commas, a dash for a
+/// group that matched nothing. Where a search was refused, it is asked for again with what served
+/// it, and `again` stands first.
+pub fn matches(alloc: Global, fields: &Fields) -> Result<String, Fault> {
+    let haystack = haystack(alloc, fields, HAYSTACK)?;
+    let vm = engine(alloc, fields)?;
+    let asked = Asked::read(fields, ASKED);
+    let taken = fields.number(TAKEN).unwrap_or(haystack.len());
+    let pieces = pieces(
+        alloc,
+        &haystack[..taken.min(haystack.len())],
+        fields.word(CUT),
+    )?;
     search_all(alloc, &vm, &pieces, &asked)
 }
 
@@ -221,13 +115,13 @@ fn tell_all(
     let mut out = String::new(alloc);
     let mut last = None;
     for wanted in found {
-        if next_match(vm, cache, input, caps, last)? != Some(*wanted) {
+        if next_or_again(&mut out, vm, cache, input, caps, last)? != Some(*wanted) {
             return Err(Fault::Differs);
         }
         tell(alloc, &mut out, vm, caps)?;
         last = Some(wanted.end());
     }
-    match next_match(vm, cache, input, caps, last)? {
+    match next_or_again(&mut out, vm, cache, input, caps, last)? {
         Some(_) => Err(Fault::Differs),
         None => Ok(out),
     }
@@ -245,6 +139,30 @@ fn spans<'a>(
         found.push(next?).map_err(|_| Fault::Memory)?;
     }
     Ok(found)
+}
+
+/// The match that is found next. Where the search is refused, it is asked for once more, with the
+/// same cache, captures and input, and that is told.
+fn next_or_again(
+    out: &mut String,
+    vm: &PikeVM,
+    cache: &mut Cache,
+    input: &mut Input<ChunkCursor>,
+    caps: &mut Captures,
+    last: Option<usize>,
+) -> Result<Option<Match>, Fault>
+    requires made { IsCacheOf vm.now.program cache.old }
+    requires groups { caps.old.groups ≡ vm.now.groups }
+    requires slots { 2 ≤ length caps.old.slots }
+    ensures made { IsCacheOf vm.now.program cache.new }
+    ensures groups { caps.new.groups ≡ vm.now.groups }
+    ensures slots { 2 ≤ length caps.new.slots }
+{
+    if let Ok(found) = next_match(vm, cache, input, caps, last) {
+        return Ok(found);
+    }
+    out.push_str(" again")?;
+    Ok(next_match(vm, cache, input, caps, last)?)
 }
 
 /// The match that is found from the end of the last one on. An empty one there is passed over.

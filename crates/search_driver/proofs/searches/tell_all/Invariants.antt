@@ -1,6 +1,6 @@
 use Rattle.std.proofs.Common.{◌≡◌, ◌≤◌, length}
 use Rattle.rx_steps.specs.Caches.{IsCacheOf}
-use Rattle.search_tests.proofs.cases.tell_all.Given as goal
+use Rattle.search_driver.proofs.searches.tell_all.Given as goal
 
 -- the cache and the captures serve the engine
 abbrev pub invariant-loop-wanted : goal.invariant-loop-wanted

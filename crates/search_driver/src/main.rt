@@ -1,0 +1,71 @@
+//! A program for tests of patterns and searches. Each line that it reads is a case: a word and
+//! then fields, all parted by commas, and an empty field is one that isn't told. It answers each
+//! case with a line.
+//!
+//! Patterns and haystacks are written in hexadecimal digits; the haystack `all` is every scalar
+//! value, in order. `CUT` says how a haystack is cut into pieces: a number is how many bytes each
+//! has (0: all are one piece), and several, parted by dots, are the lengths of the first pieces, of
+//! which some may be empty, before one more piece of all that is left. `SETTINGS` are four fields:
+//! of the letters `imsU` those of the flags that are on, the limit of nesting, the byte that `.`
+//! doesn't match, and the byte that ends lines for `^` and `$`. `ASKED` are five numbers: where the
+//! slice and the span start and end, and 1 for matches at the span's start alone, or from 2 on for
+//! those of pattern 0, 1 and so on.
+//!
+//! - `parse,PATTERN,SETTINGS`: the pattern's weight, its tree, and what is known of its parts.
+//! - `weigh,PATTERN,SETTINGS`: how many nodes the tree has, its weight, and its program's size.
+//! - `groups,PATTERN,SETTINGS`: the names of the groups, a dash for one without a name.
+//! - `compile,PATTERN,SETTINGS,LIMIT`: the states of the program.
+//! - `build,PATTERN,SETTINGS,LIMIT`: how many they are.
+//! - `search,PATTERN,SETTINGS,CUT,HAYSTACK,ASKED,INSIDE,TAKEN`: all matches, with their groups.
+//!   `INSIDE` is 1 where empty matches inside a character are found too; and the haystack is cut to
+//!   the length `TAKEN` first.
+//! - `slots,PATTERN,SETTINGS,CUT,HAYSTACK,ASKED,INSIDE,COUNT`: what the first match notes in so many
+//!   slots.
+//! - `pieces,CUT,HAYSTACK`: the pieces that a cursor shows.
+//! - `places,CUT,HAYSTACK,ASKED,TERMINATOR`: what is seen at each place of the slice, where lines
+//!   end in this byte.
+//! - `moved,CUT,HAYSTACK,AT,START,END`: where a position is once a span is set.
+#![tactic(auto)]
+
+mod fields;
+mod haystacks;
+mod inputs;
+mod patterns;
+mod programs;
+mod searches;
+mod slots;
+
+use fields::{Fault, Fields};
+use std::alloc::Global;
+use std::io::{self, BufRead, BufReader};
+
+/// The answer to a case.
+fn answer(alloc: Global, line: &str) -> Result<String, Fault> {
+    let fields = Fields::of(alloc, line)?;
+    match fields.word(0) {
+        "parse" => patterns::tree(alloc, &fields),
+        "weigh" => patterns::weight(alloc, &fields),
+        "groups" => patterns::groups(alloc, &fields),
+        "compile" => programs::states(alloc, &fields),
+        "build" => programs::size(alloc, &fields),
+        "search" => searches::matches(alloc, &fields),
+        "slots" => slots::noted(alloc, &fields),
+        "pieces" => inputs::pieces(alloc, &fields),
+        "places" => inputs::places(alloc, &fields),
+        "moved" => inputs::moved(alloc, &fields),
+        _ => Err(Fault::Line),
+    }
+}
+
+/// Writes for each case a line: the answer, or why there is none.
+fn main(rt: HostRuntime) -> io::Result<()> {
+    let alloc = rt.alloc();
+    for line in BufReader::new(alloc, rt.reader())?.lines(alloc) {
+        let line = line?;
+        match answer(alloc, line.as_str()) {
+            Ok(answer) => println!(rt; "{}", answer.as_str())?,
+            Err(fault) => println!(rt; "{fault}")?,
+        }
+    }
+    Ok(())
+}

@@ -1,0 +1,141 @@
+"""Contents that lie in pieces, on bin/search-driver: the pieces that a cursor shows, going on and back; what is seen at
+each place, which looks hold there among it, against the model of tests/walks.py; and where positions move."""
+import itertools
+
+from driver import Case, answers, line_of, problems
+from harness import short, test
+from walks import CONTINUE, LOOKS
+
+# The signs of looks, in the order in which they are told.
+SIGNS = [("A", "\\A"), ("z", "\\z"), ("^", "(?m:^)"), ("$", "(?m:$)"), ("b", "\\b"), ("B", "\\B")]
+SIDE = 4  # how many bytes on each side looks see
+
+# Haystacks, how they are cut, and the pieces that are shown. Pieces may cut a character, and empty ones aren't shown.
+SHOWN = [
+    (b"a\xe3\x81", "0", [b"a\xe3\x81"]),
+    ("aせ".encode(), "0", ["aせ".encode()]),
+    ("aせ".encode(), "1", [b"a", b"\xe3", b"\x81", b"\x9b"]),
+    ("aせ".encode(), "3", [b"a\xe3\x81", b"\x9b"]),
+    (b"", "0", [b""]),
+    (b"", "1", [b""]),
+    (b"", "0.0", [b""]),
+    ("aせb".encode(), "0.2.0.0.1.2", [b"a\xe3", b"\x81", b"\x9bb"]),
+    (b"one two", "4.0", [b"one ", b"two"]),
+]
+
+WHOLE = "aせb🐸".encode()
+CUTS = ["0", "1", "2.0.5.1.1", "3"]  # how it is cut
+
+# Slices of haystacks at whose places all is told, with the byte that ends lines.
+SEEN = [WHOLE, b"", b"a b c", "a \xe9\nb".encode(), b"a\r\nb\n", b"a.\xf0\x9f\x90 b", b"a\xc3\xc3\xa9b", b"a\x90\xb8a", b"\0a\0"]
+
+# The looks between bytes before a place and bytes behind it, where a line feed ends a line.
+LOOKS_BETWEEN = [
+    (b"", b"", "Az^$B"),
+    (b"", b"a", "A^b"),
+    (b" ", b"", "z$B"),
+    (b"a", b" ", "b"),
+    (b"a", b"b", "B"),
+    (b".", b" ", "B"),
+    (b"a\n", b"b", "^b"),
+    (b"a", b"\nb", "$b"),
+    (b"a", b"\r\n", "b"),
+    (b"a\xc3\xa9", b"\xe3\x81\x9b", "B"),
+    (b"a\xc3", b"\xa9b", ""),
+    (b"a\xf0\x9f\x90", b" ", ""),
+    (b"a", b"\x90\xb8a", "b"),
+    (b"\xf0\x9f\x90\xb8", b"a", "b"),
+]
+
+
+def shown():
+    for haystack, cut, pieces in SHOWN:
+        starts = itertools.accumulate(map(len, pieces), initial=0)
+        told = [f"{start}:{piece.hex()}" for start, piece in zip(starts, pieces)]
+        answer = " ".join([f"Some({len(haystack)})", *told, "|", *reversed(told)])
+        yield Case(f"pieces of {short(haystack)} cut by {cut}", line_of("pieces", cut, haystack.hex()), answer)
+
+
+def signs_at(haystack, slice_, at, line_end):
+    before, after = haystack[slice_[0] : at], haystack[at : slice_[1]]
+    return "".join(sign for sign, look in SIGNS if LOOKS[look](before, after, line_end))
+
+
+def place(haystack, slice_, end, at, line_end):
+    """What is seen at a place of a slice, in a span that ends there."""
+    before = haystack[max(slice_[0], at - SIDE) : at].hex()
+    after = haystack[at : min(slice_[1], at + SIDE)].hex()
+    is_boundary = haystack[at : at + 1] not in CONTINUE
+    byte = haystack[at] if at < min(slice_[1], end, len(haystack)) else "-"
+    return f"{at},{str(is_boundary).lower()},{before},{after},{byte},{signs_at(haystack, slice_, at, line_end)}"
+
+
+def seen_in(haystack, cut, slice_, span, line_end=b"\n"):
+    places = range(slice_[0], min(slice_[1], len(haystack)) + 1)
+    answer = " ".join(place(haystack, slice_, span[1], at, line_end) for at in places)
+    name = f"places of {short(haystack)} cut by {cut}, slice {slice_}, span {span}, lines end in {line_end}"
+    return Case(name, line_of("places", cut, haystack.hex(), *slice_, *span, 0, line_end[0]), answer)
+
+
+def pairs(low, high):
+    return itertools.combinations_with_replacement(range(low, high + 1), 2)
+
+
+def seen():
+    for haystack, cut in itertools.product(SEEN, CUTS):
+        for slice_ in pairs(0, len(haystack)):
+            yield seen_in(haystack, cut, slice_, slice_)
+        yield seen_in(haystack, cut, (0, len(haystack)), (0, len(haystack) // 2))
+        yield seen_in(haystack, cut, (0, len(haystack)), (0, len(haystack) + 2), b"\0")
+        yield seen_in(haystack, cut, (0, len(haystack) + 3), (0, len(haystack)), b" ")
+
+
+def wrong_looks():
+    """Where the model doesn't say what is told of looks between bytes."""
+    for before, after, due in LOOKS_BETWEEN:
+        found = signs_at(before + after, (0, len(before + after)), len(before), b"\n")
+        if found != due:
+            yield f"between {short(before)} and {short(after)} the model has {found}, not {due}"
+
+
+def looks_between():
+    """What is seen between the bytes that are told, whose looks the model has."""
+    for (before, after, _), cut in itertools.product(LOOKS_BETWEEN, CUTS):
+        both = before + after
+        yield seen_in(both, cut, (0, len(both)), (0, len(both)))
+
+
+def moved_to(at, start, end, length):
+    """Where a position is once the span is set, from the whole content to this one."""
+    return min(start, length) if at < start else min(end, length) if end < at else at
+
+
+def moves():
+    for cut, at in itertools.product(CUTS, range(len(WHOLE))):
+        for start in range(len(WHOLE) + 2):
+            for end in range(max(start - 1, 0), len(WHOLE) + 3):
+                name = f"move from {at} into {start}..{end} of {short(WHOLE)} cut by {cut}"
+                to = moved_to(at, start, end, len(WHOLE))
+                yield Case(name, line_of("moved", cut, WHOLE.hex(), at, start, end), str(to))
+
+
+def wrong_moves():
+    """What is wrong with positions, and with the pieces that are shown there."""
+    cases = list(moves())
+    told, wrong = answers(cases)
+    for case, answer in zip(cases, told):
+        to, rest, offset = (answer.split(" ") + ["", "0"])[:3]
+        if to != case.answer or not WHOLE[int(to) :].startswith(bytes.fromhex(rest)) or int(offset) > int(to):
+            wrong.append(f"{case.name}: {answer}, not {case.answer}")
+        if int(to) < len(WHOLE) and not rest:
+            wrong.append(f"{case.name}: the piece that is shown has no byte there")
+    return wrong
+
+
+def test_all():
+    for name, cases in [("pieces that are shown", shown()), ("places that are looked at", seen())]:
+        cases = list(cases)
+        test(f"{len(cases)} contents with {name}", problems(cases))
+    cases = list(looks_between())
+    test(f"the looks in {len(cases)} contents are those that are told", [*wrong_looks(), *problems(cases)])
+    test("positions move into each span from each place", wrong_moves())

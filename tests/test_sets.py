@@ -1,0 +1,194 @@
+"""The sets of patterns, and the automata that read them, on bin/search-driver: sets that are told, and searches of
+every scalar value, of bytes with each first and second byte, and of bytes at random, of which most are no UTF-8.
+
+What a search finds of a set is compared with the ranges that the pattern spells, where Python's own UTF-8 decoder tells
+the characters; and the ranges with Python's judgement of the scalar values that its version of Unicode knows.
+"""
+import re
+import unicodedata
+
+from driver import Case, Settings, about, answers, line_of, written
+from harness import short, test
+from walks import is_digit, is_space, is_word
+
+LAST = 0x10FFFF
+RANGES = re.compile(r"\((\d+), (\d+)\)")
+SEPARATOR = b"\n"
+
+# Sets as ranges of code points. U+212A is the kelvin sign, and U+017F the long s.
+KELVINS, LONG_S = [(0x4B, 0x4B), (0x6B, 0x6B), (0x212A, 0x212A)], [(0x53, 0x53), (0x73, 0x73), (0x17F, 0x17F)]
+SPACES = [(0x9, 0xD), (0x20, 0x20), (0x85, 0x85), (0xA0, 0xA0), (0x1680, 0x1680), (0x2000, 0x200A), (0x2028, 0x2029)]
+SPACES += [(0x202F, 0x202F), (0x205F, 0x205F), (0x3000, 0x3000)]
+SETS = [
+    ("[\\x05-\\x07\\x00-\\x02\\x03\\x06]", [(0, 3), (5, 7)]),
+    ("[^\\x05-\\x07\\x00-\\x02\\x03\\x06]", [(4, 4), (8, LAST)]),
+    ("[^\\s\\S]", []),
+    ("[\\s\\S]", [(0, LAST)]),
+    ("(?s).", [(0, LAST)]),
+    (".", [(0, 9), (11, LAST)]),
+    ("[\\x{D7FF}-\\x{E000}]", [(0xD7FF, 0xE000)]),
+    ("\\x{D7FF}", [(0xD7FF, 0xD7FF)]),
+    ("[\\x{E000}\\x{10FFFF}]", [(0xE000, 0xE000), (LAST, LAST)]),
+    ("k", [(0x6B, 0x6B)]),
+    ("(?i)k", KELVINS),
+    ("(?i)[k]", KELVINS),
+    ("(?i)s", LONG_S),
+    ("(?i)\\x{17F}", LONG_S),
+    ("(?i)1", [(0x31, 0x31)]),
+    ("(?i)[a-z]", [(0x41, 0x5A), (0x61, 0x7A), (0x17F, 0x17F), (0x212A, 0x212A)]),
+    ("\\s", SPACES),
+]
+# What sets have and haven't, of the characters that are told.
+MEMBERS = [
+    ("[\\s]", "\t\n\x0b\x0c\r \x85\u3000", "a\u200b"),
+    ("\\d", "0123456789\U0001fbf9", "/:a"),
+    ("\\w", "\u200d_é7", "-"),
+    ("\\W", "-", "\u200d_é7"),
+    ("[k\\da-f]", "k7d", "Kg"),
+    ("(?i)[^k]", "j", "kK\u212a"),
+    ("(?i)[\\w]", "k", "-"),
+    ("(?i)[^\\w-]", "+", "-k"),
+    ("(?i)[^a-f\\d]", "x", "D7"),
+]
+
+# Sets that are searched for in every scalar value, by runs of members, and what Python judges of a character.
+JUDGED = [
+    ("\\w", is_word),
+    ("\\W", lambda c: not is_word(c)),
+    ("\\d", is_digit),
+    ("\\D", lambda c: not is_digit(c)),
+    ("\\s", is_space),
+    ("\\S", lambda c: not is_space(c)),
+    (".", lambda c: c != "\n"),
+    ("(?s:.)", lambda c: True),
+    ("[^a]", lambda c: c != "a"),
+    ("[\\x{D7FF}-\\x{E000}]", lambda c: c in "\ud7ff\ue000"),
+    ("[é-せ]", lambda c: "é" <= c <= "せ"),
+    ("(?i:k)", lambda c: c in "kK\u212a"),
+    ("[^\\s\\S]", lambda c: False),
+]
+# Sets of which each member is searched for by itself, also in bytes that are no UTF-8.
+SINGLE = ["\\w", "\\W", ".", "(?s:.)", "[^a]", "[\\x{D7FF}-\\x{E000}]"]
+
+EVERY = "".join(map(chr, [*range(0xD800), *range(0xE000, LAST + 1)]))
+KNOWN = [c for c in EVERY if unicodedata.category(c) != "Cn"]
+
+
+def offsets(text):
+    """The places in UTF-8 of the characters of a text, of which a byte that is none is a surrogate, and of its end."""
+    places, at = [0], 0
+    for character in text:
+        code = ord(character)
+        at += 1 if code < 0x80 or 0xDC80 <= code <= 0xDCFF else 2 if code < 0x800 else 3 if code < 0x10000 else 4
+        places.append(at)
+    return places
+
+
+def code_points(answer):
+    """The ranges of the one set that an answer to `parse` tells, which numbers scalar values without surrogates."""
+
+    def code(number):
+        return number + (0x800 if number >= 0xD800 else 0)
+
+    found = re.search(r"nodes: \[Set\(CharacterSet \{ ranges: \[(.*?)\] \}\)\]", answer)
+    return [(code(int(low)), code(int(high))) for low, high in RANGES.findall(found[1])] if found else None
+
+
+def members_of(ranges):
+    """A 1 for each code point in the ranges that is no surrogate, and a 0 for each other one."""
+    members = bytearray(LAST + 1)
+    for low, high in ranges or []:
+        members[low : high + 1] = b"\1" * (high + 1 - low)
+    members[0xD800:0xE000] = bytes(0x800)
+    return members
+
+
+def search(pattern, haystack, answer=None):
+    name = f"search of {pattern!r} in {short(haystack) if isinstance(haystack, bytes) else 'every scalar value'}"
+    told = [written(pattern), *Settings().fields(), 0, haystack.hex() if isinstance(haystack, bytes) else haystack]
+    return Case(name, line_of("search", *told), answer)
+
+
+def wrong_sets():
+    """What is wrong with the sets that are told, and with those whose members are."""
+    told, wrong = answers([about("parse", pattern) for pattern, _ in SETS])
+    for (pattern, ranges), answer in zip(SETS, told):
+        if code_points(answer) != ranges:
+            wrong.append(f"{pattern!r} spells {short(answer.encode())}")
+    told, more_wrong = answers([about("parse", pattern) for pattern, _, _ in MEMBERS])
+    for (pattern, members, others), answer in zip(MEMBERS, told):
+        found = members_of(code_points(answer))
+        wrong += [f"{pattern!r} and {c!r}" for c in members + others if found[ord(c)] != (c in members)]
+    return wrong + more_wrong
+
+
+def wrong_judgements(pattern, ranges, has):
+    """Where Python judges otherwise, of the scalar values that its version of Unicode knows."""
+    members = members_of(ranges)
+    for c in KNOWN:
+        if members[ord(c)] != has(c):
+            yield f"{pattern!r} and {c!r} (U+{ord(c):04X})"
+
+
+def difference(case, answer, due):
+    """What is wrong with a long answer: where it is another one first."""
+    if answer != due:
+        found, wanted = answer.split(" "), due.split(" ")
+        at = next((at for at, pair in enumerate(zip(found, wanted)) if pair[0] != pair[1]), min(len(found), len(wanted)))
+        yield f"{case.name}: {found[at : at + 3]}, not {wanted[at : at + 3]}, as match {at}"
+
+
+def wrong_runs():
+    """What is wrong with runs of members among all scalar values, which are the set's maximal ranges."""
+    places, count = offsets(EVERY), len(JUDGED)
+    index = {code: at for at, code in enumerate(map(ord, EVERY))}
+    spelled, wrong = answers([about("parse", pattern) for pattern, _ in JUDGED])
+    cases = [search(f"(?:{pattern})+", "all") for pattern, _ in JUDGED]
+    told, more_wrong = answers(cases)
+    for number in range(count):
+        (pattern, has), ranges = JUDGED[number], code_points(spelled[number]) or []
+        due = " ".join(f"{places[index[low]]}-{places[index[high] + 1]}" for low, high in ranges)
+        wrong += [*difference(cases[number], told[number], due), *wrong_judgements(pattern, ranges, has)]
+    return wrong + more_wrong
+
+
+def matches_due(text, places, ranges):
+    """All matches of a set in a text of which these are the places. A byte that is no UTF-8 is a surrogate there."""
+    members = members_of(ranges)
+    return " ".join(f"{places[at]}-{places[at + 1]}" for at, c in enumerate(text) if members[ord(c)])
+
+
+def wrong_singles(haystack):
+    """What is wrong with members that are searched for one by one, in every scalar value or in these bytes."""
+    text = EVERY if haystack == "all" else haystack.decode("utf-8", "surrogateescape")
+    places = offsets(text)
+    spelled, wrong = answers([about("parse", pattern) for pattern in SINGLE])
+    cases = [search(pattern, haystack) for pattern in SINGLE]
+    told, more_wrong = answers(cases)
+    for case, answer, ranges in zip(cases, told, map(code_points, spelled)):
+        wrong += difference(case, answer, matches_due(text, places, ranges))
+    return wrong + more_wrong
+
+
+def first_and_second_bytes():
+    """Bytes with each first and second byte, parted by line feeds."""
+    thirds = [0x7F, 0x80, 0xBF, 0xC0]
+    rows = (bytes([first, second, third, 0x80]) for first in range(256) for second in range(256) for third in thirds)
+    return SEPARATOR.join(rows) + SEPARATOR + b"\xe2\x82"
+
+
+def bytes_at_random(count=100_000):
+    """So many times four bytes that look as if drawn by lot, parted by line feeds."""
+    rows, seed = [], 1
+    for _ in range(count):
+        seed = (seed * 6_364_136_223_846_793_005 + 1_442_695_040_888_963_407) % 2**64
+        rows.append(seed.to_bytes(8, "big")[:4])
+    return SEPARATOR.join(rows)
+
+
+def test_all():
+    test(f"{len(SETS) + len(MEMBERS)} sets are what is told", wrong_sets())
+    test(f"runs of {len(JUDGED)} sets in every scalar value, which Python judges too", wrong_runs())
+    test(f"members of {len(SINGLE)} sets one by one in every scalar value", wrong_singles("all"))
+    test("the same in bytes with each first and second byte", wrong_singles(first_and_second_bytes()))
+    test("the same in 400,000 bytes at random", wrong_singles(bytes_at_random()))
