@@ -27,7 +27,7 @@ fn two_patterns(alloc: Global) -> Result<Vec<Vec<Option<String>>>, AllocError>
     Ok(names)
 }
 
-/// The groups of patterns, and where their slots lie.
+/// The groups of patterns, and how many slots they have.
 #[test]
 fn group_info(rt: HostRuntime) -> Result<(), Fail> {
     let names = two_patterns(rt.alloc())?;
@@ -41,6 +41,15 @@ fn group_info(rt: HostRuntime) -> Result<(), Fail> {
     assert_eq!(rt; info.group_len(unknown), 0);
     assert_eq!(rt; info.slot_len(), 10);
     assert_eq!(rt; info.implicit_slot_len(), 4);
+    Ok(())
+}
+
+/// Names of groups, and where their slots lie.
+#[test]
+fn names_and_slots(rt: HostRuntime) -> Result<(), Fail> {
+    let info = GroupInfo::new(rt.alloc(), two_patterns(rt.alloc())?)?;
+    let first = PatternID::ZERO;
+    let second = PatternID::new(1);
     assert_eq!(rt; info.to_index(first, "year"), Some(1));
     assert_eq!(rt; info.to_index(first, "day"), None);
     assert_eq!(rt; info.to_name(second, 1), Some("year"));
@@ -188,7 +197,16 @@ fn sparse_set(rt: HostRuntime) -> Result<(), Fail> {
     set.clear();
     assert_eq!(rt; set.len(), 0);
     assert_eq!(rt; copy.len(), 2);
-    let mut states = copy.iter();
+    Ok(())
+}
+
+/// The members in their order, and sets for other numbers of states, which are empty.
+#[test]
+fn members_and_room(rt: HostRuntime) -> Result<(), Fail> {
+    let mut set = SparseSet::new(rt.alloc(), 4)?;
+    set.insert(StateID::new(3));
+    set.insert(StateID::new(1));
+    let mut states = set.iter();
     assert_eq!(rt; states.next(), Some(StateID::new(3)));
     assert_eq!(rt; states.next(), Some(StateID::new(1)));
     assert_eq!(rt; states.next(), None);

@@ -3,7 +3,7 @@
 use rx_grammar::syntax::Config;
 use rx_grammar::{
     CharacterSet, ClassItem, ClassPerlKind, Hir, Look, Node, Properties, Repetition, SyntaxError,
-    ordinal, parse,
+    from_ordinal, ordinal, parse,
 };
 use rx_sets::AtomSets;
 use std::test::Fail;
@@ -124,4 +124,25 @@ fn atom_sets(rt: HostRuntime) -> Result<(), Fail> {
     assert_eq!(rt; set.contains(ordinal('7')), false);
     assert_eq!(rt; set.contains(ordinal('x')), true);
     Ok(())
+}
+
+/// Ranges of a set may come in any order, and one that ends before it begins is empty.
+#[test]
+fn ranges(rt: HostRuntime) -> Result<(), Fail> {
+    let ranges = vec![in rt.alloc(); (5, 7), (0, 2), (3, 3), (9, 8), (6, 6)]?;
+    let set = CharacterSet::from_ranges(ranges)?;
+    assert_eq!(rt; set.ranges(), [(0, 3), (5, 7)].as_slice());
+    assert_eq!(rt;
+        CharacterSet::empty(rt.alloc()).complement()?.ranges().len(),
+        1
+    );
+    Ok(())
+}
+
+/// Ordinals number the scalar values, and no number past them.
+#[test]
+fn ordinals(rt: HostRuntime) {
+    assert_eq!(rt; from_ordinal(ordinal('\u{10FFFF}')), Some('\u{10FFFF}'));
+    assert_eq!(rt; from_ordinal(0xD800), Some('\u{E000}'));
+    assert_eq!(rt; from_ordinal(1_112_064), None);
 }

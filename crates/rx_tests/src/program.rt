@@ -2,16 +2,22 @@
 
 use rx_grammar::syntax::Config;
 use rx_grammar::{SyntaxError, parse};
-use rx_program::{BuildError, State, compile};
+use rx_program::{BuildError, Program, State, compile};
 use rx_util::{PatternID, StateID};
+use std::alloc::Global;
 use std::test::Fail;
+
+/// The program of a pattern under default settings. It stands apart from tests so that they are
+/// checked fast: `compile` has a long contract.
+pub(crate) fn compiled(alloc: Global, pattern: &str) -> Result<Program, Fail> {
+    let hir = parse(alloc, pattern, &Config::new())?;
+    Ok(compile(alloc, &[&hir], b'\n', None)?)
+}
 
 /// A program: the note of the start, a fork, a letter, the note of the end, and the end.
 #[test]
 fn program(rt: HostRuntime) -> Result<(), Fail> {
-    let alloc = rt.alloc();
-    let hir = parse(alloc, "a*", &Config::new())?;
-    let program = compile(alloc, &[&hir], b'\n', None)?;
+    let program = compiled(rt.alloc(), "a*")?;
     assert_eq!(rt; program.start(), StateID::new(0));
     assert_eq!(rt; program.patterns(), [StateID::new(0)].as_slice());
     assert_eq!(rt; program.line_terminator(), b'\n');
@@ -22,9 +28,7 @@ fn program(rt: HostRuntime) -> Result<(), Fail> {
 /// A state: greedy prefers the edge into what is repeated.
 #[test]
 fn state(rt: HostRuntime) -> Result<(), Fail> {
-    let alloc = rt.alloc();
-    let hir = parse(alloc, "a*", &Config::new())?;
-    let program = compile(alloc, &[&hir], b'\n', None)?;
+    let program = compiled(rt.alloc(), "a*")?;
     match program.states().get(1) {
         Some(State::BinaryUnion(first, second)) => {
             assert_eq!(rt; first.as_usize(), 2);

@@ -36,6 +36,14 @@ fn input(rt: HostRuntime) -> Result<(), Fail> {
     let seen = input.look_around();
     assert_eq!(rt; seen.bytes(), "one t".as_bytes());
     assert_eq!(rt; seen.position(), 1);
+    Ok(())
+}
+
+/// What is asked for is set anew, and positions move with it.
+#[test]
+fn changed_input(rt: HostRuntime) -> Result<(), Fail> {
+    let mut input = Input::new("one two");
+    input.slice(..=4).anchored(Anchored::Yes).earliest(true);
     let mut other = input.clone();
     other.set_start(2);
     other.set_end(3);
@@ -52,4 +60,34 @@ fn input(rt: HostRuntime) -> Result<(), Fail> {
     assert_eq!(rt; other.position(), 7);
     assert_eq!(rt; other.is_char_boundary(), true);
     Ok(())
+}
+
+/// Whether a cursor has these bytes in one piece.
+fn is_one_piece<C: Cursor>(cursor: &mut C, bytes: &[u8]) -> bool {
+    let moves = cursor.advance() || cursor.backtrack();
+    let is_whole = cursor.total_bytes() == Some(bytes.len()) && cursor.utf8_aware();
+    !moves && is_whole && cursor.offset() == 0 && cursor.chunk() == bytes
+}
+
+/// A slice and a text are one piece, also where they are empty, and so behind a reference.
+#[test]
+fn one_piece(rt: HostRuntime) {
+    let mut bytes: &[u8] = b"a\xE3\x81";
+    assert!(rt; is_one_piece(&mut bytes, b"a\xE3\x81"));
+    let mut text = "a\u{305B}";
+    assert!(rt; is_one_piece(&mut &mut text, b"a\xE3\x81\x9B"));
+    let mut empty = "";
+    assert!(rt; is_one_piece(&mut empty, b""));
+}
+
+/// A clone of an input over chunks goes its own way.
+#[test]
+fn clones(rt: HostRuntime) {
+    let chunks: [&[u8]; 2] = [b"ab", b"cd"];
+    let input = Input::new(ChunkCursor::new(&chunks));
+    let mut clone = input.clone();
+    clone.move_to(3);
+    assert_eq!(rt; clone.chunk_offset(), 2);
+    assert_eq!(rt; clone.position(), 3);
+    assert_eq!(rt; input.position(), 0);
 }

@@ -1,8 +1,8 @@
-//! An example for each public type.
+//! Engines of `rx_chunk`: a match with its groups, all matches, and settings.
 
-use rx_chunk::pikevm::{self, PikeVM};
+use rx_chunk::pikevm::{self, Config, PikeVM};
 use rx_input::{ChunkCursor, Input};
-use rx_util::Span;
+use rx_util::{MatchKind, Span};
 use std::test::Fail;
 
 /// A match is told with its groups, and then all matches one after the other, in content that lies
@@ -27,4 +27,16 @@ fn groups_and_matches(rt: HostRuntime) -> Result<(), Fail> {
     }
     assert_eq!(rt; last, Some(Span { start: 13, end: 22 }));
     Ok(())
+}
+
+/// A setting that isn't set is the default, and one that is set is told.
+#[test]
+fn settings(rt: HostRuntime) {
+    let config = Config::new().line_terminator(b';').utf8_empty(false);
+    let config = config.match_kind(MatchKind::LeftmostFirst);
+    assert!(rt; config.get_match_kind() == MatchKind::LeftmostFirst);
+    assert!(rt; !config.get_utf8_empty() && config.get_line_terminator() == b';');
+    let config = Config::default();
+    assert!(rt; config.get_match_kind() == MatchKind::LeftmostFirst);
+    assert!(rt; config.get_utf8_empty() && config.get_line_terminator() == b'\n');
 }
