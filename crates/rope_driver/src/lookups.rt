@@ -24,16 +24,21 @@ pub(crate) use tell_lengths;
 macro_rules! tell_places {
     ($text:expr, $idx:expr, $out:expr) => {{
         let idx: usize = $idx;
-        write!($out, "{:?} ", $text.try_byte_to_char(idx))?;
-        write!($out, "{:?} ", $text.try_byte_to_line(idx))?;
-        write!($out, "{:?} ", $text.try_char_to_byte(idx))?;
-        write!($out, "{:?} ", $text.try_char_to_line(idx))?;
-        write!($out, "{:?} ", $text.try_char_to_utf16_cu(idx))?;
-        write!($out, "{:?} ", $text.try_utf16_cu_to_char(idx))?;
-        write!($out, "{:?} ", $text.try_line_to_byte(idx))?;
-        write!($out, "{:?} ", $text.try_line_to_char(idx))?;
-        write!($out, "{:?} ", $text.get_byte(idx))?;
-        write!($out, "{:?} ", $text.get_char(idx).map(|c| c as u32))?;
+        for place in [
+            $text.try_byte_to_char(idx),
+            $text.try_byte_to_line(idx),
+            $text.try_char_to_byte(idx),
+            $text.try_char_to_line(idx),
+            $text.try_char_to_utf16_cu(idx),
+            $text.try_utf16_cu_to_char(idx),
+            $text.try_line_to_byte(idx),
+            $text.try_line_to_char(idx),
+        ] {
+            write!($out, "{place:?} ")?;
+        }
+        let byte = $text.get_byte(idx);
+        let character = $text.get_char(idx).map(|c| c as u32);
+        write!($out, "{byte:?} {character:?} ")?;
         tell_part($out, $text.get_line(idx))
     }};
 }
@@ -44,12 +49,16 @@ pub(crate) use tell_places;
 macro_rules! tell_parts {
     ($text:expr, $call:ident, $tell:ident, $start:expr, $end:expr, $out:expr) => {{
         let (start, end): (usize, usize) = ($start, $end);
-        $tell($out, $text.$call(start..end))?;
-        $tell($out, $text.$call(start..=end))?;
-        $tell($out, $text.$call(start..))?;
-        $tell($out, $text.$call(..end))?;
-        $tell($out, $text.$call(..=end))?;
-        $tell($out, $text.$call(..))
+        for part in [
+            $text.$call(start..end),
+            $text.$call(start..=end),
+            $text.$call(start..),
+            $text.$call(..end),
+            $text.$call(..=end),
+            $text.$call(..),
+        ] {
+            $tell($out, part)?;
+        }
     }};
 }
 

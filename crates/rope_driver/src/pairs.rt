@@ -42,15 +42,17 @@ pub fn answer(alloc: Global, left: &str, right: &str, out: &mut String) -> Resul
     let (left, right) = (leaves::whole(&left), leaves::whole(&right));
     let text = right.to_text(alloc)?;
     let order = left.cmp(&right);
-    let is_equal = left == right;
-    let is_text = left.eq_str(&text);
+    write!(out, "{order:?}")?;
     let (bytes, writes) = hashes_of(left);
     let (other_bytes, other_writes) = hashes_of(right);
-    let is_hashed = bytes == other_bytes;
-    let is_written = writes == other_writes;
-    write!(
-        out,
-        "{order:?} {is_equal} {is_text} {is_hashed} {is_written};"
-    )?;
+    for is_so in [
+        left == right,
+        left.eq_str(&text),
+        bytes == other_bytes,
+        writes == other_writes,
+    ] {
+        write!(out, " {is_so}")?;
+    }
+    out.push(';')?;
     Ok(())
 }

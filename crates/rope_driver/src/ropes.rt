@@ -151,8 +151,9 @@ impl Ropes {
 
     /// Writes the parts of characters and of bytes from one index up to another.
     fn tell_all_parts(&self, start: usize, end: usize, out: &mut String) -> Result<(), AllocError> {
-        tell_parts!(self.rope, get_slice, tell_part, start, end, out)?;
-        tell_parts!(self.rope, get_byte_slice, tell_part, start, end, out)
+        tell_parts!(self.rope, get_slice, tell_part, start, end, out);
+        tell_parts!(self.rope, get_byte_slice, tell_part, start, end, out);
+        Ok(())
     }
 
     /// Makes an edit.

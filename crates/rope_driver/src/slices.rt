@@ -93,7 +93,7 @@ fn tell_all_parts(
     end: usize,
     out: &mut String,
 ) -> Result<(), Fault> {
-    tell_parts!(slice, try_slice, tell_part_or_error, start, end, out)?;
-    tell_parts!(slice, try_byte_slice, tell_part_or_error, start, end, out)?;
+    tell_parts!(slice, try_slice, tell_part_or_error, start, end, out);
+    tell_parts!(slice, try_byte_slice, tell_part_or_error, start, end, out);
     Ok(())
 }
