@@ -12,6 +12,7 @@ BREAKS = "\n\v\f\r\x85\u2028\u2029"
 
 MOST_BYTES = 984  # of a chunk
 GREATEST = 2**64 - 1  # of all indices
+CHUNK_KINDS = ("chunks_at_byte", "chunks_at_char", "chunks_at_line_break")
 
 
 def hexed(text):

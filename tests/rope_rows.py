@@ -2,7 +2,7 @@
 
 A row is a line that is sent, and what is due: a line, or a call that tells what is wrong with one.
 """
-from harness import ROPE_PROGRAM, differences, end_of, open_input, start
+from harness import ROPE_PROGRAM, differences, end_of, open_input, start, test
 from rope_model import MOST_BYTES, Cut, hexed, lengths, ok, range_refusal, refused, text_of
 
 BATCH = 20_000  # how many rows go into one run
@@ -28,6 +28,12 @@ def problems(rows):
             elif answer != due:
                 yield difference(line, due, answer)
         yield from differences(ended, ended.out, 0)
+
+
+def check(name, rows):
+    """Counts rows as one test."""
+    rows = list(rows)
+    test(f"{len(rows)} {name}", problems(rows))
 
 
 def short(line, size=150):

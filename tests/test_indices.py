@@ -8,9 +8,8 @@ import itertools
 from bisect import bisect_right
 
 import rope_model
-from harness import test
 from rope_model import hexed
-from rope_rows import problems
+from rope_rows import check
 
 # The characters that break lines, by module. CR LF is one break where both are among them.
 LINES = {"lines": "\n\v\f\r\x85\u2028\u2029", "lines_crlf": "\r\n", "lines_lf": "\n"}
@@ -184,11 +183,6 @@ def known():
     for text, name, dues in KNOWN_PLACES:
         yield f"indices {hexed(text)} {' '.join(f'{idx},0' for idx in dues)}", functools.partial(wrong_places, name, dues)
         yield row(text, list(dues), (0, 1, 2))
-
-
-def check(name, rows):
-    rows = list(rows)
-    test(f"{len(rows)} {name}", problems(rows))
 
 
 def test_all():
