@@ -14,6 +14,8 @@ TOO_LONG = "the pattern has more than 65,536 bytes"
 TOO_DEEP = "the pattern is nested too deeply"
 OUTSIDE = "the pattern isn't in the grammar"
 TOO_LARGE = "the patterns are too large"
+EVERY_CHARACTER = "all"  # the haystack of all scalar values
+
 # How want of memory is told: by the program itself, and of a pattern that is parsed or compiled.
 WANT = b"no memory\n"
 PATTERN_WANT, PROGRAM_WANT = b"there was no memory for the pattern\n", b"there was no memory for the program\n"
@@ -58,6 +60,23 @@ def about(word, pattern, answer=None, settings=Settings(), *more):
     settings_told = f" under {settings}" if settings != Settings() else ""
     name = f"{word} {pattern[:70]!r}{settings_told}{' with ' + str(more) if more else ''}"
     return Case(name, line_of(word, written(pattern), *settings.fields(), *more), answer)
+
+
+def search(
+    pattern, haystack, answer=None, cut=0, asked=None, inside=False, settings=Settings(), slots=None, taken=None
+):
+    """A case of a search for all matches, or for the first one, of which so many slots are told. It is asked for a
+    slice, a span, and where matches start, in so many bytes of the haystack, which `EVERY_CHARACTER` may stand for."""
+    slice_, span, anchored = asked or ((None, None), (None, None), None)
+    is_told = haystack != EVERY_CHARACTER
+    fields = [written(pattern), *settings.fields(), cut, haystack.hex() if is_told else haystack, *slice_, *span]
+    fields += ["" if anchored is None else int(anchored), int(inside)]
+    line = line_of("search", *fields, taken) if slots is None else line_of("slots", *fields, slots)
+    name = f"{pattern[:70]!r} in {short(haystack) if is_told else haystack}, cut by {cut}"
+    name += "" if slots is None else f", {slots} slots"
+    name += f" (slice, span, anchored: {asked})" if asked else ""
+    name += f", inside characters {inside}, {settings}" if inside or settings != Settings() else ""
+    return Case(name, line, answer)
 
 
 def answer_to(lines, environment=None):

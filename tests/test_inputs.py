@@ -26,8 +26,9 @@ SHOWN = [
 WHOLE = "aせb🐸".encode()
 CUTS = ["0", "1", "2.0.5.1.1", "3"]  # how it is cut
 
-# Slices of haystacks at whose places all is told, with the byte that ends lines.
-SEEN = [WHOLE, b"", b"a b c", "a \xe9\nb".encode(), b"a\r\nb\n", b"a.\xf0\x9f\x90 b", b"a\xc3\xc3\xa9b", b"a\x90\xb8a", b"\0a\0"]
+# Haystacks of which it is told what is seen at each place of each slice.
+SEEN = [WHOLE, b"", b"a b c", "a é\nb".encode(), b"a\r\nb\n", b"a.\xf0\x9f\x90 b", b"a\xc3\xc3\xa9b", b"a\x90\xb8a"]
+SEEN += [b"\0a\0"]
 
 # The looks between bytes before a place and bytes behind it, where a line feed ends a line.
 LOOKS_BETWEEN = [

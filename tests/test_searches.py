@@ -10,9 +10,9 @@ import json
 import os
 import random
 
-from driver import OUTSIDE, PROGRAM_WANT, TOO_DEEP, TOO_LARGE, TOO_LONG, WANT, Case, Settings
-from driver import answer_to, check_memory, line_of, problems, written
-from harness import TOP, differences, short, test
+from driver import OUTSIDE, PROGRAM_WANT, TOO_DEEP, TOO_LARGE, TOO_LONG, WANT, Settings
+from driver import answer_to, check_memory, problems, search
+from harness import TOP, differences, test
 from memory import library, tallied
 from protocol import is_utf8
 from random_patterns import Maker, character
@@ -171,19 +171,6 @@ def listed(matches):
         return "-" if span is None else f"{span[0]}-{span[1]}"
 
     return " ".join(",".join(map(place, groups)) for groups in matches)
-
-
-def search(pattern, haystack, answer, cut=0, asked=None, inside=False, settings=Settings(), slots=None, taken=None):
-    """A search for all matches, or for the first one, of which so many slots are told. It is asked for a slice, a span,
-    and where matches start, in so many bytes of the haystack."""
-    slice_, span, anchored = asked or ((None, None), (None, None), None)
-    fields = [written(pattern), *settings.fields(), cut, haystack.hex(), *slice_, *span]
-    fields += ["" if anchored is None else int(anchored), int(inside)]
-    line = line_of("search", *fields, taken) if slots is None else line_of("slots", *fields, slots)
-    name = f"{pattern[:70]!r} in {short(haystack)}, cut by {cut}" + ("" if slots is None else f", {slots} slots")
-    name += f" (slice, span, anchored: {asked})" if asked else ""
-    name += f", inside characters {inside}, {settings}" if inside or settings != Settings() else ""
-    return Case(name, line, answer)
 
 
 def case_of(tree, haystack, cut=0, asked=None, inside=False, line_end=b"\n"):

@@ -4,10 +4,11 @@ every scalar value, of bytes with each first and second byte, and of bytes at ra
 What a search finds of a set is compared with the ranges that the pattern spells, where Python's own UTF-8 decoder tells
 the characters; and the ranges with Python's judgement of the scalar values that its version of Unicode knows.
 """
+import itertools
 import re
 import unicodedata
 
-from driver import Case, Settings, about, answers, line_of, written
+from driver import EVERY_CHARACTER, about, answers, search
 from harness import short, test
 from walks import is_digit, is_space, is_word
 
@@ -103,12 +104,6 @@ def members_of(ranges):
     return members
 
 
-def search(pattern, haystack, answer=None):
-    name = f"search of {pattern!r} in {short(haystack) if isinstance(haystack, bytes) else 'every scalar value'}"
-    told = [written(pattern), *Settings().fields(), 0, haystack.hex() if isinstance(haystack, bytes) else haystack]
-    return Case(name, line_of("search", *told), answer)
-
-
 def wrong_sets():
     """What is wrong with the sets that are told, and with those whose members are."""
     told, wrong = answers([about("parse", pattern) for pattern, _ in SETS])
@@ -134,7 +129,8 @@ def difference(case, answer, due):
     """What is wrong with a long answer: where it is another one first."""
     if answer != due:
         found, wanted = answer.split(" "), due.split(" ")
-        at = next((at for at, pair in enumerate(zip(found, wanted)) if pair[0] != pair[1]), min(len(found), len(wanted)))
+        alike = itertools.takewhile(lambda pair: pair[0] == pair[1], zip(found, wanted))
+        at = sum(1 for _ in alike)
         yield f"{case.name}: {found[at : at + 3]}, not {wanted[at : at + 3]}, as match {at}"
 
 
@@ -143,7 +139,7 @@ def wrong_runs():
     places, count = offsets(EVERY), len(JUDGED)
     index = {code: at for at, code in enumerate(map(ord, EVERY))}
     spelled, wrong = answers([about("parse", pattern) for pattern, _ in JUDGED])
-    cases = [search(f"(?:{pattern})+", "all") for pattern, _ in JUDGED]
+    cases = [search(f"(?:{pattern})+", EVERY_CHARACTER) for pattern, _ in JUDGED]
     told, more_wrong = answers(cases)
     for number in range(count):
         (pattern, has), ranges = JUDGED[number], code_points(spelled[number]) or []
@@ -160,7 +156,7 @@ def matches_due(text, places, ranges):
 
 def wrong_singles(haystack):
     """What is wrong with members that are searched for one by one, in every scalar value or in these bytes."""
-    text = EVERY if haystack == "all" else haystack.decode("utf-8", "surrogateescape")
+    text = EVERY if haystack == EVERY_CHARACTER else haystack.decode("utf-8", "surrogateescape")
     places = offsets(text)
     spelled, wrong = answers([about("parse", pattern) for pattern in SINGLE])
     cases = [search(pattern, haystack) for pattern in SINGLE]
@@ -189,6 +185,6 @@ def bytes_at_random(count=100_000):
 def test_all():
     test(f"{len(SETS) + len(MEMBERS)} sets are what is told", wrong_sets())
     test(f"runs of {len(JUDGED)} sets in every scalar value, which Python judges too", wrong_runs())
-    test(f"members of {len(SINGLE)} sets one by one in every scalar value", wrong_singles("all"))
+    test(f"members of {len(SINGLE)} sets one by one in every scalar value", wrong_singles(EVERY_CHARACTER))
     test("the same in bytes with each first and second byte", wrong_singles(first_and_second_bytes()))
     test("the same in 400,000 bytes at random", wrong_singles(bytes_at_random()))
