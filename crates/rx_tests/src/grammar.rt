@@ -12,7 +12,7 @@ use std::test::Fail;
 #[test]
 fn hir(rt: HostRuntime) -> Result<(), Fail> {
     let hir: Hir = parse(rt.alloc(), "^(?<word>a)*?", &Config::new())?;
-    assert_eq!(rt; hir.group_count(), 1);
+    assert!(rt; hir.group_count() == 1);
     match hir.nodes() {
         [
             Node::Look(look),
@@ -21,10 +21,10 @@ fn hir(rt: HostRuntime) -> Result<(), Fail> {
             Node::Repeat(repetition),
             Node::Concat(2),
         ] => {
-            assert_eq!(rt; *look, Look::Start);
-            assert_eq!(rt; set.contains(ordinal('a')), true);
-            assert_eq!(rt; *number, 1);
-            assert_eq!(rt; name.as_str(), "word");
+            assert!(rt; *look == Look::Start);
+            assert!(rt; set.contains(ordinal('a')));
+            assert!(rt; *number == 1);
+            assert!(rt; name.as_str() == "word");
             assert_eq!(rt;
                 *repetition,
                 Repetition {
@@ -36,9 +36,9 @@ fn hir(rt: HostRuntime) -> Result<(), Fail> {
         }
         _ => assert!(rt; false),
     }
-    assert_eq!(rt; hir.group_name(1), Some("word"));
-    assert_eq!(rt; hir.group_name(0), None);
-    assert_eq!(rt; hir.group_name(2), None);
+    assert!(rt; hir.group_name(1) == Some("word"));
+    assert!(rt; hir.group_name(0) == None);
+    assert!(rt; hir.group_name(2) == None);
     Ok(())
 }
 
@@ -58,8 +58,8 @@ fn properties(rt: HostRuntime) -> Result<(), Fail> {
         size: 2,
         may_be_empty: true,
     };
-    assert_eq!(rt; hir.properties(), [letter, all].as_slice());
-    assert_eq!(rt; hir.weight(), 6);
+    assert!(rt; hir.properties() == [letter, all].as_slice());
+    assert!(rt; hir.weight() == 6);
     Ok(())
 }
 
@@ -74,13 +74,13 @@ fn config(rt: HostRuntime) -> Result<(), Fail> {
         .nest_limit(7)
         .line_terminator(b';')
         .clone()?;
-    assert_eq!(rt; config.get_case_insensitive(), true);
-    assert_eq!(rt; config.get_multi_line(), true);
-    assert_eq!(rt; config.get_dot_matches_new_line(), true);
-    assert_eq!(rt; config.get_swap_greed(), true);
-    assert_eq!(rt; config.get_nest_limit(), 7);
-    assert_eq!(rt; config.get_line_terminator(), b';');
-    assert_eq!(rt; Config::default().get_nest_limit(), 250);
+    assert!(rt; config.get_case_insensitive());
+    assert!(rt; config.get_multi_line());
+    assert!(rt; config.get_dot_matches_new_line());
+    assert!(rt; config.get_swap_greed());
+    assert!(rt; config.get_nest_limit() == 7);
+    assert!(rt; config.get_line_terminator() == b';');
+    assert!(rt; Config::default().get_nest_limit() == 250);
     Ok(())
 }
 
@@ -94,7 +94,7 @@ fn syntax_error(rt: HostRuntime) -> Result<(), Fail> {
     let nested = parse(alloc, "(a*)", &shallow);
     assert!(rt; matches!(nested, Err(SyntaxError::Nesting)));
     let message = format!(in alloc; "{}", SyntaxError::Outside)?;
-    assert_eq!(rt; message.as_str(), "the pattern isn't in the grammar");
+    assert!(rt; message.as_str() == "the pattern isn't in the grammar");
     Ok(())
 }
 
@@ -103,11 +103,11 @@ fn syntax_error(rt: HostRuntime) -> Result<(), Fail> {
 fn character_set(rt: HostRuntime) -> Result<(), Fail> {
     let letters = vec![in rt.alloc(); (ordinal('n'), ordinal('z')), (ordinal('a'), ordinal('m'))]?;
     let set = CharacterSet::from_ranges(letters)?;
-    assert_eq!(rt; set.ranges(), [(ordinal('a'), ordinal('z'))].as_slice());
-    assert_eq!(rt; set.contains(ordinal('q')), true);
-    assert_eq!(rt; set.complement()?.contains(ordinal('q')), false);
+    assert!(rt; set.ranges() == [(ordinal('a'), ordinal('z'))].as_slice());
+    assert!(rt; set.contains(ordinal('q')));
+    assert!(rt; !set.complement()?.contains(ordinal('q')));
     let folded = set.closed_under_folding()?;
-    assert_eq!(rt; folded.contains(ordinal('Q')), true);
+    assert!(rt; folded.contains(ordinal('Q')));
     Ok(())
 }
 
@@ -120,9 +120,9 @@ fn atom_sets(rt: HostRuntime) -> Result<(), Fail> {
         ClassItem::Perl(ClassPerlKind::Digit, false),
     ];
     let set = sets.class(true, true, &items)?;
-    assert_eq!(rt; set.contains(ordinal('D')), false);
-    assert_eq!(rt; set.contains(ordinal('7')), false);
-    assert_eq!(rt; set.contains(ordinal('x')), true);
+    assert!(rt; !set.contains(ordinal('D')));
+    assert!(rt; !set.contains(ordinal('7')));
+    assert!(rt; set.contains(ordinal('x')));
     Ok(())
 }
 
@@ -131,7 +131,7 @@ fn atom_sets(rt: HostRuntime) -> Result<(), Fail> {
 fn ranges(rt: HostRuntime) -> Result<(), Fail> {
     let ranges = vec![in rt.alloc(); (5, 7), (0, 2), (3, 3), (9, 8), (6, 6)]?;
     let set = CharacterSet::from_ranges(ranges)?;
-    assert_eq!(rt; set.ranges(), [(0, 3), (5, 7)].as_slice());
+    assert!(rt; set.ranges() == [(0, 3), (5, 7)].as_slice());
     assert_eq!(rt;
         CharacterSet::empty(rt.alloc()).complement()?.ranges().len(),
         1
@@ -144,5 +144,5 @@ fn ranges(rt: HostRuntime) -> Result<(), Fail> {
 fn ordinals(rt: HostRuntime) {
     assert_eq!(rt; from_ordinal(ordinal('\u{10FFFF}')), Some('\u{10FFFF}'));
     assert_eq!(rt; from_ordinal(0xD800), Some('\u{E000}'));
-    assert_eq!(rt; from_ordinal(1_112_064), None);
+    assert!(rt; from_ordinal(1_112_064) == None);
 }

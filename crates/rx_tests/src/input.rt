@@ -9,11 +9,11 @@ use std::test::Fail;
 fn chunk_cursor(rt: HostRuntime) -> Result<(), Fail> {
     let chunks: [&[u8]; 3] = [b"one ", b"", b"two"];
     let mut cursor = ChunkCursor::new(&chunks);
-    assert_eq!(rt; cursor.chunk(), "one ".as_bytes());
-    assert_eq!(rt; cursor.advance(), true);
-    assert_eq!(rt; cursor.chunk(), "two".as_bytes());
-    assert_eq!(rt; cursor.offset(), 4);
-    assert_eq!(rt; cursor.advance(), false);
+    assert!(rt; cursor.chunk() == "one ".as_bytes());
+    assert!(rt; cursor.advance());
+    assert!(rt; cursor.chunk() == "two".as_bytes());
+    assert!(rt; cursor.offset() == 4);
+    assert!(rt; !cursor.advance());
     Ok(())
 }
 
@@ -21,21 +21,21 @@ fn chunk_cursor(rt: HostRuntime) -> Result<(), Fail> {
 #[test]
 fn input(rt: HostRuntime) -> Result<(), Fail> {
     let mut input = Input::new("one two").range(1..);
-    assert_eq!(rt; input.get_span(), Span { start: 1, end: 7 });
-    assert_eq!(rt; input.position(), 1);
-    assert_eq!(rt; input.chunk(), "one two".as_bytes());
-    assert_eq!(rt; input.chunk_offset(), 0);
-    assert_eq!(rt; input.get_chunk_end(), 7);
+    assert!(rt; input.get_span() == Span { start: 1, end: 7 });
+    assert!(rt; input.position() == 1);
+    assert!(rt; input.chunk() == "one two".as_bytes());
+    assert!(rt; input.chunk_offset() == 0);
+    assert!(rt; input.get_chunk_end() == 7);
     input.slice(..=4).anchored(Anchored::Yes).earliest(true);
-    assert_eq!(rt; input.get_slice(), Span { start: 0, end: 5 });
-    assert_eq!(rt; input.start(), 0);
-    assert_eq!(rt; input.end(), 5);
-    assert_eq!(rt; input.get_anchored(), Anchored::Yes);
-    assert_eq!(rt; input.get_earliest(), true);
-    assert_eq!(rt; input.is_done(), false);
+    assert!(rt; input.get_slice() == Span { start: 0, end: 5 });
+    assert!(rt; input.start() == 0);
+    assert!(rt; input.end() == 5);
+    assert!(rt; input.get_anchored() == Anchored::Yes);
+    assert!(rt; input.get_earliest());
+    assert!(rt; !input.is_done());
     let seen = input.look_around();
-    assert_eq!(rt; seen.bytes(), "one t".as_bytes());
-    assert_eq!(rt; seen.position(), 1);
+    assert!(rt; seen.bytes() == "one t".as_bytes());
+    assert!(rt; seen.position() == 1);
     Ok(())
 }
 
@@ -50,15 +50,15 @@ fn changed_input(rt: HostRuntime) -> Result<(), Fail> {
     other.set_anchored(Anchored::No);
     other.set_earliest(false);
     other.clear_look_behind();
-    assert_eq!(rt; other.get_span(), Span { start: 2, end: 3 });
-    assert_eq!(rt; other.position(), 2);
+    assert!(rt; other.get_span() == Span { start: 2, end: 3 });
+    assert!(rt; other.position() == 2);
     other.span(3..2);
-    assert_eq!(rt; other.is_done(), true);
+    assert!(rt; other.is_done());
     other.set_range(..);
     other.slice_span(2..4);
-    assert_eq!(rt; other.advance(), false);
-    assert_eq!(rt; other.position(), 7);
-    assert_eq!(rt; other.is_char_boundary(), true);
+    assert!(rt; !other.advance());
+    assert!(rt; other.position() == 7);
+    assert!(rt; other.is_char_boundary());
     Ok(())
 }
 
@@ -87,7 +87,7 @@ fn clones(rt: HostRuntime) {
     let input = Input::new(ChunkCursor::new(&chunks));
     let mut clone = input.clone();
     clone.move_to(3);
-    assert_eq!(rt; clone.chunk_offset(), 2);
-    assert_eq!(rt; clone.position(), 3);
-    assert_eq!(rt; input.position(), 0);
+    assert!(rt; clone.chunk_offset() == 2);
+    assert!(rt; clone.position() == 3);
+    assert!(rt; input.position() == 0);
 }

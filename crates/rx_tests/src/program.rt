@@ -18,10 +18,10 @@ pub(crate) fn compiled(alloc: Global, pattern: &str) -> Result<Program, Fail> {
 #[test]
 fn program(rt: HostRuntime) -> Result<(), Fail> {
     let program = compiled(rt.alloc(), "a*")?;
-    assert_eq!(rt; program.start(), StateID::new(0));
-    assert_eq!(rt; program.patterns(), [StateID::new(0)].as_slice());
-    assert_eq!(rt; program.line_terminator(), b'\n');
-    assert_eq!(rt; program.states().len(), 5);
+    assert!(rt; program.start() == StateID::new(0));
+    assert!(rt; program.patterns() == [StateID::new(0)].as_slice());
+    assert!(rt; program.line_terminator() == b'\n');
+    assert!(rt; program.states().len() == 5);
     Ok(())
 }
 
@@ -31,8 +31,8 @@ fn state(rt: HostRuntime) -> Result<(), Fail> {
     let program = compiled(rt.alloc(), "a*")?;
     match program.states().get(1) {
         Some(State::BinaryUnion(first, second)) => {
-            assert_eq!(rt; first.as_usize(), 2);
-            assert_eq!(rt; second.as_usize(), 3);
+            assert!(rt; first.as_usize() == 2);
+            assert!(rt; second.as_usize() == 3);
         }
         _ => assert!(rt; false),
     }
@@ -46,16 +46,16 @@ fn build_error(rt: HostRuntime) -> Result<(), Fail> {
     let hir = parse(alloc, "a", &Config::new())?;
     let refused = compile(alloc, &[&hir], b'\n', Some(199)).err();
     let size = BuildError::Size { limit: 199 };
-    assert_eq!(rt; refused, Some(size));
-    assert_eq!(rt; size.size_limit(), Some(199));
-    assert_eq!(rt; size.pattern(), None);
+    assert!(rt; refused == Some(size));
+    assert!(rt; size.size_limit() == Some(199));
+    assert!(rt; size.pattern() == None);
     let error = BuildError::Syntax {
         pattern: PatternID::new(2),
         error: SyntaxError::Nesting,
     };
-    assert_eq!(rt; error.pattern(), Some(PatternID::new(2)));
-    assert_eq!(rt; error.syntax_error(), Some(SyntaxError::Nesting));
-    assert_eq!(rt; error.is_memory(), false);
-    assert_eq!(rt; BuildError::Memory.is_memory(), true);
+    assert!(rt; error.pattern() == Some(PatternID::new(2)));
+    assert!(rt; error.syntax_error() == Some(SyntaxError::Nesting));
+    assert!(rt; !error.is_memory());
+    assert!(rt; BuildError::Memory.is_memory());
     Ok(())
 }

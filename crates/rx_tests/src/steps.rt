@@ -34,8 +34,8 @@ fn before(at: usize, byte: Option<u8>) -> Place
 #[test]
 fn place(rt: HostRuntime) -> Result<(), Fail> {
     let place = before(7, Some(b'a'));
-    assert_eq!(rt; place.at.get(), 7);
-    assert_eq!(rt; place.byte, Some(b'a'));
+    assert!(rt; place.at.get() == 7);
+    assert!(rt; place.byte == Some(b'a'));
     assert!(rt; place.looks.has(Look::WordUnicodeNegate));
     assert!(rt; !place.looks.has(Look::Start));
     Ok(())
@@ -45,9 +45,9 @@ fn place(rt: HostRuntime) -> Result<(), Fail> {
 #[test]
 fn node(rt: HostRuntime) -> Result<(), Fail> {
     let node = Node::new(StateID::new(3), 2);
-    assert_eq!(rt; node.state(), StateID::new(3));
-    assert_eq!(rt; node.within(), 2);
-    assert_eq!(rt; Node::first(StateID::new(3)), Node::new(StateID::new(3), 0));
+    assert!(rt; node.state() == StateID::new(3));
+    assert!(rt; node.within() == 2);
+    assert!(rt; Node::first(StateID::new(3)) == Node::new(StateID::new(3), 0));
     Ok(())
 }
 
@@ -59,13 +59,13 @@ fn threads(rt: HostRuntime) -> Result<(), Fail> {
     let mut threads = ThreadList::new(alloc, 2);
     threads.push(node, &[NonMaxUsize::new(5), None])?;
     threads.push(Node::new(StateID::new(4), 1), &[None, NonMaxUsize::new(6)])?;
-    assert_eq!(rt; threads.len(), 2);
-    assert_eq!(rt; threads.slot_len(), 2);
-    assert_eq!(rt; threads.node(0), node);
-    assert_eq!(rt; threads.slots(0)[0], NonMaxUsize::new(5));
-    assert_eq!(rt; threads.slots(1)[1], NonMaxUsize::new(6));
+    assert!(rt; threads.len() == 2);
+    assert!(rt; threads.slot_len() == 2);
+    assert!(rt; threads.node(0) == node);
+    assert!(rt; threads.slots(0)[0] == NonMaxUsize::new(5));
+    assert!(rt; threads.slots(1)[1] == NonMaxUsize::new(6));
     threads.clear(0);
-    assert_eq!(rt; threads.len(), 0);
+    assert!(rt; threads.len() == 0);
     Ok(())
 }
 
@@ -99,11 +99,11 @@ fn stepper(rt: HostRuntime) -> Result<(), Fail> {
     let program = compiled(rt.alloc(), "a(b)?")?;
     let bytes = [Some(b'a'), None];
     let (stepper, living, met) = two_steps(&program, 7, bytes, &[None; 4], rt.alloc())?;
-    assert_eq!(rt; living, 1);
-    assert_eq!(rt; met, [None, Some(PatternID::new(0))]);
-    assert_eq!(rt; stepper.slots().first(), Some(&NonMaxUsize::new(7)));
-    assert_eq!(rt; stepper.slots().get(1), Some(&NonMaxUsize::new(8)));
-    assert_eq!(rt; stepper.slots().last(), Some(&None));
+    assert!(rt; living == 1);
+    assert!(rt; met == [None, Some(PatternID::new(0))]);
+    assert!(rt; stepper.slots().first() == Some(&NonMaxUsize::new(7)));
+    assert!(rt; stepper.slots().get(1) == Some(&NonMaxUsize::new(8)));
+    assert!(rt; stepper.slots().last() == Some(&None));
     Ok(())
 }
 

@@ -35,12 +35,12 @@ fn group_info(rt: HostRuntime) -> Result<(), Fail> {
     let second = PatternID::new(1);
     let unknown = PatternID::new(2);
     let info = GroupInfo::new(rt.alloc(), names)?.clone()?;
-    assert_eq!(rt; info.pattern_len(), 2);
-    assert_eq!(rt; info.group_len(first), 3);
-    assert_eq!(rt; info.group_len(second), 2);
-    assert_eq!(rt; info.group_len(unknown), 0);
-    assert_eq!(rt; info.slot_len(), 10);
-    assert_eq!(rt; info.implicit_slot_len(), 4);
+    assert!(rt; info.pattern_len() == 2);
+    assert!(rt; info.group_len(first) == 3);
+    assert!(rt; info.group_len(second) == 2);
+    assert!(rt; info.group_len(unknown) == 0);
+    assert!(rt; info.slot_len() == 10);
+    assert!(rt; info.implicit_slot_len() == 4);
     Ok(())
 }
 
@@ -50,17 +50,17 @@ fn names_and_slots(rt: HostRuntime) -> Result<(), Fail> {
     let info = GroupInfo::new(rt.alloc(), two_patterns(rt.alloc())?)?;
     let first = PatternID::ZERO;
     let second = PatternID::new(1);
-    assert_eq!(rt; info.to_index(first, "year"), Some(1));
-    assert_eq!(rt; info.to_index(first, "day"), None);
-    assert_eq!(rt; info.to_name(second, 1), Some("year"));
-    assert_eq!(rt; info.to_name(first, 0), None);
-    assert_eq!(rt; info.to_name(first, 2), None);
-    assert_eq!(rt; info.slots(first, 0), Some((0, 1)));
-    assert_eq!(rt; info.slots(second, 0), Some((2, 3)));
-    assert_eq!(rt; info.slots(first, 1), Some((4, 5)));
-    assert_eq!(rt; info.slots(first, 2), Some((6, 7)));
-    assert_eq!(rt; info.slot(second, 1), Some(8));
-    assert_eq!(rt; info.slot(second, 2), None);
+    assert!(rt; info.to_index(first, "year") == Some(1));
+    assert!(rt; info.to_index(first, "day") == None);
+    assert!(rt; info.to_name(second, 1) == Some("year"));
+    assert!(rt; info.to_name(first, 0) == None);
+    assert!(rt; info.to_name(first, 2) == None);
+    assert!(rt; info.slots(first, 0) == Some((0, 1)));
+    assert!(rt; info.slots(second, 0) == Some((2, 3)));
+    assert!(rt; info.slots(first, 1) == Some((4, 5)));
+    assert!(rt; info.slots(first, 2) == Some((6, 7)));
+    assert!(rt; info.slot(second, 1) == Some(8));
+    assert!(rt; info.slot(second, 2) == None);
     Ok(())
 }
 
@@ -80,11 +80,11 @@ fn noted(alloc: Global) -> Result<Captures, MatchError> {
 #[test]
 fn captures(rt: HostRuntime) -> Result<(), Fail> {
     let caps = noted(rt.alloc())?.clone()?;
-    assert_eq!(rt; caps.is_match(), true);
-    assert_eq!(rt; caps.pattern(), Some(PatternID::new(1)));
-    assert_eq!(rt; caps.get_group(0), Some(Span { start: 3, end: 5 }));
-    assert_eq!(rt; caps.get_group(1), Some(Span { start: 4, end: 5 }));
-    assert_eq!(rt; caps.get_group(2), None);
+    assert!(rt; caps.is_match());
+    assert!(rt; caps.pattern() == Some(PatternID::new(1)));
+    assert!(rt; caps.get_group(0) == Some(Span { start: 3, end: 5 }));
+    assert!(rt; caps.get_group(1) == Some(Span { start: 4, end: 5 }));
+    assert!(rt; caps.get_group(2) == None);
     Ok(())
 }
 
@@ -96,8 +96,8 @@ fn captures_by_name(rt: HostRuntime) -> Result<(), Fail> {
         caps.get_group_by_name("year"),
         Some(Span { start: 4, end: 5 })
     );
-    assert_eq!(rt; caps.get_group_by_name("day"), None);
-    assert_eq!(rt; caps.group_info().pattern_len(), 2);
+    assert!(rt; caps.get_group_by_name("day") == None);
+    assert!(rt; caps.group_info().pattern_len() == 2);
     Ok(())
 }
 
@@ -110,7 +110,7 @@ fn whole_match(rt: HostRuntime) -> Result<(), Fail> {
         return Ok(());
     };
     if span.start <= span.end {
-        assert_eq!(rt; caps.get_match().map_or(0, |found| found.len()), 2);
+        assert!(rt; caps.get_match().map_or(0, |found| found.len()) == 2);
     }
     Ok(())
 }
@@ -120,22 +120,22 @@ fn whole_match(rt: HostRuntime) -> Result<(), Fail> {
 fn captures_of_matches(rt: HostRuntime) -> Result<(), Fail> {
     let info = GroupInfo::new(rt.alloc(), two_patterns(rt.alloc())?)?;
     let mut caps = Captures::matches(rt.alloc(), &info)?;
-    assert_eq!(rt; caps.is_match(), false);
-    assert_eq!(rt; caps.slots_mut().len(), 4);
+    assert!(rt; !caps.is_match());
+    assert!(rt; caps.slots_mut().len() == 4);
     caps.set_pattern(Some(PatternID::ZERO));
-    assert_eq!(rt; caps.get_group(1), None);
+    assert!(rt; caps.get_group(1) == None);
     Ok(())
 }
 
 /// Numbers of patterns and of states, and places.
 #[test]
 fn primitives(rt: HostRuntime) -> Result<(), Fail> {
-    assert_eq!(rt; PatternID::new(7).as_usize(), 7);
-    assert_eq!(rt; PatternID::default(), PatternID::ZERO);
+    assert!(rt; PatternID::new(7).as_usize() == 7);
+    assert!(rt; PatternID::default() == PatternID::ZERO);
     assert!(rt; StateID::new(3) < StateID::new(4));
-    assert_eq!(rt; StateID::ZERO.as_usize(), 0);
-    assert_eq!(rt; NonMaxUsize::new(5).map_or(0, |place| place.get()), 5);
-    assert_eq!(rt; NonMaxUsize::new(usize::MAX), None);
+    assert!(rt; StateID::ZERO.as_usize() == 0);
+    assert!(rt; NonMaxUsize::new(5).map_or(0, |place| place.get()) == 5);
+    assert!(rt; NonMaxUsize::new(usize::MAX) == None);
     Ok(())
 }
 
@@ -143,21 +143,21 @@ fn primitives(rt: HostRuntime) -> Result<(), Fail> {
 #[test]
 fn matches(rt: HostRuntime) -> Result<(), Fail> {
     let span: Span = Span::from(2..5);
-    assert_eq!(rt; span.len(), 3);
-    assert_eq!(rt; span.is_empty(), false);
-    assert_eq!(rt; Span { start: 5, end: 2 }.len(), 0);
+    assert!(rt; span.len() == 3);
+    assert!(rt; !span.is_empty());
+    assert!(rt; Span { start: 5, end: 2 }.len() == 0);
     let found = Match::new(PatternID::new(1), span);
-    assert_eq!(rt; found.pattern().as_usize(), 1);
-    assert_eq!(rt; found.span(), span);
-    assert_eq!(rt; found.start(), 2);
-    assert_eq!(rt; found.end(), 5);
+    assert!(rt; found.pattern().as_usize() == 1);
+    assert!(rt; found.span() == span);
+    assert!(rt; found.start() == 2);
+    assert!(rt; found.end() == 5);
     let range: Range<usize> = found.range();
-    assert_eq!(rt; range.end, 5);
-    assert_eq!(rt; found.len(), 3);
-    assert_eq!(rt; found.is_empty(), false);
+    assert!(rt; range.end == 5);
+    assert!(rt; found.len() == 3);
+    assert!(rt; !found.is_empty());
     let half = HalfMatch::new(PatternID::ZERO, 5);
-    assert_eq!(rt; half.pattern(), PatternID::ZERO);
-    assert_eq!(rt; half.offset(), 5);
+    assert!(rt; half.pattern() == PatternID::ZERO);
+    assert!(rt; half.offset() == 5);
     Ok(())
 }
 
@@ -165,11 +165,11 @@ fn matches(rt: HostRuntime) -> Result<(), Fail> {
 #[test]
 fn searches(rt: HostRuntime) -> Result<(), Fail> {
     let mode = Anchored::Pattern(PatternID::new(2));
-    assert_eq!(rt; mode.is_anchored(), true);
-    assert_eq!(rt; mode.pattern(), Some(PatternID::new(2)));
-    assert_eq!(rt; Anchored::Yes.pattern(), None);
-    assert_eq!(rt; Anchored::No.is_anchored(), false);
-    assert_eq!(rt; MatchKind::default(), MatchKind::LeftmostFirst);
+    assert!(rt; mode.is_anchored());
+    assert!(rt; mode.pattern() == Some(PatternID::new(2)));
+    assert!(rt; Anchored::Yes.pattern() == None);
+    assert!(rt; !Anchored::No.is_anchored());
+    assert!(rt; MatchKind::default() == MatchKind::LeftmostFirst);
     assert!(rt; WhichCaptures::All != WhichCaptures::Implicit);
     assert!(rt; MatchError::UnsupportedAnchored { mode } != MatchError::Memory);
     assert!(rt;
@@ -178,7 +178,7 @@ fn searches(rt: HostRuntime) -> Result<(), Fail> {
             offset: 3
         } != MatchError::GaveUp { offset: 3 }
     );
-    assert_eq!(rt; MatchError::from(AllocError), MatchError::Memory);
+    assert!(rt; MatchError::from(AllocError) == MatchError::Memory);
     Ok(())
 }
 
@@ -186,17 +186,17 @@ fn searches(rt: HostRuntime) -> Result<(), Fail> {
 #[test]
 fn sparse_set(rt: HostRuntime) -> Result<(), Fail> {
     let mut set = SparseSet::new(rt.alloc(), 4)?;
-    assert_eq!(rt; set.capacity(), 4);
-    assert_eq!(rt; set.is_empty(), true);
-    assert_eq!(rt; set.insert(StateID::new(3)), true);
-    assert_eq!(rt; set.insert(StateID::new(1)), true);
-    assert_eq!(rt; set.insert(StateID::new(3)), false);
-    assert_eq!(rt; set.contains(StateID::new(1)), true);
-    assert_eq!(rt; set.contains(StateID::new(2)), false);
+    assert!(rt; set.capacity() == 4);
+    assert!(rt; set.is_empty());
+    assert!(rt; set.insert(StateID::new(3)));
+    assert!(rt; set.insert(StateID::new(1)));
+    assert!(rt; !set.insert(StateID::new(3)));
+    assert!(rt; set.contains(StateID::new(1)));
+    assert!(rt; !set.contains(StateID::new(2)));
     let copy = set.clone()?;
     set.clear();
-    assert_eq!(rt; set.len(), 0);
-    assert_eq!(rt; copy.len(), 2);
+    assert!(rt; set.len() == 0);
+    assert!(rt; copy.len() == 2);
     Ok(())
 }
 
@@ -207,15 +207,15 @@ fn members_and_room(rt: HostRuntime) -> Result<(), Fail> {
     set.insert(StateID::new(3));
     set.insert(StateID::new(1));
     let mut states = set.iter();
-    assert_eq!(rt; states.next(), Some(StateID::new(3)));
-    assert_eq!(rt; states.next(), Some(StateID::new(1)));
-    assert_eq!(rt; states.next(), None);
+    assert!(rt; states.next() == Some(StateID::new(3)));
+    assert!(rt; states.next() == Some(StateID::new(1)));
+    assert!(rt; states.next() == None);
     set.resize(9)?;
-    assert_eq!(rt; set.capacity(), 9);
-    assert_eq!(rt; set.insert(StateID::new(8)), true);
+    assert!(rt; set.capacity() == 9);
+    assert!(rt; set.insert(StateID::new(8)));
     set.resize(2)?;
-    assert_eq!(rt; set.capacity(), 2);
-    assert_eq!(rt; set.is_empty(), true);
+    assert!(rt; set.capacity() == 2);
+    assert!(rt; set.is_empty());
     assert!(rt; set.memory_usage() > 0);
     Ok(())
 }
