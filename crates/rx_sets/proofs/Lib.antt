@@ -5,3 +5,5 @@ pub mod FoldLemmas
 pub mod UnionLemmas
 pub mod PairLemmas
 pub mod LetterLemmas
+pub mod Decisions
+pub mod SetDecisions

@@ -69,7 +69,7 @@ rising_unique n (r ∷ rs) (s ∷ ss) rise rise' same =
     ap₂ (λ (x : Range) xs. x ∷ xs) e (rising_unique (r.1 + 2) rs ss rise.3 rise'' tails)
 
 -- the scalar value with an ordinal
-abbrev scalar_at : ℕ → ℕ
+abbrev pub scalar_at : ℕ → ℕ
 scalar_at n = cond (nat_lt n 0xD800) n (n + 0x800)
 
 IsScalar-scalar_at : (n : ℕ) → n < scalar_count → IsScalar (scalar_at n)
