@@ -21,3 +21,10 @@ pub mod SubtreeLaws
 pub mod RowLaws
 pub mod WellFormedLaws
 pub mod FewLaws
+pub mod InputDecisions
+pub mod EscapeDecisions
+pub mod ClassDecisions
+pub mod RepetitionDecisions
+pub mod HeadDecisions
+pub mod AtomDecisions
+pub mod PatternDecisions

@@ -9,7 +9,7 @@ use Rattle.rx_grammar.specs.declared.parser.Parser.{Parser}
 use Rattle.rx_grammar.proofs.LimitLaws.{branches_limit}
 use Rattle.rx_grammar.proofs.ResumeLaws.{ends_branches, branches_of, ends_here, end_of_text, end_in_group}
 
-SameEnds-none : (place : Place) (t : List ℕ) → SameEnds place t place t
+pub SameEnds-none : (place : Place) (t : List ℕ) → SameEnds place t place t
 SameEnds-none place t = record { on = λ tree depth r. r; back = λ tree depth r. r }
 
 pub SameEnds-more : {place place' place'' : Place} {t t' t'' : List ℕ} → SameEnds place t place' t' → SameEnds place' t' place'' t'' → SameEnds place t place'' t''

@@ -10,12 +10,13 @@ use Rattle.rx_grammar.specs.Settings.{Settings}
 use Rattle.rx_grammar.specs.Trees.{Tree, concat_of}
 use Rattle.rx_grammar.specs.Input.{Begins}
 use Rattle.rx_grammar.specs.Groups.{Setting, Capture, numbered, unnumbered, Opening, opened, grouped}
+use Rattle.rx_grammar.specs.Repetitions.{Postfixes}
 use Rattle.rx_grammar.specs.Grammar.{PlainAtom, plain_atom}
 use Rattle.rx_grammar.specs.Heads.{NoHead, capture_of}
 use Rattle.rx_grammar.specs.Atoms.{NoPlainAtom}
 use Rattle.rx_grammar.specs.Weights.{held}
 use Rattle.rx_grammar.specs.Stacks.{captured, IsRefusal, NoPostfixes}
-use Rattle.rx_grammar.specs.Resuming.{Level, OpenGroup, Place, no_level, with_item, with_branch, tree_at, Resumes, NoEnds}
+use Rattle.rx_grammar.specs.Resuming.{Level, OpenGroup, Place, no_level, with_item, with_branch, tree_at, Resumes, SameEnds, NoEnds}
 use Rattle.rx_grammar.specs.Places.{IsLevel, Surround, outermost, further, IsAt, item_at, opened_at, ItemRead, PartRead, IsAtomPlace}
 use Rattle.rx_grammar.proofs.ShorterLaws.{plain_shorter, postfixes_shorter}
 use Rattle.rx_grammar.proofs.ResumeLaws.{setting_on, setting_back, item_on, item_back, branch_on, branch_back, open_on, open_back, close_on, close_back, no_item, no_close, no_open_group, no_head, no_atom}
@@ -139,13 +140,41 @@ pub captured_grouped : (number n : ℕ) (k : Capture) (tree : Tree) → number �
 captured_grouped number n (numbered name) tree e = ap (λ x. captured x (numbered name) tree) e
 captured_grouped number n unnumbered tree e = refl
 
+-- how a place and the text there go on to the next place
+pub same_setting : {t u : List ℕ} {s' : Settings} (place : Place) → Setting place.settings t s' u → SameEnds place t (record place { settings = s' }) u
+same_setting place one = record { on = λ tree depth r. setting_on one r; back = λ tree depth r. setting_back one r }
+
+pub same_opening : {t u : List ℕ} {s' : Settings} {k : Capture} (place : Place) → Opening place.settings t s' k u → SameEnds place t (opened_at place s' k) u
+same_opening place one = record { on = λ tree depth r. open_on one r; back = λ tree depth r. open_back one r }
+
+pub same_branch : {t u : List ℕ} (place : Place) → t ≡ 124 ∷ u → SameEnds place t (record place { level = with_branch place.level }) u
+same_branch place e = record { on = λ tree depth r. branch_on e r; back = λ tree depth r. branch_back e r }
+
+pub same_atom : {t v u : List ℕ} {h g : Tree} {e : ℕ} (place : Place) → PlainAtom place.settings t h v → Postfixes place.settings.swap_greed h 0 v g e u → SameEnds place t (item_at place g e) u
+same_atom place one postfixes = record {
+  on = λ tree depth r. item_on (plain_atom one) postfixes r;
+  back = λ tree depth r. item_back (plain_atom one) postfixes r;
+}
+
+-- the place after a group
+abbrev pub behind_group : Place → OpenGroup → List OpenGroup → Place
+behind_group place group others = record { settings = group.settings; groups = place.groups; level = group.level; around = others }
+
+pub same_close : {v u : List ℕ} {o : OpenGroup} {os : List OpenGroup} {g : Tree} {e : ℕ} (place : Place) → place.around ≡ o ∷ os
+    → Postfixes o.settings.swap_greed (grouped o.groups o.capture (tree_at place.level)) (place.level.depth + 1) v g e u
+    → SameEnds place (41 ∷ v) (item_at (behind_group place o os) g e) u
+same_close {v = v} place is postfixes = record {
+  on = λ tree n r. close_on refl postfixes (subst (λ x. Resumes x place.level place.settings place.groups (41 ∷ v) tree n) is r);
+  back = λ tree n r. subst (λ x. Resumes x place.level place.settings place.groups (41 ∷ v) tree n) (sym is) (close_back refl postfixes r);
+}
+
 -- reads
 pub setting_read : {before after : Parser} {t u : List ℕ} {s' : Settings} (place : Place) → Setting place.settings t s' u → IsAt after [] (record place { settings = s' }) → length u < length t
     → after.groups ≡ before.groups → PartRead before after place t u
 setting_read {s' = s'} place one stands shorter groups = record {
   next = record place { settings = s' };
   stands = stands;
-  same = record { on = λ tree depth r. setting_on one r; back = λ tree depth r. setting_back one r };
+  same = same_setting place one;
   shorter = shorter;
   groups = omega (arith, groups, shorter);
 }
@@ -155,7 +184,7 @@ pub opening_read : {before after : Parser} {t u : List ℕ} {s' : Settings} {k :
 opening_read {s' = s'} {k = k} place one stands shorter groups = record {
   next = opened_at place s' k;
   stands = stands;
-  same = record { on = λ tree depth r. open_on one r; back = λ tree depth r. open_back one r };
+  same = same_opening place one;
   shorter = shorter;
   groups = omega (arith, groups, shorter);
 }
@@ -165,7 +194,7 @@ pub branch_read : {before after : Parser} {t u : List ℕ} (place : Place) → t
 branch_read place e stands groups = record {
   next = record place { level = with_branch place.level };
   stands = stands;
-  same = record { on = λ tree depth r. branch_on e r; back = λ tree depth r. branch_back e r };
+  same = same_branch place e;
   shorter = omega (arith, ap length e);
   groups = omega (arith, groups, ap length e);
 }
@@ -175,7 +204,7 @@ pub atom_read : {before middle after : Parser} {t v u : List ℕ} {h : Tree} (pl
 atom_read place one read groups = record {
   next = item_at place read.made read.deep;
   stands = read.stands;
-  same = record { on = λ tree depth r. item_on (plain_atom one) read.postfixes r; back = λ tree depth r. item_back (plain_atom one) read.postfixes r };
+  same = same_atom place one read.postfixes;
   shorter = omega (arith, plain_shorter one, postfixes_shorter read.postfixes);
   groups = omega (arith, read.groups, groups, plain_shorter one, postfixes_shorter read.postfixes);
 }
@@ -189,20 +218,13 @@ no_atom_here place at none = λ tree depth r. no_atom at.no_group at.inside none
 pub no_head_here : {t : List ℕ} (place : Place) → Begins 40 t → NoHead place.settings t → NoEnds place t
 no_head_here place begins none = λ tree depth r. no_head begins none r
 
--- the place after a group
-abbrev pub behind_group : Place → OpenGroup → List OpenGroup → Place
-behind_group place group others = record { settings = group.settings; groups = place.groups; level = group.level; around = others }
-
 pub close_read : {before middle after : Parser} {v u : List ℕ} {o : OpenGroup} {os : List OpenGroup} (place : Place) → place.around ≡ o ∷ os
     → ItemRead middle after (behind_group place o os) (grouped o.groups o.capture (tree_at place.level)) (place.level.depth + 1) v u
     → middle.groups ≡ before.groups → PartRead before after place (41 ∷ v) u
-close_read {v = v} {o = o} {os = os} place is read groups = record {
+close_read {o = o} {os = os} place is read groups = record {
   next = item_at (behind_group place o os) read.made read.deep;
   stands = read.stands;
-  same = record {
-    on = λ tree n r. close_on refl read.postfixes (subst (λ x. Resumes x place.level place.settings place.groups (41 ∷ v) tree n) is r);
-    back = λ tree n r. subst (λ x. Resumes x place.level place.settings place.groups (41 ∷ v) tree n) (sym is) (close_back refl read.postfixes r);
-  };
+  same = same_close place is read.postfixes;
   shorter = omega (arith, postfixes_shorter read.postfixes);
   groups = omega (arith, read.groups, groups, postfixes_shorter read.postfixes);
 }

@@ -1,12 +1,17 @@
 -- Laws of the definitions themselves.
-use Rattle.std.specs.Prelude.{◌≡◌, ℕ, ◌+◌, ◌<◌, ◌≤◌, List, length, get_or}
+use Rattle.std.specs.Prelude.{◌≡◌, ◌⊎◌, ℕ, ◌+◌, ◌<◌, ◌≤◌, List, length, get_or}
 use Rattle.rx_grammar.specs.Settings.{Settings}
 use Rattle.rx_grammar.specs.Trees.{Tree, numbers_of}
-use Rattle.rx_grammar.specs.Grammar.{Spells}
+use Rattle.rx_grammar.specs.Grammar.{Spells, NeverSpells, IsTooDeep}
 
 -- the text spells at most one tree
 abbrev pub SpellsAtMostOne : List ℕ → Settings → Type 0
 SpellsAtMostOne text settings = (tree other : Tree) → Spells text settings tree → Spells text settings other → tree ≡ other
+
+-- the text spells a tree, or it would where groups and repetitions might stand deeper in one another, or it
+-- spells none however deep they may stand
+abbrev pub SpellsOrNot : List ℕ → Settings → Type 0
+SpellsOrNot text settings = ((tree : Tree) × Spells text settings tree) ⊎ (IsTooDeep text settings ⊎ NeverSpells text settings)
 
 -- the groups of what the text spells have the numbers 1, 2 and so on, in the order in which they open
 abbrev pub NumbersGroups : List ℕ → Settings → Type 0
