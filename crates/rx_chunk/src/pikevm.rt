@@ -9,7 +9,6 @@ ghost use Rattle.rx_util.specs.Groups.{names_of, slot_len};
 ghost use Rattle.rx_util.specs.Captured.{nothing_noted, place_in, span_between, group_span, match_found};
 ghost use Rattle.rx_grammar.specs.Grammar.{Spells};
 ghost use Rattle.rx_grammar.specs.Settings.{default_settings};
-ghost use Rattle.rx_grammar.specs.Trees.{numbers_of};
 ghost use Rattle.rx_grammar.specs.Subtrees.{IsWellFormed};
 ghost use Rattle.rx_grammar.specs.Postorder.{tree_of};
 ghost use Rattle.rx_input.specs.Cursors.{IsSameContent};
@@ -21,7 +20,6 @@ ghost use Rattle.rx_chunk.specs.Iterating.{IsFoundAfter, StartsFrom, matches_fro
 ghost use Rattle.rx_input.specs.Searchers.{EndsInside};
 ghost use Rattle.rx_chunk.specs.FindMatches.{cache_of, left_of};
 
-use rx_grammar::laws::groups_are_few;
 use rx_grammar::{Hir, SyntaxError, parse, syntax};
 use rx_input::{Cursor, Input};
 use rx_program::laws::matches_note_their_places;
@@ -196,8 +194,6 @@ impl Builder {
         ensures built { IfOk result (λ vm. IsBuiltOf pattern.now self.now vm) }
         ensures refused { IfErr result (λ error. IsRefused pattern.now self.now.syntax error) }
     {
-        // A law, for the proof alone.
-        groups_are_few();
         let hir = spelled(alloc, pattern, &self.syntax)?;
         let groups = groups_of(alloc, &hir)?;
         let program = compile(alloc, &[&hir], self.config.get_line_terminator(), None)?;
@@ -256,9 +252,8 @@ fn group_names(alloc: Global, hir: &Hir) -> Result<Vec<Option<String>>, AllocErr
     Ok(names)
 }
 
-/// The groups of a pattern. A text that is read spells at most 65,536 of them.
+/// The groups of a pattern.
 fn groups_of(alloc: Global, hir: &Hir) -> Result<GroupInfo, AllocError>
-    requires few { length (numbers_of (tree_of hir.now)) ≤ 65536 }
     ensures groups { IfOk result (λ groups. AreGroupsOf (tree_of hir.now) groups) }
     ensures well_formed { IsWellFormed (tree_of hir.now) }
 {

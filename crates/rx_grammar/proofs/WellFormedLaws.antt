@@ -10,6 +10,7 @@ use Rattle.rx_grammar.specs.Repetitions.{CountInBraces, exactly, at_least, betwe
 use Rattle.rx_grammar.specs.Groups.{numbered, unnumbered}
 use Rattle.rx_grammar.specs.Grammar.{Escape, character, letter_class, look, PlainAtom, literal, dot, caret, dollar, escape, class, Atom, plain_atom, group as a_group, Items, ended, setting, item, Branches, last, bar, Spells}
 use Rattle.rx_grammar.proofs.NumberLaws.{numbered_in_order}
+use Rattle.rx_grammar.proofs.FewLaws.{few_groups}
 use Rattle.rx_grammar.proofs.SubtreeLaws.{all_subtrees}
 
 braces_bounded : {t u : List ℕ} {n : ℕ} {m : Option ℕ} → CountInBraces t n m u → (n ≤ 65535) × IsMost n m
@@ -92,6 +93,7 @@ mutual
 pub well_formed : {text : List ℕ} {settings : Settings} {tree : Tree} → Spells text settings tree → IsWellFormed tree
 well_formed {text = text} {settings = settings} {tree = tree} spells = record {
   numbered = numbered_in_order text settings tree spells;
+  few = few_groups text settings tree spells;
   names = spells.names;
   repetitions = All-map IsBounded root_of (subtrees_of tree)
       (bounded_along (ap subtrees_of spells.tree_is) (alternation_bounded spells.first spells.others (branches_bounded spells.whole)));

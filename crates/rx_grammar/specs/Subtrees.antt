@@ -77,6 +77,8 @@ IsBounded _ = Unit {0}
 pub record IsWellFormed (tree : Tree) : Type 0 where
   -- groups are numbered from 1 in the order in which they open
   pub numbered : (k : ℕ) → k < length (numbers_of tree) → get_or (numbers_of tree) k 0 ≡ k + 1
+  -- there are at most 65,536 of them
+  pub few : length (numbers_of tree) ≤ 65536
   -- no two groups have one name
   pub names : AllPairs (λ a b. a ≢ b) (names_of tree)
   -- the numbers of repetitions are in bounds

@@ -19,7 +19,7 @@ new-requires-clause-fits c =
     let groups = named_groups c.push.new.self.items in
     let alone : groups ≡ names_of names.items ∷ [] =
     ap (λ xs. named_groups xs) (c.in_ok-push.ensures.items ∙ ap (λ xs. xs ++ names ∷ []) c.new-patterns.ensures.items) in
-    slots_fit (tree_of c.args.hir.now) (names_of names.items) groups c.requires.few c.in_ok-names.ensures.names alone
+    slots_fit (tree_of c.args.hir.now) (names_of names.items) groups c.in_ok-names.ensures.well_formed.few c.in_ok-names.ensures.names alone
 
 pub returns-clause-groups : goal.returns-clause-groups
 returns-clause-groups c =

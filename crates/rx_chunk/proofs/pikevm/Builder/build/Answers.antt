@@ -1,4 +1,4 @@
-use Rattle.std.proofs.Common.{chars, None, Err, ap, subst}
+use Rattle.std.proofs.Common.{None, Err, ap, subst}
 use Rattle.std.proofs.lemmas.Result.{err_from_is_err_and}
 use Rattle.rx_grammar.specs.Postorder.{tree_of}
 use Rattle.rx_program.specs.declared.error.BuildError.TheVariants as build
@@ -11,9 +11,6 @@ pub returns-in_err-hir-clause-refused : goal.returns-in_err-hir-clause-refused
 returns-in_err-hir-clause-refused c =
     let p = err_from_is_err_and c.from_residual.result c.from_residual.ensures.1 in
     rw (p.1, p.2) (subst (λ (w : Wanted). IsRefused c.args.pattern.now w.syntax c.in_err-hir.field-0.0) c.self.view_is c.in_err-hir.ensures.refused)
-
-pub groups_of-requires : goal.groups_of-requires
-groups_of-requires c = record { few = c.groups_are_few.ensures (chars c.args.pattern.now) c.self.inside.syntax (tree_of c.in_ok-hir.hir) c.in_ok-hir.ensures.spells }
 
 pub returns-in_err-groups-clause-refused : goal.returns-in_err-groups-clause-refused
 returns-in_err-groups-clause-refused c =
