@@ -14,7 +14,7 @@ use std::marker::Model;
 use std::rc::Rc;
 
 /// A place that an assertion asks for. It takes no character.
-#[derive(Debug, Clone, Copy, PartialEq, Eq)]
+#[derive(Debug, Clone, Copy, PartialEq, Eq, Hash)]
 pub enum Look {
     /// The start of the text.
     Start,

@@ -2,7 +2,7 @@
 
 /// What a letter class names: `\d`, `\s` or `\w`. The capital letter names the characters that
 /// aren't in it.
-#[derive(Debug, Clone, Copy, PartialEq, Eq)]
+#[derive(Debug, Clone, Copy, PartialEq, Eq, Hash)]
 pub enum ClassPerlKind {
     /// `\d`: the decimal digits, General_Category Nd.
     Digit,
