@@ -74,7 +74,7 @@ module _ {S : Type 0} (first : S → List ℕ → Option ℕ) (nodes : List (Nod
 within_low : (low high i : ℕ) → is_within low high i ≡ true → low ≤ i
 within_low low high i e = grind (arith, nat_tests)
 
-within_high : (low high i : ℕ) → is_within low high i ≡ true → i ≤ high
+pub within_high : (low high i : ℕ) → is_within low high i ≡ true → i ≤ high
 within_high low high i e = grind (arith, nat_tests)
 
 inside_of : (s : Search) (i : ℕ) → is_within (lowest s) (highest s) i ≡ true → IsInside s i

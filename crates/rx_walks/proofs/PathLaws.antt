@@ -14,7 +14,7 @@ reaches_renoted n' (ended new is) = reaches (ended new is) refl refl
 reaches_renoted {m = m} n' (went {q = q} {i = i} rs r new is at w) = let on = reaches_renoted (m.note i q n') w in reaches (went rs r new is at on.walk) on.pattern_is on.end_is
 reaches_renoted n' (took r j new is w) = let on = reaches_renoted n' w in reaches (took r j new is on.walk) on.pattern_is on.end_is
 
-new_past : {Q : Type 0} (seen : List Q) (b q : Q) → IsNew seen q → (b ≡ q → ⊥) → IsNew (b ∷ seen) q
+pub new_past : {Q : Type 0} (seen : List Q) (b q : Q) → IsNew seen q → (b ≡ q → ⊥) → IsNew (b ∷ seen) q
 new_past seen b q new other c = elim (Contains-cases seen b q c) [ inl e ↦ other e | inr c' ↦ new c' ]
 
 turned : {Q : Type 0} (seen : List Q) (a b x : Q) → Contains (a ∷ b ∷ seen) x → Contains (b ∷ a ∷ seen) x

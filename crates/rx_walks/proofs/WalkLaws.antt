@@ -110,7 +110,7 @@ same_walk (took r j new is w) (went rs r' new' is' at' w') = absurd (goes_not_re
 same_walk (took r j new is w) (took r' j' new' is' w') = let one = same_read is' is in same_walk w (from_node one.0 (from_place one.1 w'))
 
 -- the least walk past a node
-least_ended : {Q N : Type 0} {m : Machine Q N} {seen : List Q} {n : N} {q : Q} {i p : ℕ} → IsNew seen q → m.move i q ≡ ends p → IsLeast m seen n q i (record { pattern = p; end = i; notes = n })
+pub least_ended : {Q N : Type 0} {m : Machine Q N} {seen : List Q} {n : N} {q : Q} {i p : ℕ} → IsNew seen q → m.move i q ≡ ends p → IsLeast m seen n q i (record { pattern = p; end = i; notes = n })
 least_ended {m = m} {seen = seen} {n = n} {q = q} {i = i} new is = record { choices = []; walk = ended new is; least = only }
   where
     only : (ds : List ℕ) (u : Outcome _) → Walk m seen n q i ds u → (ds ≡ []) ⊎ Before [] ds
@@ -118,7 +118,7 @@ least_ended {m = m} {seen = seen} {n = n} {q = q} {i = i} new is = record { choi
     only ds u (went rs r new' is' at w) = absurd (ends_not_goes is is')
     only ds u (took r j new' is' w) = absurd (ends_not_reads is is')
 
-least_took : {Q N : Type 0} {m : Machine Q N} {seen : List Q} {n : N} {q r : Q} {i j : ℕ} {t : Outcome N} → IsNew seen q → m.move i q ≡ reads r j → IsLeast m [] n r j t → IsLeast m seen n q i t
+pub least_took : {Q N : Type 0} {m : Machine Q N} {seen : List Q} {n : N} {q r : Q} {i j : ℕ} {t : Outcome N} → IsNew seen q → m.move i q ≡ reads r j → IsLeast m [] n r j t → IsLeast m seen n q i t
 least_took {m = m} {seen = seen} {n = n} {q = q} {r = r} {i = i} {j = j} new is one = record { choices = one.choices; walk = took r j new is one.walk; least = first }
   where
     first : (ds : List ℕ) (u : Outcome _) → Walk m seen n q i ds u → (ds ≡ one.choices) ⊎ Before one.choices ds
@@ -126,7 +126,7 @@ least_took {m = m} {seen = seen} {n = n} {q = q} {r = r} {i = i} {j = j} new is 
     first ds u (went rs r' new' is' at w) = absurd (goes_not_reads is' is)
     first ds u (took r' j' new' is' w) = let same = same_read is' is in one.least ds u (from_node same.0 (from_place same.1 w))
 
-none_took : {Q N : Type 0} {m : Machine Q N} {seen : List Q} {n : N} {q r : Q} {i j : ℕ} → m.move i q ≡ reads r j → HasNoWalk m [] n r j → HasNoWalk m seen n q i
+pub none_took : {Q N : Type 0} {m : Machine Q N} {seen : List Q} {n : N} {q r : Q} {i j : ℕ} → m.move i q ≡ reads r j → HasNoWalk m [] n r j → HasNoWalk m seen n q i
 none_took is never cs t (ended new is') = ends_not_reads is' is
 none_took is never cs t (went rs r' new is' at w) = goes_not_reads is' is
 none_took is never cs t (took r' j' new is' w) = let same = same_read is' is in never cs t (from_node same.0 (from_place same.1 w))
@@ -151,7 +151,7 @@ least_went {Q = Q} {m = m} {seen = seen} {n = n} {q = q} {r = r} {i = i} {k = k}
     first ds u (went {k = d} {cs = ds'} rs' s new' is' at' w) = chosen d ds' u s (subst (λ x. slice_get x d ≡ Some s) (same_open is' is) at') w
     first ds u (took r' j' new' is' w) = absurd (goes_not_reads is is')
 
-none_went : {Q N : Type 0} {m : Machine Q N} {seen : List Q} {n : N} {q : Q} {i : ℕ} (rs : List Q) → m.move i q ≡ goes rs
+pub none_went : {Q N : Type 0} {m : Machine Q N} {seen : List Q} {n : N} {q : Q} {i : ℕ} (rs : List Q) → m.move i q ≡ goes rs
     → ((d : ℕ) (s : Q) → slice_get rs d ≡ Some s → HasNoWalk m (q ∷ seen) (m.note i q n) s i) → HasNoWalk m seen n q i
 none_went rs is never cs t (ended new is') = ends_not_goes is' is
 none_went rs is never cs t (went {k = d} {cs = ds} rs' s new is' at w) = never d s (subst (λ x. slice_get x d ≡ Some s) (same_open is' is) at) ds t w
@@ -191,13 +191,13 @@ further : {Q N : Type 0} {m : Machine Q N} {seen : List Q} {n : N} {i : ℕ} {r 
 further {r = r} {rs = rs} never (past all best) = past (never_among r rs never all) best
 further {r = r} {rs = rs} never (among k s at one before) = among (suc k) s at one (never_before r rs k never before)
 
-chosen : {Q N : Type 0} {m : Machine Q N} {seen : List Q} {i : ℕ} {out : Option (Outcome N)} (n : N) (rs : List Q) (others : List (N × Q))
+pub chosen : {Q N : Type 0} {m : Machine Q N} {seen : List Q} {i : ℕ} {out : Option (Outcome N)} (n : N) (rs : List Q) (others : List (N × Q))
     → Best m seen i (map (λ r. (n, r)) rs ++ others) out → Chosen m seen n i rs others out
 chosen n [] others best = past (λ d s at. absurd (cc at)) best
 chosen n (r ∷ rs) others (hit one) = among 0 r refl one (λ d s below. absurd (omega (arith, below)))
 chosen n (r ∷ rs) others (miss never best) = further never (chosen n rs others best)
 
-opened_best : {Q N : Type 0} {m : Machine Q N} {seen : List Q} {n : N} {q : Q} {i : ℕ} {others : List (N × Q)} {out : Option (Outcome N)} (rs : List Q) → IsNew seen q → m.move i q ≡ goes rs
+pub opened_best : {Q N : Type 0} {m : Machine Q N} {seen : List Q} {n : N} {q : Q} {i : ℕ} {others : List (N × Q)} {out : Option (Outcome N)} (rs : List Q) → IsNew seen q → m.move i q ≡ goes rs
     → Chosen m (q ∷ seen) (m.note i q n) i rs others out → Best m seen i ((n, q) ∷ others) out
 opened_best rs new is (past all best) = let never = none_went rs is all in miss never (unseen (none_renoted never) best)
 opened_best rs new is (among k r at one before) = hit (least_went rs new is at one before)

@@ -50,6 +50,11 @@ abbrev pub FindsAllAtMostOne : {S : Type 0} → (S → ℕ → Bool) → (ℕ �
 FindsAllAtMostOne member is_word p = (s : Search) (out out' : Option PatternMatch)
     → ProgramFindsAll member is_word p s out → ProgramFindsAll member is_word p s out' → out ≡ out'
 
+-- and one: a match, or that there is none
+abbrev pub FindsExist : {S : Type 0} → (S → ℕ → Bool) → (ℕ → Bool) → Program Look S → Type 0
+FindsExist member is_word p =
+    (s : Search) → (out : Option (Outcome Notes)) × ProgramFinds member is_word p s out
+
 -- and at most one list of matches
 abbrev pub MatchesAreOneList : {S : Type 0} → (S → ℕ → Bool) → (ℕ → Bool) → Program Look S → Type 0
 MatchesAreOneList member is_word p = (s : Search) (ms ms' : List (Outcome Notes))

@@ -1,6 +1,6 @@
 //! Laws of walks and of what is found by them. Each function does nothing: its contract is the law.
 
-ghost use Rattle.rx_walks.specs.Laws.{BytesRefine, FindsAllAtMostOne, FindsAllLieInside, FindsAtMostOne, FindsLieInside, FirstCharacterStands, FourBytesTell, LastCharacterStands, MatchesAllAreOneList, MatchesAreOneList, PathsAgree, PathsHaveWalks, ProgramIsSearched, ProgramIsSearchedForAll, ProgramIsSearchedKeeping, ProgramWalksAgree, ProgramsFind, ProgramsFindAll, ProgramsReadForward, SearchesFind, SearchesFindAll, StepsKeepBest, WalksAgree, WalksTakeNoPairTwice};
+ghost use Rattle.rx_walks.specs.Laws.{BytesRefine, FindsAllAtMostOne, FindsAllLieInside, FindsAtMostOne, FindsExist, FindsLieInside, FirstCharacterStands, FourBytesTell, LastCharacterStands, MatchesAllAreOneList, MatchesAreOneList, PathsAgree, PathsHaveWalks, ProgramIsSearched, ProgramIsSearchedForAll, ProgramIsSearchedKeeping, ProgramWalksAgree, ProgramsFind, ProgramsFindAll, ProgramsReadForward, SearchesFind, SearchesFindAll, StepsKeepBest, WalksAgree, WalksTakeNoPairTwice};
 ghost use Rattle.rx_walks.specs.Machines.{Machine};
 ghost use Rattle.rx_walks.specs.Programs.{Haystack, Node, Notes, Program};
 ghost use Rattle.rx_walks.specs.Looks.{Look};
@@ -22,6 +22,12 @@ pub fn finds_at_most_one<S>()
 pub fn finds_all_at_most_one<S>()
     ensures { (member : S → ℕ → Bool) (is_word : ℕ → Bool) (p : Program Look S)
         → FindsAllAtMostOne member is_word p }
+{}
+
+/// And there is one: in each content, each search of it, a program finds a match or finds none.
+pub fn finds_exist<S>()
+    ensures { (member : S → ℕ → Bool) (is_word : ℕ → Bool) (p : Program Look S)
+        → FindsExist member is_word p }
 {}
 
 /// In a content a program has at most one list of matches.
