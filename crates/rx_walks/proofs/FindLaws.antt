@@ -68,7 +68,7 @@ IsOne {A} find = (i : ℕ) (out out' : Option A) → find i out → find i out' 
 not_moved : {A : Type 0} (start_of end_of : A → ℕ) {e : ℕ} {a b : A} → Some a ≡ Some b → (start_of a ≡ e → end_of a ≡ e → ⊥) → start_of b ≡ e → end_of b ≡ e → ⊥
 not_moved start_of end_of same not is is' = let one = same_some refl same in not (ap start_of one ∙ is) (ap end_of one ∙ is')
 
-next_unique : {A : Type 0} {find : ℕ → Option A → Type 0} {start_of end_of : A → ℕ} {e : ℕ} {out out' : Option A} → IsOne find → Next find start_of end_of e out → Next find start_of end_of e out' → out ≡ out'
+pub next_unique : {A : Type 0} {find : ℕ → Option A → Type 0} {start_of end_of : A → ℕ} {e : ℕ} {out out' : Option A} → IsOne find → Next find start_of end_of e out → Next find start_of end_of e out' → out ≡ out'
 next_unique one (no_more f) (no_more f') = refl
 next_unique {e = e} one (no_more f) (at_once {a = a} f' not) = one e None (Some a) f f'
 next_unique {e = e} one (no_more f) (moved {a = a} f' is is' f'') = absurd (cc (one e None (Some a) f f'))

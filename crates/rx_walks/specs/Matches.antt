@@ -1,6 +1,7 @@
 -- The matches that repeated finds give, one after the other. `find` says what is found from a place
 -- on.
-use Rattle.std.specs.Prelude.{◌≡◌, ℕ, ◌+◌, List, [], ◌∷◌, Option, Some, None}
+use Rattle.std.specs.Prelude.{◌≡◌, ℕ, ◌+◌, List, [], ◌∷◌, ◌++◌, Option, Some, None}
+use Rattle.std.specs.List.{last_or}
 
 -- what is found after a match that ends at e: the find from e on, and where that is an empty match
 -- at e, the one from e + 1
@@ -27,3 +28,21 @@ pub data Matches {A : Type 0} (find : ℕ → Option A → Type 0) (start_of end
   first : {a : A} {others : List A} → find start (Some a)
       → Further find start_of end_of (end_of a) others
       → Matches find start_of end_of start (a ∷ others)
+
+-- what comes next behind the last match; where there was none yet, the find from the start on
+abbrev pub BehindLast : {A : Type 0} → (ℕ → Option A → Type 0) → (A → ℕ) → (A → ℕ) → ℕ → Option A
+    → Option A → Type 0
+BehindLast find start_of end_of start None out = find start out
+BehindLast find start_of end_of start (Some a) out = Next find start_of end_of (end_of a) out
+
+-- what comes next behind these matches
+abbrev pub ComesNext : {A : Type 0} → (ℕ → Option A → Type 0) → (A → ℕ) → (A → ℕ) → ℕ → List A
+    → Option A → Type 0
+ComesNext find start_of end_of start ms out =
+    BehindLast find start_of end_of start (last_or None ms) out
+
+-- the first members of the matches from a place on: more may come
+abbrev pub FirstMatches : {A : Type 0} → (ℕ → Option A → Type 0) → (A → ℕ) → (A → ℕ) → ℕ → List A
+    → Type 0
+FirstMatches {A} find start_of end_of start ms =
+    (others : List A) × Matches find start_of end_of start (ms ++ others)

@@ -6,7 +6,7 @@ use Rattle.rx_walks.specs.Characters.{member_len}
 use Rattle.rx_walks.specs.Looks.{Look, holds_between}
 use Rattle.rx_walks.specs.Programs.{Program, Haystack, Notes, fresh_notes, put_note, over_characters}
 use Rattle.rx_walks.specs.Finds.{Anchoring, unanchored, anchored, anchored_pattern, Search, from_place_on, PatternMatch, IsFind, IsFindAll}
-use Rattle.rx_walks.specs.Matches.{Matches}
+use Rattle.rx_walks.specs.Matches.{Matches, ComesNext, FirstMatches}
 
 -- what stands before a place in the slice, from the place back; and what stands after it
 abbrev pub before_in : Search → ℕ → List ℕ
@@ -78,6 +78,21 @@ ProgramMatches member is_word p s ms =
     Matches
     (λ i out. ProgramFinds member is_word p (from_place_on s i) out) start_of end_of s.start ms
 
+-- the first members of that list: more may come
+abbrev pub ProgramFirstMatches : {S : Type 0} → (S → ℕ → Bool) → (ℕ → Bool) → Program Look S
+    → Search → List (Outcome Notes) → Type 0
+ProgramFirstMatches member is_word p s ms =
+    FirstMatches
+    (λ i out. ProgramFinds member is_word p (from_place_on s i) out) start_of end_of s.start ms
+
+-- what comes next in it behind these, or that none comes
+abbrev pub ProgramComesNext : {S : Type 0} → (S → ℕ → Bool) → (ℕ → Bool) → Program Look S → Search
+    → List (Outcome Notes) → Option (Outcome Notes) → Type 0
+ProgramComesNext member is_word p s ms out =
+    ComesNext
+    (λ i out. ProgramFinds member is_word p (from_place_on s i) out) start_of end_of s.start ms out
+
+-- and where all matches are wanted
 abbrev pub ProgramMatchesAll : {S : Type 0} → (S → ℕ → Bool) → (ℕ → Bool) → Program Look S → Search
     → List PatternMatch → Type 0
 ProgramMatchesAll member is_word p s ms =

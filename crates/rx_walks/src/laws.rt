@@ -1,6 +1,7 @@
 //! Laws of walks and of what is found by them. Each function does nothing: its contract is the law.
 
 ghost use Rattle.rx_walks.specs.Laws.{BytesRefine, FindsAllAtMostOne, FindsAllLieInside, FindsAtMostOne, FindsExist, FindsLieInside, FirstCharacterStands, FourBytesTell, LastCharacterStands, MatchesAllAreOneList, MatchesAreOneList, PathsAgree, PathsHaveWalks, ProgramIsSearched, ProgramIsSearchedForAll, ProgramIsSearchedKeeping, ProgramWalksAgree, ProgramsFind, ProgramsFindAll, ProgramsReadForward, SearchesFind, SearchesFindAll, StepsKeepBest, WalksAgree, WalksTakeNoPairTwice};
+ghost use Rattle.rx_walks.specs.MatchLaws.{FirstMatchesGrow, MatchesAllRise, MatchesAreFound, MatchesExist, MatchesRise};
 ghost use Rattle.rx_walks.specs.Machines.{Machine};
 ghost use Rattle.rx_walks.specs.Programs.{Haystack, Node, Notes, Program};
 ghost use Rattle.rx_walks.specs.Looks.{Look};
@@ -24,7 +25,7 @@ pub fn finds_all_at_most_one<S>()
         → FindsAllAtMostOne member is_word p }
 {}
 
-/// And there is one: in each content, each search of it, a program finds a match or finds none.
+/// And it has one in each search: a match, or none.
 pub fn finds_exist<S>()
     ensures { (member : S → ℕ → Bool) (is_word : ℕ → Bool) (p : Program Look S)
         → FindsExist member is_word p }
@@ -40,6 +41,39 @@ pub fn matches_are_one_list<S>()
 pub fn matches_all_are_one_list<S>()
     ensures { (member : S → ℕ → Bool) (is_word : ℕ → Bool) (p : Program Look S)
         → MatchesAllAreOneList member is_word p }
+{}
+
+/// And there is one list of them.
+pub fn matches_exist<S>()
+    ensures { (member : S → ℕ → Bool) (is_word : ℕ → Bool) (p : Program Look S)
+        → MatchesExist member is_word p }
+{}
+
+/// Each member of that list is what a search finds from some place on, so that what is known of
+/// finds is known of it.
+pub fn matches_are_found<S>()
+    ensures { (member : S → ℕ → Bool) (is_word : ℕ → Bool) (p : Program Look S)
+        → MatchesAreFound member is_word p }
+{}
+
+/// Matches rise and don't overlap, and there is at most one more of them than the content has
+/// bytes.
+pub fn matches_rise<S>()
+    ensures { (member : S → ℕ → Bool) (is_word : ℕ → Bool) (p : Program Look S)
+        → MatchesRise member is_word p }
+{}
+
+/// So it is where all matches are wanted.
+pub fn matches_all_rise<S>()
+    ensures { (member : S → ℕ → Bool) (is_word : ℕ → Bool) (p : Program Look S)
+        → MatchesAllRise member is_word p }
+{}
+
+/// Behind the first members of the list comes exactly one next member or none: with it they are
+/// its first members too, and where none comes they are all of it.
+pub fn first_matches_grow<S>()
+    ensures { (member : S → ℕ → Bool) (is_word : ℕ → Bool) (p : Program Look S)
+        → FirstMatchesGrow member is_word p }
 {}
 
 /// The first character of bytes, whatever they are, is the one whose UTF-8 stands first in them.
