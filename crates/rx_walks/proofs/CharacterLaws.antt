@@ -9,7 +9,7 @@ use Rattle.std.specs.Char.{IsScalar, len_utf8}
 use Rattle.rx_walks.specs.Characters.{only_one, character_of, first_some, first_character, len_if, member_len, StandsFirst}
 use Rattle.rx_walks.proofs.WalkLaws.{same_some}
 
-take_drop : (k : ℕ) (bs : List ℕ) → bs ≡ take k bs ++ drop k bs
+pub take_drop : (k : ℕ) (bs : List ℕ) → bs ≡ take k bs ++ drop k bs
 take_drop zero bs = refl
 take_drop (suc k) [] = refl
 take_drop (suc k) (b ∷ bs) = ap (λ xs. b ∷ xs) (take_drop k bs)

@@ -27,13 +27,13 @@ least_same {m = m} {seen = seen} {n = n} {q = q} {i = i} {t = t} {u = u} one oth
 ]
 
 -- a walk that ends elsewhere has read at its start
-has_read : {Q N : Type 0} {m : Machine Q N} {seen : List Q} {n : N} {q : Q} {i : ℕ} {cs : List ℕ} {t : Outcome N}
+pub has_read : {Q N : Type 0} {m : Machine Q N} {seen : List Q} {n : N} {q : Q} {i : ℕ} {cs : List ℕ} {t : Outcome N}
     → (content : List ℕ) → ((i j : ℕ) (q r : Q) → m.move i q ≡ reads r j → IsCharBoundary content i) → Walk m seen n q i cs t → (t.end ≡ i) ⊎ IsCharBoundary content i
 has_read content at_whole (ended new is) = inl refl
 has_read content at_whole (went rs r new is at w) = has_read content at_whole w
 has_read content at_whole (took {q = q} {i = i} r j new is w) = inr (at_whole i j q r is)
 
-begins : {Q N : Type 0} {m : Machine Q N} {fresh : ℕ → N} {s : Search} {q : Q} {i : ℕ} {t : Outcome N} → ((i j : ℕ) (q r : Q) → m.move i q ≡ reads r j → IsCharBoundary s.content i) → Counts m fresh s q i t
+pub begins : {Q N : Type 0} {m : Machine Q N} {fresh : ℕ → N} {s : Search} {q : Q} {i : ℕ} {t : Outcome N} → ((i j : ℕ) (q r : Q) → m.move i q ≡ reads r j → IsCharBoundary s.content i) → Counts m fresh s q i t
     → Begins s i
 begins {s = s} {i = i} {t = t} at_whole counts = (
   counts.possible,

@@ -32,7 +32,7 @@ goes_inside false x rs k e at = absurd (none_there rs k (same_goes rs [] (sym e)
 goes_inside true x rs k e at = refl
 
 -- each place that was noted lies between these
-abbrev AreNoted : ℕ → ℕ → List (ℕ × ℕ) → Type 0
+abbrev pub AreNoted : ℕ → ℕ → List (ℕ × ℕ) → Type 0
 AreNoted low high noted = (slot j : ℕ) → last_noted slot noted ≡ Some j → (low ≤ j) × (j ≤ high)
 
 one_more_noted : (low i slot : ℕ) (noted : List (ℕ × ℕ)) → low ≤ i → AreNoted low i noted → AreNoted low i ((slot, i) ∷ noted)
@@ -43,11 +43,11 @@ one_more_noted low i slot noted from are asked j e = by_slot (asked == slot) e
     by_slot false e = are asked j e
 
 -- what a walk keeps
-record Keeps (m_within : ℕ → Bool) (low i : ℕ) (n : Notes) (t : Outcome Notes) : Type 0 where
-  inside : m_within t.end ≡ true
-  on : i ≤ t.end
-  start : t.notes.start ≡ n.start
-  noted : AreNoted low t.end t.notes.noted
+pub record Keeps (m_within : ℕ → Bool) (low i : ℕ) (n : Notes) (t : Outcome Notes) : Type 0 where
+  pub inside : m_within t.end ≡ true
+  pub on : i ≤ t.end
+  pub start : t.notes.start ≡ n.start
+  pub noted : AreNoted low t.end t.notes.noted
 
 module _ {S : Type 0} (first : S → List ℕ → Option ℕ) (nodes : List (Node Look S)) (h : Haystack Look) (forward : IsForward (over_characters put_note first nodes h)) where
   note_keeps : (low i : ℕ) (a_node : Option (Node Look S)) (n : Notes) → low ≤ i → AreNoted low i n.noted → ((note_at put_note i a_node n).start ≡ n.start) × AreNoted low i (note_at put_note i a_node n).noted
@@ -90,7 +90,7 @@ inside_of s i e =
     )
 
 module _ {S : Type 0} (member : S → ℕ → Bool) (is_word : ℕ → Bool) (p : Program Look S) (s : Search) where
-  walk_keeps : {q i : ℕ} {cs : List ℕ} {t : Outcome Notes} → Walk (machine_of member is_word p s) [] (fresh_notes i) q i cs t → Keeps (is_within (lowest s) (highest s)) i i (fresh_notes i) t
+  pub walk_keeps : {q i : ℕ} {cs : List ℕ} {t : Outcome Notes} → Walk (machine_of member is_word p s) [] (fresh_notes i) q i cs t → Keeps (is_within (lowest s) (highest s)) i i (fresh_notes i) t
   walk_keeps {i = i} w =
       let h = haystack_of (holds_in is_word p.line_terminator s) s in
       keeps (first_by member) p.nodes h (characters_forward put_note member p.nodes h) i (omega arith) (λ slot j e. absurd (cc e)) w

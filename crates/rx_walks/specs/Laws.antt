@@ -1,6 +1,6 @@
 -- Laws of walks and of what is found by them.
 use Rattle.std.specs.Prelude.{◌≡◌, ℕ, ◌+◌, ◌≤◌, ◌⊎◌, ◌↔◌, Bool, IsTrue, List, [], map, reverse, take, Option, None, Some, option_map, slice_get}
-use Rattle.std.specs.Str.{IsCharBoundary}
+use Rattle.std.specs.Str.{IsUtf8, IsCharBoundary}
 use Rattle.rx_walks.specs.Machines.{Machine, Outcome, IsForward, reads}
 use Rattle.rx_walks.specs.Walks.{Walk, IsLeast, Reaches}
 use Rattle.rx_walks.specs.Paths.{Path, PathThrough, HasNoRepeat}
@@ -100,6 +100,22 @@ FindsLieInside member is_word p = (s : Search) (t : Outcome Notes)
 abbrev pub FindsAllLieInside : {S : Type 0} → (S → ℕ → Bool) → (ℕ → Bool) → Program Look S → Type 0
 FindsAllLieInside member is_word p = (s : Search) (a : PatternMatch)
     → ProgramFindsAll member is_word p s (Some a) → MayBeFound s a.start a.end
+
+-- it starts and ends at boundaries of the content's characters; the places in its slots are such too
+pub record StandsAtBoundaries (content : List ℕ) (t : Outcome Notes) : Type 0 where
+  pub start : IsCharBoundary content (start_of t)
+  pub end : IsCharBoundary content (end_of t)
+  pub slots : (slot i : ℕ) → slot_of t.notes slot ≡ Some i → IsCharBoundary content i
+
+-- in UTF-8 what is found is whole characters, where empty matches inside one are passed over
+abbrev pub FindsAreWhole : {S : Type 0} → (S → ℕ → Bool) → (ℕ → Bool) → Program Look S → Type 0
+FindsAreWhole member is_word p = (s : Search) (t : Outcome Notes) → IsUtf8 s.content
+    → IsTrue s.utf8_empty → ProgramFinds member is_word p s (Some t) → StandsAtBoundaries s.content t
+
+abbrev pub FindsAllAreWhole : {S : Type 0} → (S → ℕ → Bool) → (ℕ → Bool) → Program Look S → Type 0
+FindsAllAreWhole member is_word p = (s : Search) (a : PatternMatch) → IsUtf8 s.content
+    → IsTrue s.utf8_empty → ProgramFindsAll member is_word p s (Some a)
+    → IsCharBoundary s.content a.start × IsCharBoundary s.content a.end
 
 -- ---- threads
 

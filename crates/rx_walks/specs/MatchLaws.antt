@@ -1,10 +1,12 @@
 -- Laws of lists of matches: that there is one, how its members lie, and what its first members are.
-use Rattle.std.specs.Prelude.{◌≡◌, ℕ, ◌+◌, ◌<◌, ◌≤◌, ◌↔◌, Bool, List, [], ◌∷◌, ◌++◌, length, Option, None, Some, All, AllPairs}
+use Rattle.std.specs.Prelude.{◌≡◌, ℕ, ◌+◌, ◌<◌, ◌≤◌, ◌↔◌, Bool, IsTrue, List, [], ◌∷◌, ◌++◌, length, Option, None, Some, All, AllPairs}
+use Rattle.std.specs.Str.{IsUtf8}
 use Rattle.rx_walks.specs.Machines.{Outcome}
 use Rattle.rx_walks.specs.Looks.{Look}
 use Rattle.rx_walks.specs.Finds.{Search, from_place_on, IsInside, PatternMatch}
 use Rattle.rx_walks.specs.Programs.{Program, Notes}
 use Rattle.rx_walks.specs.ProgramFinds.{ProgramFinds, ProgramMatches, ProgramMatchesAll, ProgramFirstMatches, ProgramComesNext, start_of, end_of}
+use Rattle.rx_walks.specs.Laws.{StandsAtBoundaries}
 
 -- in a content a program has a list of matches
 abbrev pub MatchesExist : {S : Type 0} → (S → ℕ → Bool) → (ℕ → Bool) → Program Look S → Type 0
@@ -21,6 +23,12 @@ IsFoundBehind member is_word p s t =
 abbrev pub MatchesAreFound : {S : Type 0} → (S → ℕ → Bool) → (ℕ → Bool) → Program Look S → Type 0
 MatchesAreFound member is_word p = (s : Search) (ms : List (Outcome Notes))
     → ProgramMatches member is_word p s ms → All (IsFoundBehind member is_word p s) ms
+
+-- in UTF-8 they are whole characters, where empty matches inside one are passed over
+abbrev pub MatchesAreWhole : {S : Type 0} → (S → ℕ → Bool) → (ℕ → Bool) → Program Look S → Type 0
+MatchesAreWhole member is_word p = (s : Search) (ms : List (Outcome Notes)) → IsUtf8 s.content
+    → IsTrue s.utf8_empty → ProgramMatches member is_word p s ms
+    → All (StandsAtBoundaries s.content) ms
 
 -- a match from a start to an end lies inside slice, span and content
 abbrev pub LiesBetween : Search → ℕ → ℕ → Type 0

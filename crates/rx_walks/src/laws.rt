@@ -1,7 +1,7 @@
 //! Laws of walks and of what is found by them. Each function does nothing: its contract is the law.
 
-ghost use Rattle.rx_walks.specs.Laws.{BytesRefine, FindsAllAtMostOne, FindsAllLieInside, FindsAtMostOne, FindsExist, FindsLieInside, FirstCharacterStands, FourBytesTell, LastCharacterStands, MatchesAllAreOneList, MatchesAreOneList, PathsAgree, PathsHaveWalks, ProgramIsSearched, ProgramIsSearchedForAll, ProgramIsSearchedKeeping, ProgramWalksAgree, ProgramsFind, ProgramsFindAll, ProgramsReadForward, SearchesFind, SearchesFindAll, StepsKeepBest, WalksAgree, WalksTakeNoPairTwice};
-ghost use Rattle.rx_walks.specs.MatchLaws.{FirstMatchesGrow, MatchesAllRise, MatchesAreFound, MatchesExist, MatchesRise};
+ghost use Rattle.rx_walks.specs.Laws.{BytesRefine, FindsAllAreWhole, FindsAllAtMostOne, FindsAllLieInside, FindsAreWhole, FindsAtMostOne, FindsExist, FindsLieInside, FirstCharacterStands, FourBytesTell, LastCharacterStands, MatchesAllAreOneList, MatchesAreOneList, PathsAgree, PathsHaveWalks, ProgramIsSearched, ProgramIsSearchedForAll, ProgramIsSearchedKeeping, ProgramWalksAgree, ProgramsFind, ProgramsFindAll, ProgramsReadForward, SearchesFind, SearchesFindAll, StepsKeepBest, WalksAgree, WalksTakeNoPairTwice};
+ghost use Rattle.rx_walks.specs.MatchLaws.{FirstMatchesGrow, MatchesAllRise, MatchesAreFound, MatchesAreWhole, MatchesExist, MatchesRise};
 ghost use Rattle.rx_walks.specs.Machines.{Machine};
 ghost use Rattle.rx_walks.specs.Programs.{Haystack, Node, Notes, Program};
 ghost use Rattle.rx_walks.specs.Looks.{Look};
@@ -102,6 +102,25 @@ pub fn finds_lie_inside<S>()
 pub fn finds_all_lie_inside<S>()
     ensures { (member : S → ℕ → Bool) (is_word : ℕ → Bool) (p : Program Look S)
         → FindsAllLieInside member is_word p }
+{}
+
+/// In UTF-8 what a program finds starts and ends at boundaries of characters, and so stand the
+/// places in its slots, where empty matches inside a character are passed over.
+pub fn finds_are_whole<S>()
+    ensures { (member : S → ℕ → Bool) (is_word : ℕ → Bool) (p : Program Look S)
+        → FindsAreWhole member is_word p }
+{}
+
+/// So does what is found where all matches are wanted.
+pub fn finds_all_are_whole<S>()
+    ensures { (member : S → ℕ → Bool) (is_word : ℕ → Bool) (p : Program Look S)
+        → FindsAllAreWhole member is_word p }
+{}
+
+/// And so does each match of the list.
+pub fn matches_are_whole<S>()
+    ensures { (member : S → ℕ → Bool) (is_word : ℕ → Bool) (p : Program Look S)
+        → MatchesAreWhole member is_word p }
 {}
 
 /// One step from a place keeps the best walk.
