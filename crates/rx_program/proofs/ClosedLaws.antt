@@ -34,7 +34,7 @@ mutual
   some_row (more first others) = omega (arith, some_nodes first)
 
 -- and exactly as many as its size is
-copies_length : (s : ℕ) (h : ℕ → ℕ → Code) → ((at next : ℕ) → length (h at next) ≡ s) → (n at next : ℕ) → length (copies s h n at next) ≡ n * s
+pub copies_length : (s : ℕ) (h : ℕ → ℕ → Code) → ((at next : ℕ) → length (h at next) ≡ s) → (n at next : ℕ) → length (copies s h n at next) ≡ n * s
 copies_length s h is zero at next = omega arith
 copies_length s h is (suc n) at next =
     omega (arith, length-append (h at (entry_of n (at + s) next)) (copies s h n (at + s) next), is at (entry_of n (at + s) next), copies_length s h is n (at + s) next)
@@ -56,28 +56,28 @@ repetition_length g (suc n) None s may h is at next =
     omega (arith, length-append (copies s h (suc n) at (at + suc n * s)) (fork g (at + n * s) next ∷ []), copies_length s h is (suc n) at (at + suc n * s))
 
 mutual
-  pub code_length : (tree : Tree) (at next : ℕ) → length (code_of 0 tree at next) ≡ size_of tree
-  code_length empty at next = refl
-  code_length (one_of ranges) at next = refl
-  code_length (look_at asked) at next = refl
-  code_length (group number name tree) at next =
-      omega (arith, length-append (code_of 0 tree (at + 1) (at + 1 + size_of tree)) (note (0 + 2 * number + 1) next ∷ []), code_length tree (at + 1) (at + 1 + size_of tree))
-  code_length (concat trees) at next = row_length trees at next
-  code_length (alternation trees) at next = omega (arith, branches_length trees (at + 1) next)
-  code_length (repeated rep tree) at next =
-      repetition_length rep.greedy rep.min rep.max (size_of tree) (may_be_empty tree) (code_of 0 tree) (λ a b. code_length tree a b) at next
+  pub code_length : (slots : ℕ) (tree : Tree) (at next : ℕ) → length (code_of slots tree at next) ≡ size_of tree
+  code_length slots empty at next = refl
+  code_length slots (one_of ranges) at next = refl
+  code_length slots (look_at asked) at next = refl
+  code_length slots (group number name tree) at next =
+      omega (arith, length-append (code_of slots tree (at + 1) (at + 1 + size_of tree)) (note (slots + 2 * number + 1) next ∷ []), code_length slots tree (at + 1) (at + 1 + size_of tree))
+  code_length slots (concat trees) at next = row_length slots trees at next
+  code_length slots (alternation trees) at next = omega (arith, branches_length slots trees (at + 1) next)
+  code_length slots (repeated rep tree) at next =
+      repetition_length rep.greedy rep.min rep.max (size_of tree) (may_be_empty tree) (code_of slots tree) (λ a b. code_length slots tree a b) at next
 
-  row_length : (trees : Trees) (at next : ℕ) → length (row_code 0 trees at next) ≡ all_sizes_of trees
-  row_length (two first second) at next =
-      omega (arith, length-append (code_of 0 first at (at + size_of first)) (code_of 0 second (at + size_of first) next), code_length first at (at + size_of first), code_length second (at + size_of first) next)
-  row_length (more first others) at next =
-      omega (arith, length-append (code_of 0 first at (at + size_of first)) (row_code 0 others (at + size_of first) next), code_length first at (at + size_of first), row_length others (at + size_of first) next)
+  row_length : (slots : ℕ) (trees : Trees) (at next : ℕ) → length (row_code slots trees at next) ≡ all_sizes_of trees
+  row_length slots (two first second) at next =
+      omega (arith, length-append (code_of slots first at (at + size_of first)) (code_of slots second (at + size_of first) next), code_length slots first at (at + size_of first), code_length slots second (at + size_of first) next)
+  row_length slots (more first others) at next =
+      omega (arith, length-append (code_of slots first at (at + size_of first)) (row_code slots others (at + size_of first) next), code_length slots first at (at + size_of first), row_length slots others (at + size_of first) next)
 
-  branches_length : (trees : Trees) (at next : ℕ) → length (branches_code 0 trees at next) ≡ all_sizes_of trees
-  branches_length (two first second) at next =
-      omega (arith, length-append (code_of 0 first at next) (code_of 0 second (at + size_of first) next), code_length first at next, code_length second (at + size_of first) next)
-  branches_length (more first others) at next =
-      omega (arith, length-append (code_of 0 first at next) (branches_code 0 others (at + size_of first) next), code_length first at next, branches_length others (at + size_of first) next)
+  branches_length : (slots : ℕ) (trees : Trees) (at next : ℕ) → length (branches_code slots trees at next) ≡ all_sizes_of trees
+  branches_length slots (two first second) at next =
+      omega (arith, length-append (code_of slots first at next) (code_of slots second (at + size_of first) next), code_length slots first at next, code_length slots second (at + size_of first) next)
+  branches_length slots (more first others) at next =
+      omega (arith, length-append (code_of slots first at next) (branches_code slots others (at + size_of first) next), code_length slots first at next, branches_length slots others (at + size_of first) next)
 
 -- edges
 module _ (n : ℕ) where
@@ -179,8 +179,8 @@ pub pattern_is_closed : PatternIsClosed
 pattern_is_closed tree terminator =
     let s = size_of tree in
     let code = code_of 0 tree 1 (0 + 1 + s) in
-    let end = note 1 (0 + 2 + s) ∷ match 0 ∷ [] in
-    let count : length (pattern_code 0 0 tree 0) ≡ 3 + s = omega (arith, length-append code end, code_length tree 1 (0 + 1 + s)) in
+    let end : Code = note 1 (0 + 2 + s) ∷ match 0 ∷ [] in
+    let count : length (pattern_code 0 0 tree 0) ≡ 3 + s = omega (arith, length-append code end, code_length 0 tree 1 (0 + 1 + s)) in
     let edges : All (LeadsBelow (3 + s)) (pattern_code 0 0 tree 0) =
     before (3 + s) (note 0 1) _ (omega arith) (beside (3 + s) code end (code_below (3 + s) tree 1 (0 + 1 + s) (omega arith) (omega arith))
     (before (3 + s) (note 1 (0 + 2 + s)) (match 0 ∷ []) (omega arith) (one_node (3 + s) (match 0) tt))) in

@@ -14,3 +14,4 @@ pub mod NodeLaws
 pub mod PatternLaws
 pub mod ClosedLaws
 pub mod NoteLaws
+pub mod GroupLaws

@@ -21,20 +21,20 @@ use Rattle.rx_program.proofs.ClosedLaws.{some_nodes, code_length}
 
 -- ---- lists
 
-all_left : {X : Type 0} (P : X → Type 0) (xs ys : List X) → All P (xs ++ ys) → All P xs
+pub all_left : {X : Type 0} (P : X → Type 0) (xs ys : List X) → All P (xs ++ ys) → All P xs
 all_left P [] ys all = All-nil P
 all_left P (x ∷ xs) ys all = All-cons P x xs (All-head P x (xs ++ ys) all) (all_left P xs ys (All-tail P x (xs ++ ys) all))
 
-all_right : {X : Type 0} (P : X → Type 0) (xs ys : List X) → All P (xs ++ ys) → All P ys
+pub all_right : {X : Type 0} (P : X → Type 0) (xs ys : List X) → All P (xs ++ ys) → All P ys
 all_right P [] ys all = all
 all_right P (x ∷ xs) ys all = all_right P xs ys (All-tail P x (xs ++ ys) all)
 
-in_front : {X : Type 0} (xs ys : List X) (c : ℕ) → c < length xs → slice_get (xs ++ ys) c ≡ slice_get xs c
+pub in_front : {X : Type 0} (xs ys : List X) (c : ℕ) → c < length xs → slice_get (xs ++ ys) c ≡ slice_get xs c
 in_front [] ys c below = absurd (omega (arith, below))
 in_front (x ∷ xs) ys zero below = refl
 in_front (x ∷ xs) ys (suc c) below = in_front xs ys c (omega (arith, below))
 
-behind : {X : Type 0} (xs ys : List X) (c : ℕ) → slice_get (xs ++ ys) (length xs + c) ≡ slice_get ys c
+pub behind : {X : Type 0} (xs ys : List X) (c : ℕ) → slice_get (xs ++ ys) (length xs + c) ≡ slice_get ys c
 behind [] ys c = let same : 0 + c ≡ c = omega arith in ap (slice_get ys) same
 behind (x ∷ xs) ys c =
     let same : length (x ∷ xs) + c ≡ suc (length xs + c) = omega arith in
@@ -62,7 +62,7 @@ Stays least low high (note slot r) = NotesFurther least low high slot r
 Stays least low high (look asked r) = Among low high r
 Stays least low high (set ranges r) = Among low high r
 
-abbrev FromOne : List ℕ → Type 0
+abbrev pub FromOne : List ℕ → Type 0
 FromOne numbers = All (λ number. 1 ≤ number) numbers
 
 one_edge : (low high r : ℕ) → Among low high r → All (Among low high) (r ∷ [])
@@ -222,11 +222,11 @@ pattern_stands nodes slots k tree at fits ones count same =
 
 -- ---- moves
 
-only_ends : {p : ℕ} (b : Bool) (x : Move ℕ) → only_if b x ≡ ends p → x ≡ ends p
+pub only_ends : {p : ℕ} (b : Bool) (x : Move ℕ) → only_if b x ≡ ends p → x ≡ ends p
 only_ends true x e = e
 only_ends false x e = absurd (cc e)
 
-only_reads : {r j : ℕ} (b : Bool) (x : Move ℕ) → only_if b x ≡ reads r j → x ≡ reads r j
+pub only_reads : {r j : ℕ} (b : Bool) (x : Move ℕ) → only_if b x ≡ reads r j → x ≡ reads r j
 only_reads true x e = e
 only_reads false x e = absurd (cc e)
 
@@ -237,15 +237,15 @@ no_edge : {r : ℕ} (rs : List ℕ) (c : ℕ) → rs ≡ [] → slice_get rs c �
 no_edge [] c e at = absurd (cc at)
 no_edge (x ∷ rs) c e at = absurd (cc e)
 
-only_goes : {r : ℕ} (b : Bool) (x : Move ℕ) (rs : List ℕ) (c : ℕ) → only_if b x ≡ goes rs → slice_get rs c ≡ Some r → x ≡ goes rs
+pub only_goes : {r : ℕ} (b : Bool) (x : Move ℕ) (rs : List ℕ) (c : ℕ) → only_if b x ≡ goes rs → slice_get rs c ≡ Some r → x ≡ goes rs
 only_goes true x rs c e at = e
 only_goes false x rs c e at = absurd (no_edge rs c (same_edges rs [] (sym e)) at)
 
-read_not_ends : {p : ℕ} (r j : ℕ) (o : Option ℕ) → read_up_to r j o ≡ ends p → ⊥
+pub read_not_ends : {p : ℕ} (r j : ℕ) (o : Option ℕ) → read_up_to r j o ≡ ends p → ⊥
 read_not_ends r j None e = absurd (cc e)
 read_not_ends r j (Some n) e = absurd (cc e)
 
-read_not_goes : {to : ℕ} (r j : ℕ) (o : Option ℕ) (rs : List ℕ) (c : ℕ) → read_up_to r j o ≡ goes rs → slice_get rs c ≡ Some to → ⊥
+pub read_not_goes : {to : ℕ} (r j : ℕ) (o : Option ℕ) (rs : List ℕ) (c : ℕ) → read_up_to r j o ≡ goes rs → slice_get rs c ≡ Some to → ⊥
 read_not_goes r j None rs c e at = no_edge rs c (same_edges rs [] (sym e)) at
 read_not_goes r j (Some n) rs c e at = absurd (cc e)
 
@@ -254,7 +254,7 @@ read_leads low high r j None among e = absurd (cc e)
 read_leads {to = to} low high r j (Some n) among e = let same : r ≡ to = cc e in subst (Among low high) same among
 
 -- what is true of all edges of a node is true of the one that is taken
-edge_of : (P : ℕ → Type 0) (xs rs : List ℕ) (c r : ℕ) → goes xs ≡ goes rs → All P xs → slice_get rs c ≡ Some r → P r
+pub edge_of : (P : ℕ → Type 0) (xs rs : List ℕ) (c r : ℕ) → goes xs ≡ goes rs → All P xs → slice_get rs c ≡ Some r → P r
 edge_of P xs rs c r e all at =
     let edges : All P rs = subst (All P) (same_edges xs rs e) all in
     subst P (get_or_from_slice_get rs c r r at) (All-get_or P rs c r (slice_get_within rs c r at) edges)
@@ -264,10 +264,10 @@ only_edge rs c r to e at = edge_of (λ x. x ≡ to) (to ∷ []) rs c r e (All-co
 
 -- ---- notes
 
-other_slot : (slot asked j : ℕ) (n : Notes) → (asked ≡ slot → ⊥) → slot_of (put_note slot j n) asked ≡ slot_of n asked
+pub other_slot : (slot asked j : ℕ) (n : Notes) → (asked ≡ slot → ⊥) → slot_of (put_note slot j n) asked ≡ slot_of n asked
 other_slot slot asked j n other = ap (λ b. cond b (Some j) (last_noted asked n.noted)) (ne_eqb asked slot other)
 
-this_slot : (slot j : ℕ) (n : Notes) → slot_of (put_note slot j n) slot ≡ Some j
+pub this_slot : (slot j : ℕ) (n : Notes) → slot_of (put_note slot j n) slot ≡ Some j
 this_slot slot j n = ap (λ b. cond b (Some j) (last_noted slot n.noted)) (eq-eqb slot slot refl)
 
 start_noted : (j : ℕ) (a_node : Option (Node walks.Look (List Range))) (n : Notes) → (note_at put_note j a_node n).start ≡ n.start
@@ -318,19 +318,19 @@ record Noted (k i : ℕ) (t : Outcome Notes) : Type 0 where
   end : slot_of t.notes (2 * k + 1) ≡ Some t.end
 
 module _ (first : List Range → List ℕ → Option ℕ) (h : Haystack walks.Look) (nodes : Code) where
-  start_kept : {seen : List ℕ} {n : Notes} {q j : ℕ} {cs : List ℕ} {t : Outcome Notes} → Walk (over_characters put_note first nodes h) seen n q j cs t → t.notes.start ≡ n.start
+  pub start_kept : {seen : List ℕ} {n : Notes} {q j : ℕ} {cs : List ℕ} {t : Outcome Notes} → Walk (over_characters put_note first nodes h) seen n q j cs t → t.notes.start ≡ n.start
   start_kept (ended new is) = refl
   start_kept (went {n = n} {q = q} {i = j} rs r new is at w) = start_kept w ∙ start_noted j (slice_get nodes q) n
   start_kept (took r j new is w) = start_kept w
 
-  ends_by : (q j p : ℕ) (a_node : Option (Node walks.Look (List Range))) → slice_get nodes q ≡ a_node → (over_characters put_note first nodes h).move j q ≡ ends p → by_character first h j a_node ≡ ends p
+  pub ends_by : (q j p : ℕ) (a_node : Option (Node walks.Look (List Range))) → slice_get nodes q ≡ a_node → (over_characters put_note first nodes h).move j q ≡ ends p → by_character first h j a_node ≡ ends p
   ends_by q j p a_node at e = only_ends (is_within h.low h.high j) (by_character first h j a_node) (subst (λ z. only_if (is_within h.low h.high j) (by_character first h j z) ≡ ends p) at e)
 
-  goes_by : (q j : ℕ) (rs : List ℕ) (c r : ℕ) (a_node : Option (Node walks.Look (List Range))) → slice_get nodes q ≡ a_node → (over_characters put_note first nodes h).move j q ≡ goes rs → slice_get rs c ≡ Some r
+  pub goes_by : (q j : ℕ) (rs : List ℕ) (c r : ℕ) (a_node : Option (Node walks.Look (List Range))) → slice_get nodes q ≡ a_node → (over_characters put_note first nodes h).move j q ≡ goes rs → slice_get rs c ≡ Some r
       → by_character first h j a_node ≡ goes rs
   goes_by q j rs c r a_node at e on = only_goes (is_within h.low h.high j) (by_character first h j a_node) rs c (subst (λ z. only_if (is_within h.low h.high j) (by_character first h j z) ≡ goes rs) at e) on
 
-  reads_by : (q j r j' : ℕ) (a_node : Option (Node walks.Look (List Range))) → slice_get nodes q ≡ a_node → (over_characters put_note first nodes h).move j q ≡ reads r j' → by_character first h j a_node ≡ reads r j'
+  pub reads_by : (q j r j' : ℕ) (a_node : Option (Node walks.Look (List Range))) → slice_get nodes q ≡ a_node → (over_characters put_note first nodes h).move j q ≡ reads r j' → by_character first h j a_node ≡ reads r j'
   reads_by q j r j' a_node at e = only_reads (is_within h.low h.high j) (by_character first h j a_node) (subst (λ z. only_if (is_within h.low h.high j) (by_character first h j z) ≡ reads r j') at e)
 
   -- at the node of the match
@@ -391,14 +391,14 @@ module _ (first : List Range → List ℕ → Option ℕ) (h : Haystack walks.Lo
 
 -- ---- one pattern
 
-from_one : (tree : Tree) → IsWellFormed tree → FromOne (numbers_of tree)
+pub from_one : (tree : Tree) → IsWellFormed tree → FromOne (numbers_of tree)
 from_one tree well = All-from_get_or (λ x. 1 ≤ x) (numbers_of tree) 0 (λ c below. omega (arith, well.numbered c below))
 
 stands_alone : (tree : Tree) → IsWellFormed tree → HasPattern (pattern_code 0 0 tree 0) 0 0 (0 + 1 + size_of tree)
-stands_alone tree well = pattern_stands (pattern_code 0 0 tree 0) 0 0 tree 0 (omega arith) (from_one tree well) (code_length tree (0 + 1) (0 + 1 + size_of tree))
+stands_alone tree well = pattern_stands (pattern_code 0 0 tree 0) 0 0 tree 0 (omega arith) (from_one tree well) (code_length 0 tree (0 + 1) (0 + 1 + size_of tree))
     (λ c below. let same : 0 + c ≡ c = omega arith in ap (slice_get (pattern_code 0 0 tree 0)) same)
 
-first_start : (tree : Tree) (terminator q : ℕ) (anchoring : Anchoring) → start_node (program_of (tree ∷ []) terminator) anchoring ≡ Some q → q ≡ 0
+pub first_start : (tree : Tree) (terminator q : ℕ) (anchoring : Anchoring) → start_node (program_of (tree ∷ []) terminator) anchoring ≡ Some q → q ≡ 0
 first_start tree terminator q unanchored e = cc e
 first_start tree terminator q anchored e = cc e
 first_start tree terminator q (anchored_pattern zero) e = cc e

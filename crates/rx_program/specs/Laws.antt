@@ -1,5 +1,5 @@
 -- Laws of the programs that patterns become.
-use Rattle.std.specs.Prelude.{◌≡◌, ℕ, Bool, List, [], ◌∷◌, Some}
+use Rattle.std.specs.Prelude.{◌≡◌, ℕ, ◌+◌, ◌*◌, ◌≤◌, Bool, List, [], ◌∷◌, All, None, Some}
 use Rattle.rx_sets.specs.Sets.{Range}
 use Rattle.rx_utf8.specs.Automata.{is_in}
 use Rattle.rx_grammar.specs.Trees.{Tree}
@@ -8,8 +8,8 @@ use Rattle.rx_walks.specs.Machines.{Outcome}
 use Rattle.rx_walks.specs.Walks.{Walk}
 use Rattle.rx_walks.specs.Finds.{Search}
 use Rattle.rx_walks.specs.Looks.{Look}
-use Rattle.rx_walks.specs.Programs.{Program, Notes, fresh_notes, slot_of}
-use Rattle.rx_walks.specs.ProgramFinds.{ProgramFinds, machine_of, start_of}
+use Rattle.rx_walks.specs.Programs.{Program, IsAbovePatterns, Notes, fresh_notes, slot_of}
+use Rattle.rx_walks.specs.ProgramFinds.{ProgramFinds, machine_of, start_node, start_of}
 use Rattle.rx_program.specs.Code.{program_of}
 
 -- a match of the first pattern that has noted its start, i, in slot 0 and its end in slot 1
@@ -31,3 +31,31 @@ abbrev pub MatchesNoteTheirPlaces : Type 0
 MatchesNoteTheirPlaces = (tree : Tree) (terminator : ℕ) → IsWellFormed tree
     → (is_word : ℕ → Bool) (p : Program Look (List Range)) (s : Search)
     → p ≡ program_of (tree ∷ []) terminator → NotesPlaces is_word p s
+
+-- a group whose two slots are this one and the next: neither holds a place, or both do, and that in
+-- the second one isn't before that in the first
+pub data IsNotedWhole (n : Notes) (slot : ℕ) : Type 0 where
+  not_noted : slot_of n slot ≡ None → slot_of n (slot + 1) ≡ None → IsNotedWhole n slot
+  noted : {start end : ℕ} → slot_of n slot ≡ Some start → slot_of n (slot + 1) ≡ Some end
+      → start ≤ end → IsNotedWhole n slot
+
+-- each group is so in each match that a walk from the search's start node ends in, and in each find
+pub record NotesGroups (is_word : ℕ → Bool) (p : Program Look (List Range))
+    (s : Search) : Type 0 where
+  pub walks : (q i : ℕ) (choices : List ℕ) (t : Outcome Notes) → start_node p s.anchoring ≡ Some q
+      → Walk (machine_of is_in is_word p s) [] (fresh_notes i) q i choices t
+      → (k : ℕ) → IsNotedWhole t.notes (2 * k)
+  pub finds : (t : Outcome Notes) → ProgramFinds is_in is_word p s (Some t)
+      → (k : ℕ) → IsNotedWhole t.notes (2 * k)
+
+-- in each search the program of patterns, whose groups are numbered from 1 on, notes each group of
+-- them whole, the groups 0 too
+abbrev pub GroupsAreNotedWhole : Type 0
+GroupsAreNotedWhole = (trees : List Tree) (terminator : ℕ) → All IsWellFormed trees
+    → (is_word : ℕ → Bool) (p : Program Look (List Range)) (s : Search)
+    → p ≡ program_of trees terminator → NotesGroups is_word p s
+
+-- in the program of patterns one pattern stands alone; more, or none, stand under one node
+abbrev pub ProgramsAreAbovePatterns : Type 0
+ProgramsAreAbovePatterns =
+    (trees : List Tree) (terminator : ℕ) → IsAbovePatterns (program_of trees terminator)

@@ -2,7 +2,7 @@
 //! is the law, proved.
 
 ghost use Rattle.rx_program.specs.Closed.{PatternIsClosed};
-ghost use Rattle.rx_program.specs.Laws.{MatchesNoteTheirPlaces};
+ghost use Rattle.rx_program.specs.Laws.{GroupsAreNotedWhole, MatchesNoteTheirPlaces, ProgramsAreAbovePatterns};
 
 /// Each edge of a pattern's program leads to one of its nodes, and so do its starts.
 pub fn pattern_is_closed()
@@ -13,4 +13,17 @@ pub fn pattern_is_closed()
 /// its end in slot 1, where the pattern's groups are numbered from 1 on, as parsed ones are.
 pub fn matches_note_their_places()
     ensures { MatchesNoteTheirPlaces }
+{}
+
+/// In each search of any content, of the two slots of each group of each pattern, group 0 too, a
+/// match has noted neither, or both, and the place in the second isn't before that in the first.
+/// The groups of a pattern are numbered from 1 on, as parsed ones are.
+pub fn groups_are_noted_whole()
+    ensures { GroupsAreNotedWhole }
+{}
+
+/// In the program of patterns one pattern stands alone; more, or none, stand under one node with
+/// ordered edges to them.
+pub fn programs_are_above_patterns()
+    ensures { ProgramsAreAbovePatterns }
 {}
