@@ -1,8 +1,9 @@
 //! Laws of walks and of what is found by them. Each function does nothing: its contract is the law.
 
 ghost use Rattle.rx_walks.specs.Laws.{BytesRefine, FindsAllAreWhole, FindsAllAtMostOne, FindsAllLieInside, FindsAreWhole, FindsAtMostOne, FindsExist, FindsLieInside, FirstCharacterStands, FourBytesTell, LastCharacterStands, MatchesAllAreOneList, MatchesAreOneList, PathsAgree, PathsHaveWalks, ProgramIsSearched, ProgramIsSearchedForAll, ProgramIsSearchedKeeping, ProgramWalksAgree, ProgramsFind, ProgramsFindAll, ProgramsReadForward, SearchesFind, SearchesFindAll, StepsKeepBest, WalksAgree, WalksTakeNoPairTwice};
+ghost use Rattle.rx_walks.specs.Iterating.{IteratorsGiveInOrder, MatchesLeft};
 ghost use Rattle.rx_walks.specs.MatchLaws.{FirstMatchesGrow, MatchesAllRise, MatchesAreFound, MatchesAreWhole, MatchesExist, MatchesRise};
-ghost use Rattle.rx_walks.specs.Machines.{Machine};
+ghost use Rattle.rx_walks.specs.Machines.{Machine, Outcome};
 ghost use Rattle.rx_walks.specs.Programs.{Haystack, Node, Notes, Program};
 ghost use Rattle.rx_walks.specs.Looks.{Look};
 ghost use Rattle.rx_walks.specs.Bytes.{Automaton};
@@ -74,6 +75,15 @@ pub fn matches_all_rise<S>()
 pub fn first_matches_grow<S>()
     ensures { (member : S → ℕ → Bool) (is_word : ℕ → Bool) (p : Program Look S)
         → FirstMatchesGrow member is_word p }
+{}
+
+/// An iterator over matches, of whatever it tells of each, gives the first members of the list
+/// before a refusal and before it is drained, all of the list where it is drained, and nothing after
+/// a refusal.
+pub fn iterators_give_in_order<S, A, E, I: Iterator<Item = Result<A, E>>>()
+    ensures { (member : S → ℕ → Bool) (is_word : ℕ → Bool) (p : Program Look S)
+        (item_of : Outcome Notes → A) (left : I → MatchesLeft)
+        → IteratorsGiveInOrder member is_word p item_of left I.next_gives }
 {}
 
 /// The first character of bytes, whatever they are, is the one whose UTF-8 stands first in them.
