@@ -19,13 +19,13 @@ use Rattle.rx_walks.proofs.ForwardLaws.{characters_forward, number_told}
 
 -- ---- what is known to hold or not to hold
 
-abbrev IsKnown : Type 0 → Type 0
+abbrev pub IsKnown : Type 0 → Type 0
 IsKnown A = A ⊎ (A → ⊥)
 
 le_known : (a b : ℕ) → IsKnown (a ≤ b)
 le_known a b = elim (cases_lt b a) [ inl above ↦ inr (λ e. omega (arith, above, e)) | inr within ↦ inl within ]
 
-both_known : {A B : Type 0} → IsKnown A → IsKnown B → IsKnown (A × B)
+pub both_known : {A B : Type 0} → IsKnown A → IsKnown B → IsKnown (A × B)
 both_known (inl a) (inl b) = inl (a, b)
 both_known (inl a) (inr not) = inr (λ both. not both.1)
 both_known (inr not) b = inr (λ both. not both.0)
@@ -54,14 +54,14 @@ inside_known s i = elim (both_known (le_known s.slice_start i) (both_known (le_k
   | inr not ↦ inr (λ h. not (h.0, (h.1, (h.2, (h.3, h.4)))))
 ]
 
-possible_known : (s : Search) (i : ℕ) → IsKnown (IsPossible s i)
+pub possible_known : (s : Search) (i : ℕ) → IsKnown (IsPossible s i)
 possible_known s i = both_known (inside_known s i) (if_known (true_known (is_anchored s.anchoring)) (cases_eq i s.start))
 
-may_end_known : (s : Search) (i e : ℕ) → IsKnown (MayEnd s i e)
+pub may_end_known : (s : Search) (i e : ℕ) → IsKnown (MayEnd s i e)
 may_end_known s i e = either_known (if_known (cases_eq e i) (inr (λ never. never))) (if_known (true_known s.utf8_empty) (boundary_known s.content i))
 
 -- the least number of which something holds, or none below n
-least_number : (P : ℕ → Type 0) → ((i : ℕ) → IsKnown (P i)) → (n : ℕ) → ((i : ℕ) × P i × ((j : ℕ) → j < i → P j → ⊥)) ⊎ ((j : ℕ) → j < n → P j → ⊥)
+pub least_number : (P : ℕ → Type 0) → ((i : ℕ) → IsKnown (P i)) → (n : ℕ) → ((i : ℕ) × P i × ((j : ℕ) → j < i → P j → ⊥)) ⊎ ((j : ℕ) → j < n → P j → ⊥)
 least_number P known zero = inr (λ j below. absurd (omega (arith, below)))
 least_number P known (suc n) = elim (least_number P known n) [
   | inl one ↦ inl one
@@ -173,7 +173,7 @@ find_exists m fresh s q least = elim (least_number (StartCounts m fresh s q) (λ
 ]
 
 -- the numbers below n
-numbers_below : ℕ → List ℕ
+pub numbers_below : ℕ → List ℕ
 numbers_below zero = []
 numbers_below (suc n) = n ∷ numbers_below n
 
@@ -188,7 +188,7 @@ got_below (y ∷ xs) zero e = omega arith
 got_below (y ∷ xs) (suc k) e = omega (arith, got_below xs k e)
 
 module _ {L S N : Type 0} (put : ℕ → ℕ → N → N) (member : S → ℕ → Bool) (nodes : List (Node L S)) (h : Haystack L) where
-  still_or_there : (i q : ℕ) → ((over_characters put (first_by member) nodes h).move i q ≡ goes []) ⊎ ((i ≤ h.high) × Contains (numbers_below (length nodes)) q)
+  pub still_or_there : (i q : ℕ) → ((over_characters put (first_by member) nodes h).move i q ≡ goes []) ⊎ ((i ≤ h.high) × Contains (numbers_below (length nodes)) q)
   still_or_there i q = by (is_within h.low h.high i) refl (slice_get nodes q) refl
     where
       by : (b : Bool) → is_within h.low h.high i ≡ b → (a_node : Option (Node L S)) → slice_get nodes q ≡ a_node

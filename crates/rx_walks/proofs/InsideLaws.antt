@@ -20,11 +20,11 @@ reads_inside : {Q : Type 0} {j : ℕ} {r : Q} (b : Bool) (x : Move Q) → only_i
 reads_inside false x e = absurd (cc e)
 reads_inside true x e = refl
 
-none_there : {Q : Type 0} {r : Q} (rs : List Q) (k : ℕ) → rs ≡ [] → slice_get rs k ≡ Some r → ⊥
+pub none_there : {Q : Type 0} {r : Q} (rs : List Q) (k : ℕ) → rs ≡ [] → slice_get rs k ≡ Some r → ⊥
 none_there [] k e at = absurd (cc at)
 none_there (r ∷ rs) k e at = absurd (cc e)
 
-same_goes : {Q : Type 0} (rs ss : List Q) → goes rs ≡ goes ss → rs ≡ ss
+pub same_goes : {Q : Type 0} (rs ss : List Q) → goes rs ≡ goes ss → rs ≡ ss
 same_goes rs ss e = cc e
 
 goes_inside : {Q : Type 0} {r : Q} (b : Bool) (x : Move Q) (rs : List Q) (k : ℕ) → only_if b x ≡ goes rs → slice_get rs k ≡ Some r → b ≡ true
@@ -77,7 +77,7 @@ within_low low high i e = grind (arith, nat_tests)
 pub within_high : (low high i : ℕ) → is_within low high i ≡ true → i ≤ high
 within_high low high i e = grind (arith, nat_tests)
 
-inside_of : (s : Search) (i : ℕ) → is_within (lowest s) (highest s) i ≡ true → IsInside s i
+pub inside_of : (s : Search) (i : ℕ) → is_within (lowest s) (highest s) i ≡ true → IsInside s i
 inside_of s i e =
     let low = within_low (lowest s) (highest s) i e in
     let high = within_high (lowest s) (highest s) i e in

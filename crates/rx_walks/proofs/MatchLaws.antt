@@ -182,7 +182,7 @@ module _ {S : Type 0} (member : S → ℕ → Bool) (is_word : ℕ → Bool) (p 
   lies : (i : ℕ) (t : Outcome Notes) → Found i (Some t) → (i ≤ start_of t) × (start_of t ≤ end_of t) × (end_of t ≤ length s.content)
   lies i t f = let at = (finds_lie_inside member is_word p (from_place_on s i) t f).found in (at.possible.0.2, at.ordered, at.inside.4)
 
-  lies_all : (i : ℕ) (a : PatternMatch) → FoundAll i (Some a) → (i ≤ a.start) × (a.start ≤ a.end) × (a.end ≤ length s.content)
+  pub lies_all : (i : ℕ) (a : PatternMatch) → FoundAll i (Some a) → (i ≤ a.start) × (a.start ≤ a.end) × (a.end ≤ length s.content)
   lies_all i a f = let at = finds_all_lie_inside member is_word p (from_place_on s i) a f in (at.possible.0.2, at.ordered, at.inside.4)
 
   pub program_matches_exist : (ms : List (Outcome Notes)) × ProgramMatches member is_word p s ms

@@ -55,6 +55,10 @@ abbrev pub FindsExist : {S : Type 0} → (S → ℕ → Bool) → (ℕ → Bool)
 FindsExist member is_word p =
     (s : Search) → (out : Option (Outcome Notes)) × ProgramFinds member is_word p s out
 
+abbrev pub FindsAllExist : {S : Type 0} → (S → ℕ → Bool) → (ℕ → Bool) → Program Look S → Type 0
+FindsAllExist member is_word p =
+    (s : Search) → (out : Option PatternMatch) × ProgramFindsAll member is_word p s out
+
 -- and at most one list of matches
 abbrev pub MatchesAreOneList : {S : Type 0} → (S → ℕ → Bool) → (ℕ → Bool) → Program Look S → Type 0
 MatchesAreOneList member is_word p = (s : Search) (ms ms' : List (Outcome Notes))

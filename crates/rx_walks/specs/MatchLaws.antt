@@ -13,6 +13,10 @@ abbrev pub MatchesExist : {S : Type 0} → (S → ℕ → Bool) → (ℕ → Boo
 MatchesExist member is_word p =
     (s : Search) → (ms : List (Outcome Notes)) × ProgramMatches member is_word p s ms
 
+abbrev pub MatchesAllExist : {S : Type 0} → (S → ℕ → Bool) → (ℕ → Bool) → Program Look S → Type 0
+MatchesAllExist member is_word p =
+    (s : Search) → (ms : List PatternMatch) × ProgramMatchesAll member is_word p s ms
+
 -- it is found from some place on, which is the search's start or lies behind it
 abbrev pub IsFoundBehind : {S : Type 0} → (S → ℕ → Bool) → (ℕ → Bool) → Program Look S → Search
     → Outcome Notes → Type 0

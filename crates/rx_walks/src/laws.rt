@@ -1,8 +1,8 @@
 //! Laws of walks and of what is found by them. Each function does nothing: its contract is the law.
 
-ghost use Rattle.rx_walks.specs.Laws.{BytesRefine, FindsAllAreWhole, FindsAllAtMostOne, FindsAllLieInside, FindsAreWhole, FindsAtMostOne, FindsExist, FindsLieInside, FirstCharacterStands, FourBytesTell, LastCharacterStands, MatchesAllAreOneList, MatchesAreOneList, PathsAgree, PathsHaveWalks, ProgramIsSearched, ProgramIsSearchedForAll, ProgramIsSearchedKeeping, ProgramWalksAgree, ProgramsFind, ProgramsFindAll, ProgramsReadForward, SearchesFind, SearchesFindAll, StepsKeepBest, WalksAgree, WalksTakeNoPairTwice};
+ghost use Rattle.rx_walks.specs.Laws.{BytesRefine, FindsAllAreWhole, FindsAllAtMostOne, FindsAllExist, FindsAllLieInside, FindsAreWhole, FindsAtMostOne, FindsExist, FindsLieInside, FirstCharacterStands, FourBytesTell, LastCharacterStands, MatchesAllAreOneList, MatchesAreOneList, PathsAgree, PathsHaveWalks, ProgramIsSearched, ProgramIsSearchedForAll, ProgramIsSearchedKeeping, ProgramWalksAgree, ProgramsFind, ProgramsFindAll, ProgramsReadForward, SearchesFind, SearchesFindAll, StepsKeepBest, WalksAgree, WalksTakeNoPairTwice};
 ghost use Rattle.rx_walks.specs.Iterating.{IteratorsGiveInOrder, MatchesLeft};
-ghost use Rattle.rx_walks.specs.MatchLaws.{FirstMatchesGrow, MatchesAllRise, MatchesAreFound, MatchesAreWhole, MatchesExist, MatchesRise};
+ghost use Rattle.rx_walks.specs.MatchLaws.{FirstMatchesGrow, MatchesAllExist, MatchesAllRise, MatchesAreFound, MatchesAreWhole, MatchesExist, MatchesRise};
 ghost use Rattle.rx_walks.specs.Machines.{Machine, Outcome};
 ghost use Rattle.rx_walks.specs.Programs.{Haystack, Node, Notes, Program};
 ghost use Rattle.rx_walks.specs.Looks.{Look};
@@ -32,6 +32,12 @@ pub fn finds_exist<S>()
         → FindsExist member is_word p }
 {}
 
+/// And one, where all matches are wanted.
+pub fn finds_all_exist<S>()
+    ensures { (member : S → ℕ → Bool) (is_word : ℕ → Bool) (p : Program Look S)
+        → FindsAllExist member is_word p }
+{}
+
 /// In a content a program has at most one list of matches.
 pub fn matches_are_one_list<S>()
     ensures { (member : S → ℕ → Bool) (is_word : ℕ → Bool) (p : Program Look S)
@@ -48,6 +54,12 @@ pub fn matches_all_are_one_list<S>()
 pub fn matches_exist<S>()
     ensures { (member : S → ℕ → Bool) (is_word : ℕ → Bool) (p : Program Look S)
         → MatchesExist member is_word p }
+{}
+
+/// And one, where all matches are wanted.
+pub fn matches_all_exist<S>()
+    ensures { (member : S → ℕ → Bool) (is_word : ℕ → Bool) (p : Program Look S)
+        → MatchesAllExist member is_word p }
 {}
 
 /// Each member of that list is what a search finds from some place on, so that what is known of
