@@ -3,12 +3,12 @@ use Rattle.std.proofs.Common.{◌≡◌, ℕ, zero, suc, ◌+◌, ◌-◌, ◌*�
 use Rattle.std.specs.List.{All}
 use Rattle.std.proofs.lemmas.List.Elements.{All-cons, All-nil, All-append}
 use Rattle.rx_sets.specs.Sets.{Range}
-use Rattle.rx_grammar.specs.Trees.{Tree, Trees, empty, one_of, look_at, group, concat, alternation, repeated, two, more}
+use Rattle.rx_grammar.specs.Trees.{Tree, Trees, empty, one_of, look_at, group, concat, alternation, repeated, two, more, numbers_of}
 use Rattle.rx_grammar.specs.Weights.{may_be_empty, size_of, all_sizes_of, repeated_weight}
 use Rattle.rx_walks.specs.Looks as walks
-use Rattle.rx_walks.specs.Programs.{Node, match, pass, note, look, set}
-use Rattle.rx_program.specs.Code.{Code, place_of, fork, entry_of, copies, optional, repetition_code, branch_starts, code_of, row_code, branches_code, pattern_code}
-use Rattle.rx_program.specs.Closed.{LeadsBelow, PatternIsClosed}
+use Rattle.rx_walks.specs.Programs.{Node, match, pass, note, look, set, Program}
+use Rattle.rx_program.specs.Code.{Code, place_of, fork, entry_of, copies, optional, repetition_code, branch_starts, code_of, row_code, branches_code, pattern_code, patterns_code, pattern_starts}
+use Rattle.rx_program.specs.Closed.{LeadsBelow, IsClosed, PatternIsClosed, ProgramsAreClosed}
 
 -- a part has a node
 some_times : (n : ℕ) (most : Option ℕ) (s : ℕ) (may : Bool) → 1 ≤ s → 1 ≤ repeated_weight n most s may
@@ -148,44 +148,102 @@ module _ (n : ℕ) where
       All-cons (λ r. r < n) at (branch_starts others (at + size_of first)) (omega (arith, fits, some_nodes first)) (starts_below others (at + size_of first) (omega (arith, fits)))
 
   mutual
-    code_below : (tree : Tree) (at next : ℕ) → at + size_of tree ≤ n → next < n → Below (code_of 0 tree at next)
-    code_below empty at next fits below = one_node (pass (next ∷ [])) (one_edge next below)
-    code_below (one_of ranges) at next fits below = one_node (set ranges next) below
-    code_below (look_at asked) at next fits below = one_node (look (place_of asked) next) below
-    code_below (group number name tree) at next fits below = before (note (0 + 2 * number) (at + 1)) _ (omega (arith, fits))
-        (beside (code_of 0 tree (at + 1) (at + 1 + size_of tree)) (note (0 + 2 * number + 1) next ∷ []) (code_below tree (at + 1) (at + 1 + size_of tree) (omega (arith, fits)) (omega (arith, fits)))
-        (one_node (note (0 + 2 * number + 1) next) below))
-    code_below (concat trees) at next fits below = row_below trees at next fits below
-    code_below (alternation trees) at next fits below =
-        before (pass (branch_starts trees (at + 1))) _ (starts_below trees (at + 1) (omega (arith, fits))) (branches_below trees (at + 1) next (omega (arith, fits)) below)
-    code_below (repeated rep tree) at next fits below =
-        repetition_below rep.greedy rep.min rep.max (size_of tree) (may_be_empty tree) (code_of 0 tree) (some_nodes tree) (λ a b. code_below tree a b) at next fits below
+    code_below : (slots : ℕ) (tree : Tree) (at next : ℕ) → at + size_of tree ≤ n → next < n → Below (code_of slots tree at next)
+    code_below slots empty at next fits below = one_node (pass (next ∷ [])) (one_edge next below)
+    code_below slots (one_of ranges) at next fits below = one_node (set ranges next) below
+    code_below slots (look_at asked) at next fits below = one_node (look (place_of asked) next) below
+    code_below slots (group number name tree) at next fits below = before (note (slots + 2 * number) (at + 1)) _ (omega (arith, fits))
+        (beside (code_of slots tree (at + 1) (at + 1 + size_of tree)) (note (slots + 2 * number + 1) next ∷ []) (code_below slots tree (at + 1) (at + 1 + size_of tree) (omega (arith, fits)) (omega (arith, fits)))
+        (one_node (note (slots + 2 * number + 1) next) below))
+    code_below slots (concat trees) at next fits below = row_below slots trees at next fits below
+    code_below slots (alternation trees) at next fits below =
+        before (pass (branch_starts trees (at + 1))) _ (starts_below trees (at + 1) (omega (arith, fits))) (branches_below slots trees (at + 1) next (omega (arith, fits)) below)
+    code_below slots (repeated rep tree) at next fits below =
+        repetition_below rep.greedy rep.min rep.max (size_of tree) (may_be_empty tree) (code_of slots tree) (some_nodes tree) (λ a b. code_below slots tree a b) at next fits below
 
-    row_below : (trees : Trees) (at next : ℕ) → at + all_sizes_of trees ≤ n → next < n → Below (row_code 0 trees at next)
-    row_below (two first second) at next fits below =
-        beside (code_of 0 first at (at + size_of first)) (code_of 0 second (at + size_of first) next)
-        (code_below first at (at + size_of first) (omega (arith, fits)) (omega (arith, fits, some_nodes second))) (code_below second (at + size_of first) next (omega (arith, fits)) below)
-    row_below (more first others) at next fits below =
-        beside (code_of 0 first at (at + size_of first)) (row_code 0 others (at + size_of first) next)
-        (code_below first at (at + size_of first) (omega (arith, fits)) (omega (arith, fits, some_row others))) (row_below others (at + size_of first) next (omega (arith, fits)) below)
+    row_below : (slots : ℕ) (trees : Trees) (at next : ℕ) → at + all_sizes_of trees ≤ n → next < n → Below (row_code slots trees at next)
+    row_below slots (two first second) at next fits below =
+        beside (code_of slots first at (at + size_of first)) (code_of slots second (at + size_of first) next)
+        (code_below slots first at (at + size_of first) (omega (arith, fits)) (omega (arith, fits, some_nodes second))) (code_below slots second (at + size_of first) next (omega (arith, fits)) below)
+    row_below slots (more first others) at next fits below =
+        beside (code_of slots first at (at + size_of first)) (row_code slots others (at + size_of first) next)
+        (code_below slots first at (at + size_of first) (omega (arith, fits)) (omega (arith, fits, some_row others))) (row_below slots others (at + size_of first) next (omega (arith, fits)) below)
 
-    branches_below : (trees : Trees) (at next : ℕ) → at + all_sizes_of trees ≤ n → next < n → Below (branches_code 0 trees at next)
-    branches_below (two first second) at next fits below =
-        beside (code_of 0 first at next) (code_of 0 second (at + size_of first) next) (code_below first at next (omega (arith, fits)) below) (code_below second (at + size_of first) next (omega (arith, fits)) below)
-    branches_below (more first others) at next fits below =
-        beside (code_of 0 first at next) (branches_code 0 others (at + size_of first) next) (code_below first at next (omega (arith, fits)) below) (branches_below others (at + size_of first) next (omega (arith, fits)) below)
+    branches_below : (slots : ℕ) (trees : Trees) (at next : ℕ) → at + all_sizes_of trees ≤ n → next < n → Below (branches_code slots trees at next)
+    branches_below slots (two first second) at next fits below =
+        beside (code_of slots first at next) (code_of slots second (at + size_of first) next) (code_below slots first at next (omega (arith, fits)) below) (code_below slots second (at + size_of first) next (omega (arith, fits)) below)
+    branches_below slots (more first others) at next fits below =
+        beside (code_of slots first at next) (branches_code slots others (at + size_of first) next) (code_below slots first at next (omega (arith, fits)) below) (branches_below slots others (at + size_of first) next (omega (arith, fits)) below)
+
+-- whole patterns
+abbrev patterns_size : List Tree → ℕ
+patterns_size [] = 0
+patterns_size (tree ∷ trees) = 3 + size_of tree + patterns_size trees
+
+pub pattern_length : (slots p : ℕ) (tree : Tree) (at : ℕ) → length (pattern_code slots p tree at) ≡ 3 + size_of tree
+pattern_length slots p tree at =
+    omega (arith, length-append (code_of slots tree (at + 1) (at + 1 + size_of tree)) (note (2 * p + 1) (at + 2 + size_of tree) ∷ match p ∷ []), code_length slots tree (at + 1) (at + 1 + size_of tree))
+
+patterns_length : (slots p : ℕ) (trees : List Tree) (at : ℕ) → length (patterns_code slots p trees at) ≡ patterns_size trees
+patterns_length slots p [] at = refl
+patterns_length slots p (tree ∷ trees) at =
+    let others = patterns_code (slots + 2 * length (numbers_of tree)) (p + 1) trees (at + 3 + size_of tree) in
+    omega (arith, length-append (pattern_code slots p tree at) others, pattern_length slots p tree at, patterns_length (slots + 2 * length (numbers_of tree)) (p + 1) trees (at + 3 + size_of tree))
+
+pattern_below : (n slots p : ℕ) (tree : Tree) (at : ℕ) → at + 3 + size_of tree ≤ n → All (LeadsBelow n) (pattern_code slots p tree at)
+pattern_below n slots p tree at fits =
+    let s = size_of tree in
+    let code = code_of slots tree (at + 1) (at + 1 + s) in
+    let end : Code = note (2 * p + 1) (at + 2 + s) ∷ match p ∷ [] in
+    before n (note (2 * p) (at + 1)) (code ++ end) (omega (arith, fits)) (beside n code end (code_below n slots tree (at + 1) (at + 1 + s) (omega (arith, fits)) (omega (arith, fits)))
+    (before n (note (2 * p + 1) (at + 2 + s)) (match p ∷ []) (omega (arith, fits)) (one_node n (match p) tt)))
+
+patterns_below : (n slots p : ℕ) (trees : List Tree) (at : ℕ) → at + patterns_size trees ≤ n → All (LeadsBelow n) (patterns_code slots p trees at)
+patterns_below n slots p [] at fits = All-nil (LeadsBelow n)
+patterns_below n slots p (tree ∷ trees) at fits =
+    let more = slots + 2 * length (numbers_of tree) in
+    let on = at + 3 + size_of tree in
+    beside n (pattern_code slots p tree at) (patterns_code more (p + 1) trees on) (pattern_below n slots p tree at (omega (arith, fits))) (patterns_below n more (p + 1) trees on (omega (arith, fits)))
+
+all_starts_below : (n : ℕ) (trees : List Tree) (at : ℕ) → at + patterns_size trees ≤ n → All (λ r. r < n) (pattern_starts trees at)
+all_starts_below n [] at fits = All-nil (λ r. r < n)
+all_starts_below n (tree ∷ trees) at fits = All-cons (λ r. r < n) at (pattern_starts trees (at + 3 + size_of tree)) (omega (arith, fits)) (all_starts_below n trees (at + 3 + size_of tree) (omega (arith, fits)))
 
 pub pattern_is_closed : PatternIsClosed
 pattern_is_closed tree terminator =
-    let s = size_of tree in
-    let code = code_of 0 tree 1 (0 + 1 + s) in
-    let end : Code = note 1 (0 + 2 + s) ∷ match 0 ∷ [] in
-    let count : length (pattern_code 0 0 tree 0) ≡ 3 + s = omega (arith, length-append code end, code_length 0 tree 1 (0 + 1 + s)) in
-    let edges : All (LeadsBelow (3 + s)) (pattern_code 0 0 tree 0) =
-    before (3 + s) (note 0 1) _ (omega arith) (beside (3 + s) code end (code_below (3 + s) tree 1 (0 + 1 + s) (omega arith) (omega arith))
-    (before (3 + s) (note 1 (0 + 2 + s)) (match 0 ∷ []) (omega arith) (one_node (3 + s) (match 0) tt))) in
+    let n = 3 + size_of tree in
+    let count : length (pattern_code 0 0 tree 0) ≡ n = pattern_length 0 0 tree 0 in
     record {
-      edges = subst (λ n. All (LeadsBelow n) (pattern_code 0 0 tree 0)) (sym count) edges;
+      edges = subst (λ n. All (LeadsBelow n) (pattern_code 0 0 tree 0)) (sym count) (pattern_below n 0 0 tree 0 (omega arith));
       start = omega (arith, count);
       patterns = All-cons (λ r. r < length (pattern_code 0 0 tree 0)) 0 [] (omega (arith, count)) (All-nil (λ r. r < length (pattern_code 0 0 tree 0)));
     }
+
+-- where several patterns stand, or none
+abbrev pub several : List Tree → ℕ → Program walks.Look (List Range)
+several trees terminator = record {
+  nodes = pass (pattern_starts trees 1) ∷ patterns_code (2 * length trees - 2) 0 trees 1;
+  start = 0;
+  patterns = pattern_starts trees 1;
+  line_terminator = terminator;
+}
+
+several_closed : (trees : List Tree) (terminator : ℕ) → IsClosed (several trees terminator)
+several_closed trees terminator =
+    let slots = 2 * length trees - 2 in
+    let starts = pattern_starts trees 1 in
+    let code = patterns_code slots 0 trees 1 in
+    let n = 1 + patterns_size trees in
+    let nodes : Code = pass starts ∷ code in
+    let count : length nodes ≡ n = omega (arith, patterns_length slots 0 trees 1) in
+    let all : All (λ r. r < n) starts = all_starts_below n trees 1 (omega arith) in
+    record {
+      edges = subst (λ n. All (LeadsBelow n) nodes) (sym count) (before n (pass starts) code all (patterns_below n slots 0 trees 1 (omega arith)));
+      start = omega (arith, count);
+      patterns = subst (λ n. All (λ r. r < n) starts) (sym count) all;
+    }
+
+pub programs_are_closed : ProgramsAreClosed
+programs_are_closed [] terminator = several_closed [] terminator
+programs_are_closed (tree ∷ []) terminator = pattern_is_closed tree terminator
+programs_are_closed (tree ∷ other ∷ trees) terminator = several_closed (tree ∷ other ∷ trees) terminator

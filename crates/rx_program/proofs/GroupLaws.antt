@@ -17,10 +17,10 @@ use Rattle.rx_walks.specs.Programs.{Node, match, pass, note, look, set, Program,
 use Rattle.rx_walks.specs.ProgramFinds.{first_by, holds_in, haystack_of, machine_of, start_node, IfStarts, ProgramFinds}
 use Rattle.rx_program.specs.Code.{Code, place_of, fork, entry_of, copies, optional, repetition_code, branch_starts, code_of, row_code, branches_code, pattern_code, patterns_code, pattern_starts, program_of}
 use Rattle.rx_program.specs.Laws.{IsNotedWhole, not_noted, noted, NotesGroups, GroupsAreNotedWhole}
-use Rattle.rx_program.proofs.ClosedLaws.{code_length, copies_length}
+use Rattle.rx_program.proofs.ClosedLaws.{several, code_length, copies_length}
 use Rattle.rx_program.proofs.NoteLaws.{all_left, all_right, in_front, behind, from_one, first_start, only_ends, only_reads, only_goes, read_not_ends, read_not_goes, edge_of, other_slot, this_slot, ends_by, goes_by, reads_by}
 
-abbrev ANode : Type 0
+abbrev pub ANode : Type 0
 ANode = Node walks.Look (List Range)
 
 -- ---- the edges of a node
@@ -148,13 +148,13 @@ module _ (first : List Range → List ℕ → Option ℕ) (h : Haystack walks.Lo
 -- ---- where code stands among nodes
 
 module _ (nodes : Code) where
-  abbrev Stands : ℕ → Code → Type 0
+  abbrev pub Stands : ℕ → Code → Type 0
   Stands at code = (c : ℕ) → c < length code → slice_get nodes (at + c) ≡ slice_get code c
 
-  stands_left : (at : ℕ) (xs ys : Code) → Stands at (xs ++ ys) → Stands at xs
+  pub stands_left : (at : ℕ) (xs ys : Code) → Stands at (xs ++ ys) → Stands at xs
   stands_left at xs ys stands c below = stands c (omega (arith, below, length-append xs ys)) ∙ in_front xs ys c below
 
-  stands_right : (at s : ℕ) (xs ys : Code) → length xs ≡ s → Stands at (xs ++ ys) → Stands (at + s) ys
+  pub stands_right : (at s : ℕ) (xs ys : Code) → length xs ≡ s → Stands at (xs ++ ys) → Stands (at + s) ys
   stands_right at s xs ys count stands c below =
       let same : at + s + c ≡ at + (length xs + c) = omega (arith, count) in
       ap (slice_get nodes) same ∙ stands (length xs + c) (omega (arith, below, length-append xs ys)) ∙ behind xs ys c
@@ -469,16 +469,7 @@ module _ (first : List Range → List ℕ → Option ℕ) (h : Haystack walks.Lo
 
 -- ---- programs
 
--- where several patterns stand, or none
-abbrev several : List Tree → ℕ → Program walks.Look (List Range)
-several trees terminator = record {
-  nodes = pass (pattern_starts trees 1) ∷ patterns_code (2 * length trees - 2) 0 trees 1;
-  start = 0;
-  patterns = pattern_starts trees 1;
-  line_terminator = terminator;
-}
-
-started : (P : ℕ → Type 0) (xs : List ℕ) (c q : ℕ) → All P xs → slice_get xs c ≡ Some q → P q
+pub started : (P : ℕ → Type 0) (xs : List ℕ) (c q : ℕ) → All P xs → slice_get xs c ≡ Some q → P q
 started P xs c q all at = subst P (get_or_from_slice_get xs c q q at) (All-get_or P xs c q (slice_get_within xs c q at) all)
 
 module _ (first : List Range → List ℕ → Option ℕ) (h : Haystack walks.Look) (k count : ℕ) where

@@ -15,3 +15,4 @@ pub mod PatternLaws
 pub mod ClosedLaws
 pub mod NoteLaws
 pub mod GroupLaws
+pub mod SeveralLaws

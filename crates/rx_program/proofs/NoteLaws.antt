@@ -171,13 +171,13 @@ module _ (slots low high : ℕ) where
 
 -- ---- where the nodes of a pattern stand
 
-record IsInner (nodes : Code) (least low high q : ℕ) : Type 0 where
+pub record IsInner (nodes : Code) (least low high q : ℕ) : Type 0 where
   node : Node walks.Look (List Range)
   is : slice_get nodes q ≡ Some node
   stays : Stays least low high node
 
 -- the pattern with number k begins at `at`, and `last` is the node that notes where it ends
-record HasPattern (nodes : Code) (k at last : ℕ) : Type 0 where
+pub record HasPattern (nodes : Code) (k at last : ℕ) : Type 0 where
   least : ℕ
   above : 2 * k + 2 ≤ least
   some : at < last
@@ -197,7 +197,7 @@ inner_stands nodes code after x least low high at q c here below same all = reco
   stays = All-get_or (Stays least low high) code c x below all;
 }
 
-pattern_stands : (nodes : Code) (slots k : ℕ) (tree : Tree) (at : ℕ) → 2 * k ≤ slots → FromOne (numbers_of tree) → length (code_of slots tree (at + 1) (at + 1 + size_of tree)) ≡ size_of tree
+pub pattern_stands : (nodes : Code) (slots k : ℕ) (tree : Tree) (at : ℕ) → 2 * k ≤ slots → FromOne (numbers_of tree) → length (code_of slots tree (at + 1) (at + 1 + size_of tree)) ≡ size_of tree
     → ((c : ℕ) → c < 3 + size_of tree → slice_get nodes (at + c) ≡ slice_get (pattern_code slots k tree at) c) → HasPattern nodes k at (at + 1 + size_of tree)
 pattern_stands nodes slots k tree at fits ones count same =
     let s = size_of tree in
@@ -230,7 +230,7 @@ pub only_reads : {r j : ℕ} (b : Bool) (x : Move ℕ) → only_if b x ≡ reads
 only_reads true x e = e
 only_reads false x e = absurd (cc e)
 
-same_edges : (xs rs : List ℕ) → goes xs ≡ goes rs → xs ≡ rs
+pub same_edges : (xs rs : List ℕ) → goes xs ≡ goes rs → xs ≡ rs
 same_edges xs rs e = cc e
 
 no_edge : {r : ℕ} (rs : List ℕ) (c : ℕ) → rs ≡ [] → slice_get rs c ≡ Some r → ⊥
@@ -312,10 +312,10 @@ module _ (first : List Range → List ℕ → Option ℕ) (h : Haystack walks.Lo
 -- ---- walks
 
 -- a match of pattern k that has noted its start, i, and its end
-record Noted (k i : ℕ) (t : Outcome Notes) : Type 0 where
-  pattern : t.pattern ≡ k
-  start : slot_of t.notes (2 * k) ≡ Some i
-  end : slot_of t.notes (2 * k + 1) ≡ Some t.end
+pub record Noted (k i : ℕ) (t : Outcome Notes) : Type 0 where
+  pub pattern : t.pattern ≡ k
+  pub start : slot_of t.notes (2 * k) ≡ Some i
+  pub end : slot_of t.notes (2 * k + 1) ≡ Some t.end
 
 module _ (first : List Range → List ℕ → Option ℕ) (h : Haystack walks.Look) (nodes : Code) where
   pub start_kept : {seen : List ℕ} {n : Notes} {q j : ℕ} {cs : List ℕ} {t : Outcome Notes} → Walk (over_characters put_note first nodes h) seen n q j cs t → t.notes.start ≡ n.start
@@ -380,7 +380,7 @@ module _ (first : List Range → List ℕ → Option ℕ) (h : Haystack walks.Lo
     ]
 
     -- from the pattern's own start
-    from_start : {seen : List ℕ} {n : Notes} {q j : ℕ} {cs : List ℕ} {t : Outcome Notes} → q ≡ at → Walk (over_characters put_note first nodes h) seen n q j cs t → Noted k j t
+    pub from_start : {seen : List ℕ} {n : Notes} {q j : ℕ} {cs : List ℕ} {t : Outcome Notes} → q ≡ at → Walk (over_characters put_note first nodes h) seen n q j cs t → Noted k j t
     from_start e (ended {q = q} {i = j} {p = p} new is) = absurd (cc (ends_by q j p (Some (note (2 * k) (at + 1))) (ap (slice_get nodes) e ∙ has.first_is) is))
     from_start e (went {n = n} {q = q} {i = j} {k = c} rs r new is on w) =
         let here : slice_get nodes q ≡ Some (note (2 * k) (at + 1)) = ap (slice_get nodes) e ∙ has.first_is in
@@ -394,7 +394,7 @@ module _ (first : List Range → List ℕ → Option ℕ) (h : Haystack walks.Lo
 pub from_one : (tree : Tree) → IsWellFormed tree → FromOne (numbers_of tree)
 from_one tree well = All-from_get_or (λ x. 1 ≤ x) (numbers_of tree) 0 (λ c below. omega (arith, well.numbered c below))
 
-stands_alone : (tree : Tree) → IsWellFormed tree → HasPattern (pattern_code 0 0 tree 0) 0 0 (0 + 1 + size_of tree)
+pub stands_alone : (tree : Tree) → IsWellFormed tree → HasPattern (pattern_code 0 0 tree 0) 0 0 (0 + 1 + size_of tree)
 stands_alone tree well = pattern_stands (pattern_code 0 0 tree 0) 0 0 tree 0 (omega arith) (from_one tree well) (code_length 0 tree (0 + 1) (0 + 1 + size_of tree))
     (λ c below. let same : 0 + c ≡ c = omega arith in ap (slice_get (pattern_code 0 0 tree 0)) same)
 

@@ -1,12 +1,12 @@
 -- Laws of the programs that patterns become.
-use Rattle.std.specs.Prelude.{◌≡◌, ℕ, ◌+◌, ◌*◌, ◌≤◌, Bool, List, [], ◌∷◌, All, None, Some}
+use Rattle.std.specs.Prelude.{◌≡◌, ℕ, ◌+◌, ◌*◌, ◌<◌, ◌≤◌, Bool, List, [], ◌∷◌, length, All, None, Some}
 use Rattle.rx_sets.specs.Sets.{Range}
 use Rattle.rx_utf8.specs.Automata.{is_in}
 use Rattle.rx_grammar.specs.Trees.{Tree}
 use Rattle.rx_grammar.specs.Subtrees.{IsWellFormed}
 use Rattle.rx_walks.specs.Machines.{Outcome}
 use Rattle.rx_walks.specs.Walks.{Walk}
-use Rattle.rx_walks.specs.Finds.{Search}
+use Rattle.rx_walks.specs.Finds.{Anchoring, anchored_pattern, Search}
 use Rattle.rx_walks.specs.Looks.{Look}
 use Rattle.rx_walks.specs.Programs.{Program, IsAbovePatterns, Notes, fresh_notes, slot_of}
 use Rattle.rx_walks.specs.ProgramFinds.{ProgramFinds, machine_of, start_node, start_of}
@@ -59,3 +59,31 @@ GroupsAreNotedWhole = (trees : List Tree) (terminator : ℕ) → All IsWellForme
 abbrev pub ProgramsAreAbovePatterns : Type 0
 ProgramsAreAbovePatterns =
     (trees : List Tree) (terminator : ℕ) → IsAbovePatterns (program_of trees terminator)
+
+-- a match has noted its start, i, in the first slot of its pattern's group 0, and its end in the
+-- second one
+pub record HasNotedOwn (i : ℕ) (t : Outcome Notes) : Type 0 where
+  pub start : slot_of t.notes (2 * t.pattern) ≡ Some i
+  pub end : slot_of t.notes (2 * t.pattern + 1) ≡ Some t.end
+
+-- it is a match of one of the program's patterns, and of that one where the search is anchored to a
+-- pattern
+pub record IsOfPattern (p : Program Look (List Range)) (anchoring : Anchoring) (t : Outcome Notes)
+    : Type 0 where
+  pub known : t.pattern < length p.patterns
+  pub anchored : (k : ℕ) → anchoring ≡ anchored_pattern k → t.pattern ≡ k
+
+-- so is each match that a walk from the search's start node ends in, and each find
+pub record NotesOwnPlaces (is_word : ℕ → Bool) (p : Program Look (List Range))
+    (s : Search) : Type 0 where
+  pub walks : (q i : ℕ) (choices : List ℕ) (t : Outcome Notes) → start_node p s.anchoring ≡ Some q
+      → Walk (machine_of is_in is_word p s) [] (fresh_notes i) q i choices t
+      → HasNotedOwn i t × IsOfPattern p s.anchoring t
+  pub finds : (t : Outcome Notes) → ProgramFinds is_in is_word p s (Some t)
+      → HasNotedOwn (start_of t) t × IsOfPattern p s.anchoring t
+
+-- in each search the program of several patterns, or of none, or one, notes its places
+abbrev pub ProgramsNoteTheirPlaces : Type 0
+ProgramsNoteTheirPlaces = (trees : List Tree) (terminator : ℕ) → All IsWellFormed trees
+    → (is_word : ℕ → Bool) (p : Program Look (List Range)) (s : Search)
+    → p ≡ program_of trees terminator → NotesOwnPlaces is_word p s

@@ -1,18 +1,30 @@
 //! Laws of the definitions by which the contracts speak. Each function does nothing: its contract
 //! is the law, proved.
 
-ghost use Rattle.rx_program.specs.Closed.{PatternIsClosed};
-ghost use Rattle.rx_program.specs.Laws.{GroupsAreNotedWhole, MatchesNoteTheirPlaces, ProgramsAreAbovePatterns};
+ghost use Rattle.rx_program.specs.Closed.{PatternIsClosed, ProgramsAreClosed};
+ghost use Rattle.rx_program.specs.Laws.{GroupsAreNotedWhole, MatchesNoteTheirPlaces, ProgramsAreAbovePatterns, ProgramsNoteTheirPlaces};
 
 /// Each edge of a pattern's program leads to one of its nodes, and so do its starts.
 pub fn pattern_is_closed()
     ensures { PatternIsClosed }
 {}
 
+/// So it is of the program of several patterns, or of none.
+pub fn programs_are_closed()
+    ensures { ProgramsAreClosed }
+{}
+
 /// In each search of any content a match of a pattern's program has noted its start in slot 0 and
 /// its end in slot 1, where the pattern's groups are numbered from 1 on, as parsed ones are.
 pub fn matches_note_their_places()
     ensures { MatchesNoteTheirPlaces }
+{}
+
+/// In each search of any content a match of a program of several patterns is one of these, of the
+/// one that the search is anchored to if it is, and has noted its start and its end in the slots of
+/// that pattern's group 0.
+pub fn programs_note_their_places()
+    ensures { ProgramsNoteTheirPlaces }
 {}
 
 /// In each search of any content, of the two slots of each group of each pattern, group 0 too, a
