@@ -8,7 +8,7 @@ use Rattle.std.proofs.lemmas.List.Kept.{AllPairs-cons}
 use Rattle.rx_walks.specs.Machines.{Outcome}
 use Rattle.rx_walks.specs.Looks.{Look}
 use Rattle.rx_walks.specs.Finds.{Search, from_place_on, IsInside, PatternMatch}
-use Rattle.rx_walks.specs.Matches.{Next, no_more, at_once, moved, Further, last, one_more, Matches, no_match, first, BehindLast, ComesNext, FirstMatches}
+use Rattle.rx_walks.specs.Matches.{Next, no_more, at_once, moved, Further, last, one_more, Matches, no_match, first, FollowEachOther, BehindLast, ComesNext, FirstMatches}
 use Rattle.rx_walks.specs.Programs.{Program, Notes}
 use Rattle.rx_walks.specs.ProgramFinds.{ProgramFinds, ProgramFindsAll, ProgramMatches, ProgramMatchesAll, start_of, end_of}
 use Rattle.rx_walks.specs.MatchLaws.{IsFoundBehind, LiesBetween, AreInOrder, HasFirstMatches}
@@ -30,12 +30,12 @@ module _ {A : Type 0} (find : ℕ → Option A → Type 0) (start_of end_of : A 
 
   -- what is found from a place on starts there or behind it, and ends there or behind it, up to n
   module _ (n : ℕ) (lies : (i : ℕ) (a : A) → find i (Some a) → (i ≤ start_of a) × (start_of a ≤ end_of a) × (end_of a ≤ n)) where
-    ends_behind : {e : ℕ} {a : A} → Next find start_of end_of e (Some a) → (e ≤ start_of a) × (e < end_of a) × (end_of a ≤ n)
+    ends_behind : {e : ℕ} {a : A} → Next find start_of end_of e (Some a) → (e ≤ start_of a) × (e < end_of a) × (end_of a ≤ n) × (start_of a ≤ end_of a)
     ends_behind {e = e} {a = a} (at_once f not) = let at = lies e a f in elim (cases_lt e (end_of a)) [
-      | inl behind ↦ (at.0, behind, at.2)
+      | inl behind ↦ (at.0, behind, at.2, at.1)
       | inr there ↦ absurd (not (omega (arith, at, there)) (omega (arith, at, there)))
     ]
-    ends_behind {e = e} {a = a} (moved f is is' f') = let at = lies (e + 1) a f' in (omega (arith, at), omega (arith, at), at.2)
+    ends_behind {e = e} {a = a} (moved f is is' f') = let at = lies (e + 1) a f' in (omega (arith, at), omega (arith, at), at.2, at.1)
 
     members_further : (P : A → Type 0) {start e : ℕ} {ms : List A} → ((i : ℕ) (a : A) → start ≤ i → find i (Some a) → P a) → start ≤ e → Further find start_of end_of e ms → All P ms
     members_further P each from (last nothing) = All-nil P
@@ -59,13 +59,21 @@ module _ {A : Type 0} (find : ℕ → Option A → Type 0) (start_of end_of : A 
         let at = ends_behind next in
         All-cons (Behind e) a others (at.0, at.1) (All-weaker (Behind (end_of a)) (Behind e) (λ b on. (omega (arith, at, on), omega (arith, at, on))) others (all_behind further))
 
-    in_turn : {e : ℕ} {ms : List A} → Further find start_of end_of e ms → AllPairs (λ a b. Behind (end_of a) b) ms
-    in_turn (last nothing) = all_pairs_none (λ a b. Behind (end_of a) b)
-    in_turn (one_more {a = a} {others = others} next further) = AllPairs-cons (λ a b. Behind (end_of a) b) a others (all_behind further) (in_turn further)
+    rising_further : {e : ℕ} {ms : List A} → Further find start_of end_of e ms → AllPairs (λ a b. Behind (end_of a) b) ms
+    rising_further (last nothing) = all_pairs_none (λ a b. Behind (end_of a) b)
+    rising_further (one_more {a = a} {others = others} next further) = AllPairs-cons (λ a b. Behind (end_of a) b) a others (all_behind further) (rising_further further)
 
     pub rising : {start : ℕ} {ms : List A} → Matches find start_of end_of start ms → AllPairs (λ a b. Behind (end_of a) b) ms
     rising (no_match nothing) = all_pairs_none (λ a b. Behind (end_of a) b)
-    rising (first {a = a} {others = others} f further) = AllPairs-cons (λ a b. Behind (end_of a) b) a others (all_behind further) (in_turn further)
+    rising (first {a = a} {others = others} f further) = AllPairs-cons (λ a b. Behind (end_of a) b) a others (all_behind further) (rising_further further)
+
+    follow_further : {e : ℕ} {ms : List A} → Further find start_of end_of e ms → FollowEachOther start_of end_of e ms
+    follow_further (last nothing) = tt
+    follow_further (one_more next further) = let at = ends_behind next in (at.0, at.3, follow_further further)
+
+    pub follow : {start : ℕ} {ms : List A} → Matches find start_of end_of start ms → FollowEachOther start_of end_of start ms
+    follow (no_match nothing) = tt
+    follow {start = start} (first {a = a} f further) = let at = lies start a f in (at.0, at.1, follow_further further)
 
     few_further : {e : ℕ} {ms : List A} → e ≤ n → Further find start_of end_of e ms → length ms + e ≤ n
     few_further within (last nothing) = omega (arith, within)
@@ -196,6 +204,7 @@ module _ {S : Type 0} (member : S → ℕ → Bool) (is_word : ℕ → Bool) (p 
       let turns = rising Found start_of end_of (length s.content) lies is in record {
         inside = members Found start_of end_of (length s.content) lies (λ t. LiesBetween s (start_of t) (end_of t))
             (λ i t from f. let at = (finds_lie_inside member is_word p (from_place_on s i) t f).found in (inside_before s i (start_of t) from at.possible.0, at.ordered, inside_before s i (end_of t) from at.inside)) is;
+        in_turn = follow Found start_of end_of (length s.content) lies is;
         apart = λ i j d below within. (turns i j d below within).0;
         rise = λ i j d below within. (turns i j d below within).1;
         few = few Found start_of end_of (length s.content) lies is;
@@ -206,6 +215,7 @@ module _ {S : Type 0} (member : S → ℕ → Bool) (is_word : ℕ → Bool) (p 
       let turns = rising FoundAll (λ a. a.start) (λ a. a.end) (length s.content) lies_all is in record {
         inside = members FoundAll (λ a. a.start) (λ a. a.end) (length s.content) lies_all (λ a. LiesBetween s a.start a.end)
             (λ i a from f. let at = finds_all_lie_inside member is_word p (from_place_on s i) a f in (inside_before s i a.start from at.possible.0, at.ordered, inside_before s i a.end from at.inside)) is;
+        in_turn = follow FoundAll (λ a. a.start) (λ a. a.end) (length s.content) lies_all is;
         apart = λ i j d below within. (turns i j d below within).0;
         rise = λ i j d below within. (turns i j d below within).1;
         few = few FoundAll (λ a. a.start) (λ a. a.end) (length s.content) lies_all is;

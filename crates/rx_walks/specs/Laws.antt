@@ -112,12 +112,12 @@ pub record StandsAtBoundaries (content : List ℕ) (t : Outcome Notes) : Type 0 
   pub slots : (slot i : ℕ) → slot_of t.notes slot ≡ Some i → IsCharBoundary content i
 
 -- in UTF-8 what is found is whole characters, where empty matches inside one are passed over
-abbrev pub FindsAreWhole : {S : Type 0} → (S → ℕ → Bool) → (ℕ → Bool) → Program Look S → Type 0
-FindsAreWhole member is_word p = (s : Search) (t : Outcome Notes) → IsUtf8 s.content
+abbrev pub FindsStandAtBoundaries : {S : Type 0} → (S → ℕ → Bool) → (ℕ → Bool) → Program Look S → Type 0
+FindsStandAtBoundaries member is_word p = (s : Search) (t : Outcome Notes) → IsUtf8 s.content
     → IsTrue s.utf8_empty → ProgramFinds member is_word p s (Some t) → StandsAtBoundaries s.content t
 
-abbrev pub FindsAllAreWhole : {S : Type 0} → (S → ℕ → Bool) → (ℕ → Bool) → Program Look S → Type 0
-FindsAllAreWhole member is_word p = (s : Search) (a : PatternMatch) → IsUtf8 s.content
+abbrev pub FindsAllStandAtBoundaries : {S : Type 0} → (S → ℕ → Bool) → (ℕ → Bool) → Program Look S → Type 0
+FindsAllStandAtBoundaries member is_word p = (s : Search) (a : PatternMatch) → IsUtf8 s.content
     → IsTrue s.utf8_empty → ProgramFindsAll member is_word p s (Some a)
     → IsCharBoundary s.content a.start × IsCharBoundary s.content a.end
 

@@ -4,6 +4,7 @@ use Rattle.std.specs.Str.{IsUtf8}
 use Rattle.rx_walks.specs.Machines.{Outcome}
 use Rattle.rx_walks.specs.Looks.{Look}
 use Rattle.rx_walks.specs.Finds.{Search, from_place_on, IsInside, PatternMatch}
+use Rattle.rx_walks.specs.Matches.{FollowEachOther}
 use Rattle.rx_walks.specs.Programs.{Program, Notes}
 use Rattle.rx_walks.specs.ProgramFinds.{ProgramFinds, ProgramMatches, ProgramMatchesAll, ProgramFirstMatches, ProgramComesNext, start_of, end_of}
 use Rattle.rx_walks.specs.Laws.{StandsAtBoundaries}
@@ -29,8 +30,8 @@ MatchesAreFound member is_word p = (s : Search) (ms : List (Outcome Notes))
     → ProgramMatches member is_word p s ms → All (IsFoundBehind member is_word p s) ms
 
 -- in UTF-8 they are whole characters, where empty matches inside one are passed over
-abbrev pub MatchesAreWhole : {S : Type 0} → (S → ℕ → Bool) → (ℕ → Bool) → Program Look S → Type 0
-MatchesAreWhole member is_word p = (s : Search) (ms : List (Outcome Notes)) → IsUtf8 s.content
+abbrev pub MatchesStandAtBoundaries : {S : Type 0} → (S → ℕ → Bool) → (ℕ → Bool) → Program Look S → Type 0
+MatchesStandAtBoundaries member is_word p = (s : Search) (ms : List (Outcome Notes)) → IsUtf8 s.content
     → IsTrue s.utf8_empty → ProgramMatches member is_word p s ms
     → All (StandsAtBoundaries s.content) ms
 
@@ -43,6 +44,7 @@ LiesBetween s start end = IsInside s start × (start ≤ end) × IsInside s end
 pub record AreInOrder {A : Type 0} (start_of end_of : A → ℕ) (s : Search) (ms : List A)
     : Type 0 where
   pub inside : All (λ a. LiesBetween s (start_of a) (end_of a)) ms
+  pub in_turn : FollowEachOther start_of end_of s.start ms
   pub apart : AllPairs (λ a b. end_of a ≤ start_of b) ms
   pub rise : AllPairs (λ a b. end_of a < end_of b) ms
   pub few : length ms ≤ length s.content + 1

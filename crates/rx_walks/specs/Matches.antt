@@ -1,6 +1,6 @@
 -- The matches that repeated finds give, one after the other. `find` says what is found from a place
 -- on.
-use Rattle.std.specs.Prelude.{◌≡◌, ℕ, ◌+◌, List, [], ◌∷◌, ◌++◌, Option, Some, None}
+use Rattle.std.specs.Prelude.{◌≡◌, ℕ, ◌+◌, ◌≤◌, List, [], ◌∷◌, ◌++◌, Option, Some, None}
 use Rattle.std.specs.List.{last_or}
 
 -- what is found after a match that ends at e: the find from e on, and where that is an empty match
@@ -28,6 +28,13 @@ pub data Matches {A : Type 0} (find : ℕ → Option A → Type 0) (start_of end
   first : {a : A} {others : List A} → find start (Some a)
       → Further find start_of end_of (end_of a) others
       → Matches find start_of end_of start (a ∷ others)
+
+-- each starts at this place or behind it, and ends where it starts or behind that; and so do the
+-- others from its end on
+abbrev pub FollowEachOther : {A : Type 0} → (A → ℕ) → (A → ℕ) → ℕ → List A → Type 0
+FollowEachOther start_of end_of at [] = Unit {0}
+FollowEachOther start_of end_of at (a ∷ others) =
+    (at ≤ start_of a) × (start_of a ≤ end_of a) × FollowEachOther start_of end_of (end_of a) others
 
 -- what comes next behind the last match; where there was none yet, the find from the start on
 abbrev pub BehindLast : {A : Type 0} → (ℕ → Option A → Type 0) → (A → ℕ) → (A → ℕ) → ℕ → Option A

@@ -1,8 +1,8 @@
 //! Laws of walks and of what is found by them. Each function does nothing: its contract is the law.
 
-ghost use Rattle.rx_walks.specs.Laws.{BytesRefine, FindsAllAreWhole, FindsAllAtMostOne, FindsAllExist, FindsAllLieInside, FindsAreWhole, FindsAtMostOne, FindsExist, FindsLieInside, FirstCharacterStands, FourBytesTell, LastCharacterStands, MatchesAllAreOneList, MatchesAreOneList, PathsAgree, PathsHaveWalks, ProgramIsSearched, ProgramIsSearchedForAll, ProgramIsSearchedKeeping, ProgramWalksAgree, ProgramsFind, ProgramsFindAll, ProgramsReadForward, SearchesFind, SearchesFindAll, StepsKeepBest, WalksAgree, WalksTakeNoPairTwice};
+ghost use Rattle.rx_walks.specs.Laws.{BytesRefine, FindsAllStandAtBoundaries, FindsAllAtMostOne, FindsAllExist, FindsAllLieInside, FindsStandAtBoundaries, FindsAtMostOne, FindsExist, FindsLieInside, FirstCharacterStands, FourBytesTell, LastCharacterStands, MatchesAllAreOneList, MatchesAreOneList, PathsAgree, PathsHaveWalks, ProgramIsSearched, ProgramIsSearchedForAll, ProgramIsSearchedKeeping, ProgramWalksAgree, ProgramsFind, ProgramsFindAll, ProgramsReadForward, SearchesFind, SearchesFindAll, StepsKeepBest, WalksAgree, WalksTakeNoPairTwice};
 ghost use Rattle.rx_walks.specs.Iterating.{IteratorsGiveInOrder, MatchesLeft};
-ghost use Rattle.rx_walks.specs.MatchLaws.{FirstMatchesGrow, MatchesAllExist, MatchesAllRise, MatchesAreFound, MatchesAreWhole, MatchesExist, MatchesRise};
+ghost use Rattle.rx_walks.specs.MatchLaws.{FirstMatchesGrow, MatchesAllExist, MatchesAllRise, MatchesAreFound, MatchesStandAtBoundaries, MatchesExist, MatchesRise};
 ghost use Rattle.rx_walks.specs.Machines.{Machine, Outcome};
 ghost use Rattle.rx_walks.specs.Programs.{Haystack, Node, Notes, Program};
 ghost use Rattle.rx_walks.specs.Looks.{Look};
@@ -128,21 +128,21 @@ pub fn finds_all_lie_inside<S>()
 
 /// In UTF-8 what a program finds starts and ends at boundaries of characters, and so stand the
 /// places in its slots, where empty matches inside a character are passed over.
-pub fn finds_are_whole<S>()
+pub fn finds_at_boundaries<S>()
     ensures { (member : S → ℕ → Bool) (is_word : ℕ → Bool) (p : Program Look S)
-        → FindsAreWhole member is_word p }
+        → FindsStandAtBoundaries member is_word p }
 {}
 
 /// So does what is found where all matches are wanted.
-pub fn finds_all_are_whole<S>()
+pub fn finds_all_at_boundaries<S>()
     ensures { (member : S → ℕ → Bool) (is_word : ℕ → Bool) (p : Program Look S)
-        → FindsAllAreWhole member is_word p }
+        → FindsAllStandAtBoundaries member is_word p }
 {}
 
 /// And so does each match of the list.
-pub fn matches_are_whole<S>()
+pub fn matches_at_boundaries<S>()
     ensures { (member : S → ℕ → Bool) (is_word : ℕ → Bool) (p : Program Look S)
-        → MatchesAreWhole member is_word p }
+        → MatchesStandAtBoundaries member is_word p }
 {}
 
 /// One step from a place keeps the best walk.
