@@ -44,7 +44,7 @@ optional_length g s h is zero at next = omega arith
 optional_length g s h is (suc n) at next =
     omega (arith, length-append (h (at + 1) (entry_of n (at + 1 + s) next)) (optional g s h n (at + 1 + s) next), is (at + 1) (entry_of n (at + 1 + s) next), optional_length g s h is n (at + 1 + s) next)
 
-repetition_length : (g : Bool) (n : ℕ) (most : Option ℕ) (s : ℕ) (may : Bool) (h : ℕ → ℕ → Code) → ((at next : ℕ) → length (h at next) ≡ s) → (at next : ℕ)
+pub repetition_length : (g : Bool) (n : ℕ) (most : Option ℕ) (s : ℕ) (may : Bool) (h : ℕ → ℕ → Code) → ((at next : ℕ) → length (h at next) ≡ s) → (at next : ℕ)
     → length (repetition_code g n most s may h at next) ≡ repeated_weight n most s may
 repetition_length g n (Some zero) s may h is at next = refl
 repetition_length g n (Some (suc m)) s may h is at next =

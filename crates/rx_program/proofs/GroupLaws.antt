@@ -159,10 +159,10 @@ module _ (nodes : Code) where
       let same : at + s + c ≡ at + (length xs + c) = omega (arith, count) in
       ap (slice_get nodes) same ∙ stands (length xs + c) (omega (arith, below, length-append xs ys)) ∙ behind xs ys c
 
-  stands_first : (at : ℕ) (x : ANode) (xs : Code) → Stands at (x ∷ xs) → slice_get nodes at ≡ Some x
+  pub stands_first : (at : ℕ) (x : ANode) (xs : Code) → Stands at (x ∷ xs) → slice_get nodes at ≡ Some x
   stands_first at x xs stands = let same : at ≡ at + 0 = omega arith in ap (slice_get nodes) same ∙ stands 0 (omega arith)
 
-  stands_behind : (at : ℕ) (x : ANode) (xs : Code) → Stands at (x ∷ xs) → Stands (at + 1) xs
+  pub stands_behind : (at : ℕ) (x : ANode) (xs : Code) → Stands at (x ∷ xs) → Stands (at + 1) xs
   stands_behind at x xs stands c below = let same : at + 1 + c ≡ at + suc c = omega arith in ap (slice_get nodes) same ∙ stands (suc c) (omega (arith, below))
 
 -- of a part: something is true of where it is entered if it is of where it leads on

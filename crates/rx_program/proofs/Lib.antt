@@ -16,3 +16,4 @@ pub mod ClosedLaws
 pub mod NoteLaws
 pub mod GroupLaws
 pub mod SeveralLaws
+pub mod TakingLaws

@@ -233,7 +233,7 @@ only_reads false x e = absurd (cc e)
 pub same_edges : (xs rs : List ℕ) → goes xs ≡ goes rs → xs ≡ rs
 same_edges xs rs e = cc e
 
-no_edge : {r : ℕ} (rs : List ℕ) (c : ℕ) → rs ≡ [] → slice_get rs c ≡ Some r → ⊥
+pub no_edge : {r : ℕ} (rs : List ℕ) (c : ℕ) → rs ≡ [] → slice_get rs c ≡ Some r → ⊥
 no_edge [] c e at = absurd (cc at)
 no_edge (x ∷ rs) c e at = absurd (cc e)
 
@@ -259,7 +259,7 @@ edge_of P xs rs c r e all at =
     let edges : All P rs = subst (All P) (same_edges xs rs e) all in
     subst P (get_or_from_slice_get rs c r r at) (All-get_or P rs c r (slice_get_within rs c r at) edges)
 
-only_edge : (rs : List ℕ) (c r to : ℕ) → goes (to ∷ []) ≡ goes rs → slice_get rs c ≡ Some r → r ≡ to
+pub only_edge : (rs : List ℕ) (c r to : ℕ) → goes (to ∷ []) ≡ goes rs → slice_get rs c ≡ Some r → r ≡ to
 only_edge rs c r to e at = edge_of (λ x. x ≡ to) (to ∷ []) rs c r e (All-cons (λ x. x ≡ to) to [] refl (All-nil (λ x. x ≡ to))) at
 
 -- ---- notes

@@ -4,4 +4,5 @@ pub mod Errors
 pub mod Programs
 pub mod Jobs
 pub mod Closed
+pub mod Taking
 pub mod Laws

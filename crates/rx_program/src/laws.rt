@@ -2,6 +2,7 @@
 //! is the law, proved.
 
 ghost use Rattle.rx_program.specs.Closed.{PatternIsClosed, ProgramsAreClosed};
+ghost use Rattle.rx_program.specs.Taking.{PathsAreTaken};
 ghost use Rattle.rx_program.specs.Laws.{GroupsAreNotedWhole, MatchesNoteTheirPlaces, ProgramsAreAbovePatterns, ProgramsNoteTheirPlaces};
 
 /// Each edge of a pattern's program leads to one of its nodes, and so do its starts.
@@ -38,4 +39,11 @@ pub fn groups_are_noted_whole()
 /// ordered edges to them.
 pub fn programs_are_above_patterns()
     ensures { ProgramsAreAbovePatterns }
+{}
+
+/// What the program of a pattern matches is what the pattern's tree takes: in each search of any
+/// content a path leads from a pattern's start node, from a place inside, to the end of a match of
+/// it exactly where its tree takes what stands between.
+pub fn paths_are_taken()
+    ensures { PathsAreTaken }
 {}

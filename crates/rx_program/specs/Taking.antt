@@ -1,0 +1,63 @@
+-- What a tree takes of a content, from which place to which, whatever is preferred.
+use Rattle.std.specs.Prelude.{◌≡◌, ℕ, zero, suc, ◌+◌, ◌≤◌, ◌⊎◌, ◌↔◌, Bool, IsTrue, List, All, Option, Some, None, slice_get}
+use Rattle.rx_sets.specs.Sets.{Range}
+use Rattle.rx_utf8.specs.Automata.{is_in}
+use Rattle.rx_grammar.specs.Trees.{Tree, Trees, empty, one_of, look_at, group, concat, alternation, repeated, two, more}
+use Rattle.rx_grammar.specs.Subtrees.{IsWellFormed}
+use Rattle.rx_walks.specs.Looks as walks
+use Rattle.rx_walks.specs.Paths.{Path}
+use Rattle.rx_walks.specs.Programs.{Program, Haystack, left_from}
+use Rattle.rx_walks.specs.Finds.{Search, IsInside}
+use Rattle.rx_walks.specs.ProgramFinds.{first_by, haystack_of, holds_in, machine_of}
+use Rattle.rx_program.specs.Code.{place_of, program_of}
+
+-- so many times, one after the other
+abbrev pub Times : (ℕ → ℕ → Type 0) → ℕ → ℕ → ℕ → Type 0
+Times takes zero i j = i ≡ j
+Times takes (suc n) i k = (j : ℕ) × takes i j × Times takes n j k
+
+-- not above the greatest number, if there is one
+abbrev pub IsUpTo : ℕ → Option ℕ → Type 0
+IsUpTo n None = Unit {0}
+IsUpTo n (Some most) = n ≤ most
+
+-- No item takes nothing, and so does a look where it holds; a set takes one of its characters, a
+-- group what its tree does, a repetition its tree so many times as it may. `first` tells how many
+-- bytes of one of a set's characters stand first.
+module _ (first : List Range → List ℕ → Option ℕ) (h : Haystack walks.Look) where
+  abbrev mutual
+    pub Takes : Tree → ℕ → ℕ → Type 0
+    Takes empty i j = i ≡ j
+    Takes (one_of ranges) i j = (k : ℕ) × (first ranges (left_from h i) ≡ Some k) × (j ≡ i + k)
+    Takes (look_at asked) i j = IsTrue (h.holds (place_of asked) i) × (i ≡ j)
+    Takes (group number name tree) i j = Takes tree i j
+    Takes (concat trees) i j = TakesInTurn trees i j
+    Takes (alternation trees) i j = TakesOneOf trees i j
+    Takes (repeated repetition tree) i j =
+        (n : ℕ) × (repetition.min ≤ n) × IsUpTo n repetition.max × Times (Takes tree) n i j
+
+    -- one tree after the other
+    pub TakesInTurn : Trees → ℕ → ℕ → Type 0
+    TakesInTurn (two one other) i k = (j : ℕ) × Takes one i j × Takes other j k
+    TakesInTurn (more one others) i k = (j : ℕ) × Takes one i j × TakesInTurn others j k
+
+    -- one of the trees
+    pub TakesOneOf : Trees → ℕ → ℕ → Type 0
+    TakesOneOf (two one other) i j = Takes one i j ⊎ Takes other i j
+    TakesOneOf (more one others) i j = Takes one i j ⊎ TakesOneOf others i j
+
+-- what a tree takes in a search
+abbrev pub TakesIn : (ℕ → Bool) → ℕ → Search → Tree → ℕ → ℕ → Type 0
+TakesIn is_word terminator s tree i j =
+    Takes (first_by is_in) (haystack_of (holds_in is_word terminator s) s) tree i j
+
+-- the paths of a search that lead from a place inside, from the start node of a pattern, end inside,
+-- where the pattern's tree takes it to, and match that pattern
+abbrev pub PathsAreTaken : Type 0
+PathsAreTaken = (trees : List Tree) (terminator : ℕ) → All IsWellFormed trees
+    → (is_word : ℕ → Bool) (p : Program walks.Look (List Range)) (s : Search)
+    → p ≡ program_of trees terminator
+    → (k q : ℕ) (tree : Tree) → slice_get trees k ≡ Some tree → slice_get p.patterns k ≡ Some q
+    → (i pattern e : ℕ) → IsInside s i
+    → Path (machine_of is_in is_word p s) q i pattern e
+    ↔ ((pattern ≡ k) × IsInside s e × TakesIn is_word p.line_terminator s tree i e)
