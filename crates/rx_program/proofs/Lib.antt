@@ -17,3 +17,4 @@ pub mod NoteLaws
 pub mod GroupLaws
 pub mod SeveralLaws
 pub mod TakingLaws
+pub mod EmptyLaws

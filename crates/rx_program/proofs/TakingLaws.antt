@@ -44,6 +44,18 @@ times_cut takes (suc n) k i l on =
     let further = times_cut takes n k one.0 l one.2 in
     (further.0, (one.0, one.1, further.1), further.2)
 
+-- ---- the repetitions of trees
+
+abbrev pub AreBounded : List Tree → Type 0
+AreBounded trees = All (λ tree. IsBounded (root_of tree)) trees
+
+pub up_to : (k : ℕ) (most : Option ℕ) → IsMost k most → IsUpTo k most
+up_to k None fits = tt
+up_to k (Some most) fits = fits.0
+
+pub below : (front : List Tree) (tree : Tree) → AreBounded (front ++ tree ∷ []) → AreBounded front
+below front tree bounded = all_left (λ tree. IsBounded (root_of tree)) front (tree ∷ []) bounded
+
 -- ---- paths at a node
 
 abbrev path_size : {Q N : Type 0} {m : Machine Q N} {q : Q} {i p e : ℕ} → Path m q i p e → ℕ
@@ -530,17 +542,7 @@ module _ (first : List Range → List ℕ → Option ℕ) (h : Haystack walks.Lo
 
   -- ---- trees
 
-  abbrev AreBounded : List Tree → Type 0
-  AreBounded trees = All (λ tree. IsBounded (root_of tree)) trees
-
-  up_to : (k : ℕ) (most : Option ℕ) → IsMost k most → IsUpTo k most
-  up_to k None fits = tt
-  up_to k (Some most) fits = fits.0
-
   module _ (slots : ℕ) where
-    below : (front : List Tree) (tree : Tree) → AreBounded (front ++ tree ∷ []) → AreBounded front
-    below front tree bounded = all_left (λ tree. IsBounded (root_of tree)) front (tree ∷ []) bounded
-
     mutual
       tree_part : (tree : Tree) → AreBounded (subtrees_of tree) → IsPart (size_of tree) (code_of slots tree) (Takes first h tree)
       tree_part empty bounded = empty_part
@@ -674,7 +676,7 @@ unmapped P f (x ∷ xs) all = All-cons (λ x. P (f x)) x xs (All-head P (f x) (m
 got : {X : Type 0} (P : X → Type 0) (xs : List X) (k : ℕ) (x : X) → All P xs → slice_get xs k ≡ Some x → P x
 got P xs k x all at = subst P (get_or_from_slice_get xs k x x at) (All-get_or P xs k x (slice_get_within xs k x at) all)
 
-is_bounded : (tree : Tree) → IsWellFormed tree → All (λ part. IsBounded (root_of part)) (subtrees_of tree)
+pub is_bounded : (tree : Tree) → IsWellFormed tree → All (λ part. IsBounded (root_of part)) (subtrees_of tree)
 is_bounded tree well = unmapped IsBounded root_of (subtrees_of tree) well.repetitions
 
 within_from : (s : Search) (i : ℕ) → IsInside s i → is_within (lowest s) (highest s) i ≡ true

@@ -1,9 +1,10 @@
 -- What a tree takes of a content, from which place to which, whatever is preferred.
-use Rattle.std.specs.Prelude.{◌≡◌, ℕ, zero, suc, ◌+◌, ◌≤◌, ◌⊎◌, ◌↔◌, Bool, IsTrue, List, All, Option, Some, None, slice_get}
+use Rattle.std.specs.Prelude.{◌≡◌, ℕ, zero, suc, ◌+◌, ◌≤◌, ◌⊎◌, ◌↔◌, Bool, true, IsTrue, List, [], All, Option, Some, None, slice_get}
 use Rattle.rx_sets.specs.Sets.{Range}
 use Rattle.rx_utf8.specs.Automata.{is_in}
 use Rattle.rx_grammar.specs.Trees.{Tree, Trees, empty, one_of, look_at, group, concat, alternation, repeated, two, more}
 use Rattle.rx_grammar.specs.Subtrees.{IsWellFormed}
+use Rattle.rx_grammar.specs.Weights.{may_be_empty}
 use Rattle.rx_walks.specs.Looks as walks
 use Rattle.rx_walks.specs.Paths.{Path}
 use Rattle.rx_walks.specs.Programs.{Program, Haystack, left_from}
@@ -61,3 +62,16 @@ PathsAreTaken = (trees : List Tree) (terminator : ℕ) → All IsWellFormed tree
     → (i pattern e : ℕ) → IsInside s i
     → Path (machine_of is_in is_word p s) q i pattern e
     ↔ ((pattern ≡ k) × IsInside s e × TakesIn is_word p.line_terminator s tree i e)
+
+-- no character of any set stands anywhere, and all looks hold
+abbrev pub no_character : List Range → List ℕ → Option ℕ
+no_character ranges bytes = None
+
+abbrev pub looks_hold : Haystack walks.Look
+looks_hold = record { content = []; low = 0; high = 0; holds = λ asked i. true }
+
+-- what `may_be_empty` says of a tree by its parts, by which programs are laid out, is whether it
+-- matches then
+abbrev pub MayBeEmptyIsTold : Type 0
+MayBeEmptyIsTold = (tree : Tree) → IsWellFormed tree
+    → IsTrue (may_be_empty tree) ↔ Takes no_character looks_hold tree 0 0

@@ -2,7 +2,7 @@
 //! is the law, proved.
 
 ghost use Rattle.rx_program.specs.Closed.{PatternIsClosed, ProgramsAreClosed};
-ghost use Rattle.rx_program.specs.Taking.{PathsAreTaken};
+ghost use Rattle.rx_program.specs.Taking.{MayBeEmptyIsTold, PathsAreTaken};
 ghost use Rattle.rx_program.specs.Laws.{GroupsAreNotedWhole, MatchesNoteTheirPlaces, ProgramsAreAbovePatterns, ProgramsNoteTheirPlaces};
 
 /// Each edge of a pattern's program leads to one of its nodes, and so do its starts.
@@ -46,4 +46,10 @@ pub fn programs_are_above_patterns()
 /// it exactly where its tree takes what stands between.
 pub fn paths_are_taken()
     ensures { PathsAreTaken }
+{}
+
+/// What is said of a tree by its parts, that it may be empty, by which its program is laid out, is
+/// whether it matches where there is no character and all looks hold.
+pub fn may_be_empty_is_told()
+    ensures { MayBeEmptyIsTold }
 {}
