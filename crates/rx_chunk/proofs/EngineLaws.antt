@@ -1,5 +1,5 @@
 -- What a builder builds of a pattern, and what searches with an engine answer.
-use Rattle.std.proofs.Common.{◌≡◌, ℕ, ◌<◌, ◌≤◌, ◌⊎◌, Bool, true, List, [], ◌∷◌, ◌++◌, length, take, drop, Result, Ok, Err, IfOk, Option, Some, None, is_some, option_map, unwrap_or, chars, refl, sym, ap, subst, ◌∙◌, inl, inr, arith}
+use Rattle.std.proofs.Common.{◌≡◌, ℕ, ◌<◌, ◌≤◌, ◌⊎◌, Bool, true, List, [], ◌∷◌, ◌++◌, length, take, drop, Result, Ok, Err, IfOk, OnOk, Option, Some, None, is_some, option_map, unwrap_or, chars, refl, sym, ap, subst, ◌∙◌, inl, inr, arith}
 use Rattle.std.proofs.Math.Seq.{take-append_seam}
 use Rattle.std.proofs.lemmas.List.{length-replicate}
 use Rattle.std.proofs.lemmas.Option.{none-some}
@@ -24,7 +24,7 @@ use Rattle.rx_program.specs.Programs.{ByteProgram, characters_of}
 use Rattle.rx_program.specs.Sizes.{IsTooLarge, told_limit, weight_of_all}
 use Rattle.rx_steps.specs.Threads.{Slots}
 use Rattle.rx_steps.specs.Searching.{IsAnswer}
-use Rattle.rx_chunk.specs.Engines.{Engine, Wanted, AreGroupsOf, IsOfTree, IsEngine, IsBuiltOf, IsRefused, too_long, nesting, outside, too_large, memory, refusal_of, match_of, TellsWhether, IsFound}
+use Rattle.rx_chunk.specs.Engines.{Engine, EngineSettings, Wanted, size_limit_of, AreGroupsOf, IsOfTree, IsEngine, IsBuiltOf, IsRefused, too_long, nesting, outside, too_large, memory, refusal_of, match_of, TellsWhether, IsFound}
 
 -- ---- what is built
 
@@ -40,25 +40,31 @@ abbrev pub Refused : Type 0 → SyntaxError → SyntaxError → Type 0
 Refused T error reason = ◌≡◌ {A = Result T SyntaxError} (Err error) (Err reason)
 
 -- why a text is refused is why its pattern has no engine
-pub refused_text : {T : Type 0} (text : List ℕ) (settings : Settings) (error : SyntaxError) → (Refused T error syntax.TooLong → 65536 < length text)
-    → ((Refused T error syntax.Memory → ⊥) → Refused T error syntax.Nesting → IsTooDeep (chars text) settings)
-    → ((Refused T error syntax.Memory → ⊥) → Refused T error syntax.Outside → (length text ≤ 65536) × NeverSpells (chars text) settings)
-    → IsRefused text settings (refusal_of error)
-refused_text text settings syntax.TooLong long deep never = too_long (long refl)
-refused_text text settings syntax.Nesting long deep never = nesting (deep (λ e. cc) refl)
-refused_text text settings syntax.Outside long deep never = let told = never (λ e. cc) refl in outside told.0 told.1
-refused_text text settings syntax.Memory long deep never = memory
+pub refused_text : {T : Type 0} (text : List ℕ) (wanted : Wanted) (error : SyntaxError) → (Refused T error syntax.TooLong → 65536 < length text)
+    → ((Refused T error syntax.Memory → ⊥) → Refused T error syntax.Nesting → IsTooDeep (chars text) wanted.syntax)
+    → ((Refused T error syntax.Memory → ⊥) → Refused T error syntax.Outside → (length text ≤ 65536) × NeverSpells (chars text) wanted.syntax)
+    → IsRefused text wanted (refusal_of error)
+refused_text text wanted syntax.TooLong long deep never = too_long (long refl)
+refused_text text wanted syntax.Nesting long deep never = nesting (deep (λ e. cc) refl)
+refused_text text wanted syntax.Outside long deep never = let told = never (λ e. cc) refl in outside told.0 told.1
+refused_text text wanted syntax.Memory long deep never = memory
 
 -- so is why its tree has no program
-pub refused_tree : (text : List ℕ) (settings : Settings) (tree : Tree) (error : BuildError) → Spells (chars text) settings tree
-    → (error ≡ build.Size (told_limit None) → IsTooLarge None (weight_of_all (tree ∷ []))) → (error ≡ build.Size (told_limit None)) ⊎ (error ≡ build.Memory)
-    → IsRefused text settings error
-refused_tree text settings tree error spells large (inl is) = subst (λ e. IsRefused text settings e) (sym is) (too_large spells (large is))
-refused_tree text settings tree error spells large (inr is) = subst (λ e. IsRefused text settings e) (sym is) memory
+pub refused_tree : (text : List ℕ) (wanted : Wanted) (tree : Tree) (error : BuildError) (limit : Option ℕ) → limit ≡ size_limit_of wanted.settings → Spells (chars text) wanted.syntax tree
+    → (error ≡ build.Size (told_limit limit) → IsTooLarge limit (weight_of_all (tree ∷ []))) → (error ≡ build.Size (told_limit limit)) ⊎ (error ≡ build.Memory)
+    → IsRefused text wanted error
+refused_tree text wanted tree error limit set spells large (inl is) =
+    subst (λ e. IsRefused text wanted e) (sym is)
+    (subst (λ l. IsRefused text wanted (build.Size (told_limit l))) (sym set) (too_large spells (subst (λ l. IsTooLarge l (weight_of_all (tree ∷ []))) set (large is))))
+refused_tree text wanted tree error limit set spells large (inr is) = subst (λ e. IsRefused text wanted e) (sym is) memory
 
 pub if_ok : {A E : Type 0} {P Q : A → Type 0} (r : Result A E) → ((x : A) → P x → Q x) → IfOk r P → IfOk r Q
 if_ok (Ok x) f h = f x h
 if_ok (Err e) f h = h
+
+pub on_ok : {A E : Type 0} {P Q : Type 0} (r : Result A E) → (P → Q) → OnOk r P → OnOk r Q
+on_ok (Ok x) f h = f h
+on_ok (Err e) f h = h
 
 -- what is there was not refused
 pub not_refused : {A E : Type 0} (x : A) (error : E) → ◌≡◌ {A = Result A E} (Ok x) (Err error) → ⊥
@@ -74,7 +80,7 @@ of_tree p groups utf8_empty tree terminator formed is are =
     record { well_formed = formed; program = is ∙ ap (λ t. program_of (tree ∷ []) t) (sym same); groups = are }
 
 pub built : (text : List ℕ) (wanted : Wanted) (p : ByteProgram) (groups : Groups) (utf8_empty : Bool) (tree : Tree) (terminator : ℕ) → IsWellFormed tree → Spells (chars text) wanted.syntax tree
-    → (IsTooLarge None (weight_of_all (tree ∷ [])) → ⊥) → characters_of p ≡ program_of (tree ∷ []) terminator → AreGroupsOf tree groups
+    → (IsTooLarge (size_limit_of wanted.settings) (weight_of_all (tree ∷ [])) → ⊥) → characters_of p ≡ program_of (tree ∷ []) terminator → AreGroupsOf tree groups
     → terminator ≡ unwrap_or wanted.settings.line_terminator 10 → utf8_empty ≡ unwrap_or wanted.settings.utf8_empty true → IsBuiltOf text wanted (engine_of p groups utf8_empty)
 built text wanted p groups utf8_empty tree terminator formed spells fits is are set set' = record {
   tree = tree;

@@ -21,6 +21,7 @@ use Rattle.rx_program.specs.Programs.{ByteProgram, characters_of}
 use Rattle.rx_steps.specs.Threads.{Slots}
 use Rattle.rx_steps.specs.Searching.{answer_slots, IsAnswer}
 use Rattle.rx_chunk.specs.Engines.{Engine, IsEngine, Finds, match_of, IsFound}
+use Rattle.rx_chunk.specs.Iterating.{captured_by}
 use Rattle.rx_chunk.proofs.EngineLaws.{pattern_in, none_found}
 
 some_out : (out : Option (Outcome Notes)) (k : ℕ) → pattern_in out ≡ Some k → (t : Outcome Notes) × (out ≡ Some t) × (t.pattern ≡ k)
@@ -103,13 +104,13 @@ pub record AreFound (p : ByteProgram) (s : Search) (caps : Captured) : Type 0 wh
   pub found : IsFound p s (match_found caps)
   pub ordered : ForSome (group_span caps 0) (λ (x : Span). x.start ≤ x.end)
 
-captured_by : (e : Engine) (s : Search) (groups : Groups) (pattern : Option ℕ) (slots : Slots) → IsEngine e → MatchesNoteTheirPlaces → InsideLaw → groups ≡ e.groups → 2 ≤ length slots
+captured_with : (e : Engine) (s : Search) (groups : Groups) (pattern : Option ℕ) (slots : Slots) → IsEngine e → MatchesNoteTheirPlaces → InsideLaw → groups ≡ e.groups → 2 ≤ length slots
     → IsAnswer e.program s pattern slots → AreFound e.program s (record { groups = groups; pattern = pattern; slots = slots })
-captured_by e s groups None slots of_a_tree law inside same two answer = record {
+captured_with e s groups None slots of_a_tree law inside same two answer = record {
   found = none_found answer refl;
   ordered = λ x is. absurd (none-some x is);
 }
-captured_by e s groups (Some k) slots of_a_tree law inside same two answer =
+captured_with e s groups (Some k) slots of_a_tree law inside same two answer =
     let noted = is_noted e s (Some k) slots k of_a_tree law two answer refl in
     let are = of_a_tree.1.groups in
     let span : group_span (record { groups = groups; pattern = Some k; slots = slots }) 0 ≡ span_between (place_in slots 0) (place_in slots 1) =
@@ -121,4 +122,45 @@ captured_by e s groups (Some k) slots of_a_tree law inside same two answer =
 
 pub captured_found : (e : Engine) (s : Search) (caps : Captured) → IsEngine e → MatchesNoteTheirPlaces → InsideLaw → caps.groups ≡ e.groups → 2 ≤ length caps.slots
     → IsAnswer e.program s caps.pattern caps.slots → AreFound e.program s caps
-captured_found e s caps of_a_tree law inside same two answer = captured_by e s caps.groups caps.pattern caps.slots of_a_tree law inside same two answer
+captured_found e s caps of_a_tree law inside same two answer = captured_with e s caps.groups caps.pattern caps.slots of_a_tree law inside same two answer
+
+-- what captures of the engine tell of the whole match, and all that they have noted, where a search was answered in them
+pub record AreNoted (p : ByteProgram) (s : Search) (caps : Captured) : Type 0 where
+  pub out : Option (Outcome Notes)
+  pub finds : Finds p s out
+  pub noted : caps ≡ captured_by caps.groups (length caps.slots) out
+  pub match_is : match_found caps ≡ option_map match_of out
+  pub ordered : ForSome (group_span caps 0) (λ (x : Span). x.start ≤ x.end)
+
+abbrev captured : Groups → Option ℕ → Slots → Captured
+captured groups pattern slots = record { groups = groups; pattern = pattern; slots = slots }
+
+noted_by : (e : Engine) (s : Search) (groups : Groups) (slots : Slots) (out : Option (Outcome Notes)) → IsEngine e → MatchesNoteTheirPlaces → InsideLaw → groups ≡ e.groups → 2 ≤ length slots
+    → Finds e.program s out → slots ≡ answer_slots (length slots) out → AreNoted e.program s (captured groups (pattern_in out) slots)
+noted_by e s groups slots None of_a_tree law inside same two finds slots_are = record {
+  out = None;
+  finds = finds;
+  noted = ap (λ xs. captured groups None xs) slots_are;
+  match_is = refl;
+  ordered = λ x is. absurd (none-some x is);
+}
+noted_by e s groups slots (Some t) of_a_tree law inside same two finds slots_are =
+    let places = law of_a_tree.0 e.program.line_terminator of_a_tree.1.well_formed is_word_char (characters_of e.program) s of_a_tree.1.program in
+    let noted = places.finds t finds in
+    let are = of_a_tree.1.groups in
+    let span : group_span (captured groups (Some t.pattern) slots) 0 ≡ Some (span_of t) =
+    group_zero are.names groups t.pattern slots (same ∙ are.groups_are) noted.pattern ∙ two_slots t (length slots) slots two slots_are noted in
+    let ordered : start_of t ≤ end_of t = (inside is_in is_word_char (characters_of e.program) s t finds).found.ordered in
+    record {
+      out = Some t;
+      finds = finds;
+      noted = ap (λ xs. captured groups (Some t.pattern) xs) slots_are;
+      match_is = ap (λ o. option_map (match_with t.pattern) o) span;
+      ordered = subst (λ o. ForSome o (λ (x : Span). x.start ≤ x.end)) (sym span) (λ x is. subst (λ (y : Span). y.start ≤ y.end) (ap (λ o. unwrap_or o x) is) ordered);
+    }
+
+pub are_noted : (e : Engine) (s : Search) (caps : Captured) → IsEngine e → MatchesNoteTheirPlaces → InsideLaw → caps.groups ≡ e.groups → 2 ≤ length caps.slots
+    → IsAnswer e.program s caps.pattern caps.slots → AreNoted e.program s caps
+are_noted e s caps of_a_tree law inside same two answer =
+    subst (λ pattern. AreNoted e.program s (captured caps.groups pattern caps.slots)) (sym answer.pattern_is)
+    (noted_by e s caps.groups caps.slots answer.found of_a_tree law inside same two answer.finds answer.slots_are)

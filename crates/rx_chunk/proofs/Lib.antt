@@ -2,4 +2,4 @@ pub mod GroupLaws
 pub mod EngineLaws
 pub mod FoundLaws
 pub mod IterLaws
-pub mod FinderLaws
+pub mod NextLaws

@@ -34,9 +34,20 @@ pub record EngineSettings : Type 0 where
   pub match_kind : Option MatchKind
   pub utf8_empty : Option Bool
   pub line_terminator : Option ℕ
+  -- how many bytes of upstream's measure a program may take; or without a limit
+  pub nfa_size_limit : Option (Option ℕ)
 
 abbrev pub nothing_set : EngineSettings
-nothing_set = record { match_kind = None; utf8_empty = None; line_terminator = None }
+nothing_set = record {
+  match_kind = None;
+  utf8_empty = None;
+  line_terminator = None;
+  nfa_size_limit = None;
+}
+
+-- the limit that was set; without one a program may weigh as much as numbers of states allow
+abbrev pub size_limit_of : EngineSettings → Option ℕ
+size_limit_of settings = unwrap_or settings.nfa_size_limit None
 
 -- settings that are set in the first, and else those of the second
 abbrev pub settings_over : EngineSettings → EngineSettings → EngineSettings
@@ -44,6 +55,7 @@ settings_over new old = record {
   match_kind = option_or new.match_kind old.match_kind;
   utf8_empty = option_or new.utf8_empty old.utf8_empty;
   line_terminator = option_or new.line_terminator old.line_terminator;
+  nfa_size_limit = option_or new.nfa_size_limit old.nfa_size_limit;
 }
 
 -- what a builder was given: the engine's settings, and those of the syntax
@@ -80,22 +92,22 @@ IsEngine e = (tree : Tree) × IsOfTree e tree
 pub record IsBuiltOf (text : List ℕ) (wanted : Wanted) (e : Engine) : Type 0 where
   pub tree : Tree
   pub spells : Spells (chars text) wanted.syntax tree
-  pub fits : IsTooLarge None (weight_of_all (tree ∷ [])) → ⊥
+  pub fits : IsTooLarge (size_limit_of wanted.settings) (weight_of_all (tree ∷ [])) → ⊥
   pub of_tree : IsOfTree e tree
   pub line_terminator : e.program.line_terminator ≡ unwrap_or wanted.settings.line_terminator 10
   pub utf8_empty : e.utf8_empty ≡ unwrap_or wanted.settings.utf8_empty true
 
--- why a pattern, given as its bytes, has no engine under these settings of the syntax
-pub data IsRefused (text : List ℕ) (settings : Settings) : BuildError → Type 0 where
-  too_long : 65536 < length text → IsRefused text settings (build.Syntax 0 syntax.TooLong)
-  nesting : IsTooDeep (chars text) settings
-      → IsRefused text settings (build.Syntax 0 syntax.Nesting)
-  outside : length text ≤ 65536 → NeverSpells (chars text) settings
-      → IsRefused text settings (build.Syntax 0 syntax.Outside)
-  too_large : {tree : Tree} → Spells (chars text) settings tree
-      → IsTooLarge None (weight_of_all (tree ∷ []))
-      → IsRefused text settings (build.Size (told_limit None))
-  memory : IsRefused text settings build.Memory
+-- why a pattern, given as its bytes, has no engine with these settings
+pub data IsRefused (text : List ℕ) (wanted : Wanted) : BuildError → Type 0 where
+  too_long : 65536 < length text → IsRefused text wanted (build.Syntax 0 syntax.TooLong)
+  nesting : IsTooDeep (chars text) wanted.syntax
+      → IsRefused text wanted (build.Syntax 0 syntax.Nesting)
+  outside : length text ≤ 65536 → NeverSpells (chars text) wanted.syntax
+      → IsRefused text wanted (build.Syntax 0 syntax.Outside)
+  too_large : {tree : Tree} → Spells (chars text) wanted.syntax tree
+      → IsTooLarge (size_limit_of wanted.settings) (weight_of_all (tree ∷ []))
+      → IsRefused text wanted (build.Size (told_limit (size_limit_of wanted.settings)))
+  memory : IsRefused text wanted build.Memory
 
 -- what a refusal of a pattern's text is as one of an engine
 abbrev pub refusal_of : SyntaxError → BuildError

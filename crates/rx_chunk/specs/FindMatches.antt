@@ -7,15 +7,19 @@ use Rattle.rx_input.specs.declared.cursor.Cursor.{Ghosts}
 use Rattle.rx_steps.specs.Caches.{CacheView}
 use Rattle.rx_steps.specs.Searching.{search_of}
 use Rattle.rx_chunk.specs.declared.pikevm.find_matches.FindMatches.{FindMatches}
-use Rattle.rx_chunk.specs.Iterating.{MatchesLeft, GivesMatch}
+use Rattle.rx_program.specs.Programs.{ByteProgram}
+use Rattle.rx_chunk.specs.Engines.{match_of}
+use Rattle.rx_chunk.specs.Iterating.{MatchesLeft, GivesNext}
 
 abbrev pub left_of : {C : Type 0} {cursor : Ghosts C} → FindMatches C cursor → MatchesLeft
 left_of m = record {
-  program = m.vm.now.program;
   search = search_of m.vm.now.utf8_empty m.input;
-  has_matched = m.has_matched;
+  last_end = m.last_match_end;
   is_over = m.is_over;
 }
+
+abbrev pub program_of : {C : Type 0} {cursor : Ghosts C} → FindMatches C cursor → ByteProgram
+program_of m = m.vm.now.program
 
 abbrev pub cache_of : {C : Type 0} {cursor : Ghosts C} → FindMatches C cursor → MutBor CacheView
 cache_of m = m.cache
@@ -23,6 +27,6 @@ cache_of m = m.cache
 -- a step of the iterator, which searches with the same cache for the same program on
 pub record Gives {C : Type 0} {cursor : Ghosts C} (m : FindMatches C cursor)
     (item : Option (Result Found MatchError)) (n : FindMatches C cursor) : Type 0 where
-  pub gives : GivesMatch (left_of m) item (left_of n)
-  pub same_program : (left_of n).program ≡ (left_of m).program
+  pub next : GivesNext (program_of m) match_of (left_of m) item (left_of n)
+  pub same_program : program_of n ≡ program_of m
   pub same_cache : (cache_of n).ghost_name ≡ (cache_of m).ghost_name

@@ -1,9 +1,11 @@
--- What an iterator over the matches of a program gives.
-use Rattle.std.specs.Prelude.{◌≡◌, ℕ, ◌+◌, ◌-◌, Bool, true, false, List, length, map, Option, Some, None, option_map, Result, Ok, Err}
-use Rattle.std.specs.Iterator.{Count, at_most, Drains}
+-- What comes next in an input, and what an iterator over the matches of a program gives.
+use Rattle.std.specs.Prelude.{◌≡◌, ℕ, ◌-◌, ◌<◌, ◌≤◌, ◌==◌, Bool, false, true, List, length, Option, Some, None, option_map, Result, IfSome, IfErr}
+use Rattle.std.specs.Iterator.{Count, at_most, size}
 use Rattle.unicode.specs.Perl.{is_word_char}
 use Rattle.rx_util.specs.declared.search.MatchError.{MatchError}
 use Rattle.rx_util.specs.declared.search.MatchError.TheVariants.{Memory}
+use Rattle.rx_util.specs.Captured.{Captured, match_found, nothing_noted}
+use Rattle.rx_util.specs.Groups.{Groups}
 use Rattle.rx_util.specs.Search.{Found}
 use Rattle.rx_input.specs.Cursors.{IsSameContent}
 use Rattle.rx_input.specs.Inputs.{InputState}
@@ -11,80 +13,98 @@ use Rattle.rx_input.specs.Searchers.{items_at_most}
 use Rattle.rx_walks.specs.Machines.{Outcome}
 use Rattle.rx_walks.specs.Programs.{Notes}
 use Rattle.rx_walks.specs.Finds.{Search, from_place_on}
-use Rattle.rx_walks.specs.ProgramFinds.{ProgramMatches, start_of, end_of}
-use Rattle.rx_walks.specs.Matches.{Next}
+use Rattle.rx_walks.specs.Iterating.{FindsNext, GivesMatch, IteratorsGiveInOrder}
+pub use Rattle.rx_walks.specs.Iterating.{MatchesLeft, matches_from}
 use Rattle.rx_utf8.specs.Automata.{is_in}
 use Rattle.rx_program.specs.Programs.{ByteProgram, characters_of}
+use Rattle.rx_steps.specs.Searching.{answer_slots}
 use Rattle.rx_chunk.specs.Engines.{Finds, match_of}
 
--- what a search finds, or, where a match ended at its start, what it finds next
-abbrev pub FindsAfter : ByteProgram → Bool → Search → Option (Outcome Notes) → Type 0
-FindsAfter p false s out = Finds p s out
-FindsAfter p true s out =
-    Next (λ i. Finds p (from_place_on s i)) start_of end_of s.start out
+-- what a search finds next where the last match, if there was one, ended at `last`: an empty match
+-- there is passed over
+abbrev pub ComesNext : ByteProgram → Search → Option ℕ → Option (Outcome Notes) → Type 0
+ComesNext p s last out = FindsNext (Finds p) s last out
 
 -- that, without its groups
-abbrev pub IsFoundAfter : ByteProgram → Bool → Search → Option Found → Type 0
-IsFoundAfter p has_matched s found = (out : Option (Outcome Notes))
-    × FindsAfter p has_matched s out × (found ≡ option_map match_of out)
+abbrev pub IsFoundNext : ByteProgram → Search → Option ℕ → Option Found → Type 0
+IsFoundNext p s last found = (out : Option (Outcome Notes)) × ComesNext p s last out
+    × (found ≡ option_map match_of out)
 
 -- an input over the same content, of which the same is asked but that its span starts here
 pub record StartsFrom (old new : InputState) (start : ℕ) : Type 0 where
   pub same : IsSameContent old.cursor new.cursor
   pub asked : new.asked ≡ record old.asked { span = record old.asked.span { start = start } }
 
--- what is left to the iterator: the search for the next match, whether a match ended where that
--- search starts, and whether no more come
-pub record MatchesLeft : Type 0 where
-  pub program : ByteProgram
-  pub search : Search
-  pub has_matched : Bool
-  pub is_over : Bool
+-- a refusal is want of memory
+abbrev pub IsRefusal : {A : Type 0} → Option (Result A MatchError) → Type 0
+IsRefusal item = IfSome item (λ answer. IfErr answer (λ error. error ≡ Memory))
 
--- all of them
-abbrev pub matches_from : ByteProgram → Search → MatchesLeft
-matches_from p s = record { program = p; search = s; has_matched = false; is_over = false }
+-- a step of an iterator over the matches of a program, of each of which it tells something; none
+-- comes where nothing more is found, and after a refusal
+pub record GivesNext {A : Type 0} (p : ByteProgram) (item_of : Outcome Notes → A) (m : MatchesLeft)
+    (item : Option (Result A MatchError)) (n : MatchesLeft) : Type 0 where
+  pub gives : GivesMatch (Finds p) item_of m item n
+  pub refused : IsRefusal item
 
-abbrev pub FindsNext : MatchesLeft → Option (Outcome Notes) → Type 0
-FindsNext m out = FindsAfter m.program m.has_matched m.search out
+-- the last match ended here
+abbrev pub is_last_end : Option ℕ → ℕ → Bool
+is_last_end None place = false
+is_last_end (Some end) place = end == place
 
--- a match comes next, and what is left is what comes after its end
-pub record GivesFound (m : MatchesLeft) (a : Found) (n : MatchesLeft) : Type 0 where
-  pub goes_on : m.is_over ≡ false
-  pub found : Outcome Notes
-  pub finds : FindsNext m (Some found)
-  pub match_is : a ≡ match_of found
-  pub left_is : n
-      ≡ record m { search = from_place_on m.search (end_of found); has_matched = true }
+-- a match that comes next ends in the span, not before its start, and behind that where the last
+-- one ended there
+pub record EndsAhead (last : Option ℕ) (s : Search) (end : ℕ) : Type 0 where
+  pub on : s.start ≤ end
+  pub further : is_last_end last s.start ≡ true → s.start < end
+  pub in_span : end ≤ s.end
+  pub in_content : end ≤ length s.content
 
--- a step of the iterator: none comes where nothing more is found, and after a refusal
-abbrev pub GivesMatch : MatchesLeft → Option (Result Found MatchError) → MatchesLeft → Type 0
-GivesMatch m None n = (m.is_over ≡ false → FindsNext m None) × (n.is_over ≡ true)
-GivesMatch m (Some (Ok a)) n = GivesFound m a n
-GivesMatch m (Some (Err e)) n = (m.is_over ≡ false) × (e ≡ Memory) × (n.is_over ≡ true)
+-- what is left behind a match that ends there
+abbrev pub left_behind : MatchesLeft → ℕ → MatchesLeft
+left_behind m end = record {
+  search = from_place_on m.search end;
+  last_end = Some end;
+  is_over = false;
+}
 
+-- at most so many items come: each match but the first ends further on than the one before
 abbrev pub matches_left : MatchesLeft → Count
-matches_left m = at_most
-    (items_at_most m.is_over m.has_matched (length m.search.content - m.search.start))
+matches_left m = at_most (items_at_most m.is_over (is_last_end m.last_end m.search.start)
+    (length m.search.content - m.search.start))
 
--- these are the matches of a program, in order, without their groups
-abbrev pub AreMatches : ByteProgram → Search → List Found → Type 0
-AreMatches p s found = (ms : List (Outcome Notes))
-    × ProgramMatches is_in is_word_char (characters_of p) s ms × (found ≡ map match_of ms)
+-- fewer are left behind a match, and where no more come
+pub record FewerAreLeft : Type 0 where
+  pub behind : (m : MatchesLeft) (end : ℕ) → m.is_over ≡ false
+      → EndsAhead m.last_end m.search end
+      → size (matches_left (left_behind m end)) < size (matches_left m)
+  pub over : (m n : MatchesLeft) → m.is_over ≡ false → n.is_over ≡ true
+      → size (matches_left n) < size (matches_left m)
 
--- items of which none is refused
-abbrev pub not_refused : List Found → List (Result Found MatchError)
-not_refused found = map (λ a. Ok a) found
+-- an iterator over the matches of any program gives them in order: before a refusal and before it
+-- is drained the first ones, drained all of them; `left` tells what it has left, `item_of` what it
+-- tells of each, and `gives` its steps
+abbrev pub GivesAllInOrder : {A F : Type 0} → (Outcome Notes → A) → (F → MatchesLeft)
+    → (F → Option (Result A MatchError) → F → Type 0) → Type 0
+GivesAllInOrder item_of left gives = (p : ByteProgram)
+    → IteratorsGiveInOrder is_in is_word_char (characters_of p) item_of left gives
 
--- a step of an iterator: what it gives, and what it is before and after
-abbrev pub IteratorStep : Type 0 → Type 1
-IteratorStep F = F → Option (Result Found MatchError) → F → Type 0
+-- what is noted of a match in captures of these groups with so many slots
+abbrev pub captured_of : Groups → ℕ → Outcome Notes → Captured
+captured_of groups len t = record {
+  groups = groups;
+  pattern = Some t.pattern;
+  slots = answer_slots len (Some t);
+}
 
--- where none is refused, all that an iterator gives up to the first none are the matches; `left`
--- tells what it has left, and `gives` its steps
-abbrev pub GivesAllMatches : {F : Type 0} → (F → MatchesLeft) → IteratorStep F → Type 0
-GivesAllMatches {F} left gives =
-    ((m n : F) (item : Option (Result Found MatchError)) → gives m item n
-    → GivesMatch (left m) item (left n))
-    → (p : ByteProgram) (s : Search) (m : F) → left m ≡ matches_from p s → (found : List Found)
-    → Drains gives m (not_refused found) → AreMatches p s found
+-- and what is noted where nothing is found
+abbrev pub captured_by : Groups → ℕ → Option (Outcome Notes) → Captured
+captured_by groups len None = nothing_noted groups len
+captured_by groups len (Some t) = captured_of groups len t
+
+-- captures have noted what comes next, and tell the match
+pub record HasNotedNext (p : ByteProgram) (s : Search) (last : Option ℕ) (caps : Captured)
+    : Type 0 where
+  pub out : Option (Outcome Notes)
+  pub comes : ComesNext p s last out
+  pub noted : caps ≡ captured_by caps.groups (length caps.slots) out
+  pub match_is : match_found caps ≡ option_map match_of out

@@ -15,10 +15,10 @@ ghost use Rattle.rx_input.specs.Cursors.{IsSameContent};
 ghost use Rattle.rx_steps.specs.Nodes.{node_count};
 ghost use Rattle.rx_steps.specs.Searching.{search_of, IsAnswer};
 ghost use Rattle.rx_steps.specs.Caches.{place_count, IsCacheOf};
-ghost use Rattle.rx_chunk.specs.Engines.{nothing_set, settings_over, AreNamesOf, IsEngine, IsBuiltOf, IsRefused, TellsWhether, IsFound, refusal_of, by_default, AreGroupsOf};
-ghost use Rattle.rx_chunk.specs.Iterating.{IsFoundAfter, StartsFrom, matches_from};
+ghost use Rattle.rx_chunk.specs.Engines.{EngineSettings, nothing_set, settings_over, size_limit_of, AreNamesOf, IsEngine, IsBuiltOf, IsRefused, TellsWhether, IsFound, refusal_of, by_default, AreGroupsOf};
+ghost use Rattle.rx_chunk.specs.Iterating.{EndsAhead, HasNotedNext, IsFoundNext, StartsFrom, matches_from};
 ghost use Rattle.rx_input.specs.Searchers.{EndsInside};
-ghost use Rattle.rx_chunk.specs.FindMatches.{cache_of, left_of};
+ghost use Rattle.rx_chunk.specs.FindMatches.{cache_of, left_of, program_of};
 
 use rx_grammar::{Hir, SyntaxError, parse, syntax};
 use rx_input::{Cursor, Input};
@@ -30,6 +30,7 @@ use rx_util::{Captures, GroupInfo, Match, MatchError, MatchKind, NonMaxUsize, Pa
 use rx_walks::laws::finds_lie_inside;
 use std::alloc::{AllocError, Global};
 use std::marker::Model;
+use std::rc::Rc;
 
 mod find_matches;
 
@@ -41,6 +42,7 @@ pub struct Config {
     match_kind: Option<MatchKind>,
     utf8_empty: Option<bool>,
     line_terminator: Option<u8>,
+    nfa_size_limit: Option<Option<usize>>,
 }
 
 impl Model for Config {
@@ -52,12 +54,14 @@ impl Model for Config {
       match_kind = c.match_kind;
       utf8_empty = c.utf8_empty;
       line_terminator = c.line_terminator;
+      nfa_size_limit = c.nfa_size_limit;
     } };
 
     ghost inverse = { λ s. record {
       match_kind = s.match_kind;
       utf8_empty = s.utf8_empty;
       line_terminator = s.line_terminator;
+      nfa_size_limit = s.nfa_size_limit;
     } };
 }
 
@@ -70,6 +74,7 @@ impl Config {
             match_kind: None,
             utf8_empty: None,
             line_terminator: None,
+            nfa_size_limit: None,
         }
     }
 
@@ -98,6 +103,15 @@ impl Config {
         self
     }
 
+    /// Sets how large a program may be: a pattern is refused where 40 times its weight is above the
+    /// limit. Without one it is where the weight is above 2,147,483,646.
+    pub fn nfa_size_limit(mut self, limit: Option<usize>) -> Config
+        ensures { result ≡ record self { nfa_size_limit = Some limit } }
+    {
+        self.nfa_size_limit = Some(limit);
+        self
+    }
+
     /// Which of all matches a search finds: by default the leftmost one.
     pub fn get_match_kind(&self) -> MatchKind
         ensures { result ≡ unwrap_or self.now.match_kind MatchKind.LeftmostFirst }
@@ -119,6 +133,13 @@ impl Config {
         self.line_terminator.unwrap_or(b'\n')
     }
 
+    /// How large a program may be: by default without a limit.
+    pub fn get_nfa_size_limit(&self) -> Option<usize>
+        ensures { result ≡ size_limit_of self.now }
+    {
+        self.nfa_size_limit.unwrap_or(None)
+    }
+
     /// These settings, and where one isn't set that of the others.
     fn or(&self, others: &Config) -> Config
         ensures { result ≡ settings_over self.now others.now }
@@ -127,6 +148,7 @@ impl Config {
             match_kind: self.match_kind.or(others.match_kind),
             utf8_empty: self.utf8_empty.or(others.utf8_empty),
             line_terminator: self.line_terminator.or(others.line_terminator),
+            nfa_size_limit: self.nfa_size_limit.or(others.nfa_size_limit),
         }
     }
 }
@@ -187,18 +209,21 @@ impl Builder {
 
     /// The engine for a pattern. There is none for a pattern of more than 65,536 bytes (`TooLong`),
     /// one that would be a pattern at a greater nest limit (`Nesting`), one outside the grammar
-    /// (`Outside`), and one that weighs more than 2,147,483,646 (`Size`). `Memory` may be told in
-    /// place of the engine and of each refusal but the first. It takes time and memory in
-    /// proportion to the pattern's weight and to the automata of its sets.
+    /// (`Outside`), and one that is too large for the limit that is set, or, where none is, weighs
+    /// more than 2,147,483,646 (`Size`). `Memory` may be told in place of the engine and of each
+    /// refusal but the first. It takes time and memory in proportion to the pattern's weight and to
+    /// the automata of its sets.
     pub fn build(&self, alloc: Global, pattern: &str) -> Result<PikeVM, BuildError>
         ensures built { IfOk result (λ vm. IsBuiltOf pattern.now self.now vm) }
-        ensures refused { IfErr result (λ error. IsRefused pattern.now self.now.syntax error) }
+        ensures refused { IfErr result (λ error. IsRefused pattern.now self.now error) }
     {
         let hir = spelled(alloc, pattern, &self.syntax)?;
         let groups = groups_of(alloc, &hir)?;
-        let program = compile(alloc, &[&hir], self.config.get_line_terminator(), None)?;
+        let terminator = self.config.get_line_terminator();
+        let limit = self.config.get_nfa_size_limit();
+        let program = compile(alloc, &[&hir], terminator, limit)?;
         Ok(PikeVM {
-            program,
+            program: shared(alloc, program)?,
             groups,
             utf8_empty: self.config.get_utf8_empty(),
         })
@@ -221,7 +246,8 @@ fn refusal(error: SyntaxError) -> BuildError
 /// What a pattern spells under these settings.
 fn spelled(alloc: Global, pattern: &str, settings: &syntax::Config) -> Result<Hir, BuildError>
     ensures spells { IfOk result (λ hir. Spells (chars pattern.now) settings.now (tree_of hir)) }
-    ensures refused { IfErr result (λ error. IsRefused pattern.now settings.now error) }
+    ensures refused { IfErr result (λ error. (limits : EngineSettings) → IsRefused pattern.now
+        (record { settings = limits; syntax = settings.now }) error) }
 {
     match parse(alloc, pattern, settings) {
         Ok(hir) => Ok(hir),
@@ -263,11 +289,18 @@ fn groups_of(alloc: Global, hir: &Hir) -> Result<GroupInfo, AllocError>
     GroupInfo::new(alloc, patterns)
 }
 
+/// A program, to be shared by an engine and its clones.
+fn shared(alloc: Global, program: Program) -> Result<Rc<Program>, AllocError>
+    ensures { IfOk result (λ rc. rc.value ≡ program) }
+{
+    Ok(Rc::new(alloc, program)?)
+}
+
 /// An engine that searches for a pattern. Contracts see its program, its groups, and whether it
 /// passes over empty matches inside a character.
 #[derive(Debug, Drop)]
 pub struct PikeVM {
-    program: Program,
+    program: Rc<Program>,
     groups: GroupInfo,
     utf8_empty: bool,
 }
@@ -278,13 +311,13 @@ impl Model for PikeVM {
     ghost Value = { Engine };
 
     ghost view = { λ vm. record {
-      program = vm.program;
+      program = vm.program.value;
       groups = vm.groups;
       utf8_empty = vm.utf8_empty;
     } };
 
     ghost invariant = { λ vm. IsEngine (record {
-      program = vm.program;
+      program = vm.program.value;
       groups = vm.groups;
       utf8_empty = vm.utf8_empty;
     }) };
@@ -294,29 +327,41 @@ impl PikeVM {
     /// The engine for a pattern, under default settings, and refused as by `Builder::build`.
     pub fn new(alloc: Global, pattern: &str) -> Result<PikeVM, BuildError>
         ensures built { IfOk result (λ vm. IsBuiltOf pattern.now by_default vm) }
-        ensures refused { IfErr result (λ error. IsRefused pattern.now default_settings error) }
+        ensures refused { IfErr result (λ error. IsRefused pattern.now by_default error) }
     {
         Builder::new().build(alloc, pattern)
     }
 
+    /// The same engine, which shares program and groups. The one refusal is `Memory`. `O(1)`.
+    pub fn clone(&self) -> Result<PikeVM, MatchError>
+        ensures same { IfOk result (λ vm. vm ≡ self.now) }
+        ensures refused { IfErr result (λ error. error ≡ MatchError.Memory) }
+    {
+        Ok(PikeVM {
+            program: self.program.clone()?,
+            groups: self.groups.clone()?,
+            utf8_empty: self.utf8_empty,
+        })
+    }
+
     /// A cache for searches with it. The one refusal is `Memory`. It takes memory in proportion to
     /// the program's states and those of their automata.
-    pub fn create_cache(&self, alloc: Global) -> Result<Cache, MatchError>
+    pub fn create_cache(&self) -> Result<Cache, MatchError>
         ensures made { IfOk result (λ cache. IsCacheOf self.now.program cache) }
         ensures refused { IfErr result (λ error. error ≡ MatchError.Memory) }
     {
-        Cache::new(alloc, self)
+        Cache::new(self.program.allocator(), self)
     }
 
     /// Captures with slots for all groups, in which nothing is noted. The one refusal is `Memory`.
     /// `O(n)` in the number of groups.
-    pub fn create_captures(&self, alloc: Global) -> Result<Captures, MatchError>
+    pub fn create_captures(&self) -> Result<Captures, MatchError>
         ensures made { IfOk result (λ caps. caps
             ≡ nothing_noted self.now.groups (slot_len self.now.groups)) }
         ensures room { IfOk result (λ caps. 2 ≤ length caps.slots) }
         ensures refused { IfErr result (λ error. error ≡ MatchError.Memory) }
     {
-        Captures::all(alloc, &self.groups)
+        Captures::all(self.program.allocator(), &self.groups)
     }
 
     /// The groups of its pattern. `O(1)`.
@@ -354,14 +399,24 @@ impl Cache {
         })
     }
 
+    /// A cache for the same engine, which knows what this one knows. The one refusal is `Memory`.
+    pub fn clone(&self) -> Result<Cache, MatchError>
+        ensures same { IfOk result (λ cache. cache ≡ record self.now { followed = 0 }) }
+        ensures refused { IfErr result (λ error. error ≡ MatchError.Memory) }
+    {
+        Ok(Cache {
+            room: self.room.clone()?,
+        })
+    }
+
     /// Makes the cache one for searches with this engine. The one refusal is `Memory`; the cache is
     /// then as it was.
-    pub fn reset(&mut self, alloc: Global, vm: &PikeVM) -> Result<(), MatchError>
+    pub fn reset(&mut self, vm: &PikeVM) -> Result<(), MatchError>
         ensures made { OnOk result (IsCacheOf vm.now.program self.new) }
         ensures kept { OnErr result (self.new ≡ self.old) }
         ensures refused { IfErr result (λ error. error ≡ MatchError.Memory) }
     {
-        self.room.reset(alloc, &vm.program)
+        self.room.reset(&vm.program)
     }
 
     /// About how many bytes its lists take: a count that no contract fixes.
@@ -476,8 +531,9 @@ fn match_in(pattern: PatternID, slots: &[Option<NonMaxUsize>]) -> Option<Match>
     Some(Match::new(pattern, Span { start, end }))
 }
 
-/// The match that is found.
-fn find<C: Cursor>(
+/// The match that is found, as `search` notes it. The cache must be one for the engine. The one
+/// refusal is `Memory`.
+pub fn find<C: Cursor>(
     vm: &PikeVM,
     cache: &mut Cache,
     input: &mut Input<C>,
@@ -502,59 +558,89 @@ fn find<C: Cursor>(
     Ok(match_in(pattern, &slots))
 }
 
-/// The match that is found next where one ended at the span's start: an empty one there is passed
-/// over, and the search goes on one byte further.
-fn find_after_match<C: Cursor>(
+/// Whether this is an empty match where the last one ended.
+fn is_empty_at_last(found: &Match, last_match_end: Option<usize>) -> bool
+    ensures here { result ≡ true → (found.now.span.start ≡ found.now.span.end)
+        × (last_match_end ≡ Some found.now.span.end) }
+    ensures elsewhere { result ≡ false → found.now.span.start ≡ found.now.span.end
+        → last_match_end ≡ Some found.now.span.end → ⊥ }
+{
+    found.is_empty() && last_match_end == Some(found.end())
+}
+
+/// The match that comes next where the last one, if there was one, ended at `last_match_end`: an
+/// empty match there is passed over, and the search goes on one byte further than the span starts.
+/// The one refusal is `Memory`.
+pub fn find_next<C: Cursor>(
     vm: &PikeVM,
     cache: &mut Cache,
     input: &mut Input<C>,
+    last_match_end: Option<usize>,
 ) -> Result<Option<Match>, MatchError>
     requires made { IsCacheOf vm.now.program cache.old }
-    ensures answer { IfOk result (λ found. IsFoundAfter vm.now.program true
-        (search_of vm.now.utf8_empty input.old) found) }
+    ensures answer { IfOk result (λ found. IsFoundNext vm.now.program
+        (search_of vm.now.utf8_empty input.old) last_match_end found) }
+    ensures ahead { IfOk result (λ found. ForSome found (λ m. EndsAhead last_match_end
+        (search_of vm.now.utf8_empty input.old) m.span.end)) }
     ensures made { IsCacheOf vm.now.program cache.new }
     ensures same { (start : ℕ) × StartsFrom input.old input.new start }
     ensures refused { IfErr result (λ error. error ≡ MatchError.Memory) }
 {
     // A law, for the proof alone.
     finds_lie_inside::<CharacterSet>();
-    let start = input.start();
+    let _at = input.position(); // tells how long the content may be
     let Some(found) = find(vm, cache, input)? else {
         return Ok(None);
     };
-    let end = found.end();
-    let ends_further = end != start;
-    if ends_further {
+    if !is_empty_at_last(&found, last_match_end) {
         return Ok(Some(found));
     }
-    // Behind the span's end nothing is found.
-    let last = input.end();
-    let is_last = start == last;
-    if is_last {
-        return Ok(None);
-    }
+    let start = input.start();
     input.set_start(start + 1);
     find(vm, cache, input)
 }
 
-/// The match that is found next, after one that ended at the span's start, or as the first one.
-fn find_next<C: Cursor>(
+/// Notes the match that comes next, as `find_next` finds it, with all its groups, in captures of
+/// the engine's groups with two slots or more. The one refusal is `Memory`: then no pattern is
+/// noted.
+pub fn search_next<C: Cursor>(
     vm: &PikeVM,
     cache: &mut Cache,
     input: &mut Input<C>,
-    has_matched: bool,
-) -> Result<Option<Match>, MatchError>
+    caps: &mut Captures,
+    last_match_end: Option<usize>,
+) -> Result<(), MatchError>
     requires made { IsCacheOf vm.now.program cache.old }
-    ensures answer { IfOk result (λ found. IsFoundAfter vm.now.program has_matched
-        (search_of vm.now.utf8_empty input.old) found) }
+    requires groups { caps.old.groups ≡ vm.now.groups }
+    requires slots { 2 ≤ length caps.old.slots }
+    ensures answer { OnOk result (HasNotedNext vm.now.program
+        (search_of vm.now.utf8_empty input.old) last_match_end caps.new) }
+    ensures ordered { OnOk result (ForSome (group_span caps.new 0)
+        (λ span. span.start ≤ span.end)) }
+    ensures ahead { OnOk result (ForSome (match_found caps.new) (λ m. EndsAhead last_match_end
+        (search_of vm.now.utf8_empty input.old) m.span.end)) }
+    ensures groups { caps.new.groups ≡ caps.old.groups }
+    ensures slot_len { length caps.new.slots ≡ length caps.old.slots }
+    ensures no_answer { OnErr result (caps.new.pattern ≡ None) }
     ensures made { IsCacheOf vm.now.program cache.new }
     ensures same { (start : ℕ) × StartsFrom input.old input.new start }
     ensures refused { IfErr result (λ error. error ≡ MatchError.Memory) }
 {
-    if has_matched {
-        return find_after_match(vm, cache, input);
+    // Laws, for the proof alone.
+    matches_note_their_places();
+    finds_lie_inside::<CharacterSet>();
+    let _groups = vm.group_info(); // tells that the program is that of a tree
+    let _at = input.position(); // tells how long the content may be
+    search(vm, cache, input, caps)?;
+    let Some(found) = caps.get_match() else {
+        return Ok(());
+    };
+    if !is_empty_at_last(&found, last_match_end) {
+        return Ok(());
     }
-    find(vm, cache, input)
+    let from = input.start();
+    input.set_start(from + 1);
+    search(vm, cache, input, caps)
 }
 
 /// The matches in an input, one after the other. An empty match where the one before ended is
@@ -565,8 +651,8 @@ pub fn find_iter<'r, 'c, C: Cursor>(
     input: Input<C>,
 ) -> FindMatches<'r, 'c, C>
     requires made { IsCacheOf vm.now.program cache.old }
-    ensures left { left_of result
-        ≡ matches_from vm.now.program (search_of vm.now.utf8_empty input) }
+    ensures left { left_of result ≡ matches_from (search_of vm.now.utf8_empty input) }
+    ensures program { program_of result ≡ vm.now.program }
     ensures same_cache { (cache_of result).ghost_name ≡ cache.entry.ghost_name }
 {
     FindMatches::new(vm, cache, input)

@@ -7,6 +7,7 @@ use crate::states::State;
 use rx_sets::CharacterSet;
 use rx_util::StateID;
 use rx_walks::laws::program_walks_agree;
+use std::alloc::Global;
 use std::marker::Model;
 
 /// Patterns compiled to states over bytes. It comes from `compile` alone. Contracts see its
@@ -53,6 +54,11 @@ impl Program {
             patterns,
             line_terminator,
         }
+    }
+
+    /// What its lists take their memory from.
+    pub fn allocator(&self) -> Global {
+        *self.states.allocator()
     }
 
     /// The states, by number.

@@ -34,6 +34,13 @@ impl IdleBytes {
         }
     }
 
+    /// The same bytes.
+    pub(crate) fn copied(&self) -> IdleBytes
+        ensures { result ≡ self.now }
+    {
+        IdleBytes { known: self.known }
+    }
+
     /// Adds a byte, if there is one.
     pub(crate) fn insert(&mut self, byte: Option<u8>)
         ensures { (b : ℕ) → Knows self.new b → (byte ≡ Some b) ⊎ Knows self.old b }

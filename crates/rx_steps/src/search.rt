@@ -352,13 +352,33 @@ impl Cache {
         })
     }
 
+    /// A cache for searches with the same program, which knows what this one knows. The one
+    /// refusal is `Memory`. It takes memory as a new one does.
+    pub fn clone(&self) -> Result<Cache, MatchError>
+        ensures same { IfOk result (λ cache. cache ≡ record self.now { followed = 0 }) }
+        ensures refused { IfErr result (λ error. error ≡ MatchError.Memory) }
+    {
+        let alloc = self.walks.stepper.allocator();
+        Ok(Cache {
+            walks: Walks {
+                stepper: self.walks.stepper.another()?,
+                asks_looks: self.walks.asks_looks,
+                idle: self.walks.idle.copied(),
+                live: ThreadList::new(alloc, 0),
+                next: ThreadList::new(alloc, 0),
+                met: None,
+            },
+        })
+    }
+
     /// Makes the cache one for searches with this program. The one refusal is `Memory`; the cache
     /// is then as it was.
-    pub fn reset(&mut self, alloc: Global, program: &Program) -> Result<(), MatchError>
+    pub fn reset(&mut self, program: &Program) -> Result<(), MatchError>
         ensures made { OnOk result (IsCacheOf program.now self.new) }
         ensures kept { OnErr result (self.new ≡ self.old) }
         ensures refused { IfErr result (λ error. error ≡ MatchError.Memory) }
     {
+        let alloc = self.walks.stepper.allocator();
         self.walks.stepper = Stepper::new(alloc, program)?;
         self.walks.asks_looks = asks_looks(program.states());
         self.walks.idle = IdleBytes::new();

@@ -228,6 +228,26 @@ impl Stepper {
         })
     }
 
+    /// Room for steps of the same program, of which none was made yet. The one refusal is
+    /// `Memory`.
+    pub(crate) fn another(&self) -> Result<Stepper, MatchError>
+        ensures widths { IfOk result (λ stepper. stepper.widths ≡ self.now.widths) }
+        ensures followed { IfOk result (λ stepper. stepper.followed ≡ 0) }
+        ensures refused { IfErr result (λ error. error ≡ MatchError.Memory) }
+    {
+        Ok(Stepper {
+            closure: Closure {
+                visited: self.closure.visited.another()?,
+                pending: Pending::new(self.allocator()),
+            },
+        })
+    }
+
+    /// What its lists take their memory from.
+    pub(crate) fn allocator(&self) -> Global {
+        self.closure.visited.allocator()
+    }
+
     /// About how many bytes its lists take.
     pub(crate) fn memory_usage(&self) -> usize {
         self.closure

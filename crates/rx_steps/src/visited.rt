@@ -91,6 +91,26 @@ impl Visited {
         })
     }
 
+    /// The empty set, for the nodes of the same program.
+    pub(crate) fn another(&self) -> Result<Visited, MatchError>
+        ensures widths { IfOk result (λ v. v.widths ≡ self.now.widths) }
+        ensures followed { IfOk result (λ v. v.followed ≡ 0) }
+        ensures refused { IfErr result (λ error. error ≡ MatchError.Memory) }
+    {
+        let mut set = self.set.clone()?;
+        set.clear();
+        Ok(Visited {
+            starts: self.starts.clone()?,
+            set,
+            followed: Followed::new(),
+        })
+    }
+
+    /// What its lists take their memory from.
+    pub(crate) fn allocator(&self) -> Global {
+        *self.starts.allocator()
+    }
+
     /// Empties the set.
     pub(crate) fn clear(&mut self)
         ensures widths { self.new.widths ≡ self.old.widths }

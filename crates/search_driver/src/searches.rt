@@ -65,8 +65,8 @@ fn search_all<'a>(
     requires { length (joined pieces.now) < 2 ^ 63 }
 {
     let found = spans(alloc, vm, input(pieces, asked))?;
-    let mut cache = vm.create_cache(alloc)?;
-    let mut caps = vm.create_captures(alloc)?;
+    let mut cache = vm.create_cache()?;
+    let mut caps = vm.create_captures()?;
     tell_all(
         alloc,
         vm,
@@ -89,7 +89,7 @@ fn is_match(
 {
     let is_match = pikevm::is_match(vm, cache, input)?;
     let pattern = pikevm::search_slots(vm, cache, input, &mut [None; 1])?;
-    cache.reset(alloc, vm)?;
+    cache.reset(vm)?;
     if pattern.is_some() != is_match || cache.memory_usage() == 0 {
         return Err(Fault::Differs);
     }
@@ -133,7 +133,7 @@ fn spans<'a>(
     vm: &'a PikeVM,
     input: Input<ChunkCursor<'a>>,
 ) -> Result<Vec<Match>, Fault> {
-    let mut cache = vm.create_cache(alloc)?;
+    let mut cache = vm.create_cache()?;
     let mut found = Vec::new(alloc);
     for next in pikevm::find_iter(vm, &mut cache, input) {
         found.push(next?).map_err(|_| Fault::Memory)?;

@@ -25,7 +25,7 @@ pub fn noted(alloc: Global, fields: &Fields) -> Result<String, Fault> {
     let vm = engine(alloc, fields)?;
     let asked = Asked::read(fields, ASKED);
     let pieces = pieces(alloc, &haystack, fields.word(CUT))?;
-    let mut cache = vm.create_cache(alloc)?;
+    let mut cache = vm.create_cache()?;
     let mut slots = used_slots(alloc, fields.number(COUNT).unwrap_or(0))?;
     let mut input = input(&pieces, &asked);
     let mut out = match pikevm::search_slots(&vm, &mut cache, &mut input, &mut slots)? {

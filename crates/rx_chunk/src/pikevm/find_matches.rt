@@ -17,8 +17,7 @@ pub struct FindMatches<'r, 'c, C: Cursor> {
     cache: &'c mut Cache,
     // The span starts where the last match ended.
     input: Input<C>,
-    // A match ended there.
-    has_matched: bool,
+    last_match_end: Option<usize>,
     // No more come.
     is_over: bool,
     ghost serves: { IsCacheOf vm.now.program cache.now },
@@ -28,7 +27,7 @@ impl<'r, 'c, C: Cursor> FindMatches<'r, 'c, C> {
     ghost use Rattle.std.specs.Prelude.{◌≡◌};
     ghost use Rattle.rx_steps.specs.Searching.{search_of};
     ghost use Rattle.rx_chunk.specs.Iterating.{matches_from};
-    ghost use Rattle.rx_chunk.specs.FindMatches.{cache_of, left_of};
+    ghost use Rattle.rx_chunk.specs.FindMatches.{cache_of, left_of, program_of};
 
     /// None of the matches in an input has come yet.
     pub(super) fn new(
@@ -37,15 +36,15 @@ impl<'r, 'c, C: Cursor> FindMatches<'r, 'c, C> {
         input: Input<C>,
     ) -> FindMatches<'r, 'c, C>
         requires made { IsCacheOf vm.now.program cache.old }
-        ensures left { left_of result
-            ≡ matches_from vm.now.program (search_of vm.now.utf8_empty input) }
+        ensures left { left_of result ≡ matches_from (search_of vm.now.utf8_empty input) }
+        ensures program { program_of result ≡ vm.now.program }
         ensures same_cache { (cache_of result).ghost_name ≡ cache.entry.ghost_name }
     {
         FindMatches {
             vm,
             cache,
             input,
-            has_matched: false,
+            last_match_end: None,
             is_over: false,
         }
     }
@@ -67,11 +66,11 @@ impl<'r, 'c, C: Cursor + Drop> Iterator for FindMatches<'r, 'c, C> {
         }
         // A law, for the proof alone.
         finds_lie_inside::<CharacterSet>();
-        match find_next(self.vm, self.cache, &mut self.input, self.has_matched) {
+        match find_next(self.vm, self.cache, &mut self.input, self.last_match_end) {
             Ok(Some(found)) => {
                 let end = found.end();
                 self.input.set_start(end);
-                self.has_matched = true;
+                self.last_match_end = Some(end);
                 Some(Ok(found))
             }
             Ok(None) => {

@@ -1,11 +1,11 @@
-use Rattle.std.proofs.Common.{◌≡◌, ◌≤◌, ◌<◌, ◌^◌, false, Some, length, sym, ap, subst, ◌∙◌, arith}
+use Rattle.std.proofs.Common.{◌≡◌, ◌≤◌, ◌<◌, ◌^◌, None, Some, length, sym, ap, subst, ◌∙◌, arith}
 use Rattle.rx_util.specs.Captured.{Captured}
 use Rattle.rx_steps.specs.Searching.{search_of, IsAnswer}
 use Rattle.rx_chunk.specs.Engines.{IsFound}
-use Rattle.rx_chunk.specs.Iterating.{IsFoundAfter}
+use Rattle.rx_chunk.specs.Iterating.{IsFoundNext}
 use Rattle.rx_chunk.proofs.EngineLaws.{lent_slots}
 use Rattle.rx_chunk.proofs.FoundLaws.{AreFound, captured_found}
-use Rattle.rx_chunk.proofs.IterLaws.{found_ends}
+use Rattle.rx_chunk.proofs.IterLaws.{found_ends, found_first}
 use Rattle.rx_chunk.proofs.pikevm.search.Goals as goal
 
 -- the answer in the captures as they are left
@@ -44,8 +44,8 @@ returns-clause-inside g c = λ same two a is.
     let i = c.args.input.now in
     let p = c.args.vm.now.program in
     let s = search_of c.args.vm.now.utf8_empty i in
-    let found : IsFoundAfter p false s (Some a) = subst (λ o. IsFound p s o) is (told g c same two).found in
-    let ends = found_ends p false s a c.finds_lie_inside.ensures found in
+    let found : IsFoundNext p s None (Some a) = found_first p s (Some a) (subst (λ o. IsFound p s o) is (told g c same two).found) in
+    let ends = found_ends p None s a c.finds_lie_inside.ensures found in
     let content : length i.cursor.content < 2 ^ 63 = c.position-at.ensures.holds.lawful.bound in
     record { behind_start = ends.on; before_end = ends.in_span; fits = omega (arith, ends.in_content, content) }
 
