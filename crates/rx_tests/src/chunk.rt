@@ -10,8 +10,8 @@ use std::test::Fail;
 #[test]
 fn groups_and_matches(rt: HostRuntime) -> Result<(), Fail> {
     let vm = PikeVM::new(rt.alloc(), r"(?<name>\w+)@(\w+)")?;
-    let mut cache = vm.create_cache(rt.alloc())?;
-    let mut caps = vm.create_captures(rt.alloc())?;
+    let mut cache = vm.create_cache()?;
+    let mut caps = vm.create_captures()?;
     let pieces: [&[u8]; 3] = [b"a frog@pond, ", b"to", b"ad@road"];
     let mut input = Input::new(ChunkCursor::new(&pieces));
     pikevm::search(&vm, &mut cache, &mut input, &mut caps)?;

@@ -17,8 +17,8 @@ fn find(alloc: Global, vm: &PikeVM, input: &mut Input<&str>) -> Result<Option<Ma
     ensures inside { IfOk result (λ found. ForSome found
         (λ m. EndsInside input.old m.span.end)) }
 {
-    let mut cache = vm.create_cache(alloc)?;
-    let mut caps = vm.create_captures(alloc)?;
+    let mut cache = vm.create_cache()?;
+    let mut caps = vm.create_captures()?;
     pikevm::search(vm, &mut cache, input, &mut caps)?;
     Ok(caps.get_match())
 }

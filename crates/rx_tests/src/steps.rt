@@ -168,7 +168,7 @@ fn a_cache_for_another_program(rt: HostRuntime) -> Result<(), Fail> {
     let mut cache = Cache::new(alloc, &first)?;
     assert!(rt; found_with(&first, &mut cache, alloc)?.as_str() == "4 5");
     assert!(rt; found_with(&first, &mut cache, alloc)?.as_str() == "4 5");
-    cache.reset(alloc, &second)?;
+    cache.reset(&second)?;
     assert!(rt; found_with(&second, &mut cache, alloc)?.as_str() == "1 2");
     Ok(())
 }

@@ -1,0 +1,2 @@
+pub mod ShowingLaws
+pub mod PlaceLaws

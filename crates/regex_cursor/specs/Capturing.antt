@@ -1,0 +1,28 @@
+-- What the iterator over matches with their groups gives.
+use Rattle.std.specs.Prelude.{◌≡◌, Option, Result}
+use Rattle.rx_util.specs.declared.search.MatchError.{MatchError}
+use Rattle.rx_util.specs.Captured.{Captured}
+use Rattle.rx_util.specs.Groups.{slot_len}
+use Rattle.rx_input.specs.declared.cursor.Cursor.{Ghosts}
+use Rattle.rx_chunk.specs.Iterating.{MatchesLeft, GivesNext, captured_of}
+use Rattle.regex_cursor.specs.declared.engines.meta.captures_matches.CapturesMatches.{CapturesMatches}
+use Rattle.regex_cursor.specs.Regexes.{Engine, search_by}
+
+-- the regex that an iterator searches for, and what it has left
+abbrev pub regex_of : {C : Type 0} {cursor : Ghosts C} → CapturesMatches C cursor → Engine
+regex_of m = m.re.now
+
+abbrev pub left_of : {C : Type 0} {cursor : Ghosts C} → CapturesMatches C cursor → MatchesLeft
+left_of m = record {
+  search = search_by m.re.now m.input;
+  last_end = m.last_match_end;
+  is_over = m.is_over;
+}
+
+-- a step of the iterator, which searches for the same regex on: of each match it tells all slots of
+-- its groups
+pub record Gives {C : Type 0} {cursor : Ghosts C} (m : CapturesMatches C cursor)
+    (item : Option (Result Captured MatchError)) (n : CapturesMatches C cursor) : Type 0 where
+  pub next : GivesNext (regex_of m).program
+      (captured_of (regex_of m).groups (slot_len (regex_of m).groups)) (left_of m) item (left_of n)
+  pub same_regex : regex_of n ≡ regex_of m

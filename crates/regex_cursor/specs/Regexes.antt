@@ -1,0 +1,69 @@
+-- A regex: of what it was built, and what its searches tell.
+use Rattle.std.specs.Prelude.{◌≡◌, ℕ, ◌≤◌, false, List, length, Option, Some, is_some}
+use Rattle.std.specs.Option.{ForSome}
+use Rattle.rx_util.specs.Search.{Found}
+use Rattle.rx_util.specs.Captured.{Captured, group_span, match_found}
+use Rattle.rx_util.specs.Groups.{slot_len}
+use Rattle.rx_input.specs.Inputs.{InputState}
+use Rattle.rx_input.specs.Searchers.{EndsInside}
+use Rattle.rx_grammar.specs.Settings.{default_settings}
+use Rattle.rx_walks.specs.Finds.{Search}
+use Rattle.rx_program.specs.declared.error.BuildError.{BuildError}
+use Rattle.rx_steps.specs.Caches as cache
+use Rattle.rx_steps.specs.Caches.{CacheView}
+use Rattle.rx_steps.specs.Searching.{search_of, IsAnswer}
+-- a regex is seen as an engine is
+pub use Rattle.rx_chunk.specs.Engines.{Engine, Wanted, IsFound, TellsWhether}
+use Rattle.rx_chunk.specs.Engines.{IsBuiltOf, IsEngine, IsRefused, nothing_set}
+
+-- its program and its groups are those of one tree
+abbrev pub IsRegex : Engine → Type 0
+IsRegex re = IsEngine re
+
+-- the default settings of a regex: 40 times a pattern's weight is at most 10,485,760
+abbrev pub regex_settings : Wanted
+regex_settings = record {
+  settings = record nothing_set { nfa_size_limit = Some (Some 10485760) };
+  syntax = default_settings;
+}
+
+-- it was built of a pattern, given as its bytes
+abbrev pub IsRegexOf : List ℕ → Engine → Type 0
+IsRegexOf text re = IsBuiltOf text regex_settings re
+
+-- why a pattern has no regex
+abbrev pub IsRefusedAsRegex : List ℕ → BuildError → Type 0
+IsRefusedAsRegex text error = IsRefused text regex_settings error
+
+-- a cache made for a regex
+abbrev pub IsCacheOf : Engine → CacheView → Type 0
+IsCacheOf re c = cache.IsCacheOf re.program c
+
+-- the search that an input asks a regex for
+abbrev pub search_by : Engine → InputState → Search
+search_by re i = search_of re.utf8_empty i
+
+-- a search tells whether there is a match; and which one it is, unless any will do
+pub record TellsMatch (re : Engine) (i : InputState) (found : Option Found) : Type 0 where
+  pub whether : TellsWhether re.program (search_by re i) (is_some found)
+  pub exact : i.asked.earliest ≡ false → IsFound re.program (search_by re i) found
+
+-- the same of the pattern and of the places that are noted in slots
+pub record TellsSlots (re : Engine) (i : InputState) (pattern : Option ℕ) (slots : List (Option ℕ))
+    : Type 0 where
+  pub whether : TellsWhether re.program (search_by re i) (is_some pattern)
+  pub exact : i.asked.earliest ≡ false → IsAnswer re.program (search_by re i) pattern slots
+
+-- captures of the regex's groups with slots for the whole match
+abbrev pub HoldsMatches : Engine → Captured → Type 0
+HoldsMatches re caps = (caps.groups ≡ re.groups) × (2 ≤ length caps.slots)
+
+-- captures of the regex's groups with slots for all of them
+abbrev pub HasRoom : Engine → Captured → Type 0
+HasRoom re caps = HoldsMatches re caps × (length caps.slots ≡ slot_len re.groups)
+
+-- captures for matches tell the whole match, which doesn't end before it starts, and ends in the span
+pub record TellsWhole (re : Engine) (i : InputState) (caps : Captured) : Type 0 where
+  pub match : TellsMatch re i (match_found caps)
+  pub ordered : ForSome (group_span caps 0) (λ span. span.start ≤ span.end)
+  pub inside : ForSome (match_found caps) (λ found. EndsInside i found.span.end)

@@ -1,0 +1,51 @@
+-- A cursor over a slice of a rope: an iterator over its chunks, behind the one that is shown.
+use Rattle.std.specs.Prelude.{◌≡◌, ℕ, ◌+◌, ◌^◌, ◌<◌, true, List, [], ◌∷◌, ◌++◌, length, reverse, encode_utf8_all}
+use Rattle.std.specs.Str.{chars, IsUtf8}
+use Rattle.str_indices.specs.Text.{byte_len}
+use Rattle.ropey_walk.specs.Chunks.{piece_of, text_of}
+use Rattle.ropey_walk.specs.TwoWay.{TwoWay}
+use Rattle.rx_input.specs.Cursors.{CursorState}
+
+-- all chunks, those behind a place and those ahead of it
+abbrev pub all_chunks : TwoWay (List ℕ) → List (List ℕ)
+all_chunks place = reverse place.behind ++ place.ahead
+
+-- of their bytes these are shown, which start there
+abbrev pub showing : TwoWay (List ℕ) → ℕ → List ℕ → CursorState
+showing chunks offset shown = record {
+  content = encode_utf8_all (text_of (all_chunks chunks));
+  is_sized = true;
+  start = offset;
+  end = offset + length shown;
+}
+
+-- each of the chunks has characters
+abbrev pub AreFilled : List (List ℕ) → Type 0
+AreFilled chunks = (front back : List (List ℕ)) (chunk : List ℕ) → chunks ≡ front ++ chunk ∷ back
+    → chunk ≡ [] → ⊥
+
+-- The iterator stands behind the chunk that is shown, which starts at that byte. Only where there
+-- is no chunk an empty one is shown.
+pub record IsShowing (place : TwoWay (List ℕ)) (shown : List ℕ) (offset len : ℕ) : Type 0 where
+  -- the chunks before it, the nearest first
+  pub earlier : List (List ℕ)
+  pub stands : place.behind ≡ piece_of (chars shown) ++ earlier
+  pub some : chars shown ≡ [] → (earlier ≡ []) × (place.ahead ≡ [])
+  pub filled : AreFilled (all_chunks place)
+  pub utf8 : IsUtf8 shown
+  pub offset_is : offset ≡ byte_len (text_of (reverse earlier))
+  pub len_is : len ≡ byte_len (text_of (all_chunks place))
+  pub bound : len < 2 ^ 63
+
+-- The iterator stands at that byte, before a chunk that can be shown, or there is no chunk.
+pub record MayShowNext (place : TwoWay (List ℕ)) (offset len : ℕ) : Type 0 where
+  pub some : place.ahead ≡ [] → place.behind ≡ []
+  pub filled : AreFilled (all_chunks place)
+  pub offset_is : offset ≡ byte_len (text_of (reverse place.behind))
+  pub len_is : len ≡ byte_len (text_of (all_chunks place))
+  pub bound : len < 2 ^ 63
+
+-- the chunk that is first of these ends there, or none is first and it is the start
+abbrev pub EndsFirst : List (List ℕ) → ℕ → ℕ → Type 0
+EndsFirst [] start end = end ≡ start
+EndsFirst (chunk ∷ chunks) start end = end ≡ start + byte_len chunk

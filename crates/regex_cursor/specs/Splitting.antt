@@ -1,0 +1,76 @@
+-- What the iterators over the parts between matches give.
+use Rattle.std.specs.Prelude.{◌≡◌, ℕ, ◌+◌, ◌<◌, ◌≤◌, Bool, true, false, List, length, min, Option, Some, None, Result, Ok, Err}
+use Rattle.std.specs.Iterator.{Count, at_most, size}
+use Rattle.rx_util.specs.declared.search.MatchError.{MatchError}
+use Rattle.rx_util.specs.declared.search.MatchError.TheVariants.{Memory}
+use Rattle.rx_util.specs.declared.search.Span.{Span}
+use Rattle.rx_util.specs.Search.{Found}
+use Rattle.rx_input.specs.declared.cursor.Cursor.{Ghosts}
+use Rattle.rx_walks.specs.Finds.{Search}
+use Rattle.rx_program.specs.Programs.{ByteProgram}
+use Rattle.rx_chunk.specs.Engines.{match_of}
+use Rattle.rx_chunk.specs.Iterating.{MatchesLeft, GivesNext, matches_left}
+use Rattle.regex_cursor.specs.declared.engines.meta.split.Split.{Split}
+use Rattle.regex_cursor.specs.Iterating as iterating
+use Rattle.regex_cursor.specs.Regexes.{Engine}
+
+-- what is left to an iterator over parts: the matches that are left, where the next part starts,
+-- and whether no more come
+pub record PartsLeft : Type 0 where
+  pub matches : MatchesLeft
+  pub last : ℕ
+  pub is_over : Bool
+
+-- all of them
+abbrev pub parts_of : MatchesLeft → PartsLeft
+parts_of m = record { matches = m; last = 0; is_over = false }
+
+-- where a search ends: where its span does, but at most where its content does
+abbrev pub end_of_search : Search → ℕ
+end_of_search s = min s.end (length s.content)
+
+abbrev pub between : ℕ → ℕ → Span
+between start end = record { start = start; end = end }
+
+-- the last part, from one place to another; there is none where it would end before it starts
+pub data EndsWith (start end : ℕ) : Option Span → Type 0 where
+  part : start ≤ end → EndsWith start end (Some (between start end))
+  none : end < start → EndsWith start end None
+
+-- a step of the iterator: up to each match a part, and behind the last match the last part; a
+-- refusal is want of memory, and behind it none comes
+pub data SplitsOff (p : ByteProgram) (m n : PartsLeft) : Option (Result Span MatchError) → Type 0
+  where
+    over : m.is_over ≡ true → n ≡ m → SplitsOff p m n None
+    at_match : {a : Found} → m.is_over ≡ false
+        → GivesNext p match_of m.matches (Some (Ok a)) n.matches
+        → n.last ≡ a.span.end → n.is_over ≡ false
+        → SplitsOff p m n (Some (Ok (between m.last a.span.start)))
+    at_end : {part : Span} → m.is_over ≡ false
+        → GivesNext {A = Found} p match_of m.matches None n.matches
+        → EndsWith m.last (end_of_search n.matches.search) (Some part) → n.is_over ≡ true
+        → SplitsOff p m n (Some (Ok part))
+    no_end : m.is_over ≡ false → GivesNext {A = Found} p match_of m.matches None n.matches
+        → EndsWith m.last (end_of_search n.matches.search) None → n.is_over ≡ true
+        → SplitsOff p m n None
+    refused : m.is_over ≡ false → n.is_over ≡ true → SplitsOff p m n (Some (Err Memory))
+
+abbrev pub left_of : {C : Type 0} {cursor : Ghosts C} → Split C cursor → PartsLeft
+left_of m = record { matches = iterating.left_of m.finder; last = m.last; is_over = m.is_over }
+
+abbrev pub regex_of : {C : Type 0} {cursor : Ghosts C} → Split C cursor → Engine
+regex_of m = iterating.regex_of m.finder
+
+-- a step of the iterator, which searches for the same regex on
+pub record Gives {C : Type 0} {cursor : Ghosts C} (m : Split C cursor)
+    (item : Option (Result Span MatchError)) (n : Split C cursor) : Type 0 where
+  pub next : SplitsOff (regex_of m).program (left_of m) (left_of n) item
+  pub same_regex : regex_of n ≡ regex_of m
+
+-- at most one part more comes than matches
+abbrev pub parts_left_by : Bool → ℕ → ℕ
+parts_left_by true matches = 0
+parts_left_by false matches = matches + 1
+
+abbrev pub parts_left : PartsLeft → Count
+parts_left m = at_most (parts_left_by m.is_over (size (matches_left m.matches)))

@@ -1,0 +1,36 @@
+-- What the iterator over at most so many parts gives.
+use Rattle.std.specs.Prelude.{◌≡◌, ℕ, ◌+◌, ◌<◌, true, false, Option, Some, None, Result, Ok}
+use Rattle.std.specs.Iterator.{Count, at_most}
+use Rattle.rx_util.specs.declared.search.MatchError.{MatchError}
+use Rattle.rx_util.specs.declared.search.Span.{Span}
+use Rattle.rx_input.specs.declared.cursor.Cursor.{Ghosts}
+use Rattle.rx_program.specs.Programs.{ByteProgram}
+use Rattle.regex_cursor.specs.declared.engines.meta.split.SplitN.{SplitN}
+use Rattle.regex_cursor.specs.Splitting.{PartsLeft, EndsWith, SplitsOff, end_of_search, left_of, regex_of}
+
+-- an item that is a part, or none
+abbrev pub told_part : Option Span → Option (Result Span MatchError)
+told_part None = None
+told_part (Some part) = Some (Ok part)
+
+-- a step where so many parts may still come: the next one of all parts, and as the last of so many
+-- the one to the end
+pub data SplitsFew (p : ByteProgram) (m n : PartsLeft) : ℕ → ℕ → Option (Result Span MatchError)
+    → Type 0 where
+  enough : n ≡ m → SplitsFew p m n 0 0 None
+  some : {limit : ℕ} {item : Option (Result Span MatchError)} → 0 < limit → SplitsOff p m n item
+      → SplitsFew p m n (limit + 1) limit item
+  over : m.is_over ≡ true → n ≡ m → SplitsFew p m n 1 0 None
+  last_one : {part : Option Span} → m.is_over ≡ false
+      → EndsWith m.last (end_of_search m.matches.search) part
+      → n ≡ record m { is_over = true } → SplitsFew p m n 1 0 (told_part part)
+
+-- a step of the iterator, which searches for the same regex on
+pub record GivesFew {C : Type 0} {cursor : Ghosts C} (m : SplitN C cursor)
+    (item : Option (Result Span MatchError)) (n : SplitN C cursor) : Type 0 where
+  pub next : SplitsFew (regex_of m.splits).program (left_of m.splits) (left_of n.splits) m.limit
+      n.limit item
+  pub same_regex : regex_of n.splits ≡ regex_of m.splits
+
+abbrev pub few_left : ℕ → Count
+few_left limit = at_most limit

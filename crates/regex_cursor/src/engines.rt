@@ -1,0 +1,5 @@
+//! Engines that search for a regular expression.
+
+pub mod meta;
+
+pub use rx_chunk::pikevm;

@@ -1,0 +1,16 @@
+//! The regex that users take: it chooses among the engines.
+
+mod builder;
+mod cache;
+mod captures_matches;
+mod find_matches;
+mod regex;
+mod split;
+
+pub use builder::Builder;
+pub use cache::Cache;
+pub use captures_matches::CapturesMatches;
+pub use find_matches::FindMatches;
+pub use regex::Regex;
+pub use rx_program::BuildError;
+pub use split::{Split, SplitN};

@@ -1,0 +1,38 @@
+//! What builds a regex.
+
+ghost use Rattle.std.specs.Prelude.{IfErr, IfOk};
+ghost use Rattle.regex_cursor.specs.Regexes.{IsRefusedAsRegex, IsRegexOf};
+
+use super::regex::Regex;
+use rx_chunk::pikevm;
+use rx_program::BuildError;
+use std::alloc::Global;
+
+/// How large a program may be by default: 40 times its weight is at most this, so that a pattern
+/// may weigh 262,144.
+const NFA_SIZE_LIMIT: usize = 10_485_760;
+
+/// Builds a `Regex` of a pattern, with the default settings.
+#[derive(Clone, Copy, Debug, Default)]
+pub struct Builder {}
+
+impl Builder {
+    /// Nothing is set.
+    pub fn new() -> Builder {
+        Builder {}
+    }
+
+    /// The regex for a pattern. There is none for a pattern of more than 65,536 bytes (`TooLong`),
+    /// one that would be a pattern at a greater nest limit (`Nesting`), one outside the grammar
+    /// (`Outside`), and one that weighs more than 262,144 (`Size`). `Memory` may be told in place
+    /// of the regex and of each refusal but the first. It takes time and memory in proportion to
+    /// the pattern's weight and to the automata of its sets.
+    pub fn build(&self, alloc: Global, pattern: &str) -> Result<Regex, BuildError>
+        ensures built { IfOk result (λ re. IsRegexOf pattern.now re) }
+        ensures refused { IfErr result (λ error. IsRefusedAsRegex pattern.now error) }
+    {
+        let mut builder = pikevm::Builder::new();
+        builder.configure(pikevm::Config::new().nfa_size_limit(Some(NFA_SIZE_LIMIT)));
+        Ok(Regex::over(builder.build(alloc, pattern)?))
+    }
+}

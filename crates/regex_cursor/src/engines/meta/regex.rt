@@ -1,0 +1,331 @@
+//! A regular expression that is searched for.
+
+ghost use Rattle.std.specs.Prelude.{◌≡◌, ◌+◌, ◌≤◌, IfErr, IfOk, None, OnErr, OnOk, length};
+ghost use Rattle.rx_input.specs.Cursors.{IsSameContent};
+ghost use Rattle.rx_util.specs.declared.search.MatchError.{MatchError};
+ghost use Rattle.rx_util.specs.Captured.{nothing_noted};
+ghost use Rattle.rx_util.specs.Groups.{group_len, slot_len};
+ghost use Rattle.regex_cursor.specs.Capturing as capturing;
+ghost use Rattle.regex_cursor.specs.Splitting as splitting;
+ghost use Rattle.regex_cursor.specs.Iterating.{left_of, matches_from, regex_of};
+ghost use Rattle.regex_cursor.specs.Regexes.{HasRoom, HoldsMatches, IsCacheOf, IsRefusedAsRegex, IsRegex, IsRegexOf, TellsMatch, TellsSlots, TellsWhether, TellsWhole, search_by};
+
+use super::builder::Builder;
+use super::cache::Cache;
+use super::captures_matches::CapturesMatches;
+use super::find_matches::FindMatches;
+use super::split::{Split, SplitN};
+use rx_chunk::pikevm::{self, PikeVM};
+use rx_input::{Cursor, Input};
+use rx_program::BuildError;
+use rx_util::{Captures, GroupInfo, Match, MatchError, NonMaxUsize, PatternID};
+use std::alloc::Global;
+use std::marker::Model;
+
+/// A regular expression that is searched for in contents that lie in pieces. Contracts see its
+/// program, its groups, and that it passes over empty matches inside a character.
+///
+/// The plain calls make a cache each, which takes memory and time in proportion to the pattern's
+/// program; those named `_with` are handed one, and take none of either for it.
+#[derive(Debug, Drop)]
+pub struct Regex {
+    vm: PikeVM,
+}
+
+impl Model for Regex {
+    ghost use Rattle.regex_cursor.specs.Regexes.{Engine};
+
+    ghost Value = { Engine };
+
+    ghost view = { λ re. re.vm };
+}
+
+impl Regex {
+    /// The regex for a pattern, with the default settings, and refused as by `Builder::build`.
+    pub fn new(alloc: Global, pattern: &str) -> Result<Regex, BuildError>
+        ensures built { IfOk result (λ re. IsRegexOf pattern.now re) }
+        ensures refused { IfErr result (λ error. IsRefusedAsRegex pattern.now error) }
+    {
+        Regex::builder().build(alloc, pattern)
+    }
+
+    /// A builder with the default settings.
+    pub fn builder() -> Builder {
+        Builder::new()
+    }
+
+    /// A regex that searches by an engine.
+    pub(super) fn over(vm: PikeVM) -> Regex
+        ensures { result ≡ vm }
+    {
+        Regex { vm }
+    }
+
+    /// The engine.
+    pub(super) fn vm(&self) -> &PikeVM
+        ensures { result.now ≡ self.now }
+    {
+        &self.vm
+    }
+
+    /// The same regex, which shares what it was compiled to. The one refusal is `Memory`. `O(1)`.
+    pub fn clone(&self) -> Result<Regex, MatchError>
+        ensures same { IfOk result (λ re. re ≡ self.now) }
+        ensures refused { IfErr result (λ error. error ≡ MatchError.Memory) }
+    {
+        Ok(Regex {
+            vm: self.vm.clone()?,
+        })
+    }
+
+    /// Whether there is a match. The one refusal is `Memory`.
+    pub fn is_match<C: Cursor + Drop>(&self, mut input: Input<C>) -> Result<bool, MatchError>
+        ensures answer { IfOk result (λ yes. TellsWhether self.now.program
+            (search_by self.now input) yes) }
+        ensures refused { IfErr result (λ error. error ≡ MatchError.Memory) }
+    {
+        let mut cache = self.create_cache()?;
+        pikevm::is_match(&self.vm, &mut cache.vm, &mut input)
+    }
+
+    /// The match that is found, as by `search`.
+    pub fn find<C: Cursor + Drop>(&self, input: Input<C>) -> Result<Option<Match>, MatchError>
+        ensures answer { IfOk result (λ found. TellsMatch self.now input found) }
+        ensures refused { IfErr result (λ error. error ≡ MatchError.Memory) }
+    {
+        self.search(input)
+    }
+
+    /// Notes what is found with all its groups, as by `search_captures`.
+    pub fn captures<C: Cursor + Drop>(
+        &self,
+        input: Input<C>,
+        caps: &mut Captures,
+    ) -> Result<(), MatchError>
+        ensures answer { OnOk result
+            (TellsSlots self.now input caps.new.pattern caps.new.slots) }
+        ensures whole { HoldsMatches self.now caps.old
+            → OnOk result (TellsWhole self.now input caps.new) }
+        ensures groups { caps.new.groups ≡ caps.old.groups }
+        ensures slot_len { length caps.new.slots ≡ length caps.old.slots }
+        ensures no_answer { OnErr result (caps.new.pattern ≡ None) }
+        ensures refused { IfErr result (λ error. error ≡ MatchError.Memory) }
+    {
+        self.search_captures(input, caps)
+    }
+
+    /// All matches in an input, one after the other, also where its `earliest` is set. An empty
+    /// match where the one before ended is passed over. The one refusal is `Memory`.
+    pub fn find_iter<'r, C: Cursor + Drop>(
+        &'r self,
+        input: Input<C>,
+    ) -> Result<FindMatches<'r, C>, MatchError>
+        ensures left { IfOk result (λ m. left_of m ≡ matches_from (search_by self.now input)) }
+        ensures regex { IfOk result (λ m. regex_of m ≡ self.now) }
+        ensures refused { IfErr result (λ error. error ≡ MatchError.Memory) }
+    {
+        let cache = self.create_cache()?;
+        Ok(FindMatches::new(self, cache, input))
+    }
+
+    /// All matches in an input with their groups, as by `find_iter`. Each item has captures of its
+    /// own. The one refusal is `Memory`.
+    pub fn captures_iter<'r, C: Cursor + Drop>(
+        &'r self,
+        input: Input<C>,
+    ) -> Result<CapturesMatches<'r, C>, MatchError>
+        ensures left { IfOk result
+            (λ m. capturing.left_of m ≡ matches_from (search_by self.now input)) }
+        ensures regex { IfOk result (λ m. capturing.regex_of m ≡ self.now) }
+        ensures refused { IfErr result (λ error. error ≡ MatchError.Memory) }
+    {
+        let cache = self.create_cache()?;
+        let caps = self.create_captures()?;
+        Ok(CapturesMatches::new(self, cache, caps, input))
+    }
+
+    /// The parts between the matches, from 0 to the end of the input's span, at most to that of its
+    /// content. The one refusal is `Memory`.
+    pub fn split<'r, C: Cursor + Drop>(
+        &'r self,
+        input: Input<C>,
+    ) -> Result<Split<'r, C>, MatchError>
+        ensures left { IfOk result (λ m. splitting.left_of m
+            ≡ splitting.parts_of (matches_from (search_by self.now input))) }
+        ensures regex { IfOk result (λ m. splitting.regex_of m ≡ self.now) }
+        ensures refused { IfErr result (λ error. error ≡ MatchError.Memory) }
+    {
+        Ok(Split::new(self.find_iter(input)?))
+    }
+
+    /// The same parts, at most as many as the limit: the last of so many goes to the end. The one
+    /// refusal is `Memory`.
+    pub fn splitn<'r, C: Cursor + Drop>(
+        &'r self,
+        input: Input<C>,
+        limit: usize,
+    ) -> Result<SplitN<'r, C>, MatchError>
+        ensures left { IfOk result (λ m. splitting.left_of m.splits
+            ≡ splitting.parts_of (matches_from (search_by self.now input))) }
+        ensures regex { IfOk result (λ m. splitting.regex_of m.splits ≡ self.now) }
+        ensures limit { IfOk result (λ m. m.limit ≡ limit) }
+        ensures refused { IfErr result (λ error. error ≡ MatchError.Memory) }
+    {
+        Ok(SplitN::new(self.split(input)?, limit))
+    }
+
+    /// The match that is found: of those that start first the one that the pattern prefers. Where
+    /// `earliest` is set, only whether there is a match is promised. The one refusal is `Memory`.
+    pub fn search<C: Cursor + Drop>(&self, mut input: Input<C>) -> Result<Option<Match>, MatchError>
+        ensures answer { IfOk result (λ found. TellsMatch self.now input found) }
+        ensures refused { IfErr result (λ error. error ≡ MatchError.Memory) }
+    {
+        let mut cache = self.create_cache()?;
+        self.search_with(&mut cache, &mut input)
+    }
+
+    /// Notes what is found with all its groups, as by `search_captures_with`.
+    pub fn search_captures<C: Cursor + Drop>(
+        &self,
+        mut input: Input<C>,
+        caps: &mut Captures,
+    ) -> Result<(), MatchError>
+        ensures answer { OnOk result
+            (TellsSlots self.now input caps.new.pattern caps.new.slots) }
+        ensures whole { HoldsMatches self.now caps.old
+            → OnOk result (TellsWhole self.now input caps.new) }
+        ensures groups { caps.new.groups ≡ caps.old.groups }
+        ensures slot_len { length caps.new.slots ≡ length caps.old.slots }
+        ensures no_answer { OnErr result (caps.new.pattern ≡ None) }
+        ensures refused { IfErr result (λ error. error ≡ MatchError.Memory) }
+    {
+        caps.set_pattern(None);
+        let mut cache = self.create_cache()?;
+        self.search_captures_with(&mut cache, &mut input, caps)
+    }
+
+    /// Puts what is found into slots, as by `search_slots_with`.
+    pub fn search_slots<C: Cursor + Drop>(
+        &self,
+        mut input: Input<C>,
+        slots: &mut [Option<NonMaxUsize>],
+    ) -> Result<Option<PatternID>, MatchError>
+        ensures answer { IfOk result
+            (λ pattern. TellsSlots self.now input pattern slots.new) }
+        ensures refused { IfErr result (λ error. error ≡ MatchError.Memory) }
+    {
+        let mut cache = self.create_cache()?;
+        self.search_slots_with(&mut cache, &mut input, slots)
+    }
+
+    /// `search`, with a cache, which must be one for this regex. Span, slice, anchoring and
+    /// `earliest` of the input stay as they are.
+    pub fn search_with<C: Cursor>(
+        &self,
+        cache: &mut Cache,
+        input: &mut Input<C>,
+    ) -> Result<Option<Match>, MatchError>
+        requires made { IsCacheOf self.now cache.old }
+        ensures answer { IfOk result (λ found. TellsMatch self.now input.old found) }
+        ensures made { IsCacheOf self.now cache.new }
+        ensures asked { input.new.asked ≡ input.old.asked }
+        ensures same { IsSameContent input.old.cursor input.new.cursor }
+        ensures refused { IfErr result (λ error. error ≡ MatchError.Memory) }
+    {
+        pikevm::find(&self.vm, &mut cache.vm, input)
+    }
+
+    /// Notes what is found in captures: its pattern, and the places in as many slots as they have.
+    /// In captures that the regex made group 0 is then the whole match. Where `earliest` is set,
+    /// only whether there is a match is promised. The one refusal is `Memory`: then no pattern is
+    /// noted. The cache must be one for this regex. Span, slice, anchoring and `earliest` of the
+    /// input stay as they are.
+    pub fn search_captures_with<C: Cursor>(
+        &self,
+        cache: &mut Cache,
+        input: &mut Input<C>,
+        caps: &mut Captures,
+    ) -> Result<(), MatchError>
+        requires made { IsCacheOf self.now cache.old }
+        ensures answer { OnOk result
+            (TellsSlots self.now input.old caps.new.pattern caps.new.slots) }
+        ensures whole { HoldsMatches self.now caps.old
+            → OnOk result (TellsWhole self.now input.old caps.new) }
+        ensures groups { caps.new.groups ≡ caps.old.groups }
+        ensures slot_len { length caps.new.slots ≡ length caps.old.slots }
+        ensures no_answer { OnErr result (caps.new.pattern ≡ None) }
+        ensures made { IsCacheOf self.now cache.new }
+        ensures asked { input.new.asked ≡ input.old.asked }
+        ensures same { IsSameContent input.old.cursor input.new.cursor }
+        ensures refused { IfErr result (λ error. error ≡ MatchError.Memory) }
+    {
+        pikevm::search(&self.vm, &mut cache.vm, input, caps)
+    }
+
+    /// The pattern of the match that is found; its places are put into the slots, as many as there
+    /// are, and all others hold none. Those of group k are 2k and 2k + 1. Where `earliest` is set,
+    /// only whether there is a match is promised. The one refusal is `Memory`: what the slots then
+    /// hold has no meaning. The cache must be one for this regex. Span, slice, anchoring and
+    /// `earliest` of the input stay as they are.
+    pub fn search_slots_with<C: Cursor>(
+        &self,
+        cache: &mut Cache,
+        input: &mut Input<C>,
+        slots: &mut [Option<NonMaxUsize>],
+    ) -> Result<Option<PatternID>, MatchError>
+        requires made { IsCacheOf self.now cache.old }
+        ensures answer { IfOk result
+            (λ pattern. TellsSlots self.now input.old pattern slots.new) }
+        ensures made { IsCacheOf self.now cache.new }
+        ensures asked { input.new.asked ≡ input.old.asked }
+        ensures same { IsSameContent input.old.cursor input.new.cursor }
+        ensures refused { IfErr result (λ error. error ≡ MatchError.Memory) }
+    {
+        pikevm::search_slots(&self.vm, &mut cache.vm, input, slots)
+    }
+
+    /// Captures with slots for all groups, in which nothing is noted. The one refusal is `Memory`.
+    /// `O(n)` in the number of groups.
+    pub fn create_captures(&self) -> Result<Captures, MatchError>
+        ensures made { IfOk result (λ caps. caps
+            ≡ nothing_noted self.now.groups (slot_len self.now.groups)) }
+        ensures holds { IfOk result (λ caps. HoldsMatches self.now caps) }
+        ensures room { IfOk result (λ caps. HasRoom self.now caps) }
+        ensures refused { IfErr result (λ error. error ≡ MatchError.Memory) }
+    {
+        self.vm.create_captures()
+    }
+
+    /// A cache for searches with it. The one refusal is `Memory`. It takes memory in proportion to
+    /// the states of the pattern's program and to those of its sets' automata.
+    pub fn create_cache(&self) -> Result<Cache, MatchError>
+        ensures made { IfOk result (λ cache. IsCacheOf self.now cache) }
+        ensures refused { IfErr result (λ error. error ≡ MatchError.Memory) }
+    {
+        Ok(Cache {
+            vm: self.vm.create_cache()?,
+        })
+    }
+
+    /// How many patterns it has: one.
+    pub fn pattern_len(&self) -> usize
+        ensures { result ≡ length self.now.groups }
+    {
+        self.group_info().pattern_len()
+    }
+
+    /// How many groups its pattern has, the whole match among them.
+    pub fn captures_len(&self) -> usize
+        ensures { result ≡ group_len self.now.groups 0 }
+    {
+        self.group_info().group_len(PatternID::ZERO)
+    }
+
+    /// The groups of its pattern. `O(1)`.
+    pub fn group_info(&self) -> &GroupInfo
+        ensures groups { result.now ≡ self.now.groups }
+        ensures regex { IsRegex self.now }
+    {
+        self.vm.group_info()
+    }
+}

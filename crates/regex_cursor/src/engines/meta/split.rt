@@ -1,0 +1,146 @@
+//! The iterators over what stands between matches.
+
+use super::find_matches::FindMatches;
+use rx_input::Cursor;
+use rx_util::{MatchError, Span};
+use std::iter::FusedIterator;
+
+/// The parts between the matches, one after the other, from 0 to the end of the input's span, at
+/// most to that of its content; or a refusal, after which there are no more. `Regex::split` makes
+/// it.
+#[derive(Drop)]
+pub struct Split<'r, C: Cursor> {
+    finder: FindMatches<'r, C>,
+    // Where the next part starts.
+    last: usize,
+    // No more come.
+    is_over: bool,
+}
+
+impl<'r, C: Cursor> Split<'r, C> {
+    ghost use Rattle.std.specs.Prelude.{◌≡◌};
+    ghost use Rattle.regex_cursor.specs.Iterating as iterating;
+    ghost use Rattle.regex_cursor.specs.Splitting.{left_of, parts_of};
+
+    /// The parts between the matches that an iterator gives.
+    pub(super) fn new(finder: FindMatches<'r, C>) -> Split<'r, C>
+        ensures left { left_of result ≡ parts_of (iterating.left_of finder.entry) }
+        ensures finder { result.finder ≡ finder.entry }
+    {
+        Split {
+            finder,
+            last: 0,
+            is_over: false,
+        }
+    }
+}
+
+impl<'r, C: Cursor + Drop> Split<'r, C> {
+    ghost use Rattle.std.specs.Prelude.{◌≡◌, true};
+    ghost use Rattle.regex_cursor.specs.Iterating as iterating;
+    ghost use Rattle.regex_cursor.specs.Splitting.{EndsWith, end_of_search, left_of};
+
+    /// The part from the end of the last match to the end, where it doesn't start behind that. It
+    /// is the last one.
+    fn rest(&mut self) -> Option<Span>
+        ensures rest { EndsWith self.old.last
+            (end_of_search (left_of self.old).matches.search) result }
+        ensures left { left_of self.new ≡ record (left_of self.old) { is_over = true } }
+        ensures same { iterating.regex_of self.new.finder ≡ iterating.regex_of self.old.finder }
+    {
+        self.is_over = true;
+        let end = self.finder.end();
+        if self.last > end {
+            return None;
+        }
+        Some(Span {
+            start: self.last,
+            end,
+        })
+    }
+}
+
+impl<'r, C: Cursor + Drop> Iterator for Split<'r, C> {
+    type Item = Result<Span, MatchError>;
+
+    ghost use Rattle.regex_cursor.specs.Splitting.{Gives, left_of, parts_left};
+
+    ghost next_gives = { λ m item n. Gives m item n };
+
+    ghost remaining = { λ m. parts_left (left_of m) };
+
+    fn next(&mut self) -> Option<Result<Span, MatchError>> {
+        if self.is_over {
+            return None;
+        }
+        match self.finder.next() {
+            Some(Ok(found)) => {
+                let start = self.last;
+                self.last = found.end();
+                Some(Ok(Span {
+                    start,
+                    end: found.start(),
+                }))
+            }
+            Some(Err(error)) => {
+                self.is_over = true;
+                Some(Err(error))
+            }
+            None => match self.rest() {
+                Some(part) => Some(Ok(part)),
+                None => None,
+            },
+        }
+    }
+}
+
+impl<'r, C: Cursor + Drop> FusedIterator for Split<'r, C> {}
+
+/// Parts of `Split`, at most as many as a limit: the last of them goes to the end. `Regex::splitn`
+/// makes it.
+#[derive(Drop)]
+pub struct SplitN<'r, C: Cursor> {
+    splits: Split<'r, C>,
+    limit: usize,
+}
+
+impl<'r, C: Cursor> SplitN<'r, C> {
+    ghost use Rattle.std.specs.Prelude.{◌≡◌};
+
+    /// At most so many of these parts.
+    pub(super) fn new(splits: Split<'r, C>, limit: usize) -> SplitN<'r, C>
+        ensures splits { result.splits ≡ splits.entry }
+        ensures limit { result.limit ≡ limit }
+    {
+        SplitN { splits, limit }
+    }
+}
+
+impl<'r, C: Cursor + Drop> Iterator for SplitN<'r, C> {
+    type Item = Result<Span, MatchError>;
+
+    ghost use Rattle.regex_cursor.specs.SplittingFew.{GivesFew, few_left};
+
+    ghost next_gives = { λ m item n. GivesFew m item n };
+
+    ghost remaining = { λ m. few_left m.limit };
+
+    fn next(&mut self) -> Option<Result<Span, MatchError>> {
+        if self.limit == 0 {
+            return None;
+        }
+        self.limit -= 1;
+        if self.limit > 0 {
+            return self.splits.next();
+        }
+        if self.splits.is_over {
+            return None;
+        }
+        match self.splits.rest() {
+            Some(part) => Some(Ok(part)),
+            None => None,
+        }
+    }
+}
+
+impl<'r, C: Cursor + Drop> FusedIterator for SplitN<'r, C> {}

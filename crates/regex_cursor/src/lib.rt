@@ -1,0 +1,16 @@
+//! Regular expressions over ropes, and over any content that lies in pieces, as the Rust crate
+//! `regex-cursor` has them.
+#![tactic(auto)]
+
+pub mod engines;
+mod ropey_cursor;
+pub mod util;
+
+pub use ropey_cursor::RopeyCursor;
+pub use rx_grammar::{Hir, SyntaxError, parse};
+pub use rx_input::{ChunkCursor, Cursor, Input, LookAround};
+pub use rx_program::BuildError;
+pub use rx_util::{
+    Anchored, Captures, GroupInfo, HalfMatch, Match, MatchError, MatchKind, NonMaxUsize, PatternID,
+    Span, StateID, WhichCaptures,
+};

@@ -1,0 +1,140 @@
+//! A cursor over a slice of a rope.
+
+ghost use Rattle.std.specs.Prelude.{◌≡◌, ◌≤◌, ⊤, true, encode_utf8_all};
+ghost use Rattle.str_indices.specs.Text.{byte_len};
+ghost use Rattle.ropey_walk.specs.Chunks.{text_of};
+ghost use Rattle.ropey_walk.specs.Comparing.{slice_bytes};
+ghost use Rattle.ropey_walk.specs.Slices.{slice_text};
+ghost use Rattle.rx_input.specs.Cursors.{IsLawful};
+
+use ropey::RopeSlice;
+use ropey::iter::Chunks;
+use rx_input::Cursor;
+use std::alloc::AllocError;
+use std::marker::Model;
+
+/// A cursor over exactly the bytes of a slice, chunk by chunk. It takes no memory, and a clone is
+/// the same cursor. A step goes down from the rope's root to a leaf, in `O(log n)`.
+#[derive(Drop)]
+pub struct RopeyCursor<'a> {
+    // Stands behind the chunk that is shown.
+    chunks: Chunks<'a>,
+    shown: &'a str,
+    // Where that chunk starts, and the length of the slice, in bytes.
+    offset: usize,
+    len: usize,
+}
+
+impl<'a> Model for RopeyCursor<'a> {
+    ghost use Rattle.rx_input.specs.Cursors.{CursorState};
+    ghost use Rattle.regex_cursor.specs.Showing.{IsShowing, showing};
+
+    ghost Value = { CursorState };
+
+    ghost view = { λ c. showing c.chunks c.offset c.shown.now };
+
+    ghost invariant = { λ c. IsShowing c.chunks c.shown.now c.offset c.len };
+}
+
+impl<'a> RopeyCursor<'a> {
+    ghost use Rattle.rx_input.specs.Inputs.{HoldsPlace};
+    ghost use Rattle.regex_cursor.specs.Showing.{EndsFirst, MayShowNext, all_chunks};
+
+    /// A cursor over the bytes of a slice. It shows the first chunk, and an empty one where the
+    /// slice is empty. `O(log n)`.
+    pub fn new(slice: RopeSlice<'a>) -> RopeyCursor<'a>
+        ensures content { result.content ≡ slice_bytes slice.entry }
+        ensures is_sized { result.is_sized ≡ true }
+        ensures start { result.start ≡ 0 }
+    {
+        RopeyCursor::at(slice, 0)
+    }
+
+    /// A cursor over the bytes of a slice that shows the chunk with the byte at a place, which is
+    /// at most the slice's length; there it is the last chunk. `O(log n)`.
+    pub fn at(slice: RopeSlice<'a>, at: usize) -> RopeyCursor<'a>
+        requires { at ≤ byte_len (slice_text slice) }
+        ensures content { result.content ≡ slice_bytes slice.entry }
+        ensures is_sized { result.is_sized ≡ true }
+        ensures holds { HoldsPlace result at }
+    {
+        let len = slice.len_bytes();
+        let byte_idx = at.min(len.saturating_sub(1));
+        let (chunks, offset, _, _) = slice.chunks_at_byte(byte_idx);
+        RopeyCursor::showing_next(chunks, offset, len)
+    }
+
+    /// A cursor that shows the chunk ahead of a place, or an empty one where there is no chunk.
+    fn showing_next(mut chunks: Chunks<'a>, offset: usize, len: usize) -> RopeyCursor<'a>
+        requires { MayShowNext chunks offset len }
+        ensures content { result.content
+            ≡ encode_utf8_all (text_of (all_chunks chunks.entry)) }
+        ensures is_sized { result.is_sized ≡ true }
+        ensures start { result.start ≡ offset }
+        ensures end { EndsFirst chunks.entry.ahead offset result.end }
+        ensures lawful { IsLawful result }
+    {
+        let shown = chunks.next().unwrap_or("");
+        RopeyCursor {
+            chunks,
+            shown,
+            offset,
+            len,
+        }
+    }
+}
+
+impl<'a> Clone for RopeyCursor<'a> {
+    ghost is_clone = { λ cursor copy. copy ≡ cursor };
+
+    ghost is_infallible = { λ _. ⊤ };
+
+    fn clone(&self) -> Result<RopeyCursor<'a>, AllocError> {
+        Ok(RopeyCursor {
+            chunks: self.chunks.clone()?,
+            shown: self.shown,
+            offset: self.offset,
+            len: self.len,
+        })
+    }
+}
+
+impl<'a> Cursor for RopeyCursor<'a> {
+    ghost state = { λ cursor. cursor };
+
+    fn chunk(&self) -> &[u8] {
+        self.shown.as_bytes()
+    }
+
+    fn advance(&mut self) -> bool {
+        match self.chunks.next() {
+            Some(next) => {
+                self.offset += self.shown.len();
+                self.shown = next;
+                true
+            }
+            None => false,
+        }
+    }
+
+    fn backtrack(&mut self) -> bool {
+        if self.offset == 0 {
+            return false;
+        }
+        // Back over the chunk that is shown and the one before it, which is shown then.
+        self.chunks.prev();
+        self.chunks.prev();
+        let shown = self.chunks.next().unwrap_or("");
+        self.offset -= shown.len();
+        self.shown = shown;
+        true
+    }
+
+    fn total_bytes(&self) -> Option<usize> {
+        Some(self.len)
+    }
+
+    fn offset(&self) -> usize {
+        self.offset
+    }
+}

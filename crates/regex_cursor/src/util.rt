@@ -1,0 +1,5 @@
+//! What engines share, at the places where `regex-cursor` and `regex-automata` have it.
+
+pub use rx_grammar::syntax;
+pub use rx_input::iter;
+pub use rx_util::{captures, primitives, sparse_set};
