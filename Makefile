@@ -77,6 +77,7 @@ bench: $(program)
 	@RT='$(RT)' sh bench/patterns.sh
 	@RT='$(RT)' sh bench/programs.sh
 	@RT='$(RT)' sh bench/searches.sh
+	@RT='$(RT)' sh bench/regexes.sh
 
 clean:
 	rm -rf bin $(wildcard crates/*/out)

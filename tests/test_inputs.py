@@ -1,5 +1,6 @@
-"""Contents that lie in pieces, on bin/search-driver: the pieces that a cursor shows, going on and back; what is seen at
-each place, which looks hold there among it, against the model of tests/walks.py; and where positions move."""
+"""Contents that lie in pieces, on bin/search-driver: the pieces that a cursor shows, going on and back, over slices and
+over parts of ropes; what is seen at each place, which looks hold there among it, against the model of tests/walks.py;
+and where positions move."""
 import itertools
 
 from driver import Case, answers, line_of, problems
@@ -22,6 +23,9 @@ SHOWN = [
     ("aせb".encode(), "0.2.0.0.1.2", [b"a\xe3", b"\x81", b"\x9bb"]),
     (b"one two", "4.0", [b"one ", b"two"]),
 ]
+
+# Leaves of ropes over parts of which cursors go.
+LEAVES = [[], ["aせ"], ["a", "せ", "🐸b"], ["ab", "\r\n", "c"], ["é\r", "a\n", "x", "yz"], ["ab"] * 40]
 
 WHOLE = "aせb🐸".encode()
 CUTS = ["0", "1", "2.0.5.1.1", "3"]  # how it is cut
@@ -49,12 +53,46 @@ LOOKS_BETWEEN = [
 ]
 
 
+def walk_over(pieces, first=0):
+    """What a walk tells that goes over pieces from one of them on to the last and back to the first."""
+    starts = itertools.accumulate(map(len, pieces), initial=0)
+    told = [f"{start}:{piece.hex()}" for start, piece in zip(starts, pieces)]
+    return " ".join([f"Some({sum(map(len, pieces))})", *told[first:], "|", *reversed(told), "|", told[0]])
+
+
 def shown():
     for haystack, cut, pieces in SHOWN:
-        starts = itertools.accumulate(map(len, pieces), initial=0)
-        told = [f"{start}:{piece.hex()}" for start, piece in zip(starts, pieces)]
-        answer = " ".join([f"Some({len(haystack)})", *told, "|", *reversed(told)])
-        yield Case(f"pieces of {short(haystack)} cut by {cut}", line_of("pieces", cut, haystack.hex()), answer)
+        name = f"pieces of {short(haystack)} cut by {cut}"
+        yield Case(name, line_of("pieces", cut, haystack.hex()), walk_over(pieces))
+
+
+def of_part(leaves, start, end):
+    """The pieces that a part of a rope of these leaves lies in: one empty piece where it has no byte."""
+    starts = itertools.accumulate(map(len, leaves), initial=0)
+    parts = [leaf[max(start - at, 0) : max(end - at, 0)] for at, leaf in zip(starts, leaves)]
+    return list(filter(None, parts)) or [b""]
+
+
+def holding(pieces, at):
+    """The index of the piece that holds the byte at a place, and of the last one where there is none."""
+    ends = itertools.accumulate(map(len, pieces))
+    return next((index for index, end in enumerate(ends) if at < end), len(pieces) - 1)
+
+
+def chunks_shown():
+    """What cursors over parts of ropes show, made at the start and at each place. A part may begin inside a CR LF,
+    but no leaf and no part cuts a character."""
+    for leaves in LEAVES:
+        text = "".join(leaves)
+        bounds = [len(text[:index].encode()) for index in range(len(text) + 1)]
+        leaves = [leaf.encode() for leaf in leaves]
+        cut = ".".join(str(len(leaf)) for leaf in [*leaves, b""])
+        for start, end in itertools.combinations_with_replacement(bounds[:: 1 + len(leaves) // 8], 2):
+            pieces = of_part(leaves, start, end)
+            for at in [None, *range(end - start + 1)]:
+                name = f"chunks of {start}..{end} of {short(text.encode())} cut by {cut}, at {at}"
+                line = line_of("chunks", cut, text.encode().hex(), start, end, at)
+                yield Case(name, line, walk_over(pieces, holding(pieces, at or 0)))
 
 
 def signs_at(haystack, slice_, at, line_end):
@@ -134,9 +172,14 @@ def wrong_moves():
 
 
 def test_all():
-    for name, cases in [("pieces that are shown", shown()), ("places that are looked at", seen())]:
+    parts = [
+        ("contents with pieces that are shown", shown()),
+        ("cursors at places of parts of ropes", chunks_shown()),
+        ("contents with places that are looked at", seen()),
+    ]
+    for name, cases in parts:
         cases = list(cases)
-        test(f"{len(cases)} contents with {name}", problems(cases))
+        test(f"{len(cases)} {name}", problems(cases))
     cases = list(looks_between())
     test(f"the looks in {len(cases)} contents are those that are told", [*wrong_looks(), *problems(cases)])
     test("positions move into each span from each place", wrong_moves())

@@ -303,13 +303,18 @@ class Search:
         return None
 
     def matches(self):
-        """All matches, each as the spans of its groups, None for one that is absent. Each further match is the
-        find from the end of the one before, or, where that is empty there, from the next place."""
-        found, slots = [], self.find(self.span[0])
-        while slots:
+        """All matches, each as the spans of its groups, None for one that is absent."""
+        return self.matches_from(self.span[0])
+
+    def matches_from(self, start, last=None):
+        """Those from a place on, where one ended before at `last`. A match is the find from the end of the one before,
+        or, where that is empty and ends where the one before did, from the place behind the one that was asked for."""
+        found = []
+        while True:
+            slots = self.find(start)
+            if slots and slots[0] == slots[1] == last:
+                slots = self.find(start + 1)
+            if not slots:
+                return found
             found.append([(slots[2 * k], slots[2 * k + 1]) if 2 * k in slots else None for k in self.groups])
-            end = slots[1]
-            slots = self.find(end)
-            if slots and slots[0] == slots[1] == end:
-                slots = self.find(end + 1)
-        return found
+            start = last = slots[1]

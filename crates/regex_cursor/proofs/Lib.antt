@@ -1,2 +1,3 @@
+mod FewLaws
 pub mod ShowingLaws
 pub mod PlaceLaws

@@ -1,5 +1,6 @@
 //! Why a row has no answer.
 
+use rope_leaves::Refused;
 use ropey::Error;
 use std::alloc::{AllocError, AllocFailed};
 use thiserror::Error;
@@ -18,6 +19,15 @@ pub enum Fault {
 impl From<AllocError> for Fault {
     fn from(_: AllocError) -> Fault {
         Fault::Memory
+    }
+}
+
+impl From<Refused> for Fault {
+    fn from(refused: Refused) -> Fault {
+        match refused {
+            Refused::Text => Fault::Row,
+            Refused::Memory => Fault::Memory,
+        }
     }
 }
 

@@ -63,7 +63,7 @@ fn changed_input(rt: HostRuntime) -> Result<(), Fail> {
 }
 
 /// Whether a cursor has these bytes in one piece.
-fn is_one_piece<C: Cursor>(cursor: &mut C, bytes: &[u8]) -> bool {
+pub(crate) fn is_one_piece<C: Cursor>(cursor: &mut C, bytes: &[u8]) -> bool {
     let moves = cursor.advance() || cursor.backtrack();
     let is_whole = cursor.total_bytes() == Some(bytes.len()) && cursor.utf8_aware();
     !moves && is_whole && cursor.offset() == 0 && cursor.chunk() == bytes

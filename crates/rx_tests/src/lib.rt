@@ -1,4 +1,4 @@
-//! Tests of the `rx_` crates that are proved: an example for each public type, calls at a type of
+//! Tests of `regex_cursor` and the `rx_` crates that are proved: an example for each public type, calls at a type of
 //! one's own, and callers whose proof is the test.
 #![tactic(auto)]
 
@@ -10,6 +10,10 @@ mod grammar;
 mod input;
 #[cfg(test)]
 mod program;
+#[cfg(test)]
+mod regex;
+#[cfg(test)]
+mod ropey_cursor;
 #[cfg(test)]
 mod searchers;
 #[cfg(test)]

@@ -1,6 +1,7 @@
 //! The fields of a case, and why it may have no answer.
 
 use hex::FromHexError;
+use rope_leaves::Refused;
 use rx_grammar::SyntaxError;
 use rx_grammar::syntax::Config;
 use rx_program::BuildError;
@@ -43,6 +44,15 @@ impl From<AllocError> for Fault {
 impl From<MatchError> for Fault {
     fn from(_: MatchError) -> Fault {
         Fault::Memory
+    }
+}
+
+impl From<Refused> for Fault {
+    fn from(refused: Refused) -> Fault {
+        match refused {
+            Refused::Text => Fault::Line,
+            Refused::Memory => Fault::Memory,
+        }
     }
 }
 

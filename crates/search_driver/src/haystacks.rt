@@ -4,7 +4,7 @@ ghost use Rattle.std.specs.Prelude.{◌≡◌, ◌^◌, ◌<◌, IfOk, length};
 ghost use Rattle.rx_input.specs.Chunks.{joined};
 
 use crate::fields::{Fault, Fields};
-use rx_input::{ChunkCursor, Input};
+use rx_input::{ChunkCursor, Cursor, Input};
 use rx_util::{Anchored, PatternID, Span};
 use std::alloc::{AllocError, Global};
 
@@ -115,6 +115,12 @@ pub fn input<'a>(pieces: &'a [&'a [u8]], asked: &Option<Asked>) -> Input<ChunkCu
     requires { length (joined pieces.now) < 2 ^ 63 }
 {
     let mut input = Input::new(ChunkCursor::new(pieces));
+    ask(&mut input, asked);
+    input
+}
+
+/// Asks an input for that.
+pub fn ask<C: Cursor>(input: &mut Input<C>, asked: &Option<Asked>) {
     if let Some(asked) = asked
         && asked.slice.start <= asked.slice.end.saturating_add(1)
         && asked.span.start <= asked.span.end.saturating_add(1)
@@ -123,5 +129,4 @@ pub fn input<'a>(pieces: &'a [&'a [u8]], asked: &Option<Asked>) -> Input<ChunkCu
         input.set_span(asked.span);
         input.set_anchored(asked.anchored);
     }
-    input
 }

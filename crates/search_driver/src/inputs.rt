@@ -2,6 +2,7 @@
 
 use crate::fields::{Fault, Fields};
 use crate::haystacks::{self, Asked, haystack, input};
+use crate::ropes;
 use rx_grammar::Look;
 use rx_input::{ChunkCursor, Cursor, Input};
 use rx_steps::{Looks, Place};
@@ -16,34 +17,53 @@ const HAYSTACK: usize = 2;
 
 const ASKED: usize = 3;
 
+/// Where it stands which part of a rope is shown, and from where on.
+const PART: usize = 3;
+
 /// Where the byte stands that ends lines.
 const TERMINATOR: usize = 8;
 
-/// The length of a haystack, and then its pieces from the first to the last one and back, each as
-/// its start and its bytes. A bar parts the ways.
+/// The pieces that a cursor over a list of slices shows.
 pub fn pieces(alloc: Global, fields: &Fields) -> Result<String, Fault> {
     let haystack = haystack(alloc, fields, HAYSTACK)?;
     let pieces = haystacks::pieces(alloc, &haystack, fields.word(CUT))?;
     let mut cursor = ChunkCursor::new(&pieces);
+    walk(alloc, &mut cursor, pieces.len())
+}
+
+/// The pieces that a cursor over a part of a rope shows.
+pub fn chunks(alloc: Global, fields: &Fields) -> Result<String, Fault> {
+    let haystack = haystack(alloc, fields, HAYSTACK)?;
+    let pieces = haystacks::pieces(alloc, &haystack, fields.word(CUT))?;
+    let tree = ropes::tree(alloc, &pieces)?;
+    let cursor = ropes::cursor(&tree, fields, PART)?;
+    walk(alloc, &mut cursor.clone()?, pieces.len())
+}
+
+/// The length that a cursor tells, and then the pieces from where it stands to the last one, from
+/// there back to the first, and that again, each as its start and its bytes. A bar parts the ways.
+fn walk<C: Cursor>(alloc: Global, cursor: &mut C, len: usize) -> Result<String, Fault> {
     let mut out = format!(in alloc; "{:?}", cursor.total_bytes())?;
-    for _ in 0..=pieces.len() {
-        tell_piece(alloc, &mut out, &cursor)?;
+    for _ in 0..=len {
+        tell_piece(alloc, &mut out, cursor)?;
         if !cursor.advance() {
             break;
         }
     }
     out.push_str(" |")?;
-    for _ in 0..=pieces.len() {
-        tell_piece(alloc, &mut out, &cursor)?;
+    for _ in 0..=len {
+        tell_piece(alloc, &mut out, cursor)?;
         if !cursor.backtrack() {
             break;
         }
     }
+    out.push_str(" |")?;
+    tell_piece(alloc, &mut out, cursor)?;
     Ok(out)
 }
 
 /// Writes the piece that a cursor shows.
-fn tell_piece(alloc: Global, out: &mut String, cursor: &ChunkCursor) -> Result<(), AllocError> {
+fn tell_piece<C: Cursor>(alloc: Global, out: &mut String, cursor: &C) -> Result<(), AllocError> {
     let bytes = hex::encode(alloc, cursor.chunk())?;
     out.push_str(&format!(in alloc; " {}:{}", cursor.offset(), bytes)?)
 }

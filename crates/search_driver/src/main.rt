@@ -21,7 +21,17 @@
 //!   the length `TAKEN` first.
 //! - `slots,PATTERN,SETTINGS,CUT,HAYSTACK,ASKED,INSIDE,COUNT`: what the first match notes in so many
 //!   slots.
+//! - `regex,PATTERN,SETTINGS,CUT,HAYSTACK,ASKED`: all matches, with their groups, by a `Regex`. It has
+//!   no settings: these fields aren't read.
+//! - `rope,PATTERN,SETTINGS,CUT,HAYSTACK,ASKED,START,END,AT,TIMES`: the same in the part from the byte
+//!   `START` to the byte `END` of a rope whose leaves are the pieces, by a cursor that is made at the
+//!   place `AT`. One cache serves so often. No leaf cuts a character or a CR LF.
+//! - `counts,PATTERN,SETTINGS,CUT,HAYSTACK,ASKED,START,END,AT,CALLS`: of both iterators there, how
+//!   many matches so many calls of `next` give, and how many `count` tells then.
+//! - `split,PATTERN,SETTINGS,CUT,HAYSTACK,ASKED,START,END,AT,LIMIT`: the parts between matches there,
+//!   at most so many.
 //! - `pieces,CUT,HAYSTACK`: the pieces that a cursor shows.
+//! - `chunks,CUT,HAYSTACK,START,END,AT`: those that a cursor over such a part of a rope shows.
 //! - `places,CUT,HAYSTACK,ASKED,TERMINATOR`: what is seen at each place of the slice, where lines
 //!   end in this byte.
 //! - `moved,CUT,HAYSTACK,AT,START,END`: where a position is once a span is set.
@@ -32,6 +42,8 @@ mod haystacks;
 mod inputs;
 mod patterns;
 mod programs;
+mod regexes;
+mod ropes;
 mod searches;
 mod slots;
 
@@ -50,7 +62,10 @@ fn answer(alloc: Global, line: &str) -> Result<String, Fault> {
         "build" => programs::size(alloc, &fields),
         "search" => searches::matches(alloc, &fields),
         "slots" => slots::noted(alloc, &fields),
+        "regex" => regexes::in_pieces(alloc, &fields),
+        "rope" | "counts" | "split" => regexes::in_rope(alloc, &fields),
         "pieces" => inputs::pieces(alloc, &fields),
+        "chunks" => inputs::chunks(alloc, &fields),
         "places" => inputs::places(alloc, &fields),
         "moved" => inputs::moved(alloc, &fields),
         _ => Err(Fault::Line),

@@ -118,7 +118,7 @@ fn tell_all(
         if next_or_again(&mut out, vm, cache, input, caps, last)? != Some(*wanted) {
             return Err(Fault::Differs);
         }
-        tell(alloc, &mut out, vm, caps)?;
+        tell(alloc, &mut out, caps)?;
         last = Some(wanted.end());
     }
     match next_or_again(&mut out, vm, cache, input, caps, last)? {
@@ -216,11 +216,11 @@ fn find_from(
 }
 
 /// Writes the groups of a match.
-fn tell(alloc: Global, out: &mut String, vm: &PikeVM, caps: &Captures) -> Result<(), AllocError> {
+pub fn tell(alloc: Global, out: &mut String, caps: &Captures) -> Result<(), AllocError> {
     if !out.is_empty() {
         out.push(' ')?;
     }
-    for group in 0..vm.group_info().group_len(PatternID::ZERO) {
+    for group in 0..caps.group_info().group_len(PatternID::ZERO) {
         if group > 0 {
             out.push(',')?;
         }

@@ -26,9 +26,10 @@ pub struct CapturesMatches<'r, C: Cursor> {
 }
 
 impl<'r, C: Cursor> CapturesMatches<'r, C> {
-    ghost use Rattle.std.specs.Prelude.{◌≡◌};
+    ghost use Rattle.std.specs.Prelude.{◌≡◌, ◌<◌, ◌^◌};
+    ghost use Rattle.std.specs.Iterator.{size};
     ghost use Rattle.regex_cursor.specs.Capturing.{left_of, regex_of};
-    ghost use Rattle.regex_cursor.specs.Iterating.{matches_from};
+    ghost use Rattle.regex_cursor.specs.Iterating.{matches_from, matches_left};
     ghost use Rattle.regex_cursor.specs.Regexes.{search_by};
 
     /// None of the matches in an input has come yet.
@@ -53,10 +54,13 @@ impl<'r, C: Cursor> CapturesMatches<'r, C> {
         }
     }
 
-    /// The regex that it searches for.
+    /// The regex that it searches for. What is left is few enough that `count` may be asked.
+    #[tactic(auto, using(crate::proofs::FewLaws::few_items))]
     pub fn regex(&self) -> &'r Regex
-        ensures { result.now ≡ regex_of self.now }
+        ensures regex { result.now ≡ regex_of self.now }
+        ensures few { size (matches_left (left_of self.now)) < 2 ^ 64 }
     {
+        let _at = self.input.position(); // tells how long the content may be
         self.re
     }
 }

@@ -24,8 +24,9 @@ pub struct FindMatches<'r, C: Cursor> {
 }
 
 impl<'r, C: Cursor> FindMatches<'r, C> {
-    ghost use Rattle.std.specs.Prelude.{◌≡◌};
-    ghost use Rattle.regex_cursor.specs.Iterating.{left_of, matches_from, regex_of};
+    ghost use Rattle.std.specs.Prelude.{◌≡◌, ◌<◌, ◌^◌};
+    ghost use Rattle.std.specs.Iterator.{size};
+    ghost use Rattle.regex_cursor.specs.Iterating.{left_of, matches_from, matches_left, regex_of};
     ghost use Rattle.regex_cursor.specs.Regexes.{search_by};
     ghost use Rattle.regex_cursor.specs.Splitting.{end_of_search};
 
@@ -55,10 +56,13 @@ impl<'r, C: Cursor> FindMatches<'r, C> {
         end.min(self.input.position())
     }
 
-    /// The regex that it searches for.
+    /// The regex that it searches for. What is left is few enough that `count` may be asked.
+    #[tactic(auto, using(crate::proofs::FewLaws::few_items))]
     pub fn regex(&self) -> &'r Regex
-        ensures { result.now ≡ regex_of self.now }
+        ensures regex { result.now ≡ regex_of self.now }
+        ensures few { size (matches_left (left_of self.now)) < 2 ^ 64 }
     {
+        let _at = self.input.position(); // tells how long the content may be
         self.re
     }
 }

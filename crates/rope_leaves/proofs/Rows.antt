@@ -8,7 +8,7 @@ use Rattle.ropey_tree.specs.Cutting.{IsPiece, IsCutting}
 use Rattle.ropey_tree.specs.NodeView.{NodeView}
 use Rattle.ropey_tree.specs.Nodes.{IsNodeOf, all_pieces, leaf_view}
 use Rattle.ropey_tree.proofs.Ends.{unless_both}
-use Rattle.rope_driver.specs.Leaves.{AreLeaves, is_lf_front}
+use Rattle.rope_leaves.specs.Leaves.{AreLeaves, is_lf_front}
 
 more_cut : (t : List ℕ) (ps : List (List ℕ)) → IsPiece t → IsCutting ps
     → (ends_with_cr t ≡ true → is_lf_front ps ≡ true → ⊥) → IsCutting (t ∷ ps)

@@ -5,9 +5,9 @@ use Rattle.str_indices.specs.Text.{ends_with_cr, byte_len}
 use Rattle.ropey_tree.specs.Cutting.{IsPiece}
 use Rattle.ropey_tree.specs.Nodes.{leaf_view}
 use Rattle.ropey_tree.specs.Siblings.{views}
-use Rattle.rope_driver.proofs.Rows.{more_leaves}
-use Rattle.rope_driver.proofs.leaves.Leaves.push_front.Goals as goal
-use Rattle.rope_driver.proofs.leaves.Leaves.push_front.Goals.{else-is_cr_last-via-then-is_cr_last+else-self, else-is_cr_last-via-else-is_cr_last}
+use Rattle.rope_leaves.proofs.Rows.{more_leaves}
+use Rattle.rope_leaves.proofs.Leaves.push_front.Goals as goal
+use Rattle.rope_leaves.proofs.Leaves.push_front.Goals.{else-is_cr_last-via-then-is_cr_last+else-self, else-is_cr_last-via-else-is_cr_last}
 
 pub invariant_of-self-2 : goal.invariant_of-self-2
 invariant_of-self-2 c =

@@ -3,7 +3,7 @@ use Rattle.std.specs.Prelude.{encode_utf8_all}
 use Rattle.std.specs.Str.{chars}
 use Rattle.std.proofs.lemmas.Str.{encodes-chars}
 use Rattle.ropey_tree.proofs.Ends.{last_byte}
-use Rattle.rope_driver.proofs.leaves.is_cr_last.Goals as goal
+use Rattle.rope_leaves.proofs.is_cr_last.Goals as goal
 
 pub returns : goal.returns
 returns c = λ h.

@@ -1,0 +1,169 @@
+//! An example for each public type of `regex_cursor`.
+
+ghost use Rattle.std.specs.Prelude.{◌≡◌};
+
+use regex_cursor::engines::meta::{Builder, Cache, CapturesMatches, FindMatches, Regex};
+use regex_cursor::engines::pikevm::{self, PikeVM};
+use regex_cursor::util::syntax;
+use regex_cursor::{BuildError, ChunkCursor, Cursor, Input, Match, MatchError, RopeyCursor, Span};
+use ropey::Rope;
+use std::alloc::Global;
+use std::test::Fail;
+
+/// A search over a rope, then over one of its lines, with groups and a cache that is kept.
+#[test]
+fn regex(rt: HostRuntime) -> Result<(), Fail> {
+    let rope = Rope::from_str(rt.alloc(), "a frog@pond,\na toad@road\n")?;
+    let re = Regex::new(rt.alloc(), r"(?<name>\w+)@(\w+)")?;
+    let found = re.find(Input::new(RopeyCursor::new(rope.slice(..))))?;
+    assert!(rt; found.map(|found| found.span()) == Some(Span { start: 2, end: 11 }));
+    let mut cache = re.create_cache()?;
+    let mut caps = re.create_captures()?;
+    if let Some(line) = rope.get_line(1) {
+        let mut input = Input::new(RopeyCursor::new(line));
+        re.search_captures_with(&mut cache, &mut input, &mut caps)?;
+    }
+    assert!(rt; caps.get_group_by_name("name") == Some(Span { start: 2, end: 6 }));
+    Ok(())
+}
+
+/// Matches one after the other; `count` tells how many are left.
+#[test]
+fn find_matches(rt: HostRuntime) -> Result<(), Fail> {
+    let rope = Rope::from_str(rt.alloc(), "a frog@pond, toad@road")?;
+    let re = Regex::new(rt.alloc(), r"\w+@\w+")?;
+    let input = Input::new(RopeyCursor::new(rope.slice(..)));
+    let mut found: FindMatches<RopeyCursor> = re.find_iter(input)?;
+    assert!(rt; found.regex().captures_len() == 1);
+    assert!(rt; span_of(found.next())? == Some(Span { start: 2, end: 11 }));
+    assert!(rt; found.count() == 1);
+    Ok(())
+}
+
+/// Where the match lies that an iterator gives, if it gives one.
+fn span_of(item: Option<Result<Match, MatchError>>) -> Result<Option<Span>, MatchError> {
+    match item {
+        Some(Ok(found)) => Ok(Some(found.span())),
+        Some(Err(error)) => Err(error),
+        None => Ok(None),
+    }
+}
+
+/// Matches with their groups. What is over gives no more.
+#[test]
+fn captures_matches(rt: HostRuntime) -> Result<(), Fail> {
+    let chunks: [&[u8]; 2] = [b"a frog@po", b"nd"];
+    let re = Regex::new(rt.alloc(), r"\w+@(\w+)")?;
+    let input = Input::new(ChunkCursor::new(&chunks));
+    let mut found: CapturesMatches<ChunkCursor> = re.captures_iter(input)?;
+    assert!(rt; found.regex().captures_len() == 2);
+    match found.next() {
+        Some(caps) => assert!(rt; caps?.get_group(1) == Some(Span { start: 7, end: 11 })),
+        None => assert!(rt; false),
+    }
+    assert!(rt; found.next().is_none());
+    assert!(rt; found.count() == 0);
+    Ok(())
+}
+
+/// Why there is no regex: here the pattern isn't in the grammar.
+#[test]
+fn builder(rt: HostRuntime) -> Result<(), Fail> {
+    let re = Builder::new().build(rt.alloc(), "(a)|b")?;
+    assert!(rt; re.pattern_len() == 1);
+    assert!(rt; re.captures_len() == 2);
+    assert!(rt; re.group_info().slot_len() == 4);
+    let refused: Option<BuildError> = Regex::builder().build(rt.alloc(), "(").err();
+    assert!(rt; refused.is_some_and(|error| error.syntax_error().is_some()));
+    Ok(())
+}
+
+/// A cache that was made for one regex and is reset for another one.
+#[test]
+fn cache(rt: HostRuntime) -> Result<(), Fail> {
+    let first = Regex::new(rt.alloc(), "x")?;
+    let second = Regex::new(rt.alloc(), "a")?;
+    let mut cache = Cache::new(rt.alloc(), &first)?;
+    let mut input = Input::new("bax");
+    let found = first.search_with(&mut cache, &mut input)?;
+    assert!(rt; found.map_or(0, |found| found.start()) == 2);
+    cache.reset(&second)?;
+    let found = second.search_with(&mut cache, &mut input)?;
+    assert!(rt; found.map_or(0, |found| found.start()) == 1);
+    assert!(rt; cache.memory_usage() > 0);
+    Ok(())
+}
+
+/// Clones of a regex, a cache and captures answer as their sources.
+#[test]
+fn clones(rt: HostRuntime) -> Result<(), Fail> {
+    let re = Regex::new(rt.alloc(), "a")?;
+    let cache = re.create_cache()?;
+    let copy = re.clone()?;
+    let mut caps = re.create_captures()?.clone()?;
+    copy.search_captures_with(&mut cache.clone()?, &mut Input::new("ba"), &mut caps)?;
+    assert!(rt; caps.get_group(0) == Some(Span { start: 1, end: 2 }));
+    Ok(())
+}
+
+/// Each call that makes a cache of its own, over any cursor, as one span.
+fn first_match<C: Cursor + Clone + Drop>(re: &Regex, input: &Input<C>) -> Result<Span, Fail>
+    requires infallible { (c : C) → C.is_infallible c }
+    requires equal { (c d : C) → C.is_clone c d → d ≡ c }
+{
+    let mut caps = re.create_captures()?;
+    re.captures(input.clone(), &mut caps)?;
+    let captured = caps.get_group(0);
+    re.search_captures(input.clone(), &mut caps)?;
+    let pattern = re.search_slots(input.clone(), &mut [None; 2])?;
+    let found = re.find(input.clone())?.map(|found| found.span());
+    let searched = re.search(input.clone())?.map(|found| found.span());
+    let is_match = re.is_match(input.clone())?;
+    if captured != found || caps.get_group(0) != found || searched != found || !is_match {
+        return Err(Fail::new("the calls differ"));
+    }
+    Ok(found.unwrap_or(Span { start: 0, end: 0 }))
+}
+
+/// The same regex over a text, over chunks and over a rope.
+#[test]
+fn any_cursor(rt: HostRuntime) -> Result<(), Fail> {
+    let re = Regex::new(rt.alloc(), "(o)+@")?;
+    let chunks: [&[u8]; 2] = [b"to", b"o@"];
+    let rope = Rope::from_str(rt.alloc(), "too@")?;
+    let wanted = Span { start: 1, end: 4 };
+    assert!(rt; first_match(&re, &Input::new("too@"))? == wanted);
+    assert!(rt; first_match(&re, &Input::new(ChunkCursor::new(&chunks)))? == wanted);
+    let cursor = RopeyCursor::new(rope.slice(..));
+    assert!(rt; first_match(&re, &Input::new(cursor))? == wanted);
+    Ok(())
+}
+
+/// Where `earliest` is set, only whether there is a match is promised.
+#[test]
+fn earliest(rt: HostRuntime) -> Result<(), Fail> {
+    let re = Regex::new(rt.alloc(), "a+")?;
+    let mut input = Input::new("baa");
+    input.set_earliest(true);
+    assert!(rt; re.find(input)?.is_some());
+    Ok(())
+}
+
+/// The engine below, over a rope, under settings and from a place on.
+#[test]
+fn engine(rt: HostRuntime) -> Result<(), Fail> {
+    let mut builder = pikevm::Builder::new();
+    builder.syntax(
+        syntax::Config::new()
+            .case_insensitive(true)
+            .multi_line(true),
+    );
+    let vm: PikeVM = builder.build(rt.alloc(), "git nix")?;
+    let rope = Rope::from_str(rt.alloc(), "x")?;
+    let slice = rope.slice(..);
+    let cursor = RopeyCursor::at(slice, slice.len_bytes());
+    let mut cache = vm.create_cache()?;
+    let mut input = Input::new(cursor).range(1..);
+    assert!(rt; !pikevm::is_match(&vm, &mut cache, &mut input)?);
+    Ok(())
+}
