@@ -3,11 +3,10 @@
 use crate::fault::Fault;
 use crate::texts;
 use rope_leaves::Leaves;
+pub use rope_leaves::whole;
 use ropey_tree::node::Node;
 use std::alloc::Global;
 use std::rc::Rc;
-
-pub use rope_leaves::whole;
 
 /// The tree of the leaves that a word of a row spells, and none of no text.
 pub fn tree(alloc: Global, word: &str) -> Result<Option<Rc<Node>>, Fault> {
