@@ -13,12 +13,23 @@ fn rope(rt: HostRuntime) -> Result<(), Fail> {
     assert!(rt; rope.try_line_to_byte(1) == Ok(5));
     assert!(rt; rope.try_char_to_byte(9) == Ok(12));
     assert!(rt; rope.try_char_to_utf16_cu(9) == Ok(10));
+    assert!(rt; rope.try_char_to_byte(10) == Err(Error::CharIndexOutOfBounds(10, 9)));
     assert!(rt; rope.get_char(8) == Some('🐸'));
 
     // A clone shares all of its source.
     let copy = rope.clone()?;
     let text = copy.to_text()?;
     assert!(rt; text.as_str() == "one\r\ntwo🐸");
+    Ok(())
+}
+
+#[test]
+fn an_edited_rope(rt: HostRuntime) -> Result<(), Fail> {
+    let mut rope = Rope::from_str(rt.alloc(), "ab\r\ncd")?;
+    rope.try_insert(3, "x")?;
+    assert!(rt; rope.eq_str("ab\rx\ncd"));
+    rope.try_remove(3..4)?;
+    assert!(rt; rope.eq_str("ab\r\ncd"));
     Ok(())
 }
 
