@@ -8,8 +8,8 @@
 //!
 //! An edit inside one chunk that leaves the chunk's ends as they are, and the chunk long enough,
 //! copies the path to it, at most 19 nodes. Any other one splits the tree and joins it again, in
-//! `O(log n)`; chunks that meet and fit into one become one, and each but the last keeps 462 bytes
-//! or more.
+//! `O(log n)`; chunks that meet and fit into one become one, and each but the first and the last
+//! keeps 462 bytes or more.
 
 ghost use Rattle.std.specs.Prelude.{◌≡◌, ◌+◌, ◌^◌, ◌<◌, ◌≤◌, ◌⊎◌, ◌↔◌, [], ◌∷◌, ◌++◌, length, take, drop, Err, OnOk, OnErr, IfOk, IfErr};
 ghost use Rattle.std.specs.Char.{len_utf8};
