@@ -8,7 +8,7 @@ PROGRAM = os.path.join(os.path.dirname(os.path.dirname(os.path.abspath(__file__)
 def read_reply(replies):
     """The next reply of a file of replies, whole."""
     line = reply = replies.readline()
-    while line.startswith(b"m "):  # of list, which ends with a line 'ok' and a number
+    while line.startswith(b"m ") and line.count(b" ") == 3:  # of list, which ends with a line 'ok' and a number
         line = replies.readline()
         reply += line
     if line.startswith(b"text "):  # of print: so many bytes, and LF

@@ -10,7 +10,7 @@ import os, re, select, sys, termios, tty
 sys.dont_write_bytecode = True
 from client import PROGRAM, Client
 
-BREAK = re.compile("\r\n|[\n-\r\x85\u2028\u2029]")  # what stands between two lines
+BREAK = re.compile("\r\n|[\r\n]")  # what stands between two lines
 
 
 def report(search, pattern):

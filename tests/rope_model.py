@@ -8,7 +8,7 @@ from bisect import bisect_right
 from itertools import accumulate
 
 # The characters that break lines. CR LF is one break. Ropes name this set once, and so does this model.
-BREAKS = "\n\v\f\r\x85\u2028\u2029"
+BREAKS = "\r\n"
 
 MOST_BYTES = 984  # of a chunk
 GREATEST = 2**64 - 1  # of all indices

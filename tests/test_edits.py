@@ -8,7 +8,10 @@ from protocol import Session, listed, positions_of, spelled
 
 CHARACTERS = "aab\r\r\n\n\u2028🐸é"
 SESSIONS, SESSIONS_IN_RUN = 20_000, 500
-SMALL = "\r\na"
+SMALL = "\r\na\v"
+# Patterns, those at the end refused.
+PATTERNS = ("a", "b", "ab", "x*", "a$", "^", r"\b", "(a|b)+", r"[^a]", "a|🐸", r"\w+", "(?i)A.", "aa", "é", "a\n", "", r"\n|b$", "[ab]{2,3}?", "(?m)^a", "a(", "*")
+SMALL_PATTERNS = ("a", "x*", "a$", "^", r"\b", "(a|b)+")
 
 
 class Writer:
@@ -69,17 +72,21 @@ def some_edit(chosen, writer):
 
 def some_command(chosen, writer):
     word = chosen.choices(
-        ("edit", "undo", "redo", "list", "print", "pattern", "text", "fork", "use", "off"),
-        (40, 14, 5, 20, 4, 7, 2, 3, 4, 1),
+        ("edit", "undo", "redo", "list", "print", "pattern", "text", "fork", "use", "off", "next"),
+        (40, 14, 5, 20, 4, 7, 2, 3, 4, 1, 9),
     )[0]
     if writer.commands[-1][0] in ("undo", "redo") and chosen.random() < 0.4:
         word = "redo"
     if word == "edit":
         some_edit(chosen, writer)
     elif word == "pattern":
-        writer.write("pattern", text=chosen.choice(("a", "a", "b", "ab", "aa", "🐸", "é", "a\n", "", "a*")))
+        writer.write("pattern", text=chosen.choice(PATTERNS))
     elif word == "text":
         writer.write("text", text=some_text(chosen, 12))
+    elif word == "next":
+        positions = positions_of(writer.session.buffer.text)
+        at = chosen.choice(positions) if chosen.random() < 0.9 else (chosen.randint(0, 4), chosen.randint(0, 5))
+        writer.write("next", *at)
     elif word == "use":
         writer.write("use", chosen.randint(max(len(writer.session.buffers) - 4, 0), len(writer.session.buffers)))
     else:
@@ -94,7 +101,7 @@ def some_sessions(seed, count):
         writer.write("off")
         writer.write("text", text=some_text(chosen, 12))
         if chosen.random() < 0.8:
-            writer.write("pattern", text=chosen.choice("aab"))
+            writer.write("pattern", text=chosen.choice(PATTERNS[:12]))
         for _ in range(chosen.randint(8, 20)):
             some_command(chosen, writer)
         for word in ("list", "print"):
@@ -108,20 +115,31 @@ def texts_of(most):
         yield from map("".join, itertools.product(SMALL, repeat=length))
 
 
-def edits_of(text):
-    """The text under the pattern `a` with each edit of it: what is listed is what the pattern, set anew,
-    lists, and what was listed before is listed after `undo`."""
+def edits_of(text, pattern):
+    """The text under a pattern with each edit of it: what is listed is what the pattern, set anew, lists, and what was
+    listed before is listed after `undo`."""
     writer = Writer()
     writer.write("text", text=text)
-    writer.write("pattern", text="a")
+    writer.write("pattern", text=pattern)
     for first, last in itertools.combinations_with_replacement(positions_of(text), 2):
         for payload in texts_of(2):
             assert writer.write("edit", *first, *last, text=payload) == b"ok\n"
-            assert writer.write("list") == listed(writer.session.buffer.text, "a")
-            writer.write("pattern", text="a")
+            assert writer.write("list") == listed(writer.session.buffer.text, pattern)
+            writer.write("pattern", text=pattern)
             writer.write("list")
             writer.write("undo")
             writer.write("list")
+    return writer
+
+
+def nexts_of(text):
+    """What is found from each position of a text, by each of some patterns."""
+    writer = Writer()
+    writer.write("text", text=text)
+    for pattern in (*SMALL_PATTERNS, r"\r", r"\n", r"\r\n", r"(?m)^a", r"(?m)a$", "[^a]"):
+        writer.write("pattern", text=pattern)
+        for position in positions_of(text):
+            writer.write("next", *position)
     return writer
 
 
@@ -144,6 +162,8 @@ def test_all():
         test(name, some_sessions(seed, SESSIONS_IN_RUN).problems())
     for length in range(5):
         texts = [text for text in texts_of(length) if len(text) == length]
-        name = f"the {len(texts)} texts of {length} characters over CR, LF and a"
-        test(f"{name}, each edit", (wrong for text in texts for wrong in edits_of(text).problems()))
+        name = f"the {len(texts)} texts of {length} characters over CR, LF, VT and a"
+        for pattern in SMALL_PATTERNS if length < 4 else ("a", "a$"):
+            test(f"{name}, each edit under {pattern}", (wrong for text in texts for wrong in edits_of(text, pattern).problems()))
+        test(f"{name}, next from each position", (wrong for text in texts for wrong in nexts_of(text).problems()))
         test(f"{name}, all positions", (wrong for text in texts for wrong in positions_around(text).problems()))

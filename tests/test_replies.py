@@ -25,9 +25,10 @@ def examples_of_page():
     return [(bytes_of(row[1] or ""), bytes_of(row[2] or ""), int(row[3])) for row in rows]
 
 
-# What has no character that stands for itself, or is empty; and what is a pattern.
-REFUSED_PATTERNS = ["\\", ".", "+", "*", "?", "(", ")", "|", "[", "{", "^", "$", "", "a.", "a*", "b\\c", "(b", "(d"]
-PATTERNS = ["]", "}", "-", "&", "a", " ", "\n", "é", "🐸", "]a}"]
+# What is outside the grammar; and what is a pattern, that matches nowhere in the empty text, or once.
+REFUSED_PATTERNS = ["\\", "+", "*", "?", "(", ")", "[", "{", "a{", "(b", "a)", "(?x)a", "(?=a)", "a{2,1}", "[b-a]", "\\q", "\\p{L}", "[a", "[[a]"]
+PATTERNS = ["]", "}", "-", "&", "a", " ", "\n", "é", "🐸", "]a}", ".", "a.", "a+", "[ab]", "(a)b", "\\w", "\\b", "a{2}"]
+EMPTY_PATTERNS = ["", "|", "^", "$", "a*", "a?", "()", "(?:a|b)*", "^$", "(?m)^$", "a{0}", "(?i)"]
 
 
 def with_payload(word, text):
@@ -83,7 +84,8 @@ MORE_EXAMPLES = [
     # what is a pattern, and what is left of the one before
     listed_after(REFUSED_PATTERNS, b"error pattern\n", b"error none\n"),
     listed_after(PATTERNS, b"ok\n", b"ok 0\n"),
-    (b"list\noff\npattern 1\n\xffpattern 2\na*list\npattern 5\nabcdelist\ntext 3\na\nalist\noff\nlist\n",
+    listed_after(EMPTY_PATTERNS, b"ok\n", b"m 0 0 0\nok 1\n"),
+    (b"list\noff\npattern 1\n\xffpattern 2\na(list\npattern 5\nabcdelist\ntext 3\na\nalist\noff\nlist\n",
      b"error none\nok\nerror utf8\nerror pattern\nerror none\nok\nok 0\nok\nok 0\nok\nerror none\n", 0),
     (b"text 2\nabpattern 1\nbpattern 7\n(\nlist\npattern 2\na\xfflist\n",
      b"ok\nok\nerror pattern\nerror utf8\nm 0 1 2\nok 1\n", 0),
@@ -91,7 +93,11 @@ MORE_EXAMPLES = [
     (b"pattern 65537\n" + b"a" * 65537 + b"list\n", b"error limit\nerror none\n", 0),
     (b"pattern 65537\n" + b"a" * 65536 + b"\xfflist\n", b"error utf8\nerror none\n", 0),
     (b"pattern 65537\n" + b"*" * 65537 + b"list\n", b"error limit\nerror none\n", 0),
-    (b"pattern 65536\n" + b"a" * 65535 + b"*list\n", b"error pattern\nerror none\n", 0),
+    (b"pattern 501\n" + b"(" * 250 + b"a" + b")" * 250 + b"list\n", b"ok\nok 0\n", 0),
+    (b"pattern 503\n" + b"(" * 251 + b"a" + b")" * 251 + b"list\n", b"error pattern\nerror none\n", 0),
+    (b"pattern 1401\na" + b"{65535}" * 200 + b"list\n", b"error limit\nerror none\n", 0),
+    (b"pattern 18\na{65535}{65535}{0}", b"ok\n", 0),
+    (b"pattern 17\n^a{65535}a{65535}pattern 18\n^^a{65535}a{65535}", b"ok\nerror limit\n", 0),
     # the matches in a line
     (with_payload("text", "\na\na🐸b") + b"pattern 1\nblist\n", b"ok\nok\nm 2 3 4\nok 1\n", 0),
     (with_payload("text", "é🐸🐸") + with_payload("pattern", "🐸") + b"list\n", b"ok\nok\nm 0 1 3\nm 0 3 5\nok 2\n", 0),
@@ -102,7 +108,7 @@ MORE_EXAMPLES = [
     # the report follows the text, and stays with its buffer
     (b"text 2\nabpattern 1\nblist\ntext 3\nb\nblist\n", b"ok\nok\nm 0 1 2\nok 1\nok\nm 0 0 1\nm 1 0 1\nok 2\n", 0),
     (b"text 1\napattern 1\nafork\nuse 1\nlist\nuse 0\nlist\n", b"ok\nok\nok 1\nok\nerror none\nok\nm 0 0 1\nok 1\n", 0),
-    (with_payload("text", "ab\r\nba\u2028") + b"pattern 1\nalist\nfork\nuse 1\nlist\nuse 0\npattern 2\na*text 1\na"
+    (with_payload("text", "ab\r\nba\u2028") + b"pattern 1\nalist\nfork\nuse 1\nlist\nuse 0\npattern 2\na(text 1\na"
      + b"list\noff\nlist\noff\n",
      b"ok\nok\nm 0 0 1\nm 1 1 2\nok 2\nok 1\nok\nerror none\nok\nerror pattern\nok\n"
      + b"m 0 0 1\nok 1\nok\nerror none\nok\n", 0),

@@ -13,7 +13,7 @@ from rope_rows import check, leaves_row
 from rope_texts import LETTERS, cut_at_random, cuttings, pairs, shortest_leaves, small_texts, text_at_random
 
 
-# Each character that breaks lines, and those beside them that don't.
+# Each character that breaks lines, and those that break none: the other line ends of Unicode, and their neighbours.
 ALL_BREAKS = "a\nb\vc\fd\re\r\nf\x85g\u2028h\u2029i\t\x0e\x1f ¥\x84\x86\u2027\u202a"
 
 # A text, what is asked of a rope of it and of a slice over it, and the answer.
@@ -62,7 +62,8 @@ VECTORS = [
     ("aé🐸", "chars,1,ncrnlrrn", "e9,,,e9,Some(1),,,61,"),
     ("aé", "bytes,0,lpncnlrnn", "Some(3),-,61,,c3,Some(1),,c3,61,"),
     ("aé", "bytes,4,n", "None"),
-    (ALL_BREAKS, "lengths", "39 27 27 9"),
+    (ALL_BREAKS, "lengths", "39 27 27 4"),
+    ("\x85", "lengths", "2 1 1 1"),
 ]
 
 # The answers to a range over `aé\r\n` as one of characters and as one of bytes, where None is not asked.

@@ -1,3 +1,4 @@
 mod FewLaws
 pub mod ShowingLaws
+pub mod PatternLemmas
 pub mod PlaceLaws

@@ -10,7 +10,7 @@ use Rattle.rx_grammar.specs.Settings.{default_settings}
 use Rattle.rx_walks.specs.Finds.{Search}
 use Rattle.rx_program.specs.declared.error.BuildError.{BuildError}
 use Rattle.rx_steps.specs.Caches as cache
-use Rattle.rx_steps.specs.Caches.{CacheView}
+pub use Rattle.rx_steps.specs.Caches.{CacheView}
 use Rattle.rx_steps.specs.Searching.{search_of, IsAnswer}
 -- a regex is seen as an engine is
 pub use Rattle.rx_chunk.specs.Engines.{Engine, Wanted, IsFound, TellsWhether}

@@ -3,6 +3,7 @@
 #![tactic(auto)]
 
 pub mod engines;
+pub mod laws;
 mod ropey_cursor;
 pub mod util;
 

@@ -1,6 +1,6 @@
 -- Whole inputs: each may be answered, and what follows a bad line changes nothing.
 use Rattle.std.proofs.Common.{ℕ, List, ◌++◌, refl, sym, subst}
-use Rattle.rope_search_reports.specs.Laws.{HasOnePlace, HasReport}
+use Rattle.rope_search_reports.specs.Laws.{HasReport}
 use Rattle.rope_search.specs.declared.endings.Ended.{Ended}
 use Rattle.rope_search.specs.declared.endings.Ended.TheVariants.{Command}
 use Rattle.rope_search.specs.Order.{Order}
@@ -9,14 +9,16 @@ use Rattle.rope_search.specs.Reads.{Reads}
 use Rattle.rope_search.specs.Shows.{closing}
 use Rattle.rope_search.specs.Answers.{Run, Answers}
 use Rattle.rope_search.proofs.RunLaws.{Reads-more}
-use Rattle.rope_search.proofs.StepLaws.{run_exists}
+use Rattle.rope_search.proofs.HoldLaws.{first_holds}
+use Rattle.rope_search.proofs.StepLaws.{Known}
+use Rattle.rope_search.proofs.ExistLaws.{run_exists}
 use Rattle.rope_search.proofs.ReadLaws.{reads_exist, reads_one}
 
 -- each input may be answered
-pub answers_exist : HasOnePlace → HasReport → (limit : ℕ) (input : List ℕ) → (ending : Ended) × (output : List ℕ) × (cost : ℕ) × Answers limit input ending output cost
-answers_exist placed reported limit input =
+pub answers_exist : Known → HasReport → (limit : ℕ) (input : List ℕ) → (ending : Ended) × (output : List ℕ) × (cost : ℕ) × Answers limit input ending output cost
+answers_exist known reported limit input =
     let reads = reads_exist input in
-    let run = run_exists placed reported limit first reads.0 in
+    let run = run_exists known reported limit first reads.0 first_holds in
     (reads.1, run.0 ++ closing reads.1, run.1, record { orders = reads.0; replies = run.0; last = run.2; reads = reads.2; run = run.3; shown = refl })
 
 -- an input that ended by a bad line is answered as without what follows that

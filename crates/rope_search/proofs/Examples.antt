@@ -7,7 +7,6 @@ use Rattle.std.proofs.Math.Utf8.{encode}
 use Rattle.rope_search_io.specs.declared.faults.Fault.TheVariants.{Nothing, Range, Utf8, Pattern, Limit, Size, Memory}
 use Rattle.rope_search.specs.declared.commands.Reply.TheVariants.{Done, Number, List as Listing, Print}
 use Rattle.rope_search.specs.declared.endings.Ended.TheVariants.{Input, Command, Cut}
-use Rattle.rope_search_reports.specs.Pattern.{is_meta}
 use Rattle.rope_search_reports.specs.Report.{line_texts}
 use Rattle.rope_search.specs.Places.{IsBetween, IsEdit}
 use Rattle.rope_search.specs.Session.{State, fresh, first, current_text, with_edit, undone, redone}
@@ -21,12 +20,6 @@ digits_zeros = refl
 
 pub digits_many : digits_after 0 (codes "18446744073709551615") ≡ 18446744073709551615
 digits_many = refl
-
--- ---- patterns
-
--- a dot and a dollar are meta characters, a closing bracket and an LF aren't
-pub meta_some : map is_meta (codes ".$]\n") ≡ true ∷ true ∷ false ∷ false ∷ []
-meta_some = refl
 
 -- ---- what is written
 

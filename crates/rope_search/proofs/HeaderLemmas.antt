@@ -1,8 +1,8 @@
 -- Numbers by their digits, from the left.
-use Rattle.std.proofs.Common.{◌≡◌, ◌↔◌, ℕ, ◌+◌, ◌-◌, ◌*◌, ◌^◌, ◌<◌, ◌≤◌, List, [], ◌∷◌, ◌++◌, length, drop, get_or, codes, sym, ap, ◌∙◌, subst, refl, add-one, append_assoc, append-nil, length-append, arith}
-use Rattle.std.proofs.lemmas.List.{append_cancel_left}
+use Rattle.std.proofs.Common.{◌≡◌, ◌↔◌, ℕ, ◌+◌, ◌-◌, ◌*◌, ◌^◌, ◌<◌, ◌≤◌, List, [], ◌∷◌, ◌++◌, length, take, drop, zero, suc, slice_index_or, inl, inr, get_or, codes, sym, ap, ◌∙◌, subst, refl, add-one, append_assoc, append-nil, length-append, arith}
+use Rattle.std.proofs.lemmas.List.{append_cancel_left, take_all, drop_all}
 use Rattle.rope_search_reports.specs.declared.positions.Position.{Position}
-use Rattle.rope_search.specs.Order.{Order, SetText, EditText, SetPattern, UseBuffer}
+use Rattle.rope_search.specs.Order.{Order, SetText, EditText, SetPattern, FindNext, UseBuffer}
 use Rattle.rope_search.proofs.NumberLaws.{AreSpelled-first, IsNumber-one}
 use Rattle.rope_search.proofs.ReadLaws.{fronts_same}
 use Rattle.rope_search.proofs.LineLaws.{positions_same, IsLine-first, IsLine-third}
@@ -175,6 +175,27 @@ header_use line k told o = (from o, to o)
     to (UseBuffer n) h = (told (n ∷ [])).1 (ap (λ m. m ∷ []) h)
     to p h = absurd h
 
+pub header_next : (line : List ℕ) (start : Position) → ((ns : List ℕ) → IsWorded (codes "next") line ns ↔ ns ≡ start.line ∷ start.column ∷ [])
+    → (o : Order) → IsLine o line ↔ IsHeaderOf (FindNext start) o
+header_next line start told o = (from o, to o)
+  where
+    there : IsWorded (codes "next") line (start.line ∷ start.column ∷ [])
+    there = (told (start.line ∷ start.column ∷ [])).1 refl
+
+    same : (a : Position) → a.line ∷ a.column ∷ [] ≡ start.line ∷ start.column ∷ [] → a ≡ start
+    same a e =
+        let l : a.line ≡ start.line = cc in
+        let c : a.column ≡ start.column = cc in
+        positions_same a start l c
+
+    from : (o : Order) → IsLine o line → IsHeaderOf (FindNext start) o
+    from (FindNext a) h = same a ((told (a.line ∷ a.column ∷ [])).0 h)
+    from p h = absurd (omega (arith, IsLine-first p line h, IsLine-third p line h, ap (λ l. get_or l 0 0) there.2, ap (λ l. get_or l 2 0) there.2))
+
+    to : (o : Order) → IsHeaderOf (FindNext start) o → IsLine o line
+    to (FindNext a) h = (told (a.line ∷ a.column ∷ [])).1 (let starts : a ≡ start = h in cc)
+    to p h = absurd h
+
 -- the numbers of an edit between these positions
 abbrev pub edit_numbers : Position → Position → ℕ → List ℕ
 edit_numbers from to n = from.line ∷ from.column ∷ to.line ∷ to.column ∷ n ∷ []
@@ -206,3 +227,23 @@ header_edit line start end len told o = (from o, to o)
         let few : length payload ≡ len = h.2 in
         (told (edit_numbers a b (length payload))).1 (cc)
     to p h = absurd h
+
+-- ---- up to the first space
+
+pub no_space_more : (bytes : List ℕ) (at : ℕ) → at < length bytes → (slice_index_or bytes at 0 ≡ 32 → ⊥) → HasNoSpace (take at bytes) → HasNoSpace (take (at + 1) bytes)
+no_space_more [] at inside other none = absurd (omega (arith, inside))
+no_space_more (b ∷ bs) zero inside other none = (other, tt)
+no_space_more (b ∷ bs) (suc at) inside other none =
+    let same : suc at + 1 ≡ suc (at + 1) = omega arith in
+    subst (λ n. HasNoSpace (take n (b ∷ bs))) (sym same) (none.0, no_space_more bs at (omega (arith, inside)) other none.1)
+
+pub no_space_all : (bytes : List ℕ) (at : ℕ) → HasNoSpace (take at bytes) → length bytes ≤ at → HasNoSpace (take (length bytes) bytes)
+no_space_all bytes at none past = subst HasNoSpace (take_all at bytes past ∙ sym (take_all (length bytes) bytes (omega arith))) none
+
+pub space_ends : (bytes : List ℕ) (at : ℕ) → at < length bytes → slice_index_or bytes at 0 ≡ 32 → EndsNumber (drop at bytes)
+space_ends [] at inside is = absurd (omega (arith, inside))
+space_ends (b ∷ bs) zero inside is = inr (bs, ap (λ c. c ∷ bs) is)
+space_ends (b ∷ bs) (suc at) inside is = space_ends bs at (omega (arith, inside)) is
+
+pub none_left : (bytes : List ℕ) → EndsNumber (drop (length bytes) bytes)
+none_left bytes = inl (drop_all (length bytes) bytes (omega arith))

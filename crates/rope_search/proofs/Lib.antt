@@ -8,7 +8,6 @@ pub mod NoneLaws
 pub mod NumberLaws
 pub mod PartLaws
 pub mod PatchLemmas
-pub mod PatternLemmas
 pub mod PayloadLemmas
 pub mod PutLemmas
 pub mod ReadLaws
@@ -16,8 +15,11 @@ pub mod RequestLemmas
 pub mod RunEndings
 pub mod RunLaws
 pub mod SessionLemmas
+pub mod NextLemmas
 pub mod StandLaws
+pub mod HoldLaws
 pub mod StepLaws
+pub mod ExistLaws
 pub mod TakesLemmas
 pub mod TextLaws
 pub mod TextLemmas

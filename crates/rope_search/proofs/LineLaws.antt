@@ -3,7 +3,7 @@ use Rattle.std.proofs.Common.{◌≡◌, ℕ, ◌≤◌, ◌⊎◌, List, [], �
 use Rattle.std.proofs.lemmas.Bool.{cases_eq}
 use Rattle.std.proofs.lemmas.List.{length-replicate, append_cancel_left}
 use Rattle.rope_search_reports.specs.declared.positions.Position.{Position}
-use Rattle.rope_search.specs.Order.{Order, SetText, EditText, UndoEdit, RedoEdit, PrintText, ForkBuffer, SetPattern, DropPattern, ListMatches, UseBuffer}
+use Rattle.rope_search.specs.Order.{Order, SetText, EditText, UndoEdit, RedoEdit, PrintText, ForkBuffer, SetPattern, DropPattern, ListMatches, FindNext, UseBuffer}
 use Rattle.rope_search.specs.Reads.{AreSpelled, IsWorded, payload_of, IsLine, HasNoLf}
 use Rattle.rope_search.proofs.NumberLaws.{spelled_choice, AreSpelled-one, HasNoLf-append, HasNoLf-spelled, length-spelled_le}
 
@@ -78,6 +78,19 @@ five_choice word line = elim (worded_choice word line) [ inr none ↦ inr (λ a 
     told (a ∷ []) h = inr (counted (a ∷ []) (λ e. omega arith) h)
     told [] h = inr (counted [] (λ e. omega arith) h)
 
+-- a line is a word and then two numbers, or not
+pub two_choice : (word line : List ℕ) → ((a b : ℕ) × IsWorded word line (a ∷ b ∷ [])) ⊎ ((a b : ℕ) → IsWorded word line (a ∷ b ∷ []) → ⊥)
+two_choice word line = elim (worded_choice word line) [ inr none ↦ inr (λ a b. none (a ∷ b ∷ [])) | inl some ↦ told some.0 some.1 ]
+  where
+    counted : (ns : List ℕ) → (length ns ≡ 2 → ⊥) → IsWorded word line ns → (a b : ℕ) → IsWorded word line (a ∷ b ∷ []) → ⊥
+    counted ns other h a b worded = other (ap length (IsWorded-one word line ns (a ∷ b ∷ []) h worded))
+
+    told : (ns : List ℕ) → IsWorded word line ns → ((a b : ℕ) × IsWorded word line (a ∷ b ∷ [])) ⊎ ((a b : ℕ) → IsWorded word line (a ∷ b ∷ []) → ⊥)
+    told (a ∷ b ∷ []) h = inl (a, b, h)
+    told (a ∷ b ∷ c ∷ ns) h = inr (counted (a ∷ b ∷ c ∷ ns) (λ e. omega arith) h)
+    told (a ∷ []) h = inr (counted (a ∷ []) (λ e. omega arith) h)
+    told [] h = inr (counted [] (λ e. omega arith) h)
+
 -- a line that has the word of each command in vain is no command's
 pub record IsNoLine (line : List ℕ) : Type 0 where
   pub no_text : (n : ℕ) → IsWorded (codes "text") line (n ∷ []) → ⊥
@@ -89,6 +102,7 @@ pub record IsNoLine (line : List ℕ) : Type 0 where
   pub no_pattern : (n : ℕ) → IsWorded (codes "pattern") line (n ∷ []) → ⊥
   pub no_off : line ≡ codes "off" → ⊥
   pub no_list : line ≡ codes "list" → ⊥
+  pub no_next : (a b : ℕ) → IsWorded (codes "next") line (a ∷ b ∷ []) → ⊥
   pub no_use : (n : ℕ) → IsWorded (codes "use") line (n ∷ []) → ⊥
 
 pub no_line : (line : List ℕ) → IsNoLine line → (o : Order) → IsLine o line → ⊥
@@ -101,6 +115,7 @@ no_line line none ForkBuffer h = none.no_fork h
 no_line line none (SetPattern payload) h = none.no_pattern (length payload) h
 no_line line none DropPattern h = none.no_off h
 no_line line none ListMatches h = none.no_list h
+no_line line none (FindNext from) h = none.no_next from.line from.column h
 no_line line none (UseBuffer k) h = none.no_use k h
 
 -- a payload of so many bytes
@@ -121,18 +136,22 @@ line_choice line = elim (one_choice (codes "text") line) [
         inl (EditText from to (bytes_for edit.4), as_long (codes "edit") line (edit.0 ∷ edit.1 ∷ edit.2 ∷ edit.3 ∷ []) edit.4 edit.5)
     | inr no_edit ↦ elim (one_choice (codes "pattern") line) [
       | inl pattern ↦ inl (SetPattern (bytes_for pattern.0), as_long (codes "pattern") line [] pattern.0 pattern.1)
-      | inr no_pattern ↦ elim (one_choice (codes "use") line) [
-        | inl chosen ↦ inl (UseBuffer chosen.0, chosen.1)
-        | inr no_use ↦ plain_choice no_text no_edit no_pattern no_use
+      | inr no_pattern ↦ elim (two_choice (codes "next") line) [
+        | inl next ↦ inl (FindNext (record { line = next.0; column = next.1 }), next.2)
+        | inr no_next ↦ elim (one_choice (codes "use") line) [
+          | inl chosen ↦ inl (UseBuffer chosen.0, chosen.1)
+          | inr no_use ↦ plain_choice no_text no_edit no_pattern no_next no_use
+        ]
       ]
     ]
   ]
 ]
   where
     plain_choice : ((n : ℕ) → IsWorded (codes "text") line (n ∷ []) → ⊥) → ((a b c d n : ℕ) → IsWorded (codes "edit") line (five a b c d n) → ⊥)
-        → ((n : ℕ) → IsWorded (codes "pattern") line (n ∷ []) → ⊥) → ((n : ℕ) → IsWorded (codes "use") line (n ∷ []) → ⊥)
+        → ((n : ℕ) → IsWorded (codes "pattern") line (n ∷ []) → ⊥) → ((a b : ℕ) → IsWorded (codes "next") line (a ∷ b ∷ []) → ⊥)
+        → ((n : ℕ) → IsWorded (codes "use") line (n ∷ []) → ⊥)
         → ((o : Order) × IsLine o line) ⊎ ((o : Order) → IsLine o line → ⊥)
-    plain_choice no_text no_edit no_pattern no_use = elim (list_choice line (codes "undo")) [
+    plain_choice no_text no_edit no_pattern no_next no_use = elim (list_choice line (codes "undo")) [
       | inl undo ↦ inl (UndoEdit, undo)
       | inr no_undo ↦ elim (list_choice line (codes "redo")) [
         | inl redo ↦ inl (RedoEdit, redo)
@@ -154,6 +173,7 @@ line_choice line = elim (one_choice (codes "text") line) [
                   no_pattern = no_pattern;
                   no_off = no_off;
                   no_list = no_list;
+                  no_next = no_next;
                   no_use = no_use;
                 }))
               ]
@@ -176,6 +196,7 @@ first_byte ForkBuffer = 102
 first_byte (SetPattern payload) = 112
 first_byte DropPattern = 111
 first_byte ListMatches = 108
+first_byte (FindNext from) = 110
 first_byte (UseBuffer k) = 117
 
 abbrev pub third_byte : Order → ℕ
@@ -188,12 +209,14 @@ third_byte ForkBuffer = 114
 third_byte (SetPattern payload) = 116
 third_byte DropPattern = 102
 third_byte ListMatches = 115
+third_byte (FindNext from) = 120
 third_byte (UseBuffer k) = 101
 
 pub IsLine-first : (o : Order) (line : List ℕ) → IsLine o line → get_or line 0 0 ≡ first_byte o
 IsLine-first (SetText payload) line h = ap (λ l. get_or l 0 0) h.2
 IsLine-first (EditText from to payload) line h = ap (λ l. get_or l 0 0) h.2
 IsLine-first (SetPattern payload) line h = ap (λ l. get_or l 0 0) h.2
+IsLine-first (FindNext from) line h = ap (λ l. get_or l 0 0) h.2
 IsLine-first (UseBuffer k) line h = ap (λ l. get_or l 0 0) h.2
 IsLine-first o line h = ap (λ l. get_or l 0 0) h
 
@@ -201,6 +224,7 @@ pub IsLine-third : (o : Order) (line : List ℕ) → IsLine o line → get_or li
 IsLine-third (SetText payload) line h = ap (λ l. get_or l 2 0) h.2
 IsLine-third (EditText from to payload) line h = ap (λ l. get_or l 2 0) h.2
 IsLine-third (SetPattern payload) line h = ap (λ l. get_or l 2 0) h.2
+IsLine-third (FindNext from) line h = ap (λ l. get_or l 2 0) h.2
 IsLine-third (UseBuffer k) line h = ap (λ l. get_or l 2 0) h.2
 IsLine-third o line h = ap (λ l. get_or l 2 0) h
 
@@ -229,6 +253,16 @@ positions_told line from to start end n m one other =
     let d : to.column ≡ end.column = cc in
     (positions_same from start a b, positions_same to end c d)
 
+position_told : (line : List ℕ) (from start : Position) → IsWorded (codes "next") line (from.line ∷ from.column ∷ [])
+    → IsWorded (codes "next") line (start.line ∷ start.column ∷ []) → from ≡ start
+position_told line from start one other =
+    let ms : List ℕ = from.line ∷ from.column ∷ [] in
+    let ns : List ℕ = start.line ∷ start.column ∷ [] in
+    let e : ms ≡ ns = IsWorded-one (codes "next") line ms ns one other in
+    let a : from.line ≡ start.line = cc in
+    let b : from.column ≡ start.column = cc in
+    positions_same from start a b
+
 -- two commands with one line have payloads of one length
 pub IsLine-one : (o p : Order) (line : List ℕ) → IsLine o line → IsLine p line → length (payload_of o) ≡ length (payload_of p)
 IsLine-one (SetText payload) (SetText payload') line one other = one_told (codes "text") line (length payload) (length payload') one other
@@ -241,6 +275,7 @@ IsLine-one ForkBuffer ForkBuffer line one other = refl
 IsLine-one (SetPattern payload) (SetPattern payload') line one other = one_told (codes "pattern") line (length payload) (length payload') one other
 IsLine-one DropPattern DropPattern line one other = refl
 IsLine-one ListMatches ListMatches line one other = refl
+IsLine-one (FindNext from) (FindNext start) line one other = refl
 IsLine-one (UseBuffer k) (UseBuffer j) line one other = refl
 IsLine-one o p line one other = absurd (omega (arith, IsLine-first o line one, IsLine-first p line other, IsLine-third o line one, IsLine-third p line other))
 
@@ -259,6 +294,7 @@ IsLine-same ForkBuffer ForkBuffer line one other same = refl
 IsLine-same (SetPattern payload) (SetPattern payload') line one other same = ap SetPattern same
 IsLine-same DropPattern DropPattern line one other same = refl
 IsLine-same ListMatches ListMatches line one other same = refl
+IsLine-same (FindNext from) (FindNext start) line one other same = ap FindNext (position_told line from start one other)
 IsLine-same (UseBuffer k) (UseBuffer j) line one other same = ap UseBuffer (one_told (codes "use") line k j one other)
 IsLine-same o p line one other same = absurd (omega (arith, IsLine-first o line one, IsLine-first p line other, IsLine-third o line one, IsLine-third p line other))
 
@@ -271,6 +307,7 @@ pub HasNoLf-line : (o : Order) (line : List ℕ) → IsLine o line → HasNoLf l
 HasNoLf-line (SetText payload) line h = HasNoLf-worded (codes "text") line (length payload ∷ []) (omega arith) h
 HasNoLf-line (EditText from to payload) line h = HasNoLf-worded (codes "edit") line (five from.line from.column to.line to.column (length payload)) (omega arith) h
 HasNoLf-line (SetPattern payload) line h = HasNoLf-worded (codes "pattern") line (length payload ∷ []) (omega arith) h
+HasNoLf-line (FindNext from) line h = HasNoLf-worded (codes "next") line (from.line ∷ from.column ∷ []) (omega arith) h
 HasNoLf-line (UseBuffer k) line h = HasNoLf-worded (codes "use") line (k ∷ []) (omega arith) h
 HasNoLf-line o line h = subst HasNoLf (sym h) (omega arith)
 
@@ -279,5 +316,6 @@ length-line_le (SetText payload) line h = omega (arith, ap length h.2, length-sp
 length-line_le (EditText from to payload) line h =
     omega (arith, ap length h.2, length-spelled_le (five from.line from.column to.line to.column (length payload)) h.0 h.1)
 length-line_le (SetPattern payload) line h = omega (arith, ap length h.2, length-spelled_le (length payload ∷ []) h.0 h.1)
+length-line_le (FindNext from) line h = omega (arith, ap length h.2, length-spelled_le (from.line ∷ from.column ∷ []) h.0 h.1)
 length-line_le (UseBuffer k) line h = omega (arith, ap length h.2, length-spelled_le (k ∷ []) h.0 h.1)
 length-line_le o line h = omega (arith, ap length h)

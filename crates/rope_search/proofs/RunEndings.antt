@@ -7,7 +7,7 @@ use Rattle.rope_search_io.specs.declared.faults.Broken.TheVariants.{Read, Write,
 use Rattle.rope_search_io.specs.Sources.{SourceState, SinkState}
 use Rattle.rope_search_io.specs.ReadBuffer.{to_come, most_to_come}
 use Rattle.rope_search_io.specs.WriteBuffer.{Writes, WritesFront}
-use Rattle.rope_search_reports.specs.Laws.{HasOnePlace, HasReport}
+use Rattle.rope_search_reports.specs.Laws.{HasReport}
 use Rattle.rope_search.specs.declared.endings.Ended.{Ended}
 use Rattle.rope_search.specs.declared.endings.Ended.TheVariants.{Input, Command, Cut}
 use Rattle.rope_search_reports.specs.Ticks.{Ticks}
@@ -19,7 +19,9 @@ use Rattle.rope_search.specs.Requests.{TakesEnding, IsUnfinished}
 use Rattle.rope_search.specs.Runs.{Scene, start, SoFar, Turned, TakesTurn, OnlyReads, TellsEnd, SearchesWithin, FlushesAll, FlushesLast, IsAnswered, IsAnswerTo, AnswersWhole, StopsFor, StopsReading, StopsWriting, Ran, Closes, ClosesWhole, ClosesFront}
 use Rattle.rope_search.proofs.RunLaws.{Ends-more, Reads-more, Reads-after, Run-append, Run-push, SpellAll-append, SpellAll-one}
 use Rattle.rope_search.proofs.TurnLemmas.{SearchesWithin-more, SearchesWithin-trans}
-use Rattle.rope_search.proofs.StepLaws.{run_exists}
+use Rattle.rope_search.proofs.StepLaws.{Known}
+use Rattle.rope_search.proofs.ExistLaws.{run_exists}
+use Rattle.rope_search.proofs.TextLaws.{holds_always}
 use Rattle.rope_search.proofs.ReadLaws.{reads_exist}
 
 -- what was read from the source: the bytes that were taken, and those that are still in the buffer
@@ -197,16 +199,16 @@ stopped limit broken source sink ticks mid new so only rest unfinished consumed 
 
 -- ---- the sink failed in the middle of a reply
 
-cut_short : HasOnePlace → HasReport → (limit : ℕ) (source : SourceState) (sink : SinkState) (ticks : Ticks) (mid new : Scene)
+cut_short : Known → HasReport → (limit : ℕ) (source : SourceState) (sink : SinkState) (ticks : Ticks) (mid new : Scene)
     → SoFar limit (start source sink ticks) mid → Turned limit mid new (WritesFront mid.sink new.sink) → StopsWriting limit source new.source sink new.sink ticks new.ticks
-cut_short placed reported limit source sink ticks mid new so turned =
+cut_short known reported limit source sink ticks mid new so turned =
     let bytes = so.bytes ++ turned.bytes in
     let orders = so.orders ++ turned.order ∷ [] in
     let shown = turned.reply.bytes in
     let spells = SpellAll-append so.orders (turned.order ∷ []) so.bytes turned.bytes so.spells (SpellAll-one turned.order turned.bytes turned.spells) in
     let run = Run-push limit first mid.session new.session so.orders turned.order so.out so.cost turned.cost turned.answer shown so.run turned.step turned.costs turned.reply.shows in
     let unread = reads_exist new.buffer.bytes in
-    let later = run_exists placed reported limit new.session unread.0 in
+    let later = run_exists known reported limit new.session unread.0 (holds_always known.told limit new.session (so.orders ++ turned.order ∷ []) (so.out ++ turned.reply.bytes) (so.cost + turned.cost) run) in
     record {
       input = bytes ++ new.buffer.bytes;
       orders = orders ++ unread.0;
@@ -232,18 +234,18 @@ cut_short placed reported limit source sink ticks mid new so turned =
       flushed = inl (turned.reply.written.flushed ∙ so.written.flushed);
     }
 
-pub Ran-broken : HasOnePlace → HasReport → (limit : ℕ) (broken : Broken) (source : SourceState) (sink : SinkState) (ticks : Ticks) (mid new : Scene)
+pub Ran-broken : Known → HasReport → (limit : ℕ) (broken : Broken) (source : SourceState) (sink : SinkState) (ticks : Ticks) (mid new : Scene)
     → SoFar limit (start source sink ticks) mid → TakesTurn limit (Err broken) mid new → Ran limit (Err broken) source new.source sink new.sink ticks new.ticks
-Ran-broken placed reported limit Write source sink ticks mid new so turn = cut_short placed reported limit source sink ticks mid new so turn
-Ran-broken placed reported limit Read source sink ticks mid new so turn =
+Ran-broken known reported limit Write source sink ticks mid new so turn = cut_short known reported limit source sink ticks mid new so turn
+Ran-broken known reported limit Read source sink ticks mid new so turn =
     let taken = turn.0.taken in
     stopped limit Read source sink ticks mid new so turn.1 turn.0.rest turn.0.unfinished taken.consumed taken.empty
     (taken.failed ∙ ap (λ n. n + 1) so.taken.sound) taken.open_end taken.wide
-Ran-broken placed reported limit Turns source sink ticks mid new so turn =
+Ran-broken known reported limit Turns source sink ticks mid new so turn =
     let taken = turn.0.taken in
     stopped limit Turns source sink ticks mid new so turn.1 turn.0.rest turn.0.unfinished taken.consumed taken.empty
     (taken.sound ∙ so.taken.sound, omega (arith, taken.many, taken.counted, so.taken.counted)) taken.open_end taken.wide
-Ran-broken placed reported limit Memory source sink ticks mid new so turn = absurd turn.0.taken
+Ran-broken known reported limit Memory source sink ticks mid new so turn = absurd turn.0.taken
 
 -- ---- the whole input
 

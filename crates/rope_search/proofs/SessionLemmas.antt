@@ -1,15 +1,19 @@
 -- Steps of a session on the list of its buffers.
-use Rattle.std.proofs.Common.{◌≡◌, ℕ, ◌+◌, ◌<◌, ◌≤◌, List, [], length, map, sym, ap, ◌∙◌, subst, inl, inr, IsUtf8, Ok, arith, slice_index_or, slice_set}
+use Rattle.std.proofs.Common.{◌≡◌, ℕ, ◌+◌, ◌<◌, ◌≤◌, ◌⊎◌, List, [], length, map, sym, ap, ◌∙◌, subst, inl, inr, refl, IsUtf8, Ok, Err, arith, slice_index_or, slice_set}
 use Rattle.std.proofs.lemmas.List.{map-set, get_or-map, get_or-set_same, set-get_or, length-map}
 use Rattle.rope_search.specs.declared.commands.Payload.{Payload}
 use Rattle.rope_search.specs.declared.commands.CommandOf.TheVariants.{Text, Pattern as PatternCommand}
 use Rattle.rope_search.specs.Order.{Order, SetText, SetPattern}
 use Rattle.rope_search.specs.Session.{State, BufferState, LimitedBuffer, LimitedSession, fresh, current_text, chosen_buffer, with_text, with_pattern, with_chosen}
-use Rattle.rope_search_reports.specs.Pattern.{IsPattern, pattern_limit}
+use Rattle.rope_search_reports.specs.Pattern.{IsPattern, IsTooHeavy, SpellsNone, pattern_limit}
+use Rattle.rope_search_reports.specs.Text.{line_count}
+use Rattle.rope_search_io.specs.declared.faults.Fault.{Fault}
+use Rattle.rope_search_io.specs.declared.faults.Fault.TheVariants.{Utf8, Pattern, Limit, Memory}
+use Rattle.rope_search_reports.specs.Laws.{IsOneOfThree}
 use Rattle.rope_search.specs.Stands.{Stands, StandsFor}
-use Rattle.rope_search.specs.Step.{Accepts, Does, Step}
-use Rattle.rope_search.specs.Cost.{Costs, rows_anew, rows_of_report}
-use Rattle.rope_search.proofs.StepLaws.{accepted_text, accepted_pattern}
+use Rattle.rope_search.specs.Step.{Refuses, Accepts, Does, Step}
+use Rattle.rope_search.specs.Cost.{Costs, CostsAccepted, rows_anew, rows_of_report}
+use Rattle.rope_search.proofs.StepLaws.{accepted_text, accepted_pattern, refused_limit, refused_pattern}
 use Rattle.std.proofs.lemmas.Bool.{cases_lt}
 use Rattle.std.specs.Prelude.{Some}
 use Rattle.rope_search.proofs.TextLemmas.{Encodes-chars}
@@ -126,10 +130,54 @@ rows_taken items k limit old bytes s count before c utf8 long rows cost costs =
 -- ---- a pattern
 
 -- the chosen buffer takes a pattern: a step of the session
-pub Step-take_pattern : (items : List LimitedBuffer) (k limit : ℕ) (old new : LimitedBuffer) (bytes : List ℕ) (s : LimitedSession) → Chosen items k limit old s
+pub Step-take_pattern : IsOneOfThree → (items : List LimitedBuffer) (k limit : ℕ) (old new : LimitedBuffer) (bytes : List ℕ) (s : LimitedSession) → Chosen items k limit old s
     → IsUtf8 bytes → length bytes ≤ pattern_limit → IsPattern (chars bytes) → new.state ≡ with_pattern old.state (Some (chars bytes))
     → Step s.limit s.state (SetPattern bytes) (Ok Done) (state_with items k new)
-Step-take_pattern items k limit old new bytes s c utf8 short is set = (
-  accepted_pattern s.limit s.state bytes utf8 short is,
+Step-take_pattern apart items k limit old new bytes s c utf8 short is set = (
+  accepted_pattern apart s.limit s.state bytes utf8 short is,
   (chars bytes, Encodes-chars bytes utf8, Chosen-set items k limit old new s (λ b. with_pattern b (Some (chars bytes))) c set),
 )
+
+-- and why it takes none
+pub Step-pattern_err : IsOneOfThree → (bytes : List ℕ) (s : LimitedSession) (fault : Fault) → IsUtf8 bytes → (fault ≡ Limit) ⊎ ((fault ≡ Pattern) ⊎ (fault ≡ Memory))
+    → (fault ≡ Limit → (pattern_limit < length bytes) ⊎ IsTooHeavy (chars bytes)) → (fault ≡ Pattern → (length bytes ≤ pattern_limit) × SpellsNone (chars bytes))
+    → Step s.limit s.state (SetPattern bytes) (Err fault) s.state
+Step-pattern_err apart bytes s fault utf8 (inl e) much none =
+    subst (λ f. Step s.limit s.state (SetPattern bytes) (Err f) s.state) (sym e) (refused_limit apart s.limit s.state bytes utf8 (much e), refl)
+Step-pattern_err apart bytes s fault utf8 (inr (inl e)) much none =
+    let why = none e in
+    subst (λ f. Step s.limit s.state (SetPattern bytes) (Err f) s.state) (sym e) (refused_pattern s.limit s.state bytes utf8 why.0 why.1, refl)
+Step-pattern_err apart bytes s fault utf8 (inr (inr e)) much none = subst (λ f. Step s.limit s.state (SetPattern bytes) (Err f) s.state) (sym e) (tt, refl)
+
+-- for what is refused no row is made
+refused_rows : IsOneOfThree → (limit : ℕ) (s : State) (bytes : List ℕ) (count before : ℕ) → IsUtf8 bytes → ((IsPattern (chars bytes) → ⊥) → count ≤ before)
+    → (pattern_limit < length bytes → count ≤ before) → (fault : Fault) → Refuses limit s (SetPattern bytes) fault → count ≤ before
+refused_rows apart limit s bytes count before utf8 none long Utf8 h = absurd (h utf8)
+refused_rows apart limit s bytes count before utf8 none long Pattern h = none (λ is. apart.some (chars bytes) is h.1)
+refused_rows apart limit s bytes count before utf8 none long Limit (inl over) = long over
+refused_rows apart limit s bytes count before utf8 none long Limit (inr heavy) = none (λ is. apart.not_heavy (chars bytes) is heavy)
+refused_rows apart limit s bytes count before utf8 none long fault h = absurd h
+
+-- a pattern that is accepted costs the rows of its report
+cost_of_pattern : (items : List LimitedBuffer) (k limit : ℕ) (old : LimitedBuffer) (bytes : List ℕ) (s : LimitedSession) (n : ℕ) → Chosen items k limit old s
+    → CostsAccepted s.limit s.state (SetPattern bytes) n → n ≡ line_count (current_text old.state)
+cost_of_pattern items k limit old bytes s n c costs = costs.rows ∙ told costs.reply costs.new costs.step.1
+  where
+    with_one : List ℕ → BufferState
+    with_one p = with_pattern (chosen_buffer s.state) (Some p)
+
+    told : (reply : Reply) (new : State) → Does s.state (SetPattern bytes) reply new → rows_of_report new ≡ line_count (current_text old.state)
+    told Done new h =
+        ap rows_of_report h.2
+        ∙ ap (λ (b : BufferState). rows_anew b (current_text b)) (Chosen-with items k limit old s c (with_pattern (chosen_buffer s.state) (Some h.0)))
+        ∙ ap (λ (b : BufferState). line_count (current_text b)) (Chosen-state items k limit old s c)
+    told reply new h = absurd h
+
+-- so the rows that a pattern may make are those of the command's cost
+pub pattern_rows : IsOneOfThree → (items : List LimitedBuffer) (k limit : ℕ) (old : LimitedBuffer) (bytes : List ℕ) (s : LimitedSession) (count before : ℕ) → Chosen items k limit old s
+    → IsUtf8 bytes → ((IsPattern (chars bytes) → ⊥) → count ≤ before) → (pattern_limit < length bytes → count ≤ before)
+    → count ≤ before + line_count (current_text old.state) → (cost : ℕ) → Costs s.limit s.state (SetPattern bytes) cost → count ≤ before + cost
+pattern_rows apart items k limit old bytes s count before c utf8 none long rows cost (inl refused) =
+    omega (arith, refused_rows apart s.limit s.state bytes count before utf8 none long refused.0 refused.1)
+pattern_rows apart items k limit old bytes s count before c utf8 none long rows cost (inr costs) =
+    omega (arith, rows, cost_of_pattern items k limit old bytes s cost c costs)

@@ -7,7 +7,7 @@ use Rattle.std.proofs.Math.Utf8.{encode, encodes, scalar, scalars}
 use Rattle.rope_search.specs.declared.commands.CommandOf.{CommandOf}
 use Rattle.rope_search.specs.declared.commands.Payload.{Payload}
 use Rattle.rope_search.specs.declared.commands.Payload.TheVariants.{Kept, Long, Lost}
-use Rattle.rope_search.specs.Order.{Order, SetText, EditText, UndoEdit, RedoEdit, PrintText, ForkBuffer, SetPattern, DropPattern, ListMatches, UseBuffer}
+use Rattle.rope_search.specs.Order.{Order, SetText, EditText, UndoEdit, RedoEdit, PrintText, ForkBuffer, SetPattern, DropPattern, ListMatches, FindNext, UseBuffer}
 use Rattle.rope_search_reports.specs.Pattern.{pattern_limit}
 use Rattle.rope_search.specs.Stands.{StandsFor, Stands}
 
@@ -52,4 +52,5 @@ stands_exist limit ForkBuffer = (ForkBuffer, tt)
 stands_exist limit (SetPattern payload) = let whole = payload_for pattern_limit payload in (SetPattern whole.0, whole.1)
 stands_exist limit DropPattern = (DropPattern, tt)
 stands_exist limit ListMatches = (ListMatches, tt)
+stands_exist limit (FindNext from) = (FindNext from, refl)
 stands_exist limit (UseBuffer k) = (UseBuffer k, refl)

@@ -1,30 +1,41 @@
 -- Each command has one reply, one next session and one cost, apart from want of memory.
 use Rattle.std.proofs.Common.{◌≡◌, ◌≢◌, ℕ, ◌+◌, ◌<◌, ◌≤◌, ◌⊎◌, List, [], ◌∷◌, ◌++◌, true, false, length, refl, sym, ap, ◌∙◌, subst, inl, inr, IsUtf8, arith}
-use Rattle.std.specs.Prelude.{Option, None, Some, MatchOption, Ok, Err, chars}
+use Rattle.std.specs.Prelude.{Option, None, Some, MatchOption, IfSome, Ok, Err, chars}
 use Rattle.std.specs.Str.{is_utf8}
 use Rattle.std.proofs.lemmas.Bool.{cases_Bool, cases_lt, cases_eq, cases_order}
 use Rattle.std.proofs.lemmas.Str.{IsUtf8-from_is_utf8, is_utf8-from_IsUtf8, chars_from_encodes}
 use Rattle.rope_search_io.specs.declared.faults.Fault.{Fault}
 use Rattle.rope_search_io.specs.declared.faults.Fault.TheVariants.{Nothing, Range, Utf8, Pattern, Limit, Size, Memory}
 use Rattle.rope_search.specs.declared.commands.Reply.{Reply}
-use Rattle.rope_search.specs.declared.commands.Reply.TheVariants.{Done, Number, List as Listing, Print}
-use Rattle.rope_search_reports.specs.Text.{Encodes}
-use Rattle.rope_search.specs.Order.{Order, SetText, EditText, UndoEdit, RedoEdit, PrintText, ForkBuffer, SetPattern, DropPattern, ListMatches, UseBuffer}
+use Rattle.rope_search.specs.declared.commands.Reply.TheVariants.{Done, Number, Found, NoMatch, List as Listing, Print}
+use Rattle.rope_search_reports.specs.Text.{IsText, Encodes, bytes_of}
+use Rattle.rope_search.specs.Order.{Order, SetText, EditText, UndoEdit, RedoEdit, PrintText, ForkBuffer, SetPattern, DropPattern, ListMatches, FindNext, UseBuffer}
 use Rattle.rope_search.specs.Session.{BufferState, State, fresh, current_text, chosen_buffer, with_text, with_edit, undone, redone, with_pattern, with_chosen}
 use Rattle.rope_search_reports.specs.declared.positions.Position.{Position}
 use Rattle.rope_search.specs.Places.{IsBetween, HasNoneBetween, GetsTooLong, IsEdit}
 use Rattle.rope_search.proofs.PartLaws.{edited_by, IsEdit-known, IsEdit-by, between_choice, long_choice, part_one}
-use Rattle.rope_search_reports.specs.Pattern.{IsPattern, pattern_limit}
-use Rattle.rope_search.proofs.PatternLemmas.{pattern_choice}
+use Rattle.rope_search_reports.specs.Pattern.{IsPattern, IsTooHeavy, SpellsNone, Finds, pattern_limit}
+use Rattle.rope_search_reports.specs.Position.{IsAt, IsNowhere, position}
+use Rattle.rope_search.specs.Finding.{FindsNext, TellsNext, ArePositionsOf}
+use Rattle.rope_search.specs.Laws.{AllHoldTexts, HoldsTexts}
+use Rattle.rope_search.proofs.HoldLaws.{chosen_holds, text_holds, pattern_holds}
+use Rattle.rope_search.proofs.LineLaws.{positions_same}
+use Rattle.rope_search.proofs.NoneLaws.{none_between}
+use Rattle.str_indices.specs.Text.{byte_len}
 use Rattle.rope_search_io.specs.Faults.{rank_of}
 use Rattle.rope_search.specs.Step.{Answer, Refuses, IsFirstRefusal, Accepts, Does, Step}
 use Rattle.rope_search.specs.Shows.{IsListed, Shows, shows}
 use Rattle.rope_search_reports.specs.Report.{IsReport}
-use Rattle.rope_search_reports.specs.Computed.{report}
-use Rattle.rope_search_reports.specs.Laws.{HasOnePlace, HasOneReport, HasReport}
+use Rattle.rope_search_reports.specs.Laws.{HasOnePlace, HasOneReport, HasReport, IsPatternOrNot, IsOneOfThree, FindsOne, HasFind}
 use Rattle.rope_search.specs.Cost.{Costs, CostsAccepted, rows_of}
-use Rattle.rope_search.specs.Answers.{Run}
-use Rattle.rope_search.proofs.RunLaws.{Run-nil}
+
+-- what is known of places, of patterns and of what is found of them
+pub record Known : Type 0 where
+  pub placed : HasOnePlace
+  pub told : IsPatternOrNot
+  pub apart : IsOneOfThree
+  pub one : FindsOne
+  pub some : HasFind
 
 -- bytes are UTF-8 or not
 pub utf8_choice : (bytes : List ℕ) → IsUtf8 bytes ⊎ (¬ (IsUtf8 bytes))
@@ -46,6 +57,7 @@ Refuses-memory limit s ForkBuffer h = h
 Refuses-memory limit s (SetPattern payload) h = h
 Refuses-memory limit s DropPattern h = h
 Refuses-memory limit s ListMatches h = h
+Refuses-memory limit s (FindNext from) h = h
 Refuses-memory limit s (UseBuffer k) h = h
 
 -- a payload that isn't UTF-8 is refused for that first
@@ -103,9 +115,9 @@ refused_pattern_utf8 limit s payload broken = record { refuses = broken; none_be
     before other lower h = omega arith
 
 -- a text that is no pattern is refused for that first
-pub refused_pattern : (limit : ℕ) (s : State) (payload : List ℕ) → IsUtf8 payload → length payload ≤ pattern_limit → ¬ (IsPattern (chars payload))
+pub refused_pattern : (limit : ℕ) (s : State) (payload : List ℕ) → IsUtf8 payload → length payload ≤ pattern_limit → SpellsNone (chars payload)
     → IsFirstRefusal limit s (SetPattern payload) Pattern
-refused_pattern limit s payload text short other_text = record { refuses = (short, other_text); none_before = before }
+refused_pattern limit s payload text short none = record { refuses = (short, none); none_before = before }
   where
     before : (other : Fault) → rank_of other < 4 → Refuses limit s (SetPattern payload) other → ⊥
     before Nothing lower h = h
@@ -113,15 +125,20 @@ refused_pattern limit s payload text short other_text = record { refuses = (shor
     before Utf8 lower h = h text
     before other lower h = omega arith
 
--- a pattern that is too long is refused for that first
-pub refused_limit : (limit : ℕ) (s : State) (payload : List ℕ) → IsUtf8 payload → pattern_limit < length payload → IsFirstRefusal limit s (SetPattern payload) Limit
-refused_limit limit s payload text long = record { refuses = long; none_before = before }
+-- a pattern that is too long or too heavy is refused for that first
+pub refused_limit : IsOneOfThree → (limit : ℕ) (s : State) (payload : List ℕ) → IsUtf8 payload → (pattern_limit < length payload) ⊎ IsTooHeavy (chars payload)
+    → IsFirstRefusal limit s (SetPattern payload) Limit
+refused_limit apart limit s payload text much = record { refuses = much; none_before = before }
   where
+    spelled : (pattern_limit < length payload) ⊎ IsTooHeavy (chars payload) → length payload ≤ pattern_limit → SpellsNone (chars payload) → ⊥
+    spelled (inl long) short none = omega (arith, long, short)
+    spelled (inr heavy) short none = apart.heavy_some (chars payload) heavy none
+
     before : (other : Fault) → rank_of other < 5 → Refuses limit s (SetPattern payload) other → ⊥
     before Nothing lower h = h
     before Range lower h = h
     before Utf8 lower h = h text
-    before Pattern lower h = omega (arith, h.0)
+    before Pattern lower h = spelled much h.0 h.1
     before other lower h = omega arith
 
 -- a text within the limit is accepted
@@ -151,15 +168,16 @@ accepted_use limit s k inside Size h = h
 accepted_use limit s k inside Memory h = h
 
 -- a pattern of at most so many bytes is accepted
-pub accepted_pattern : (limit : ℕ) (s : State) (payload : List ℕ) → IsUtf8 payload → length payload ≤ pattern_limit → IsPattern (chars payload)
+pub accepted_pattern : IsOneOfThree → (limit : ℕ) (s : State) (payload : List ℕ) → IsUtf8 payload → length payload ≤ pattern_limit → IsPattern (chars payload)
     → Accepts limit s (SetPattern payload)
-accepted_pattern limit s payload text short is Nothing h = h
-accepted_pattern limit s payload text short is Range h = h
-accepted_pattern limit s payload text short is Utf8 h = h text
-accepted_pattern limit s payload text short is Pattern h = h.1 is
-accepted_pattern limit s payload text short is Limit h = omega arith
-accepted_pattern limit s payload text short is Size h = h
-accepted_pattern limit s payload text short is Memory h = h
+accepted_pattern apart limit s payload text short is Nothing h = h
+accepted_pattern apart limit s payload text short is Range h = h
+accepted_pattern apart limit s payload text short is Utf8 h = h text
+accepted_pattern apart limit s payload text short is Pattern h = apart.some (chars payload) is h.1
+accepted_pattern apart limit s payload text short is Limit (inl long) = omega arith
+accepted_pattern apart limit s payload text short is Limit (inr heavy) = apart.not_heavy (chars payload) is heavy
+accepted_pattern apart limit s payload text short is Size h = h
+accepted_pattern apart limit s payload text short is Memory h = h
 
 pub accepted_off : (limit : ℕ) (s : State) → Accepts limit s DropPattern
 accepted_off limit s fault h = h
@@ -173,6 +191,45 @@ accepted_list limit s some Pattern h = h
 accepted_list limit s some Limit h = h
 accepted_list limit s some Size h = h
 accepted_list limit s some Memory h = h
+
+-- ---- what is found next
+
+-- without a pattern nothing is looked for
+pub refused_next : (limit : ℕ) (s : State) (from : Position) → (chosen_buffer s).pattern ≡ None → IsFirstRefusal limit s (FindNext from) Nothing
+refused_next limit s from none = record { refuses = none; none_before = before }
+  where
+    before : (other : Fault) → rank_of other < 1 → Refuses limit s (FindNext from) other → ⊥
+    before other lower h = rank_some other lower
+
+-- with one a position that is nowhere is refused
+pub refused_astray : (limit : ℕ) (s : State) (from : Position) → (chosen_buffer s).pattern ≢ None → IsNowhere (current_text (chosen_buffer s)) (from.line, from.column)
+    → IsFirstRefusal limit s (FindNext from) Range
+refused_astray limit s from some nowhere = record { refuses = nowhere; none_before = before }
+  where
+    before : (other : Fault) → rank_of other < 2 → Refuses limit s (FindNext from) other → ⊥
+    before Nothing lower h = some h
+    before other lower h = omega arith
+
+pub accepted_next : (limit : ℕ) (s : State) (from : Position) (place : ℕ) → (chosen_buffer s).pattern ≢ None → IsAt (current_text (chosen_buffer s)) (from.line, from.column) place
+    → Accepts limit s (FindNext from)
+accepted_next limit s from place some at Nothing h = some h
+accepted_next limit s from place some at Range h = h place at
+accepted_next limit s from place some at Utf8 h = h
+accepted_next limit s from place some at Pattern h = h
+accepted_next limit s from place some at Limit h = h
+accepted_next limit s from place some at Size h = h
+accepted_next limit s from place some at Memory h = h
+
+-- a position is at a place of a text, or nowhere in it
+pub spot_choice : HasOnePlace → (text : List ℕ) (from : Position) → IsText text → ((place : ℕ) × IsAt text (from.line, from.column) place) ⊎ IsNowhere text (from.line, from.column)
+spot_choice placed text from scalars = elim (between_choice placed text from from) [
+  | inl some ↦ inl (byte_len some.0, some.3.starts)
+  | inr none ↦ elim ((none_between placed text from from scalars).0 none) [
+    | inl nowhere ↦ inr nowhere
+    | inr (inl nowhere) ↦ inr nowhere
+    | inr (inr turned) ↦ absurd (omega (arith, turned.turned, placed text (from.line, from.column) turned.start turned.end scalars turned.starts turned.ends))
+  ]
+]
 
 -- ---- edits
 
@@ -269,41 +326,49 @@ edit_choice placed limit s from to payload = elim (between_choice placed (curren
 ]
 
 -- a command is refused for some first reason, or accepted
-pub refusal_choice : (placed : HasOnePlace) (limit : ℕ) (s : State) (o : Order) → ((f : Fault) × IsFirstRefusal limit s o f) ⊎ Accepts limit s o
-refusal_choice placed limit s (SetText payload) = elim (utf8_choice payload) [
+pub refusal_choice : Known → (limit : ℕ) (s : State) (o : Order) → AllHoldTexts s → ((f : Fault) × IsFirstRefusal limit s o f) ⊎ Accepts limit s o
+refusal_choice known limit s (SetText payload) all = elim (utf8_choice payload) [
   | inl text ↦ elim (cases_lt limit (length payload)) [
     | inl long ↦ inl (Size, refused_size limit s payload text long)
     | inr short ↦ inr (accepted_text limit s payload text short)
   ]
   | inr broken ↦ inl (Utf8, refused_utf8 limit s payload broken)
 ]
-refusal_choice placed limit s (EditText from to payload) = edit_choice placed limit s from to payload
-refusal_choice placed limit s UndoEdit = elim (cases_eq (chosen_buffer s).current 0) [
+refusal_choice known limit s (EditText from to payload) all = edit_choice known.placed limit s from to payload
+refusal_choice known limit s UndoEdit all = elim (cases_eq (chosen_buffer s).current 0) [
   | inl none ↦ inl (Nothing, refused_undo limit s none)
   | inr some ↦ inr (accepted_undo limit s some)
 ]
-refusal_choice placed limit s RedoEdit = elim (cases_lt ((chosen_buffer s).current + 1) (length (chosen_buffer s).texts)) [
+refusal_choice known limit s RedoEdit all = elim (cases_lt ((chosen_buffer s).current + 1) (length (chosen_buffer s).texts)) [
   | inl some ↦ inr (accepted_redo limit s some)
   | inr none ↦ inl (Nothing, refused_redo limit s none)
 ]
-refusal_choice placed limit s PrintText = inr (accepted_print limit s)
-refusal_choice placed limit s ForkBuffer = inr (accepted_fork limit s)
-refusal_choice placed limit s (SetPattern payload) = elim (utf8_choice payload) [
+refusal_choice known limit s PrintText all = inr (accepted_print limit s)
+refusal_choice known limit s ForkBuffer all = inr (accepted_fork limit s)
+refusal_choice known limit s (SetPattern payload) all = elim (utf8_choice payload) [
   | inl text ↦ elim (cases_lt pattern_limit (length payload)) [
-    | inl long ↦ inl (Limit, refused_limit limit s payload text long)
-    | inr short ↦ elim (pattern_choice (chars payload)) [
-      | inl is ↦ inr (accepted_pattern limit s payload text short is)
-      | inr is_not ↦ inl (Pattern, refused_pattern limit s payload text short is_not)
+    | inl long ↦ inl (Limit, refused_limit known.apart limit s payload text (inl long))
+    | inr short ↦ elim (known.told (chars payload)) [
+      | inl is ↦ inr (accepted_pattern known.apart limit s payload text (omega (arith, short)) is)
+      | inr (inl heavy) ↦ inl (Limit, refused_limit known.apart limit s payload text (inr heavy))
+      | inr (inr none) ↦ inl (Pattern, refused_pattern limit s payload text (omega (arith, short)) none)
     ]
   ]
   | inr broken ↦ inl (Utf8, refused_pattern_utf8 limit s payload broken)
 ]
-refusal_choice placed limit s DropPattern = inr (accepted_off limit s)
-refusal_choice placed limit s ListMatches = elim (has_pattern (chosen_buffer s).pattern) [
+refusal_choice known limit s DropPattern all = inr (accepted_off limit s)
+refusal_choice known limit s ListMatches all = elim (has_pattern (chosen_buffer s).pattern) [
   | inl none ↦ inl (Nothing, refused_list limit s none)
   | inr some ↦ inr (accepted_list limit s some)
 ]
-refusal_choice placed limit s (UseBuffer k) = elim (cases_lt k (length s.buffers)) [
+refusal_choice known limit s (FindNext from) all = elim (has_pattern (chosen_buffer s).pattern) [
+  | inl none ↦ inl (Nothing, refused_next limit s from none)
+  | inr some ↦ elim (spot_choice known.placed (current_text (chosen_buffer s)) from (text_holds (chosen_buffer s) (chosen_holds s all))) [
+    | inl spot ↦ inr (accepted_next limit s from spot.0 some spot.1)
+    | inr nowhere ↦ inl (Range, refused_astray limit s from some nowhere)
+  ]
+]
+refusal_choice known limit s (UseBuffer k) all = elim (cases_lt k (length s.buffers)) [
   | inl inside ↦ inr (accepted_use limit s k inside)
   | inr past ↦ inl (Nothing, refused_nothing limit s k past)
 ]
@@ -329,18 +394,19 @@ IsFirstRefusal-one limit s o f g one other = elim (cases_order (rank_of f) (rank
 
 -- ---- what a command does
 
--- what an accepted command replies
-abbrev pub reply_to : State → Order → Reply
-reply_to old (SetText payload) = Done
-reply_to old (EditText from to payload) = Done
-reply_to old UndoEdit = Done
-reply_to old RedoEdit = Done
-reply_to old PrintText = Print
-reply_to old ForkBuffer = Number (length old.buffers)
-reply_to old (SetPattern payload) = Done
-reply_to old DropPattern = Done
-reply_to old ListMatches = Listing
-reply_to old (UseBuffer k) = Done
+-- what an accepted command replies; `next` is what it replies that looks for a match
+abbrev pub reply_to : Reply → State → Order → Reply
+reply_to next old (SetText payload) = Done
+reply_to next old (EditText from to payload) = Done
+reply_to next old UndoEdit = Done
+reply_to next old RedoEdit = Done
+reply_to next old PrintText = Print
+reply_to next old ForkBuffer = Number (length old.buffers)
+reply_to next old (SetPattern payload) = Done
+reply_to next old DropPattern = Done
+reply_to next old ListMatches = Listing
+reply_to next old (FindNext from) = next
+reply_to next old (UseBuffer k) = Done
 
 -- the session after an accepted command
 abbrev pub after : HasOnePlace → State → Order → State
@@ -354,6 +420,7 @@ after placed old ForkBuffer = record old { buffers = old.buffers ++ fresh (curre
 after placed old (SetPattern payload) = with_chosen old (with_pattern (chosen_buffer old) (Some (chars payload)))
 after placed old DropPattern = with_chosen old (with_pattern (chosen_buffer old) None)
 after placed old ListMatches = old
+after placed old (FindNext from) = old
 after placed old (UseBuffer k) = record old { chosen = k }
 
 -- the text that bytes encode is the list of their characters
@@ -361,7 +428,7 @@ pub Encodes-chars : (text bytes : List ℕ) → Encodes text bytes → text ≡ 
 Encodes-chars text bytes h = chars_from_encodes text bytes (text, (h.scalars, h.spelled)) h.spelled
 
 -- an accepted command does one thing
-pub Does-known : (placed : HasOnePlace) (old : State) (o : Order) (r : Reply) (new : State) → Does old o r new → (r ≡ reply_to old o) × (new ≡ after placed old o)
+pub Does-known : (placed : HasOnePlace) (old : State) (o : Order) (r : Reply) (new : State) → Does old o r new → (r ≡ reply_to r old o) × (new ≡ after placed old o)
 Does-known placed old (EditText from to payload) Done new h =
     let buffer = chosen_buffer old in
     let known = IsEdit-known placed buffer from to h.0 h.1 (between_choice placed (current_text buffer) from to) h.3 in
@@ -375,40 +442,122 @@ Does-known placed old ForkBuffer (Number k) new h = (ap Number h.0, h.1)
 Does-known placed old (SetPattern payload) Done new h = (refl, h.2 ∙ ap (λ p. with_chosen old (with_pattern (chosen_buffer old) (Some p))) (Encodes-chars h.0 payload h.1))
 Does-known placed old DropPattern Done new h = (refl, h)
 Does-known placed old ListMatches Listing new h = (refl, h)
+Does-known placed old (FindNext from) (Found start end) new h = (refl, h.1)
+Does-known placed old (FindNext from) NoMatch new h = (refl, h.1)
 Does-known placed old (UseBuffer k) Done new h = (refl, h)
 Does-known placed old o r new h = absurd h
 
--- and each accepted command does it
-pub Does-after : (placed : HasOnePlace) (limit : ℕ) (old : State) (o : Order) → Accepts limit old o → Does old o (reply_to old o) (after placed old o)
-Does-after placed limit old (EditText from to payload) accepts =
+-- a place as a position
+abbrev pub spot_of : List ℕ → ℕ → Position
+spot_of text place = record { line = (position text place).0; column = (position text place).1 }
+
+-- the pattern that there is
+pattern_of : (pattern : Option (List ℕ)) → pattern ≢ None → (p : List ℕ) × (pattern ≡ Some p)
+pattern_of None some = absurd (some refl)
+pattern_of (Some p) some = (p, refl)
+
+-- something is told of what is found
+next_by : (old : State) (from : Position) (found : Option (ℕ × ℕ)) → FindsNext (chosen_buffer old) from found → (r : Reply) × Does old (FindNext from) r old
+next_by old from None finds = (NoMatch, (finds, refl))
+next_by old from (Some span) finds =
+    let text = current_text (chosen_buffer old) in
+    (Found (spot_of text span.0) (spot_of text span.1), ((span, finds, (refl, refl)), refl))
+
+next_does : Known → (limit : ℕ) (old : State) (from : Position) → AllHoldTexts old → Accepts limit old (FindNext from) → (r : Reply) × Does old (FindNext from) r old
+next_does known limit old from all accepts =
     let buffer = chosen_buffer old in
-    let choice = between_choice placed (current_text buffer) from to in
+    let h = chosen_holds old all in
+    let pattern = pattern_of buffer.pattern (accepts Nothing) in
+    elim (spot_choice known.placed (current_text buffer) from (text_holds buffer h)) [
+      | inl spot ↦
+          let found = known.some pattern.0 (bytes_of (current_text buffer)) spot.0 (pattern_holds buffer pattern.0 h pattern.1) in
+          next_by old from found.0 (record { pattern = pattern.0; place = spot.0; is_pattern = pattern.1; starts = spot.1; finds = found.1 })
+      | inr nowhere ↦ absurd (accepts Range nowhere)
+    ]
+
+-- and each accepted command does it
+pub Does-after : (known : Known) (limit : ℕ) (old : State) (o : Order) → AllHoldTexts old → Accepts limit old o → (r : Reply) × Does old o r (after known.placed old o)
+Does-after known limit old (EditText from to payload) all accepts =
+    let buffer = chosen_buffer old in
+    let choice = between_choice known.placed (current_text buffer) from to in
     elim (utf8_choice payload) [
       | inl text ↦
           let encodes : Encodes text.0 payload = record { scalars = text.1.0; spelled = text.1.1 } in
           let inserted : Encodes (chars payload) payload = subst (λ t. Encodes t payload) (Encodes-chars text.0 payload encodes) encodes in
-          (chars payload, edited_by buffer from to (chars payload) choice, inserted, IsEdit-by buffer from to (chars payload) choice (λ none. accepts Range none), refl)
+          (Done, (chars payload, edited_by buffer from to (chars payload) choice, inserted, IsEdit-by buffer from to (chars payload) choice (λ none. accepts Range none), refl))
       | inr broken ↦ absurd (accepts Utf8 broken)
     ]
-Does-after placed limit old UndoEdit accepts = refl
-Does-after placed limit old RedoEdit accepts = refl
-Does-after placed limit old (SetText payload) accepts = elim (utf8_choice payload) [
+Does-after known limit old UndoEdit all accepts = (Done, refl)
+Does-after known limit old RedoEdit all accepts = (Done, refl)
+Does-after known limit old (SetText payload) all accepts = elim (utf8_choice payload) [
   | inl text ↦
       let encodes : Encodes text.0 payload = record { scalars = text.1.0; spelled = text.1.1 } in
-      (text.0, encodes, ap (λ t. with_chosen old (with_text (chosen_buffer old) t)) (sym (Encodes-chars text.0 payload encodes)))
+      (Done, (text.0, encodes, ap (λ t. with_chosen old (with_text (chosen_buffer old) t)) (sym (Encodes-chars text.0 payload encodes))))
   | inr broken ↦ absurd (accepts Utf8 broken)
 ]
-Does-after placed limit old PrintText accepts = refl
-Does-after placed limit old ForkBuffer accepts = (refl, refl)
-Does-after placed limit old (SetPattern payload) accepts = elim (utf8_choice payload) [
+Does-after known limit old PrintText all accepts = (Print, refl)
+Does-after known limit old ForkBuffer all accepts = (Number (length old.buffers), (refl, refl))
+Does-after known limit old (SetPattern payload) all accepts = elim (utf8_choice payload) [
   | inl text ↦
       let encodes : Encodes text.0 payload = record { scalars = text.1.0; spelled = text.1.1 } in
-      (text.0, encodes, ap (λ p. with_chosen old (with_pattern (chosen_buffer old) (Some p))) (sym (Encodes-chars text.0 payload encodes)))
+      (Done, (text.0, encodes, ap (λ p. with_chosen old (with_pattern (chosen_buffer old) (Some p))) (sym (Encodes-chars text.0 payload encodes))))
   | inr broken ↦ absurd (accepts Utf8 broken)
 ]
-Does-after placed limit old DropPattern accepts = refl
-Does-after placed limit old ListMatches accepts = refl
-Does-after placed limit old (UseBuffer k) accepts = refl
+Does-after known limit old DropPattern all accepts = (Done, refl)
+Does-after known limit old ListMatches all accepts = (Listing, refl)
+Does-after known limit old (FindNext from) all accepts = next_does known limit old from all accepts
+Does-after known limit old (UseBuffer k) all accepts = (Done, refl)
+
+-- ---- one reply
+
+same_some : {A : Type 0} (a b : A) → Some a ≡ Some b → a ≡ b
+same_some a b e = cc
+
+-- what is found from a position is one thing
+found_one : Known → (b : BufferState) (from : Position) (x y : Option (ℕ × ℕ)) → HoldsTexts b → FindsNext b from x → FindsNext b from y → x ≡ y
+found_one known b from x y h one other =
+    let text = current_text b in
+    let pattern : one.pattern ≡ other.pattern = same_some one.pattern other.pattern (sym one.is_pattern ∙ other.is_pattern) in
+    let place : one.place ≡ other.place = known.placed text (from.line, from.column) one.place other.place (text_holds b h) one.starts other.starts in
+    known.one other.pattern (bytes_of text) other.place x y
+    (subst (λ p. Finds other.pattern (bytes_of text) p x) place (subst (λ q. Finds q (bytes_of text) one.place x) pattern one.finds)) other.finds
+
+spot_one : (text : List ℕ) (p q : Position) (place place' : ℕ) → (p.line, p.column) ≡ position text place → (q.line, q.column) ≡ position text place' → place ≡ place' → p ≡ q
+spot_one text p q place place' one other same =
+    let e : ◌≡◌ {A = ℕ × ℕ} (p.line, p.column) (q.line, q.column) = one ∙ ap (position text) same ∙ sym other in
+    positions_same p q (ap (λ (x : ℕ × ℕ). x.0) e) (ap (λ (x : ℕ × ℕ). x.1) e)
+
+-- so it is told in one way
+found_told : Known → (b : BufferState) (from a z c y : Position) → HoldsTexts b → TellsNext b from (Some (a, z)) → TellsNext b from (Some (c, y)) → Found a z ≡ Found c y
+found_told known b from a z c y h one other =
+    let text = current_text b in
+    let span : one.0 ≡ other.0 = same_some one.0 other.0 (found_one known b from (Some one.0) (Some other.0) h one.1 other.1) in
+    let starts : a ≡ c = spot_one text a c one.0.0 other.0.0 one.2.0 other.2.0 (ap (λ (x : ℕ × ℕ). x.0) span) in
+    let ends : z ≡ y = spot_one text z y one.0.1 other.0.1 one.2.1 other.2.1 (ap (λ (x : ℕ × ℕ). x.1) span) in
+    ap (λ p. Found p z) starts ∙ ap (λ p. Found c p) ends
+
+not_both : Known → (b : BufferState) (from a z : Position) → HoldsTexts b → TellsNext b from (Some (a, z)) → TellsNext b from None → ⊥
+not_both known b from a z h one other = let e : Some one.0 ≡ None = found_one known b from (Some one.0) None h one.1 other in cc
+
+found_with : Known → (old : State) (from a z : Position) (q : Reply) (y : State) → AllHoldTexts old → TellsNext (chosen_buffer old) from (Some (a, z)) → Does old (FindNext from) q y → Found a z ≡ q
+found_with known old from a z (Found c d) y all one other = found_told known (chosen_buffer old) from a z c d (chosen_holds old all) one other.0
+found_with known old from a z NoMatch y all one other = absurd (not_both known (chosen_buffer old) from a z (chosen_holds old all) one other.0)
+found_with known old from a z q y all one other = absurd other
+
+none_with : Known → (old : State) (from : Position) (q : Reply) (y : State) → AllHoldTexts old → TellsNext (chosen_buffer old) from None → Does old (FindNext from) q y → NoMatch ≡ q
+none_with known old from (Found c d) y all one other = absurd (not_both known (chosen_buffer old) from c d (chosen_holds old all) other.0 one)
+none_with known old from NoMatch y all one other = refl
+none_with known old from q y all one other = absurd other
+
+pub next_one : Known → (old : State) (from : Position) (r q : Reply) (x y : State) → AllHoldTexts old → Does old (FindNext from) r x → Does old (FindNext from) q y → r ≡ q
+next_one known old from (Found a z) q x y all one other = found_with known old from a z q y all one.0 other
+next_one known old from NoMatch q x y all one other = none_with known old from q y all one.0 other
+next_one known old from r q x y all one other = absurd one
+
+-- an accepted command is replied to in one way
+pub reply_one : Known → (old : State) (o : Order) (r q : Reply) (x y : State) → AllHoldTexts old → Does old o r x → Does old o q y → r ≡ q
+reply_one known old (FindNext from) r q x y all one other = next_one known old from r q x y all one other
+reply_one known old o r q x y all one other = (Does-known known.placed old o r x one).0 ∙ sym (Does-known known.placed old o q y other).0
 
 -- ---- steps
 
@@ -433,35 +582,35 @@ Step-told limit s o Size new other step = step
 Step-told limit s o Memory new other step = absurd (other refl)
 
 -- each command has a step, apart from want of memory
-pub step_exists : (placed : HasOnePlace) (limit : ℕ) (s : State) (o : Order) → (answer : Answer) × (new : State) × (answer ≢ Err Memory) × Step limit s o answer new
-step_exists placed limit s o = elim (refusal_choice placed limit s o) [
+pub step_exists : Known → (limit : ℕ) (s : State) (o : Order) → AllHoldTexts s → (answer : Answer) × (new : State) × (answer ≢ Err Memory) × Step limit s o answer new
+step_exists known limit s o all = elim (refusal_choice known limit s o all) [
   | inl refused ↦ (Err refused.0, s, memory refused.0 (Err refused.0) refl refused.1, Step-refused limit s o refused.0 refused.1)
-  | inr accepts ↦ (Ok (reply_to s o), after placed s o, (λ e. cc), (accepts, Does-after placed limit s o accepts))
+  | inr accepts ↦ let does = Does-after known limit s o all accepts in (Ok does.0, after known.placed s o, (λ e. cc), (accepts, does.1))
 ]
   where
     memory : (f : Fault) (told : Answer) → told ≡ Err f → IsFirstRefusal limit s o f → told ≡ Err Memory → ⊥
     memory f told is first e = let same : f ≡ Memory = cc in Refuses-memory limit s o (subst (λ g. Refuses limit s o g) same first.refuses)
 
 -- and no other
-pub step_one : (placed : HasOnePlace) (limit : ℕ) (s : State) (o : Order) (a b : Answer) (x y : State) → Step limit s o a x → Step limit s o b y → a ≢ Err Memory → b ≢ Err Memory → (a ≡ b) × (x ≡ y)
-step_one placed limit s o (Ok p) (Ok q) x y one other memory memory' =
-    let known = Does-known placed s o p x one.1 in
-    let known' = Does-known placed s o q y other.1 in
-    (ap Ok (known.0 ∙ sym known'.0), known.1 ∙ sym known'.1)
-step_one placed limit s o (Ok p) (Err g) x y one other memory memory' =
+pub step_one : Known → (limit : ℕ) (s : State) (o : Order) → AllHoldTexts s → (a b : Answer) (x y : State) → Step limit s o a x → Step limit s o b y → a ≢ Err Memory → b ≢ Err Memory → (a ≡ b) × (x ≡ y)
+step_one known limit s o all (Ok p) (Ok q) x y one other memory memory' =
+    (ap Ok (reply_one known s o p q x y all one.1 other.1), (Does-known known.placed s o p x one.1).1 ∙ sym (Does-known known.placed s o q y other.1).1)
+step_one known limit s o all (Ok p) (Err g) x y one other memory memory' =
     absurd (one.0 g (Step-told limit s o g y (λ e. memory' (ap Err e)) other).0.refuses)
-step_one placed limit s o (Err f) (Ok q) x y one other memory memory' =
+step_one known limit s o all (Err f) (Ok q) x y one other memory memory' =
     absurd (other.0 f (Step-told limit s o f x (λ e. memory (ap Err e)) one).0.refuses)
-step_one placed limit s o (Err f) (Err g) x y one other memory memory' =
+step_one known limit s o all (Err f) (Err g) x y one other memory memory' =
     let told = Step-told limit s o f x (λ e. memory (ap Err e)) one in
     let told' = Step-told limit s o g y (λ e. memory' (ap Err e)) other in
     (ap Err (IsFirstRefusal-one limit s o f g told.0 told'.0), told.1 ∙ sym told'.1)
 
--- ---- costs and runs
+-- ---- costs
 
 -- a command that is accepted costs so much
-pub accepted_cost : (placed : HasOnePlace) (limit : ℕ) (s : State) (o : Order) → Accepts limit s o → CostsAccepted limit s o (rows_of o (after placed s o))
-accepted_cost placed limit s o accepts = record { reply = reply_to s o; new = after placed s o; step = (accepts, Does-after placed limit s o accepts); rows = refl }
+pub accepted_cost : (known : Known) (limit : ℕ) (s : State) (o : Order) → AllHoldTexts s → Accepts limit s o → CostsAccepted limit s o (rows_of o (after known.placed s o))
+accepted_cost known limit s o all accepts =
+    let does = Does-after known limit s o all accepts in
+    record { reply = does.0; new = after known.placed s o; step = (accepts, does.1); rows = refl }
 
 -- and no more
 pub accepted_rows : (placed : HasOnePlace) (limit : ℕ) (s : State) (o : Order) (n : ℕ) → CostsAccepted limit s o n → n ≡ rows_of o (after placed s o)
@@ -473,10 +622,10 @@ Costs-accepted placed limit s o n accepts (inl refused) = absurd (accepts refuse
 Costs-accepted placed limit s o n accepts (inr costs) = accepted_rows placed limit s o n costs
 
 -- each command has a cost
-pub costs_exist : (placed : HasOnePlace) (limit : ℕ) (s : State) (o : Order) → (n : ℕ) × Costs limit s o n
-costs_exist placed limit s o = elim (refusal_choice placed limit s o) [
+pub costs_exist : Known → (limit : ℕ) (s : State) (o : Order) → AllHoldTexts s → (n : ℕ) × Costs limit s o n
+costs_exist known limit s o all = elim (refusal_choice known limit s o all) [
   | inl refused ↦ (0, inl (refused.0, refused.1.refuses, refl))
-  | inr accepts ↦ (rows_of o (after placed s o), inr (accepted_cost placed limit s o accepts))
+  | inr accepts ↦ (rows_of o (after known.placed s o), inr (accepted_cost known limit s o all accepts))
 ]
 
 -- and no other
@@ -486,18 +635,21 @@ costs_one placed limit s o m n (inl one) (inr other) = absurd (other.step.0 one.
 costs_one placed limit s o m n (inr one) (inl other) = absurd (one.step.0 other.0 other.1)
 costs_one placed limit s o m n (inr one) (inr other) = accepted_rows placed limit s o m one ∙ sym (accepted_rows placed limit s o n other)
 
--- without a pattern there are no rows, and with one there is a report
-report_exists : HasReport → (text : List ℕ) (pattern : Option (List ℕ)) → (rows : List (List (ℕ × ℕ))) × MatchOption pattern (rows ≡ []) (λ p. IsReport text p rows)
-report_exists reported text None = ([], refl)
-report_exists reported text (Some p) = (report text p, reported text p)
+-- ---- what is shown
 
-rows_exist : HasReport → (s : State) (answer : Answer) → (rows : List (List (ℕ × ℕ))) × IsListed s answer rows
-rows_exist reported s (Ok Listing) = report_exists reported (current_text (chosen_buffer s)) (chosen_buffer s).pattern
-rows_exist reported s answer = ([], refl)
+-- without a pattern there are no rows, and with one there is a report
+report_exists : HasReport → (text : List ℕ) (pattern : Option (List ℕ)) → IfSome pattern (λ p. IsText p × IsPattern p)
+    → (rows : List (List (ℕ × ℕ))) × MatchOption pattern (rows ≡ []) (λ p. IsReport text p rows)
+report_exists reported text None is = ([], refl)
+report_exists reported text (Some p) is = reported text p is.1
+
+rows_exist : HasReport → (s : State) (answer : Answer) → AllHoldTexts s → (rows : List (List (ℕ × ℕ))) × IsListed s answer rows
+rows_exist reported s (Ok Listing) all = report_exists reported (current_text (chosen_buffer s)) (chosen_buffer s).pattern (chosen_holds s all).pattern
+rows_exist reported s answer all = ([], refl)
 
 -- each answer can be shown
-pub shows_exist : HasReport → (s : State) (answer : Answer) → (reply : List ℕ) × Shows s answer reply
-shows_exist reported s answer = let rows = rows_exist reported s answer in (shows s rows.0 answer, record { rows = rows.0; listed = rows.1; shown = refl })
+pub shows_exist : HasReport → (s : State) (answer : Answer) → AllHoldTexts s → (reply : List ℕ) × Shows s answer reply
+shows_exist reported s answer all = let rows = rows_exist reported s answer all in (shows s rows.0 answer, record { rows = rows.0; listed = rows.1; shown = refl })
 
 -- and in one way
 report_one : HasOneReport → (text : List ℕ) (pattern : Option (List ℕ)) (rows rows' : List (List (ℕ × ℕ))) → MatchOption pattern (rows ≡ []) (λ p. IsReport text p rows)
@@ -512,30 +664,3 @@ rows_one single s answer rows rows' one other = one ∙ sym other
 pub shows_one : HasOneReport → (s : State) (answer : Answer) (x y : List ℕ) → Shows s answer x → Shows s answer y → x ≡ y
 shows_one single s answer x y one other =
     one.shown ∙ ap (λ rows. shows s rows answer) (rows_one single s answer one.rows other.rows one.listed other.listed) ∙ sym other.shown
-
--- commands can be run from each session
-pub run_exists : HasOnePlace → HasReport → (limit : ℕ) (s : State) (os : List Order) → (out : List ℕ) × (cost : ℕ) × (new : State) × Run limit s os out cost new
-run_exists placed reported limit s [] = ([], 0, s, Run-nil limit s)
-run_exists placed reported limit s (o ∷ os) =
-    let step = step_exists placed limit s o in
-    let costs = costs_exist placed limit s o in
-    let shows = shows_exist reported step.1 step.0 in
-    let others = run_exists placed reported limit step.1 os in (
-      shows.0 ++ others.0,
-      costs.0 + others.1,
-      others.2,
-      record {
-        answer = step.0;
-        new = step.1;
-        own_cost = costs.0;
-        later = others.0;
-        later_cost = others.1;
-        step = step.3;
-        costs = costs.1;
-        others = others.3;
-        reply = shows.0;
-        shows = shows.1;
-        shown = refl;
-        added = refl;
-      },
-    )

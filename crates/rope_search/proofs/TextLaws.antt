@@ -1,6 +1,6 @@
 -- Texts and patterns of a session are lists of scalar values, so its matches are at boundaries; and
 -- its report is that of its pattern set anew.
-use Rattle.std.proofs.Common.{◌≡◌, ℕ, ◌+◌, ◌<◌, ◌≤◌, true, List, [], ◌∷◌, ◌++◌, length, take, slice_index_or, refl, sym, ap, ◌∙◌, subst, All, arith, inl, inr}
+use Rattle.std.proofs.Common.{◌≡◌, ℕ, ◌+◌, ◌<◌, ◌≤◌, ◌⊎◌, true, List, [], ◌∷◌, ◌++◌, length, take, slice_index_or, refl, sym, ap, ◌∙◌, subst, All, arith, inl, inr}
 use Rattle.std.specs.Prelude.{Option, None, Some, MatchOption, IfSome, Ok, Err, chars}
 use Rattle.std.specs.Str.{all_scalars}
 use Rattle.std.proofs.lemmas.Bool.{cases_lt, and_parts, and_from}
@@ -9,20 +9,20 @@ use Rattle.std.proofs.lemmas.List.Elements.{All-nil, All-cons, All-append, All-t
 use Rattle.rope_search_io.specs.declared.faults.Fault.{Fault}
 use Rattle.rope_search_io.specs.declared.faults.Fault.TheVariants.{Pattern, Limit, Memory}
 use Rattle.rope_search.specs.declared.commands.Reply.{Reply}
-use Rattle.rope_search.specs.declared.commands.Reply.TheVariants.{Done, Number, List as Listing, Print}
+use Rattle.rope_search.specs.declared.commands.Reply.TheVariants.{Done, Number, Found, NoMatch, List as Listing, Print}
 use Rattle.rope_search_reports.specs.Text.{IsText, Encodes}
-use Rattle.rope_search_reports.specs.Pattern.{IsPattern, pattern_limit}
+use Rattle.rope_search_reports.specs.Pattern.{IsPattern, IsTooHeavy, SpellsNone, pattern_limit}
 use Rattle.rope_search_reports.specs.Position.{StandsAtBoundaries}
 use Rattle.rope_search_reports.specs.Report.{IsReport}
-use Rattle.rope_search_reports.specs.Laws.{HasOneReport, MatchesStandAtBoundaries}
-use Rattle.rope_search.specs.Order.{Order, SetText, EditText, UndoEdit, RedoEdit, PrintText, ForkBuffer, SetPattern, DropPattern, ListMatches, UseBuffer}
+use Rattle.rope_search_reports.specs.Laws.{IsPatternOrNot, HasOneReport, MatchesStandAtBoundaries}
+use Rattle.rope_search.specs.Order.{Order, SetText, EditText, UndoEdit, RedoEdit, PrintText, ForkBuffer, SetPattern, DropPattern, ListMatches, FindNext, UseBuffer}
 use Rattle.rope_search.specs.Places.{IsEdit}
 use Rattle.rope_search.specs.Session.{BufferState, State, first, fresh, current_text, chosen_buffer, with_pattern, with_chosen, IsReportIn}
 use Rattle.rope_search.specs.Step.{Answer, Accepts, Does, Step}
 use Rattle.rope_search.specs.Answers.{Run}
-use Rattle.rope_search.specs.Laws.{KeptIsAnew, ListsBoundaries}
+use Rattle.rope_search.specs.Laws.{HoldsTexts, AllHoldTexts, StepsHoldTexts, KeptIsAnew, ListsBoundaries}
 use Rattle.rope_search.proofs.HistoryLaws.{same_report}
-use Rattle.rope_search.proofs.PatternLemmas.{known_pattern}
+use Rattle.rope_search.proofs.HoldLaws.{one_text, holds_fresh, chosen_holds, text_holds, first_holds}
 use Rattle.rope_search.proofs.StepLaws.{Encodes-chars}
 
 -- ---- scalar values
@@ -40,46 +40,18 @@ scalars_parted (c ∷ cs) t h =
     let later = scalars_parted cs t both.1 in
     (and_from _ _ both.0 later.0, later.1)
 
--- ---- a session of texts
-
--- the texts are texts, and the pattern is a pattern
-record HoldsTexts (buffer : BufferState) : Type 0 where
-  texts : All IsText buffer.texts
-  pattern : IfSome buffer.pattern (λ p. IsText p × IsPattern p)
-
-abbrev AllHold : State → Type 0
-AllHold session = All HoldsTexts session.buffers
-
-one_text : (text : List ℕ) → IsText text → All IsText (text ∷ [])
-one_text text is = All-cons IsText text [] is (All-nil IsText)
-
-holds_fresh : (text : List ℕ) → IsText text → HoldsTexts (fresh text)
-holds_fresh text is = record { texts = one_text text is; pattern = tt }
-
-chosen_holds : (s : State) → AllHold s → HoldsTexts (chosen_buffer s)
-chosen_holds s all = elim (cases_lt s.chosen (length s.buffers)) [
-  | inl inside ↦ all s.chosen (fresh []) inside
-  | inr past ↦ subst HoldsTexts (sym (get_or_past s.buffers s.chosen (fresh []) past)) (holds_fresh [] refl)
-]
-
-text_holds : (b : BufferState) → HoldsTexts b → IsText (current_text b)
-text_holds b h = elim (cases_lt b.current (length b.texts)) [
-  | inl inside ↦ h.texts b.current [] inside
-  | inr past ↦ subst IsText (sym (get_or_past b.texts b.current [] past)) refl
-]
-
 -- ---- commands keep it one
 
-set_chosen : (s t : State) (b : BufferState) → AllHold s → HoldsTexts b → t ≡ with_chosen s b → AllHold t
-set_chosen s t b all one is = subst AllHold (sym is) (All-set HoldsTexts s.buffers s.chosen b one all)
+set_chosen : (s t : State) (b : BufferState) → AllHoldTexts s → HoldsTexts b → t ≡ with_chosen s b → AllHoldTexts t
+set_chosen s t b all one is = subst AllHoldTexts (sym is) (All-set HoldsTexts s.buffers s.chosen b one all)
 
-unchanged : (s t : State) → AllHold s → t ≡ s → AllHold t
-unchanged s t all is = subst AllHold (sym is) all
+unchanged : (s t : State) → AllHoldTexts s → t ≡ s → AllHoldTexts t
+unchanged s t all is = subst AllHoldTexts (sym is) all
 
-does_hold : (limit : ℕ) (s t : State) (o : Order) (r : Reply) → Accepts limit s o → Does s o r t → AllHold s → AllHold t
-does_hold limit s t (SetText payload) Done accepts does all =
+does_hold : IsPatternOrNot → (limit : ℕ) (s t : State) (o : Order) (r : Reply) → Accepts limit s o → Does s o r t → AllHoldTexts s → AllHoldTexts t
+does_hold told limit s t (SetText payload) Done accepts does all =
     set_chosen s t _ all (record { texts = one_text does.0 does.1.scalars; pattern = (chosen_holds s all).pattern }) does.2
-does_hold limit s t (EditText from to payload) Done accepts does all =
+does_hold told limit s t (EditText from to payload) Done accepts does all =
     let old = chosen_buffer s in
     let h = chosen_holds s all in
     let edit = does.3 in
@@ -89,51 +61,62 @@ does_hold limit s t (EditText from to payload) Done accepts does all =
     let text = scalars_joined (edit.before ++ does.0) edit.behind front parted.1 in
     let texts = All-append IsText (take (old.current + 1) old.texts) ((edit.before ++ does.0 ++ edit.behind) ∷ []) (All-take IsText (old.current + 1) old.texts h.texts) (one_text _ text) in
     set_chosen s t does.1 all (subst HoldsTexts (sym edit.changed) (record { texts = texts; pattern = h.pattern })) does.4
-does_hold limit s t UndoEdit Done accepts does all = let h = chosen_holds s all in set_chosen s t _ all (record { texts = h.texts; pattern = h.pattern }) does
-does_hold limit s t RedoEdit Done accepts does all = let h = chosen_holds s all in set_chosen s t _ all (record { texts = h.texts; pattern = h.pattern }) does
-does_hold limit s t PrintText Print accepts does all = unchanged s t all does
-does_hold limit s t ForkBuffer (Number k) accepts does all =
+does_hold told limit s t UndoEdit Done accepts does all = let h = chosen_holds s all in set_chosen s t _ all (record { texts = h.texts; pattern = h.pattern }) does
+does_hold told limit s t RedoEdit Done accepts does all = let h = chosen_holds s all in set_chosen s t _ all (record { texts = h.texts; pattern = h.pattern }) does
+does_hold told limit s t PrintText Print accepts does all = unchanged s t all does
+does_hold told limit s t ForkBuffer (Number k) accepts does all =
     let one = holds_fresh (current_text (chosen_buffer s)) (text_holds (chosen_buffer s) (chosen_holds s all)) in
     let others = All-cons HoldsTexts (fresh (current_text (chosen_buffer s))) [] one (All-nil HoldsTexts) in
-    subst AllHold (sym does.1) (All-append HoldsTexts s.buffers (fresh (current_text (chosen_buffer s)) ∷ []) all others)
-does_hold limit s t (SetPattern payload) Done accepts does all =
+    subst AllHoldTexts (sym does.1) (All-append HoldsTexts s.buffers (fresh (current_text (chosen_buffer s)) ∷ []) all others)
+does_hold told limit s t (SetPattern payload) Done accepts does all =
     let h = chosen_holds s all in
     let chars_is = Encodes-chars does.0 payload does.1 in
-    let few = within (length payload) (accepts Limit) in
-    let is = known_pattern (chars payload) (λ none. accepts Pattern (few, none)) in
+    let few = within (length payload) (λ high. accepts Limit (inl high)) in
+    let is = known (chars payload) (told (chars payload)) (λ heavy. accepts Limit (inr heavy)) (λ none. accepts Pattern (few, none)) in
     set_chosen s t _ all (record { texts = h.texts; pattern = (does.1.scalars, subst IsPattern (sym chars_is) is) }) does.2
   where
     within : (n : ℕ) → (pattern_limit < n → ⊥) → n ≤ pattern_limit
     within n low = elim (cases_lt pattern_limit n) [ inl high ↦ absurd (low high) | inr not_high ↦ omega (arith, not_high) ]
-does_hold limit s t DropPattern Done accepts does all = let h = chosen_holds s all in set_chosen s t _ all (record { texts = h.texts; pattern = tt }) does
-does_hold limit s t ListMatches Listing accepts does all = unchanged s t all does
-does_hold limit s t (UseBuffer k) Done accepts does all = subst AllHold (sym does) all
-does_hold limit s t o r accepts does all = absurd does
 
-step_holds : (limit : ℕ) (s t : State) (o : Order) (a : Answer) → Step limit s o a t → AllHold s → AllHold t
-step_holds limit s t o (Ok r) step all = does_hold limit s t o r step.0 step.1 all
-step_holds limit s t o (Err Memory) step all = unchanged s t all step.1
-step_holds limit s t o (Err fault) step all = unchanged s t all step.1
+    known : (text : List ℕ) → IsPattern text ⊎ (IsTooHeavy text ⊎ SpellsNone text) → (IsTooHeavy text → ⊥) → (SpellsNone text → ⊥) → IsPattern text
+    known text (inl is) light some = is
+    known text (inr (inl heavy)) light some = absurd (light heavy)
+    known text (inr (inr none)) light some = absurd (some none)
+does_hold told limit s t DropPattern Done accepts does all = let h = chosen_holds s all in set_chosen s t _ all (record { texts = h.texts; pattern = tt }) does
+does_hold told limit s t ListMatches Listing accepts does all = unchanged s t all does
+does_hold told limit s t (FindNext from) (Found start end) accepts does all = unchanged s t all does.1
+does_hold told limit s t (FindNext from) NoMatch accepts does all = unchanged s t all does.1
+does_hold told limit s t (UseBuffer k) Done accepts does all = subst AllHoldTexts (sym does) all
+does_hold told limit s t o r accepts does all = absurd does
 
-run_holds : (limit : ℕ) (s t : State) (os : List Order) (out : List ℕ) (cost : ℕ) → Run limit s os out cost t → AllHold s → AllHold t
-run_holds limit s t [] out cost run all = unchanged s t all run.2
-run_holds limit s t (o ∷ os) out cost run all = run_holds limit run.new t os run.later run.later_cost run.others (step_holds limit s run.new o run.answer run.step all)
+pub step_holds : IsPatternOrNot → (limit : ℕ) (s t : State) (o : Order) (a : Answer) → Step limit s o a t → AllHoldTexts s → AllHoldTexts t
+step_holds told limit s t o (Ok r) step all = does_hold told limit s t o r step.0 step.1 all
+step_holds told limit s t o (Err Memory) step all = unchanged s t all step.1
+step_holds told limit s t o (Err fault) step all = unchanged s t all step.1
 
-first_holds : AllHold first
-first_holds = All-cons HoldsTexts (fresh []) [] (holds_fresh [] refl) (All-nil HoldsTexts)
+pub run_holds : IsPatternOrNot → (limit : ℕ) (s t : State) (os : List Order) (out : List ℕ) (cost : ℕ) → Run limit s os out cost t → AllHoldTexts s → AllHoldTexts t
+run_holds told limit s t [] out cost run all = unchanged s t all run.2
+run_holds told limit s t (o ∷ os) out cost run all = run_holds told limit run.new t os run.later run.later_cost run.others (step_holds told limit s run.new o run.answer run.step all)
+
+-- so it is of all sessions that commands lead to
+pub holds_always : IsPatternOrNot → (limit : ℕ) (s : State) (os : List Order) (out : List ℕ) (cost : ℕ) → Run limit first os out cost s → AllHoldTexts s
+holds_always told limit s os out cost run = run_holds told limit first s os out cost run first_holds
+
+pub steps_hold : IsPatternOrNot → StepsHoldTexts
+steps_hold told = record { first = first_holds; step = λ limit old new order answer all step. step_holds told limit old new order answer step all }
 
 -- ---- where matches stand
 
-pub boundaries_listed : MatchesStandAtBoundaries → ListsBoundaries
-boundaries_listed law limit orders out cost session rows line run report =
+pub boundaries_listed : IsPatternOrNot → MatchesStandAtBoundaries → ListsBoundaries
+boundaries_listed choice law limit orders out cost session rows line run report =
     let buffer = chosen_buffer session in
-    let h = chosen_holds session (run_holds limit first session orders out cost run first_holds) in
-    told law (current_text buffer) buffer.pattern rows line (text_holds buffer h) h.pattern report
+    let h = chosen_holds session (holds_always choice limit session orders out cost run) in
+    stand law (current_text buffer) buffer.pattern rows line (text_holds buffer h) report
   where
-    told : MatchesStandAtBoundaries → (text : List ℕ) (p : Option (List ℕ)) (rows : List (List (ℕ × ℕ))) (line : ℕ) → IsText text → IfSome p (λ q. IsText q × IsPattern q)
+    stand : MatchesStandAtBoundaries → (text : List ℕ) (p : Option (List ℕ)) (rows : List (List (ℕ × ℕ))) (line : ℕ) → IsText text
         → MatchOption p (rows ≡ []) (λ q. IsReport text q rows) → All (StandsAtBoundaries text line) (slice_index_or rows line [])
-    told law text None rows line scalars none is = subst (λ rs. All (StandsAtBoundaries text line) (slice_index_or rs line [])) (sym is) (All-nil (StandsAtBoundaries text line))
-    told law text (Some q) rows line scalars some is = law text q rows line scalars some.0 some.1 is
+    stand law text None rows line scalars is = subst (λ rs. All (StandsAtBoundaries text line) (slice_index_or rs line [])) (sym is) (All-nil (StandsAtBoundaries text line))
+    stand law text (Some q) rows line scalars is = law text q rows line scalars is
 
 -- ---- a pattern set anew
 

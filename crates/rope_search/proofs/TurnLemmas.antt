@@ -15,8 +15,8 @@ use Rattle.rope_search.specs.Shows.{IsShown}
 use Rattle.rope_search.specs.Cost.{Costs, whole_searches}
 use Rattle.rope_search.specs.Requests.{IsReadAs, TakesOrder}
 use Rattle.rope_search.specs.Runs.{SearchesWithin, Scene, Turned, TakesTurn, SoFar}
-use Rattle.rope_search_reports.specs.Laws.{HasOnePlace}
-use Rattle.rope_search.proofs.StepLaws.{costs_exist}
+use Rattle.rope_search.specs.Laws.{AllHoldTexts}
+use Rattle.rope_search.proofs.StepLaws.{Known, costs_exist}
 use Rattle.rope_search.proofs.RunLaws.{SpellAll-append, SpellAll-one, Run-nil, Run-push}
 use Rattle.rope_search.proofs.TakesLemmas.{Takes-nil, Takes-trans}
 
@@ -48,14 +48,14 @@ SearchesWithin-more os ps m n t u before = record {
 -- ---- one turn
 
 -- a command that was read whole was carried out, and so much of its answer was written
-pub Turned-given : (placed : HasOnePlace) (limit : ℕ) (header : CommandOf ℕ) (kept : Collected) (answer : Answer) (old new : Scene) (Written : List ℕ → Type 0)
+pub Turned-given : (known : Known) (limit : ℕ) (header : CommandOf ℕ) (kept : Collected) (answer : Answer) (old new : Scene) (Written : List ℕ → Type 0) → AllHoldTexts old.session
     → TakesOrder limit header kept old.buffer new.buffer old.source new.source
     → ((order : Order) → IsReadAs limit header kept order → Step limit old.session order answer new.session)
     → ((order : Order) (cost : ℕ) → IsReadAs limit header kept order → Costs limit old.session order cost → new.ticks.count ≤ old.ticks.count + cost)
     → ((order : Order) → IsReadAs limit header kept order → new.ticks.wholes ≤ old.ticks.wholes + whole_searches order)
     → IsShown new.session answer Written → Turned limit old new Written
-Turned-given placed limit header kept answer old new Written read step rows wholes written =
-    let cost = costs_exist placed limit old.session read.order in
+Turned-given known limit header kept answer old new Written all read step rows wholes written =
+    let cost = costs_exist known limit old.session read.order all in
     record {
       order = read.order;
       bytes = read.bytes;

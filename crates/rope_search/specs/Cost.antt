@@ -3,7 +3,7 @@ use Rattle.std.specs.Prelude.{◌≡◌, ℕ, ◌⊎◌, List, if◌then◌else�
 use Rattle.rope_search_io.specs.declared.faults.Fault.{Fault}
 use Rattle.rope_search.specs.declared.commands.Reply.{Reply}
 use Rattle.rope_search_reports.specs.Text.{line_count}
-use Rattle.rope_search.specs.Order.{Order, SetText, EditText, UndoEdit, RedoEdit, PrintText, ForkBuffer, SetPattern, DropPattern, ListMatches, UseBuffer}
+use Rattle.rope_search.specs.Order.{Order, SetText, EditText, UndoEdit, RedoEdit, PrintText, ForkBuffer, SetPattern, DropPattern, ListMatches, FindNext, UseBuffer}
 use Rattle.rope_search.specs.Session.{BufferState, State, current_text, chosen_buffer}
 use Rattle.rope_search.specs.Step.{Refuses, Step}
 
@@ -28,6 +28,7 @@ rows_of ForkBuffer new = 0
 rows_of (SetPattern payload) new = rows_of_report new
 rows_of DropPattern new = 0
 rows_of ListMatches new = 0
+rows_of (FindNext from) new = 0
 rows_of (UseBuffer k) new = 0
 
 -- what a command costs that there is no reason to refuse: so many rows
@@ -54,4 +55,5 @@ whole_searches ForkBuffer = 0
 whole_searches (SetPattern payload) = 0
 whole_searches DropPattern = 0
 whole_searches ListMatches = 0
+whole_searches (FindNext from) = 1
 whole_searches (UseBuffer k) = 0

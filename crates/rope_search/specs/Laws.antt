@@ -1,6 +1,6 @@
 -- Laws of the definitions themselves: that they leave one reading, one step and one cost, and that
 -- no command is left out.
-use Rattle.std.specs.Prelude.{◌≡◌, ◌≢◌, ℕ, ◌<◌, ◌↔◌, ◌⊎◌, List, [], ◌++◌, length, All, slice_index_or, Some, Ok, Err}
+use Rattle.std.specs.Prelude.{◌≡◌, ◌≢◌, ℕ, ◌<◌, ◌↔◌, ◌⊎◌, List, [], ◌++◌, length, All, slice_index_or, Some, IfSome, Ok, Err}
 use Rattle.rope_search_io.specs.declared.faults.Fault.TheVariants.{Memory}
 use Rattle.rope_search.specs.declared.endings.Ended.{Ended}
 use Rattle.rope_search.specs.declared.endings.Ended.TheVariants.{Command}
@@ -9,9 +9,10 @@ use Rattle.rope_search.specs.declared.commands.Payload.{Payload}
 use Rattle.rope_search.specs.declared.commands.Reply.{Reply}
 use Rattle.rope_search_reports.specs.declared.positions.Position.{Position}
 use Rattle.rope_search_reports.specs.Text.{IsText, Encodes}
+use Rattle.rope_search_reports.specs.Pattern.{IsPattern}
 use Rattle.rope_search_reports.specs.Position.{IsAt, IsNowhere, StandsAtBoundaries}
 use Rattle.rope_search.specs.Order.{Order, EditText, UndoEdit, RedoEdit, SetPattern}
-use Rattle.rope_search.specs.Session.{State, first, current_text, chosen_buffer, IsReportIn}
+use Rattle.rope_search.specs.Session.{BufferState, State, first, current_text, chosen_buffer, IsReportIn}
 use Rattle.rope_search.specs.Places.{HasNoneBetween}
 use Rattle.rope_search.specs.Shows.{Shows}
 use Rattle.rope_search.specs.Stands.{Stands}
@@ -68,6 +69,21 @@ StandsForSome limit command = (order : Order) × Stands limit command order
 pub record HasCurrent (session : State) : Type 0 where
   pub chosen : session.chosen < length session.buffers
   pub current : (chosen_buffer session).current < length (chosen_buffer session).texts
+
+-- the texts of a buffer are lists of scalar values, and so is its pattern, which is one
+pub record HoldsTexts (buffer : BufferState) : Type 0 where
+  pub texts : All IsText buffer.texts
+  pub pattern : IfSome buffer.pattern (λ p. IsText p × IsPattern p)
+
+-- so it is of each buffer
+abbrev pub AllHoldTexts : State → Type 0
+AllHoldTexts session = All HoldsTexts session.buffers
+
+-- it is so at first, and each command leaves it so
+pub record StepsHoldTexts : Type 0 where
+  pub first : AllHoldTexts first
+  pub step : (limit : ℕ) (old new : State) (order : Order) (answer : Answer)
+      → AllHoldTexts old → Step limit old order answer new → AllHoldTexts new
 
 -- the chosen buffers have one text and one pattern, and so one report
 pub record AreAlike (session other : State) : Type 0 where

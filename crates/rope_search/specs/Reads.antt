@@ -3,7 +3,7 @@ use Rattle.std.specs.Prelude.{◌≡◌, ◌≢◌, ℕ, ◌+◌, ◌-◌, ◌*�
 use Rattle.std.specs.List.{AllByRecursion}
 use Rattle.rope_search.specs.declared.endings.Ended.{Ended}
 use Rattle.rope_search.specs.declared.endings.Ended.TheVariants.{Input, Command, Cut}
-use Rattle.rope_search.specs.Order.{Order, SetText, EditText, UndoEdit, RedoEdit, PrintText, ForkBuffer, SetPattern, DropPattern, ListMatches, UseBuffer}
+use Rattle.rope_search.specs.Order.{Order, SetText, EditText, UndoEdit, RedoEdit, PrintText, ForkBuffer, SetPattern, DropPattern, ListMatches, FindNext, UseBuffer}
 
 -- the number that decimal digits spell after those of n
 abbrev pub digits_after : ℕ → List ℕ → ℕ
@@ -29,6 +29,7 @@ payload_of ForkBuffer = []
 payload_of (SetPattern payload) = payload
 payload_of DropPattern = []
 payload_of ListMatches = []
+payload_of (FindNext from) = []
 payload_of (UseBuffer k) = []
 
 -- numbers, each after one space
@@ -55,6 +56,7 @@ IsLine ForkBuffer line = line ≡ codes "fork"
 IsLine (SetPattern payload) line = IsWorded (codes "pattern") line (length payload ∷ [])
 IsLine DropPattern line = line ≡ codes "off"
 IsLine ListMatches line = line ≡ codes "list"
+IsLine (FindNext from) line = IsWorded (codes "next") line (from.line ∷ from.column ∷ [])
 IsLine (UseBuffer k) line = IsWorded (codes "use") line (k ∷ [])
 
 -- a command is spelled by its line, LF, and its payload

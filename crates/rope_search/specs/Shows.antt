@@ -1,9 +1,10 @@
 -- What is written for an answer, and at the end.
 use Rattle.std.specs.Prelude.{◌≡◌, ℕ, ◌+◌, List, [], ◌∷◌, ◌++◌, flat_map, length, codes, decimal, Ok, Err}
 use Rattle.rope_search_io.specs.Faults.{word_of}
-use Rattle.rope_search.specs.declared.commands.Reply.TheVariants.{Done, Number, List as Listing, Print}
+use Rattle.rope_search.specs.declared.commands.Reply.TheVariants.{Done, Number, Found, NoMatch, List as Listing, Print}
 use Rattle.rope_search.specs.declared.endings.Ended.{Ended}
 use Rattle.rope_search.specs.declared.endings.Ended.TheVariants.{Input, Command, Cut}
+use Rattle.rope_search_reports.specs.declared.positions.Position.{Position}
 use Rattle.rope_search_reports.specs.Text.{bytes_of}
 use Rattle.rope_search.specs.Session.{State, current_text, chosen_buffer, IsReportIn}
 use Rattle.rope_search_reports.specs.Report.{match_count}
@@ -17,11 +18,17 @@ shown_text bytes = codes "text " ++ decimal (length bytes) ++ codes "\n" ++ byte
 abbrev pub shown_number : ℕ → List ℕ
 shown_number n = codes "ok " ++ decimal n ++ codes "\n"
 
--- how a match is shown: the number of its line, then its two columns
+-- how a match of a report is shown: the number of its line, then its two columns
 abbrev pub shown_match : ℕ → ℕ × ℕ → List ℕ
 shown_match line span =
     codes "m " ++ decimal line ++ codes " " ++ decimal span.0 ++ codes " " ++ decimal span.1
     ++ codes "\n"
+
+-- how a match is shown: the line and the column where it starts, and those where it ends
+abbrev pub shown_found : Position → Position → List ℕ
+shown_found start end =
+    codes "m " ++ decimal start.line ++ codes " " ++ decimal start.column ++ codes " "
+    ++ decimal end.line ++ codes " " ++ decimal end.column ++ codes "\n"
 
 -- the matches of all rows, the first of which is that of this line
 abbrev pub shown_rows : ℕ → List (List (ℕ × ℕ)) → List ℕ
@@ -37,6 +44,8 @@ shown_report rows = shown_rows 0 rows ++ shown_number (match_count rows)
 abbrev pub shows : State → List (List (ℕ × ℕ)) → Answer → List ℕ
 shows session rows (Ok Done) = codes "ok\n"
 shows session rows (Ok (Number k)) = shown_number k
+shows session rows (Ok (Found start end)) = shown_found start end
+shows session rows (Ok NoMatch) = codes "no match\n"
 shows session rows (Ok Listing) = shown_report rows
 shows session rows (Ok Print) = shown_text (bytes_of (current_text (chosen_buffer session)))
 shows session rows (Err fault) = codes "error " ++ word_of fault ++ codes "\n"

@@ -1,15 +1,17 @@
 -- One step of a session: what a command may be answered, and the session after it.
-use Rattle.std.specs.Prelude.{◌≡◌, ℕ, ◌<◌, ◌≤◌, List, [], ◌∷◌, ◌++◌, length, None, Some, ◌+◌, Result, Ok, Err, IsUtf8, chars}
+use Rattle.std.specs.Prelude.{◌≡◌, ℕ, ◌<◌, ◌≤◌, ◌⊎◌, List, [], ◌∷◌, ◌++◌, length, None, Some, ◌+◌, Result, Ok, Err, IsUtf8, chars}
 use Rattle.rope_search_io.specs.declared.faults.Fault.{Fault}
 use Rattle.rope_search_io.specs.declared.faults.Fault.TheVariants.{Nothing, Range, Utf8, Pattern, Limit, Size, Memory}
 use Rattle.rope_search_io.specs.Faults.{rank_of}
 use Rattle.rope_search.specs.declared.commands.Reply.{Reply}
-use Rattle.rope_search.specs.declared.commands.Reply.TheVariants.{Done, Number, List as Listing, Print}
+use Rattle.rope_search.specs.declared.commands.Reply.TheVariants.{Done, Number, Found, NoMatch, List as Listing, Print}
 use Rattle.rope_search_reports.specs.Text.{Encodes}
 use Rattle.rope_search.specs.Places.{HasNoneBetween, GetsTooLong, IsEdit}
-use Rattle.rope_search.specs.Order.{Order, SetText, EditText, UndoEdit, RedoEdit, PrintText, ForkBuffer, SetPattern, DropPattern, ListMatches, UseBuffer}
+use Rattle.rope_search.specs.Order.{Order, SetText, EditText, UndoEdit, RedoEdit, PrintText, ForkBuffer, SetPattern, DropPattern, ListMatches, FindNext, UseBuffer}
 use Rattle.rope_search.specs.Session.{BufferState, State, fresh, current_text, chosen_buffer, with_text, undone, redone, with_pattern, with_chosen}
-use Rattle.rope_search_reports.specs.Pattern.{IsPattern, pattern_limit}
+use Rattle.rope_search_reports.specs.Pattern.{IsTooHeavy, SpellsNone, pattern_limit}
+use Rattle.rope_search_reports.specs.Position.{IsNowhere}
+use Rattle.rope_search.specs.Finding.{TellsNext}
 
 -- what a command is answered: a reply, or why it is refused
 abbrev pub Answer : Type 0
@@ -37,17 +39,23 @@ Refuses limit session RedoEdit Nothing =
 Refuses limit session RedoEdit fault = ⊥
 Refuses limit session PrintText fault = ⊥
 Refuses limit session ForkBuffer fault = ⊥
--- the payload isn't UTF-8, or has too many bytes, or is no pattern; one that is too long isn't
--- judged
+-- the payload isn't UTF-8, or spells no pattern, or is too long or too heavy; one that is too long
+-- isn't judged
 Refuses limit session (SetPattern payload) Utf8 = ¬ (IsUtf8 payload)
 Refuses limit session (SetPattern payload) Pattern =
-    (length payload ≤ pattern_limit) × ¬ (IsPattern (chars payload))
-Refuses limit session (SetPattern payload) Limit = pattern_limit < length payload
+    (length payload ≤ pattern_limit) × SpellsNone (chars payload)
+Refuses limit session (SetPattern payload) Limit =
+    (pattern_limit < length payload) ⊎ IsTooHeavy (chars payload)
 Refuses limit session (SetPattern payload) fault = ⊥
 Refuses limit session DropPattern fault = ⊥
 -- there is no pattern
 Refuses limit session ListMatches Nothing = (chosen_buffer session).pattern ≡ None
 Refuses limit session ListMatches fault = ⊥
+-- there is no pattern, or the position is nowhere in the text
+Refuses limit session (FindNext from) Nothing = (chosen_buffer session).pattern ≡ None
+Refuses limit session (FindNext from) Range =
+    IsNowhere (current_text (chosen_buffer session)) (from.line, from.column)
+Refuses limit session (FindNext from) fault = ⊥
 -- there is no such buffer
 Refuses limit session (UseBuffer k) Nothing = length session.buffers ≤ k
 Refuses limit session (UseBuffer k) fault = ⊥
@@ -75,6 +83,7 @@ TakesMemory session ForkBuffer = Unit {0}
 TakesMemory session (SetPattern payload) = Unit {0}
 TakesMemory session DropPattern = ⊥
 TakesMemory session ListMatches = ⊥
+TakesMemory session (FindNext from) = Unit {0}
 TakesMemory session (UseBuffer k) = ⊥
 
 -- what an accepted command does: its reply, and the session after it
@@ -101,6 +110,10 @@ Does old (SetPattern payload) Done new =
     × (new ≡ with_chosen old (with_pattern (chosen_buffer old) (Some pattern)))
 Does old DropPattern Done new = new ≡ with_chosen old (with_pattern (chosen_buffer old) None)
 Does old ListMatches Listing new = new ≡ old
+-- what is found at the position or behind it, or that nothing is
+Does old (FindNext from) (Found start end) new =
+    TellsNext (chosen_buffer old) from (Some (start, end)) × (new ≡ old)
+Does old (FindNext from) NoMatch new = TellsNext (chosen_buffer old) from None × (new ≡ old)
 Does old (UseBuffer k) Done new = new ≡ record old { chosen = k }
 -- no other reply is given
 Does old order reply new = ⊥

@@ -6,7 +6,9 @@ ghost use Rattle.rope_search_reports.specs.Report.{match_count};
 ghost use Rattle.rope_search.specs.Session.{current_text, fresh, with_text, undone, redone, with_pattern, IsReportIn};
 ghost use Rattle.rope_search.specs.Places.{HasNoneBetween, GetsTooLong, TellsRangeOr, IsEdit, IsMarkedBetween, with_replaced};
 ghost use Rattle.str_indices.specs.Text.{byte_len};
-ghost use Rattle.rope_search_reports.specs.Pattern.{IsPattern, pattern_limit};
+ghost use Rattle.rope_search_reports.specs.Pattern.{IsPattern, IsTooHeavy, SpellsNone, pattern_limit};
+ghost use Rattle.rope_search_reports.specs.Position.{IsNowhere};
+ghost use Rattle.rope_search.specs.Finding.{TellsNext};
 ghost use Rattle.rope_search.specs.Cost.{rows_anew};
 
 use crate::history::History;
@@ -259,24 +261,27 @@ impl Buffer {
     }
 
     /// Makes this the pattern, in place of any other, and makes the report. It is refused with
-    /// `Fault::Limit` where it has more than 65,536 bytes, else with `Fault::Pattern` where it
-    /// isn't one or more characters that stand for themselves, which are all but
-    /// `\ . + * ? ( ) | [ { ^ $`; and perhaps with `Fault::Memory`. The buffer is then as before.
+    /// `Fault::Limit` where it has more than 65,536 bytes, else with `Fault::Pattern` where it is
+    /// outside the grammar of patterns and with `Fault::Limit` where it weighs more than 262,144;
+    /// and perhaps, but for one that is too long, with `Fault::Memory`. The buffer is then as
+    /// before.
     pub fn set_pattern(&mut self, tick: &mut Lines, pattern: &str) -> Result<(), Fault>
         ensures ok { OnOk result
             (self.new.state ≡ with_pattern self.old.state (Some (chars pattern.now))) }
         ensures limit { self.new.limit ≡ self.old.limit }
-        ensures too_long { (result ≡ Err Fault.Limit) ↔ (pattern_limit < length pattern.now) }
+        ensures too_long { pattern_limit < length pattern.now → result ≡ Err Fault.Limit }
         ensures is_pattern { OnOk result (IsPattern (chars pattern.now)) }
-        ensures no_pattern { (result ≡ Err Fault.Pattern)
-            ↔ ((length pattern.now ≤ pattern_limit) × ¬ (IsPattern (chars pattern.now))) }
+        ensures too_much { result ≡ Err Fault.Limit
+            → (pattern_limit < length pattern.now) ⊎ IsTooHeavy (chars pattern.now) }
+        ensures no_pattern { result ≡ Err Fault.Pattern
+            → (length pattern.now ≤ pattern_limit) × SpellsNone (chars pattern.now) }
         ensures fault { IfErr result (λ fault.
             (fault ≡ Fault.Limit) ⊎ ((fault ≡ Fault.Pattern) ⊎ (fault ≡ Fault.Memory))) }
         ensures err { OnErr result (self.new ≡ self.old) }
 
         // The report has a row for each line; for what is no pattern nothing is searched.
         ensures long_unsearched { result ≡ Err Fault.Limit → tick.new ≡ tick.old }
-        ensures unsearched { result ≡ Err Fault.Pattern → tick.new ≡ tick.old }
+        ensures unsearched { (IsPattern (chars pattern.now) → ⊥) → tick.new ≡ tick.old }
         ensures rows { tick.new.count ≤ tick.old.count + line_count (current_text self.old.state) }
         ensures wholes { tick.new.wholes ≡ tick.old.wholes }
     {
@@ -305,6 +310,36 @@ impl Buffer {
             None => None,
             Some(search) => Some(search.rows.as_slice()),
         }
+    }
+
+    /// The first match of the pattern in the current text, as a whole, that starts at a position or
+    /// behind it: the positions where it starts and where it ends, or none where there is no such
+    /// match. What stands before the position is seen by looks. A place between the CR and the LF
+    /// of a break is told as one past the end of its line's text. It is refused with
+    /// `Fault::Nothing` where there is no pattern, else with `Fault::Range` where the position is
+    /// nowhere in the text, and perhaps with `Fault::Memory`. It counts at most one search of a
+    /// whole text. Time is that of a search up to the match.
+    pub fn next_from(
+        &mut self,
+        tick: &mut Lines,
+        from: Position,
+    ) -> Result<Option<(Position, Position)>, Fault>
+        ensures found { IfOk result (λ found. TellsNext self.old.state from found) }
+        ensures nothing { (result ≡ Err Fault.Nothing) ↔ (self.old.state.pattern ≡ None) }
+        ensures range { (result ≡ Err Fault.Range)
+            ↔ ((self.old.state.pattern ≡ None → ⊥)
+            × IsNowhere (current_text self.old.state) (from.line, from.column)) }
+        ensures fault { IfErr result (λ fault.
+            (fault ≡ Fault.Nothing) ⊎ ((fault ≡ Fault.Range) ⊎ (fault ≡ Fault.Memory))) }
+        ensures same { self.new ≡ self.old }
+        ensures count { tick.new.count ≡ tick.old.count }
+        ensures wholes { tick.new.wholes ≤ tick.old.wholes + 1 }
+    {
+        let Some(search) = &mut self.search else {
+            return Err(Fault::Nothing);
+        };
+        let found = search.next_from(tick, self.history.current(), from)?;
+        Ok(found)
     }
 
     /// A new buffer with the current text alone: a history of its own, and no pattern. It may be

@@ -35,13 +35,18 @@ pub enum CommandOf<P> {
     /// number. Refused with `Fault::Memory` alone.
     Fork,
     /// Sets the chosen buffer's pattern, in place of any other. Refused with `Fault::Utf8` where
-    /// the payload isn't UTF-8, `Fault::Pattern` where it is no pattern, `Fault::Limit` where it
-    /// has more than 65,536 bytes, or `Fault::Memory`.
+    /// the payload isn't UTF-8, `Fault::Pattern` where it is outside the grammar of patterns,
+    /// `Fault::Limit` where it has more than 65,536 bytes or weighs more than 262,144, or
+    /// `Fault::Memory`.
     Pattern(P),
     /// Drops the chosen buffer's pattern, where there is one. It is never refused.
     Off,
     /// Shows the chosen buffer's report. Refused with `Fault::Nothing` where it has no pattern.
     List,
+    /// Finds the first match in the chosen buffer's whole text that starts at the position or behind
+    /// it. Refused with `Fault::Nothing` where the buffer has no pattern, `Fault::Range` where the
+    /// position is nowhere in the text, or `Fault::Memory`.
+    Next(Position),
     /// Chooses a buffer by its number, from 0. Refused with `Fault::Nothing` where there is none.
     Use(u64),
 }
@@ -65,7 +70,7 @@ impl CommandOf<u64> {
             | CommandOf::Print
             | CommandOf::Fork
             | CommandOf::Off => 0,
-            CommandOf::List | CommandOf::Use(_) => 0,
+            CommandOf::List | CommandOf::Next(_) | CommandOf::Use(_) => 0,
         }
     }
 
@@ -77,7 +82,8 @@ impl CommandOf<u64> {
             CommandOf::Pattern(_) => PATTERN_LEN,
             CommandOf::Text(_) | CommandOf::Edit(_, _, _) => limits.text,
             CommandOf::Undo | CommandOf::Redo | CommandOf::Print | CommandOf::Fork => limits.text,
-            CommandOf::Off | CommandOf::List | CommandOf::Use(_) => limits.text,
+            CommandOf::Off | CommandOf::List | CommandOf::Next(_) => limits.text,
+            CommandOf::Use(_) => limits.text,
         }
     }
 
@@ -98,6 +104,7 @@ impl CommandOf<u64> {
             CommandOf::Pattern(_) => Command::Pattern(payload),
             CommandOf::Off => Command::Off,
             CommandOf::List => Command::List,
+            CommandOf::Next(from) => Command::Next(from),
             CommandOf::Use(number) => Command::Use(number),
         }
     }
@@ -126,6 +133,10 @@ pub enum Reply {
     Done,
     /// It is done, and this is the number of a buffer.
     Number(usize),
+    /// A match was found: the positions where it starts and where it ends.
+    Found(Position, Position),
+    /// No match was found.
+    NoMatch,
     /// The chosen buffer's report is to be shown: `session.buffer().report()`.
     List,
     /// The chosen buffer's text is to be shown: `session.buffer().text()`.

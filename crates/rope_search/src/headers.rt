@@ -6,7 +6,6 @@ ghost use Rattle.rope_search.specs.Reads.{AreSpelled, IsLine, IsNumber, IsWorded
 ghost use Rattle.rope_search.specs.Header.{IsHeaderOf, IsDigit, HasNoSpace, EndsNumber, Begins};
 
 use crate::commands::Header;
-use memchr::memchr;
 use rope_search_reports::Position;
 
 /// How many digits a number has at most.
@@ -26,6 +25,9 @@ pub fn header_of(line: &[u8]) -> Option<Header>
     }
     if let Some(len) = number_after(line, b"pattern") {
         return Some(Header::Pattern(len));
+    }
+    if let Some(from) = position_after(line, b"next") {
+        return Some(Header::Next(from));
     }
     if let Some(number) = number_after(line, b"use") {
         return Some(Header::Use(number));
@@ -50,6 +52,20 @@ fn number_after(line: &[u8], word: &[u8]) -> Option<u64>
     let (number, others) = next_number(line.strip_prefix(word)?)?;
     if others.is_empty() {
         Some(number)
+    } else {
+        None
+    }
+}
+
+/// The position after this word, where the line is both.
+fn position_after(line: &[u8], word: &[u8]) -> Option<Position>
+    ensures found { IfSome result (λ told. (ns : List ℕ)
+        → IsWorded word.now line.now ns ↔ ns ≡ told.line ∷ told.column ∷ []) }
+    ensures none { IfNone result ((l c : ℕ) → IsWorded word.now line.now (l ∷ c ∷ []) → ⊥) }
+{
+    let (position, others) = next_position(line.strip_prefix(word)?)?;
+    if others.is_empty() {
+        Some(position)
     } else {
         None
     }
@@ -105,7 +121,12 @@ fn len_to_space(bytes: &[u8]) -> usize
     ensures before { HasNoSpace (take result bytes.now) }
     ensures behind { EndsNumber (drop result bytes.now) }
 {
-    memchr(b' ', bytes).unwrap_or(bytes.len())
+    for (at, byte) in bytes.iter().enumerate() {
+        if *byte == b' ' {
+            return at;
+        }
+    }
+    bytes.len()
 }
 
 /// The number that these bytes spell: 1 to 20 decimal digits, at most `u64::MAX`.

@@ -6,7 +6,7 @@ ghost use Rattle.rope_search.specs.Order.{Order, PrintText, ListMatches};
 ghost use Rattle.rope_search.specs.Session.{State};
 ghost use Rattle.rope_search.specs.declared.commands.CommandOf.{CommandOf};
 ghost use Rattle.rope_search.specs.declared.commands.Payload.{Payload};
-ghost use Rattle.rope_search.specs.Laws.{HasOneReading, HasOneStep, HasOneCost, EndsAtBadLine, HasAnswer, HasOneShow, StandsForSome, UndoUndoesEdit, RedoRedoesUndo, RepliesAlike, KeptIsAnew, ListsBoundaries, NoneIsNowhereOrTurned};
+ghost use Rattle.rope_search.specs.Laws.{AllHoldTexts, StepsHoldTexts, HasOneReading, HasOneStep, HasOneCost, EndsAtBadLine, HasAnswer, HasOneShow, StandsForSome, UndoUndoesEdit, RedoRedoesUndo, RepliesAlike, KeptIsAnew, ListsBoundaries, NoneIsNowhereOrTurned};
 ghost use Rattle.rope_search.specs.Step.{Answer};
 
 /// Each input has exactly one reading: a list of commands, and how it ends.
@@ -14,19 +14,37 @@ pub fn one_reading()
     ensures { (input : List ℕ) → HasOneReading input }
 {}
 
-/// Apart from `error memory`, each command in each session has exactly one reply and one session
-/// after it.
+/// Apart from `error memory`, each command in each session of texts has exactly one reply and one
+/// session after it.
 pub fn one_step()
-    ensures { (limit : ℕ) (session : State) (order : Order) → HasOneStep limit session order }
+    ensures { (limit : ℕ) (session : State) (order : Order) → AllHoldTexts session
+        → HasOneStep limit session order }
 {
     rope_search_reports::laws::one_place();
+    rope_search_reports::laws::finds_one();
+    rope_search_reports::laws::has_find();
+    rope_search_reports::laws::pattern_or_not();
+    rope_search_reports::laws::one_of_three();
 }
 
-/// Each command in each session has exactly one cost.
+/// The texts and patterns of a session are texts and patterns: so it is at first, and each command
+/// leaves it so.
+pub fn steps_hold_texts()
+    ensures { StepsHoldTexts }
+{
+    rope_search_reports::laws::pattern_or_not();
+}
+
+/// Each command in each session of texts has exactly one cost.
 pub fn one_cost()
-    ensures { (limit : ℕ) (session : State) (order : Order) → HasOneCost limit session order }
+    ensures { (limit : ℕ) (session : State) (order : Order) → AllHoldTexts session
+        → HasOneCost limit session order }
 {
     rope_search_reports::laws::one_place();
+    rope_search_reports::laws::finds_one();
+    rope_search_reports::laws::has_find();
+    rope_search_reports::laws::pattern_or_not();
+    rope_search_reports::laws::one_of_three();
 }
 
 /// What follows a line that is no command changes nothing that may be written.
@@ -38,13 +56,18 @@ pub fn ends_at_bad_line()
 pub fn has_answer()
     ensures { (limit : ℕ) (input : List ℕ) → HasAnswer limit input }
 {
+    rope_search_reports::laws::finds_one();
+    rope_search_reports::laws::has_find();
+    rope_search_reports::laws::pattern_or_not();
+    rope_search_reports::laws::one_of_three();
     rope_search_reports::laws::has_report();
     rope_search_reports::laws::one_place();
 }
 
-/// Each answer is shown in exactly one way.
+/// Each answer in a session of texts is shown in exactly one way.
 pub fn one_show()
-    ensures { (session : State) (answer : Answer) → HasOneShow session answer }
+    ensures { (session : State) (answer : Answer) → AllHoldTexts session
+        → HasOneShow session answer }
 {
     rope_search_reports::laws::has_report();
     rope_search_reports::laws::one_report();
@@ -88,6 +111,7 @@ pub fn kept_is_anew()
 pub fn matches_at_boundaries()
     ensures { ListsBoundaries }
 {
+    rope_search_reports::laws::pattern_or_not();
     rope_search_reports::laws::matches_at_boundaries();
 }
 

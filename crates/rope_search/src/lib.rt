@@ -25,7 +25,9 @@ pub use commands::{Command, CommandOf, Payload, Reply};
 pub use endings::Ended;
 pub use limits::Limits;
 pub use rope_search_io::{Broken, Device, Failed, Fault, MemorySink, MemorySource, Sink, Source};
-pub use rope_search_reports::{Finder, Lines, Position, Row, byte_of, position_of, search_line};
+pub use rope_search_reports::{
+    Finder, Lines, Position, Row, byte_of, find_from, position_of, search_line,
+};
 pub use ropey::Rope;
 pub use runs::{run, run_limited};
 pub use session::Session;

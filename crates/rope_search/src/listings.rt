@@ -2,11 +2,11 @@
 ghost use Rattle.std.specs.Prelude.{◌≡◌, ◌<◌, ◌^◌, [], ◌++◌, flat_map, OnOk, OnErr, MatchResult};
 ghost use Rattle.rope_search_io.specs.WriteBuffer.{Puts, Writes, WritesUntil};
 ghost use Rattle.rope_search_reports.specs.Report.{match_count};
-ghost use Rattle.rope_search.specs.Shows.{shown_match, shown_report};
+ghost use Rattle.rope_search.specs.Shows.{shown_found, shown_match, shown_report};
 
 use itoa::Buffer as Digits;
 use rope_search_io::{Broken, Sink, WriteBuffer};
-use rope_search_reports::Row;
+use rope_search_reports::{Position, Row};
 
 /// Puts a match behind the bytes that wait: the number of its line, and its two columns. After an
 /// error the sink took a front of what waited and of this.
@@ -31,6 +31,43 @@ fn put_match<W: Sink>(
     let start = start_digits.format(span.0).as_bytes();
     let end = end_digits.format(span.1).as_bytes();
     write_buffer.put_parts(sink, &[b"m ", line, b" ", start, b" ", end, b"\n"])
+}
+
+/// Writes a match: the line and the column where it starts, and those where it ends. After an error
+/// a front of it is written.
+pub fn write_found<W: Sink>(
+    start: Position,
+    end: Position,
+    write_buffer: &mut WriteBuffer,
+    sink: &mut W,
+) -> Result<(), Broken>
+    requires empty { write_buffer.old ≡ [] }
+    ensures empty { OnOk result (write_buffer.new ≡ []) }
+    ensures written { MatchResult result
+        (λ _. Writes (W.state sink.old) (W.state sink.new) (shown_found start end))
+        (λ broken. WritesUntil broken (W.state sink.old) (W.state sink.new)
+        (shown_found start end)) }
+{
+    let (mut start_line, mut start_column) = (Digits::new(), Digits::new());
+    let (mut end_line, mut end_column) = (Digits::new(), Digits::new());
+    let start_line = start_line.format(start.line).as_bytes();
+    let start_column = start_column.format(start.column).as_bytes();
+    let end_line = end_line.format(end.line).as_bytes();
+    let end_column = end_column.format(end.column).as_bytes();
+    write_buffer.send_parts(
+        sink,
+        &[
+            b"m ",
+            start_line,
+            b" ",
+            start_column,
+            b" ",
+            end_line,
+            b" ",
+            end_column,
+            b"\n",
+        ],
+    )
 }
 
 /// Puts the matches of a line behind the bytes that wait. After an error the sink took a front of

@@ -4,7 +4,7 @@ ghost use Rattle.rope_search_io.specs.WriteBuffer.{Writes, WritesUntil};
 ghost use Rattle.rope_search.specs.Shows.{IsShown};
 
 use crate::commands::Reply;
-use crate::listings::write_report;
+use crate::listings::{write_found, write_report};
 use crate::session::Session;
 use crate::texts::write_text;
 use itoa::Buffer as Digits;
@@ -31,6 +31,8 @@ pub fn write_answer<W: Sink>(
             let number = digits.format(number).as_bytes();
             write_buffer.send_parts(sink, &[b"ok ", number, b"\n"])
         }
+        Ok(Reply::Found(start, end)) => write_found(start, end, write_buffer, sink),
+        Ok(Reply::NoMatch) => write_buffer.send_parts(sink, &[b"no match\n"]),
         Ok(Reply::List) => {
             let rows = session.buffer().report().unwrap_or(&[]);
             write_report(rows, write_buffer, sink)

@@ -1,6 +1,7 @@
 //! A whole run, from the bytes read to the bytes written.
 ghost use Rattle.std.specs.Prelude.{◌≡◌, ◌+◌, ◌^◌, ◌<◌, ◌≤◌, ◌↔◌, [], Err, OnOk};
 ghost use Rattle.rope_search.specs.Shows.{closing};
+ghost use Rattle.rope_search.specs.Laws.{AllHoldTexts};
 ghost use Rattle.rope_search.specs.Runs.{AnswersWhole, Ran, TakesTurn, Closes};
 
 use crate::endings::Ended;
@@ -84,6 +85,10 @@ fn run_turns<R: Source, W: Sink>(
     // Laws, for the proof alone: the replies that a failed write keeps back can be told.
     rope_search_reports::laws::has_report();
     rope_search_reports::laws::one_place();
+    rope_search_reports::laws::pattern_or_not();
+    rope_search_reports::laws::one_of_three();
+    rope_search_reports::laws::finds_one();
+    rope_search_reports::laws::has_find();
     let mut read_buffer = ReadBuffer::new();
     let mut write_buffer = WriteBuffer::new();
     loop {
@@ -113,7 +118,8 @@ fn turn<R: Source, W: Sink>(
     write_buffer: &mut WriteBuffer,
     writer: &mut W,
 ) -> Result<Option<Ended>, Broken>
-    requires { write_buffer.old ≡ [] }
+    requires empty { write_buffer.old ≡ [] }
+    requires texts { AllHoldTexts session.old.state }
     ensures limit { session.new.limit ≡ session.old.limit }
     ensures empty { OnOk result (write_buffer.new ≡ []) }
     ensures taken { TakesTurn session.old.limit result
@@ -132,8 +138,12 @@ fn turn<R: Source, W: Sink>(
           ticks = tick.new;
         }) }
 {
-    // A law, for the proof alone: each command has a cost.
+    // Laws, for the proof alone: each command has a cost.
     rope_search_reports::laws::one_place();
+    rope_search_reports::laws::pattern_or_not();
+    rope_search_reports::laws::one_of_three();
+    rope_search_reports::laws::finds_one();
+    rope_search_reports::laws::has_find();
     let alloc = session.alloc();
     let limits = session.limits();
     match read_request(read_buffer, reader, alloc, limits)? {

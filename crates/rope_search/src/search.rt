@@ -1,14 +1,18 @@
 //! A pattern that is set, and its report, which an edit patches.
-ghost use Rattle.std.specs.Prelude.{◌≡◌, ◌+◌, ◌^◌, ◌<◌, ◌≤◌, chars, IfOk, IfErr};
+ghost use Rattle.std.specs.Prelude.{◌≡◌, ◌+◌, ◌^◌, ◌<◌, ◌≤◌, ◌↔◌, ◌⊎◌, chars, Err, IfOk, IfErr};
 ghost use Rattle.ropey.specs.Chunks.{text_of};
 ghost use Rattle.rope_search_reports.specs.Text.{line_count};
 ghost use Rattle.rope_search_reports.specs.Report.{IsReport, match_count};
+ghost use Rattle.rope_search_reports.specs.Position.{IsNowhere};
+ghost use Rattle.rope_search.specs.Finding.{TellsIn};
 ghost use Rattle.rope_search.specs.Places.{IsMarked, with_replaced};
 ghost use Rattle.rope_search.specs.Searched.{FitsIn, patched};
 
 use crate::parts::Part;
 use rope_search_io::Fault;
-use rope_search_reports::{Finder, Lines, Row, replace_rows, rows_of_lines};
+use rope_search_reports::{
+    Finder, Lines, Position, Row, find_from, place_of, position_of, replace_rows, rows_of_lines,
+};
 use ropey::Rope;
 use std::alloc::Global;
 
@@ -66,12 +70,13 @@ impl Search {
         rope_search_reports::laws::few_matches();
         rope_search_reports::laws::a_row_a_line();
         rope_search_reports::laws::places_are_in_lines();
+        str_indices::laws::counts_are_at_most_bytes();
         let first = new.byte_to_line(part.start.byte_idx);
         // What follows the part follows what is inserted too.
         let behind = old.len_bytes() - part.end.byte_idx;
         let last = new.byte_to_line(new.len_bytes() - behind);
         let end = old.byte_to_line(part.end.byte_idx) + 1;
-        let made = rows_of_lines(tick, alloc, &mut self.finder, new, first, last)?;
+        let made = rows_of_lines(tick, alloc, &mut self.finder, new, first, last + 1)?;
         self.rows.reserve(made.len())?;
         Ok(Patch { first, end, made })
     }
@@ -84,5 +89,35 @@ impl Search {
     {
         let Patch { first, end, made } = patch;
         replace_rows(&mut self.rows, first, end, made);
+    }
+
+    /// The first match in a whole text that starts at a position or behind it: the positions where
+    /// it starts and where it ends, or none. It is refused with `Fault::Range` where the position is
+    /// nowhere in the text, and perhaps with `Fault::Memory`. The report is as before.
+    pub fn next_from(
+        &mut self,
+        tick: &mut Lines,
+        text: &Rope,
+        from: Position,
+    ) -> Result<Option<(Position, Position)>, Fault>
+        ensures found { IfOk result (λ found.
+            TellsIn (text_of text.now) self.old.finder from found) }
+        ensures range { (result ≡ Err Fault.Range)
+            ↔ IsNowhere (text_of text.now) (from.line, from.column) }
+        ensures fault { IfErr result (λ fault. (fault ≡ Fault.Range) ⊎ (fault ≡ Fault.Memory)) }
+        ensures finder { self.new.finder ≡ self.old.finder }
+        ensures rows { self.new.rows.items ≡ self.old.rows.items }
+        ensures count { tick.new.count ≡ tick.old.count }
+        ensures wholes { tick.new.wholes ≤ tick.old.wholes + 1 }
+    {
+        // A law, and the text's facts, for the proof alone.
+        rope_search_reports::laws::finds_are_in_text();
+        let Some(place) = place_of(text, from) else {
+            return Err(Fault::Range);
+        };
+        let Some((start, end)) = find_from(tick, &mut self.finder, text, place.byte_idx)? else {
+            return Ok(None);
+        };
+        Ok(Some((position_of(text, start), position_of(text, end))))
     }
 }

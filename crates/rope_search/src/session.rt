@@ -1,12 +1,13 @@
 //! A session: buffers, of which one is chosen.
 ghost use Rattle.std.specs.Prelude.{◌≡◌, ◌+◌, ◌<◌, ◌≤◌, ◌↔◌, [], ◌∷◌, ◌++◌, List, ℕ, length, Bool, Err, OnOk, OnErr, IfOk, IfErr, IsOk, None, Some};
-ghost use Rattle.rope_search.specs.Order.{Order, SetText, EditText, UndoEdit, RedoEdit, SetPattern, ListMatches};
+ghost use Rattle.rope_search.specs.Order.{Order, SetText, EditText, UndoEdit, RedoEdit, SetPattern, ListMatches, FindNext};
 ghost use Rattle.rope_search.specs.Session.{first, fresh, current_text, chosen_buffer, with_pattern, with_chosen};
 ghost use Rattle.rope_search_reports.specs.Pattern.{pattern_limit};
 ghost use Rattle.rope_search.specs.Laws.{HasCurrent};
 ghost use Rattle.rope_search.specs.Step.{Step};
 ghost use Rattle.rope_search.specs.Stands.{Stands, StandsFor, kept_of};
 ghost use Rattle.rope_search.specs.Cost.{Costs, whole_searches};
+ghost use Rattle.rope_search.specs.Finding as finding;
 
 use crate::buffer::Buffer;
 use crate::commands::{Command, Payload, Reply};
@@ -165,6 +166,7 @@ impl Session {
             Command::Pattern(payload) => self.set_pattern(tick, payload),
             Command::Off => Ok(self.drop_pattern()),
             Command::List => self.list(),
+            Command::Next(from) => self.find_next(tick, from),
             Command::Use(number) => {
                 self.choose(number)?;
                 Ok(Reply::Done)
@@ -270,6 +272,8 @@ impl Session {
             → tick.new.count ≤ tick.old.count + cost }
         ensures wholes { tick.new.wholes ≡ tick.old.wholes }
     {
+        // A law, for the proof alone.
+        rope_search_reports::laws::one_of_three();
         match payload {
             Payload::Kept(bytes) => match str::from_utf8(bytes) {
                 Ok(pattern) => {
@@ -303,5 +307,26 @@ impl Session {
             None => Err(Fault::Nothing),
             Some(_) => Ok(Reply::List),
         }
+    }
+
+    // Tells the first match in the chosen buffer's text at a position or behind it.
+    fn find_next(&mut self, tick: &mut Lines, from: Position) -> Result<Reply, Fault>
+        ensures step { Step self.old.limit self.old.state (FindNext from) result self.new.state }
+        ensures limit { self.new.limit ≡ self.old.limit }
+        ensures count { tick.new.count ≡ tick.old.count }
+        ensures wholes { tick.new.wholes ≤ tick.old.wholes + 1 }
+    {
+        let found = self.buffers[self.chosen].next_from(tick, from)?;
+        Ok(reply_for(found))
+    }
+}
+
+/// The reply that tells the positions of a match, or that there is none.
+fn reply_for(found: Option<(Position, Position)>) -> Reply
+    ensures { result ≡ finding.reply_for found }
+{
+    match found {
+        Some((start, end)) => Reply::Found(start, end),
+        None => Reply::NoMatch,
     }
 }

@@ -3,21 +3,23 @@ use Rattle.std.proofs.Common.{◌≡◌, ℕ, zero, suc, ◌+◌, ◌-◌, ◌<�
 use Rattle.std.specs.Str.{all_scalars, IsUtf8, IsCharBoundary}
 use Rattle.std.proofs.lemmas.Bool.{cases_lt}
 use Rattle.std.proofs.lemmas.List.{take-take}
-use Rattle.std.proofs.lemmas.List.Elements.{All-nil, All-cons}
+use Rattle.std.proofs.lemmas.List.Elements.{All-nil, All-cons, All-head, All-tail}
 use Rattle.std.proofs.lemmas.Str.{chars-encodes, len_utf8_bounds}
 use Rattle.str_indices.specs.Text.{byte_len, units}
 use Rattle.str_indices.specs.FirstBreak.{IsBreak}
 use Rattle.ropey.specs.Chunks.{is_break}
 use Rattle.rope_search_reports.specs.Text.{IsText, bytes_of, line_count}
-use Rattle.rope_search_reports.specs.Report.{line_texts, column, columns, IsMatches, IsRow, AreRows, IsReport}
-use Rattle.rope_search_reports.specs.Matches.{AreFurther, IsNext, at_once, moved}
-use Rattle.rope_search_reports.specs.Pattern.{IsPattern, IsSpanOf, FindsNeedle}
+use Rattle.regex_cursor.specs.Patterns.{FoundMatch, search_from, start_of, end_of}
+use Rattle.regex_cursor.specs.PatternLaws as found
+use Rattle.regex_cursor.specs.PatternLaws.{LiesBetween}
+use Rattle.rope_search_reports.specs.Report.{line_texts, column, columns, IsRow, AreRows, IsReport}
+use Rattle.rope_search_reports.specs.Matches.{IsMatches}
+use Rattle.rope_search_reports.specs.Pattern.{span_of}
 use Rattle.rope_search_reports.specs.Position.{line_at, line_start, line_text, text_end, IsAt, StandsAtBoundaries}
 use Rattle.rope_search_reports.specs.Laws.{PlaceLaws}
 use Rattle.rope_search_reports.proofs.LineLemmas.{byte_len-append, byte_len-one, lines-counted, lines-in-place}
-use Rattle.rope_search_reports.proofs.PatternLemmas.{bytes_some}
+use Rattle.rope_search_reports.proofs.MatchLemmas.{AllHaveFinds}
 use Rattle.rope_search_reports.proofs.PlaceLemmas.{scalars-parts, split_at, front_of, line_inside}
-use Rattle.rope_search_reports.proofs.RowLemmas.{occurs-start, occurs-end}
 
 -- ---- the rows of a report
 
@@ -106,44 +108,45 @@ module _ (law : PlaceLaws) (text : List ℕ) (scalars : all_scalars text ≡ tru
       up_to_end : (i : ℕ) → i ≤ byte_len own → line_start text line + i ≤ text_end text line
       up_to_end i low = omega (arith, low)
 
-  module _ (pattern : List ℕ) (spelled : all_scalars pattern ≡ true) (is : IsPattern pattern) where
-    -- of one match
-    stands : (span : ℕ × ℕ) → IsSpanOf (bytes_of pattern) (bytes_of own) span → StandsAtBoundaries text line (columns (bytes_of own) span)
-    stands span found =
-        let needle : IsUtf8 (bytes_of pattern) = (pattern, (spelled, refl)) in
-        let content : IsUtf8 (bytes_of own) = (own, (own_scalars, refl)) in
-        let some : 0 < length (bytes_of pattern) = bytes_some (bytes_of pattern) (subst (λ t. 0 < length t) (sym (chars-encodes pattern spelled)) is.some) in
-        let ends = found.ends in
-        record {
-          start = line_start text line + span.0;
-          end = line_start text line + span.1;
-          starts = at_column span.0 (occurs-start (bytes_of own) (bytes_of pattern) span.0 needle some found.occurs);
-          ends = at_column span.1 (subst (IsCharBoundary (bytes_of own)) (sym ends) (occurs-end (bytes_of own) (bytes_of pattern) span.0 content needle some found.occurs));
-          ordered = omega (arith, ends);
-        }
+  -- of one match
+  stands : (t : FoundMatch) → found.StandsAtBoundaries (bytes_of own) t → LiesBetween (search_from (bytes_of own) 0) (start_of t) (end_of t)
+      → StandsAtBoundaries text line (columns (bytes_of own) (span_of t))
+  stands t at between =
+      let order = between.1 in
+      record {
+        start = line_start text line + start_of t;
+        end = line_start text line + end_of t;
+        starts = at_column (start_of t) at.start;
+        ends = at_column (end_of t) at.end;
+        ordered = omega (arith, order);
+      }
 
-    next_is : (end : ℕ) (span : ℕ × ℕ) → IsNext (FindsNeedle (bytes_of pattern) (bytes_of own)) (λ s. s) end (Some span) → IsSpanOf (bytes_of pattern) (bytes_of own) span
-    next_is end span (at_once found other) = found.is
-    next_is end span (moved found same later) = later.is
+  stand-all : (ms : List FoundMatch) → All (found.StandsAtBoundaries (bytes_of own)) ms
+      → All (λ t. LiesBetween (search_from (bytes_of own) 0) (start_of t) (end_of t)) ms
+      → All (StandsAtBoundaries text line) (map (columns (bytes_of own)) (map span_of ms))
+  stand-all [] at between = All-nil (StandsAtBoundaries text line)
+  stand-all (t ∷ ms) at between =
+      let At : FoundMatch → Type 0 = found.StandsAtBoundaries (bytes_of own) in
+      let Between : FoundMatch → Type 0 = λ u. LiesBetween (search_from (bytes_of own) 0) (start_of u) (end_of u) in
+      All-cons (StandsAtBoundaries text line) (columns (bytes_of own) (span_of t)) (map (columns (bytes_of own)) (map span_of ms))
+      (stands t (All-head At t ms at) (All-head Between t ms between)) (stand-all ms (All-tail At t ms at) (All-tail Between t ms between))
 
-    further : (end : ℕ) (spans : List (ℕ × ℕ)) → AreFurther (FindsNeedle (bytes_of pattern) (bytes_of own)) (λ s. s) end spans
-        → All (StandsAtBoundaries text line) (map (columns (bytes_of own)) spans)
-    further end [] are = All-nil (StandsAtBoundaries text line)
-    further end (span ∷ spans) are =
-        All-cons (StandsAtBoundaries text line) (columns (bytes_of own) span) (map (columns (bytes_of own)) spans) (stands span (next_is end span are.0)) (further span.1 spans are.1)
-
-    all_stand : (spans : List (ℕ × ℕ)) → IsMatches pattern (bytes_of own) spans → All (StandsAtBoundaries text line) (map (columns (bytes_of own)) spans)
-    all_stand [] are = All-nil (StandsAtBoundaries text line)
-    all_stand (span ∷ spans) are =
-        All-cons (StandsAtBoundaries text line) (columns (bytes_of own) span) (map (columns (bytes_of own)) spans) (stands span are.0.is) (further span.1 spans are.1)
+  all_stand : AllHaveFinds → (pattern : List ℕ) (spans : List (ℕ × ℕ)) → IsMatches pattern (bytes_of own) spans → All (StandsAtBoundaries text line) (map (columns (bytes_of own)) spans)
+  all_stand finds pattern spans is =
+      let has = finds is.are.tree in
+      let content : IsUtf8 (bytes_of own) = (own, (own_scalars, refl)) in
+      let search_it = search_from (bytes_of own) 0 in
+      let at = has.list_at_boundaries search_it is.matches content refl is.are.are in
+      let between = (has.rise search_it is.matches is.are.are).inside in
+      subst (λ (ss : List (ℕ × ℕ)). All (StandsAtBoundaries text line) (map (columns (bytes_of own)) ss)) (sym is.spans_are) (stand-all is.matches at between)
 
 -- each match of a report stands at boundaries
-pub stand : PlaceLaws → (text pattern : List ℕ) (rows : List (List (ℕ × ℕ))) (line : ℕ) → IsText text → IsText pattern → IsPattern pattern → IsReport text pattern rows
+pub stand : PlaceLaws → AllHaveFinds → (text pattern : List ℕ) (rows : List (List (ℕ × ℕ))) (line : ℕ) → IsText text → IsReport text pattern rows
     → All (StandsAtBoundaries text line) (slice_index_or rows line [])
-stand law text pattern rows line scalars spelled is report = elim (row_at pattern (line_texts text) rows line report) [
+stand law finds text pattern rows line scalars report = elim (row_at pattern (line_texts text) rows line report) [
   | inl h ↦
       let row = h.1 in
       let inside : line < line_count text = omega (arith, h.0, lines-counted text) in
-      subst (All (StandsAtBoundaries text line)) (sym row.shown) (all_stand law text scalars line inside pattern spelled is row.spans row.are)
+      subst (All (StandsAtBoundaries text line)) (sym row.shown) (all_stand law text scalars line inside finds pattern row.spans row.are)
   | inr none ↦ subst (All (StandsAtBoundaries text line)) (sym none) (All-nil (StandsAtBoundaries text line))
 ]

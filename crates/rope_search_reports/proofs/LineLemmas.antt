@@ -13,7 +13,6 @@ use Rattle.ropey.specs.Chunks.{is_break}
 use Rattle.str_indices.specs.FirstBreak.{IsBreak}
 use Rattle.rope_search_reports.specs.Text.{bytes_of, line_count}
 use Rattle.rope_search_reports.specs.Report.{with_first, line_texts}
-use Rattle.rope_search_reports.specs.Drafts.{with_front}
 use Rattle.rope_search_reports.specs.Position.{line_start, text_end, LiesInPlace}
 
 -- ---- the lines of a text by its first character
@@ -138,73 +137,8 @@ break-lines (c ∷ d ∷ e ∷ es) rest is = absurd is
 pub lines-cut : (line one rest : List ℕ) → NonePass is_break line → IsBreak is_break one rest → line_texts (line ++ (one ++ rest)) ≡ line ∷ line_texts rest
 lines-cut line one rest plain is = line-cut line (one ++ rest) (line_texts rest) plain (break-lines one rest is)
 
--- ---- the lines of joined texts
-
--- the last line goes on in the first of the others
-abbrev pub join_lines : List (List ℕ) → List (List ℕ) → List (List ℕ)
-join_lines [] others = others
-join_lines (line ∷ []) others = with_front line others
-join_lines (line ∷ line' ∷ lines) others = line ∷ join_lines (line' ∷ lines) others
-
-pub front-none : (lines : List (List ℕ)) → with_front [] lines ≡ lines
-front-none [] = refl
-front-none (line ∷ lines) = refl
-
-join-cons : (line : List ℕ) (lines others : List (List ℕ)) → 0 < length lines → join_lines (line ∷ lines) others ≡ line ∷ join_lines lines others
-join-cons line [] others some = absurd (omega (arith, some))
-join-cons line (line' ∷ lines) others some = refl
-
-join-first : (c : ℕ) (lines others : List (List ℕ)) → 0 < length lines → 0 < length others → join_lines (with_first c lines) others ≡ with_first c (join_lines lines others)
-join-first c [] others some some' = absurd (omega (arith, some))
-join-first c (line ∷ []) [] some some' = absurd (omega (arith, some'))
-join-first c (line ∷ []) (other ∷ others) some some' = refl
-join-first c (line ∷ line' ∷ lines) others some some' = refl
-
-pub join-last : (done : List (List ℕ)) (tail : List ℕ) (others : List (List ℕ)) → join_lines (done ++ tail ∷ []) others ≡ done ++ with_front tail others
-join-last [] tail others = refl
-join-last (line ∷ []) tail others = refl
-join-last (line ∷ line' ∷ done) tail others = ap (λ ls. line ∷ ls) (join-last (line' ∷ done) tail others)
-
-pub join-length : (lines others : List (List ℕ)) → 0 < length others → length lines ≤ length (join_lines lines others)
-join-length [] others some = omega arith
-join-length (line ∷ []) [] some = absurd (omega (arith, some))
-join-length (line ∷ []) (other ∷ others) some = omega arith
-join-length (line ∷ line' ∷ lines) others some = omega (arith, join-length (line' ∷ lines) others some)
-
--- no CR LF is cut: what ends a break still does
-ends-joined : (c : ℕ) (cs second : List ℕ) → NoCrLfBetween (c ∷ cs) second → ends_break is_break c (cs ++ second) ≡ ends_break is_break c cs
-ends-joined c [] second whole = ap (λ b. is_break c && not b) (whole ∙ sym (none (c == 13)))
-  where
-    none : (b : Bool) → (b && false) ≡ false
-    none true = refl
-    none false = refl
-ends-joined c (d ∷ ds) second whole = refl
-
-tail-whole : (c : ℕ) (cs second : List ℕ) → NoCrLfBetween (c ∷ cs) second → NoCrLfBetween cs second
-tail-whole c [] second whole = refl
-tail-whole c (d ∷ ds) second whole = whole
-
 some-lines : (text : List ℕ) → 0 < length (line_texts text)
 some-lines text = omega (arith, lines-counted text)
-
--- the last line of a text goes on in the first one of the text behind it
-pub lines-joined : (first second : List ℕ) → NoCrLfBetween first second → line_texts (first ++ second) ≡ join_lines (line_texts first) (line_texts second)
-lines-joined [] second whole = sym (ap (λ ls. join_lines ls (line_texts second)) line_texts-nil ∙ front-none (line_texts second))
-lines-joined (c ∷ cs) second whole =
-    let later = lines-joined cs second (tail-whole c cs second whole) in
-    let same = ends-joined c cs second whole in
-    let others = line_texts second in
-    elim (cases_Bool (ends_break is_break c cs)) [
-      | inl is_so ↦
-          line_texts-break c (cs ++ second) (same ∙ is_so) ∙ ap (λ ls. [] ∷ ls) later
-          ∙ sym (ap (λ ls. join_lines ls others) (line_texts-break c cs is_so) ∙ join-cons [] (line_texts cs) others (some-lines cs))
-      | inr is_not ↦ elim (cases_Bool (is_break c)) [
-        | inl is_so ↦ line_texts-cr c (cs ++ second) (same ∙ is_not) is_so ∙ later ∙ sym (ap (λ ls. join_lines ls others) (line_texts-cr c cs is_not is_so))
-        | inr is_not' ↦
-            line_texts-more c (cs ++ second) (same ∙ is_not) is_not' ∙ ap (with_first c) later
-            ∙ sym (ap (λ ls. join_lines ls others) (line_texts-more c cs is_not is_not') ∙ join-first c (line_texts cs) others (some-lines cs) (some-lines second))
-      ]
-    ]
 
 -- ---- where lines lie
 

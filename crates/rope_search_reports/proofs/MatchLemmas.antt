@@ -1,207 +1,175 @@
--- Lists of matches: there is exactly one, and how many matches it has at most.
-use Rattle.std.proofs.Common.{◌≡◌, ℕ, zero, suc, ◌+◌, ◌-◌, ◌<◌, ◌≤◌, ◌==◌, ◌⊎◌, true, false, List, [], ◌∷◌, Option, None, Some, length, refl, sym, ap, ap₂, subst, ◌∙◌, inl, inr, arith}
-use Rattle.std.proofs.lemmas.Bool.{cases_Bool, cases_eq, cases_lt, cases_order, cond-true, cond-false, false≢true}
-use Rattle.std.proofs.lemmas.Bool.Decides.{nat_tests}
-use Rattle.memchr.specs.Find.{OccursAt, occurs_at}
-use Rattle.memchr.proofs.lemmas.MatchLemmas.{OccursAt-true, occurs_at-true}
-use Rattle.rope_search_reports.specs.Matches.{IsNext, nothing, at_once, moved, AreFurther, AreMatches}
-use Rattle.rope_search_reports.specs.Pattern.{IsSpanOf, FindsNeedle}
-use Rattle.rope_search_reports.specs.Computed.{find_among, find, unless_empty, find_next, and_after, further, matches}
+-- What is found of a pattern: it is one thing, and where it lies.
+use Rattle.std.proofs.Common.{◌≡◌, ℕ, ◌+◌, ◌-◌, ◌<◌, ◌≤◌, ◌⊎◌, inl, inr, true, List, [], ◌∷◌, ◌++◌, Option, None, Some, length, map, refl, sym, ap, subst, ◌∙◌, arith}
+use Rattle.std.specs.Prelude.{option_map}
+use Rattle.std.specs.List.{last_or}
+use Rattle.std.specs.Str.{IsUtf8, IsCharBoundary}
+use Rattle.std.proofs.lemmas.Bool.{cases_lt}
+use Rattle.std.proofs.lemmas.List.{map-append}
+use Rattle.regex_cursor.specs.Patterns.{Tree, SpellsTree, SpellsNone, FoundMatch, Next, no_more, at_once, moved, TreeFinds, TreeMatches, FirstTreeMatches, ComesBehind, BehindLast, search_from, pattern_weight, start_of, end_of}
+use Rattle.regex_cursor.specs.PatternLaws.{HasFinds, SpellsOneTree, SpellsTreeOrNone, StandsAtBoundaries}
+use Rattle.rope_search_reports.specs.Pattern.{IsPattern, IsTooHeavy, FindsMatch, Finds, span_of, weight_limit}
+use Rattle.rope_search_reports.specs.Matches.{AreMatches, IsMatches}
+use Rattle.rope_search_reports.specs.Finders.{ComesAfter, IsRowOf}
+use Rattle.rope_search_reports.specs.Report.{columns}
+use Rattle.rope_search_reports.specs.Text.{IsText, bytes_of}
+use Rattle.rope_search_reports.specs.Laws.{IsPatternOrNot, IsOneOfThree, IsInText, FindsAreInText}
 
--- ---- at most one list, whatever a search finds
+abbrev pub AllHaveFinds : Type 0
+AllHaveFinds = (tree : Tree) → HasFinds tree
 
--- a search finds one thing
-abbrev pub FindsOne : {A : Type 0} → (ℕ → Option A → Type 0) → Type 0
-FindsOne {A} F = (from : ℕ) (a b : Option A) → F from a → F from b → a ≡ b
+-- ---- which texts are patterns
+
+pub pattern-or-not : SpellsTreeOrNone → IsPatternOrNot
+pattern-or-not law text = elim (law text) [
+  | inl some ↦ elim (cases_lt weight_limit (pattern_weight some.0)) [
+    | inl heavy ↦ inr (inl (record { tree = some.0; spells = some.1; heavy = heavy }))
+    | inr light ↦ inl (some.0, record { spells = some.1; light = omega (arith, light) })
+  ]
+  | inr none ↦ inr (inr none)
+]
+
+pub one-of-three : SpellsOneTree → IsOneOfThree
+one-of-three law = record {
+  not_heavy = λ text is heavy.
+      let same = ap (λ tree. pattern_weight tree) (law text is.0 heavy.tree is.1.spells heavy.spells) in
+      let light = is.1.light in
+      let above = heavy.heavy in
+      omega (arith, same, light, above);
+  some = λ text is none. none is.0 is.1.spells;
+  heavy_some = λ text heavy none. none heavy.tree heavy.spells;
+}
+
+-- ---- what is found
+
+pub match-one : SpellsOneTree → AllHaveFinds → (pattern content : List ℕ) (from : ℕ) (a b : Option FoundMatch) → FindsMatch pattern content from a → FindsMatch pattern content from b → a ≡ b
+match-one trees finds pattern content from a b one other =
+    let same = trees pattern other.tree one.tree other.spells one.spells in
+    let moved_to : TreeFinds one.tree content from b = subst (λ tree. TreeFinds tree content from b) same other.finds in
+    (finds one.tree).one_find (search_from content from) a b one.finds moved_to
+
+pub find-one : SpellsOneTree → AllHaveFinds → (pattern content : List ℕ) (from : ℕ) (a b : Option (ℕ × ℕ)) → Finds pattern content from a → Finds pattern content from b → a ≡ b
+find-one trees finds pattern content from a b one other =
+    one.span_is ∙ ap (option_map span_of) (match-one trees finds pattern content from one.found other.found one.is other.is) ∙ sym other.span_is
+
+pub has-find : AllHaveFinds → (pattern content : List ℕ) (from : ℕ) → IsPattern pattern → (span : Option (ℕ × ℕ)) × Finds pattern content from span
+has-find finds pattern content from is =
+    let found = (finds is.0).has_find (search_from content from) in (
+      option_map span_of found.0,
+      record { found = found.0; is = record { tree = is.0; spells = is.1.spells; finds = found.1 }; span_is = refl },
+    )
+
+-- a match of a tree lies in the content, behind the place from which it was searched
+pub record LiesBehind (content : List ℕ) (from : ℕ) (t : FoundMatch) : Type 0 where
+  pub behind : from ≤ start_of t
+  pub ordered : start_of t ≤ end_of t
+  pub inside : end_of t ≤ length content
+
+pub lies-behind : (tree : Tree) (content : List ℕ) (from : ℕ) (t : FoundMatch) → HasFinds tree → TreeFinds tree content from (Some t) → LiesBehind content from t
+lies-behind tree content from t has finds =
+    let h = (has.inside (search_from content from) t finds).found in
+    record { behind = h.possible.0.2; ordered = h.ordered; inside = h.inside.4 }
+
+pub stands : (tree : Tree) (content : List ℕ) (from : ℕ) (t : FoundMatch) → HasFinds tree → IsUtf8 content → TreeFinds tree content from (Some t)
+    → IsCharBoundary content (start_of t) × IsCharBoundary content (end_of t)
+stands tree content from t has utf8 finds =
+    let h = has.at_boundaries (search_from content from) t utf8 refl finds in
+    (h.start, h.end)
+
+-- ---- what comes next
+
+-- it is found from some place on, behind the last match
+pub comes-from : (tree : Tree) (content : List ℕ) (last : Option ℕ) (t : FoundMatch) → ComesAfter tree content last (Some t) → (from : ℕ) × TreeFinds tree content from (Some t)
+comes-from tree content None t finds = (0, finds)
+comes-from tree content (Some end) t (at_once finds other) = (end, finds)
+comes-from tree content (Some end) t (moved found starts ends later) = (end + 1, later)
+
+-- how far a search for what comes next may go: less with each match
+abbrev pub room_behind : ℕ → Option ℕ → ℕ
+room_behind len None = len + 1
+room_behind len (Some end) = len - end
+
+pub comes-further : (tree : Tree) (content : List ℕ) (last : Option ℕ) (t : FoundMatch) → HasFinds tree → ComesAfter tree content last (Some t)
+    → room_behind (length content) (Some (end_of t)) < room_behind (length content) last
+comes-further tree content None t has finds = omega arith
+comes-further tree content (Some end) t has (at_once finds other) =
+    let h = lies-behind tree content end t has finds in
+    let behind = h.behind in
+    let ordered = h.ordered in
+    let inside = h.inside in
+    elim (cases_lt end (end_of t)) [
+      | inl further ↦ omega (arith, further, inside)
+      | inr there ↦ absurd (other (omega (arith, there, behind, ordered)) (omega (arith, there, behind, ordered)))
+    ]
+comes-further tree content (Some end) t has (moved found starts ends later) =
+    let h = lies-behind tree content (end + 1) t has later in
+    let behind = h.behind in
+    let ordered = h.ordered in
+    let inside = h.inside in
+    omega (arith, behind, ordered, inside)
+
+-- in the words of the list of matches
+pub comes-behind : (tree : Tree) (content : List ℕ) (last : Option FoundMatch) (out : Option FoundMatch) → ComesAfter tree content (option_map end_of last) out
+    → BehindLast (TreeFinds tree content) start_of end_of 0 last out
+comes-behind tree content None out comes = comes
+comes-behind tree content (Some a) out comes = comes
+
+-- ---- the matches so far
+
+-- these are the first ones, the last of them ends there, and this is what a row shows of them
+pub record Searched (tree : Tree) (content : List ℕ) (last : Option ℕ) (row : List (ℕ × ℕ)) : Type 0 where
+  pub matches : List FoundMatch
+  pub first : FirstTreeMatches tree content matches
+  pub last_is : last ≡ option_map end_of (last_or None matches)
+  pub shown : row ≡ map (columns content) (map span_of matches)
+
+pub Searched-start : (tree : Tree) (content : List ℕ) → HasFinds tree → Searched tree content None []
+Searched-start tree content has = record {
+  matches = [];
+  first = (has.first (search_from content 0)).none;
+  last_is = refl;
+  shown = refl;
+}
+
+next-is : (tree : Tree) (content : List ℕ) (last : Option ℕ) (row : List (ℕ × ℕ)) (out : Option FoundMatch) → (s : Searched tree content last row) → ComesAfter tree content last out
+    → ComesBehind tree content s.matches out
+next-is tree content last row out s comes =
+    comes-behind tree content (last_or None s.matches) out (subst (λ l. ComesAfter tree content l out) s.last_is comes)
+
+last-more : (o : Option FoundMatch) (ms : List FoundMatch) (t : FoundMatch) → last_or o (ms ++ t ∷ []) ≡ Some t
+last-more o [] t = refl
+last-more o (m ∷ ms) t = last-more (Some m) ms t
+
+pub Searched-more : (tree : Tree) (content : List ℕ) (last : Option ℕ) (row : List (ℕ × ℕ)) (t : FoundMatch) → HasFinds tree → Searched tree content last row
+    → ComesAfter tree content last (Some t) → Searched tree content (Some (end_of t)) (row ++ columns content (span_of t) ∷ [])
+Searched-more tree content last row t has s comes = record {
+  matches = s.matches ++ t ∷ [];
+  first = ((has.first (search_from content 0)).one_more s.matches t).0 (s.first, next-is tree content last row (Some t) s comes);
+  last_is = ap (option_map end_of) (sym (last-more None s.matches t));
+  shown =
+      ap (λ r. r ++ columns content (span_of t) ∷ []) s.shown
+      ∙ sym (ap (map (columns content)) (map-append span_of s.matches (t ∷ [])) ∙ map-append (columns content) (map span_of s.matches) (span_of t ∷ []));
+}
+
+pub Searched-end : (tree : Tree) (line : List ℕ) (last : Option ℕ) (row : List (ℕ × ℕ)) → HasFinds tree → Searched tree (bytes_of line) last row
+    → ComesAfter tree (bytes_of line) last None → IsRowOf tree line row
+Searched-end tree line last row has s comes = record {
+  matches = s.matches;
+  are = ((has.first (search_from (bytes_of line) 0)).all s.matches).0 (s.first, next-is tree (bytes_of line) last row None s comes);
+  shown = s.shown;
+}
+
+-- ---- in a text
 
 some-same : {A : Type 0} (a b : A) → Some a ≡ Some b → a ≡ b
 some-same a b e = cc
 
-next-one : {A : Type 0} {F : ℕ → Option A → Type 0} {span_of : A → ℕ × ℕ} {end : ℕ} {a b : Option A}
-    → FindsOne F → IsNext F span_of end a → IsNext F span_of end b → a ≡ b
-next-one one (nothing f) (nothing f') = refl
-next-one {end = end} one (nothing f) (at_once {a = a} f' not) = one end None (Some a) f f'
-next-one {end = end} one (nothing f) (moved {a = a} f' is f'') = absurd (cc (one end None (Some a) f f'))
-next-one {end = end} one (at_once {a = a} f not) (nothing f') = one end (Some a) None f f'
-next-one {end = end} one (at_once {a = a} f not) (at_once {a = b} f' not') = one end (Some a) (Some b) f f'
-next-one {span_of = span_of} {end = end} one (at_once {a = a} f not) (moved {a = b} f' is f'') =
-    absurd (not (ap span_of (some-same a b (one end (Some a) (Some b) f f')) ∙ is))
-next-one {end = end} one (moved {a = a} f is f') (nothing f'') = absurd (cc (one end (Some a) None f f''))
-next-one {span_of = span_of} {end = end} one (moved {a = b} f is f') (at_once {a = a} f'' not) =
-    absurd (not (ap span_of (some-same a b (one end (Some a) (Some b) f'' f)) ∙ is))
-next-one {end = end} one (moved {found = a} f is f') (moved {found = b} f'' is' f''') = one (end + 1) a b f' f'''
+in-text : AllHaveFinds → (text : List ℕ) (from : ℕ) (tree : Tree) (found : Option FoundMatch) (span : ℕ × ℕ) → IsText text → TreeFinds tree (bytes_of text) from found
+    → Some span ≡ option_map span_of found → IsInText text from span
+in-text finds text from tree None span scalars is e = absurd (cc e)
+in-text finds text from tree (Some t) span scalars is e =
+    let h = lies-behind tree (bytes_of text) from t (finds tree) is in
+    let at = stands tree (bytes_of text) from t (finds tree) (text, (scalars, refl)) is in
+    subst (IsInText text from) (sym (some-same span (span_of t) e)) (record { behind = h.behind; ordered = h.ordered; starts = at.0; ends = at.1 })
 
-further-one : {A : Type 0} {F : ℕ → Option A → Type 0} (span_of : A → ℕ × ℕ) (end : ℕ) (xs ys : List A)
-    → FindsOne F → AreFurther F span_of end xs → AreFurther F span_of end ys → xs ≡ ys
-further-one span_of end [] [] one are are' = refl
-further-one {A} span_of end [] (b ∷ ys) one are are' = absurd (cc (next-one one are are'.0))
-further-one {A} span_of end (a ∷ xs) [] one are are' = absurd (cc (next-one one are.0 are'))
-further-one {A} {F} span_of end (a ∷ xs) (b ∷ ys) one are are' =
-    let same : a ≡ b = some-same a b (next-one one are.0 are'.0) in
-    ap₂ (λ z zs. z ∷ zs) same (further-one span_of (span_of a).1 xs ys one are.1
-    (subst (λ (x : A). AreFurther F span_of (span_of x).1 ys) (sym same) are'.1))
-
-pub matches-one : {A : Type 0} {F : ℕ → Option A → Type 0} (span_of : A → ℕ × ℕ) (start : ℕ) (xs ys : List A)
-    → FindsOne F → AreMatches F span_of start xs → AreMatches F span_of start ys → xs ≡ ys
-matches-one span_of start [] [] one are are' = refl
-matches-one span_of start [] (b ∷ ys) one are are' = absurd (cc (one start None (Some b) are are'.0))
-matches-one span_of start (a ∷ xs) [] one are are' = absurd (cc (one start (Some a) None are.0 are'))
-matches-one {A} {F} span_of start (a ∷ xs) (b ∷ ys) one are are' =
-    let same : a ≡ b = some-same a b (one start (Some a) (Some b) are.0 are'.0) in
-    ap₂ (λ z zs. z ∷ zs) same (further-one span_of (span_of a).1 xs ys one are.1
-    (subst (λ (x : A). AreFurther F span_of (span_of x).1 ys) (sym same) are'.1))
-
--- ---- what is found of a needle
-
-pair-is : (a : ℕ × ℕ) (x y : ℕ) → a.0 ≡ x → a.1 ≡ y → ◌≡◌ {A = ℕ × ℕ} a (x, y)
-pair-is a x y p q =
-    let first : ℕ → ℕ × ℕ = λ n. (n, a.1) in
-    let second : ℕ → ℕ × ℕ = λ n. (x, n) in
-    ap first p ∙ ap second q
-
-IsSpanOf-one : (needle content : List ℕ) (a b : ℕ × ℕ) → IsSpanOf needle content a → IsSpanOf needle content b → a.0 ≡ b.0 → a ≡ b
-IsSpanOf-one needle content a b one other same =
-    pair-is a b.0 b.1 same (one.ends ∙ ap (λ n. n + length needle) same ∙ sym other.ends)
-
-pub FindsNeedle-one : (needle content : List ℕ) → FindsOne (FindsNeedle needle content)
-FindsNeedle-one needle content from None None one other = refl
-FindsNeedle-one needle content from None (Some b) one other = absurd (one b other.is other.behind)
-FindsNeedle-one needle content from (Some a) None one other = absurd (other a one.is one.behind)
-FindsNeedle-one needle content from (Some a) (Some b) one other = elim (cases_order a.0 b.0) [
-  | inl same ↦ ap Some (IsSpanOf-one needle content a b one.is other.is same)
-  | inr (inl below) ↦ absurd (other.none_before a one.is one.behind below)
-  | inr (inr above) ↦ absurd (one.none_before b other.is other.behind above)
-]
-
--- a further match ends behind the one before
-next-behind : (needle content : List ℕ) (end : ℕ) (span : ℕ × ℕ) → IsNext (FindsNeedle needle content) (λ s. s) end (Some span)
-    → (end < span.1) × (span.1 ≤ length content)
-next-behind needle content end span (at_once f not) =
-    let fits = f.is.occurs.fits in
-    let ends = f.is.ends in
-    let low = f.behind in
-    elim (cases_lt end span.1) [
-      | inl behind ↦ (behind, omega arith)
-      | inr there ↦ absurd (not (pair-is span end end (omega arith) (omega arith)))
-    ]
-next-behind needle content end span (moved f is f') =
-    let fits = f'.is.occurs.fits in
-    let ends = f'.is.ends in
-    let low = f'.behind in
-    (omega arith, omega arith)
-
-further-few : (needle content : List ℕ) (end : ℕ) (spans : List (ℕ × ℕ)) → end ≤ length content
-    → AreFurther (FindsNeedle needle content) (λ s. s) end spans → length spans + end ≤ length content
-further-few needle content end [] within are = omega arith
-further-few needle content end (span ∷ spans) within are =
-    let next = next-behind needle content end span are.0 in
-    let few = further-few needle content span.1 spans next.1 are.1 in
-    omega (arith, next.0, few)
-
--- matches are no more than places
-pub matches-few : (needle content : List ℕ) (spans : List (ℕ × ℕ)) → AreMatches (FindsNeedle needle content) (λ s. s) 0 spans
-    → length spans ≤ length content + 1
-matches-few needle content [] are = omega arith
-matches-few needle content (span ∷ spans) are =
-    let fits = are.0.is.occurs.fits in
-    let ends = are.0.is.ends in
-    omega (arith, further-few needle content span.1 spans (omega arith) are.1)
-
--- of a needle that isn't empty, a further match is what is found from the end of the one before
-pub further-are : (needle content : List ℕ) (end : ℕ) (spans : List (ℕ × ℕ)) → 0 < length needle
-    → AreMatches (FindsNeedle needle content) (λ s. s) end spans → AreFurther (FindsNeedle needle content) (λ s. s) end spans
-further-are needle content end [] some are = nothing are
-further-are needle content end (span ∷ spans) some are =
-    let ends = are.0.is.ends in
-    (at_once are.0 (λ e. omega (arith, some, ends, ap (λ s. s.0) e, ap (λ s. s.1) e)), are.1)
-
--- ---- a list of matches, by computation
-
--- the needle lies at none of n starts, or first at one
-pub record LiesFirst (needle content : List ℕ) (start n k : ℕ) : Type 0 where
-  pub found : find_among needle content start n ≡ Some (k, k + length needle)
-  pub behind : start ≤ k
-  pub here : OccursAt content needle k
-  pub before : (j : ℕ) → start ≤ j → j < k → OccursAt content needle j → ⊥
-
-pub record LiesNowhere (needle content : List ℕ) (start n : ℕ) : Type 0 where
-  pub found : find_among needle content start n ≡ None
-  pub nowhere : (j : ℕ) → start ≤ j → j < start + n → OccursAt content needle j → ⊥
-
-find_choice : (needle content : List ℕ) (start n : ℕ) → ((k : ℕ) × LiesFirst needle content start n k) ⊎ LiesNowhere needle content start n
-unfolding find_among
-find_choice needle content start zero = inr (record { found = refl; nowhere = λ j low high here. omega arith })
-find_choice needle content start (suc n) = elim (cases_Bool (occurs_at content needle start)) [
-  | inl yes_so ↦ inl (start, record { found = cond-true _ _ _ yes_so; behind = omega arith; here = OccursAt-true content needle start yes_so; before = λ j low high other. omega arith })
-  | inr not_so ↦
-      let P : ℕ → Type 0 = λ i. OccursAt content needle i in
-      let not_here : P start → ⊥ = λ here. false≢true (sym not_so ∙ occurs_at-true content needle start here) in
-      elim (find_choice needle content (start + 1) n) [
-        | inl some ↦ inl (
-          some.0,
-          record {
-            found = cond-false _ _ _ not_so ∙ some.1.found;
-            behind = omega (arith, some.1.behind);
-            here = some.1.here;
-            before = λ j low high other. elim (cases_eq j start) [ inl same ↦ not_here (subst P same other) | inr behind ↦ some.1.before j (omega arith) high other ];
-          },
-        )
-        | inr none ↦ inr (record {
-          found = cond-false _ _ _ not_so ∙ none.found;
-          nowhere = λ j low high other. elim (cases_eq j start) [ inl same ↦ not_here (subst P same other) | inr behind ↦ none.nowhere j (omega arith) (omega arith) other ];
-        })
-      ]
-]
-
-find-is : (needle content : List ℕ) (from : ℕ) → FindsNeedle needle content from (find needle content from)
-find-is needle content from = elim (find_choice needle content from (length content + 1 - from)) [
-  | inl first ↦
-      let k = first.0 in
-      subst (FindsNeedle needle content from) (sym first.1.found) (record {
-        is = record { occurs = first.1.here; ends = refl };
-        behind = first.1.behind;
-        none_before = λ other is low high. first.1.before other.0 low high is.occurs;
-      })
-  | inr none ↦
-      subst (FindsNeedle needle content from) (sym none.found) (λ span is low. none.nowhere span.0 low (omega (arith, is.occurs.fits)) is.occurs)
-]
-
-cases_false : (m n : ℕ) → (m ≡ n → ⊥) → (m == n) ≡ false
-cases_false m n other = grind (arith, nat_tests)
-
-next-by : (needle content : List ℕ) (end : ℕ) (one second : Option (ℕ × ℕ)) → FindsNeedle needle content end one → FindsNeedle needle content (end + 1) second
-    → IsNext (FindsNeedle needle content) (λ s. s) end (unless_empty end one second)
-next-by needle content end None second f f' = nothing f
-next-by needle content end (Some span) second f f' =
-    let P : Option (ℕ × ℕ) → Type 0 = λ r. IsNext (FindsNeedle needle content) (λ s. s) end r in
-    let ends = f.is.ends in
-    let low = f.behind in
-    elim (cases_eq span.1 end) [
-      | inl same ↦ let told : (span.1 == end) ≡ true = grind (arith, nat_tests) in subst P (sym (cond-true _ _ _ told)) (moved f (pair-is span end end (omega arith) same) f')
-      | inr other ↦ let told : (span.1 == end) ≡ false = cases_false span.1 end other in subst P (sym (cond-false _ _ _ told)) (at_once f (λ e. other (ap (λ s. s.1) e)))
-    ]
-
-further-by : (needle content : List ℕ) (end n : ℕ) (found : Option (ℕ × ℕ)) → length content < end + suc n
-    → ((e : ℕ) → length content < e + n → AreFurther (FindsNeedle needle content) (λ s. s) e (further (find needle content) e n))
-    → IsNext (FindsNeedle needle content) (λ s. s) end found
-    → AreFurther (FindsNeedle needle content) (λ s. s) end (and_after found (λ e. further (find needle content) e n))
-further-by needle content end n None over later next = next
-further-by needle content end n (Some span) over later next =
-    let behind = next-behind needle content end span next in
-    (next, later span.1 (omega (arith, over, behind.0)))
-
-further-is : (needle content : List ℕ) (n end : ℕ) → length content < end + n
-    → AreFurther (FindsNeedle needle content) (λ s. s) end (further (find needle content) end n)
-unfolding further
-further-is needle content zero end over = nothing (λ span is low. omega (arith, is.occurs.fits))
-further-is needle content (suc n) end over =
-    further-by needle content end n (find_next (find needle content) end) over (λ e over'. further-is needle content n e over')
-    (next-by needle content end (find needle content end) (find needle content (end + 1)) (find-is needle content end) (find-is needle content (end + 1)))
-
-matches-by : (needle content : List ℕ) (found : Option (ℕ × ℕ)) → FindsNeedle needle content 0 found
-    → AreMatches (FindsNeedle needle content) (λ s. s) 0 (and_after found (λ end. further (find needle content) end (length content + 1)))
-matches-by needle content None f = f
-matches-by needle content (Some span) f = (f, further-is needle content (length content + 1) span.1 (omega arith))
-
-pub matches-are : (needle content : List ℕ) → AreMatches (FindsNeedle needle content) (λ s. s) 0 (matches needle content)
-matches-are needle content = matches-by needle content (find needle content 0) (find-is needle content 0)
+pub finds-in-text : AllHaveFinds → FindsAreInText
+finds-in-text finds text pattern from span scalars is = in-text finds text from is.is.tree is.found span scalars is.is.finds is.span_is

@@ -1,18 +1,21 @@
--- The part of a text from where one line starts to where another does, and its lines.
-use Rattle.std.proofs.Common.{◌≡◌, ℕ, zero, suc, ◌+◌, ◌-◌, ◌<◌, ◌≤◌, ◌==◌, Bool, true, false, not, ◌&&◌, inl, inr, List, [], ◌∷◌, ◌++◌, length, take, drop, nat_lt, refl, sym, ap, subst, ◌∙◌, arith, append-nil, append_assoc, length-append, length-take, length-drop}
+-- The lines of a rope as its slices, and their texts.
+use Rattle.std.proofs.Common.{◌≡◌, ℕ, zero, suc, ◌+◌, ◌-◌, ◌<◌, ◌≤◌, ◌==◌, Bool, true, false, not, ◌&&◌, inl, inr, List, [], ◌∷◌, ◌++◌, length, map, take, drop, slice_index_or, nat_lt, refl, sym, ap, subst, ◌∙◌, arith, append-nil, append_assoc, length-append, length-take, length-drop}
+use Rattle.std.specs.List.{range_with_len}
 use Rattle.std.proofs.Math.Seq.{take-append_seam, drop-append_seam}
 use Rattle.std.proofs.lemmas.Bool.{cases_Bool, cond-true, cond-false}
 use Rattle.std.proofs.lemmas.Bool.Decides.{nat_tests}
 use Rattle.std.proofs.lemmas.List.{take_all, drop_all, drop-append-le, get_or_past}
-use Rattle.str_indices.specs.Text.{byte_len, breaks, char_ends, ends_up_to}
+use Rattle.str_indices.specs.Text.{byte_len, breaks, break_ends, char_ends, ends_up_to}
 use Rattle.str_indices.specs.FirstBreak.{IsBreak}
 use Rattle.ropey.specs.Chunks.{is_break, text_of}
+use Rattle.ropey.specs.Iter.{line_pieces, lines_of}
 use Rattle.ropey.specs.Slices.{pieces_from_char, pieces_to_char, clip, char_of_line}
 use Rattle.rope_search_reports.specs.Text.{line_count}
 use Rattle.rope_search_reports.specs.Report.{line_texts}
-use Rattle.rope_search_reports.specs.Drafts.{HasLines}
+use Rattle.rope_search_reports.specs.Position.{line_start, line_text}
+use Rattle.rope_search_reports.specs.Drafts.{IsLine}
 use Rattle.rope_search_reports.specs.Laws.{PlaceLaws}
-use Rattle.rope_search_reports.proofs.LineLemmas.{IsCutOff, first_line, line-last, lines-cut, lines-counted, line_texts-nil, byte_len-append, ends_at, start_at, start-later, cut-lines, cut-ends, start-is}
+use Rattle.rope_search_reports.proofs.LineLemmas.{lines-counted, byte_len-append, lines-in-place}
 use Rattle.rope_search_reports.proofs.PlaceLemmas.{front_of}
 
 -- ---- pieces that are clipped
@@ -52,237 +55,118 @@ pieces-from start (p ∷ ps) = elim (cases_Bool (nat_lt start (length p))) [
       ap text_of (cond-false _ _ _ is_not) ∙ pieces-from (start - length p) ps ∙ sym (drop-joined start p (text_of ps) high)
 ]
 
-clipped : (start end : ℕ) (pieces : List (List ℕ)) → text_of (clip start end pieces) ≡ drop start (take end (text_of pieces))
+pub clipped : (start end : ℕ) (pieces : List (List ℕ)) → text_of (clip start end pieces) ≡ drop start (take end (text_of pieces))
 clipped start end pieces = pieces-from start (pieces_to_char end pieces) ∙ ap (drop start) (pieces-to end pieces)
 
--- ---- from where a line starts
-
--- where a line starts in a text that itself starts at a place, and what follows from there
-record IsFrom (at last : ℕ) (text : List ℕ) (k : ℕ) : Type 0 where
-  pub front : List ℕ
-  pub rest : List ℕ
-  pub parts : text ≡ front ++ rest
-  pub starts : (i j : ℕ) → i ≡ k + j
-      → start_at at (ends_at at text) i last ≡ start_at (at + byte_len front) (ends_at (at + byte_len front) rest) j last
-  pub lines : line_texts rest ≡ drop k (line_texts text)
-
-from-first : (at last : ℕ) (text : List ℕ) → IsFrom at last text 0
-from-first at last text = record {
-  front = [];
-  rest = text;
-  parts = refl;
-  starts = λ i j e.
-      let same : i ≡ j = omega (arith, e) in
-      let here : at ≡ at + byte_len [] = omega arith in
-      ap (λ n. start_at at (ends_at at text) n last) same ∙ ap (λ n. start_at n (ends_at n text) j last) here;
-  lines = refl;
-}
-
-shift : (at last : ℕ) (text : List ℕ) → (cut : IsCutOff text) → (j : ℕ)
-    → start_at at (ends_at at text) (suc j) last
-    ≡ start_at (at + byte_len cut.line + byte_len cut.one) (ends_at (at + byte_len cut.line + byte_len cut.one) cut.rest) j last
-shift at last text cut j =
-    let at' = at + byte_len cut.line + byte_len cut.one in
-    ap (λ es. start_at at es (suc j) last) (cut-ends at text cut) ∙ start-later at at' (ends_at at' cut.rest) j last
-
-bytes-of-cut : (line one more : List ℕ) → byte_len ((line ++ one) ++ more) ≡ byte_len line + byte_len one + byte_len more
-bytes-of-cut line one more = omega (arith, byte_len-append (line ++ one) more, byte_len-append line one)
-
-parts-of-cut : (text line one rest front behind : List ℕ) → text ≡ line ++ (one ++ rest) → rest ≡ front ++ behind → text ≡ ((line ++ one) ++ front) ++ behind
-parts-of-cut text line one rest front behind parts later =
-    parts ∙ sym (append_assoc line one rest) ∙ ap (λ t. (line ++ one) ++ t) later ∙ sym (append_assoc (line ++ one) front behind)
-
-from-later : (k at last : ℕ) (text : List ℕ) → (cut : IsCutOff text) → IsFrom (at + byte_len cut.line + byte_len cut.one) last cut.rest k → IsFrom at last text (suc k)
-from-later k at last text cut later = record {
-  front = (cut.line ++ cut.one) ++ later.front;
-  rest = later.rest;
-  parts = parts-of-cut text cut.line cut.one cut.rest later.front later.rest cut.parts later.parts;
-  starts = λ i j e.
-      let up : i ≡ suc (i - 1) = omega (arith, e) in
-      let down : i - 1 ≡ k + j = omega (arith, e) in
-      let here : at + byte_len cut.line + byte_len cut.one + byte_len later.front ≡ at + byte_len ((cut.line ++ cut.one) ++ later.front) =
-      omega (arith, bytes-of-cut cut.line cut.one later.front) in
-      ap (λ n. start_at at (ends_at at text) n last) up ∙ shift at last text cut (i - 1) ∙ later.starts (i - 1) j down
-      ∙ ap (λ n. start_at n (ends_at n later.rest) j last) here;
-  lines = later.lines ∙ sym (ap (drop (suc k)) (cut-lines text cut));
-}
-
-from : (k at last : ℕ) (text : List ℕ) → k < length (line_texts text) → IsFrom at last text k
-from zero at last text inside = from-first at last text
-from (suc k) at last text inside = elim (first_line text) [
-  | inl none ↦ absurd (omega (arith, inside, ap length (line-last text none)))
-  | inr cut ↦ from-later k at last text cut (from k (at + byte_len cut.line + byte_len cut.one) last cut.rest (omega (arith, inside, ap length (cut-lines text cut))))
-]
-
--- ---- up to where a line starts
+-- ---- by lines
 
 break-alone : (in_set cr lf : Bool) → (in_set && not (cr && lf)) ≡ true → (in_set && not (cr && false)) ≡ true
 break-alone false cr lf is = is
 break-alone true false lf is = refl
 break-alone true true lf is = refl
 
--- a break is one where less follows it
-break-front : (one front behind : List ℕ) → IsBreak is_break one (front ++ behind) → IsBreak is_break one front
-break-front [] front behind is = is
-break-front (c ∷ []) [] behind is = break-alone (is_break c) (c == 13) _ is
-break-front (c ∷ []) (d ∷ ds) behind is = is
-break-front (c ∷ d ∷ []) front behind is = is
-break-front (c ∷ d ∷ e ∷ es) front behind is = is
+-- a break is one where nothing follows it
+break-last : (one behind : List ℕ) → IsBreak is_break one behind → IsBreak is_break one []
+break-last [] behind is = is
+break-last (c ∷ []) behind is = break-alone (is_break c) (c == 13) _ is
+break-last (c ∷ d ∷ []) behind is = is
+break-last (c ∷ d ∷ e ∷ es) behind is = is
 
--- what stands before a line of a text that starts at a place
-record IsUpTo (at last : ℕ) (text : List ℕ) (k : ℕ) : Type 0 where
-  pub front : List ℕ
-  pub rest : List ℕ
-  pub parts : text ≡ front ++ rest
-  pub stops : start_at at (ends_at at text) k last ≡ at + byte_len front
-  pub lines : line_texts front ≡ take k (line_texts text) ++ [] ∷ []
-
-up-to-later : (k at last : ℕ) (text : List ℕ) → (cut : IsCutOff text) → IsUpTo (at + byte_len cut.line + byte_len cut.one) last cut.rest k → IsUpTo at last text (suc k)
-up-to-later k at last text cut later =
-    let stops = later.stops in
-    record {
-      front = (cut.line ++ cut.one) ++ later.front;
-      rest = later.rest;
-      parts = parts-of-cut text cut.line cut.one cut.rest later.front later.rest cut.parts later.parts;
-      stops = omega (arith, shift at last text cut k, stops, bytes-of-cut cut.line cut.one later.front);
-      lines =
-          ap line_texts (append_assoc cut.line cut.one later.front)
-          ∙ lines-cut cut.line cut.one later.front cut.plain (break-front cut.one later.front later.rest (subst (IsBreak is_break cut.one) later.parts cut.is))
-          ∙ ap (λ ls. cut.line ∷ ls) later.lines ∙ sym (ap (λ ls. take (suc k) ls ++ [] ∷ []) (cut-lines text cut));
-    }
-
-up-to : (k at last : ℕ) (text : List ℕ) → k < length (line_texts text) → IsUpTo at last text k
-up-to zero at last text inside = record { front = []; rest = text; parts = refl; stops = omega arith; lines = line_texts-nil }
-up-to (suc k) at last text inside = elim (first_line text) [
-  | inl none ↦ absurd (omega (arith, inside, ap length (line-last text none)))
-  | inr cut ↦ up-to-later k at last text cut (up-to k (at + byte_len cut.line + byte_len cut.one) last cut.rest (omega (arith, inside, ap length (cut-lines text cut))))
-]
-
--- ---- by characters
-
-abbrev start_of : List ℕ → ℕ → ℕ
-start_of text k = start_at 0 (ends_at 0 text) k (byte_len text)
-
--- the part of a text from one line to another, which need not be there
-pub record IsPart (text : List ℕ) (first end : ℕ) : Type 0 where
-  pub before : List ℕ
-  pub part : List ℕ
-  pub behind : List ℕ
-  pub parts : text ≡ (before ++ part) ++ behind
-  pub start : char_of_line text first ≡ length before
-  pub stop : char_of_line text end ≡ length (before ++ part)
-  pub lines : HasLines text first end part
+-- where the line behind the last one would start
+past-last : (text : List ℕ) (line : ℕ) → line + 1 ≡ line_count text → line_start text (line + 1) ≡ byte_len text
+past-last text line is_last =
+    let all = byte_len text in
+    let ends = break_ends is_break text in
+    let same : line + 1 ≡ suc line = omega arith in
+    ap (line_start text) same ∙ get_or_past ends line all (omega (arith, is_last))
 
 module _ (law : PlaceLaws) where
   -- the character at which a line starts, where so much stands before it
-  char-is : (text front behind : List ℕ) (k : ℕ) → text ≡ front ++ behind → start_of text k ≡ byte_len front → char_of_line text k ≡ length front
-  char-is text front behind k parts starts =
-      ap (λ n. ends_up_to n (char_ends text)) (start-is (ends_at 0 text) k (byte_len text) ∙ starts) ∙ (front_of law text front behind parts).chars_are
+  char-is : (text front behind : List ℕ) (line : ℕ) → text ≡ front ++ behind → line_start text line ≡ byte_len front → char_of_line text line ≡ length front
+  char-is text front behind line parts starts = ap (λ n. ends_up_to n (char_ends text)) starts ∙ (front_of law text front behind parts).chars_are
 
-  -- the part from one line to another one
-  part-broken : (text : List ℕ) (first end : ℕ) → first < end → end < line_count text → IsPart text first end
-  part-broken text first end ordered within =
-      let all = byte_len text in
-      let counted = lines-counted text in
-      let f = from first 0 all text (omega (arith, ordered, within, counted)) in
-      let begun = f.starts first 0 (omega arith) in
-      let left = length-drop first (line_texts text) in
-      let t = up-to (end - first) (0 + byte_len f.front) all f.rest (omega (arith, ordered, within, counted, left, ap length f.lines)) in
-      let parts : text ≡ (f.front ++ t.front) ++ t.rest = f.parts ∙ ap (λ r. f.front ++ r) t.parts ∙ sym (append_assoc f.front t.front t.rest) in
-      let ended = f.starts end (end - first) (omega (arith, ordered)) in
-      let stopped = t.stops in
-      record {
-        before = f.front;
-        part = t.front;
-        behind = t.rest;
-        parts = parts;
-        start = char-is text f.front f.rest first f.parts (omega (arith, begun));
-        stop = char-is text (f.front ++ t.front) t.rest end parts (omega (arith, ended, stopped, byte_len-append f.front t.front));
-        lines = record {
-          broken = λ _. t.lines ∙ ap (λ ls. take (end - first) ls ++ [] ∷ []) f.lines;
-          last = λ is_last. absurd (omega (arith, within, is_last));
-        };
-      }
+  -- a part of a text by the characters before it and before its end
+  part-is : (pieces : List (List ℕ)) (start end : ℕ) (before part behind : List ℕ) → text_of pieces ≡ before ++ (part ++ behind) → start ≡ length before → end ≡ length (before ++ part)
+      → text_of (clip start end pieces) ≡ part
+  part-is pieces start end before part behind parts starts ends =
+      clipped start end pieces
+      ∙ ap (λ n. drop start (take n (text_of pieces))) ends
+      ∙ ap (λ t. drop start (take (length (before ++ part)) t)) (parts ∙ sym (append_assoc before part behind))
+      ∙ ap (drop start) (take-append_seam (before ++ part) behind)
+      ∙ ap (λ n. drop n (before ++ part)) starts ∙ drop-append_seam before part
 
-  -- the part from one line on
-  part-last : (text : List ℕ) (first end : ℕ) → first < end → end ≡ line_count text → IsPart text first end
-  part-last text first end ordered is_last =
-      let all = byte_len text in
-      let counted = lines-counted text in
-      let f = from first 0 all text (omega (arith, ordered, is_last, counted)) in
-      let begun = f.starts first 0 (omega arith) in
-      let behind : end ≡ suc (breaks is_break text) = omega (arith, is_last) in
-      let ended : start_of text end ≡ all = ap (start_of text) behind ∙ get_or_past (ends_at 0 text) (breaks is_break text) all (omega arith) in
-      record {
-        before = f.front;
-        part = f.rest;
-        behind = [];
-        parts = f.parts ∙ sym (append-nil (f.front ++ f.rest));
-        start = char-is text f.front f.rest first f.parts (omega (arith, begun));
-        stop = char-is text text [] end (sym (append-nil text)) ended ∙ ap length f.parts;
-        lines = record {
-          broken = λ within. absurd (omega (arith, within, is_last));
-          last = λ _. f.lines;
-        };
-      }
+  -- a line's pieces are its text and the break that ends it
+  pub line-is : (pieces : List (List ℕ)) (line : ℕ) → line < line_count (text_of pieces) → IsLine (text_of (line_pieces pieces line)) (line_text (text_of pieces) line)
+  line-is pieces line inside =
+      let text = text_of pieces in
+      let own = line_text text line in
+      let h = lines-in-place text line inside in
+      let start = char-is text h.before (own ++ h.behind) line h.parts h.starts in
+      let split = byte_len-append h.before own in
+      elim h.ended [
+        | inl is_last ↦
+            let parts : text ≡ h.before ++ (own ++ []) = h.parts ∙ ap (λ t. h.before ++ (own ++ t)) is_last.nothing in
+            let parts' : text ≡ (h.before ++ own) ++ [] = parts ∙ sym (append_assoc h.before own []) in
+            let next : line_start text (line + 1) ≡ byte_len (h.before ++ own) = past-last text line is_last.last ∙ sym is_last.ends ∙ h.ends in
+            let stop = char-is text (h.before ++ own) [] (line + 1) parts' next in
+            record {
+              one = [];
+              parts = part-is pieces (char_of_line text line) (char_of_line text (line + 1)) h.before own [] parts start stop ∙ sym (append-nil own);
+              plain = h.plain;
+              ended = inl refl;
+            }
+        | inr broken ↦
+            let one = broken.one in
+            let parts : text ≡ h.before ++ ((own ++ one) ++ broken.rest) =
+            h.parts ∙ ap (λ t. h.before ++ (own ++ t)) broken.splits ∙ ap (λ t. h.before ++ t) (sym (append_assoc own one broken.rest)) in
+            let parts' : text ≡ (h.before ++ (own ++ one)) ++ broken.rest = parts ∙ sym (append_assoc h.before (own ++ one) broken.rest) in
+            let starts = h.starts in
+            let broken_next = broken.next in
+            let next : line_start text (line + 1) ≡ byte_len (h.before ++ (own ++ one)) =
+            omega (arith, starts, broken_next, byte_len-append h.before (own ++ one), byte_len-append own one) in
+            let stop = char-is text (h.before ++ (own ++ one)) broken.rest (line + 1) parts' next in
+            record {
+              one = one;
+              parts = part-is pieces (char_of_line text line) (char_of_line text (line + 1)) h.before (own ++ one) broken.rest parts start stop;
+              plain = h.plain;
+              ended = inr (break-last one broken.rest broken.is);
+            }
+      ]
 
-  pub part-of : (text : List ℕ) (first end : ℕ) → first < end → end ≤ line_count text → IsPart text first end
-  part-of text first end ordered within = elim (cases_Bool (nat_lt end (line_count text))) [
-    | inl is_so ↦ part-broken text first end ordered (grind (arith, nat_tests, is_so))
-    | inr is_not ↦ part-last text first end ordered (grind (arith, nat_tests, is_not, within))
-  ]
+-- ---- all lines
 
--- the part that a range of characters shows
-pub part-lines : (pieces : List (List ℕ)) (first end start stop : ℕ) → IsPart (text_of pieces) first end
-    → start ≡ char_of_line (text_of pieces) first → stop ≡ char_of_line (text_of pieces) end → HasLines (text_of pieces) first end (text_of (clip start stop pieces))
-part-lines pieces first end start stop part begins ends =
+-- of each of these lines, given as pieces, this is the text
+abbrev pub AreLines : List (List (List ℕ)) → List (List ℕ) → Type 0
+AreLines [] [] = Unit {0}
+AreLines (line ∷ lines) (own ∷ owns) = IsLine (text_of line) own × AreLines lines owns
+AreLines lines owns = ⊥
+
+each-line : (pieces_at : ℕ → List (List ℕ)) (owns : List (List ℕ)) (from count : ℕ) → count ≡ length owns
+    → ((k : ℕ) → k < length owns → IsLine (text_of (pieces_at (from + k))) (slice_index_or owns k []))
+    → AreLines (map pieces_at (range_with_len from count)) owns
+each-line pieces_at [] from zero counted is = tt
+each-line pieces_at [] from (suc count) counted is = absurd (omega (arith, counted))
+each-line pieces_at (own ∷ owns) from zero counted is = absurd (omega (arith, counted))
+each-line pieces_at (own ∷ owns) from (suc count) counted is =
+    let P : ℕ → ℕ → Type 0 = λ i k. IsLine (text_of (pieces_at i)) (slice_index_or (own ∷ owns) k []) in
+    let here : from + 0 ≡ from = omega arith in (
+      subst (λ i. P i 0) here (is 0 (omega arith)),
+      each-line pieces_at owns (from + 1) count (omega (arith, counted)) (λ k below.
+          let there : from + suc k ≡ from + 1 + k = omega arith in
+          subst (λ i. P i (suc k)) there (is (suc k) (omega (arith, below)))),
+    )
+
+pub lines-are : PlaceLaws → (pieces : List (List ℕ)) → AreLines (lines_of pieces) (line_texts (text_of pieces))
+lines-are law pieces =
     let text = text_of pieces in
-    let front = part.before ++ part.part in
-    let taken : take stop text ≡ front =
-    ap (λ n. take n text) (ends ∙ part.stop) ∙ ap (take (length front)) part.parts ∙ take-append_seam front part.behind in
-    let shown : text_of (clip start stop pieces) ≡ part.part =
-    clipped start stop pieces ∙ ap (drop start) taken ∙ ap (λ n. drop n front) (begins ∙ part.start) ∙ drop-append_seam part.before part.part in
-    subst (HasLines text first end) (sym shown) part.lines
+    let counted = lines-counted text in
+    each-line (line_pieces pieces) (line_texts text) 0 (line_count text) (sym counted) (λ k below.
+    let here : k ≡ 0 + k = omega arith in
+    subst (λ i. IsLine (text_of (line_pieces pieces i)) (slice_index_or (line_texts text) k [])) here (line-is law pieces k (omega (arith, below, counted))))
 
--- such a range is one in the text
-pub part-order : (text : List ℕ) (first end : ℕ) → IsPart text first end → (char_of_line text first ≤ char_of_line text end) × (char_of_line text end ≤ length text)
-part-order text first end part =
-    let start = part.start in
-    let stop = part.stop in (
-      omega (arith, start, stop, length-append part.before part.part),
-      omega (arith, stop, ap length part.parts, length-append (part.before ++ part.part) part.behind),
-    )
-
--- ---- how many lines these are
-
-broken-breaks : (text part : List ℕ) (first end : ℕ) → HasLines text first end part → first < end → end < line_count text → breaks is_break part ≡ end - first
-broken-breaks text part first end has ordered within =
-    let own = drop first (line_texts text) in
-    omega (
-      arith,
-      ordered,
-      within,
-      ap length (has.broken within),
-      lines-counted part,
-      lines-counted text,
-      length-append (take (end - first) own) ([] ∷ []),
-      length-take (end - first) own,
-      length-drop first (line_texts text),
-    )
-
-pub last-breaks : (text part : List ℕ) (first end : ℕ) → HasLines text first end part → first < end → end ≡ line_count text → breaks is_break part + 1 ≡ end - first
-last-breaks text part first end has ordered is_last =
-    omega (arith, ordered, is_last, ap length (has.last is_last), lines-counted part, lines-counted text, length-drop first (line_texts text))
-
-pub part-few : (text part : List ℕ) (first end : ℕ) → HasLines text first end part → first < end → end ≤ line_count text → breaks is_break part ≤ end - first
-part-few text part first end has ordered within = elim (cases_Bool (nat_lt end (line_count text))) [
-  | inl is_so ↦ omega (arith, broken-breaks text part first end has ordered (grind (arith, nat_tests, is_so)))
-  | inr is_not ↦ omega (arith, last-breaks text part first end has ordered (grind (arith, nat_tests, is_not, within)))
-]
-
--- all lines from one on
-pub last-lines : (text part : List ℕ) (first end : ℕ) → HasLines text first end part → first < end → end ≡ line_count text
-    → take (end - first) (drop first (line_texts text)) ≡ line_texts part
-last-lines text part first end has ordered is_last =
-    let own = drop first (line_texts text) in
-    take_all (end - first) own (omega (arith, is_last, lines-counted text, length-drop first (line_texts text))) ∙ sym (has.last is_last)
+pub lines-from : (n : ℕ) (lines : List (List (List ℕ))) (owns : List (List ℕ)) → AreLines lines owns → AreLines (drop n lines) (drop n owns)
+lines-from zero lines owns are = are
+lines-from (suc n) [] [] are = tt
+lines-from (suc n) [] (own ∷ owns) are = absurd are
+lines-from (suc n) (line ∷ lines) [] are = absurd are
+lines-from (suc n) (line ∷ lines) (own ∷ owns) are = lines-from n lines owns are.1

@@ -7,8 +7,8 @@ use Rattle.ropey.specs.Chunks.{is_break}
 use Rattle.rope_search_reports.specs.Report.{line_texts}
 use Rattle.rope_search_reports.specs.Position.{line_at, line_start, text_end, position}
 
--- the letter a, CR, LF, U+2028 and CR: CR LF ends at 3, U+2028 has three bytes
-pub ends_mixed : break_ends is_break (97 ∷ 13 ∷ 10 ∷ 0x2028 ∷ 13 ∷ []) ≡ 3 ∷ 6 ∷ 7 ∷ []
+-- the letter a, CR, LF, U+2028 and CR: CR LF ends at 3, U+2028 has three bytes and ends no line
+pub ends_mixed : break_ends is_break (97 ∷ 13 ∷ 10 ∷ 0x2028 ∷ 13 ∷ []) ≡ 3 ∷ 7 ∷ []
 ends_mixed = refl
 
 -- between CR and LF it is still the line that the break ends

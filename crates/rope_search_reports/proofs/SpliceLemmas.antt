@@ -13,7 +13,7 @@ use Rattle.rope_search_reports.specs.Report.{with_first, line_texts, AreRows}
 use Rattle.rope_search_reports.specs.Position.{line_at}
 use Rattle.rope_search_reports.specs.Splice.{EditsSpliceLines, KeepsRows}
 use Rattle.rope_search_reports.proofs.LineLemmas.{line_texts-break, byte_len-append}
-use Rattle.rope_search_reports.proofs.DraftLemmas.{AreRows-join}
+use Rattle.rope_search_reports.proofs.ReportLaws.{AreRows-join}
 
 -- ---- places where ends stand
 

@@ -7,8 +7,8 @@ use Rattle.rope_search_reports.specs.Text.{line_count, bytes_of}
 
 -- ---- breaks
 
--- of the letter a, CR, LF, U+2028 and CR: CR LF is one break, and a CR at the end is one
-pub breaks_mixed : breaks is_break (97 ∷ 13 ∷ 10 ∷ 0x2028 ∷ 13 ∷ []) ≡ 3
+-- of the letter a, CR, LF, U+2028 and CR: CR LF is one break, U+2028 is none, and a CR at the end is one
+pub breaks_mixed : breaks is_break (97 ∷ 13 ∷ 10 ∷ 0x2028 ∷ 13 ∷ []) ≡ 2
 breaks_mixed = refl
 
 pub breaks_crlf : breaks is_break (13 ∷ 10 ∷ []) ≡ 1
@@ -18,9 +18,9 @@ breaks_crlf = refl
 pub breaks_lfcr : breaks is_break (10 ∷ 13 ∷ []) ≡ 2
 breaks_lfcr = refl
 
--- each of the break set alone: LF, VT, FF, CR, U+0085, U+2028 and U+2029
-pub breaks_each : breaks is_break (10 ∷ 11 ∷ 12 ∷ 13 ∷ 0x85 ∷ 0x2028 ∷ 0x2029 ∷ []) ≡ 7
-breaks_each = refl
+-- of LF, VT, FF, CR, U+0085, U+2028 and U+2029, LF and CR alone
+pub breaks_few : breaks is_break (10 ∷ 11 ∷ 12 ∷ 13 ∷ 0x85 ∷ 0x2028 ∷ 0x2029 ∷ []) ≡ 2
+breaks_few = refl
 
 -- a tab, U+001C and a space are none
 pub breaks_none : breaks is_break (9 ∷ 0x1c ∷ 32 ∷ []) ≡ 0

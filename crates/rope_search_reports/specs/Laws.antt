@@ -1,13 +1,46 @@
 -- Laws of the definitions themselves.
-use Rattle.std.specs.Prelude.{◌≡◌, ℕ, ◌+◌, ◌<◌, ◌≤◌, List, [], length, All, slice_index_or}
+use Rattle.std.specs.Prelude.{◌≡◌, ◌⊎◌, ℕ, ◌+◌, ◌<◌, ◌≤◌, List, [], length, Option, Some, All, slice_index_or}
+use Rattle.std.specs.Str.{IsCharBoundary}
 use Rattle.str_indices.specs.Text.{units, char_ends, unit_ends, break_ends}
 use Rattle.str_indices.specs.Laws.{AnyTexts, EndsAddUp, LastEndIsBefore, LastUnitStartIsBefore, CharsAndBoundariesAgree, UnitsAndBoundariesAgree, EndsAndPlacesAgree, EndsAreBoundaries, UnitStartsAreBoundaries, NoMoreThanBytes}
 use Rattle.ropey.specs.Chunks.{is_break}
 use Rattle.rope_search_reports.specs.Text.{IsText, bytes_of, line_count}
-use Rattle.rope_search_reports.specs.Pattern.{IsPattern}
+use Rattle.rope_search_reports.specs.Pattern.{IsPattern, IsTooHeavy, SpellsNone, Finds}
+use Rattle.rope_search_reports.specs.Matches.{IsMatches}
 use Rattle.rope_search_reports.specs.Position.{line_at, IsAt, StandsAtBoundaries, LiesInPlace}
-use Rattle.rope_search_reports.specs.Report.{IsMatches, IsReport, match_count}
-use Rattle.rope_search_reports.specs.Computed.{matches, report}
+use Rattle.rope_search_reports.specs.Report.{IsReport, match_count}
+
+-- a text is a pattern, or it is one but for its weight, or it spells nothing
+abbrev pub IsPatternOrNot : Type 0
+IsPatternOrNot = (text : List ℕ) → IsPattern text ⊎ (IsTooHeavy text ⊎ SpellsNone text)
+
+-- no text is two of these
+pub record IsOneOfThree : Type 0 where
+  pub not_heavy : (text : List ℕ) → IsPattern text → IsTooHeavy text → ⊥
+  pub some : (text : List ℕ) → IsPattern text → SpellsNone text → ⊥
+  pub heavy_some : (text : List ℕ) → IsTooHeavy text → SpellsNone text → ⊥
+
+-- a search for a pattern from a place on finds at most one thing
+abbrev pub FindsOne : Type 0
+FindsOne = (pattern content : List ℕ) (from : ℕ) (span span' : Option (ℕ × ℕ))
+    → Finds pattern content from span → Finds pattern content from span' → span ≡ span'
+
+-- and one: a match, or that there is none
+abbrev pub HasFind : Type 0
+HasFind = (pattern content : List ℕ) (from : ℕ) → IsPattern pattern
+    → (span : Option (ℕ × ℕ)) × Finds pattern content from span
+
+-- a match in a text lies behind the place from which it is searched, and is whole characters
+pub record IsInText (text : List ℕ) (from : ℕ) (span : ℕ × ℕ) : Type 0 where
+  pub behind : from ≤ span.0
+  pub ordered : span.0 ≤ span.1
+  pub starts : IsCharBoundary (bytes_of text) span.0
+  pub ends : IsCharBoundary (bytes_of text) span.1
+
+-- what is found in a text is such a match
+abbrev pub FindsAreInText : Type 0
+FindsAreInText = (text pattern : List ℕ) (from : ℕ) (span : ℕ × ℕ)
+    → IsText text → Finds pattern (bytes_of text) from (Some span) → IsInText text from span
 
 -- a pattern has at most one list of matches in a content
 abbrev pub HasOneListOfMatches : Type 0
@@ -16,8 +49,8 @@ HasOneListOfMatches = (pattern content : List ℕ) (spans spans' : List (ℕ × 
 
 -- and one
 abbrev pub HasMatches : Type 0
-HasMatches =
-    (pattern content : List ℕ) → IsMatches pattern content (matches (bytes_of pattern) content)
+HasMatches = (pattern content : List ℕ) → IsPattern pattern
+    → (spans : List (ℕ × ℕ)) × IsMatches pattern content spans
 
 -- a report has at most one match more than its text has bytes
 abbrev pub HasFewMatches : Type 0
@@ -31,7 +64,8 @@ HasOneReport = (text pattern : List ℕ) (rows rows' : List (List (ℕ × ℕ)))
 
 -- and one
 abbrev pub HasReport : Type 0
-HasReport = (text pattern : List ℕ) → IsReport text pattern (report text pattern)
+HasReport = (text pattern : List ℕ) → IsPattern pattern
+    → (rows : List (List (ℕ × ℕ))) × IsReport text pattern rows
 
 -- a report has one row for each line
 abbrev pub HasARowALine : Type 0
@@ -50,7 +84,7 @@ HasOnePlace = (text : List ℕ) (spot : ℕ × ℕ) (place place' : ℕ)
 -- each match of a report starts and ends at a boundary of the text, in its row's line
 abbrev pub MatchesStandAtBoundaries : Type 0
 MatchesStandAtBoundaries = (text pattern : List ℕ) (rows : List (List (ℕ × ℕ))) (line : ℕ)
-    → IsText text → IsText pattern → IsPattern pattern → IsReport text pattern rows
+    → IsText text → IsReport text pattern rows
     → All (StandsAtBoundaries text line) (slice_index_or rows line [])
 
 -- each line of a text lies in its place

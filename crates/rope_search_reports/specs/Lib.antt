@@ -1,10 +1,10 @@
 pub mod Text
-pub mod Matches
 pub mod Pattern
+pub mod Matches
 pub mod Report
-pub mod Computed
 pub mod Position
 pub mod Ticks
 pub mod Splice
 pub mod Laws
 pub mod Drafts
+pub mod Finders

@@ -1,26 +1,41 @@
--- What a search finds that is made again and again, whatever it is that it finds. `IsFound from
--- found` tells of one search what it finds from a place on: a match, or none. A match has a span:
--- the place where it starts and the place where it ends.
-use Rattle.std.specs.Prelude.{◌≡◌, ℕ, ◌+◌, List, [], ◌∷◌, Option, None, Some}
+-- The matches of a pattern in a content, one after the other: the first is found from the content's
+-- start, each further one from the end of the one before, or one place on where an empty match is
+-- found there.
+use Rattle.std.specs.Prelude.{◌≡◌, ℕ, ◌+◌, ◌*◌, List, Option, None, Some, map}
+use Rattle.std.specs.List.{range_with_len}
+use Rattle.regex_cursor.specs.Patterns.{Tree, SpellsTree, FoundMatch, TreeMatches, slot_of}
+use Rattle.rope_search_reports.specs.Pattern.{span_of}
 
--- what comes after a match that ends at this place: what is found from there, or from one place on
--- where that is an empty match at this place
-pub data IsNext {A : Type 0} (IsFound : ℕ → Option A → Type 0) (span_of : A → ℕ × ℕ)
-    (end : ℕ) : Option A → Type 0 where
-  nothing : IsFound end None → IsNext IsFound span_of end None
-  at_once : {a : A} → IsFound end (Some a) → (span_of a ≡ (end, end) → ⊥)
-      → IsNext IsFound span_of end (Some a)
-  moved : {a : A} {found : Option A} → IsFound end (Some a) → span_of a ≡ (end, end)
-      → IsFound (end + 1) found → IsNext IsFound span_of end found
+-- all matches, with their groups
+pub record AreMatches (pattern content : List ℕ) (matches : List FoundMatch) : Type 0 where
+  pub tree : Tree
+  pub spells : SpellsTree pattern tree
+  pub are : TreeMatches tree content matches
 
--- the matches after one that ends at this place, in turn, until there is none
-abbrev pub AreFurther : {A : Type 0} → (ℕ → Option A → Type 0) → (A → ℕ × ℕ) → ℕ → List A → Type 0
-AreFurther IsFound span_of end [] = IsNext IsFound span_of end None
-AreFurther IsFound span_of end (a ∷ others) =
-    IsNext IsFound span_of end (Some a) × AreFurther IsFound span_of (span_of a).1 others
+-- their spans
+pub record IsMatches (pattern content : List ℕ) (spans : List (ℕ × ℕ)) : Type 0 where
+  pub matches : List FoundMatch
+  pub are : AreMatches pattern content matches
+  pub spans_are : spans ≡ map span_of matches
 
--- all matches from a place on: the first is found from there
-abbrev pub AreMatches : {A : Type 0} → (ℕ → Option A → Type 0) → (A → ℕ × ℕ) → ℕ → List A → Type 0
-AreMatches IsFound span_of start [] = IsFound start None
-AreMatches IsFound span_of start (a ∷ others) =
-    IsFound start (Some a) × AreFurther IsFound span_of (span_of a).1 others
+-- ---- groups
+
+-- both places, where both are there
+abbrev pub both : Option ℕ → Option ℕ → Option (ℕ × ℕ)
+both None end = None
+both (Some start) None = None
+both (Some start) (Some end) = Some (start, end)
+
+-- the span of a match's group, if that takes part in the match; group 0 is the whole match
+abbrev pub group_of : FoundMatch → ℕ → Option (ℕ × ℕ)
+group_of found k = both (slot_of found.notes (2 * k)) (slot_of found.notes (2 * k + 1))
+
+-- the spans of groups 0 to 9
+abbrev pub groups_of : FoundMatch → List (Option (ℕ × ℕ))
+groups_of found = map (group_of found) (range_with_len 0 10)
+
+-- the groups 0 to 9 of all matches
+pub record AreGroups (pattern content : List ℕ) (groups : List (List (Option (ℕ × ℕ)))) : Type 0 where
+  pub matches : List FoundMatch
+  pub are : AreMatches pattern content matches
+  pub groups_are : groups ≡ map groups_of matches

@@ -1,47 +1,45 @@
--- Which texts are patterns, and what a pattern finds. For now a pattern is a literal: characters
--- that stand for themselves.
-use Rattle.std.specs.Prelude.{◌≡◌, ℕ, ◌+◌, ◌<◌, ◌≤◌, Bool, ◌||◌, ◌==◌, List, Option, None, Some, length}
-use Rattle.std.specs.Str.{NonePass}
-use Rattle.memchr.specs.Find.{OccursAt}
-use Rattle.rope_search_reports.specs.Text.{bytes_of}
+-- Which texts are patterns, and what a search for one finds. A pattern is a regular expression, with
+-- the default settings of a regex.
+use Rattle.std.specs.Prelude.{◌≡◌, ℕ, ◌<◌, ◌≤◌, List, Option, option_map}
+use Rattle.regex_cursor.specs.Patterns.{Tree, SpellsTree, FoundMatch, TreeFinds, pattern_weight, start_of, end_of}
+pub use Rattle.regex_cursor.specs.Patterns.{SpellsNone, weight_limit}
 
--- meta characters, which have another use in a pattern than to stand for themselves:
--- \ . + * ? ( ) | [ { ^ $
-abbrev pub is_meta : ℕ → Bool
-is_meta c =
-    (c == 92) || (c == 46) || (c == 43) || (c == 42) || (c == 63) || (c == 40)
-    || (c == 41) || (c == 124) || (c == 91) || (c == 123) || (c == 94) || (c == 36)
-
--- one or more characters, none of them a meta character
-pub record IsPattern (text : List ℕ) : Type 0 where
-  pub some : 0 < length text
-  pub plain : NonePass is_meta text
+-- ---- which texts are patterns
 
 -- a pattern has at most this many bytes
 abbrev pub pattern_limit : ℕ
 pattern_limit = 65536
 
+-- the text, of at most so many bytes, spells this tree, which weighs at most 262,144
+pub record IsPatternOf (text : List ℕ) (tree : Tree) : Type 0 where
+  pub spells : SpellsTree text tree
+  pub light : pattern_weight tree ≤ weight_limit
+
+-- it is a pattern
+abbrev pub IsPattern : List ℕ → Type 0
+IsPattern text = (tree : Tree) × IsPatternOf text tree
+
+-- it would be one, but is too heavy
+pub record IsTooHeavy (text : List ℕ) : Type 0 where
+  pub tree : Tree
+  pub spells : SpellsTree text tree
+  pub heavy : weight_limit < pattern_weight tree
+
 -- ---- what a pattern finds in a content, which is a list of bytes
--- A span is two places in the content: where a match starts and where it ends.
 
--- the needle lies there in the content
-pub record IsSpanOf (needle content : List ℕ) (span : ℕ × ℕ) : Type 0 where
-  pub occurs : OccursAt content needle span.0
-  pub ends : span.1 ≡ span.0 + length needle
+-- a match's span: the places where it starts and where it ends
+abbrev pub span_of : FoundMatch → ℕ × ℕ
+span_of found = (start_of found, end_of found)
 
--- of all spans of the needle that start at a place or after it, this one starts first
-pub record IsFirstSpan (needle content : List ℕ) (from : ℕ) (span : ℕ × ℕ) : Type 0 where
-  pub is : IsSpanOf needle content span
-  pub behind : from ≤ span.0
-  pub none_before : (other : ℕ × ℕ) → IsSpanOf needle content other → from ≤ other.0
-      → other.0 < span.0 → ⊥
+-- what a search for a pattern finds from a place on, in the content as a whole: looks see what
+-- stands before the place
+pub record FindsMatch (pattern content : List ℕ) (from : ℕ) (found : Option FoundMatch) : Type 0 where
+  pub tree : Tree
+  pub spells : SpellsTree pattern tree
+  pub finds : TreeFinds tree content from found
 
--- what a search for the needle finds from a place on
-abbrev pub FindsNeedle : List ℕ → List ℕ → ℕ → Option (ℕ × ℕ) → Type 0
-FindsNeedle needle content from None =
-    (span : ℕ × ℕ) → IsSpanOf needle content span → from ≤ span.0 → ⊥
-FindsNeedle needle content from (Some span) = IsFirstSpan needle content from span
-
--- what a search for a pattern finds from a place on: its own text is the needle
-abbrev pub Finds : List ℕ → List ℕ → ℕ → Option (ℕ × ℕ) → Type 0
-Finds pattern content from found = FindsNeedle (bytes_of pattern) content from found
+-- its span alone
+pub record Finds (pattern content : List ℕ) (from : ℕ) (span : Option (ℕ × ℕ)) : Type 0 where
+  pub found : Option FoundMatch
+  pub is : FindsMatch pattern content from found
+  pub span_is : span ≡ option_map span_of found

@@ -3,8 +3,7 @@ use Rattle.std.specs.Prelude.{◌≡◌, ℕ, List, [], ◌∷◌, if◌then◌e
 use Rattle.str_indices.specs.Text.{ends_break, units}
 use Rattle.ropey.specs.Chunks.{is_break}
 use Rattle.rope_search_reports.specs.Text.{bytes_of}
-use Rattle.rope_search_reports.specs.Matches.{AreMatches}
-use Rattle.rope_search_reports.specs.Pattern.{Finds}
+use Rattle.rope_search_reports.specs.Matches.{IsMatches}
 
 -- ---- lines
 
@@ -21,12 +20,6 @@ line_texts (c ∷ rest) =
     if ends_break is_break c rest then [] ∷ line_texts rest
     else if is_break c then line_texts rest
     else with_first c (line_texts rest)
-
--- ---- matches
-
--- the matches of a pattern in a content, one after the other
-abbrev pub IsMatches : List ℕ → List ℕ → List (ℕ × ℕ) → Type 0
-IsMatches pattern content spans = AreMatches (Finds pattern content) (λ span. span) 0 spans
 
 -- ---- rows
 -- A row is the matches in one line, each as two columns: UTF-16 code units from the line's start.

@@ -17,7 +17,7 @@ pub record Encodes (text bytes : List ℕ) : Type 0 where
   pub scalars : IsText text
   pub spelled : bytes_of text ≡ bytes
 
--- A text has breaks plus one lines: the last one has no break at its end. Breaks are LF, VT, FF,
--- CR, U+0085, U+2028 and U+2029, with CR LF as one.
+-- A text has breaks plus one lines: the last one has no break at its end. Breaks are LF and CR,
+-- with CR LF as one.
 abbrev pub line_count : List ℕ → ℕ
 line_count text = breaks is_break text + 1

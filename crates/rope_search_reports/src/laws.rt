@@ -1,33 +1,82 @@
 //! Laws of the definitions that the contracts of this crate cite. Each function does nothing: its
 //! contract is the law.
 
-ghost use Rattle.rope_search_reports.specs.Laws.{HasOneListOfMatches, HasMatches, HasFewMatches, HasOneReport, HasReport, HasARowALine, PlacesAreInLines, HasOnePlace, MatchesStandAtBoundaries, HasLinesInPlace, PlaceLaws};
+ghost use Rattle.rope_search_reports.specs.Laws.{IsPatternOrNot, IsOneOfThree, FindsOne, HasFind, FindsAreInText, HasOneListOfMatches, HasMatches, HasFewMatches, HasOneReport, HasReport, HasARowALine, PlacesAreInLines, HasOnePlace, MatchesStandAtBoundaries, HasLinesInPlace, PlaceLaws};
 ghost use Rattle.rope_search_reports.specs.Splice.{EditsSpliceLines, KeepsRows};
+
+/// Each text is a pattern, or it is one but for its weight, or it spells nothing. So it is settled
+/// for each text how `Finder::new` answers, but for want of memory.
+pub fn pattern_or_not()
+    ensures { IsPatternOrNot }
+{
+    regex_cursor::laws::tree_or_none();
+}
+
+/// And it is no more than one of these.
+pub fn one_of_three()
+    ensures { IsOneOfThree }
+{
+    regex_cursor::laws::one_tree();
+}
+
+/// A search for a pattern finds at most one thing from a place on in a content.
+pub fn finds_one()
+    ensures { FindsOne }
+{
+    regex_cursor::laws::one_tree();
+    regex_cursor::laws::finds_of_trees();
+}
+
+/// And it finds one: a match, or that there is none.
+pub fn has_find()
+    ensures { HasFind }
+{
+    regex_cursor::laws::finds_of_trees();
+}
+
+/// What is found in a text lies behind the place from which it was searched, and starts and ends at
+/// boundaries of the text.
+pub fn finds_are_in_text()
+    ensures { FindsAreInText }
+{
+    regex_cursor::laws::finds_of_trees();
+}
 
 /// A pattern has at most one list of matches in a content.
 pub fn one_list_of_matches()
     ensures { HasOneListOfMatches }
-{}
+{
+    regex_cursor::laws::one_tree();
+    regex_cursor::laws::finds_of_trees();
+}
 
-/// A pattern has a list of matches in a content, which may be computed so.
+/// And it has one.
 pub fn has_matches()
     ensures { HasMatches }
-{}
+{
+    regex_cursor::laws::finds_of_trees();
+}
 
 /// A report has at most one match more than its text has bytes.
 pub fn few_matches()
     ensures { HasFewMatches }
-{}
+{
+    regex_cursor::laws::finds_of_trees();
+}
 
 /// A text and a pattern have at most one report.
 pub fn one_report()
     ensures { HasOneReport }
-{}
+{
+    one_list_of_matches();
+}
 
-/// A text and a pattern have a report, which may be computed so.
+/// And they have one.
 pub fn has_report()
     ensures { HasReport }
-{}
+{
+    has_matches();
+}
 
 /// A report has one row for each line of its text.
 pub fn a_row_a_line()
@@ -52,6 +101,7 @@ pub fn matches_at_boundaries()
     ensures { MatchesStandAtBoundaries }
 {
     places();
+    regex_cursor::laws::finds_of_trees();
 }
 
 /// From where a line starts to where its text ends stand that text's bytes. Behind them stands one

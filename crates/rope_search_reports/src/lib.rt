@@ -2,15 +2,16 @@
 //! count of the lines that were searched.
 #![tactic(auto)]
 
+mod columns;
 pub mod laws;
-mod patterns;
+mod pattern_text;
 mod positions;
 mod replacing;
 mod reports;
 mod rows;
+mod searching;
 
-pub use patterns::PATTERN_LEN;
 pub use positions::{Place, Position, byte_of, place_of, position_of};
 pub use replacing::replace_rows;
 pub use reports::{report_of, rows_of_lines};
-pub use rows::{Finder, Lines, Row, search_line};
+pub use rows::{Finder, Lines, PATTERN_LEN, Row, find_from, search_line};

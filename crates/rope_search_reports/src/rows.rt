@@ -1,14 +1,29 @@
-//! Patterns made ready to search, the rows of a report, and the count of the searches.
-ghost use Rattle.std.specs.Prelude.{◌≡◌, ◌+◌, ◌-◌, ◌^◌, ◌<◌, ◌≤◌, ◌↔◌, ◌⊎◌, length, min, chars, IfOk, IfErr, Err};
-ghost use Rattle.rope_search_reports.specs.Pattern.{IsPattern, pattern_limit};
+//! Patterns made ready to search, what their searches find in a line or in a whole text, and the
+//! count of these searches.
+ghost use Rattle.std.specs.Prelude.{◌≡◌, ◌+◌, ◌-◌, ◌^◌, ◌<◌, ◌≤◌, ◌⊎◌, ℕ, List, length, min, chars, IfOk, IfErr, Err};
+ghost use Rattle.std.specs.Str.{IsCharBoundary};
+ghost use Rattle.ropey.specs.Chunks.{text_of};
+ghost use Rattle.ropey_walk.specs.Comparing.{slice_bytes};
+ghost use Rattle.ropey_walk.specs.Slices.{slice_text};
+ghost use Rattle.regex_cursor.specs.Regexes.{IsCacheOf, IsRegexOf};
+ghost use Rattle.rope_search_reports.specs.Text.{bytes_of};
+ghost use Rattle.rope_search_reports.specs.Pattern.{IsPattern, IsTooHeavy, SpellsNone, Finds, pattern_limit};
 ghost use Rattle.rope_search_reports.specs.Report.{IsRow};
+ghost use Rattle.rope_search_reports.specs.Finders.{IsRowOf};
 
-use crate::patterns::{PATTERN_LEN, is_pattern};
-use memchr::memmem;
+use crate::columns::column_at;
+use crate::laws;
+use crate::pattern_text::PatternText;
+use crate::searching::{find, find_next, input_from};
+use regex_cursor::BuildError;
+use regex_cursor::engines::meta::{Cache, Regex};
 use rope_search_io::Fault;
+use ropey::{Rope, RopeSlice};
 use std::alloc::Global;
 use std::marker::Model;
-use str_indices::utf16;
+
+/// How many bytes a pattern has at most.
+pub const PATTERN_LEN: usize = 65_536;
 
 /// Counts the rows that were made, each by a search of one line, and the searches of whole texts.
 /// Both counts begin at 0 and stay at `u64::MAX`. It is made of the runtime alone and can't be
@@ -60,57 +75,74 @@ impl Lines {
         let count = &mut self.count;
         *count = count.saturating_add(1);
     }
+
+    /// Counts one search of a whole text more.
+    fn add_whole(&mut self)
+        ensures count { self.new.count ≡ self.old.count }
+        ensures wholes { self.new.wholes ≡ min (self.old.wholes + 1) (2 ^ 64 - 1) }
+    {
+        let wholes = &mut self.wholes;
+        *wholes = wholes.saturating_add(1);
+    }
 }
 
-/// A pattern that is ready to search lines, with what its searches need: all of it is made once. It
-/// can't be copied.
+/// A pattern that is ready to search, with what its searches keep from one to the next: all of it is
+/// made once. It can't be copied.
 #[derive(Drop)]
 pub struct Finder {
     alloc: Global,
-    // The text that the pattern stands for.
-    needle: memmem::Finder<'static>,
-    // How many UTF-16 code units a match has.
-    width: usize,
+    regex: Regex,
+    cache: Cache,
+    // For contracts alone.
+    pattern: PatternText,
 }
 
 impl Model for Finder {
-    ghost use Rattle.std.specs.Prelude.{◌≡◌, ℕ, List, IsUtf8, chars};
-    ghost use Rattle.str_indices.specs.Text.{units};
-    ghost use Rattle.rope_search_reports.specs.Pattern.{IsPattern};
+    ghost use Rattle.std.specs.Prelude.{ℕ, List};
+    ghost use Rattle.rope_search_reports.specs.Finders.{IsFinderOf};
 
     ghost Value = { List ℕ };
 
-    ghost view = { λ f. chars f.needle };
+    ghost view = { λ f. f.pattern };
 
-    ghost invariant = { λ f. IsUtf8 f.needle
-        × (IsPattern (chars f.needle) × (f.width ≡ units (chars f.needle))) };
+    ghost invariant = { λ f. IsFinderOf f.pattern f.regex f.cache };
 }
 
 impl Finder {
-    /// A finder of this pattern's matches. It is refused with `Fault::Limit` where the pattern has
-    /// more than 65,536 bytes, else with `Fault::Pattern` where it isn't one or more characters
-    /// that stand for themselves, which are all but `\ . + * ? ( ) | [ { ^ $`; and perhaps with
-    /// `Fault::Memory`.
+    /// A finder of this pattern's matches, by the default settings of a regex. It is refused with
+    /// `Fault::Limit` where the pattern has more than 65,536 bytes, which is asked first, or weighs
+    /// more than 262,144; with `Fault::Pattern` where it isn't in the grammar; and perhaps with
+    /// `Fault::Memory`. Time and memory are in proportion to the pattern's weight.
     pub fn new(alloc: Global, pattern: &str) -> Result<Finder, Fault>
         ensures ok { IfOk result (λ finder. finder ≡ chars pattern.now) }
         ensures is_pattern { IfOk result (λ finder. IsPattern finder) }
-        ensures too_long { (result ≡ Err Fault.Limit) ↔ (pattern_limit < length pattern.now) }
-        ensures no_pattern { (result ≡ Err Fault.Pattern)
-            ↔ ((length pattern.now ≤ pattern_limit) × ¬ (IsPattern (chars pattern.now))) }
+        ensures too_long { pattern_limit < length pattern.now → result ≡ Err Fault.Limit }
+        ensures limit { result ≡ Err Fault.Limit
+            → (pattern_limit < length pattern.now) ⊎ IsTooHeavy (chars pattern.now) }
+        ensures no_pattern { result ≡ Err Fault.Pattern
+            → (length pattern.now ≤ pattern_limit) × SpellsNone (chars pattern.now) }
         ensures fault { IfErr result (λ fault.
             (fault ≡ Fault.Limit) ⊎ ((fault ≡ Fault.Pattern) ⊎ (fault ≡ Fault.Memory))) }
     {
+        // A law, for the proof alone.
+        regex_cursor::laws::regexes_have_trees();
         if pattern.len() > PATTERN_LEN {
             return Err(Fault::Limit);
         }
-        if !is_pattern(pattern) {
-            return Err(Fault::Pattern);
-        }
-        let needle = memmem::Finder::new(pattern.as_bytes()).into_owned(alloc)?;
+        let regex = match Regex::new(alloc, pattern) {
+            Ok(regex) => regex,
+            Err(BuildError::Syntax { .. }) => return Err(Fault::Pattern),
+            Err(BuildError::Size { .. }) => return Err(Fault::Limit),
+            Err(BuildError::Memory) => return Err(Fault::Memory),
+        };
+        let Ok(cache) = regex.create_cache() else {
+            return Err(Fault::Memory);
+        };
         Ok(Finder {
             alloc,
-            needle,
-            width: utf16::count(pattern),
+            regex,
+            cache,
+            pattern: PatternText::new(pattern),
         })
     }
 }
@@ -140,30 +172,77 @@ impl Row {
     }
 }
 
-/// Searches one line's text for a pattern: the first match from the line's start, and each further
-/// one from the end of the one before. It counts one row, refused or not, and may be refused with
-/// `Fault::Memory` alone; the finder is then as before. Time is linear in the line.
-pub fn search_line(tick: &mut Lines, finder: &mut Finder, line: &str) -> Result<Row, Fault>
-    ensures row { IfOk result (λ row. IsRow finder.old (chars line.now) row) }
+/// The columns of all matches in a line.
+fn columns_in(
+    alloc: Global,
+    regex: &Regex,
+    cache: &mut Cache,
+    line: RopeSlice<'_>,
+) -> Result<Vec<(usize, usize)>, Fault>
+    requires made { IsCacheOf regex.now cache.old }
+    requires built { (text : List ℕ) × IsRegexOf text regex.now }
+    ensures row { (text : List ℕ) → (built : IsRegexOf text regex.now)
+        → IfOk result (λ row. IsRowOf built.tree (slice_text line.entry) row.items) }
+    ensures made { IsCacheOf regex.now cache.new }
+    ensures fault { IfErr result (λ fault. fault ≡ Fault.Memory) }
+{
+    // A law, and the slice's facts, for the proof alone.
+    regex_cursor::laws::finds_of_trees();
+    let _ = line.len_bytes();
+    let mut matches = Vec::new(alloc);
+    let mut input = input_from(line, 0);
+    // Where the last match ended.
+    let mut last = None;
+    while let Some(found) = find_next(regex, cache, &mut input, last)? {
+        let end = found.end();
+        let start_column = column_at(&line, found.start());
+        matches.push((start_column, column_at(&line, end)))?;
+        input.set_start(end);
+        last = Some(end);
+    }
+    Ok(matches)
+}
+
+/// Searches one line's text, given without its break: the first match from the line's start, and
+/// each further one from the end of the one before, an empty match there passed over. The line is
+/// searched where it lies. It counts one row, refused or not, and may be refused with
+/// `Fault::Memory` alone; the finder is then as before. Time is linear in the line, times the
+/// pattern's weight.
+pub fn search_line(tick: &mut Lines, finder: &mut Finder, line: RopeSlice<'_>) -> Result<Row, Fault>
+    ensures row { IfOk result (λ row. IsRow finder.old (slice_text line.entry) row) }
     ensures fault { IfErr result (λ fault. fault ≡ Fault.Memory) }
     ensures finder { finder.new ≡ finder.old }
     ensures count { tick.new.count ≡ min (tick.old.count + 1) (2 ^ 64 - 1) }
     ensures wholes { tick.new.wholes ≡ tick.old.wholes }
 {
     tick.add_row();
-    let mut matches = Vec::new(finder.alloc);
-    let needle = &finder.needle;
-    let needle_len = needle.needle().len();
-    let width = finder.width;
-    // What follows the last match, and the column at which it starts.
-    let mut rest = line;
-    let mut column = 0;
-    while let Some(at) = needle.find(rest.as_bytes()) {
-        let start = column + utf16::count(&rest[..at]);
-        let end = start + width;
-        matches.push((start, end))?;
-        rest = &rest[at + needle_len..];
-        column = end;
-    }
+    let matches = columns_in(finder.alloc, &finder.regex, &mut finder.cache, line)?;
     Ok(Row { matches })
+}
+
+/// The first match in a whole text from a place on, as the byte indices of its start and its end;
+/// looks see what stands before the place. The place is a character boundary up to `len_bytes`. It
+/// counts one search of a whole text, refused or not, and may be refused with `Fault::Memory`
+/// alone; the finder is then as before. Time is linear in the text behind the place, times the
+/// pattern's weight.
+pub fn find_from(
+    tick: &mut Lines,
+    finder: &mut Finder,
+    text: &Rope,
+    from: usize,
+) -> Result<Option<(usize, usize)>, Fault>
+    requires { IsCharBoundary (bytes_of (text_of text.now)) from }
+    ensures found { IfOk result (λ span.
+        Finds finder.old (bytes_of (text_of text.now)) from span) }
+    ensures fault { IfErr result (λ fault. fault ≡ Fault.Memory) }
+    ensures finder { finder.new ≡ finder.old }
+    ensures count { tick.new.count ≡ tick.old.count }
+    ensures wholes { tick.new.wholes ≡ min (tick.old.wholes + 1) (2 ^ 64 - 1) }
+{
+    tick.add_whole();
+    let mut input = input_from(text.slice(..), from);
+    match find(&finder.regex, &mut finder.cache, &mut input)? {
+        Some(found) => Ok(Some((found.start(), found.end()))),
+        None => Ok(None),
+    }
 }

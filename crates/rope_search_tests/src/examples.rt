@@ -54,6 +54,17 @@ fn replies(rt: HostRuntime) -> Result<(), Fail> {
         (Command::List, Err(Fault::Nothing)),
         (Command::Pattern(Payload::Kept(b"frog")), Ok(Reply::Done)),
         (Command::List, Ok(Reply::List)),
+        (
+            Command::Next(Position { line: 0, column: 1 }),
+            Ok(Reply::Found(
+                Position { line: 0, column: 2 },
+                Position { line: 0, column: 6 },
+            )),
+        ),
+        (
+            Command::Next(Position { line: 0, column: 3 }),
+            Ok(Reply::NoMatch),
+        ),
         (Command::Off, Ok(Reply::Done)),
     ];
     for (command, answer) in cases {
@@ -149,5 +160,23 @@ fn a_pattern_that_has_no_memory(rt: HostRuntime) -> Result<(), Fail> {
     for row in rows {
         assert!(rt; row.matches() == [(1, 2)].as_slice());
     }
+    Ok(())
+}
+
+/// `Buffer::next_from`: the next match of a regular expression in the whole text.
+#[test]
+fn the_next_match(rt: HostRuntime) -> Result<(), Fail> {
+    let mut tick = Lines::new(&rt);
+    let mut buffer = Buffer::new(rt.alloc(), Limits::default())?;
+    buffer.set_text(&mut tick, "a frog\na toad")?;
+    buffer.set_pattern(&mut tick, r"\w+d\b")?;
+    assert!(rt; buffer.set_pattern(&mut tick, "(toad") == Err(Fault::Pattern));
+    let start = Position { line: 0, column: 2 };
+    let found = buffer.next_from(&mut tick, start)?;
+    let from = Position { line: 1, column: 2 };
+    let to = Position { line: 1, column: 6 };
+    assert!(rt; found == Some((from, to)));
+    assert!(rt; buffer.next_from(&mut tick, to)? == None);
+    assert!(rt; (tick.count(), tick.wholes()) == (2, 2));
     Ok(())
 }

@@ -2,21 +2,20 @@
 use rope_search::{Finder, Lines, Position, Rope, byte_of, position_of, search_line};
 use std::test::Fail;
 
-/// `Finder`, `Row` and `search_line`: a finder is made once for a pattern and searches many lines. A
-/// row has the columns of the matches, in UTF-16 code units: the frog has two.
+/// `Finder`, `Row` and `search_line`: a finder is made once for a pattern and searches many lines,
+/// each as a slice. A row has the columns of the matches, in UTF-16 code units: the frog has two.
 #[test]
 fn one_finder_for_many_lines(rt: HostRuntime) -> Result<(), Fail> {
+    let text = Rope::from_str(rt.alloc(), "ab🐸aab")?;
     let mut tick = Lines::new(&rt);
-    let mut finder = Finder::new(rt.alloc(), "ab")?;
-    let row = search_line(&mut tick, &mut finder, "ab🐸ab")?;
-    assert!(rt; row.matches() == [(0, 2), (4, 6)].as_slice());
+    let mut finder = Finder::new(rt.alloc(), "a+b")?;
+    let row = search_line(&mut tick, &mut finder, text.slice(..))?;
+    assert!(rt; row.matches() == [(0, 2), (4, 7)].as_slice());
     assert!(rt; tick.count() == 1);
     // Each search of a line is counted, whatever it finds.
-    for line in ["ba", ""] {
-        let row = search_line(&mut tick, &mut finder, line)?;
-        assert!(rt; row.matches().is_empty());
-    }
-    assert!(rt; (tick.count(), tick.wholes()) == (3, 0));
+    let row = search_line(&mut tick, &mut finder, text.slice(..1))?;
+    assert!(rt; row.matches().is_empty());
+    assert!(rt; (tick.count(), tick.wholes()) == (2, 0));
     Ok(())
 }
 

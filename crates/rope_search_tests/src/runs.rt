@@ -49,11 +49,11 @@ fn rows_that_runs_make(rt: HostRuntime) -> Result<(), Fail> {
         ("text 7\na🐸b\npattern 1\nblist\n".as_bytes(), 2),
         // Without a pattern nothing is searched, and for what is no pattern neither.
         (b"text 2\nabfork\nuse 1\nprint\nfork\nlist\n", 0),
-        (b"pattern 2\na*pattern 1\n\xffpattern 1\nalist\n", 1),
+        (b"pattern 2\na(pattern 1\n\xffpattern 1\nalist\n", 1),
         // A text that is set later is searched too, as is that to which one goes back.
         (
             "text 9\nab\r\nba\u{2028}pattern 1\natext 1\naoff\noff\n".as_bytes(),
-            4,
+            3,
         ),
         (b"pattern 5\nabcdetext 3\na\nalist\nundo\n", 3),
         (
@@ -66,6 +66,17 @@ fn rows_that_runs_make(rt: HostRuntime) -> Result<(), Fail> {
         assert!(rt; outcome.result == Ok(Ended::Input));
         assert!(rt; (outcome.rows, outcome.wholes) == (rows, 0));
     }
+    Ok(())
+}
+
+/// Each search of a whole text is counted, and makes no row; one that is refused for its position is
+/// none.
+#[test]
+fn whole_searches_that_runs_make(rt: HostRuntime) -> Result<(), Fail> {
+    let input = b"text 3\nabapattern 3\n\\b.next 0 1\nnext 0 3\nnext 0 4\nlist\n";
+    let outcome = run_once(&rt, input, Limits::default(), AMPLE)?;
+    assert!(rt; outcome.result == Ok(Ended::Input));
+    assert!(rt; (outcome.rows, outcome.wholes) == (1, 2));
     Ok(())
 }
 

@@ -5,7 +5,8 @@ ghost use Rattle.std.specs.Prelude.{◌≡◌};
 ghost use Rattle.std.specs.Str.{chars};
 ghost use Rattle.ropey_walk.specs.Conversions.{char_of_byte, line_of_byte, byte_of_char, byte_of_line, char_of_line};
 
-use str_indices::{chars, lines};
+use ropey_tree::breaks;
+use str_indices::chars;
 
 /// The characters before a byte index. A byte inside a character answers that character, and an
 /// index past the text's length the number of characters. `O(byte_idx)`.
@@ -20,7 +21,7 @@ pub fn byte_to_char_idx(text: &str, byte_idx: usize) -> usize
 pub fn byte_to_line_idx(text: &str, byte_idx: usize) -> usize
     ensures { result ≡ line_of_byte (chars text.now) byte_idx }
 {
-    lines::from_byte_idx(text, byte_idx)
+    breaks::from_byte_idx(text, byte_idx)
 }
 
 /// The byte index at which a character starts, and the text's length in bytes past the last
@@ -44,7 +45,7 @@ pub fn char_to_line_idx(text: &str, char_idx: usize) -> usize
 pub fn line_to_byte_idx(text: &str, line_idx: usize) -> usize
     ensures { result ≡ byte_of_line (chars text.now) line_idx }
 {
-    lines::to_byte_idx(text, line_idx)
+    breaks::to_byte_idx(text, line_idx)
 }
 
 /// The character with which a line starts, and the number of characters past the last line. `O(n)`,

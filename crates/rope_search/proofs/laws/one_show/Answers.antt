@@ -3,4 +3,4 @@ use Rattle.rope_search.proofs.laws.one_show.Goals as goal
 
 pub returns : goal.returns
 returns c =
-    λ session answer. (shows_exist c.has_report.ensures session answer, shows_one c.one_report.ensures session answer)
+    λ session answer all. (shows_exist c.has_report.ensures session answer all, shows_one c.one_report.ensures session answer)

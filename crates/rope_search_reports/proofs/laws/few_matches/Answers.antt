@@ -2,4 +2,4 @@ use Rattle.rope_search_reports.proofs.FewLemmas.{report-few}
 use Rattle.rope_search_reports.proofs.laws.few_matches.Goals as goal
 
 pub returns : goal.returns
-returns c = report-few
+returns c = report-few c.finds_of_trees.ensures

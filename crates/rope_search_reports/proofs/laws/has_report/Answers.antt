@@ -1,5 +1,5 @@
-use Rattle.rope_search_reports.proofs.ReportLaws.{report-is}
+use Rattle.rope_search_reports.proofs.ReportLaws.{has-report}
 use Rattle.rope_search_reports.proofs.laws.has_report.Goals as goal
 
 pub returns : goal.returns
-returns c = report-is
+returns c = has-report c.has_matches.ensures

@@ -1,50 +1,47 @@
-use Rattle.std.proofs.Common.{◌≡◌, ◌+◌, ◌-◌, ◌<◌, ◌++◌, [], List, ℕ, take, drop, chars, string_bytes, sym, subst, arith}
-use Rattle.std.proofs.lemmas.Result.{IfOk-weaker}
+use Rattle.std.proofs.Common.{◌≡◌, ℕ, ◌+◌, ◌-◌, ◌<◌, ◌≤◌, List, [], ◌∷◌, ◌++◌, length, drop, take, refl, ap, sym, subst, ◌∙◌, arith, length-drop}
+use Rattle.std.proofs.lemmas.Grind.{common_steps}
 use Rattle.ropey.specs.Chunks.{text_of}
-use Rattle.rope_search_reports.specs.Text.{line_count}
-use Rattle.rope_search_reports.specs.Report.{line_texts, AreRows}
-use Rattle.rope_search_reports.specs.Drafts.{AddsRow}
-use Rattle.rope_search_reports.proofs.DraftLemmas.{ends-rows, leaves-last}
-use Rattle.rope_search_reports.proofs.PartLemmas.{part-few, last-breaks, last-lines}
+use Rattle.ropey.specs.Iter.{lines_of}
+use Rattle.ropey_walk.specs.Slices.{slice_pieces, slice_text}
+use Rattle.rope_search_reports.specs.Report.{line_texts, IsRow}
+use Rattle.rope_search_reports.proofs.LineLemmas.{lines-counted}
+use Rattle.rope_search_reports.proofs.PartLemmas.{AreLines, lines-are, lines-from}
+use Rattle.rope_search_reports.proofs.DraftLemmas.{RowsSoFar, RowsSoFar-start, RowsSoFar-some, RowsSoFar-more}
 use Rattle.rope_search_reports.proofs.reports.rows_of_lines.Goals as goal
 
-pub returns-in_err-draft-clause-count : goal.returns-in_err-draft-clause-count
-returns-in_err-draft-clause-count c =
-    let few = part-few (text_of c.args.text.now) (text_of c.chunks_of_lines-chunks.result.ahead) c.args.first (c.args.last + 1) c.chunks_of_lines-chunks.ensures.lines (omega arith) (omega arith) in
-    omega (arith, few, c.draft_of.ensures.count)
-
-pub returns-then-end-count-clause-rows : goal.returns-then-end-count-clause-rows
-returns-then-end-count-clause-rows c =
-    let text = text_of c.args.text.now in
-    let part = text_of c.chunks_of_lines-chunks.result.ahead in
-    let lines = take (c.args.last + 1 - c.args.first) (drop c.args.first (line_texts text)) in
-    let tail = chars (string_bytes c.in_ok-draft.draft.front) ++ chars c.in_ok-draft.part.now in
-    let within : c.args.last + 1 < line_count text = omega (arith, c.if-end-count.true, c.len_lines-count.ensures) in
-    leaves-last c.args.finder.now part tail [] lines c.in_ok-draft.draft.rows.items c.in_ok-draft.ensures.rows (c.chunks_of_lines-chunks.ensures.lines.broken within)
-
-pub returns-then-end-count-clause-count : goal.returns-then-end-count-clause-count
-returns-then-end-count-clause-count c =
-    let few = part-few (text_of c.args.text.now) (text_of c.chunks_of_lines-chunks.result.ahead) c.args.first (c.args.last + 1) c.chunks_of_lines-chunks.ensures.lines (omega arith) (omega arith) in
-    omega (arith, few, c.draft_of.ensures.count)
-
-pub returns-clause-rows : goal.returns-clause-rows
-returns-clause-rows c =
+pub loop-line_idx-init : goal.loop-line_idx-init
+loop-line_idx-init c =
     let pattern = c.args.finder.now in
-    let text = text_of c.args.text.now in
-    let part = text_of c.chunks_of_lines-chunks.result.ahead in
-    let rows = c.in_ok-draft.draft.rows.items in
-    let tail = chars (string_bytes c.in_ok-draft.draft.front) ++ chars c.in_ok-draft.part.now in
-    let P : List ℕ → List (List (ℕ × ℕ)) → Type 0 = λ pattern rows'. AddsRow pattern tail rows rows' in
-    let is_last : c.args.last + 1 ≡ line_count text = omega (arith, c.if-end-count.false, c.len_lines-count.ensures) in
-    let lines = last-lines text part c.args.first (c.args.last + 1) c.chunks_of_lines-chunks.ensures.lines (omega arith) is_last in
-    IfOk-weaker c.finish.result (λ rows'. P c.draft_of.new.finder rows'.items) _
-    (λ rows' adds. subst (λ ls. AreRows pattern ls rows'.items) (sym lines)
-    (ends-rows pattern part tail rows rows'.items c.in_ok-draft.ensures.rows (subst (λ pattern. P pattern rows'.items) c.draft_of.ensures.finder adds)))
-    c.finish.ensures.rows
+    let ticks = c.args.tick.now in
+    let owns = drop c.args.first (line_texts (text_of c.args.text.now)) in
+    let ahead : c.lines_at-lines.result.ahead ≡ drop c.args.first (lines_of c.args.text.now) = ap (λ place. place.ahead) c.lines_at-lines.ensures in
+    let lines : AreLines c.lines_at-lines.result.ahead owns =
+    subst (λ ls. AreLines ls owns) (sym ahead) (lines-from c.args.first (lines_of c.args.text.now) (line_texts (text_of c.args.text.now)) (lines-are c.places.ensures c.args.text.now)) in
+    let none : 0 ≡ c.args.first - c.args.first = omega arith in
+    let P : ℕ → List (List (ℕ × ℕ)) → Type 0 = λ count rows. RowsSoFar pattern owns c.lines_at-lines.result.ahead count rows ticks ticks in (
+      subst (λ count. P count c.new-rows.result.items) none (subst (P 0) (sym c.new-rows.ensures.items) (RowsSoFar-start pattern owns c.lines_at-lines.result.ahead ticks lines)),
+      refl,
+    )
 
-pub returns-clause-count : goal.returns-clause-count
-returns-clause-count c =
-    let text = text_of c.args.text.now in
-    let is_last : c.args.last + 1 ≡ line_count text = omega (arith, c.if-end-count.false, c.len_lines-count.ensures) in
-    let all = last-breaks text (text_of c.chunks_of_lines-chunks.result.ahead) c.args.first (c.args.last + 1) c.chunks_of_lines-chunks.ensures.lines (omega arith) is_last in
-    omega (arith, all, c.draft_of.ensures.count, c.finish.ensures.count)
+pub unreachable-requires : goal.unreachable-requires
+unreachable-requires c =
+    let all = line_texts (text_of c.args.text.now) in
+    RowsSoFar-some _ _ _ _ _ _ _ c.loop-line_idx.invariant.0
+    (omega (arith, c.loop-line_idx-test.true, c.requires.within, length-drop c.args.first all, lines-counted (text_of c.args.text.now), c.loop-line_idx.auto._line_idx))
+    c.in_default.ensures.steps.0
+
+pub loop-line_idx-preserved : goal.loop-line_idx-preserved
+loop-line_idx-preserved c =
+    let pattern = c.args.finder.now in
+    let owns = drop c.args.first (line_texts (text_of c.args.text.now)) in
+    let line = slice_pieces c.in-Some.line in
+    let row_is : IsRow pattern (slice_text c.without_break.result) c.in_ok-search_line.field-0 =
+    subst (λ p. IsRow p (slice_text c.without_break.result) c.in_ok-search_line.field-0) c.loop-line_idx.invariant.1 c.in_ok-search_line.ensures.row in
+    let ticks : c.search_line.new.tick.count ≤ c.loop-line_idx.tick.count + 1 = omega (arith, c.search_line.ensures.count) in
+    let one_more : c.loop-line_idx._line_idx - c.args.first + 1 ≡ c.loop-line_idx._line_idx + 1 - c.args.first = omega (arith, c.loop-line_idx.auto._line_idx) in
+    let P : ℕ → Type 0 = λ count. RowsSoFar pattern owns c.next.new.self.ahead count c.push.new.self.items c.args.tick.now c.search_line.new.tick in (
+      subst P one_more (RowsSoFar-more pattern owns c.loop-line_idx.lines.ahead c.next.new.self.ahead (c.loop-line_idx._line_idx - c.args.first) c.loop-line_idx.rows.items
+          c.push.new.self.items c.in_ok-search_line.field-0 c.args.tick.now c.loop-line_idx.tick c.search_line.new.tick line (slice_text c.without_break.result)
+          c.loop-line_idx.invariant.0 c.in-Some.ensures.steps.0 c.without_break.ensures row_is c.in_ok-push.ensures.items ticks c.search_line.ensures.wholes),
+      c.search_line.ensures.finder ∙ c.loop-line_idx.invariant.1,
+    )

@@ -43,6 +43,13 @@ byte_to_line-end-requires c =
     let lies = lies_in old new inserted part c.requires.marked c.requires.edited in
     lies.end
 
+pub overflow_add-last : goal.overflow_add-last
+overflow_add-last c =
+    let new = text_of c.args.new.now in
+    let inside = c.places_are_in_lines.ensures new (c.len_bytes-2.result - (c.len_bytes.result - c.args.part.end.byte_idx)) in
+    let few = c.counts_are_at_most_bytes.ensures.lines is_break new in
+    omega (arith, inside, few, c.byte_to_line-last.ensures, c.len_bytes-2.ensures.bytes, c.len_bytes-2.ensures.fits)
+
 pub rows_of_lines-requires-clause-ordered : goal.rows_of_lines-requires-clause-ordered
 rows_of_lines-requires-clause-ordered c =
     let old = text_of c.args.old.now in
@@ -55,7 +62,7 @@ rows_of_lines-requires-clause-ordered c =
     let anew : MakesAnew old new inserted c.byte_to_line-first.result c.byte_to_line-last.result (line_at old part.end.byte_idx) =
     makes_anew_of c.edits_splice_lines.ensures old new inserted part c.byte_to_line-first.result c.byte_to_line-last.result (line_at old part.end.byte_idx)
     c.requires.marked c.requires.edited c.byte_to_line-first.ensures last_is refl in
-    anew.splice.ordered
+    omega (arith, anew.splice.ordered)
 
 pub returns-in_err-made-clause-count : goal.returns-in_err-made-clause-count
 returns-in_err-made-clause-count c =

@@ -1,0 +1,74 @@
+-- What a regex of a pattern is, in words of the pattern's tree.
+use Rattle.std.proofs.Common.{◌≡◌, ℕ, ◌+◌, ◌*◌, ◌<◌, ◌≤◌, ◌⊎◌, inl, inr, Bool, false, true, List, [], ◌∷◌, length, Option, refl, ap, sym, subst, ◌∙◌, arith}
+use Rattle.std.specs.Prelude.{option_map}
+use Rattle.std.specs.Str.{chars}
+use Rattle.std.proofs.lemmas.Bool.{cases_lt}
+use Rattle.rx_util.specs.Search.{Found}
+use Rattle.rx_util.specs.declared.search.Anchored.TheVariants.{No}
+use Rattle.rx_input.specs.Inputs.{Asked, InputState}
+use Rattle.rx_walks.specs.Finds.{Search}
+use Rattle.rx_walks.specs.Programs.{Program}
+use Rattle.rx_walks.specs.Looks.{Look}
+use Rattle.rx_sets.specs.Sets.{Range}
+use Rattle.rx_program.specs.Code.{program_of}
+use Rattle.rx_program.specs.Programs.{characters_of}
+use Rattle.rx_program.specs.declared.error.BuildError.{BuildError}
+use Rattle.rx_grammar.specs.Settings.{default_settings}
+use Rattle.rx_steps.specs.Searching.{anchoring_of}
+use Rattle.rx_chunk.specs.Engines.{IsRefused, too_long, nesting, outside, too_large, memory}
+use Rattle.unicode.specs.Perl.{is_word_char}
+use Rattle.rx_utf8.specs.Automata.{is_in}
+use Rattle.regex_cursor.specs.Patterns.{Tree, FoundMatch, ProgramFinds, AsksFrom, TreeFinds, match_of, pattern_weight, program_for, search_from, weight_limit}
+use Rattle.regex_cursor.specs.PatternLaws.{SaysOfText}
+use Rattle.regex_cursor.specs.Regexes.{Engine, IsRegexOf, IsRefusedAsRegex, TellsMatch, regex_settings, search_by}
+
+pub light-of : (text : List ℕ) (re : Engine) → (built : IsRegexOf text re) → pattern_weight built.tree ≤ weight_limit
+light-of text re built = elim (cases_lt weight_limit (pattern_weight built.tree)) [
+  | inl heavy ↦ absurd (built.fits (omega (arith, heavy)))
+  | inr light ↦ omega (arith, light)
+]
+
+-- the search that an input asks for
+search_with : List ℕ → Asked → Bool → Search
+search_with content asked utf8_empty = record {
+  content = content;
+  slice_start = asked.slice.start;
+  slice_end = asked.slice.end;
+  start = asked.span.start;
+  end = asked.span.end;
+  anchoring = anchoring_of asked.anchored;
+  utf8_empty = utf8_empty;
+}
+
+search-is : (re : Engine) (content : List ℕ) (from : ℕ) (input : InputState) → re.utf8_empty ≡ true → AsksFrom content from input → search_by re input ≡ search_from content from
+unfolding search_with
+search-is re content from input utf8 asks =
+    ap (λ c. search_with c input.asked re.utf8_empty) asks.content_is
+    ∙ ap (λ a. search_with content a re.utf8_empty) asks.asked_is
+    ∙ ap (λ u. search_with content (record {
+      span = record { start = from; end = length content };
+      slice = record { start = 0; end = length content };
+      anchored = No;
+      earliest = false;
+    }) u) utf8
+
+program-is : (text : List ℕ) (re : Engine) → (built : IsRegexOf text re) → characters_of re.program ≡ program_for built.tree
+program-is text re built = built.of_tree.program ∙ ap (λ t. program_of (built.tree ∷ []) t) built.line_terminator
+
+pub finds-of : (text : List ℕ) (re : Engine) → (built : IsRegexOf text re) → (content : List ℕ) (from : ℕ) (input : InputState) (found : Option Found)
+    → AsksFrom content from input → TellsMatch re input found
+    → (out : Option FoundMatch) × TreeFinds built.tree content from out × (found ≡ option_map match_of out)
+finds-of text re built content from input found asks tells =
+    let earliest : input.asked.earliest ≡ false = ap (λ a. a.earliest) asks.asked_is in
+    let is = tells.exact earliest in
+    let P : Program Look (List Range) → Type 0 = λ p. ProgramFinds is_in is_word_char p (search_by re input) is.0 in
+    let by_tree = subst P (program-is text re built) is.1 in
+    let Q : Search → Type 0 = λ s. ProgramFinds is_in is_word_char (program_for built.tree) s is.0 in
+    (is.0, subst Q (search-is re content from input built.utf8_empty asks) by_tree, is.2)
+
+pub says-of : (text : List ℕ) (error : BuildError) → IsRefusedAsRegex text error → SaysOfText text error
+says-of text error (too_long long) = inl long
+says-of text error (nesting deep) = inr deep.nothing
+says-of text error (outside short never) = inr (never default_settings.nest_limit)
+says-of text error (too_large {tree = tree} spells heavy) = (tree, spells, omega (arith, heavy))
+says-of text error memory = tt

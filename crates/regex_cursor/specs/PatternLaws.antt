@@ -1,0 +1,63 @@
+-- Laws of what patterns spell, and of what searches for them find.
+use Rattle.std.specs.Prelude.{◌≡◌, ◌⊎◌, ℕ, ◌<◌, ◌≤◌, List, length, Option, option_map}
+use Rattle.std.specs.Str.{chars}
+use Rattle.unicode.specs.Perl.{is_word_char}
+use Rattle.rx_util.specs.Search.{Found}
+use Rattle.rx_utf8.specs.Automata.{is_in}
+use Rattle.rx_input.specs.Inputs.{InputState}
+use Rattle.rx_program.specs.declared.error.BuildError.{BuildError}
+use Rattle.rx_program.specs.declared.error.BuildError.TheVariants.{Syntax, Size, Memory}
+pub use Rattle.rx_walks.specs.Finds.{IsInside, IsPossible, MayEnd}
+pub use Rattle.rx_walks.specs.Laws.{FindsAtMostOne, FindsExist, FindsLieInside, FindsStandAtBoundaries, LiesInside, MatchesAreOneList, MayBeFound, StandsAtBoundaries}
+pub use Rattle.rx_walks.specs.MatchLaws.{AreInOrder, FirstMatchesGrow, HasFirstMatches, IsFoundBehind, LiesBetween, MatchesAreFound, MatchesExist, MatchesRise, MatchesStandAtBoundaries}
+use Rattle.regex_cursor.specs.Patterns.{Tree, SpellsTree, SpellsNone, FoundMatch, AsksFrom, TreeFinds, match_of, pattern_weight, program_for, weight_limit}
+use Rattle.regex_cursor.specs.Regexes.{Engine, IsRegexOf, IsRefusedAsRegex, TellsMatch}
+
+-- a text spells at most one tree
+abbrev pub SpellsOneTree : Type 0
+SpellsOneTree =
+    (text : List ℕ) (tree other : Tree) → SpellsTree text tree → SpellsTree text other → tree ≡ other
+
+-- it spells a tree, or none
+abbrev pub SpellsTreeOrNone : Type 0
+SpellsTreeOrNone = (text : List ℕ) → ((tree : Tree) × SpellsTree text tree) ⊎ SpellsNone text
+
+-- of what is searched for a tree: a search finds exactly one thing, and there is exactly one list of
+-- matches; how these lie in the content, and that they are whole characters; and what the first
+-- members of the list are
+pub record HasFinds (tree : Tree) : Type 0 where
+  pub one_find : FindsAtMostOne is_in is_word_char (program_for tree)
+  pub has_find : FindsExist is_in is_word_char (program_for tree)
+  pub inside : FindsLieInside is_in is_word_char (program_for tree)
+  pub at_boundaries : FindsStandAtBoundaries is_in is_word_char (program_for tree)
+  pub one_list : MatchesAreOneList is_in is_word_char (program_for tree)
+  pub has_list : MatchesExist is_in is_word_char (program_for tree)
+  pub found : MatchesAreFound is_in is_word_char (program_for tree)
+  pub rise : MatchesRise is_in is_word_char (program_for tree)
+  pub list_at_boundaries : MatchesStandAtBoundaries is_in is_word_char (program_for tree)
+  pub first : FirstMatchesGrow is_in is_word_char (program_for tree)
+
+-- ---- regexes
+
+-- what a refusal says of a pattern's text, given as its bytes
+abbrev pub SaysOfText : List ℕ → BuildError → Type 0
+SaysOfText text (Syntax pattern error) = (65536 < length text) ⊎ SpellsNone (chars text)
+SaysOfText text (Size limit) =
+    (tree : Tree) × SpellsTree (chars text) tree × (weight_limit < pattern_weight tree)
+SaysOfText text Memory = Unit {0}
+
+-- A regex that is built of a pattern searches for the tree that this spells, which isn't too heavy:
+-- what it tells of an input over a content is what the tree has there. A refusal says why there is
+-- none.
+pub record RegexesHaveTrees : Type 0 where
+  pub spells : (text : List ℕ) (re : Engine) → (built : IsRegexOf text re)
+      → SpellsTree (chars text) built.tree
+  pub light : (text : List ℕ) (re : Engine) → (built : IsRegexOf text re)
+      → pattern_weight built.tree ≤ weight_limit
+  pub finds : (text : List ℕ) (re : Engine) → (built : IsRegexOf text re)
+      → (content : List ℕ) (from : ℕ) (input : InputState) (found : Option Found)
+      → AsksFrom content from input → TellsMatch re input found
+      → (out : Option FoundMatch) × TreeFinds built.tree content from out
+      × (found ≡ option_map match_of out)
+  pub refused : (text : List ℕ) (error : BuildError) → IsRefusedAsRegex text error
+      → SaysOfText text error

@@ -1,0 +1,90 @@
+-- What a pattern's text spells, and what a search for it finds over a whole content: the words of
+-- the crates below, for crates that stand on this one.
+use Rattle.std.specs.Prelude.{◌≡◌, ℕ, false, true, List, [], ◌∷◌, length, Option}
+use Rattle.unicode.specs.Perl.{is_word_char}
+use Rattle.rx_util.specs.declared.search.Anchored.TheVariants.{No}
+pub use Rattle.rx_input.specs.Inputs.{Asked, InputState}
+use Rattle.rx_utf8.specs.Automata.{is_in}
+use Rattle.rx_sets.specs.Sets.{Range}
+use Rattle.rx_grammar.specs.Grammar.{Spells}
+use Rattle.rx_grammar.specs.Settings.{default_settings}
+pub use Rattle.rx_grammar.specs.Trees.{Tree}
+pub use Rattle.rx_grammar.specs.Weights.{pattern_weight}
+use Rattle.rx_program.specs.Code.{program_of}
+use Rattle.rx_walks.specs.Looks.{Look}
+use Rattle.rx_walks.specs.Machines.{Outcome}
+use Rattle.rx_walks.specs.Programs.{Notes, Program}
+pub use Rattle.rx_walks.specs.Programs.{slot_of}
+pub use Rattle.rx_walks.specs.Finds.{Search, unanchored}
+pub use Rattle.rx_walks.specs.Matches.{Next, no_more, at_once, moved, BehindLast, ComesNext, FirstMatches}
+pub use Rattle.rx_walks.specs.ProgramFinds.{ProgramFinds, ProgramMatches, ProgramFirstMatches, ProgramComesNext, start_of, end_of}
+pub use Rattle.rx_chunk.specs.Engines.{match_of}
+pub use Rattle.rx_util.specs.Search.{Found}
+
+-- ---- what is spelled
+
+-- under the default settings the text, of at most 65,536 bytes of UTF-8, spells the tree
+abbrev pub SpellsTree : List ℕ → Tree → Type 0
+SpellsTree text tree = Spells text default_settings tree
+
+-- it spells none
+abbrev pub SpellsNone : List ℕ → Type 0
+SpellsNone text = (tree : Tree) → SpellsTree text tree → ⊥
+
+-- how much a pattern of a regex may weigh by default
+abbrev pub weight_limit : ℕ
+weight_limit = 262144
+
+-- ---- what is found
+
+-- what a search comes to: a match with its start, its end and the places in its slots
+abbrev pub FoundMatch : Type 0
+FoundMatch = Outcome Notes
+
+-- the program of a tree that stands alone; lines end in LF
+abbrev pub program_for : Tree → Program Look (List Range)
+program_for tree = program_of (tree ∷ []) 10
+
+-- the search of a whole content from a place on: looks see all of it, and an empty match inside a
+-- character is passed over
+abbrev pub search_from : List ℕ → ℕ → Search
+search_from content from = record {
+  content = content;
+  slice_start = 0;
+  slice_end = length content;
+  start = from;
+  end = length content;
+  anchoring = unanchored;
+  utf8_empty = true;
+}
+
+-- an input that asks for it: for any match from a place on, and looks see all of the content
+pub record AsksFrom (content : List ℕ) (from : ℕ) (input : InputState) : Type 0 where
+  pub content_is : input.cursor.content ≡ content
+  pub asked_is : input.asked ≡ record {
+    span = record { start = from; end = length content };
+    slice = record { start = 0; end = length content };
+    anchored = No;
+    earliest = false;
+  }
+
+-- what a search for a tree finds in a content from a place on
+abbrev pub TreeFinds : Tree → List ℕ → ℕ → Option FoundMatch → Type 0
+TreeFinds tree content from found =
+    ProgramFinds is_in is_word_char (program_for tree) (search_from content from) found
+
+-- its matches in a content, one after the other: the first is found from the content's start, each
+-- further one from the end of the one before, or one place on where an empty match is found there
+abbrev pub TreeMatches : Tree → List ℕ → List FoundMatch → Type 0
+TreeMatches tree content matches =
+    ProgramMatches is_in is_word_char (program_for tree) (search_from content 0) matches
+
+-- the first members of that list
+abbrev pub FirstTreeMatches : Tree → List ℕ → List FoundMatch → Type 0
+FirstTreeMatches tree content matches =
+    ProgramFirstMatches is_in is_word_char (program_for tree) (search_from content 0) matches
+
+-- what comes next in it behind these, or that none comes
+abbrev pub ComesBehind : Tree → List ℕ → List FoundMatch → Option FoundMatch → Type 0
+ComesBehind tree content matches found =
+    ProgramComesNext is_in is_word_char (program_for tree) (search_from content 0) matches found

@@ -1,0 +1,44 @@
+//! Laws of what patterns spell, under the default settings of a regex, and of what searches for
+//! them find. Each function does nothing: its contract is the law.
+
+ghost use Rattle.regex_cursor.specs.Patterns.{Tree};
+ghost use Rattle.regex_cursor.specs.PatternLaws.{HasFinds, RegexesHaveTrees, SpellsOneTree, SpellsTreeOrNone};
+
+use rx_grammar::CharacterSet;
+
+/// A text spells at most one tree.
+pub fn one_tree()
+    ensures { SpellsOneTree }
+{
+    rx_grammar::laws::spells_at_most_one();
+}
+
+/// Each text spells a tree, or none: so it is settled for each text whether it has a regex.
+pub fn tree_or_none()
+    ensures { SpellsTreeOrNone }
+{
+    rx_grammar::laws::spells_or_not();
+}
+
+/// In each search a tree has exactly one find, a match or none, and exactly one list of matches.
+/// They lie inside, rise, don't overlap, and in UTF-8 are whole characters.
+pub fn finds_of_trees()
+    ensures { (tree : Tree) → HasFinds tree }
+{
+    rx_walks::laws::finds_at_most_one::<CharacterSet>();
+    rx_walks::laws::finds_exist::<CharacterSet>();
+    rx_walks::laws::finds_lie_inside::<CharacterSet>();
+    rx_walks::laws::finds_at_boundaries::<CharacterSet>();
+    rx_walks::laws::matches_are_one_list::<CharacterSet>();
+    rx_walks::laws::matches_exist::<CharacterSet>();
+    rx_walks::laws::matches_are_found::<CharacterSet>();
+    rx_walks::laws::matches_rise::<CharacterSet>();
+    rx_walks::laws::matches_at_boundaries::<CharacterSet>();
+    rx_walks::laws::first_matches_grow::<CharacterSet>();
+}
+
+/// What a regex tells of an input over a whole content is what the tree of its pattern has there,
+/// and why a pattern has no regex is told by that tree, or by there being none.
+pub fn regexes_have_trees()
+    ensures { RegexesHaveTrees }
+{}

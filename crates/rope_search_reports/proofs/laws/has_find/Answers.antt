@@ -1,0 +1,5 @@
+use Rattle.rope_search_reports.proofs.MatchLemmas.{has-find}
+use Rattle.rope_search_reports.proofs.laws.has_find.Goals as goal
+
+pub returns : goal.returns
+returns c = has-find c.finds_of_trees.ensures

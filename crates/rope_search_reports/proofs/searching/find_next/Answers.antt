@@ -1,0 +1,47 @@
+use Rattle.std.proofs.Common.{◌≡◌, ℕ, ◌+◌, ◌-◌, ◌<◌, ◌≤◌, ◌^◌, List, length, Option, Some, None, Bool, true, false, not, option_map, refl, ap, sym, subst, ◌∙◌, arith, Fits, w64}
+use Rattle.std.proofs.lemmas.Result.{IfOk-weaker}
+use Rattle.regex_cursor.specs.Patterns.{AsksFrom, FoundMatch, TreeFinds, Found, match_of}
+use Rattle.rope_search_reports.specs.Finders.{ComesAfter, start_behind}
+use Rattle.rope_search_reports.proofs.NextLemmas.{IsToldOf, asks-moved, first-comes, comes-at_once, comes-moved}
+use Rattle.rope_search_reports.proofs.searching.find_next.Goals as goal
+
+pub returns-in_err-found-clause-asks : goal.returns-in_err-found-clause-asks
+returns-in_err-found-clause-asks c = (start_behind c.args.last, c.find.ensures.asks _ _ c.requires.asks)
+
+pub returns-in_default-clause-found : goal.returns-in_default-clause-found
+returns-in_default-clause-found c = λ text built.
+    first-comes built.tree _ c.args.last c.in_ok-found.found c.in_default.is (c.in_ok-found.ensures.found text _ _ built c.requires.asks)
+
+pub returns-in_default-clause-asks : goal.returns-in_default-clause-asks
+returns-in_default-clause-asks c = (start_behind c.args.last, c.find.ensures.asks _ _ c.requires.asks)
+
+pub returns-then-not-is_empty_at-clause-found : goal.returns-then-not-is_empty_at-clause-found
+returns-then-not-is_empty_at-clause-found c = λ text built.
+    comes-at_once built.tree _ c.args.last c.in-Some.end c.in_ok-found.found c.is_empty_at.result c.in-Some.is c.is_empty_at.ensures c.if-not-is_empty_at.true
+    (c.in_ok-found.ensures.found text _ _ built c.requires.asks)
+
+pub returns-then-not-is_empty_at-clause-asks : goal.returns-then-not-is_empty_at-clause-asks
+returns-then-not-is_empty_at-clause-asks c = (start_behind c.args.last, c.find.ensures.asks _ _ c.requires.asks)
+
+pub overflow_add-end : goal.overflow_add-end
+overflow_add-end c =
+    let bound = c.position.ensures.holds.lawful.bound in
+    omega (arith, c.requires.within, ap start_behind c.in-Some.is, bound)
+
+pub set_start-requires : goal.set_start-requires
+set_start-requires c =
+    let asks = c.find.ensures.asks _ _ c.requires.asks in
+    omega (arith, c.requires.within, ap start_behind c.in-Some.is, ap (λ a. a.span.end) asks.asked_is)
+
+pub returns-clause-found : goal.returns-clause-found
+returns-clause-found c = λ text built.
+    let asks = asks-moved _ _ (c.in-Some.end + 1) _ _ (c.find.ensures.asks _ _ c.requires.asks) c.set_start.ensures.same.content c.set_start.ensures.asked_is in
+    IfOk-weaker c.find-2.result (IsToldOf (TreeFinds built.tree _ (c.in-Some.end + 1))) (IsToldOf (ComesAfter built.tree _ c.args.last))
+    (λ later next. comes-moved built.tree _ c.args.last c.in-Some.end c.in_ok-found.found later c.is_empty_at.result c.in-Some.is c.is_empty_at.ensures c.if-not-is_empty_at.false
+    (c.in_ok-found.ensures.found text _ _ built c.requires.asks) next)
+    (c.find-2.ensures.found text _ _ built asks)
+
+pub returns-clause-asks : goal.returns-clause-asks
+returns-clause-asks c =
+    let asks = asks-moved _ _ (c.in-Some.end + 1) _ _ (c.find.ensures.asks _ _ c.requires.asks) c.set_start.ensures.same.content c.set_start.ensures.asked_is in
+    (c.in-Some.end + 1, c.find-2.ensures.asks _ _ asks)

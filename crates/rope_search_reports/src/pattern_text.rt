@@ -1,0 +1,42 @@
+//! The text of a pattern that only contracts read.
+use std::marker::Model;
+use std::snapshot::Snapshot;
+
+/// The text of a pattern. It takes no bytes at run time, and only a contract can read it.
+#[derive(Drop)]
+pub struct PatternText {
+    text: Snapshot<Text>,
+}
+
+// A text, character by character. No value of it is kept.
+#[derive(Drop)]
+enum Text {
+    Start,
+    Longer(Snapshot<Text>, char),
+}
+
+impl Model for PatternText {
+    ghost use Rattle.std.specs.Prelude.{ℕ, List};
+    ghost use Rattle.rope_search_reports.specs.Finders.{characters_of};
+
+    ghost Value = { List ℕ };
+
+    ghost view = { λ pattern. characters_of pattern.text.value };
+}
+
+impl PatternText {
+    ghost use Rattle.std.specs.Prelude.{◌≡◌, chars};
+
+    /// These characters.
+    pub fn new(pattern: &str) -> PatternText
+        ensures { result ≡ chars pattern.now }
+    {
+        let mut text = Snapshot::of(&Text::Start);
+        for c in pattern.chars() {
+            text = Snapshot::of(&Text::Longer(text, c));
+        }
+        PatternText { text }
+    }
+}
+
+const _: () = prove!(size_of::<PatternText>() == 0);
