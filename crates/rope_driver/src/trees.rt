@@ -13,6 +13,7 @@ use ropey_tree::made::Made;
 use ropey_tree::node::Node;
 use ropey_tree::seams::append;
 use ropey_tree::splits::split;
+use ropey_tree::visits::Visits;
 use ropey_walk::laws;
 use std::alloc::{AllocError, Global};
 use std::rc::Rc;
@@ -69,7 +70,15 @@ fn replace(
     if start > end || node.counts().bytes > MOST || text.len() > MOST {
         return Err(Fault::Row);
     }
-    match replace_in_leaf(alloc, node, start, end, text, &mut Made::new())? {
+    match replace_in_leaf(
+        alloc,
+        node,
+        start,
+        end,
+        text,
+        &mut Made::new(),
+        &mut Visits::new(),
+    )? {
         None => out.push_str("None")?,
         Some(node) => tell_tree(out, &Some(node))?,
     }
@@ -85,7 +94,12 @@ fn cut(alloc: Global, node: &Rc<Node>, char_idx: usize, out: &mut String) -> Res
     if char_idx > slice.len_chars() {
         return Err(Fault::Row);
     }
-    let halves = split(alloc, node, slice.char_to_byte(char_idx))?;
+    let halves = split(
+        alloc,
+        node,
+        slice.char_to_byte(char_idx),
+        &mut Visits::new(),
+    )?;
     tell_tree(out, &halves.left)?;
     out.push('&')?;
     tell_tree(out, &halves.right)?;

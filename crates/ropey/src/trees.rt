@@ -19,6 +19,7 @@ use ropey_tree::made::Made;
 use ropey_tree::node::{Node, leaf_at};
 use ropey_tree::seams::append;
 use ropey_tree::splits::{Halves, split};
+use ropey_tree::visits::Visits;
 use std::alloc::{AllocError, Global};
 use std::rc::Rc;
 
@@ -45,7 +46,15 @@ fn extended(
 {
     if let Some(node) = &tree {
         let end = node.counts().bytes;
-        if let Some(longer) = replace_in_leaf(alloc, node, end, end, text, &mut Made::new())? {
+        if let Some(longer) = replace_in_leaf(
+            alloc,
+            node,
+            end,
+            end,
+            text,
+            &mut Made::new(),
+            &mut Visits::new(),
+        )? {
             return Ok(Some(longer));
         }
     }
@@ -73,10 +82,18 @@ pub(crate) fn inserted(
             Ok(tree)
         }
         Some(node) => {
-            if let Some(edited) = replace_in_leaf(alloc, node, at, at, text, &mut Made::new())? {
+            if let Some(edited) = replace_in_leaf(
+                alloc,
+                node,
+                at,
+                at,
+                text,
+                &mut Made::new(),
+                &mut Visits::new(),
+            )? {
                 return Ok(Some(edited));
             }
-            let halves = split(alloc, node, at)?;
+            let halves = split(alloc, node, at, &mut Visits::new())?;
             let front = extended(alloc, halves.left, text)?;
             let tree = append(alloc, front, halves.right)?;
             Ok(tree)
@@ -109,7 +126,15 @@ fn removed_in_leaf(
     if !can_lose(node, from, to - from) {
         return Ok(None);
     }
-    let tree = replace_in_leaf(alloc, node, from, to, "", &mut Made::new())?;
+    let tree = replace_in_leaf(
+        alloc,
+        node,
+        from,
+        to,
+        "",
+        &mut Made::new(),
+        &mut Visits::new(),
+    )?;
     Ok(tree)
 }
 
@@ -135,8 +160,8 @@ pub(crate) fn removed(
             if let Some(edited) = removed_in_leaf(alloc, node, from, to)? {
                 return Ok(Some(edited));
             }
-            let front = split(alloc, node, from)?;
-            let back = split(alloc, node, to)?;
+            let front = split(alloc, node, from, &mut Visits::new())?;
+            let back = split(alloc, node, to, &mut Visits::new())?;
             let tree = append(alloc, front.left, back.right)?;
             Ok(tree)
         }
@@ -159,7 +184,7 @@ pub(crate) fn halves_of(
             right: None,
         }),
         Some(node) => {
-            let halves = split(alloc, node, at)?;
+            let halves = split(alloc, node, at, &mut Visits::new())?;
             Ok(halves)
         }
     }

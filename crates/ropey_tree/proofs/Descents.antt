@@ -4,11 +4,10 @@ use Rattle.std.proofs.lemmas.List.{append-nil}
 use Rattle.std.proofs.Math.ListN.{drop_of_length-le}
 use Rattle.ropey_tree.specs.declared.counts.Counts.{Counts}
 use Rattle.ropey_tree.specs.declared.counts.By.{By}
-use Rattle.ropey_tree.specs.declared.counts.By.TheVariants.{Bytes, Chars, Units, Breaks}
 use Rattle.ropey_tree.specs.Counts.{total, plus, amount, zero_counts}
 use Rattle.ropey_tree.specs.NodeView.{NodeView}
 use Rattle.ropey_tree.specs.Nodes.{all_pieces, LiesIn}
-use Rattle.ropey_tree.proofs.Totals.{total-append, amount-plus, total-below}
+use Rattle.ropey_tree.proofs.Totals.{total-append, amount-plus, amount-zero, total-below}
 use Rattle.ropey_tree.proofs.InRow.{all_pieces-parts, all_pieces-take_more}
 
 -- the child that `choose` chooses
@@ -30,12 +29,6 @@ child_lies vs k v by i before within is stands_before not_past passed =
         | inr e ↦ inr (ap all_pieces (drop_of_length-le vs (omega (arith, e))))
       ];
     }
-
-amount-zero : (by : By) → amount by zero_counts ≡ 0
-amount-zero Bytes = refl
-amount-zero Chars = refl
-amount-zero Units = refl
-amount-zero Breaks = refl
 
 -- nothing stands before the whole
 pub whole_lies : (ps : List (List ℕ)) (by : By) (i : ℕ) → LiesIn ps ps by i zero_counts

@@ -1,12 +1,13 @@
 -- Arrays of which the first places are filled.
-use Rattle.std.proofs.Common.{◌≡◌, ℕ, zero, suc, ◌<◌, ◌≤◌, List, [], ◌∷◌, ◌++◌, length, Option, Some, None, get_or, replicate, refl, ap, arith, ◌∙◌, sym}
+use Rattle.std.proofs.Common.{◌≡◌, ℕ, zero, suc, ◌<◌, ◌≤◌, List, [], ◌∷◌, ◌++◌, length, Option, Some, None, get_or, replicate, refl, ap, arith, ◌∙◌}
 use Rattle.std.proofs.Math.ListN.{set}
 use Rattle.ropey_tree.specs.NodeView.{NodeView}
-use Rattle.std.proofs.Common.{map, length-set}
-use Rattle.std.proofs.lemmas.List.{length-map, map-append}
+use Rattle.std.proofs.Common.{length-set}
 use Rattle.ropey_tree.specs.declared.counts.Counts.{Counts}
-use Rattle.ropey_tree.specs.Nodes.{count_of}
+use Rattle.ropey_tree.specs.Counts.{total}
+use Rattle.ropey_tree.specs.Nodes.{all_pieces}
 use Rattle.ropey_tree.specs.Shown.{there, FirstAreFilled, AreInStep}
+use Rattle.ropey_tree.proofs.Running.{totals-more}
 
 no_first : (v : NodeView) (vs : List NodeView) → v ∷ vs ≡ [] → ⊥
 no_first v vs e = cc
@@ -52,23 +53,22 @@ there-none (suc n) = there-none n
 pub filled-none : (n : ℕ) → FirstAreFilled (replicate n None)
 filled-none n = none_there (replicate n None) (there-none n)
 
--- one more, with what it counts
-pub record Pushed (places : List (Option NodeView)) (counts : List Counts) (k : ℕ) (v : NodeView) (count : Counts) : Type 0 where
-  pub step : AreInStep (set places k (Some v)) (counts ++ count ∷ [])
+-- one more, with what all count together then
+pub record Pushed (places : List (Option NodeView)) (totals : List Counts) (k : ℕ) (v : NodeView) (sum : Counts) : Type 0 where
+  pub step : AreInStep (set places k (Some v)) (totals ++ sum ∷ [])
   pub there_is : there (set places k (Some v)) ≡ there places ++ v ∷ []
 
-pub pushed : (places : List (Option NodeView)) (counts : List Counts) (k : ℕ) (v : NodeView) (count : Counts) → AreInStep places counts
-    → k ≡ length counts → length (there places) < 24 → count ≡ count_of v → Pushed places counts k v count
-pushed places counts k v count h at room counted =
-    let len : length counts ≡ length (there places) = ap length h.counted ∙ length-map (there places) count_of in
-    let last : k ≡ length (there places) = at ∙ len in
+pub pushed : (places : List (Option NodeView)) (totals : List Counts) (k : ℕ) (v : NodeView) (sum : Counts) → AreInStep places totals
+    → k ≡ length totals → length (there places) < 24 → sum ≡ total (all_pieces (there places ++ v ∷ [])) → Pushed places totals k v sum
+pushed places totals k v sum h at room is =
+    let last : k ≡ length (there places) = at ∙ h.counted.number in
     let within : k < length places = omega (arith, h.room) in
     let e = there-set places k v h.filled last within in
     record {
       step = record {
         room = length-set places k (Some v) ∙ h.room;
         filled = filled-set places k v h.filled last within;
-        counted = ap (λ cs. cs ++ count ∷ []) h.counted ∙ ap (λ n. map count_of (there places) ++ n ∷ []) counted ∙ sym (ap (map count_of) e ∙ map-append count_of (there places) (v ∷ []));
+        counted = rw e (totals-more (there places) totals v sum h.counted is);
       };
       there_is = e;
     }

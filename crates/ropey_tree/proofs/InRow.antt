@@ -4,10 +4,9 @@ use Rattle.std.proofs.lemmas.Grind.{flat_map-append}
 use Rattle.std.proofs.lemmas.List.Concat.{flat_map-cons}
 use Rattle.std.proofs.lemmas.List.{take_more, take-append-drop, append-nil}
 use Rattle.ropey_tree.specs.NodeView.{NodeView}
-use Rattle.ropey_tree.specs.declared.counts.Counts.{Counts}
 use Rattle.ropey_tree.specs.Counts.{total, plus}
 use Rattle.ropey_tree.specs.Nodes.{all_pieces, count_of}
-use Rattle.ropey_tree.proofs.Totals.{total-append, total-below}
+use Rattle.ropey_tree.proofs.Totals.{total-append}
 
 pub all_pieces-append : (vs ws : List NodeView) → all_pieces (vs ++ ws) ≡ all_pieces vs ++ all_pieces ws
 all_pieces-append vs ws = flat_map-append (λ v. v.pieces) vs ws
@@ -49,29 +48,3 @@ part_fits vs part from k v is within at fits =
     let sums = ap (λ ws. total (all_pieces ws)) more ∙ ap total (all_pieces-append (take from vs) (part ++ v ∷ [])) ∙ total-append (all_pieces (take from vs)) (all_pieces (part ++ v ∷ [])) in
     let bytes : (total (all_pieces (take (k + 1) vs))).bytes ≡ (total (all_pieces (take from vs))).bytes + (total (all_pieces (part ++ v ∷ []))).bytes = ap (λ c. c.bytes) sums in
     omega (arith, bytes, bytes-take-le vs (k + 1), fits)
-
--- the child at k goes to what stands before it
-pub record Steps (vs : List NodeView) (k : ℕ) (before count : Counts) : Type 0 where
-  pub bytes : before.bytes + count.bytes < 2 ^ 64
-  pub chars : before.chars + count.chars < 2 ^ 64
-  pub units : before.units + count.units < 2 ^ 64
-  pub breaks : before.breaks + count.breaks < 2 ^ 64
-  pub is : plus before count ≡ total (all_pieces (take (k + 1) vs))
-
-pub steps : (vs : List NodeView) (k : ℕ) (before count : Counts) → k < length vs → (total (all_pieces vs)).bytes < 2 ^ 63
-    → before ≡ total (all_pieces (take k vs)) → count ≡ count_of (get_or vs k no_view) → Steps vs k before count
-steps vs k before count within fits stands_before counted =
-    let is : plus before count ≡ total (all_pieces (take (k + 1) vs)) = rw (stands_before, counted) (sym (total-take_more vs k no_view within)) in
-    let below = total-below (all_pieces (take (k + 1) vs)) in
-    let less = bytes-take-le vs (k + 1) in
-    let b : before.bytes + count.bytes ≡ (total (all_pieces (take (k + 1) vs))).bytes = ap (λ c. c.bytes) is in
-    let c : before.chars + count.chars ≡ (total (all_pieces (take (k + 1) vs))).chars = ap (λ c. c.chars) is in
-    let u : before.units + count.units ≡ (total (all_pieces (take (k + 1) vs))).units = ap (λ c. c.units) is in
-    let l : before.breaks + count.breaks ≡ (total (all_pieces (take (k + 1) vs))).breaks = ap (λ c. c.breaks) is in
-    record {
-      bytes = omega (arith, less, b);
-      chars = omega (arith, less, c, below.chars);
-      units = omega (arith, less, u, below.units);
-      breaks = omega (arith, less, l, below.breaks);
-      is = is;
-    }

@@ -1,7 +1,9 @@
 mod Examples
 pub mod Totals
-pub mod Filled
 pub mod InRow
+pub mod Running
+pub mod Halving
+pub mod Filled
 pub mod Within
 pub mod Heights
 pub mod Descents

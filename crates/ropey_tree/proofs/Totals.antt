@@ -13,7 +13,7 @@ use Rattle.ropey_tree.specs.Breaks.{is_break}
 use Rattle.ropey_tree.specs.declared.counts.Counts.{Counts}
 use Rattle.ropey_tree.specs.declared.counts.By.{By}
 use Rattle.ropey_tree.specs.declared.counts.By.TheVariants.{Bytes, Chars, Units, Breaks}
-use Rattle.ropey_tree.specs.Counts.{total, plus, amount}
+use Rattle.ropey_tree.specs.Counts.{total, plus, amount, zero_counts}
 
 pub total-append : (ps qs : List (List ℕ)) → total (ps ++ qs) ≡ plus (total ps) (total qs)
 total-append ps qs =
@@ -28,6 +28,12 @@ amount-plus Bytes c d = refl
 amount-plus Chars c d = refl
 amount-plus Units c d = refl
 amount-plus Breaks c d = refl
+
+pub amount-zero : (by : By) → amount by zero_counts ≡ 0
+amount-zero Bytes = refl
+amount-zero Chars = refl
+amount-zero Units = refl
+amount-zero Breaks = refl
 
 -- no measure of a text is above its bytes
 units-le : (c : ℕ) → units_of c ≤ len_utf8 c

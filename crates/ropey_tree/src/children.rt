@@ -1,4 +1,4 @@
-//! The children of a node, with what each counts.
+//! The children of a node, with what they count up to each of them.
 
 ghost use Rattle.std.specs.Prelude.{◌≡◌, ◌+◌, ◌<◌, ◌≤◌, ◌^◌, ◌⊎◌, [], ◌∷◌, ◌++◌, length, slice_index_or, replicate, None, take};
 ghost use Rattle.ropey_tree.specs.Children.{shown};
@@ -9,18 +9,18 @@ ghost use Rattle.ropey_tree.specs.Nodes.{count_of, all_pieces};
 use crate::MAX_CHILDREN;
 use crate::counts::{By, Counts};
 use crate::node::Node;
+use crate::running_totals::RunningTotals;
 use crate::visits::Visits;
-use arrayvec::ArrayVec;
 use std::marker::Model;
 use std::rc::Rc;
 
-/// Nodes side by side, and beside each what its text counts: the `NodeChildren` of `ropey`.
-/// Contracts see what the nodes are seen as.
+/// Nodes side by side, and for each what the texts of all up to and with it count together: the
+/// `NodeChildren` of `ropey`. Contracts see what the nodes are seen as.
 #[cycle(node)]
 #[derive(Drop)]
 pub struct Children {
     nodes: [Option<Rc<Node>>; MAX_CHILDREN],
-    counts: ArrayVec<Counts, MAX_CHILDREN>,
+    totals: RunningTotals,
 }
 
 impl Model for Children {
@@ -34,7 +34,7 @@ impl Model for Children {
 
     ghost view = { λ c. there (shown c.nodes) };
 
-    ghost invariant = { λ c. AreInStep (shown c.nodes) c.counts.items };
+    ghost invariant = { λ c. AreInStep (shown c.nodes) c.totals };
 
     ghost size = { tallest };
 
@@ -56,7 +56,7 @@ impl Children {
     {
         Children {
             nodes: no_nodes(),
-            counts: ArrayVec::new(),
+            totals: RunningTotals::new(),
         }
     }
 
@@ -66,7 +66,7 @@ impl Children {
         ensures value { result ≡ length self.now }
         ensures fits { result ≤ 24 }
     {
-        self.counts.len()
+        self.totals.len()
     }
 
     /// The one at an index.
@@ -83,13 +83,25 @@ impl Children {
         }
     }
 
+    /// What those before an index count together.
+    #[inline]
+    fn before(&self, k: usize) -> Counts
+        requires { k ≤ length self.now }
+        ensures { result ≡ total (all_pieces (take k self.now)) }
+    {
+        self.totals.before(k)
+    }
+
     /// What the one at an index counts.
     #[inline]
     pub fn count(&self, k: usize) -> Counts
         requires { k < length self.now }
         ensures { (d : NodeView) → result ≡ count_of (slice_index_or self.now k d) }
     {
-        self.counts[k]
+        // For its facts alone.
+        let _ = self.len();
+        let (through, before) = (self.before(k + 1), self.before(k));
+        through.saturating_sub(before)
     }
 
     /// Appends a node, with what it counts. All of them together are to be a text that fits.
@@ -99,47 +111,38 @@ impl Children {
         requires fits { (total (all_pieces (self.old ++ node.value ∷ []))).bytes < 2 ^ 63 }
         ensures { self.new ≡ self.old ++ node.value ∷ [] }
     {
-        let k = self.counts.len();
+        let k = self.len();
+        let total = self.before(k).plus(counts);
         self.nodes[k] = Some(node);
-        self.counts.push(counts);
+        self.totals.push(total);
     }
 
     /// What they count together.
+    #[inline]
     pub fn sum(&self) -> Counts
-        requires { (total (all_pieces self.now)).bytes < 2 ^ 63 }
         ensures { result ≡ total (all_pieces self.now) }
     {
-        let mut sum = Counts::zero();
-        for k in 0..self.len() {
-            sum = sum.plus(self.count(k));
-        }
-        sum
+        self.before(self.len())
     }
 
-    /// The first up to whose end more than `i` stand in a measure, else the last. No node is
-    /// entered.
+    /// The way to a child, which is entered: the first up to whose end more than `i` stand in a
+    /// measure, else the last.
+    #[inline]
     pub fn choose(&self, by: By, i: usize, visits: &mut Visits) -> Choice
-        requires some { 0 < length self.now }
-        requires fits { (total (all_pieces self.now)).bytes < 2 ^ 63 }
+        requires { 0 < length self.now }
         ensures within { result.index < length self.now }
         ensures stands_before { result.before ≡ total (all_pieces (take result.index self.now)) }
         ensures not_past { amount by result.before ≤ i }
         ensures passed { (i < amount by (total (all_pieces (take (result.index + 1) self.now)))) ⊎
             (result.index + 1 ≡ length self.now) }
-        ensures visited { visits.new.nodes ≡ visits.old.nodes }
+        ensures visited { visits.new.nodes ≡ visits.old.nodes + 1 }
+        ensures compared { visits.new.comparisons ≤ visits.old.comparisons + 5 }
     {
-        let last = self.len() - 1;
-        let mut before = Counts::zero();
-        for k in 0..last {
-            let through = before.plus(self.count(k));
-            if i < through.by(by) {
-                return Choice { index: k, before };
-            }
-            before = through;
-        }
+        visits.enter();
+        let index = self.totals.find(by, i, visits);
         Choice {
-            index: last,
-            before,
+            index,
+            before: self.before(index),
         }
     }
 }

@@ -125,6 +125,7 @@ fn replaced(
     to: usize,
     text: &str,
     made: &mut Made,
+    visits: &mut Visits,
 ) -> Result<Option<Joined>, AllocError>
     requires range { from ≤ to }
     requires fits { (total node.now.value.pieces).bytes + byte_len (chars text.now) < 2 ^ 63 }
@@ -137,6 +138,9 @@ fn replaced(
     ensures nothing { IfOk result (λ nodes. IfNone nodes (made.new.nodes ≡ made.old.nodes)) }
     ensures least { made.old.nodes ≤ made.new.nodes }
     ensures most { made.new.nodes ≤ made.old.nodes + 2 * (node.now.value.height + 1) }
+    ensures visited { visits.new.nodes ≡ visits.old.nodes + node.now.value.height }
+    ensures compared { visits.new.comparisons ≤
+        visits.old.comparisons + 5 * node.now.value.height }
 {
     match node.parts() {
         Parts::Leaf(leaf) => match with_text_replaced(leaf, from, to, text) {
@@ -154,10 +158,10 @@ fn replaced(
         Parts::Inner(children) => {
             // For its facts alone.
             let _ = children.len();
-            let choice = children.choose(By::Bytes, from, &mut Visits::new());
+            let choice = children.choose(By::Bytes, from, visits);
             let child = children.get(choice.index);
             let before = choice.before.bytes;
-            match replaced(alloc, child, from - before, to - before, text, made)? {
+            match replaced(alloc, child, from - before, to - before, text, made, visits)? {
                 None => Ok(None),
                 Some(edited) => {
                     let row = Siblings::Within(children, choice.index, &edited);
@@ -185,6 +189,7 @@ pub fn replace_in_leaf(
     to: usize,
     text: &str,
     made: &mut Made,
+    visits: &mut Visits,
 ) -> Result<Option<Rc<Node>>, AllocError>
     requires range { from ≤ to }
     requires fits { (total node.now.value.pieces).bytes + byte_len (chars text.now) < 2 ^ 63 }
@@ -202,9 +207,13 @@ pub fn replace_in_leaf(
     ensures nothing { IfOk result (λ tree. IfNone tree (made.new.nodes ≡ made.old.nodes)) }
     ensures level { made.new.nodes ≤ made.old.nodes + (2 * (node.now.value.height + 1) + 1) }
     ensures few { made.new.nodes ≤ made.old.nodes + 39 }
+    ensures visited { visits.new.nodes ≡ visits.old.nodes + node.now.value.height }
+    ensures few_visited { visits.new.nodes ≤ visits.old.nodes + 18 }
+    ensures compared { visits.new.comparisons ≤
+        visits.old.comparisons + 5 * node.now.value.height }
 {
     let height = node.height();
-    match replaced(alloc, node, from, to, text, made)? {
+    match replaced(alloc, node, from, to, text, made, visits)? {
         None => Ok(None),
         Some(Joined::One(only)) => Ok(Some(only)),
         Some(Joined::Two(first, second)) => {

@@ -14,6 +14,7 @@ pub mod laws;
 pub mod leaf;
 pub mod made;
 pub mod node;
+mod running_totals;
 pub mod seams;
 pub mod siblings;
 pub mod splits;

@@ -1,6 +1,6 @@
 //! Nodes: leaves, and nodes of children one level below.
 
-ghost use Rattle.std.specs.Prelude.{◌≡◌, ◌+◌, ◌<◌, ◌≤◌, [], ◌∷◌, IfOk};
+ghost use Rattle.std.specs.Prelude.{◌≡◌, ◌+◌, ◌*◌, ◌<◌, ◌≤◌, [], ◌∷◌, IfOk};
 ghost use Rattle.ropey_tree.specs.Counts.{total};
 ghost use Rattle.ropey_tree.specs.Nodes.{leaf_view, inner_view, IsInner, IsTree, LiesIn};
 ghost use Rattle.ropey_tree.specs.Parts.{ShowsParts};
@@ -149,8 +149,8 @@ pub fn enter<'a>(node: &'a Node, by: By, i: usize, visits: &mut Visits) -> Enter
     ensures level { result.node.now.height + 1 ≡ node.now.height }
     ensures lies { LiesIn node.now.pieces result.node.now.pieces by i result.before }
     ensures visited { visits.new.nodes ≡ visits.old.nodes + 1 }
+    ensures compared { visits.new.comparisons ≤ visits.old.comparisons + 5 }
 {
-    visits.enter();
     match &node.body {
         Body::Leaf(_) => unreachable!(),
         Body::Inner(_, children) => {
@@ -178,6 +178,7 @@ pub fn descend<'a>(node: &'a Node, by: By, i: usize, visits: &mut Visits) -> Fou
     ensures lies { LiesIn node.now.pieces (result.leaf.now ∷ []) by i result.before }
     ensures visited { visits.new.nodes ≡ visits.old.nodes + node.now.height }
     ensures few { visits.new.nodes ≤ visits.old.nodes + 18 }
+    ensures compared { visits.new.comparisons ≤ visits.old.comparisons + 5 * node.now.height }
 {
     let mut at = node;
     let mut before = Counts::zero();

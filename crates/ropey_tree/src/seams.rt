@@ -18,6 +18,7 @@ use crate::counts::By;
 use crate::leaf::{Leaf, LeafBuffer, fill_end};
 use crate::node::{Node, leaf_at};
 use crate::splits::{Halves, split};
+use crate::visits::Visits;
 use crate::{MAX_BYTES, MIN_BYTES, joins};
 use std::alloc::{AllocError, Global};
 use std::rc::Rc;
@@ -145,8 +146,8 @@ fn append_both(alloc: Global, left: &Rc<Node>, right: &Rc<Node>) -> Result<Rc<No
         let tree = joins::concat(alloc, left, right)?;
         return Ok(tree);
     };
-    let Halves { left: before, .. } = split(alloc, left, start + from)?;
-    let Halves { right: after, .. } = split(alloc, right, to)?;
+    let Halves { left: before, .. } = split(alloc, left, start + from, &mut Visits::new())?;
+    let Halves { right: after, .. } = split(alloc, right, to, &mut Visits::new())?;
     let leaf = Rc::new(alloc, Node::from_leaf(alloc, leaf)?)?;
     let back = match after {
         None => leaf,

@@ -1,6 +1,6 @@
 //! Splitting a tree between two characters.
 
-ghost use Rattle.std.specs.Prelude.{◌≡◌, ◌≤◌, ◌++◌, IfOk, take, length};
+ghost use Rattle.std.specs.Prelude.{◌≡◌, ◌+◌, ◌*◌, ◌≤◌, ◌++◌, IfOk, take, length};
 ghost use Rattle.std.specs.List.{concat};
 ghost use Rattle.ropey_tree.specs.Cutting.{IsText, IsBoundaryOf};
 ghost use Rattle.ropey_tree.specs.Nodes.{leaf_view, all_pieces, IsInner};
@@ -105,11 +105,21 @@ pub fn concat(
 
 /// The texts before and after a byte index that lies between two characters, or at the start or the
 /// end. Between CR and LF the halves count one break more than the whole. The tree stays as it is;
-/// what both it and a half hold, they share.
-pub fn split(alloc: Global, node: &Rc<Node>, at: usize) -> Result<Halves, AllocError>
+/// what both it and a half hold, they share. The way to the place enters as many nodes as the tree
+/// is high, whether or not memory is refused then.
+pub fn split(
+    alloc: Global,
+    node: &Rc<Node>,
+    at: usize,
+    visits: &mut Visits,
+) -> Result<Halves, AllocError>
     requires { IsBoundaryOf (concat node.now.value.pieces) at }
-    ensures { IfOk result (λ halves. IsSplit node.now.value.pieces at (pieces_in halves.left)
-        (pieces_in halves.right)) }
+    ensures halves { IfOk result (λ halves. IsSplit node.now.value.pieces at
+        (pieces_in halves.left) (pieces_in halves.right)) }
+    ensures visited { visits.new.nodes ≡ visits.old.nodes + node.now.value.height }
+    ensures few { visits.new.nodes ≤ visits.old.nodes + 18 }
+    ensures compared { visits.new.comparisons ≤
+        visits.old.comparisons + 5 * node.now.value.height }
 {
     let height = node.height();
     match node.parts() {
@@ -119,9 +129,9 @@ pub fn split(alloc: Global, node: &Rc<Node>, at: usize) -> Result<Halves, AllocE
         }
         Parts::Inner(children) => {
             let len = children.len();
-            let choice = children.choose(By::Bytes, at, &mut Visits::new());
+            let choice = children.choose(By::Bytes, at, visits);
             let child = children.get(choice.index);
-            let halves = split(alloc, child, at - choice.before.bytes)?;
+            let halves = split(alloc, child, at - choice.before.bytes, visits)?;
             let front = tree_over(alloc, height, children, 0, choice.index)?;
             let left = concat(alloc, front, halves.left)?;
             let back = tree_over(alloc, height, children, choice.index + 1, len)?;

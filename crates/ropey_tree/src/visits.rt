@@ -5,11 +5,12 @@ ghost use Rattle.std.specs.Prelude.{◌≡◌, ◌+◌};
 use counters::Counter;
 use std::marker::Model;
 
-/// How many nodes were entered. It takes no bytes when the program runs, and only entering a child
-/// changes it.
+/// How many nodes were entered, and how many running totals were compared with a place to choose
+/// them. It takes no bytes when the program runs; only choosing a child to enter changes it.
 #[derive(Drop)]
 pub struct Visits {
     nodes: Counter,
+    comparisons: Counter,
 }
 
 impl Model for Visits {
@@ -17,26 +18,38 @@ impl Model for Visits {
 
     ghost Value = { Visited };
 
-    ghost view = { λ v. record { nodes = v.nodes } };
+    ghost view = { λ v. record { nodes = v.nodes; comparisons = v.comparisons } };
 }
 
 impl Visits {
     /// None yet.
     #[inline(always)]
     pub fn new() -> Self
-        ensures { result.nodes ≡ 0 }
+        ensures nodes { result.nodes ≡ 0 }
+        ensures comparisons { result.comparisons ≡ 0 }
     {
         Visits {
             nodes: Counter::new(),
+            comparisons: Counter::new(),
         }
     }
 
     /// One node more.
     #[inline(always)]
     pub(crate) fn enter(&mut self)
-        ensures { self.new.nodes ≡ self.old.nodes + 1 }
+        ensures nodes { self.new.nodes ≡ self.old.nodes + 1 }
+        ensures comparisons { self.new.comparisons ≡ self.old.comparisons }
     {
         self.nodes.add();
+    }
+
+    /// One comparison more.
+    #[inline(always)]
+    pub(crate) fn compare(&mut self)
+        ensures nodes { self.new.nodes ≡ self.old.nodes }
+        ensures comparisons { self.new.comparisons ≡ self.old.comparisons + 1 }
+    {
+        self.comparisons.add();
     }
 }
 

@@ -26,14 +26,14 @@ returns-in-Some-2 c =
 
 pub extended-requires : goal.extended-requires
 extended-requires c =
-    let s = c.in_ok-halves-in-Some.ensures in
+    let s = c.in_ok-halves-in-Some.ensures.halves in
     let l = text_of (pieces_in c.in_ok-halves-in-Some.halves.left) in
     let r = text_of (pieces_in c.in_ok-halves-in-Some.halves.right) in
     record { fits = omega (arith, c.requires.fits, ap (λ t. byte_len (text_of (pieces_in t))) c.in-Some.is, ap byte_len s.text, byte_len-append l r) }
 
 pub append-requires : goal.append-requires
 append-requires c =
-    let s = c.in_ok-halves-in-Some.ensures in
+    let s = c.in_ok-halves-in-Some.ensures.halves in
     let text = c.args.text.now in
     let front = pieces_in c.in_ok-front-in-Some.front in
     let right = pieces_in c.in_ok-halves-in-Some.halves.right in
@@ -62,5 +62,5 @@ returns-in_ok-tree-in-Some c =
     let text = chars c.args.text.now in
     let longer = text_of (pieces_in c.in_ok-front-in-Some.front) in
     let new = text_of (pieces_in c.in_ok-tree-in-Some.tree) in
-    let done = inserted_text ps l r at text longer new c.in_ok-halves-in-Some.ensures c.in_ok-front-in-Some.ensures c.in_ok-tree-in-Some.ensures.text in
+    let done = inserted_text ps l r at text longer new c.in_ok-halves-in-Some.ensures.halves c.in_ok-front-in-Some.ensures c.in_ok-tree-in-Some.ensures.text in
     subst (λ (t : List ℕ). IsReplaced t at at text new) (ap (λ t. text_of (pieces_in t)) (sym c.in-Some.is)) done

@@ -22,8 +22,8 @@ returns-in-Some-2 c =
 
 pub append-requires : goal.append-requires
 append-requires c =
-    let first = c.in_ok-front-in-Some.ensures in
-    let second = c.in_ok-back-in-Some.ensures in
+    let first = c.in_ok-front-in-Some.ensures.halves in
+    let second = c.in_ok-back-in-Some.ensures.halves in
     let l = pieces_in c.in_ok-front-in-Some.front.left in
     let r = pieces_in c.in_ok-back-in-Some.back.right in
     record {
@@ -49,5 +49,5 @@ returns-in_ok-tree-in-Some c =
     let back = c.in_ok-back-in-Some.back in
     let new = text_of (pieces_in c.in_ok-tree-in-Some.tree) in
     let done = removed_text ps (pieces_in front.left) (pieces_in front.right) (pieces_in back.left) (pieces_in back.right) c.args.from c.args.to new c.requires.order
-    c.in_ok-front-in-Some.ensures c.in_ok-back-in-Some.ensures c.in_ok-tree-in-Some.ensures.text in
+    c.in_ok-front-in-Some.ensures.halves c.in_ok-back-in-Some.ensures.halves c.in_ok-tree-in-Some.ensures.text in
     subst (λ (t : List ℕ). IsReplaced t c.args.from c.args.to [] new) (ap (λ t. text_of (pieces_in t)) (sym c.in-Some.is)) done

@@ -61,7 +61,9 @@ overflow_add-start t c =
     omega (arith, between.place, bytes-concat c.args.left.now.value.pieces, ap byte_len between.left_is, byte_len-append between.front between.last, left_is.fits)
 
 pub split-requires : goal.split-requires
-split-requires t c = left_boundary c.args.left.now.value.pieces c.args.right.now.value.pieces c.in-Some.field-0.leaf (c.counts-end.result.bytes - length c.as_str.result.now + c.in-Some.field-0.from) c.in-Some.field-0.to (seam_is t c)
+split-requires t c =
+    let a = (goal.at.split-requires t c).In-Some in
+    left_boundary c.args.left.now.value.pieces c.args.right.now.value.pieces c.in-Some.field-0.leaf (c.counts-end.result.bytes - length c.as_str.result.now + c.in-Some.field-0.from) c.in-Some.field-0.to (seam_is t a)
 
 pub split-requires-2 : goal.split-requires-2
 split-requires-2 t c =
@@ -79,8 +81,8 @@ append_both-requires t c =
     let x = pieces_in c.in_ok-before.field-0.right in
     let y = pieces_in c.in_ok-after.field-0.left in
     let r = pieces_in c.in_ok-after.field-0.right in
-    let low = shorter ps qs mid at c.in-Some.field-0.to (seam_is t a) l x y r c.in-Some.ensures.some c.requires.fits c.in_ok-before.ensures c.in_ok-after.ensures in
-    let fits = rest_fits ps qs mid at c.in-Some.field-0.to (seam_is t a) l x y r c.in-Some.ensures.some c.requires.fits c.in_ok-before.ensures c.in_ok-after.ensures in
+    let low = shorter ps qs mid at c.in-Some.field-0.to (seam_is t a) l x y r c.in-Some.ensures.some c.requires.fits c.in_ok-before.ensures.halves c.in_ok-after.ensures.halves in
+    let fits = rest_fits ps qs mid at c.in-Some.field-0.to (seam_is t a) l x y r c.in-Some.ensures.some c.requires.fits c.in_ok-before.ensures.halves c.in_ok-after.ensures.halves in
     let rest : r ≡ c.in-Some-after.rest.value.pieces = ap pieces_in c.in-Some-after.is in
     let leaf : c.in_ok-leaf.leaf.value.pieces ≡ mid ∷ [] = ap (λ v. v.pieces) (c.in_ok-leaf.ensures.ok ∙ c.in_ok-from_leaf.ensures) in
     let rest_bytes = ap (λ ps. (total ps).bytes) rest in
@@ -111,8 +113,8 @@ joins t c between =
     let left_is = rw c.deref.ensures at c.height.ensures.tree.text in
     let back_is = rw c.deref-7.ensures at c.height-3.ensures.tree.text in
     record {
-      whole = whole_text ps qs mid at c.in-Some.field-0.to between l x y r c.in-Some.ensures.some c.requires.fits c.in_ok-before.ensures c.in_ok-after.ensures bs left_is back_is joined;
-      text = whole_concat ps qs mid at c.in-Some.field-0.to between l x y r c.in-Some.ensures.some c.requires.fits c.in_ok-before.ensures c.in_ok-after.ensures bs left_is back_is joined;
+      whole = whole_text ps qs mid at c.in-Some.field-0.to between l x y r c.in-Some.ensures.some c.requires.fits c.in_ok-before.ensures.halves c.in_ok-after.ensures.halves bs left_is back_is joined;
+      text = whole_concat ps qs mid at c.in-Some.field-0.to between l x y r c.in-Some.ensures.some c.requires.fits c.in_ok-before.ensures.halves c.in_ok-after.ensures.halves bs left_is back_is joined;
     }
 
 pub behind-requires : goal.behind-requires

@@ -21,7 +21,7 @@ concat-requires t c =
     let text = rw c.deref.ensures at c.height-height.ensures.tree.text in
     let before = ap (λ b. b.bytes) c.choose-choice.ensures.stands_before in
     let low = rw before at c.choose-choice.ensures.not_past in
-    let halves = rw before at c.in_ok-halves-in-Inner.ensures in
+    let halves = rw before at c.in_ok-halves-in-Inner.ensures.halves in
     let l = pieces_in c.in_ok-halves-in-Inner.halves.left in
     let r = pieces_in c.in_ok-halves-in-Inner.halves.right in
     rw c.in_ok-front-in-Inner.ensures (node_split_left v c.in-Inner.children.now c.choose-choice.result.index c.get-child.result.now.value c.args.at v_is inner text c.choose-choice.ensures.within c.get-child.ensures c.requires low c.choose-choice.ensures.passed l r halves)
@@ -34,21 +34,21 @@ concat-requires-in-Inner t c =
     let text = rw c.deref.ensures at c.height-height.ensures.tree.text in
     let before = ap (λ b. b.bytes) c.choose-choice.ensures.stands_before in
     let low = rw before at c.choose-choice.ensures.not_past in
-    let halves = rw before at c.in_ok-halves-in-Inner.ensures in
+    let halves = rw before at c.in_ok-halves-in-Inner.ensures.halves in
     let l = pieces_in c.in_ok-halves-in-Inner.halves.left in
     let r = pieces_in c.in_ok-halves-in-Inner.halves.right in
     let rest = rest_pieces v c.in-Inner.children.now c.choose-choice.result.index c.get-child.result.now.value c.args.at v_is inner text c.choose-choice.ensures.within c.get-child.ensures c.requires low c.choose-choice.ensures.passed c.len-len.result (pieces_in c.in_ok-back-in-Inner.back) c.len-len.ensures.value c.in_ok-back-in-Inner.ensures in
     rw rest (node_split_right v c.in-Inner.children.now c.choose-choice.result.index c.get-child.result.now.value c.args.at v_is inner text c.choose-choice.ensures.within c.get-child.ensures c.requires low c.choose-choice.ensures.passed l r halves)
 
-pub returns-in_ok-right-in-Inner : goal.returns-in_ok-right-in-Inner
-returns-in_ok-right-in-Inner t c =
+pub returns-in_ok-right-in-Inner-clause-halves : goal.returns-in_ok-right-in-Inner-clause-halves
+returns-in_ok-right-in-Inner-clause-halves t c =
     let v = c.args.node.now.value in
     let v_is = rw c.deref-2.ensures at c.in-Inner.ensures.0 in
     let inner = rw c.deref-2.ensures at c.in-Inner.ensures.1 in
     let text = rw c.deref.ensures at c.height-height.ensures.tree.text in
     let before = ap (λ b. b.bytes) c.choose-choice.ensures.stands_before in
     let low = rw before at c.choose-choice.ensures.not_past in
-    let halves = rw before at c.in_ok-halves-in-Inner.ensures in
+    let halves = rw before at c.in_ok-halves-in-Inner.ensures.halves in
     let l = pieces_in c.in_ok-halves-in-Inner.halves.left in
     let r = pieces_in c.in_ok-halves-in-Inner.halves.right in
     let rest = rest_pieces v c.in-Inner.children.now c.choose-choice.result.index c.get-child.result.now.value c.args.at v_is inner text c.choose-choice.ensures.within c.get-child.ensures c.requires low c.choose-choice.ensures.passed c.len-len.result (pieces_in c.in_ok-back-in-Inner.back) c.len-len.ensures.value c.in_ok-back-in-Inner.ensures in

@@ -1,33 +1,16 @@
-use Rattle.std.proofs.Common.{◌<◌, length, inl, arith, ap, ◌∙◌}
-use Rattle.ropey_tree.specs.Counts.{amount}
-use Rattle.ropey_tree.proofs.InRow.{Steps, steps, no_view}
+use Rattle.std.proofs.Common.{◌≤◌, length, take, ap, sym, arith, ◌∙◌}
+use Rattle.ropey_tree.specs.Counts.{total, amount}
+use Rattle.ropey_tree.specs.Nodes.{all_pieces}
+use Rattle.ropey_tree.specs.Shown.{there}
+use Rattle.ropey_tree.specs.Children.{shown}
+use Rattle.ropey_tree.proofs.Running.{totals-not_past}
 use Rattle.ropey_tree.proofs.children.Children.choose.Goals as goal
-use Rattle.ropey_tree.proofs.children.Children.choose.Goals.{After-count, After-by}
 
-step : (c : After-count) → Steps c.args.self.now c.loop-k.k c.loop-k.before c.count.result
-step c =
-    let within : c.loop-k.k < length c.args.self.now = omega (arith, c.len-last.ensures.value) in
-    steps c.args.self.now c.loop-k.k c.loop-k.before c.count.result within c.requires.fits c.loop-k.invariant.0 (c.count.ensures no_view)
-
-pub plus-through-requires-clause-bytes : goal.plus-through-requires-clause-bytes
-plus-through-requires-clause-bytes c = (step c).bytes
-
-pub plus-through-requires-clause-chars : goal.plus-through-requires-clause-chars
-plus-through-requires-clause-chars c = (step c).chars
-
-pub plus-through-requires-clause-units : goal.plus-through-requires-clause-units
-plus-through-requires-clause-units c = (step c).units
-
-pub plus-through-requires-clause-breaks : goal.plus-through-requires-clause-breaks
-plus-through-requires-clause-breaks c = (step c).breaks
-
-pub returns-then-i-by-clause-passed : goal.returns-then-i-by-clause-passed
-returns-then-i-by-clause-passed c =
-    let s = step (goal.at.returns-then-i-by-clause-passed c).After-count in
-    let is = c.by.ensures ∙ ap (amount c.args.by) (c.plus-through.ensures ∙ s.is) in
-    inl (omega (arith, is, c.if-i-by.true))
-
-pub loop-k-preserved : goal.loop-k-preserved
-loop-k-preserved c =
-    let s = step (goal.at.loop-k-preserved c).After-count in
-    (c.plus-through.ensures ∙ s.is, omega (arith, c.by.ensures, c.if-i-by.false))
+pub returns-clause-not_past : goal.returns-clause-not_past
+returns-clause-not_past c =
+    let k = c.find-index.result in
+    let h = c.self.invariant.counted in
+    let within : k ≤ length (there (shown c.self.inside.nodes)) = omega (arith, c.find-index.ensures.within, h.number) in
+    let low = totals-not_past (there (shown c.self.inside.nodes)) c.self.inside.totals c.args.by c.args.i k h within c.find-index.ensures.not_past in
+    let is = c.before-2.ensures ∙ ap (λ vs. total (all_pieces (take k vs))) (sym c.self.view_is) in
+    omega (arith, ap (amount c.args.by) is, low)
