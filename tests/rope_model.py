@@ -61,6 +61,14 @@ def range_refusal(name, length, start, end):
     return None
 
 
+def byte_range_refusal(data, start, end):
+    """Why a range of a text's bytes is refused, if it is."""
+    why = range_refusal("Byte", len(data), start, end)
+    if why is None and any(0x80 <= data[place] < 0xC0 for place in (start, end) if place is not None and place < len(data)):
+        return refused("ByteRangeNotCharBoundary", option(start), option(end))
+    return why
+
+
 class Text:
     """A text, and the bytes, the units and the lines before each of its characters and at its end."""
 

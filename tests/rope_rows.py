@@ -3,7 +3,7 @@
 A row is a line that is sent, and what is due: a line, or a call that tells what is wrong with one.
 """
 from harness import ROPE_PROGRAM, differences, end_of, open_input, start, test
-from rope_model import MOST_BYTES, Cut, hexed, lengths, ok, range_refusal, refused, text_of
+from rope_model import MOST_BYTES, Cut, byte_range_refusal, hexed, lengths, ok, range_refusal, refused, text_of
 
 BATCH = 20_000  # how many rows go into one run
 
@@ -167,7 +167,7 @@ class RopeRow:
             return f"Err({error})"
         self.pieces, text = None, self.text
         if name != "clone":
-            self.least = 980 if name in ("shrink_to_fit", "slice") else min(self.least, 462)
+            self.least = 980 if name in ("shrink_to_fit", "slice", "build") else min(self.least, 462)
         if "insert" in name:
             other = bytes.fromhex(arguments[1]).decode()
             other, at = other[:1] if "char" in name else other, int(arguments[0])
@@ -175,6 +175,11 @@ class RopeRow:
         elif "remove" in name:
             start, end = self.ends(arguments)
             self.text = text[: start or 0] + text[len(text) if end is None else end :]
+        elif "replace" in name:
+            self.text = self.replaced(name, *self.ends(arguments[:2]), bytes.fromhex(arguments[2]))
+        elif name == "build":
+            self.text = text[: int(arguments[0])] + text[int(arguments[1]) :]
+            return ok(len(self.text.encode()))
         elif "split_off" in name:
             at = int(arguments[0])
             self.text = text[:at]
@@ -190,19 +195,28 @@ class RopeRow:
             self.text, self.kept[-1], self.least = self.kept[-1], text, 0
         return ok("()")
 
+    def replaced(self, name, start, end, other):
+        """The text with another one in the place of a range of characters or of bytes."""
+        if "byte" in name:
+            data = self.text.encode()
+            return (data[: start or 0] + other + data[len(data) if end is None else end :]).decode()
+        return self.text[: start or 0] + other.decode() + self.text[len(self.text) if end is None else end :]
+
     def ends(self, arguments):
         return [int(argument) if argument else None for argument in arguments]
 
     def refusal(self, name, arguments):
         """Why an edit is refused, if it is."""
-        if "remove" in name:
-            return range_refusal("Char", len(self.text), *self.ends(arguments))
+        if "byte_replace" in name:
+            return byte_range_refusal(self.text.encode(), *self.ends(arguments[:2]))
+        if "remove" in name or "replace" in name:
+            return range_refusal("Char", len(self.text), *self.ends(arguments[:2]))
         if "insert" in name or "split_off" in name:
             at = int(arguments[0])
             return refused("CharIndexOutOfBounds", at, len(self.text)) if at > len(self.text) else None
         # What the program answers where no rope is kept, or a slice doesn't lie in the text.
         if name in ("append", "swap") and not self.kept:
             return "Size"
-        if name == "slice" and int(arguments[1]) > len(self.text):
+        if name in ("slice", "build") and max(map(int, arguments)) > len(self.text):
             return "Size"
         return None

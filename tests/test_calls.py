@@ -14,6 +14,7 @@ PARTS = [
 ]
 NO_MEMORY = b"no memory\n"
 ASKED = ["cut", "text"]
+EDITS = {"try_insert", "try_remove", "try_split_off", "try_replace", "build"}
 
 
 def runs_of(line):
@@ -78,7 +79,8 @@ def check_copy(pieces):
 def edits_of(text):
     half, third = len(text) // 2, (len(text) + 3 - (len(text) // 2 - len(text) // 4)) // 3
     asks = [f"try_insert,{half},{hexed(chr(10) + 'é' + chr(13))}", f"try_remove,{half // 2},{half}"]
-    return asks + [f"try_split_off,{third}", "append", *ASKED, "insert_char,0,c3a9", "clone", *ASKED]
+    asks += [f"try_split_off,{third}", "append", *ASKED, "insert_char,0,c3a9", "clone", *ASKED]
+    return asks + [f"try_replace,{third},{half},{hexed('é' * 400)}", *ASKED, f"build,{half // 2},{third}", *ASKED]
 
 
 def test_all():
@@ -92,7 +94,7 @@ def test_all():
         check_row(f"a rope of {name}", RopeRow("from_chunks", parts, ASKED), {"from_chunks"} if text else set())
     for parts in PARTS[1:]:
         text, name = "".join(parts), f"{short('|'.join(parts), 30)!r}"
-        check_row(f"edits of {name}", RopeRow("from_chunks", parts, edits_of(text)), {"try_insert", "try_remove", "try_split_off"})
+        check_row(f"edits of {name}", RopeRow("from_chunks", parts, edits_of(text)), EDITS)
         check_row(f"a rope of a slice of {name}", RopeRow("from_chunks", parts, [f"slice,1,{len(text)}", *ASKED]), {"slice"})
         check_row(f"a rope that is shrunk, of {name}", RopeRow("from_chunks", parts, ["shrink_to_fit", *ASKED]), {"shrink_to_fit"})
         check_row(f"a rope that is read, of {name}", RopeRow("from_reader", [text], ASKED), {"from_reader"})

@@ -34,6 +34,21 @@ EDITS = [
      ["Ok(())", "Ok(())", "Ok(())", hexed("baせé🐸\r\n"), "Ok(())", "Ok(())", "Ok(())", hexed("cbaせeé🐸\r\nd"), "16 10 11 2",
       "Ok(())", hexed("cせeé🐸\r\nd"), "Ok(())", "Ok(())", "Ok(())", hexed("cせe"), "Ok(())", "Ok(())", "0 0 0 1", "Ok(())",
       hexed("cせeé🐸\r\nd"), "true true Equal"]),
+    # A text in the place of a range of characters or of bytes; and a range is refused before anything is done.
+    ("aé\r\n🐸", ["replace,1,3,7879", "text", "lengths", "try_replace,1,9,61", "try_replace,3,2,61", "try_replace,6,,61",
+                  "try_byte_replace,2,5,62", "try_byte_replace,9,9,62", "try_byte_replace,4,3,62", "try_byte_replace,5,8,62",
+                  "text", "byte_replace,1,3,0d", "text", "lengths", "try_byte_replace,3,,c3a9", "text", "try_replace,,1,",
+                  "text", "try_replace,,,f09f90b80a", "text", "try_byte_replace,1,4,", "try_byte_replace,,4,", "lengths"],
+     ["Ok(())", hexed("axy\n🐸"), "8 5 6 2", "Err(CharRangeOutOfBounds(Some(1), Some(9), 5))", "Err(CharRangeInvalid(3, 2))",
+      "Err(CharRangeOutOfBounds(Some(6), None, 5))", "Err(ByteRangeNotCharBoundary(Some(2), Some(5)))",
+      "Err(ByteRangeOutOfBounds(Some(9), Some(9), 8))", "Err(ByteRangeInvalid(4, 3))",
+      "Err(ByteRangeNotCharBoundary(Some(5), Some(8)))", hexed("axy\n🐸"), "Ok(())", hexed("a\r\n🐸"), "7 4 5 2", "Ok(())",
+      hexed("a\r\né"), "Ok(())", hexed("\r\né"), "Ok(())", hexed("🐸\n"), "Err(ByteRangeNotCharBoundary(Some(1), Some(4)))",
+      "Ok(())", "1 1 1 2"]),
+    # What a builder is given by slices: the text up to one character, and that from another one on.
+    ("aé\r\n🐸", ["build,3,3", "text", "build,2,3", "text", "cut", "build,4,0", "text", "same", "build,0,8", "lengths"],
+     ["Ok(9)", hexed("aé\r\n🐸"), "Ok(8)", hexed("aé\n🐸"), "8 984", "Ok(16)", hexed("aé\n🐸aé\n🐸"), "true true Equal", "Ok(0)",
+      "0 0 0 1"]),
 ]  # fmt: skip
 
 
@@ -101,8 +116,8 @@ def made_ropes():
 
 
 def small_edits():
-    """Each insertion into a short text and its removal, each removal, and each split that is appended again. A clone
-    of the text stays as it is."""
+    """Each insertion into a short text and its removal, each removal and each replacement, and each split that is
+    appended again. A clone of the text stays as it is."""
     others = [other for length in range(3) for other in small_texts("\r\na", length)]
     for length in range(5):
         for text in small_texts("\r\na", length):
@@ -112,6 +127,9 @@ def small_edits():
                 asks += ["clone", insert, "text", "lengths", f"try_remove,{at},{at + len(other)}", "text", "lengths", "swap"]
             for start, end in pairs(length):
                 asks += ["clone", f"remove,{start},{end}", "text", "lengths", "same", "swap"]
+                asks += ["clone", f"build,{start},{end}", "cut", "text", "swap"]
+                for other, name in itertools.product(others, ("replace", "byte_replace")):
+                    asks += ["clone", f"{name},{start},{end},{hexed(other)}", "text", "lengths", "swap"]
             for at in range(length + 1):
                 asks += ["clone", f"split_off,{at}", "text", "append", "text", "lengths", "swap"]
             yield RopeRow("from_str", [text], [*asks, "text", "lengths"]).row()
@@ -124,6 +142,7 @@ def seams():
         for other, at in itertools.product(("\r", "\n", "\r\n", "\n\r", "x"), range(980, 987)):
             asks += ["clone", f"try_insert,{at},{hexed(other)}", "cut", "text", "same", "swap"]
             asks += ["clone", f"try_remove,982,{max(at, 982)}", "cut", "text", f"try_split_off,{at}", "append", "cut", "text", "swap"]
+            asks += ["clone", f"try_replace,982,{max(at, 982)},{hexed(other)}", "cut", "text", "same", "swap"]
         yield RopeRow("from_str", ["b" * letters + small + "b" * 1_000], [*asks, "text"]).row()
 
 
@@ -134,6 +153,9 @@ def edits_of_many_chunks():
     for at in (0, 1, 3, 983, 984, 10_003, 19_999, 20_000):
         asks += ["clone", f"try_insert,{at},{hexed(other)}", "cut", "text", "same", f"try_remove,{at},{at + 5_000}", "cut", "text"]
         asks += [f"try_split_off,{at}", "swap", "append", "cut", "text", "swap"]
+        for end, size in itertools.product((at, at + 3, at + 1_200), (0, 3, 1_200, 5_000)):
+            asks += ["clone", f"try_byte_replace,{at},{min(end, 20_000)},{hexed(other[:size])}", "cut", "text", "same", "swap"]
+        asks += ["clone", f"build,{at},{at}", "cut", "text", "same", "swap"]
     yield RopeRow("from_str", [text], [*asks, "text"]).row()
 
 
@@ -151,22 +173,31 @@ def looks(chance, size):
 
 
 def random_edits(seed, count, most, units, every, sizes):
-    """Edits drawn by lot: four of seven insert, two remove, and one splits and appends. So often the rope is compared
-    with its text, looked into, and a clone kept, which is compared at the end."""
+    """Edits drawn by lot: four of nine insert, two remove, two replace, and one splits and appends. So often the rope is
+    compared with its text, looked into, and a clone kept, which is compared at the end."""
     chance = random.Random(seed)
-    size, asks, kept = 0, [], 0
+    text, asks, kept = "", [], 0
     for turn in range(count):
-        at, kind = chance.randint(0, size), chance.randint(0, 6)
+        size = len(text)
+        at, kind = chance.randint(0, size), chance.randint(0, 8)
         other = chance.choice(units) * chance.choice(sizes)(chance)
+        end = min(at + len(other), size)
         if kind < 4 and size < most:
             asks.append(f"{chance.choice(('insert', 'try_insert'))},{at},{hexed(other)}")
-            size += len(other)
+            text = text[:at] + other + text[at:]
         elif kind < 6:
-            end = min(at + len(other), size)
             asks.append(f"{chance.choice(('remove', 'try_remove'))},{at},{end}")
-            size -= end - at
+            text = text[:at] + text[end:]
+        elif kind < 8:
+            start, other = at, other if kind == 6 else chance.choice(units) * chance.choice(sizes)(chance)
+            name, asked = chance.choice(("replace", "try_replace", "byte_replace", "try_byte_replace")), (start, end)
+            if "byte" in name:
+                asked = [len(text[:place].encode()) for place in asked]
+            asks.append(f"{name},{asked[0]},{asked[1]},{hexed(other)}")
+            text = text[:start] + other + text[end:]
         else:
             asks += [f"{chance.choice(('split_off', 'try_split_off'))},{at}", "append"]
+        size = len(text)
         if turn % every == 0:
             asks += looks(chance, size) + ["text"]
         if turn % (10 * every) == 0:

@@ -97,6 +97,10 @@ impl Ropes {
             "places" => tell_places!(rope, number(first)?, out)?,
             "chunk" => self.tell_chunks(number(first)?, out)?,
             "parts" => self.tell_all_parts(number(first)?, number(second)?, out)?,
+            "build" => {
+                let outcome = self.build(alloc, number(first)?, number(second)?);
+                write!(out, "{outcome:?}")?;
+            }
             "bytes"
             | "chars"
             | "lines"
@@ -171,6 +175,16 @@ impl Ropes {
             }
             "remove" => Ok(self.remove(number(first)?, number(second)?)),
             "try_remove" => self.try_remove(first, second),
+            "replace" | "byte_replace" => {
+                let (end, other) = second.split_once(',').unwrap_or((second, ""));
+                let other = text(alloc, other)?;
+                Ok(self.replace(name, number(first)?, number(end)?, &other))
+            }
+            "try_replace" | "try_byte_replace" => {
+                let (end, other) = second.split_once(',').unwrap_or((second, ""));
+                let other = text(alloc, other)?;
+                self.try_replace(name, first, end, &other)
+            }
             "split_off" | "try_split_off" => Ok(self.split_off(name, number(first)?)),
             "slice" => Ok(self.slice(alloc, number(first)?, number(second)?)),
             "shrink_to_fit" => Ok(self.rope.shrink_to_fit()),
@@ -209,6 +223,57 @@ impl Ropes {
             ("", end) => self.rope.try_remove(..number(end)?),
             (start, end) => self.rope.try_remove(number(start)?..number(end)?),
         })
+    }
+
+    /// Replaces a range that lies in the text and cuts no character.
+    fn replace(&mut self, name: &str, start: usize, end: usize, other: &str) -> Result<(), Error> {
+        if name == "replace" {
+            if start > end || end > self.rope.len_chars() {
+                return Err(Error::Size);
+            }
+            return self.rope.replace(start..end, other);
+        }
+        if self.rope.get_byte_slice(start..end).is_none() {
+            return Err(Error::Size);
+        }
+        self.rope.byte_replace(start..end, other)
+    }
+
+    /// Replaces a range, which may be open.
+    fn try_replace(
+        &mut self,
+        name: &str,
+        start: &str,
+        end: &str,
+        other: &str,
+    ) -> Result<Result<(), Error>, Fault> {
+        Ok(match (name == "try_replace", start, end) {
+            (true, "", "") => self.rope.try_replace(.., other),
+            (true, start, "") => self.rope.try_replace(number(start)?.., other),
+            (true, "", end) => self.rope.try_replace(..number(end)?, other),
+            (true, start, end) => self.rope.try_replace(number(start)?..number(end)?, other),
+            (false, "", "") => self.rope.try_byte_replace(.., other),
+            (false, start, "") => self.rope.try_byte_replace(number(start)?.., other),
+            (false, "", end) => self.rope.try_byte_replace(..number(end)?, other),
+            (false, start, end) => self
+                .rope
+                .try_byte_replace(number(start)?..number(end)?, other),
+        })
+    }
+
+    /// Goes on with a rope that is built of the text up to a character and then of that from
+    /// another one on, and answers how many bytes the builder had.
+    fn build(&mut self, alloc: Global, end: usize, start: usize) -> Result<usize, Error> {
+        let (Some(front), Some(back)) = (self.rope.get_slice(..end), self.rope.get_slice(start..))
+        else {
+            return Err(Error::Size);
+        };
+        let mut builder = RopeBuilder::new(alloc);
+        builder.append_slice(front)?;
+        builder.append_slice(back)?;
+        let len = builder.len_bytes();
+        self.rope = builder.finish()?;
+        Ok(len)
     }
 
     /// Keeps what stands from a character on.

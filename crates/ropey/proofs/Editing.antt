@@ -1,22 +1,22 @@
 -- Edits by byte indices, and what they are by characters.
-use Rattle.std.proofs.Common.{◌≡◌, ℕ, ◌+◌, ◌-◌, ◌<◌, ◌≤◌, ◌^◌, List, [], ◌∷◌, ◌++◌, length, take, drop, refl, ap, sym, subst, ◌∙◌, arith, append_assoc, take-append-drop, length-append, length-take-le}
+use Rattle.std.proofs.Common.{◌≡◌, ℕ, ◌+◌, ◌-◌, ◌≤◌, true, List, [], ◌∷◌, ◌++◌, length, take, drop, refl, ap, sym, subst, ◌∙◌, arith, append_assoc, take-append-drop, length-append, length-take-le}
 use Rattle.std.specs.List.{concat}
-use Rattle.std.specs.Prelude.{Result, Ok, Err, OnOk, IfOk, encode_utf8}
-use Rattle.std.specs.Str.{chars, IsUtf8}
-use Rattle.std.proofs.lemmas.List.{append-nil, take-take, take_at, drop_at}
+use Rattle.std.specs.Prelude.{Result, Ok, Err, OnOk, IfOk, encode_utf8, encode_utf8_all}
+use Rattle.std.specs.Str.{all_scalars, chars, IsUtf8, IsCharBoundary}
+use Rattle.std.proofs.lemmas.Bool.{and_parts, and_from}
+use Rattle.std.proofs.lemmas.List.{append-nil, nil_from_length, take-take, take_at, drop_at}
 use Rattle.std.proofs.lemmas.List.Folds.{concat-append}
-use Rattle.std.proofs.lemmas.Str.{length-le-encodes, chars_from_encodes}
+use Rattle.std.proofs.lemmas.Str.{length-le-encodes, chars_from_encodes, chars-encodes, encodes-chars, chars-append, encodes-append, IsUtf8-take}
 use Rattle.str_indices.specs.Text.{byte_len}
-use Rattle.ropey_tree.specs.Counts.{total}
-use Rattle.ropey_tree.specs.Cutting.{IsText, IsBoundaryOf}
+use Rattle.ropey_tree.specs.Cutting.{IsCutting, IsText, IsBoundaryOf}
 use Rattle.ropey_tree.specs.Edits.{IsReplaced, IsEdited}
 use Rattle.ropey_tree.specs.NodeView.{NodeView}
 use Rattle.ropey_tree.specs.Splits.{IsSplit}
 use Rattle.ropey_walk.specs.Conversions.{byte_of_char}
 use Rattle.ropey_walk.specs.Laws.{StartsBehindOthers}
 use Rattle.ropey.specs.Chunks.{text_of}
-use Rattle.ropey.specs.Edits.{with_inserted, with_removed}
-use Rattle.ropey.proofs.Pieces.{byte_len-append, bytes-concat}
+use Rattle.ropey.specs.Edits.{with_inserted, with_removed, with_replaced}
+use Rattle.ropey.proofs.Pieces.{byte_len-append, bytes-concat, first_piece, rest_cut}
 
 -- ---- two ways to cut a text in two
 some_bytes : (c : ℕ) (cs : List ℕ) → 1 ≤ byte_len (c ∷ cs)
@@ -74,12 +74,84 @@ inserted_is t k at text new e h =
     let none : take k t ++ [] ≡ take k t = append-nil (take k t) in
     replaced_is (take k t) [] (drop k t) text t new at at (sym (take-append-drop k t) ∙ ap (λ f. f ++ drop k t) (sym none)) (sym e) (ap byte_len none ∙ sym e) h
 
-pub removed_is : (t : List ℕ) (s e from to : ℕ) (new : List ℕ) → s ≤ e → from ≡ byte_len (take s t) → to ≡ byte_len (take e t) → IsReplaced t from to [] new → new ≡ with_removed t s e
-removed_is t s e from to new order starts ends h =
+pub chars_replaced : (t : List ℕ) (s e from to : ℕ) (text new : List ℕ) → s ≤ e → from ≡ byte_len (take s t) → to ≡ byte_len (take e t) → IsReplaced t from to text new → new ≡ with_replaced t s e text
+chars_replaced t s e from to text new order starts ends h =
     let mid = drop s (take e t) in
     let front : take s t ++ mid ≡ take e t = ap (λ f. f ++ mid) (sym (take-take s e t order)) ∙ take-append-drop s (take e t) in
-    replaced_is (take s t) mid (drop e t) [] t new from to (sym (take-append-drop e t) ∙ ap (λ f. f ++ drop e t) (sym front)) (sym starts) (ap byte_len front ∙ sym ends) h
-    ∙ ap (λ f. f ++ drop e t) (append-nil (take s t))
+    replaced_is (take s t) mid (drop e t) text t new from to (sym (take-append-drop e t) ∙ ap (λ f. f ++ drop e t) (sym front)) (sym starts) (ap byte_len front ∙ sym ends) h
+
+-- what it has in bytes
+pub replaced_len : (t : List ℕ) (s e : ℕ) (text : List ℕ) → s ≤ e → byte_len (with_replaced t s e text) ≡ byte_len t - (byte_len (take e t) - byte_len (take s t)) + byte_len text
+replaced_len t s e text order =
+    let mid = drop s (take e t) in
+    let front : take s t ++ mid ≡ take e t = ap (λ f. f ++ mid) (sym (take-take s e t order)) ∙ take-append-drop s (take e t) in
+    omega (
+      arith,
+      ap byte_len front,
+      byte_len-append (take s t) mid,
+      ap byte_len (take-append-drop e t),
+      byte_len-append (take e t) (drop e t),
+      byte_len-append (take s t ++ text) (drop e t),
+      byte_len-append (take s t) text,
+    )
+
+-- an empty text in the place of others removes them
+pub removes : (t : List ℕ) (s e : ℕ) (text : List ℕ) → text ≡ [] → with_replaced t s e text ≡ with_removed t s e
+removes t s e text none = ap (λ f. f ++ drop e t) (ap (λ x. take s t ++ x) none ∙ append-nil (take s t))
+
+-- ---- bytes
+pub place_within : (t : List ℕ) (at : ℕ) → IsBoundaryOf t at → at ≤ byte_len t
+place_within t at h = omega (arith, ap byte_len h.parts, byte_len-append h.front h.back, h.place)
+
+pub boundary_between : (t : List ℕ) (at : ℕ) → all_scalars t ≡ true → IsCharBoundary (encode_utf8_all t) at → IsBoundaryOf t at
+boundary_between t at scalars boundary =
+    let bytes = encode_utf8_all t in
+    let utf8 : IsUtf8 bytes = (t, (scalars, refl)) in
+    let front_utf8 = IsUtf8-take bytes at utf8 boundary in
+    record {
+      front = chars (take at bytes);
+      back = chars (drop at bytes);
+      parts = sym (chars-encodes t scalars) ∙ ap chars (sym (take-append-drop at bytes)) ∙ chars-append (take at bytes) (drop at bytes) front_utf8;
+      place = ap length (encodes-chars (take at bytes) front_utf8) ∙ length-take-le at bytes boundary.0;
+    }
+
+pub bytes_replaced : (t bytes new : List ℕ) (from to : ℕ) → IsUtf8 bytes → IsReplaced t from to (chars bytes) new
+    → encode_utf8_all new ≡ with_replaced (encode_utf8_all t) from to bytes
+bytes_replaced t bytes new from to utf8 h =
+    let front = encode_utf8_all h.front in
+    let gone = encode_utf8_all (h.front ++ h.gone) in
+    let back = encode_utf8_all h.back in
+    let old : encode_utf8_all t ≡ gone ++ back = ap encode_utf8_all h.old_is ∙ encodes-append (h.front ++ h.gone) h.back in
+    let longer : gone ++ back ≡ front ++ (encode_utf8_all h.gone ++ back) = ap (λ f. f ++ back) (encodes-append h.front h.gone) ∙ append_assoc front (encode_utf8_all h.gone) back in
+    let first : take from (encode_utf8_all t) ≡ front = ap (take from) (old ∙ longer) ∙ take_at front (encode_utf8_all h.gone ++ back) from h.starts in
+    let last : drop to (encode_utf8_all t) ≡ back = ap (drop to) old ∙ drop_at gone back to h.ends in
+    ap encode_utf8_all h.new_is ∙ encodes-append (h.front ++ chars bytes) h.back
+    ∙ ap (λ f. f ++ back) (encodes-append h.front (chars bytes) ∙ ap (λ b. front ++ b) (encodes-chars bytes utf8) ∙ ap (λ f. f ++ bytes) (sym first))
+    ∙ ap (λ b. take from (encode_utf8_all t) ++ bytes ++ b) (sym last)
+
+-- so many bytes
+pub bytes_len : (bytes new : List ℕ) (from to : ℕ) → from ≤ to → to ≤ length bytes → length (with_replaced bytes from to new) ≡ length bytes - (to - from) + length new
+bytes_len bytes new from to order within =
+    omega (
+      arith,
+      length-append (take from bytes ++ new) (drop to bytes),
+      length-append (take from bytes) new,
+      length-take-le from bytes (omega (arith, order, within)),
+      length-append (take to bytes) (drop to bytes),
+      ap length (take-append-drop to bytes),
+      length-take-le to bytes within,
+    )
+
+-- the texts of a cutting are of scalar values
+pub cutting_scalars : (ps : List (List ℕ)) → IsCutting ps → all_scalars (concat ps) ≡ true
+cutting_scalars [] h = refl
+cutting_scalars (p ∷ ps) h = both p (concat ps) (first_piece p ps h).scalars (cutting_scalars ps (rest_cut p ps h))
+  where
+    both : (s t : List ℕ) → all_scalars s ≡ true → all_scalars t ≡ true → all_scalars (s ++ t) ≡ true
+    both [] t h k = k
+    both (c ∷ cs) t h k =
+        let parts = and_parts _ _ h in
+        and_from _ _ parts.0 (both cs t parts.1 k)
 
 -- ---- by one leaf
 regroup : (a f g b r : List ℕ) → a ++ ((f ++ g ++ b) ++ r) ≡ a ++ f ++ g ++ (b ++ r)
@@ -109,20 +181,6 @@ appended_is t text new at e h =
     replaced_is t [] [] text t new at at (sym none ∙ sym (append-nil (t ++ []))) (sym e) (ap byte_len none ∙ sym e) h ∙ append-nil (t ++ text)
 
 -- ---- by splits
-pub inserted_text : (ps l r : List (List ℕ)) (at : ℕ) (text longer new : List ℕ) → IsSplit ps at l r → longer ≡ concat l ++ text → new ≡ longer ++ concat r → IsReplaced (concat ps) at at text new
-inserted_text ps l r at text longer new h front whole =
-    let none : concat l ++ [] ≡ concat l = append-nil (concat l) in
-    let place : byte_len (concat l) ≡ at = sym (bytes-concat l) ∙ h.place in
-    record {
-      front = concat l;
-      gone = [];
-      back = concat r;
-      old_is = sym h.text ∙ ap (λ f. f ++ concat r) (sym none);
-      new_is = whole ∙ ap (λ f. f ++ concat r) front;
-      starts = place;
-      ends = ap byte_len none ∙ place;
-    }
-
 pub removed_text : (ps l r l' r' : List (List ℕ)) (from to : ℕ) (new : List ℕ) → from ≤ to → IsSplit ps from l r → IsSplit ps to l' r' → new ≡ concat l ++ concat r' → IsReplaced (concat ps) from to [] new
 removed_text ps l r l' r' from to new order first second whole =
     let place : byte_len (concat l) ≡ from = sym (bytes-concat l) ∙ first.place in
@@ -138,13 +196,57 @@ removed_text ps l r l' r' from to new order first second whole =
       ends = ap byte_len (sym parts.front_is) ∙ place';
     }
 
--- a removal puts the empty text in
 pub no_chars : chars [] ≡ []
 unfolding chars
 no_chars = refl
 
-pub removed_fits : (ps : List (List ℕ)) → byte_len (text_of ps) < 2 ^ 63 → (total ps).bytes + byte_len (chars []) < 2 ^ 63
-removed_fits ps h = omega (arith, bytes-concat ps, h, ap byte_len no_chars)
+pub chars_of_none : (bytes : List ℕ) → length bytes ≡ 0 → chars bytes ≡ []
+chars_of_none bytes none = ap chars (nil_from_length bytes none) ∙ no_chars
+
+-- what stands before and behind what goes, and a text between them
+pub record IsAround (t : List ℕ) (from to : ℕ) (l r : List ℕ) : Type 0 where
+  pub gone : IsReplaced t from to [] (l ++ r)
+  pub place : byte_len l ≡ from
+
+pub around_fits : (t l r : List ℕ) (from to : ℕ) → from ≤ to → IsAround t from to l r → byte_len t - (to - from) ≡ byte_len l + byte_len r
+around_fits t l r from to order h =
+    let g = h.gone in
+    let none : byte_len (g.front ++ []) ≡ byte_len g.front = ap byte_len (append-nil g.front) in
+    omega (
+      arith,
+      order,
+      g.starts,
+      g.ends,
+      none,
+      ap byte_len g.old_is,
+      ap byte_len g.new_is,
+      byte_len-append (g.front ++ g.gone) g.back,
+      byte_len-append (g.front ++ []) g.back,
+      byte_len-append l r,
+    )
+
+pub put_between : (t l r text longer new : List ℕ) (from to : ℕ) → IsAround t from to l r → longer ≡ l ++ text → new ≡ longer ++ r → IsReplaced t from to text new
+put_between t l r text longer new from to h front whole =
+    let g = h.gone in
+    let parts : g.front ++ g.back ≡ l ++ r = ap (λ f. f ++ g.back) (sym (append-nil g.front)) ∙ sym g.new_is in
+    let same = same_front g.front g.back l r parts (g.starts ∙ sym h.place) in
+    record {
+      front = g.front;
+      gone = g.gone;
+      back = g.back;
+      old_is = g.old_is;
+      new_is = whole ∙ ap (λ f. f ++ r) (front ∙ ap (λ f. f ++ text) (sym same.0)) ∙ ap (λ b. g.front ++ text ++ b) (sym same.1);
+      starts = g.starts;
+      ends = g.ends;
+    }
+
+-- in no text
+pub replaced_none : (ps : List (List ℕ)) (from to : ℕ) (text new : List ℕ) → ps ≡ [] → IsBoundaryOf (text_of ps) from → IsBoundaryOf (text_of ps) to → new ≡ text → IsReplaced (text_of ps) from to text new
+replaced_none ps from to text new none first last is =
+    let empty : text_of ps ≡ [] = ap text_of none in
+    let start : 0 ≡ from = omega (arith, ap byte_len empty, ap byte_len first.parts, byte_len-append first.front first.back, first.place) in
+    let end : 0 ≡ to = omega (arith, ap byte_len empty, ap byte_len last.parts, byte_len-append last.front last.back, last.place) in
+    record { front = []; gone = []; back = []; old_is = empty; new_is = is ∙ sym (append-nil text); starts = start; ends = end }
 
 -- of no text both halves are none
 pub no_halves : (ps : List (List ℕ)) (at : ℕ) → ps ≡ [] → IsBoundaryOf (text_of ps) at → IsSplit ps at [] []

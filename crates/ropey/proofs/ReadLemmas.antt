@@ -1,5 +1,5 @@
 -- Bytes that are read behind others, and the text that is taken from their front.
-use Rattle.std.proofs.Common.{◌≡◌, ℕ, zero, suc, ◌+◌, ◌-◌, ◌^◌, ◌<◌, ◌≤◌, inl, inr, true, List, [], ◌∷◌, ◌++◌, length, take, drop, Option, refl, ap, sym, ◌∙◌, subst, arith, append-nil, append_assoc, IsUtf8, length-append, length-take-le}
+use Rattle.std.proofs.Common.{◌≡◌, ℕ, zero, suc, ◌+◌, ◌-◌, ◌^◌, ◌<◌, ◌≤◌, inl, inr, true, List, [], ◌++◌, length, take, drop, Option, refl, ap, sym, ◌∙◌, subst, arith, append-nil, append_assoc, IsUtf8, length-append, length-take-le}
 use Rattle.std.specs.Prelude.{nat_lt, MatchBool, encode_utf8_all}
 use Rattle.std.specs.Io.KnownBytes.{Consumes, Keeps, IsAtEnd}
 use Rattle.std.specs.Str.{chars}

@@ -1,7 +1,7 @@
-//! Edits of a rope: a text is inserted, a range is removed, the text is split in two, another one
-//! is appended.
+//! Edits of a rope: a text is inserted, a range is removed, a text takes the place of a range, the
+//! text is split in two, another one is appended.
 //!
-//! Indices count characters. The plain form has its index or its range inside the text as its
+//! Indices count characters, but bytes where a name says so. The plain form has its index or its range inside the text as its
 //! condition; the `try_` form refuses it exactly where it isn't. After any refusal the rope is the
 //! very same, its chunks too. A place may lie between a CR and an LF, and a CR and an LF that come
 //! to lie side by side are one break. No edit changes another rope, also not a clone.
@@ -11,18 +11,19 @@
 //! `O(log n)`; chunks that meet and fit into one become one, and each but the first and the last
 //! keeps 462 bytes or more.
 
-ghost use Rattle.std.specs.Prelude.{◌≡◌, ◌+◌, ◌^◌, ◌<◌, ◌≤◌, ◌⊎◌, ◌↔◌, [], ◌∷◌, ◌++◌, length, take, drop, Err, OnOk, OnErr, IfOk, IfErr};
+ghost use Rattle.std.specs.Prelude.{◌≡◌, ◌+◌, ◌-◌, ◌^◌, ◌<◌, ◌≤◌, ◌⊎◌, ◌↔◌, [], ◌∷◌, ◌++◌, length, take, drop, Err, OnOk, OnErr, IfOk, IfErr};
 ghost use Rattle.std.specs.Char.{len_utf8};
-ghost use Rattle.std.specs.Str.{chars};
+ghost use Rattle.std.specs.Str.{chars, IsCharBoundary};
 ghost use Rattle.str_indices.specs.Text.{byte_len};
 ghost use Rattle.ropey_tree.specs.Cutting.{IsBoundaryOf};
-ghost use Rattle.ropey_tree.specs.Edits.{IsReplaced};
-ghost use Rattle.ropey_walk.specs.Ranges.{start_of, end_of, IsRangeIn, RefusesChars};
+ghost use Rattle.ropey_walk.specs.Ranges.{start_of, end_of, IsRangeIn, IsByteRangeIn};
+ghost use Rattle.ropey_walk.specs.Ranges.{RefusesChars, RefusesBytes};
 ghost use Rattle.ropey.specs.Chunks.{text_of};
-ghost use Rattle.ropey.specs.Edits.{with_inserted, with_removed};
+ghost use Rattle.ropey.specs.Comparing.{text_bytes};
+ghost use Rattle.ropey.specs.Edits.{with_inserted, with_removed, with_replaced, IsReplaced};
 
 use crate::rope::{MAX_TEXT_BYTES, Rope};
-use crate::trees::{halves_of, inserted, removed};
+use crate::trees::{halves_of, replaced};
 use ropey_tree::error::Error;
 use ropey_tree::seams;
 use ropey_walk::laws;
@@ -30,6 +31,29 @@ use ropey_walk::ranges::TextRange;
 use std::alloc::AllocError;
 
 impl Rope {
+    /// Replaces what stands from one byte index up to another, both between two characters, by a
+    /// text.
+    fn replace_between(&mut self, from: usize, to: usize, text: &str) -> Result<(), Error>
+        requires order { from ≤ to }
+        requires starts { IsBoundaryOf (text_of self.old) from }
+        requires ends { IsBoundaryOf (text_of self.old) to }
+        ensures text { OnOk result (IsReplaced (text_of self.old) from to (chars text.now)
+            (text_of self.new)) }
+        ensures kept { OnErr result (self.new ≡ self.old) }
+        ensures size { (result ≡ Err Error.Size) ↔
+            (2 ^ 63 ≤ byte_len (text_of self.old) - (to - from) + length text.now) }
+        ensures refused { IfErr result (λ error. (error ≡ Error.Size) ⊎ (error ≡ Error.Memory)) }
+    {
+        let kept = self.len_bytes() - (to - from);
+        if text.len() > MAX_TEXT_BYTES - kept {
+            return Err(Error::Size);
+        }
+        let alloc = self.alloc;
+        let root = replaced(alloc, &self.root, from, to, text)?;
+        *self = Rope::of_tree(alloc, root);
+        Ok(())
+    }
+
     /// Inserts a text at a byte index between two characters.
     fn insert_at(&mut self, byte_idx: usize, text: &str) -> Result<(), Error>
         requires { IsBoundaryOf (text_of self.old) byte_idx }
@@ -40,13 +64,7 @@ impl Rope {
             (2 ^ 63 ≤ byte_len (text_of self.old) + length text.now) }
         ensures refused { IfErr result (λ error. (error ≡ Error.Size) ⊎ (error ≡ Error.Memory)) }
     {
-        if text.len() > MAX_TEXT_BYTES - self.len_bytes() {
-            return Err(Error::Size);
-        }
-        let alloc = self.alloc;
-        let root = inserted(alloc, &self.root, byte_idx, text)?;
-        *self = Rope::of_tree(alloc, root);
-        Ok(())
+        self.replace_between(byte_idx, byte_idx, text)
     }
 
     /// Inserts a text before a character, or at the end for `len_chars`. The character index is at
@@ -122,6 +140,37 @@ impl Rope {
         self.try_insert(char_idx, character.encode_utf8(&mut buffer))
     }
 
+    /// The byte indices at which two characters start, or the text's end.
+    fn chars_to_bytes(&self, start: usize, end: usize) -> (usize, usize)
+        requires order { start ≤ end }
+        requires within { end ≤ length (text_of self.now) }
+        ensures start { result.0 ≡ byte_len (take start (text_of self.now)) }
+        ensures end { result.1 ≡ byte_len (take end (text_of self.now)) }
+    {
+        // A law, for the proof alone.
+        laws::chars_start_behind_others();
+        let from = self.char_to_byte(start);
+        if start == end {
+            return (from, from);
+        }
+        (from, self.char_to_byte(end))
+    }
+
+    /// Replaces the characters from one on, up to another, by a text.
+    fn replace_chars(&mut self, start: usize, end: usize, text: &str) -> Result<(), Error>
+        requires order { start ≤ end }
+        requires within { end ≤ length (text_of self.old) }
+        ensures text { OnOk result (text_of self.new ≡
+            with_replaced (text_of self.old) start end (chars text.now)) }
+        ensures kept { OnErr result (self.new ≡ self.old) }
+        ensures size { (result ≡ Err Error.Size) ↔
+            (2 ^ 63 ≤ byte_len (with_replaced (text_of self.old) start end (chars text.now))) }
+        ensures refused { IfErr result (λ error. (error ≡ Error.Size) ⊎ (error ≡ Error.Memory)) }
+    {
+        let (from, to) = self.chars_to_bytes(start, end);
+        self.replace_between(from, to, text)
+    }
+
     /// Removes the characters from one on, up to another.
     fn remove_chars(&mut self, start: usize, end: usize) -> Result<(), Error>
         requires order { start ≤ end }
@@ -131,14 +180,9 @@ impl Rope {
         ensures kept { OnErr result (self.new ≡ self.old) }
         ensures refused { IfErr result (λ error. error ≡ Error.Memory) }
     {
-        // A law, for the proof alone.
-        laws::chars_start_behind_others();
-        let from = self.char_to_byte(start);
-        let to = self.char_to_byte(end);
-        let alloc = self.alloc;
-        let root = removed(alloc, &self.root, from, to)?;
-        *self = Rope::of_tree(alloc, root);
-        Ok(())
+        // For its facts alone.
+        let _ = self.len_bytes();
+        self.replace_chars(start, end, "")
     }
 
     /// Removes a range of characters. It lies inside the text: it starts no later than it ends, and
@@ -172,6 +216,118 @@ impl Rope {
     {
         let (start, end) = self.whole().char_indices(char_range.ends())?;
         self.remove_chars(start, end)
+    }
+
+    /// Replaces a range of characters by a text, in one edit. The range lies inside the text: it
+    /// starts no later than it ends, and ends at most at `len_chars`. The new text stands before
+    /// what stood behind the range; an empty range inserts it, and an empty text removes the range.
+    ///
+    /// `Size` where the text would have more than `isize::MAX` bytes, which is asked first, and
+    /// `Memory`. `O(log n + m)` for a text of m bytes.
+    pub fn replace<R: TextRange>(&mut self, char_range: R, text: &str) -> Result<(), Error>
+        requires { IsRangeIn (length (text_of self.old)) (R.ends char_range) }
+        ensures text { OnOk result (text_of self.new ≡ with_replaced (text_of self.old)
+            (start_of (R.ends char_range))
+            (end_of (R.ends char_range) (length (text_of self.old))) (chars text.now)) }
+        ensures kept { OnErr result (self.new ≡ self.old) }
+        ensures size { (result ≡ Err Error.Size) ↔
+            (2 ^ 63 ≤ byte_len (with_replaced (text_of self.old) (start_of (R.ends char_range))
+            (end_of (R.ends char_range) (length (text_of self.old))) (chars text.now))) }
+        ensures refused { IfErr result (λ error. (error ≡ Error.Size) ⊎ (error ≡ Error.Memory)) }
+    {
+        let ends = char_range.ends();
+        let end = ends.end.unwrap_or(self.len_chars());
+        self.replace_chars(ends.start.unwrap_or(0), end, text)
+    }
+
+    /// `replace`, and a range that doesn't lie inside the text is refused before the size is asked:
+    /// `CharRangeInvalid` where it starts above its end, else `CharRangeOutOfBounds` where it goes
+    /// past `len_chars`.
+    pub fn try_replace<R: TextRange>(&mut self, char_range: R, text: &str) -> Result<(), Error>
+        ensures range { OnOk result (IsRangeIn (length (text_of self.old)) (R.ends char_range)) }
+        ensures text { OnOk result (text_of self.new ≡ with_replaced (text_of self.old)
+            (start_of (R.ends char_range))
+            (end_of (R.ends char_range) (length (text_of self.old))) (chars text.now)) }
+        ensures kept { OnErr result (self.new ≡ self.old) }
+        ensures size { (result ≡ Err Error.Size) ↔
+            (IsRangeIn (length (text_of self.old)) (R.ends char_range) ×
+            (2 ^ 63 ≤ byte_len (with_replaced (text_of self.old) (start_of (R.ends char_range))
+            (end_of (R.ends char_range) (length (text_of self.old))) (chars text.now)))) }
+        ensures refused { IfErr result (λ error.
+            ((¬ (IsRangeIn (length (text_of self.old)) (R.ends char_range))) ×
+            RefusesChars (text_of self.old) (R.ends char_range) error) ⊎
+            (IsRangeIn (length (text_of self.old)) (R.ends char_range) ×
+            ((error ≡ Error.Size) ⊎ (error ≡ Error.Memory)))) }
+    {
+        let (start, end) = self.whole().char_indices(char_range.ends())?;
+        self.replace_chars(start, end, text)
+    }
+
+    /// Replaces the bytes from one on, up to another, both between two characters, by a text.
+    fn replace_bytes(&mut self, start: usize, end: usize, text: &str) -> Result<(), Error>
+        requires order { start ≤ end }
+        requires starts { IsCharBoundary (text_bytes self.old) start }
+        requires ends { IsCharBoundary (text_bytes self.old) end }
+        ensures text { OnOk result (IsReplaced (text_of self.old) start end (chars text.now)
+            (text_of self.new)) }
+        ensures bytes { OnOk result (text_bytes self.new ≡
+            with_replaced (text_bytes self.old) start end text.now) }
+        ensures kept { OnErr result (self.new ≡ self.old) }
+        ensures size { (result ≡ Err Error.Size) ↔
+            (2 ^ 63 ≤ length (with_replaced (text_bytes self.old) start end text.now)) }
+        ensures refused { IfErr result (λ error. (error ≡ Error.Size) ⊎ (error ≡ Error.Memory)) }
+    {
+        // For its facts alone.
+        let _ = self.len_bytes();
+        self.replace_between(start, end, text)
+    }
+
+    /// `replace` of a range of bytes, which neither starts nor ends inside a character: it starts
+    /// no later than it ends, and ends at most at `len_bytes`. Nothing is looked up for it.
+    pub fn byte_replace<R: TextRange>(&mut self, byte_range: R, text: &str) -> Result<(), Error>
+        requires { IsByteRangeIn (text_of self.old) (R.ends byte_range) }
+        ensures text { OnOk result (IsReplaced (text_of self.old) (start_of (R.ends byte_range))
+            (end_of (R.ends byte_range) (byte_len (text_of self.old))) (chars text.now)
+            (text_of self.new)) }
+        ensures bytes { OnOk result (text_bytes self.new ≡ with_replaced (text_bytes self.old)
+            (start_of (R.ends byte_range))
+            (end_of (R.ends byte_range) (byte_len (text_of self.old))) text.now) }
+        ensures kept { OnErr result (self.new ≡ self.old) }
+        ensures size { (result ≡ Err Error.Size) ↔
+            (2 ^ 63 ≤ length (with_replaced (text_bytes self.old) (start_of (R.ends byte_range))
+            (end_of (R.ends byte_range) (byte_len (text_of self.old))) text.now)) }
+        ensures refused { IfErr result (λ error. (error ≡ Error.Size) ⊎ (error ≡ Error.Memory)) }
+    {
+        let ends = byte_range.ends();
+        let end = ends.end.unwrap_or(self.len_bytes());
+        self.replace_bytes(ends.start.unwrap_or(0), end, text)
+    }
+
+    /// `byte_replace`, and a range that doesn't lie inside the text, or cuts a character, is
+    /// refused before the size is asked: `ByteRangeInvalid` where it starts above its end, else
+    /// `ByteRangeOutOfBounds` where it goes past `len_bytes`, else `ByteRangeNotCharBoundary` where
+    /// it starts or ends inside a character.
+    pub fn try_byte_replace<R: TextRange>(&mut self, byte_range: R, text: &str) -> Result<(), Error>
+        ensures range { OnOk result (IsByteRangeIn (text_of self.old) (R.ends byte_range)) }
+        ensures text { OnOk result (IsReplaced (text_of self.old) (start_of (R.ends byte_range))
+            (end_of (R.ends byte_range) (byte_len (text_of self.old))) (chars text.now)
+            (text_of self.new)) }
+        ensures bytes { OnOk result (text_bytes self.new ≡ with_replaced (text_bytes self.old)
+            (start_of (R.ends byte_range))
+            (end_of (R.ends byte_range) (byte_len (text_of self.old))) text.now) }
+        ensures kept { OnErr result (self.new ≡ self.old) }
+        ensures size { (result ≡ Err Error.Size) ↔
+            (IsByteRangeIn (text_of self.old) (R.ends byte_range) ×
+            (2 ^ 63 ≤ length (with_replaced (text_bytes self.old) (start_of (R.ends byte_range))
+            (end_of (R.ends byte_range) (byte_len (text_of self.old))) text.now))) }
+        ensures refused { IfErr result (λ error.
+            ((¬ (IsByteRangeIn (text_of self.old) (R.ends byte_range))) ×
+            RefusesBytes (text_of self.old) (R.ends byte_range) error) ⊎
+            (IsByteRangeIn (text_of self.old) (R.ends byte_range) ×
+            ((error ≡ Error.Size) ⊎ (error ≡ Error.Memory)))) }
+    {
+        let (start, end) = self.whole().byte_indices(byte_range.ends())?;
+        self.replace_bytes(start, end, text)
     }
 
     /// Splits the rope at a byte index between two characters.

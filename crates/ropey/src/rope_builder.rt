@@ -1,13 +1,15 @@
 //! Building a rope from a text that comes in parts.
 
-ghost use Rattle.std.specs.Prelude.{◌≡◌, ◌+◌, ◌^◌, ◌≤◌, ◌⊎◌, ◌↔◌, [], ◌++◌, length, Err, OnErr, OnOk, IfOk, IfErr};
+ghost use Rattle.std.specs.Prelude.{◌≡◌, ℕ, ◌+◌, ◌^◌, ◌<◌, ◌≤◌, ◌⊎◌, ◌↔◌, [], ◌++◌, length, take, Err, OnErr, OnOk, IfOk, IfErr};
 ghost use Rattle.std.specs.Str.{chars};
 ghost use Rattle.str_indices.specs.Text.{byte_len};
+ghost use Rattle.ropey_walk.specs.Slices.{slice_text};
 ghost use Rattle.ropey.specs.Chunks.{AreFull, text_of};
 
 use crate::rope::{MAX_TEXT_BYTES, Rope};
 use ropey_tree::cutter::Cutter;
 use ropey_tree::error::Error;
+use ropey_walk::slice::RopeSlice;
 use std::alloc::Global;
 use std::marker::Model;
 
@@ -56,6 +58,35 @@ impl RopeBuilder {
         self.text.append(text)?;
         self.len += text.len();
         Ok(())
+    }
+
+    /// Appends the text of a slice, chunk by chunk. `Size` where there would be more than
+    /// `isize::MAX` bytes, which is asked first and leaves the builder as it was, and `Memory`,
+    /// which may leave a front of that text appended. `O(m)` for a slice of m bytes.
+    pub fn append_slice(&mut self, slice: RopeSlice<'_>) -> Result<(), Error>
+        ensures text { OnOk result (self.new ≡ self.old ++ slice_text slice.entry) }
+        ensures front { OnErr result ((len : ℕ) ×
+            (self.new ≡ self.old ++ take len (slice_text slice.entry))) }
+        ensures kept { result ≡ Err Error.Size → self.new ≡ self.old }
+        ensures size { (result ≡ Err Error.Size) ↔
+            (2 ^ 63 ≤ byte_len self.old + byte_len (slice_text slice.entry)) }
+        ensures refused { IfErr result (λ error. (error ≡ Error.Size) ⊎ (error ≡ Error.Memory)) }
+    {
+        if slice.len_bytes() > MAX_TEXT_BYTES - self.len {
+            return Err(Error::Size);
+        }
+        for chunk in slice.chunks() {
+            self.append(chunk)?;
+        }
+        Ok(())
+    }
+
+    /// How many bytes of UTF-8 the text so far has. `O(1)`.
+    pub fn len_bytes(&self) -> usize
+        ensures bytes { result ≡ byte_len self.now }
+        ensures fits { result < 2 ^ 63 }
+    {
+        self.len
     }
 
     /// `append`, for callers that see a part's characters alone.

@@ -26,10 +26,10 @@ impl Rope {
         ensures full { IfOk result (λ rope. AreFull rope) }
         ensures refused { IfErr result (λ error. error ≡ Error.Memory) }
     {
+        // For its facts alone.
+        let _ = slice.len_bytes();
         let mut builder = RopeBuilder::new(alloc);
-        for chunk in slice.chunks() {
-            builder.append(chunk)?;
-        }
+        builder.append_slice(slice)?;
         let rope = builder.finish()?;
         Ok(rope)
     }

@@ -1,16 +1,15 @@
 //! Edits of a rope's tree, by byte indices between two characters. No tree is changed: each edit
 //! answers a new one, and what both hold they share.
 
-ghost use Rattle.std.specs.Prelude.{◌≡◌, ◌+◌, ◌^◌, ◌<◌, ◌≤◌, [], ◌++◌, length, IfOk, IfSome};
+ghost use Rattle.std.specs.Prelude.{◌≡◌, ◌+◌, ◌-◌, ◌^◌, ◌<◌, ◌≤◌, [], ◌++◌, length, IfOk, IfSome};
 ghost use Rattle.std.specs.Str.{chars};
 ghost use Rattle.str_indices.specs.Text.{byte_len};
 ghost use Rattle.ropey_tree.specs.Cutting.{IsBoundaryOf};
-ghost use Rattle.ropey_tree.specs.Counts.{total};
 ghost use Rattle.ropey_tree.specs.Edits.{IsReplaced, IsEdited};
 ghost use Rattle.ropey_tree.specs.Splits.{pieces_in, IsSplit};
 ghost use Rattle.ropey.specs.Chunks.{text_of};
 
-use crate::rope::Rope;
+use crate::rope::{MAX_TEXT_BYTES, Rope};
 use ropey_tree::MIN_BYTES;
 use ropey_tree::counts::By;
 use ropey_tree::cutter::leaves_of;
@@ -34,7 +33,7 @@ fn tree_of(alloc: Global, text: &str) -> Result<Option<Rc<Node>>, AllocError>
 }
 
 /// The tree of a text with another one behind it. A text that fits into the last leaf, or into two
-/// in its place, costs the path to that.
+/// in its place, costs the path to that, and an empty one nothing.
 fn extended(
     alloc: Global,
     tree: Option<Rc<Node>>,
@@ -44,6 +43,9 @@ fn extended(
     ensures { IfOk result (λ longer. text_of (pieces_in longer) ≡
         text_of (pieces_in tree) ++ chars text.now) }
 {
+    if text.is_empty() {
+        return Ok(tree);
+    }
     if let Some(node) = &tree {
         let end = node.counts().bytes;
         if let Some(longer) = replace_in_leaf(
@@ -63,67 +65,37 @@ fn extended(
     Ok(longer)
 }
 
-/// The tree with a text inserted at a byte index. Where the leaf there takes it, or two in its
-/// place, the path to that is copied; else the tree is split there, and joined again.
-pub(crate) fn inserted(
-    alloc: Global,
-    root: &Option<Rc<Node>>,
-    at: usize,
-    text: &str,
-) -> Result<Option<Rc<Node>>, AllocError>
-    requires boundary { IsBoundaryOf (text_of (pieces_in root.now)) at }
-    requires fits { byte_len (text_of (pieces_in root.now)) + length text.now < 2 ^ 63 }
-    ensures { IfOk result (λ tree. IsReplaced (text_of (pieces_in root.now)) at at (chars text.now)
-        (text_of (pieces_in tree))) }
-{
-    match root {
-        None => {
-            let tree = tree_of(alloc, text)?;
-            Ok(tree)
-        }
-        Some(node) => {
-            if let Some(edited) = replace_in_leaf(
-                alloc,
-                node,
-                at,
-                at,
-                text,
-                &mut Made::new(),
-                &mut Visits::new(),
-            )? {
-                return Ok(Some(edited));
-            }
-            let halves = split(alloc, node, at, &mut Visits::new())?;
-            let front = extended(alloc, halves.left, text)?;
-            let tree = append(alloc, front, halves.right)?;
-            Ok(tree)
-        }
+/// Whether the leaf in which a byte index lies stays long enough where so many bytes give way to so
+/// many others, in a text of `len` bytes; or is the last one. A hint alone: a short leaf is no
+/// wrong one.
+fn stays_long(node: &Rc<Node>, len: usize, at: usize, gone: usize, come: usize) -> bool {
+    if come >= gone {
+        return true;
     }
-}
-
-/// Whether the leaf in which a byte index lies stays long enough without so many bytes, or is the
-/// last one. A hint alone: a short leaf is no wrong one.
-fn can_lose(node: &Rc<Node>, at: usize, bytes: usize) -> bool {
     let found = leaf_at(node, By::Bytes, at);
-    let len = found.leaf.as_str().len();
-    let end = found.before.bytes.saturating_add(len);
-    bytes.saturating_add(MIN_BYTES) <= len || end >= node.counts().bytes
+    let leaf_len = found.leaf.as_str().len();
+    gone - come <= leaf_len.saturating_sub(MIN_BYTES)
+        || found.before.bytes.saturating_add(leaf_len) >= len
 }
 
-/// The tree without what stands from one byte index up to another, if both lie in one leaf and its
-/// ends and enough of it are left: the path to it is copied.
-fn removed_in_leaf(
+/// The tree with a text in the place of what stands from one byte index up to another, if both lie
+/// in one leaf that takes it and stays long enough: the path to that is copied.
+fn replaced_in_leaf(
     alloc: Global,
     node: &Rc<Node>,
     from: usize,
     to: usize,
+    text: &str,
 ) -> Result<Option<Rc<Node>>, AllocError>
     requires order { from ≤ to }
-    requires fits { (total node.now.value.pieces).bytes + byte_len (chars []) < 2 ^ 63 }
     ensures edited { IfOk result (λ tree. IfSome tree (λ edited.
-        IsEdited node.now.value from to (chars []) edited.value)) }
+        IsEdited node.now.value from to (chars text.now) edited.value)) }
 {
-    if !can_lose(node, from, to - from) {
+    // For its facts alone.
+    let _ = node.height();
+    let len = node.counts().bytes;
+    // What goes isn't counted against what comes.
+    if text.len() > MAX_TEXT_BYTES - len || !stays_long(node, len, from, to - from, text.len()) {
         return Ok(None);
     }
     let tree = replace_in_leaf(
@@ -131,38 +103,64 @@ fn removed_in_leaf(
         node,
         from,
         to,
-        "",
+        text,
         &mut Made::new(),
         &mut Visits::new(),
     )?;
     Ok(tree)
 }
 
-/// The tree without what stands from one byte index up to another. Where both lie in one leaf, of
-/// which enough is left, the path to that is copied; else the tree is split at both, and what
-/// is left of the first is joined to what is right of the second.
-pub(crate) fn removed(
+/// The trees before one byte index and behind another.
+fn around(alloc: Global, node: &Rc<Node>, from: usize, to: usize) -> Result<Halves, AllocError>
+    requires order { from ≤ to }
+    requires starts { IsBoundaryOf (text_of node.now.value.pieces) from }
+    requires ends { IsBoundaryOf (text_of node.now.value.pieces) to }
+    ensures gone { IfOk result (λ halves. IsReplaced (text_of node.now.value.pieces) from to []
+        (text_of (pieces_in halves.left) ++ text_of (pieces_in halves.right))) }
+    ensures place { IfOk result (λ halves. byte_len (text_of (pieces_in halves.left)) ≡ from) }
+{
+    let front = split(alloc, node, from, &mut Visits::new())?;
+    if from == to {
+        return Ok(front);
+    }
+    let back = split(alloc, node, to, &mut Visits::new())?;
+    Ok(Halves {
+        left: front.left,
+        right: back.right,
+    })
+}
+
+/// The tree with a text in the place of what stands from one byte index up to another. Where both
+/// lie in one leaf that takes it, or two in its place, the path to that is copied; else the tree is
+/// split at both, and what is left of the first, the text, and what is right of the second are
+/// joined.
+pub(crate) fn replaced(
     alloc: Global,
     root: &Option<Rc<Node>>,
     from: usize,
     to: usize,
+    text: &str,
 ) -> Result<Option<Rc<Node>>, AllocError>
     requires order { from ≤ to }
     requires starts { IsBoundaryOf (text_of (pieces_in root.now)) from }
     requires ends { IsBoundaryOf (text_of (pieces_in root.now)) to }
-    requires fits { byte_len (text_of (pieces_in root.now)) < 2 ^ 63 }
-    ensures { IfOk result (λ tree. IsReplaced (text_of (pieces_in root.now)) from to []
-        (text_of (pieces_in tree))) }
+    requires fits { byte_len (text_of (pieces_in root.now)) - (to - from) + length text.now
+        < 2 ^ 63 }
+    ensures { IfOk result (λ tree. IsReplaced (text_of (pieces_in root.now)) from to
+        (chars text.now) (text_of (pieces_in tree))) }
 {
     match root {
-        None => Ok(None),
+        None => {
+            let tree = tree_of(alloc, text)?;
+            Ok(tree)
+        }
         Some(node) => {
-            if let Some(edited) = removed_in_leaf(alloc, node, from, to)? {
+            if let Some(edited) = replaced_in_leaf(alloc, node, from, to, text)? {
                 return Ok(Some(edited));
             }
-            let front = split(alloc, node, from, &mut Visits::new())?;
-            let back = split(alloc, node, to, &mut Visits::new())?;
-            let tree = append(alloc, front.left, back.right)?;
+            let rest = around(alloc, node, from, to)?;
+            let front = extended(alloc, rest.left, text)?;
+            let tree = append(alloc, front, rest.right)?;
             Ok(tree)
         }
     }

@@ -30,6 +30,13 @@ fn an_edited_rope(rt: HostRuntime) -> Result<(), Fail> {
     assert!(rt; rope.eq_str("ab\rx\ncd"));
     rope.try_remove(3..4)?;
     assert!(rt; rope.eq_str("ab\r\ncd"));
+    rope.try_replace(2..4, "é")?;
+    assert!(rt; rope.eq_str("abécd"));
+    assert!(rt;
+        rope.try_byte_replace(3..4, "c") == Err(Error::ByteRangeNotCharBoundary(Some(3), Some(4)))
+    );
+    rope.try_byte_replace(2..4, "c")?;
+    assert!(rt; rope.eq_str("abccd"));
     Ok(())
 }
 
@@ -40,6 +47,15 @@ fn rope_builder(rt: HostRuntime) -> Result<(), Fail> {
     builder.append("\ntwo")?;
     let rope = builder.finish()?;
     assert_eq!(rt; rope.len_lines(), 2);
+
+    let mut builder = RopeBuilder::new(rt.alloc());
+    builder.append("three ")?;
+    if let Some(line) = rope.get_line(1) {
+        builder.append_slice(line)?;
+    }
+    assert_eq!(rt; builder.len_bytes(), 9);
+    let rope = builder.finish()?;
+    assert!(rt; rope.eq_str("three two"));
     Ok(())
 }
 

@@ -63,7 +63,7 @@ module _ (text : List ℕ) (start : Counts) (at : ℕ) (front : List ℕ) (h : I
   abbrev upto : List ℕ
   upto = h.before ++ front
 
-  place_is : start.bytes + at ≡ byte_len upto
+  pub place_is : start.bytes + at ≡ byte_len upto
   place_is = omega (arith, ap (λ c. c.bytes) h.start_is, h.at_is, byte_len-append h.before front)
 
   pub taken : take (length upto) text ≡ upto

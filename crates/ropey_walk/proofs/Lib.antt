@@ -13,6 +13,7 @@ pub mod ChunkWalks
 pub mod ByteWalks
 pub mod CharWalks
 pub mod Edges
+pub mod ByteParts
 pub mod LineStarts
 pub mod LineWalks
 pub mod PartWalks

@@ -1,20 +1,19 @@
 -- Going over the lines of a text, both ways.
-use Rattle.std.proofs.Common.{◌≡◌, ℕ, zero, suc, ◌+◌, ◌-◌, ◌^◌, ◌<◌, ◌≤◌, ◌⊎◌, inl, inr, min, cond, true, List, [], ◌∷◌, ◌++◌, length, get_or, take, drop, map, refl, ap, arith, sym, ◌∙◌, subst, append_assoc, length-append, length-take-le, length-drop}
+use Rattle.std.proofs.Common.{◌≡◌, ℕ, suc, ◌+◌, ◌-◌, ◌^◌, ◌<◌, ◌≤◌, inl, true, List, ◌∷◌, ◌++◌, length, get_or, take, drop, map, refl, ap, arith, sym, ◌∙◌, subst, append_assoc, length-append, length-take-le, length-drop}
 use Rattle.std.proofs.Math.Seq.{get_or-append_seam}
 use Rattle.std.specs.Str.{chars, IsUtf8, IsCharBoundary}
-use Rattle.std.proofs.lemmas.List.{drop_at, take-take, drop-drop}
+use Rattle.std.proofs.lemmas.List.{drop_at}
 use Rattle.std.proofs.lemmas.Str.{encodes-chars, length-le-encodes, chars-append, IsUtf8-take, IsUtf8-drop, IsCharBoundary-from_rest}
 use Rattle.str_indices.specs.Text.{byte_len, units, break_ends, end_place, cuts_cr_lf, NoCrLfBetween}
 use Rattle.str_indices.specs.FirstBreak.{IsFirstBreak}
 use Rattle.ropey_tree.specs.declared.counts.Counts.{Counts}
 use Rattle.ropey_tree.specs.declared.counts.By.{By}
-use Rattle.ropey_tree.specs.declared.counts.By.TheVariants.{Bytes, Chars, Units, Breaks}
+use Rattle.ropey_tree.specs.declared.counts.By.TheVariants.{Breaks}
 use Rattle.ropey_tree.specs.Counts.{counts_of, amount}
 use Rattle.ropey_walk.specs.Chunks.{is_break, line_breaks}
 use Rattle.ropey_walk.specs.Conversions.{byte_of_line, char_of_line}
 use Rattle.ropey_walk.specs.Laws.{LineStarts}
 use Rattle.ropey_walk.specs.Parts.{standing}
-use Rattle.ropey_walk.specs.Standing.{IsPlaceIn}
 use Rattle.ropey_walk.specs.Iter.{IsLinePlace}
 use Rattle.ropey_walk.specs.declared.iter.lines.LinePlace.{LinePlace}
 use Rattle.ropey_walk.proofs.Cuts.{byte_len-append}

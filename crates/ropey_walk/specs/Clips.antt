@@ -1,7 +1,7 @@
 -- Parts of a text, and of the pieces into which it is cut, from a character on and up to one.
 use Rattle.std.specs.Prelude.{ℕ, ◌-◌, ◌==◌, nat_lt, if◌then◌else◌, List, [], ◌∷◌, length, take, drop}
 
--- the characters from a place on, up to another
+-- the characters of a text, or its bytes, from a place on, up to another
 abbrev pub between : ℕ → ℕ → List ℕ → List ℕ
 between start end text = drop start (take end text)
 

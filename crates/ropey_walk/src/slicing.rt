@@ -12,7 +12,7 @@ ghost use Rattle.std.specs.Str.{chars, IsUtf8, IsCharBoundary};
 ghost use Rattle.str_indices.specs.Text.{byte_len};
 ghost use Rattle.ropey_tree.specs.Counts.{counts_of};
 ghost use Rattle.ropey_walk.specs.Chunks.{line_breaks};
-ghost use Rattle.ropey_walk.specs.Clips.{clip};
+ghost use Rattle.ropey_walk.specs.Clips.{between, clip};
 ghost use Rattle.ropey_walk.specs.Conversions.{char_of_byte};
 ghost use Rattle.ropey_walk.specs.Lines.{line_pieces};
 ghost use Rattle.ropey_walk.specs.Parts.{standing};
@@ -29,6 +29,7 @@ use ropey_tree::error::Error;
 
 impl<'a> RopeSlice<'a> {
     ghost use Rattle.ropey_walk.specs.Slices.{slice_pieces, slice_text};
+    ghost use Rattle.ropey_walk.specs.Comparing.{slice_bytes};
 
     /// The part from where `start` stands before it up to where `end` is what the text up to there
     /// counts by itself. `O(1)`.
@@ -58,13 +59,16 @@ impl<'a> RopeSlice<'a> {
         requires to_boundary { IsCharBoundary to.now.text.now to.now.at }
         requires to_utf8 { IsUtf8 to.now.text.now }
         requires order { from.now.start.bytes + from.now.at ≤ to.now.start.bytes + to.now.at }
-        ensures { slice_pieces result ≡
+        ensures pieces { slice_pieces result ≡
             clip (char_of_byte (slice_text self.now) (from.now.start.bytes + from.now.at))
             (char_of_byte (slice_text self.now) (to.now.start.bytes + to.now.at))
             (slice_pieces self.now) }
+        ensures bytes { slice_bytes result ≡ between (from.now.start.bytes + from.now.at)
+            (to.now.start.bytes + to.now.at) (slice_bytes self.now) }
     {
-        // A law, for the proof alone.
+        // Laws, for the proof alone.
         str_indices::laws::from_byte_idx_is_monotone();
+        str_indices::laws::ends_of_a_part();
         self.between(self.standing_at(from), self.counted_to(to))
     }
 
@@ -171,7 +175,7 @@ impl<'a> RopeSlice<'a> {
 
     /// Where a range of bytes starts and ends, or why it is refused: as in `try_byte_slice`, but
     /// not for a character that it cuts.
-    fn byte_indices(&self, ends: Ends) -> Result<(usize, usize), Error>
+    fn bytes_within(&self, ends: Ends) -> Result<(usize, usize), Error>
         ensures { MatchResult result
             (λ indices. IsRangeIn (byte_len (slice_text self.now)) ends ×
             (indices.0 ≡ start_of ends) ×
@@ -191,11 +195,32 @@ impl<'a> RopeSlice<'a> {
         Ok((start, end))
     }
 
+    /// Where a range of bytes starts and ends, or why it is refused, as in `try_byte_slice`.
+    /// `O(log n)`.
+    pub fn byte_indices(&self, ends: Ends) -> Result<(usize, usize), Error>
+        ensures { MatchResult result
+            (λ indices. IsByteRangeIn (slice_text self.now) ends ×
+            (indices.0 ≡ start_of ends) ×
+            (indices.1 ≡ end_of ends (byte_len (slice_text self.now))))
+            (λ error. (¬ (IsByteRangeIn (slice_text self.now) ends)) ×
+            RefusesBytes (slice_text self.now) ends error) }
+    {
+        let (start, end) = self.bytes_within(ends)?;
+        if self.place_of_byte(start).is_boundary() && self.place_of_byte(end).is_boundary() {
+            Ok((start, end))
+        } else {
+            Err(Error::ByteRangeNotCharBoundary(ends.start, ends.end))
+        }
+    }
+
     /// A range of bytes. It lies inside the text: it starts no later than it ends, ends at most at
     /// `len_bytes`, and neither inside a character. `O(log n)`.
     pub fn byte_slice<R: TextRange>(&self, byte_range: R) -> Self
         requires { IsByteRangeIn (slice_text self.now) (R.ends byte_range) }
-        ensures { slice_pieces result ≡ bytes_in (R.ends byte_range) (slice_pieces self.now) }
+        ensures pieces { slice_pieces result ≡
+            bytes_in (R.ends byte_range) (slice_pieces self.now) }
+        ensures bytes { slice_bytes result ≡ between (start_of (R.ends byte_range))
+            (end_of (R.ends byte_range) (byte_len (slice_text self.now))) (slice_bytes self.now) }
     {
         let ends = byte_range.ends();
         let end = ends.end.unwrap_or(self.len_bytes());
@@ -211,11 +236,15 @@ impl<'a> RopeSlice<'a> {
         ensures ok { IsOk result ↔ IsByteRangeIn (slice_text self.now) (R.ends byte_range) }
         ensures slice { IfOk result (λ slice. slice_pieces slice ≡
             bytes_in (R.ends byte_range) (slice_pieces self.now)) }
+        ensures bytes { IfOk result (λ slice. slice_bytes slice ≡
+            between (start_of (R.ends byte_range))
+            (end_of (R.ends byte_range) (byte_len (slice_text self.now)))
+            (slice_bytes self.now)) }
         ensures refused { IfErr result (λ error.
             RefusesBytes (slice_text self.now) (R.ends byte_range) error) }
     {
         let ends = byte_range.ends();
-        let (start, end) = self.byte_indices(ends)?;
+        let (start, end) = self.bytes_within(ends)?;
         let from = self.place_of_byte(start);
         let to = self.place_of_byte(end);
         if !from.is_boundary() || !to.is_boundary() {
@@ -230,6 +259,10 @@ impl<'a> RopeSlice<'a> {
         ensures some { IsSome result ↔ IsByteRangeIn (slice_text self.now) (R.ends byte_range) }
         ensures slice { IfSome result (λ slice. slice_pieces slice ≡
             bytes_in (R.ends byte_range) (slice_pieces self.now)) }
+        ensures bytes { IfSome result (λ slice. slice_bytes slice ≡
+            between (start_of (R.ends byte_range))
+            (end_of (R.ends byte_range) (byte_len (slice_text self.now)))
+            (slice_bytes self.now)) }
     {
         match self.try_byte_slice(byte_range) {
             Ok(slice) => Some(slice),

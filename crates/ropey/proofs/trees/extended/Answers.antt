@@ -6,8 +6,16 @@ use Rattle.ropey_tree.specs.Counts.{total}
 use Rattle.ropey_tree.specs.Splits.{pieces_in}
 use Rattle.ropey.specs.Chunks.{text_of}
 use Rattle.ropey.proofs.Pieces.{bytes-concat}
-use Rattle.ropey.proofs.Editing.{edited_text, appended_is}
+use Rattle.std.proofs.lemmas.Bool.Decides.{nat_tests}
+use Rattle.std.proofs.lemmas.List.{append-nil}
+use Rattle.ropey.proofs.Editing.{edited_text, appended_is, chars_of_none}
 use Rattle.ropey.proofs.trees.extended.Goals as goal
+
+pub returns-then-is_empty : goal.returns-then-is_empty
+returns-then-is_empty c =
+    let t = text_of (pieces_in c.args.tree) in
+    let none : length c.args.text.now ≡ 0 = grind (arith, nat_tests, c.is_empty.ensures, c.if-is_empty.true) in
+    sym (append-nil t) ∙ ap (λ s. t ++ s) (sym (chars_of_none c.args.text.now none))
 
 pub replace_in_leaf-requires-clause-fits : goal.replace_in_leaf-requires-clause-fits
 replace_in_leaf-requires-clause-fits c =

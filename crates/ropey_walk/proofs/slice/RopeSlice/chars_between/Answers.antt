@@ -16,7 +16,7 @@ returns c =
     let pieces = slice_pieces c.args.self.now in
     let back = char_there_and_back c.ends_of_a_part.ensures.chars c.boundaries_and_indices_agree.ensures.chars c.place_there_and_back.ensures.chars t in
     let start_in : c.args.start ≤ length t = omega (arith, c.requires.order, c.requires.within) in
-    c.between_places.ensures ∙ ap (λ n. clip (char_of_byte t n) (char_of_byte t (to.start.bytes + to.at)) pieces) c.place_of_char-from.ensures.place
+    c.between_places.ensures.pieces ∙ ap (λ n. clip (char_of_byte t n) (char_of_byte t (to.start.bytes + to.at)) pieces) c.place_of_char-from.ensures.place
     ∙ ap (λ n. clip n (char_of_byte t (to.start.bytes + to.at)) pieces) (back c.args.start start_in)
     ∙ ap (λ n. clip c.args.start (char_of_byte t n) pieces) c.place_of_char-to.ensures.place
     ∙ ap (λ n. clip c.args.start n pieces) (back c.args.end c.requires.within)

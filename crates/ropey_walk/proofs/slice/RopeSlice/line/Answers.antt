@@ -15,5 +15,5 @@ returns c =
     let t = slice_text c.args.self.now in
     let end = c.place_of_line-end.result in
     let pieces = slice_pieces c.args.self.now in
-    c.between_places.ensures ∙ ap (λ n. clip (char_of_byte t n) (char_of_byte t (end.start.bytes + end.at)) pieces) c.place_of_line-start.ensures.place
+    c.between_places.ensures.pieces ∙ ap (λ n. clip (char_of_byte t n) (char_of_byte t (end.start.bytes + end.at)) pieces) c.place_of_line-start.ensures.place
     ∙ ap (λ n. clip (char_of_line t c.args.line_idx) (char_of_byte t n) pieces) c.place_of_line-end.ensures.place
