@@ -140,8 +140,8 @@ AreFollowed m i threads widths ids left out slots None = AreUnderWay m i threads
 AreFollowed m i threads widths ids left out slots (Some k) =
     Steps m i [] threads out (met_at i (Some k) slots)
 
--- threads are left out that stand at a node at which one stood before: of these, what was seen, what
--- is left to look at, and what was put out
+-- threads are left out that stand at a node at which one stood before: of these, what was seen,
+-- what is left to look at, and what was put out
 pub record IsThinning (threads : List Thread) (widths ids : List ℕ) (left out : List Thread)
     : Type 0 where
   pub seen : List (ℕ × ℕ)

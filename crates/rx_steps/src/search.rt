@@ -80,8 +80,8 @@ fn advance<C: Cursor>(input: &mut Input<C>) -> bool
 }
 
 /// Whether a match may start where an input stands, which has to be a place inside: as the input's
-/// anchoring says, and where `utf8_empty` passes over empty matches inside a character, at none that
-/// cuts one.
+/// anchoring says, and where `utf8_empty` passes over empty matches inside a character, at none
+/// that cuts one.
 pub fn begins<C: Cursor>(input: &Input<C>, utf8_empty: bool) -> bool
     ensures { IsInside (search_of utf8_empty input.now) input.now.position
         → IsTrue result ↔ Begins (search_of utf8_empty input.now) input.now.position }
