@@ -76,7 +76,7 @@ tells_more widths ids seen q k at tells q' k' at' = (
   ]),
 )
 
-tells_outside : (widths ids : List ℕ) (seen : List (ℕ × ℕ)) (q : ℕ × ℕ) → index_from 0 widths q.0 q.1 ≡ None → Tells widths ids seen → Tells widths ids (q ∷ seen)
+pub tells_outside : (widths ids : List ℕ) (seen : List (ℕ × ℕ)) (q : ℕ × ℕ) → index_from 0 widths q.0 q.1 ≡ None → Tells widths ids seen → Tells widths ids (q ∷ seen)
 tells_outside widths ids seen q at tells q' k' at' = (
   (λ c. elim (Contains-split seen q q' c) [
     | inl e ↦ absurd (cc (sym at ∙ ap (λ z. index_from 0 widths z.0 z.1) e ∙ at'))

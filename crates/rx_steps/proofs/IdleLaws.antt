@@ -173,12 +173,12 @@ goes_alike p m m' i i' place place' same never moves moves' q rs is = by_state (
     by_state (Some x) here = moves'.at_state q x here ∙ moves_alike p.states place place' i i' q x rs same never here (sym (moves.at_state q x here) ∙ is)
 
 -- the byte stands last in so many and one of it
-last_of : (n b : ℕ) → slice_get (drop n (take (suc n) (replicate (suc n) b))) 0 ≡ Some b
+pub last_of : (n b : ℕ) → slice_get (drop n (take (suc n) (replicate (suc n) b))) 0 ≡ Some b
 last_of zero b = refl
 last_of (suc n) b = last_of n b
 
 -- a content with this byte at this place
-abbrev with_byte : ℕ → ℕ → Haystack walks.Look
+abbrev pub with_byte : ℕ → ℕ → Haystack walks.Look
 with_byte i b = record { content = replicate (suc i) b; low = 0; high = suc i; holds = λ l j. false }
 
 -- where a step comes to nothing, no other step of the same threads comes to something

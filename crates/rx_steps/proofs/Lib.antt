@@ -15,3 +15,6 @@ pub mod OverLaws
 pub mod WorkLaws
 pub mod IdleLaws
 pub mod MadeLaws
+pub mod AlikeLaws
+pub mod ThinLaws
+pub mod AskedLaws

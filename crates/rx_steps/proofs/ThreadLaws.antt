@@ -1,8 +1,9 @@
 -- Threads that come one after another, and slots that are put back.
-use Rattle.std.proofs.Common.{◌≡◌, ℕ, zero, suc, ◌+◌, ◌*◌, ◌<◌, ◌≤◌, List, [], ◌∷◌, ◌++◌, length, take, drop, set, get_or, Option, Some, None, slice_get, refl, sym, ap, ap₂, ◌∙◌, arith}
+use Rattle.std.proofs.Common.{◌≡◌, ℕ, zero, suc, ◌+◌, ◌*◌, ◌<◌, ◌≤◌, List, [], ◌∷◌, ◌++◌, length, take, drop, set, get_or, Option, Some, None, slice_get, refl, sym, ap, ap₂, subst, ◌∙◌, arith}
 use Rattle.std.proofs.Math.Nat.{suc-mul}
 use Rattle.std.proofs.lemmas.List.{drop-drop}
 use Rattle.rx_steps.specs.Threads.{Slots, Thread, no_slots, threads_of}
+use Rattle.rx_steps.specs.Alike.{AreBare}
 
 take_whole : (xs : Slots) (n : ℕ) → length xs ≡ n → take n xs ≡ xs
 take_whole [] zero e = refl
@@ -87,3 +88,35 @@ pub no_slots_more : (n : ℕ) → no_slots n ++ None ∷ [] ≡ no_slots (n + 1)
 no_slots_more n =
     let more : suc n ≡ n + 1 = omega arith in
     one_more n ∙ ap no_slots more
+
+-- without slots no thread has one
+bare_threads : (nodes : List (ℕ × ℕ)) (slots : Slots) → AreBare (threads_of 0 nodes slots)
+bare_threads [] slots = tt
+bare_threads (q ∷ nodes) slots = (refl, bare_threads nodes slots)
+
+pub none_has_slots : (n : ℕ) (nodes : List (ℕ × ℕ)) (slots : Slots) → n ≡ 0 → AreBare (threads_of n nodes slots)
+none_has_slots n nodes slots e = subst (λ k. AreBare (threads_of k nodes slots)) (sym e) (bare_threads nodes slots)
+
+-- threads from one on
+pub none_after : (xs : List Thread) (n : ℕ) → length xs ≤ n → drop n xs ≡ []
+none_after [] zero le = refl
+none_after [] (suc n) le = refl
+none_after (x ∷ xs) zero le = absurd (omega (arith, le))
+none_after (x ∷ xs) (suc n) le = none_after xs n (omega (arith, le))
+
+one_left : (xs : List Thread) (n : ℕ) (x d : Thread) → n < length xs → get_or xs n d ≡ x → drop n xs ≡ x ∷ drop (suc n) xs
+one_left [] n x d lt e = absurd (omega (arith, lt))
+one_left (y ∷ xs) zero x d lt e = ap (λ z. z ∷ xs) e
+one_left (y ∷ xs) (suc n) x d lt e = one_left xs n x d (omega (arith, lt)) e
+
+-- a thread by its slots and its node
+this : (x d : Thread) (slots : Slots) (q : ℕ × ℕ) → slots ≡ x.0 → q ≡ x.1 → x ≡ (slots, q)
+this x d slots q e f = sym (ap₂ (λ s r. (s, r)) e f)
+
+-- the first of the threads from one on
+pub first_after : (xs : List Thread) (n : ℕ) (slots : Slots) (q : ℕ × ℕ) → n < length xs → ((d : Thread) → slots ≡ (get_or xs n d).0) → ((d : Thread) → q ≡ (get_or xs n d).1)
+    → drop n xs ≡ (slots, q) ∷ drop (n + 1) xs
+first_after xs n slots q lt e f =
+    let d : Thread = (slots, q) in
+    let more : suc n ≡ n + 1 = omega arith in
+    one_left xs n (slots, q) d lt (this (get_or xs n d) d slots q (e d) (f d)) ∙ ap (λ k. (slots, q) ∷ drop k xs) more

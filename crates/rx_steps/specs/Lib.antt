@@ -2,6 +2,8 @@ pub mod Nodes
 pub mod Threads
 pub mod Frames
 pub mod Lists
+pub mod Alike
+pub mod Asked
 pub mod Sides
 pub mod Searching
 pub mod Idle

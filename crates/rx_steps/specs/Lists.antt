@@ -11,7 +11,7 @@ use Rattle.rx_walks.specs.Looks.{Look, start_text, end_text, start_line, end_lin
 use Rattle.unicode.specs.Perl.{is_word_char}
 use Rattle.rx_walks.specs.Programs.{Haystack, only_if, is_within, left_from}
 use Rattle.rx_walks.specs.Bytes.{read_on, over_bytes}
-use Rattle.rx_walks.specs.Steps.{Steps, StepsSoFar}
+use Rattle.rx_walks.specs.Steps.{Steps, StepsSoFar, Thins}
 use Rattle.rx_grammar.specs.declared.hir.Look as grammar
 use Rattle.rx_steps.specs.declared.place.Looks.{Looks}
 use Rattle.rx_steps.specs.declared.place.Place.{Place}
@@ -139,3 +139,11 @@ abbrev pub AreFollowed : Machine (ℕ × ℕ) Slots → ℕ → List Thread → 
 AreFollowed m i threads widths ids left out slots None = AreUnderWay m i threads widths ids left out
 AreFollowed m i threads widths ids left out slots (Some k) =
     Steps m i [] threads out (met_at i (Some k) slots)
+
+-- threads are left out that stand at a node at which one stood before: of these, what was seen,
+-- what is left to look at, and what was put out
+pub record IsThinning (threads : List Thread) (widths ids : List ℕ) (left out : List Thread)
+    : Type 0 where
+  pub seen : List (ℕ × ℕ)
+  pub tells : Tells widths ids seen
+  pub so_far : (rest : List Thread) → Thins seen left rest → Thins [] threads (out ++ rest)

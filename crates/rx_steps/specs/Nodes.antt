@@ -1,5 +1,5 @@
 -- The nodes of a program: its states, each with the states of its automaton, if it has one.
-use Rattle.std.specs.Prelude.{◌≡◌, ℕ, zero, suc, ◌+◌, ◌-◌, nat_lt, Bool, true, false, ◌++◌, Contains, List, [], ◌∷◌, length, map, cond, Option, Some, None, slice_get}
+use Rattle.std.specs.Prelude.{◌≡◌, ℕ, zero, suc, ◌+◌, ◌-◌, nat_lt, Bool, true, false, ◌++◌, Contains, IsTrue, ◌↔◌, List, [], ◌∷◌, length, map, cond, Option, Some, None, slice_get}
 use Rattle.rx_program.specs.declared.states.State.{State}
 use Rattle.rx_program.specs.declared.states.State.TheVariants as state
 use Rattle.rx_program.specs.Programs.{ByteProgram}
@@ -61,3 +61,8 @@ abbrev pub IsInserted : Option ℕ → Bool → List ℕ → List ℕ → Type 0
 IsInserted None is_new ids ids' = (is_new ≡ false) × (ids' ≡ ids)
 IsInserted (Some k) true ids ids' = (Contains ids k → ⊥) × (ids' ≡ ids ++ k ∷ [])
 IsInserted (Some k) false ids ids' = Contains ids k × (ids' ≡ ids)
+
+-- whether a node is in a set, by its index; one that has none isn't
+abbrev pub IsMember : Option ℕ → Bool → List ℕ → Type 0
+IsMember None is_seen ids = is_seen ≡ false
+IsMember (Some k) is_seen ids = IsTrue is_seen ↔ Contains ids k

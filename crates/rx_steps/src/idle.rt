@@ -77,8 +77,9 @@ impl IdleBytes {
     }
 }
 
-/// The last place at which a walk may stand, if the content goes so far.
-pub(crate) fn last_place<C: Cursor>(input: &Input<C>) -> usize
+/// The last place at which a walk may stand in a search, if the content goes so far: the end of the
+/// slice or of the span, whichever comes first.
+pub fn last_place<C: Cursor>(input: &Input<C>) -> usize
     ensures { result ≡ min input.now.asked.slice.end input.now.asked.span.end }
 {
     input.get_slice().end.min(input.end())

@@ -2,8 +2,10 @@
 //! side.
 #![tactic(auto)]
 
+mod asked;
 mod followed;
 mod idle;
+pub mod laws;
 mod node;
 mod pending;
 mod place;
@@ -13,8 +15,10 @@ mod stepper;
 mod thread_list;
 mod visited;
 
+pub use asked::AskedLooks;
+pub use idle::last_place;
 pub use node::Node;
 pub use place::{Looks, Place};
-pub use search::{Cache, search_slots};
+pub use search::{Cache, begins, enter, search_slots, start_state};
 pub use stepper::Stepper;
 pub use thread_list::ThreadList;

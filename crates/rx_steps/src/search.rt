@@ -19,13 +19,14 @@ ghost use Rattle.rx_steps.specs.Searching.{search_of, anchoring_of, IsAnswer};
 ghost use Rattle.rx_steps.specs.Caches.{AreOfProgram, IsCacheOf, place_count};
 ghost use Rattle.rx_steps.specs.Coming.{machine_in, HasStarted, IsUnderWay, IsOver};
 
+use crate::asked::AskedLooks;
 use crate::idle::{IdleBytes, last_place, skip};
 use crate::node::Node;
 use crate::place::Place;
 use crate::stepper::Stepper;
 use crate::thread_list::ThreadList;
 use rx_input::{Cursor, Input};
-use rx_program::{Program, State};
+use rx_program::Program;
 use rx_sets::CharacterSet;
 use rx_util::{Anchored, MatchError, NonMaxUsize, PatternID, StateID};
 use rx_walks::laws::program_is_searched_keeping;
@@ -33,20 +34,8 @@ use std::alloc::{AllocError, Global};
 use std::marker::Model;
 use std::mem;
 
-/// Whether a program of these states may ask for a look.
-fn asks_looks(states: &[State]) -> bool
-    ensures { result ≡ false → (l : walks.Look) → Asks states.now l → ⊥ }
-{
-    for state in states {
-        if let State::Look(_, _) = state {
-            return true;
-        }
-    }
-    false
-}
-
-/// The state from which walks start, if there is one: an unknown pattern has none.
-fn start_state(program: &Program, anchored: Anchored) -> Option<StateID>
+/// The state from which walks of a search start, if there is one: an unknown pattern has none.
+pub fn start_state(program: &Program, anchored: Anchored) -> Option<StateID>
     ensures { result ≡ start_node (characters_of program.now) (anchoring_of anchored) }
 {
     match anchored {
@@ -55,8 +44,10 @@ fn start_state(program: &Program, anchored: Anchored) -> Option<StateID>
     }
 }
 
-/// Moves an input to the first place inside its span, its slice and its content, if there is one.
-fn enter<C: Cursor>(input: &mut Input<C>) -> bool
+/// Moves an input to the first place inside its span, its slice and its content, and tells whether
+/// there is one; where there is none, it stands anywhere. It costs the steps over the pieces that
+/// lie between.
+pub fn enter<C: Cursor>(input: &mut Input<C>) -> bool
     ensures inside { result ≡ true → (utf8_empty : Bool)
         → IsInside (search_of utf8_empty input.old) input.new.position }
     ensures first { result ≡ true
@@ -88,8 +79,10 @@ fn advance<C: Cursor>(input: &mut Input<C>) -> bool
     input.position() > at
 }
 
-/// Whether a match may start where an input stands.
-fn begins<C: Cursor>(input: &Input<C>, utf8_empty: bool) -> bool
+/// Whether a match may start where an input stands, which has to be a place inside: as the input's
+/// anchoring says, and where `utf8_empty` passes over empty matches inside a character, at none
+/// that cuts one.
+pub fn begins<C: Cursor>(input: &Input<C>, utf8_empty: bool) -> bool
     ensures { IsInside (search_of utf8_empty input.now) input.now.position
         → IsTrue result ↔ Begins (search_of utf8_empty input.now) input.now.position }
 {
@@ -343,7 +336,7 @@ impl Cache {
         Ok(Cache {
             walks: Walks {
                 stepper: Stepper::new(alloc, program)?,
-                asks_looks: asks_looks(program.states()),
+                asks_looks: AskedLooks::of(program.states()).any,
                 idle: IdleBytes::new(),
                 live: ThreadList::new(alloc, 0),
                 next: ThreadList::new(alloc, 0),
@@ -380,7 +373,7 @@ impl Cache {
     {
         let alloc = self.walks.stepper.allocator();
         self.walks.stepper = Stepper::new(alloc, program)?;
-        self.walks.asks_looks = asks_looks(program.states());
+        self.walks.asks_looks = AskedLooks::of(program.states()).any;
         self.walks.idle = IdleBytes::new();
         Ok(())
     }

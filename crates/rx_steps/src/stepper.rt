@@ -1,13 +1,14 @@
 //! The step from the ordered threads at a place to those at the next one.
 
-ghost use Rattle.std.specs.Prelude.{ℕ, ◌≡◌, ◌+◌, ◌++◌, ◌≤◌, ◌∷◌, All, List, length, None, Some, IfOk, OnOk, IfErr, MatchOption, slice_get};
+ghost use Rattle.std.specs.Prelude.{ℕ, ◌≡◌, ◌+◌, ◌++◌, ◌≤◌, ◌∷◌, [], All, List, length, None, Some, IfOk, OnOk, IfErr, MatchOption, slice_get};
 ghost use Rattle.rx_util.specs.declared.search.MatchError.{MatchError};
 ghost use Rattle.rx_program.specs.declared.states.State.{State};
 ghost use Rattle.rx_walks.specs.Machines.{Machine};
+ghost use Rattle.rx_walks.specs.Steps.{Thins};
 ghost use Rattle.rx_utf8.specs.Automata.{step_of};
 ghost use Rattle.rx_steps.specs.Nodes.{widths_of, node_count, IsNodeOf, MayStand, AreCounted};
 ghost use Rattle.rx_steps.specs.Threads.{Slots, Thread, Waiting, IsThreadOf};
-ghost use Rattle.rx_steps.specs.Lists.{IsNextList, IsMade, move_at, noted_at, fan_of, MakesMoves, AreUnderWay, AreFollowed, read_next, work_left};
+ghost use Rattle.rx_steps.specs.Lists.{IsNextList, IsMade, move_at, noted_at, fan_of, MakesMoves, AreUnderWay, AreFollowed, IsThinning, read_next, work_left};
 
 use crate::node::Node;
 use crate::pending::Pending;
@@ -193,6 +194,37 @@ impl Closure {
     }
 }
 
+impl Closure {
+    /// Puts out a thread, unless one stood at its node before.
+    fn put_first(
+        &mut self,
+        node: Node,
+        slots: &[Option<NonMaxUsize>],
+        thin: &mut ThreadList,
+    ) -> Result<(), AllocError>
+        requires slots { length slots.now ≡ thin.old.slot_len }
+        ensures thinned { OnOk result ((threads : List Thread) → (others : List Thread)
+            → IsThinning threads self.old.visited.widths self.old.visited.ids
+            ((slots.now, node) ∷ others) thin.old.threads
+            → IsThinning threads self.old.visited.widths self.new.visited.ids others
+            thin.new.threads) }
+        ensures threads { OnOk result ((states : List State) → IsNodeOf states node
+            → All (IsThreadOf states) thin.old.threads
+            → All (IsThreadOf states) thin.new.threads) }
+        ensures widths { self.new.visited.widths ≡ self.old.visited.widths }
+        ensures counted { AreCounted self.old.visited self.new.visited }
+        ensures few { length self.new.visited.ids ≤ length self.old.visited.ids + 1 }
+        ensures slot_len { thin.new.slot_len ≡ thin.old.slot_len }
+    {
+        if self.visited.has(node) {
+            return Ok(());
+        }
+        self.visited.insert(node);
+        thin.push(node, slots)?;
+        Ok(())
+    }
+}
+
 /// What a step needs room for. Contracts see of it how many nodes each state is of the program that
 /// it was made for, slots, which after a step that met an end are those of the match, and how many
 /// nodes its steps have followed.
@@ -298,5 +330,26 @@ impl Stepper {
             }
         }
         Ok(None)
+    }
+    /// Puts into `thin` these threads without those that stand at a node at which one stood before:
+    /// a step follows each node once, so these come to nothing more. The one refusal is `Memory`;
+    /// what `thin` then holds has no meaning. `O(n)` in the threads and their slots.
+    pub fn thin(&mut self, threads: &ThreadList, thin: &mut ThreadList) -> Result<(), MatchError>
+        ensures thin { OnOk result (Thins [] threads.now.threads thin.new.threads) }
+        ensures threads { OnOk result ((states : List State)
+            → All (IsThreadOf states) threads.now.threads
+            → All (IsThreadOf states) thin.new.threads) }
+        ensures slot_len { thin.new.slot_len ≡ threads.now.slot_len }
+        ensures made { self.new.widths ≡ self.old.widths }
+        ensures work { self.new.followed ≤ self.old.followed + length threads.now.threads }
+        ensures refused { IfErr result (λ error. error ≡ MatchError.Memory) }
+    {
+        let closure = &mut self.closure;
+        closure.visited.clear();
+        thin.clear(threads.slot_len());
+        for index in 0..threads.len() {
+            closure.put_first(threads.node(index), threads.slots(index), thin)?;
+        }
+        Ok(())
     }
 }

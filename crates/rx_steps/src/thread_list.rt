@@ -2,6 +2,7 @@
 
 ghost use Rattle.std.specs.Prelude.{◌≡◌, ◌+◌, ◌*◌, ◌<◌, ◌≤◌, ◌++◌, ◌∷◌, [], length, take, drop, get_or, OnErr, OnOk};
 ghost use Rattle.rx_steps.specs.Threads.{Thread, no_slots, threads_of};
+ghost use Rattle.rx_steps.specs.Alike.{AreBare};
 
 use crate::node::Node;
 use rx_util::NonMaxUsize;
@@ -101,6 +102,13 @@ impl ThreadList {
         ensures { result ≡ length self.now.threads }
     {
         self.nodes.len()
+    }
+
+    /// A law, for the proof alone: without slots no thread has one.
+    pub fn are_bare(&self)
+        ensures { self.now.slot_len ≡ 0 → AreBare self.now.threads }
+    {
+        let _len = self.slot_len;
     }
 
     /// About how many bytes its lists take.

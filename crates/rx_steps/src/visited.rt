@@ -2,7 +2,7 @@
 
 ghost use Rattle.std.specs.Prelude.{◌≡◌, ◌<◌, ◌≤◌, [], true, map, length, slice_get, IfSome, IfOk, IfErr};
 ghost use Rattle.rx_util.specs.declared.search.MatchError.{MatchError};
-ghost use Rattle.rx_steps.specs.Nodes.{widths_of, width_of, starts_from, end_from, index_from, IsInserted, AreCounted};
+ghost use Rattle.rx_steps.specs.Nodes.{widths_of, width_of, starts_from, end_from, index_from, IsInserted, IsMember, AreCounted};
 
 use crate::followed::Followed;
 use crate::node::Node;
@@ -134,6 +134,16 @@ impl Visited {
         } else {
             None
         }
+    }
+
+    /// Whether a node is a member.
+    pub(crate) fn has(&self, node: Node) -> bool
+        ensures { IsMember (index_from 0 self.now.widths node.0 node.1) result self.now.ids }
+    {
+        let Some(index) = self.index(node) else {
+            return false;
+        };
+        self.set.contains(StateID::new(index))
     }
 
     /// Adds a node that has an index and is no member yet, and tells whether it was so.

@@ -3,12 +3,20 @@ use Rattle.std.proofs.Common.{◌≡◌, ℕ, zero, suc, ◌+◌, ◌<◌, ◌�
 use Rattle.std.proofs.lemmas.List.{take_at, append_assoc, reverse-append, reverse-reverse, length-reverse, take-append-drop}
 use Rattle.std.proofs.lemmas.Nat.{mod_below}
 use Rattle.std.proofs.lemmas.Bool.Decides.{nat_tests}
-use Rattle.std.proofs.lemmas.Str.{length-encode, len_utf8_bounds, encode_same}
-use Rattle.std.proofs.Math.Utf8.{encode}
+use Rattle.std.proofs.lemmas.Str.{length-encode, len_utf8_bounds, encode_same, encode_ascii}
+use Rattle.std.proofs.Math.Utf8.{encode, low_scalar}
 use Rattle.std.specs.Char.{len_utf8}
-use Rattle.rx_walks.specs.Characters.{character_of, last_character, StandsLast}
-use Rattle.rx_walks.specs.Looks.{Look, start_text, end_text, start_line, end_line, word_boundary, no_word_boundary, side_before, side_after, holds_between}
+use Rattle.std.specs.Prelude.{IsTrue}
+use Rattle.rx_walks.specs.Characters.{character_of, first_some, last_character, StandsLast}
+use Rattle.rx_walks.specs.Looks.{Look, start_text, end_text, start_line, end_line, word_boundary, no_word_boundary, whole, side_of, side_before, side_after, asks_characters, IsEdgeOrAscii, holds_between}
 use Rattle.rx_walks.proofs.CharacterLaws.{character_is, character_of-encode, some_first, first_of}
+
+-- the characters of more than one byte that may stand on a side
+abbrev last_of_more : List ℕ → Option ℕ
+last_of_more back = first_some (character_of (reverse (take 2 back))) (first_some (character_of (reverse (take 3 back))) (character_of (reverse (take 4 back))))
+
+abbrev first_of_more : List ℕ → Option ℕ
+first_of_more bytes = first_some (character_of (take 2 bytes)) (first_some (character_of (take 3 bytes)) (character_of (take 4 bytes)))
 
 -- four bytes on each side tell which character stands there
 same_before : (before : List ℕ) → side_before (take 4 before) ≡ side_before before
@@ -37,6 +45,38 @@ four_bytes_tell is_word terminator end_line before [] = refl
 four_bytes_tell is_word terminator end_line before (b ∷ after) = refl
 four_bytes_tell is_word terminator word_boundary before after = cc (same_before before, same_after after)
 four_bytes_tell is_word terminator no_word_boundary before after = cc (same_before before, same_after after)
+
+-- ASCII is a character by itself
+pub ascii_alone : (b : ℕ) → b < 128 → character_of (b ∷ []) ≡ Some b
+ascii_alone b low = ap character_of (sym (encode_ascii b low)) ∙ character_of-encode b (low_scalar b (omega (arith, low)))
+
+pub ascii_before : (b : ℕ) (before : List ℕ) → b < 128 → side_before (b ∷ before) ≡ whole b
+ascii_before b before low = ap (λ o. side_of (b ∷ before) (first_some o (last_of_more (b ∷ before)))) (ascii_alone b low)
+
+pub ascii_after : (b : ℕ) (after : List ℕ) → b < 128 → side_after (b ∷ after) ≡ whole b
+ascii_after b after low = ap (λ o. side_of (b ∷ after) (first_some o (first_of_more (b ∷ after)))) (ascii_alone b low)
+
+-- so one byte tells as much as all
+one_before : (before : List ℕ) → IsEdgeOrAscii before → side_before (take 1 before) ≡ side_before before
+one_before [] low = refl
+one_before (b ∷ before) low = ascii_before b [] low ∙ sym (ascii_before b before low)
+
+one_after : (after : List ℕ) → IsEdgeOrAscii after → side_after (take 1 after) ≡ side_after after
+one_after [] low = refl
+one_after (b ∷ after) low = ascii_after b [] low ∙ sym (ascii_after b after low)
+
+pub one_byte_tells : (is_word : ℕ → Bool) (terminator : ℕ) (l : Look) (before after : List ℕ) → (IsTrue (asks_characters l) → IsEdgeOrAscii before × IsEdgeOrAscii after)
+    → holds_between is_word terminator l (take 1 before) (take 1 after) ≡ holds_between is_word terminator l before after
+one_byte_tells is_word terminator start_text [] after low = refl
+one_byte_tells is_word terminator start_text (b ∷ before) after low = refl
+one_byte_tells is_word terminator end_text before [] low = refl
+one_byte_tells is_word terminator end_text before (b ∷ after) low = refl
+one_byte_tells is_word terminator start_line [] after low = refl
+one_byte_tells is_word terminator start_line (b ∷ before) after low = refl
+one_byte_tells is_word terminator end_line before [] low = refl
+one_byte_tells is_word terminator end_line before (b ∷ after) low = refl
+one_byte_tells is_word terminator word_boundary before after low = cc (one_before before (low refl).0, one_after after (low refl).1)
+one_byte_tells is_word terminator no_word_boundary before after low = cc (one_before before (low refl).0, one_after after (low refl).1)
 
 -- bytes that continue a character, and a byte that doesn't
 abbrev Continues : List ℕ → Type 0

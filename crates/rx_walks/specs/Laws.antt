@@ -5,7 +5,7 @@ use Rattle.rx_walks.specs.Machines.{Machine, Outcome, IsForward, reads}
 use Rattle.rx_walks.specs.Walks.{Walk, IsLeast, Reaches}
 use Rattle.rx_walks.specs.Paths.{Path, PathThrough, HasNoRepeat}
 use Rattle.rx_walks.specs.Characters.{first_character, last_character, StandsFirst, StandsLast}
-use Rattle.rx_walks.specs.Looks.{Look, holds_between}
+use Rattle.rx_walks.specs.Looks.{Look, asks_characters, IsEdgeOrAscii, holds_between}
 use Rattle.rx_walks.specs.Finds.{Search, IsInside, IsPossible, MayEnd, IsFind, IsFindAll, PatternMatch}
 use Rattle.rx_walks.specs.Programs.{Node, set, Program, Haystack, Notes, fresh_notes, put_note, slot_of, over_characters}
 use Rattle.rx_walks.specs.ProgramFinds.{ProgramFinds, ProgramFindsAll, ProgramMatches, ProgramMatchesAll, first_by, haystack_of, holds_in, machine_of, start_node, start_of, end_of}
@@ -83,6 +83,13 @@ LastCharacterStands =
 abbrev pub FourBytesTell : Type 0
 FourBytesTell = (is_word : ℕ → Bool) (terminator : ℕ) (l : Look) (before after : List ℕ)
     → holds_between is_word terminator l (take 4 before) (take 4 after)
+    ≡ holds_between is_word terminator l before after
+
+-- and by one byte on each side, where that is a character by itself or none is asked for
+abbrev pub OneByteTells : Type 0
+OneByteTells = (is_word : ℕ → Bool) (terminator : ℕ) (l : Look) (before after : List ℕ)
+    → (IsTrue (asks_characters l) → IsEdgeOrAscii before × IsEdgeOrAscii after)
+    → holds_between is_word terminator l (take 1 before) (take 1 after)
     ≡ holds_between is_word terminator l before after
 
 -- a match from a start to an end that a search may tell

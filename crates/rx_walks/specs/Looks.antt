@@ -1,6 +1,6 @@
 -- Looks: what has to stand around a place, in a content that is cut to the slice. What stands
 -- before the place is given from the place back.
-use Rattle.std.specs.Prelude.{ℕ, Bool, true, false, not, ◌&&◌, ◌==◌, List, [], ◌∷◌, Option, Some, None}
+use Rattle.std.specs.Prelude.{ℕ, ◌<◌, Bool, true, false, not, ◌&&◌, ◌==◌, List, [], ◌∷◌, Option, Some, None}
 use Rattle.rx_walks.specs.Characters.{first_character, last_character}
 
 pub data Look : Type 0 where
@@ -48,6 +48,17 @@ is_broken (whole c) = false
 abbrev pub is_same : Bool → Bool → Bool
 is_same true b = b
 is_same false b = not b
+
+-- whether characters tell if a look holds: the others are told by bytes
+abbrev pub asks_characters : Look → Bool
+asks_characters word_boundary = true
+asks_characters no_word_boundary = true
+asks_characters _ = false
+
+-- there are no bytes, or the first one is a character by itself
+abbrev pub IsEdgeOrAscii : List ℕ → Type 0
+IsEdgeOrAscii [] = Unit {0}
+IsEdgeOrAscii (b ∷ bytes) = b < 128
 
 -- there are no bytes, or the first one is this
 abbrev pub is_edge : List ℕ → Bool

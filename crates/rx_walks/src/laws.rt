@@ -1,6 +1,6 @@
 //! Laws of walks and of what is found by them. Each function does nothing: its contract is the law.
 
-ghost use Rattle.rx_walks.specs.Laws.{BytesRefine, FindsAllStandAtBoundaries, FindsAllAtMostOne, FindsAllExist, FindsAllLieInside, FindsStandAtBoundaries, FindsAtMostOne, FindsExist, FindsLieInside, FirstCharacterStands, FourBytesTell, LastCharacterStands, MatchesAllAreOneList, MatchesAreOneList, PathsAgree, PathsHaveWalks, ProgramIsSearched, ProgramIsSearchedForAll, ProgramIsSearchedKeeping, ProgramWalksAgree, ProgramsFind, ProgramsFindAll, ProgramsReadForward, SearchesFind, SearchesFindAll, StepsKeepBest, WalksAgree, WalksTakeNoPairTwice};
+ghost use Rattle.rx_walks.specs.Laws.{BytesRefine, FindsAllStandAtBoundaries, FindsAllAtMostOne, FindsAllExist, FindsAllLieInside, FindsStandAtBoundaries, FindsAtMostOne, FindsExist, FindsLieInside, FirstCharacterStands, FourBytesTell, LastCharacterStands, MatchesAllAreOneList, MatchesAreOneList, OneByteTells, PathsAgree, PathsHaveWalks, ProgramIsSearched, ProgramIsSearchedForAll, ProgramIsSearchedKeeping, ProgramWalksAgree, ProgramsFind, ProgramsFindAll, ProgramsReadForward, SearchesFind, SearchesFindAll, StepsKeepBest, WalksAgree, WalksTakeNoPairTwice};
 ghost use Rattle.rx_walks.specs.Iterating.{IteratorsGiveInOrder, MatchesLeft};
 ghost use Rattle.rx_walks.specs.MatchLaws.{FirstMatchesGrow, MatchesAllExist, MatchesAllRise, MatchesAreFound, MatchesStandAtBoundaries, MatchesExist, MatchesRise};
 ghost use Rattle.rx_walks.specs.Machines.{Machine, Outcome};
@@ -111,6 +111,11 @@ pub fn last_character_stands()
 /// Whether a look holds is told by four bytes on each side of a place.
 pub fn four_bytes_tell()
     ensures { FourBytesTell }
+{}
+
+/// And by one byte on each side, where that is ASCII or the look asks for no character.
+pub fn one_byte_tells()
+    ensures { OneByteTells }
 {}
 
 /// What a program finds begins at a possible place, ends behind it inside content, slice and span,

@@ -1,0 +1,72 @@
+//! Which looks a program asks for.
+
+ghost use Rattle.std.specs.Prelude.{◌≡◌, ◌↔◌, ◌||◌, IsTrue};
+ghost use Rattle.rx_walks.specs.Looks.{asks_characters};
+ghost use Rattle.rx_program.specs.Code.{place_of};
+ghost use Rattle.rx_steps.specs.Asked.{AsksSome, asks_for, is_look, is_of_lines};
+
+use rx_grammar::Look;
+use rx_program::State;
+
+/// Which kinds of looks a program asks for.
+#[derive(Clone, Copy, Debug, Default, PartialEq, Eq)]
+pub struct AskedLooks {
+    /// Any.
+    pub any: bool,
+    /// `^` and `$` of lines.
+    pub lines: bool,
+    /// `\b` and `\B`.
+    pub words: bool,
+}
+
+/// Whether it is a look of lines.
+fn is_line_look(look: Look) -> bool
+    ensures { result ≡ is_of_lines (place_of look) }
+{
+    match look {
+        Look::StartLine | Look::EndLine => true,
+        Look::Start | Look::End | Look::WordUnicode | Look::WordUnicodeNegate => false,
+    }
+}
+
+/// Whether it is a look of words.
+fn is_word_look(look: Look) -> bool
+    ensures { result ≡ asks_characters (place_of look) }
+{
+    match look {
+        Look::WordUnicode | Look::WordUnicodeNegate => true,
+        Look::Start | Look::End | Look::StartLine | Look::EndLine => false,
+    }
+}
+
+impl AskedLooks {
+    /// With what a further state asks for.
+    fn with(self, state: &State) -> AskedLooks
+        ensures any { result.any ≡ (asks_for is_look state.now || self.any) }
+        ensures lines { result.lines ≡ (asks_for is_of_lines state.now || self.lines) }
+        ensures words { result.words ≡ (asks_for asks_characters state.now || self.words) }
+    {
+        match state {
+            State::Look(look, _) => AskedLooks {
+                any: true,
+                lines: is_line_look(*look) || self.lines,
+                words: is_word_look(*look) || self.words,
+            },
+            _ => self,
+        }
+    }
+
+    /// Those that some of these states asks for: a kind is told exactly where one asks for a look
+    /// of it. `O(n)` in the states.
+    pub fn of(states: &[State]) -> AskedLooks
+        ensures any { IsTrue result.any ↔ AsksSome states.now is_look }
+        ensures lines { IsTrue result.lines ↔ AsksSome states.now is_of_lines }
+        ensures words { IsTrue result.words ↔ AsksSome states.now asks_characters }
+    {
+        let mut asked = AskedLooks::default();
+        for state in states {
+            asked = asked.with(state);
+        }
+        asked
+    }
+}
