@@ -13,6 +13,7 @@ from protocol import WEIGHT_LIMIT, refused_pattern
 from random_patterns import Maker
 from test_edits import PATTERNS, REFUSED_PATTERNS
 from test_patterns import LARGE, MOST, REFUSED, TREES, WEIGHTS, examples, set_of, tree_of as told_tree
+from test_regexes import rows
 from test_searches import VECTORS, listed
 from walks import Empty, Group, Look, Repeat, Search, Set, below, spelled
 
@@ -77,8 +78,9 @@ def wrong_reasons():
 
 
 def wrong_searches():
-    """What is found otherwise than is told, of patterns that the model reads."""
-    for pattern, haystack, due, *how in VECTORS:
+    """What is found otherwise than is told, here and by Python's `re`, of patterns that the model reads."""
+    table = [(row["pattern"], row["haystack"], listed(row["matches"])) for row in rows()]
+    for pattern, haystack, due, *how in VECTORS + table:
         is_known = how[1:] in ([], [False]) and not (how and isinstance(how[0][2], int) and how[0][2] > 1)
         if is_known and refused_pattern(pattern) is None:
             found = listed(Search(tree_of(pattern), haystack.encode(), *(how[0] if how else ())).matches())
