@@ -3,15 +3,11 @@ program ends with."""
 import functools
 import re
 
+from pattern_model import match_from, matches, pattern_weight, tree_of
+
 TEXT_LIMIT = 1 << 30  # the most bytes that a text may have
 PATTERN_LIMIT = 65_536  # the most bytes that a pattern may have
-# Patterns of the tests that weigh more than a pattern may.
-HEAVY = {"^^a{65535}a{65535}", "a" + "{65535}" * 200, r"(?:\w{99}){99999}", r"\w{1000}{1000}"}
-# What Python's `re` reads otherwise than the grammar of docs/patterns.md, or not at all: of these patterns of the tests
-# it is known whether they are in the grammar.
-KNOWN = {"a" + "{65535}" * 200: True, "a{65535}{65535}{0}": True, r"(?:\w{99}){99999}": False, r"\w{1000}{1000}": True, "{": False, "a{": False,
-         "a**": True, r"\q": False, r"\<": False, "(?x)a": False, "(?=a)": False, r"(a)\1": False, "[a": False, "[[a]": False, "a{,2}": False,
-         "a{65536}": False, r"\p{L}": False}
+WEIGHT_LIMIT = 262_144  # the most that a pattern may weigh
 BREAK = re.compile("\r\n|[\r\n]")
 LINE_LIMIT = 128  # the most bytes of a command line, its LF left off
 NUMBER_LIMIT = (1 << 64) - 1
@@ -83,6 +79,7 @@ def units(text):
     return len(text.encode("utf-16-le")) // 2
 
 
+@functools.lru_cache(maxsize=10)
 def lines_of(text):
     """Where each line of a text starts, and where the line's text ends, in characters."""
     breaks = [found.span() for found in BREAK.finditer(text)]
@@ -110,40 +107,22 @@ def place_of(text, line, column):
     return place if column == 0 else None
 
 
-@functools.lru_cache(maxsize=1000)
-def compiled(pattern):
-    """A pattern of the tests as Python's `re` has it, or None where it isn't in the grammar. Only such patterns are given
-    that both read alike; a dollar without a flag stands at the very end in the grammar."""
-    if KNOWN.get(pattern) is False or len(re.findall(r"(?<!\\)\(", pattern)) > 250:
-        return None
-    if pattern in KNOWN or "a" * 1000 in pattern:
-        return re.compile(re.escape(pattern)) if pattern not in KNOWN else re.compile(r"(?!)")
-    flagged = re.match(r"\(\?[a-z]*m[a-z]*\)", pattern)
-    try:
-        return re.compile(pattern if flagged else re.sub(r"(?<!\\)\$", r"\\Z", pattern).replace(r"\z", r"\Z"))
-    except (re.error, OverflowError, RecursionError):
-        return None
+def refused_pattern(text):
+    """Why a pattern is refused, or None."""
+    if len(text.encode()) > PATTERN_LIMIT:
+        return b"limit"
+    if tree_of(text) is None:
+        return b"pattern"
+    return b"limit" if pattern_weight(text) > WEIGHT_LIMIT else None
 
 
-def spans(pattern, text, start=0):
-    """The matches of a pattern in a text, from a place on, as pairs of places: each further one from the end of the one
-    before, or from one place on where an empty match is found there."""
-    last = None
-    while start <= len(text):
-        found = compiled(pattern).search(text, start)
-        if found and found.span() == (last, last):
-            found = compiled(pattern).search(text, start + 1) if start < len(text) else None
-        if not found:
-            return
-        yield found.span()
-        start = last = found.end()
-
-
+@functools.lru_cache(maxsize=10_000)
 def listed(text, pattern):
     """The lines of the matches of a pattern in each line of a text, and their number."""
     out = []
     for number, line in enumerate(BREAK.split(text)):
-        out += [b"m %d %d %d\n" % (number, units(line[:start]), units(line[:end])) for start, end in spans(pattern, line)]
+        for start, end in matches(pattern, line):
+            out.append(b"m %d %d %d\n" % (number, units(line[:start]), units(line[:end])))
     return b"".join(out) + b"ok %d\n" % len(out)
 
 
@@ -155,9 +134,8 @@ def position_at(text, place):
 
 def found_next(text, pattern, place):
     """How the first match in a whole text that starts at a place or behind it is told, or that there is none."""
-    for start, end in spans(pattern, text, place):
-        return b"m %d %d %d %d\n" % (*position_at(text, start), *position_at(text, end))
-    return b"no match\n"
+    found = match_from(pattern, text, place)
+    return b"m %d %d %d %d\n" % (*position_at(text, found[0]), *position_at(text, found[1])) if found else b"no match\n"
 
 
 class Buffer:
@@ -216,12 +194,7 @@ class Session:
         if not is_utf8(payload):
             return b"utf8"
         if word == "pattern":
-            pattern = payload.decode() if len(payload) <= PATTERN_LIMIT else None
-            if pattern is None:
-                return b"limit"
-            if compiled(pattern) is None:
-                return b"pattern"
-            return b"limit" if pattern in HEAVY else None
+            return refused_pattern(payload.decode())
         text = self.buffer.edited(*numbers[:4], "").encode() if word == "edit" else b""
         return b"size" if len(text) + len(payload) > TEXT_LIMIT else None
 

@@ -73,7 +73,14 @@ def test_failing_writes():
             for wrong in differences(ended, out[:room], *end):
                 yield f"room for {room}: {wrong}"
 
-    for data in (FIRST, b"text 2\nhifork\n", b"use 1\ntext 1\n\xffjump\n", b"text 1\naprint\ntext 5\nab", b"text 3\na\napattern 1\nalist\n"):
+    for data in (
+        FIRST,
+        b"text 2\nhifork\n",
+        b"use 1\ntext 1\n\xffjump\n",
+        b"text 1\naprint\ntext 5\nab",
+        b"text 3\na\napattern 1\nalist\n",
+        b"text 4\na\nabpattern 3\n\\w+next 0 1\nnext 1 2\nnext 2 0\nlist\n",
+    ):
         test(f"{short(data)} with room for each number of bytes", rooms(data))
 
 

@@ -4,15 +4,26 @@ import itertools
 import random
 
 from harness import differences, run, short, test
-from protocol import Session, listed, positions_of, spelled
+from pattern_model import pattern_weight
+from protocol import WEIGHT_LIMIT, Session, listed, positions_of, spelled
+from random_patterns import Maker
+from walks import spelled as spelled_tree
 
-CHARACTERS = "aab\r\r\n\n\u2028🐸é"
+CHARACTERS = "aab\r\r\n\n\u2028🐸éA "
 SESSIONS, SESSIONS_IN_RUN = 20_000, 500
 SMALL = "\r\na\v"
-# Patterns, those at the end refused.
-PATTERNS = ("a", "b", "ab", "x*", "a$", "^", r"\b", "(a|b)+", r"[^a]", "a|🐸", r"\w+", "(?i)A.", "aa", "é", "a\n", "", r"\n|b$", "[ab]{2,3}?", "(?m)^a", "a(", "*")
+PATTERNS = r"""
+    a b ab aa é 🐸 x* a* a+? a?? (a|b)+ (?:a|ab)b? [^a] [ab]{2,3}? a|🐸 (?U)a+ (a*)*b (?:a|\b)+ \d*b
+    \w+ \W \s+ \S+ (?i)A. (?i:É)|b . (?s). (?s)a.+b \r \n \r\n \r?\n [\r\n]+a \n|b$ \x{2028}|^b
+    a$ ^ $ ^$ \b \B \ba a\b. (?m)^a (?m)a$ (?m)^$ \Aa|\z
+""".split() + ["", "|b", "a\n", "a\r\n?"]
+REFUSED_PATTERNS = r"a( * a|* (?x)a [b-a] a{2,1} \q [[a] (?<n>a)(?<n>b) (?=a) \w{1000}{1000} a{65535}{65535}".split()
+# Under these all small texts are edited, and in them what is next is found from each position by some more.
 SMALL_PATTERNS = ("a", "x*", "a$", "^", r"\b", "(a|b)+")
+NEXT_PATTERNS = (*SMALL_PATTERNS, r"\r", r"\n", r"\r\n", "(?m)^a", "(?m)a$", "[^a]", r"\B", "(?s)a.*?$")
 
+# The heaviest that a pattern may be; and the lines of a text, and the edits of it, under that.
+HEAVIEST, LINES, EDITS = "mark|^x{0,65535}y{32763}", 10_000, 1_000
 
 class Writer:
     """Commands, and what the model replies to them."""
@@ -70,6 +81,14 @@ def some_edit(chosen, writer):
     writer.write("edit", *first, *last, text=payload)
 
 
+def some_pattern(chosen):
+    """A pattern of those above, one at random, or one that is refused."""
+    roll = chosen.random()
+    if roll < 0.15:
+        return spelled_tree(Maker(chosen, most_nodes=30).tree())
+    return chosen.choice(PATTERNS if roll < 0.93 else REFUSED_PATTERNS)
+
+
 def some_command(chosen, writer):
     word = chosen.choices(
         ("edit", "undo", "redo", "list", "print", "pattern", "text", "fork", "use", "off", "next"),
@@ -80,7 +99,7 @@ def some_command(chosen, writer):
     if word == "edit":
         some_edit(chosen, writer)
     elif word == "pattern":
-        writer.write("pattern", text=chosen.choice(PATTERNS))
+        writer.write("pattern", text=some_pattern(chosen))
     elif word == "text":
         writer.write("text", text=some_text(chosen, 12))
     elif word == "next":
@@ -101,7 +120,7 @@ def some_sessions(seed, count):
         writer.write("off")
         writer.write("text", text=some_text(chosen, 12))
         if chosen.random() < 0.8:
-            writer.write("pattern", text=chosen.choice(PATTERNS[:12]))
+            writer.write("pattern", text=some_pattern(chosen))
         for _ in range(chosen.randint(8, 20)):
             some_command(chosen, writer)
         for word in ("list", "print"):
@@ -136,7 +155,7 @@ def nexts_of(text):
     """What is found from each position of a text, by each of some patterns."""
     writer = Writer()
     writer.write("text", text=text)
-    for pattern in (*SMALL_PATTERNS, r"\r", r"\n", r"\r\n", r"(?m)^a", r"(?m)a$", "[^a]"):
+    for pattern in NEXT_PATTERNS:
         writer.write("pattern", text=pattern)
         for position in positions_of(text):
             writer.write("next", *position)
@@ -156,14 +175,36 @@ def positions_around(text):
     return writer
 
 
+def edited_under_heaviest():
+    """Edits all over a text of many lines, which add marks and take them away, with undos and redos between them."""
+    chosen, writer = random.Random(4), Writer()
+    writer.write("text", text="".join(f"line {number} marks\n" for number in range(LINES)))
+    assert writer.write("pattern", text=HEAVIEST) == b"ok\n"
+    for number in range(EDITS):
+        line = chosen.randrange(LINES)
+        last = chosen.choice((0, 3))
+        writer.write("edit", line, 0, line, last, text=chosen.choice(("mark", "x", "ma\n", "")))
+        if number % 100 == 0:
+            for word in ("list", "undo", "redo"):
+                writer.write(word)
+            writer.write("next", line, 0)
+    writer.write("list")
+    writer.write("print")
+    return writer
+
+
 def test_all():
+    weight = pattern_weight(HEAVIEST)
+    test("the heaviest pattern weighs what one may", [] if weight == WEIGHT_LIMIT else [f"it weighs {weight}"])
+    test(f"{EDITS} edits of {LINES} lines under it", edited_under_heaviest().problems())
     for seed in range(SESSIONS // SESSIONS_IN_RUN):
         name = f"{SESSIONS_IN_RUN} sessions at random, by seed {seed}"
         test(name, some_sessions(seed, SESSIONS_IN_RUN).problems())
     for length in range(5):
         texts = [text for text in texts_of(length) if len(text) == length]
         name = f"the {len(texts)} texts of {length} characters over CR, LF, VT and a"
-        for pattern in SMALL_PATTERNS if length < 4 else ("a", "a$"):
-            test(f"{name}, each edit under {pattern}", (wrong for text in texts for wrong in edits_of(text, pattern).problems()))
+        for pattern in SMALL_PATTERNS:
+            wrong = (wrong for text in texts for wrong in edits_of(text, pattern).problems())
+            test(f"{name}, each edit under {pattern}", wrong)
         test(f"{name}, next from each position", (wrong for text in texts for wrong in nexts_of(text).problems()))
         test(f"{name}, all positions", (wrong for text in texts for wrong in positions_around(text).problems()))

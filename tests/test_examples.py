@@ -108,6 +108,29 @@ class Pane:
         os.close(self.terminal)
 
 
+def test_typing(asked):
+    """Keys that edit the text from the first match on, under the pattern `t\\w+d`; `\x1b7` stands at the cursor."""
+    front, toad = "     1  A frog 🐸 and a ", "\x1b[7mtoad\x1b[27m."
+    at_match = asked("\t", f"{front}\x1b7\x1b[4m\x1b[7mtoad\x1b[27m\x1b[24m.")
+    test("Tab goes to the text, where the match is", at_match)
+    wrong = asked("old ", f"{front}old \x1b7{toad}", "matches: 2, lines: 2")
+    test("what is typed is put in, and the matches follow", wrong)
+    test("Backspace takes a character away", asked("\x7f" * 2, f"{front}ol\x1b7{toad}"))
+    wrong = asked("ad\x7f\x7f\x1b[C\x1b[C\x7f\x7f", f"{front}ol\x1b7ad.", "matches: 1, lines: 1")
+    test("a match that is typed away is told no more", wrong)
+    wrong = asked("\rt🐸\x1b[D\x1b[Co", "     2  t🐸o\x1b7ad.", "     3  No \x1b[7mtoad\x1b[27m")
+    test("Enter breaks the line, and arrows go over characters of two code units", wrong)
+    test("Backspace at a line's start joins it with the one before", asked("\x7f\x7f\x7f\x7f", f"{front}ol\x1b7ad."))
+    parted = front + "\x1b[7mto\x1b[27m\x1b7\x1b[7mad\x1b[27m."  # the cursor stays
+    wrong = asked("\x1a" * 4, "     2  t🐸o") + asked("\x1a" * 16, parted, "matches: 2, lines: 2")
+    test("Ctrl-Z undoes edits", wrong)
+    test("and tells where there is none left", asked("\x1a", "error none"))
+    wrong = asked("\x19" * 4, f"{front}ol\x1b7d {toad}") + asked("\x1a" * 4, parted)
+    test("Ctrl-Y does them again", wrong)
+    wrong = asked("\x1b[B\x1b[A", front[:-10]) + asked("\t\r", "search: t\\w+d\x1b7", "\x1b[4m\x1b[7mtoad")
+    test("Tab goes back to the search, and Enter on from there", wrong)
+
+
 def test_pane():
     pane = Pane(TEXT.encode())
 
@@ -118,14 +141,20 @@ def test_pane():
     started = pane.shows("     2  No toad here is green.".encode())
     test("the pane shows a file's lines", [] if started else [f"it shows {short(pane.out)}"])
     marked = "     1  A frog 🐸 and a \x1b[7mtoad\x1b[27m."
-    test("the pane marks matches behind a character of two code units", asked("toad", "matches: 2, lines: 2", marked))
+    test("the pane marks matches behind a character of two code units", asked("t\\w+d", "matches: 2, lines: 2", marked))
     test("the pane tells a pattern that is refused", asked("(", "error pattern", "     1  A frog 🐸 and a toad."))
     test("the pane goes on after it", asked("\x7f", "matches: 2, lines: 2", marked))
-    test("Enter goes to the next line with a match", asked("\r", "\x1b[2H\x1b[K     2  No \x1b[7mtoad"))
-    test("Up and Down move the file", asked("\x1b[A", "\x1b[2H\x1b[K     1  ") + asked("\x1b[B", "\x1b[2H\x1b[K     2  "))
-    far = asked("\x7f" * 4 + "the end", "search: the end", "    43  \x1b[7mthe end\x1b[27m")
+    toad = "\x1b[4m\x1b[7mtoad\x1b[27m\x1b[24m"
+    first, second = f"     1  A frog 🐸 and a {toad}.", f"     2  No {toad} here"
+    wrong = [wrong for line in (first, second, first) for wrong in asked("\r", line)]
+    test("Enter goes to the next match, and from the last one to the first", wrong)
+    wrong = asked("\x1b[B", "\x1b[2H\x1b[K     2  ") + asked("\x1b[A", "\x1b[2H\x1b[K     1  ")
+    test("Up and Down move the file", wrong)
+    test_typing(asked)
+    far = asked("\x7f" * 5 + "^the", "search: ^the", "    43  \x1b[7mthe\x1b[27m end")
     test("the pane goes to the first match where none is in sight", far)
-    test("without a pattern the pane marks nothing", asked("\x7f" * 7, "    43  the end"))
+    test("without a pattern the pane marks nothing", asked("\x7f" * 4, "    43  the end"))
+    test("and Enter goes nowhere", asked("\r", "search: \x1b7   \x1b[2H\x1b[K    43  the end"))
     pane.type("\x1b")
     test("Escape leaves, with the terminal as it was", pane.end())
 

@@ -12,7 +12,14 @@ UNDER_PATTERN = (
     b"pattern 1\nbtext 13\nab\nb\ncb\nbb\nabedit 1 0 2 1 5\nb\r\nxblist\nundo\nlist\nredo\nlist\n"
     b"edit 0 1 4 0 0\nlist\nedit 0 0 0 0 12\nb\nb\nb\nb\nb\nb\nlist\nundo\nundo\nundo\nlist\nprint\n"
 )
-SENT_AGAIN = (HISTORY, UNDER_PATTERN)
+# Regular expressions, one of them outside the grammar and one too heavy, and what they find next.
+UNDER_REGEX = (
+    spelled("text", (26,), b"Todo a\nan error\r\nno todo\n\n") + spelled("pattern", (19,), rb"(?i)\btodo\b|e\w+r$")
+    + b"list\nnext 0 1\nnext 2 4\nedit 1 3 1 8 4\nTODOlist\nnext 0 5\nundo\nnext 1 3\nredo\nlist\n"
+    + spelled("pattern", (3,), b"(a|") + spelled("pattern", (14,), rb"\w{1000}{1000}") + b"next 9 9\nfork\n"
+    + spelled("pattern", (13,), rb"(\r\n|o$)+|^$") + b"next 0 4\nlist\noff\nnext 0 0\nuse 1\nnext 0 0\n"
+)
+SENT_AGAIN = (HISTORY, UNDER_PATTERN, UNDER_REGEX)
 
 # A text of a megabyte, and how many of its lines are edited, each in a fork of its own and all in one buffer.
 LINES, LINE, EDITED = 20_000, b"a line of fifty bytes, which holds one mark: here\n", 50
@@ -31,6 +38,7 @@ MEMORY_INPUTS = [
     b"text 2\nab" + b"text 3\n\xff\xfe\xfd" + b"fork\nuse 9\nuse 1\ntext 0\nprint\nuse 0\nprint\njump\n",
     HISTORY,
     UNDER_PATTERN,
+    UNDER_REGEX,
     b"pattern 2\nabtext 3063\n" + b"ab" * 1500 + b"\n" + b"ab\n" * 20 + b"abedit 0 1500 10 1 47\n" + b"\nab" * 15 + b"\r\n"
     + b"list\nundo\nlist\nredo\nprint\nedit 0 0 5 2 0\nlist\n",
     b"text 3\na\nbfork\nedit 0 1 1 0 1\n\ruse 1\nedit 0 0 0 1 2\n\xc3\xa9undo\nprint\nuse 0\nundo\nundo\nredo\nprint\n"
@@ -156,4 +164,6 @@ def test_all():
     test("a fork with an edit takes memory for the edit, not for the text", taken_for_edits(b"", forks))
     one = edited_lines(lambda k: b"")
     test("an edit takes memory for what it changes, not for the text", taken_for_edits(b"", one))
-    test("so does an edit under a pattern", taken_for_edits(spelled("pattern", (4,), b"mark"), one))
+    for pattern in (b"mark", rb"(?i)\bM\w+k\b|^$"):
+        setting = spelled("pattern", (len(pattern),), pattern)
+        test(f"so does an edit under the pattern {pattern.decode()}", taken_for_edits(setting, one))

@@ -27,6 +27,10 @@ def examples_of_page():
 
 # What is outside the grammar; and what is a pattern, that matches nowhere in the empty text, or once.
 REFUSED_PATTERNS = ["\\", "+", "*", "?", "(", ")", "[", "{", "a{", "(b", "a)", "(?x)a", "(?=a)", "a{2,1}", "[b-a]", "\\q", "\\p{L}", "[a", "[[a]"]
+REFUSED_PATTERNS += ["a|*", "a{,2}", "a{65536}", "(?i)*", "(?)", "(?ii)", "(?P<n>a)(?<n>b)", "(a)\\1"]
+REFUSED_PATTERNS += ["\\<", "\\x{D800}", "[\\b]", "[]-a]"]
+# So are these of 65,536 bytes, which are as long as a pattern may be.
+LONG_REFUSED = ["a" * 65_535 + "(", "(" * 65_536, "[" * 65_536, "a" + "*" * 65_535, "é" * 32_767 + "a)"]
 PATTERNS = ["]", "}", "-", "&", "a", " ", "\n", "é", "🐸", "]a}", ".", "a.", "a+", "[ab]", "(a)b", "\\w", "\\b", "a{2}"]
 EMPTY_PATTERNS = ["", "|", "^", "$", "a*", "a?", "()", "(?:a|b)*", "^$", "(?m)^$", "a{0}", "(?i)"]
 
@@ -83,6 +87,7 @@ MORE_EXAMPLES = [
     (b"text 9001\n" + b"print\n" * 1500 + b"\xff" + b"print\n", b"error utf8\ntext 0\n\n", 0),
     # what is a pattern, and what is left of the one before
     listed_after(REFUSED_PATTERNS, b"error pattern\n", b"error none\n"),
+    listed_after(LONG_REFUSED, b"error pattern\n", b"error none\n"),
     listed_after(PATTERNS, b"ok\n", b"ok 0\n"),
     listed_after(EMPTY_PATTERNS, b"ok\n", b"m 0 0 0\nok 1\n"),
     (b"list\noff\npattern 1\n\xffpattern 2\na(list\npattern 5\nabcdelist\ntext 3\na\nalist\noff\nlist\n",
@@ -129,6 +134,19 @@ MORE_EXAMPLES = [
      b"ok\nok\nm 0 2999 3001\nm 2 0 2\nok 2\ntext 3006\n" + b"a" * 3000 + b"b\n\nab\n\n", 0),
     (with_payload("pattern", "éb") + b"".join(data for data, _ in LONG_LINES),
      b"ok\n" + b"".join(out for _, out in LONG_LINES), 0),
+    # the next match in the whole text
+    (with_payload("text", "ab\r\nab") + with_payload("pattern", "b\\r\\na|$")
+     + b"next 0 0\nnext 0 2\nlist\nnext 1 0\nnext 1 3\n",
+     b"ok\nok\nm 0 1 1 1\nm 1 2 1 2\nm 0 2 2\nm 1 2 2\nok 2\nm 1 2 1 2\nerror range\n", 0),
+    (with_payload("text", "a🐸\r\n\rb") + with_payload("pattern", "[^a]")
+     + b"next 0 0\nnext 0 2\nnext 0 3\nnext 0 4\nnext 1 0\nnext 2 0\nnext 2 1\n",
+     b"ok\nok\nm 0 1 0 3\nerror range\nm 0 3 0 4\nerror range\nm 1 0 2 0\nm 2 0 2 1\nno match\n", 0),
+    (with_payload("text", "ab\ncd") + with_payload("pattern", "\\Bb|^.") + b"next 0 0\nnext 0 1\nnext 1 0\n"
+     + with_payload("pattern", "(?m)^c") + b"next 0 1\nedit 0 2 1 0 0\nnext 0 1\nundo\nnext 0 1\nfork\nuse 1\nnext 0 0\n",
+     b"ok\nok\nm 0 0 0 1\nm 0 1 0 2\nno match\nok\nm 1 0 1 1\nok\nno match\nok\nm 1 0 1 1\nok 1\nok\nerror none\n", 0),
+    (b"next 9 9\npattern 0\nnext %d 0\nnext 0 %d\nnext 000 00\nnext 0 %d\n" % (MOST, MOST, MOST + 1),
+     b"error none\nok\nerror range\nerror range\nm 0 0 0 0\nerror command\n", 2),
+    (b"next 0\n", b"error command\n", 2),
     # positions that are nowhere: inside the frog's pair, between CR and LF, behind a line's text, past the last
     (with_payload("text", TEXT) + b"".join(b"edit %d %d %d %d 1\nx" % (place * 2) for place in NOWHERE) + b"undo\n",
      b"ok\n" + b"error range\n" * len(NOWHERE) + b"error none\n", 0),
@@ -223,6 +241,7 @@ def test_conversation():
         b"print\nuse 7\ntext 1\n\xfffork\nuse 1\ntext 3\na\nbprint\n",
         b"text 3\na\nbpattern 1\nbedit 0 1 1 0 0\nlist\nundo\nlist\nredo\nedit 0 9 0 9 1\nbprint\n",
         b"list\npattern 1\naoff\ntext 3\na\napattern 1\nalist\npattern 1\n(list\n",
+        b"next 0 0\ntext 4\na\nabpattern 3\n\\w+next 0 1\nnext 1 2\nnext 2 0\nedit 1 0 1 0 1\n\nnext 0 1\nlist\n",
     ):
         test(f"{short(data)} command by command, each reply before the next", talk(data))
 

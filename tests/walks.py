@@ -3,6 +3,7 @@ walks through these, and what a search finds. It is slow, and looks like no engi
 
 Places are byte indices into a content, which may be any bytes.
 """
+import functools
 import sys
 import unicodedata
 from dataclasses import dataclass
@@ -37,10 +38,11 @@ class Look:
 
 @dataclass(frozen=True)
 class Group:
-    """A tree with a number. Groups are numbered from 1 by where they open."""
+    """A tree with a number, and perhaps a name. Groups are numbered from 1 by where they open."""
 
     number: int
     inside: Any
+    name: Optional[str] = None
 
 
 @dataclass(frozen=True)
@@ -247,6 +249,11 @@ class Program:
         return into, fork
 
 
+@functools.lru_cache(maxsize=500)
+def program_of(tree):
+    return Program(tree)
+
+
 # ---- searches
 
 
@@ -256,7 +263,7 @@ class Search:
     inside a character are found if `inside` is told, and lines end in the byte `line_end`."""
 
     def __init__(self, tree, content, slice_=None, span=None, is_anchored=False, inside=False, line_end=b"\n"):
-        self.program, self.content, self.is_anchored = Program(tree), content, is_anchored
+        self.program, self.content, self.is_anchored = program_of(tree), content, is_anchored
         self.inside, self.line_end = inside, line_end
         self.slice, self.span = slice_ or (0, len(content)), span or (0, len(content))
         self.low = max(self.slice[0], self.span[0])
