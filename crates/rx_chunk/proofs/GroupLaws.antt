@@ -1,14 +1,18 @@
 -- The groups of a tree: their names and their numbers.
-use Rattle.std.proofs.Common.{◌≡◌, ◌≢◌, ℕ, zero, suc, Bool, true, false, cond, eqb, ◌+◌, ◌^◌, ◌≤◌, ◌<◌, ◌↔◌, List, [], ◌∷◌, ◌++◌, length, get_or, map, append-nil, AllPairs, Contains, Option, Some, None, MatchOption, option_copied, Bor, slice_get, unwrap_or, refl, sym, ap, ap₂, subst, ◌∙◌, inl, inr, arith}
-use Rattle.std.proofs.lemmas.Bool.{cases_lt}
+use Rattle.std.proofs.Common.{◌≡◌, ◌≢◌, ℕ, zero, suc, Bool, true, false, cond, eqb, ◌+◌, ◌^◌, ◌≤◌, ◌<◌, ◌↔◌, ◌⊎◌, List, [], ◌∷◌, ◌++◌, length, get_or, set, replicate, map, take, drop, ◌-◌, append-nil, AllPairs, Contains, Option, Some, None, slice_get, unwrap_or, refl, sym, ap, ap₂, subst, ◌∙◌, inl, inr, arith}
+use Rattle.std.proofs.lemmas.Bool.{cases_eq}
 use Rattle.std.proofs.lemmas.Bool.Decides.{Decides-eqb}
-use Rattle.std.proofs.lemmas.List.{map-append, length_push, get_or_push, get_or_append_left}
+use Rattle.std.proofs.Math.Seq.{take-suc}
+use Rattle.std.proofs.lemmas.List.{map-append, take-append-drop, take_all, length-set, length-replicate, get_or-replicate, get_or-set_same, get_or-set_other, length-map, map-set}
 use Rattle.std.proofs.lemmas.List.Concat.{flat_map-append}
-use Rattle.std.proofs.lemmas.List.Elements.{Contains-append_right}
+use Rattle.std.proofs.lemmas.List.Elements.{Contains-append_left, Contains-append_right, Contains-append_cases}
 use Rattle.std.proofs.lemmas.Option.{none-some, slice_get_within, slice_get-get_or}
-use Rattle.rx_util.specs.Groups.{Groups, name_among, HasDistinctNames, slot_len}
+use Rattle.std.specs.Prelude.{String, string_bytes, option_map}
+use Rattle.rx_util.specs.Groups.{names_of as names_of_texts, Groups, name_among, HasDistinctNames, slot_len}
 use Rattle.rx_grammar.specs.Trees.{Name, Tree, Trees, empty, one_of, look_at, group, concat, alternation, repeated, two, more, names_of, all_names_of, numbers_of, all_numbers_of}
 use Rattle.rx_grammar.specs.Subtrees.{NodeKind, a_group, root_of, subtrees_of, all_subtrees_of, nodes_of, HasName, IsWellFormed}
+use Rattle.rx_grammar.specs.declared.hir.Node.{Node}
+use Rattle.rx_grammar.specs.Nodes.{kind_of}
 use Rattle.rx_grammar.specs.Postorder.{own_names, names_in}
 use Rattle.rx_chunk.specs.Engines.{AreNamesOf}
 
@@ -195,60 +199,7 @@ number_once tree g name other formed at at' =
     let once : times_in g (nodes_of tree) ≤ 1 = subst (λ n. n ≤ 1) (sym (nodes_number g tree)) (times_most g 0 (numbers_of tree) rise) in
     one_name (nodes_of tree) g (Some name) (Some other) at.0 at'.0 once at.1 at.2 at'.1 at'.2
 
--- ---- the names of groups, one after the other
-
--- these are the names of so many groups, from group 1 on
-pub record AreNamesUpTo (tree : Tree) (n : ℕ) (names : List (Option Name)) : Type 0 where
-  pub count : length names ≡ n
-  pub named : (k : ℕ) (name : Name) → k < n → (slice_get names k ≡ Some (Some name)) ↔ HasName tree (k + 1) name
-
-pub no_names : (tree : Tree) (names : List (Option Name)) → names ≡ [] → AreNamesUpTo tree 0 names
-no_names tree names none = record { count = ap length none; named = λ k name lt. absurd (omega (arith, lt)) }
-
--- the name that a group was told to have, or that it was told to have none
-told : (tree : Tree) (g : ℕ) (found : Option (Bor Name)) → IsWellFormed tree
-    → MatchOption found ((name : Name) → HasName tree g name → ⊥) (λ name. HasName tree g name.now)
-    → (name : Name) → (option_copied found ≡ Some name) ↔ HasName tree g name
-told tree g None formed none name = (λ is. absurd (none-some name is), λ has. absurd (none name has))
-told tree g (Some here) formed at name =
-    (λ is. subst (λ x. HasName tree g x) (ap (λ o. unwrap_or o name) is) at, λ has. number_once tree g here.now name formed at has)
-
-get_before : (names : List (Option Name)) (one : Option Name) (k : ℕ) → k < length names → slice_get (names ++ one ∷ []) k ≡ slice_get names k
-get_before names one k lt =
-    slice_get-get_or (names ++ one ∷ []) k one (omega (arith, lt, length_push names one))
-    ∙ ap Some (get_or_append_left names (one ∷ []) one k lt) ∙ sym (slice_get-get_or names k one lt)
-
-get_last : (names : List (Option Name)) (one : Option Name) (k : ℕ) → length names ≡ k → slice_get (names ++ one ∷ []) k ≡ Some one
-get_last names one k is = slice_get-get_or (names ++ one ∷ []) k one (omega (arith, is, length_push names one)) ∙ ap Some (get_or_push names one one k is)
-
--- of an element that is there what it is
-same_last : {x : Option (Option Name)} {P : Type 0} (one : Option Name) (name : Name) → x ≡ Some one → (one ≡ Some name) ↔ P → (x ≡ Some (Some name)) ↔ P
-same_last one name is tells =
-    (λ e. tells.0 (ap (λ o. unwrap_or o None) (sym is ∙ e)), λ p. is ∙ ap (λ o. Some o) (tells.1 p))
-
-one_more_told : (tree : Tree) (n : ℕ) (names all : List (Option Name)) (one : Option Name) → AreNamesUpTo tree n names → all ≡ names ++ one ∷ []
-    → ((name : Name) → (one ≡ Some name) ↔ HasName tree (n + 1) name)
-    → (k : ℕ) (name : Name) → k < n + 1 → (slice_get all k ≡ Some (Some name)) ↔ HasName tree (k + 1) name
-one_more_told tree n names all one so_far all_are tells k name lt = elim (cases_lt k n) [
-  | inl before ↦
-      let here : slice_get all k ≡ slice_get names k = ap (λ xs. slice_get xs k) all_are ∙ get_before names one k (omega (arith, before, so_far.count)) in
-      let known = so_far.named k name before in
-      (λ e. known.0 (sym here ∙ e), λ has. here ∙ known.1 has)
-  | inr behind ↦
-      let this : n ≡ k = omega (arith, lt, behind) in
-      let here : slice_get all k ≡ Some one = ap (λ xs. slice_get xs k) all_are ∙ get_last names one k (so_far.count ∙ this) in
-      same_last one name here (subst (λ j. (one ≡ Some name) ↔ HasName tree (j + 1) name) this (tells name))
-]
-
--- one more group is told
-pub one_more_name : (tree : Tree) (n : ℕ) (names all : List (Option Name)) (one : Option Name) (found : Option (Bor Name)) → IsWellFormed tree → AreNamesUpTo tree n names
-    → all ≡ names ++ one ∷ [] → one ≡ option_copied found
-    → MatchOption found ((name : Name) → HasName tree (n + 1) name → ⊥) (λ name. HasName tree (n + 1) name.now) → AreNamesUpTo tree (n + 1) all
-one_more_name tree n names all one found formed so_far all_are is tells = record {
-  count = ap length all_are ∙ length_push names one ∙ ap (λ k. k + 1) so_far.count;
-  named = one_more_told tree n names all one so_far all_are
-      (λ name. subst (λ o. (o ≡ Some name) ↔ HasName tree (n + 1) name) (sym is) (told tree (n + 1) found formed tells name));
-}
+-- ---- where the numbers of groups lie
 
 within_first : (g m x n rest : ℕ) (same : Bool) → (same ≡ true → x ≡ g) → x ≡ m + 1 → (1 ≤ rest → (m + 1 + 1 ≤ g) × (g ≤ m + 1 + n)) → 1 ≤ cond same 1 0 + rest
     → (m + 1 ≤ g) × (g ≤ m + (n + 1))
@@ -261,24 +212,204 @@ number_within g m (x ∷ xs) rise some =
     let at = within_first g m x (length xs) (times g xs) (eqb x g) (Decides-eqb x g).0 (rise_first m x xs rise) (λ later. number_within g (m + 1) xs (rise_on m x xs rise) later) some in
     (at.0, omega (arith, at.1))
 
--- a group has one of the numbers
-group_within : (tree : Tree) (g : ℕ) (name : Name) → IsWellFormed tree → HasName tree g name → g ≤ length (numbers_of tree)
-group_within tree g name formed at =
+-- ---- the names of groups, node by node
+
+-- of the groups among these nodes the names are told; those of the others are still none
+pub record AreNamesAmong (tree : Tree) (nodes : List NodeKind) (names : List (Option Name)) : Type 0 where
+  pub count : length names ≡ length (numbers_of tree)
+  pub named : (k : ℕ) (name : Name) → (slice_get names k ≡ Some (Some name)) ↔ Contains nodes (a_group (k + 1) (Some name))
+
+no_element : {A : Type 0} (x : A) → Contains [] x → ⊥
+no_element x found = absurd (omega (arith, found.1))
+
+abbrev the_none : Option Name
+the_none = None
+
+none_long : (n : ℕ) → length (replicate n (the_none)) ≡ n
+none_long n = length-replicate n the_none
+
+nameless_there : (n k : ℕ) (name : Name) → slice_get (replicate n None) k ≡ Some (Some name) → ⊥
+nameless_there n k name is =
+    let within : k < n = omega (arith, slice_get_within (replicate n None) k (Some name) is, none_long n) in
+    let none : slice_get (replicate n None) k ≡ Some None =
+    slice_get-get_or (replicate n None) k None (omega (arith, within, none_long n)) ∙ ap Some (get_or-replicate n k None None within) in
+    none-some name (ap (λ o. unwrap_or o None) (sym none ∙ is))
+
+pub none_named : (tree : Tree) (nodes : List NodeKind) (names : List (Option Name)) → nodes ≡ [] → names ≡ replicate (length (numbers_of tree)) None → AreNamesAmong tree nodes names
+none_named tree nodes names fresh none = record {
+  count = ap length none ∙ length-replicate (length (numbers_of tree)) None;
+  named = λ k name. (
+    λ is. absurd (nameless_there (length (numbers_of tree)) k name (sym (ap (λ xs. slice_get xs k) none) ∙ is)),
+    λ found. absurd (no_element (a_group (k + 1) (Some name)) (subst (λ xs. Contains xs (a_group (k + 1) (Some name))) fresh found)),
+  );
+}
+
+-- one node more, which is no group with a name
+only_element : {A : Type 0} (x y : A) → Contains (x ∷ []) y → x ≡ y
+only_element x y found = by found.0 found.1 found.2
+  where
+    by : (k : ℕ) → k < 1 → get_or (x ∷ []) k y ≡ y → x ≡ y
+    by zero lt is = is
+    by (suc k) lt is = absurd (omega (arith, lt))
+
+before_or_last : (nodes : List NodeKind) (node x : NodeKind) → Contains (nodes ++ node ∷ []) x → Contains nodes x ⊎ (node ≡ x)
+before_or_last nodes node x found = elim (Contains-append_cases nodes (node ∷ []) x found) [
+  | inl before ↦ inl before
+  | inr last ↦ inr (only_element node x last)
+]
+
+pub none_more_named : (tree : Tree) (nodes : List NodeKind) (names : List (Option Name)) (node : NodeKind) → own_names node ≡ [] → AreNamesAmong tree nodes names → AreNamesAmong tree (nodes ++ node ∷ []) names
+none_more_named tree nodes names node none so_far = record {
+  count = so_far.count;
+  named = λ k name. (
+    λ is. Contains-append_left nodes (node ∷ []) (a_group (k + 1) (Some name)) ((so_far.named k name).0 is),
+    λ found. elim (before_or_last nodes node (a_group (k + 1) (Some name)) found) [
+      | inl before ↦ (so_far.named k name).1 before
+      | inr this ↦ absurd (let no : name ∷ [] ≡ [] = sym (ap own_names this) ∙ none in cc no)
+    ],
+  );
+}
+
+-- a group with a name
+slice_get-same : (names : List (Option Name)) (g : ℕ) (one : Option Name) → g < length names → slice_get (set names g one) g ≡ Some one
+slice_get-same names g one lt =
+    slice_get-get_or (set names g one) g one (omega (arith, lt, length-set names g one)) ∙ ap Some (get_or-set_same names g one one lt)
+
+slice_get-other : (names : List (Option Name)) (g k : ℕ) (one : Option Name) → k ≢ g → k < length names → slice_get (set names g one) k ≡ slice_get names k
+slice_get-other names g k one other lt =
+    slice_get-get_or (set names g one) k one (omega (arith, lt, length-set names g one)) ∙ ap Some (get_or-set_other names g k one one other) ∙ sym (slice_get-get_or names k one lt)
+
+some_name : (a b : Name) → Some (Some a) ≡ Some (Some b) → a ≡ b
+some_name a b e = cc e
+
+named_here : (tree : Tree) (nodes : List NodeKind) (names : List (Option Name)) (node : NodeKind) (g : ℕ) (one : Name) → IsWellFormed tree
+    → ((x : NodeKind) → Contains (nodes ++ node ∷ []) x → Contains (nodes_of tree) x) → node ≡ a_group (g + 1) (Some one) → g < length names
+    → (name : Name) → (slice_get (set names g (Some one)) g ≡ Some (Some name)) ↔ Contains (nodes ++ node ∷ []) (a_group (g + 1) (Some name))
+named_here tree nodes names node g one formed among is lt name =
+    let here = slice_get-same names g (Some one) lt in
+    let last : Contains (nodes ++ node ∷ []) (a_group (g + 1) (Some one)) = Contains-append_right nodes (node ∷ []) (a_group (g + 1) (Some one)) (0, omega arith, is) in (
+      λ told. subst (λ n. Contains (nodes ++ node ∷ []) (a_group (g + 1) (Some n))) (some_name one name (sym here ∙ told)) last,
+      λ found. here ∙ ap Some (number_once tree (g + 1) one name formed (among (a_group (g + 1) (Some one)) last) (among (a_group (g + 1) (Some name)) found)),
+    )
+
+named_elsewhere : (tree : Tree) (nodes : List NodeKind) (names : List (Option Name)) (node : NodeKind) (g k : ℕ) (one : Name) → AreNamesAmong tree nodes names
+    → node ≡ a_group (g + 1) (Some one) → k ≢ g
+    → (name : Name) → (slice_get (set names g (Some one)) k ≡ Some (Some name)) ↔ Contains (nodes ++ node ∷ []) (a_group (k + 1) (Some name))
+named_elsewhere tree nodes names node g k one so_far is other name = (
+  λ told.
+      let lt : k < length names = omega (arith, slice_get_within (set names g (Some one)) k (Some name) told, length-set names g (Some one)) in
+      Contains-append_left nodes (node ∷ []) (a_group (k + 1) (Some name)) ((so_far.named k name).0 (sym (slice_get-other names g k (Some one) other lt) ∙ told)),
+  λ found. elim (before_or_last nodes node (a_group (k + 1) (Some name)) found) [
+    | inl before ↦
+        let told = (so_far.named k name).1 before in
+        slice_get-other names g k (Some one) other (slice_get_within names k (Some name) told) ∙ told
+    | inr this ↦
+        let same : g + 1 ≡ k + 1 = ap number_in (sym is ∙ this) in
+        absurd (other (omega (arith, same)))
+  ],
+)
+
+pub one_more_named : (tree : Tree) (nodes : List NodeKind) (names : List (Option Name)) (node : NodeKind) (g : ℕ) (one : Name) → IsWellFormed tree → AreNamesAmong tree nodes names
+    → ((x : NodeKind) → Contains (nodes ++ node ∷ []) x → Contains (nodes_of tree) x) → node ≡ a_group (g + 1) (Some one) → g < length names
+    → AreNamesAmong tree (nodes ++ node ∷ []) (set names g (Some one))
+one_more_named tree nodes names node g one formed so_far among is lt = record {
+  count = length-set names g (Some one) ∙ so_far.count;
+  named = λ k name. elim (cases_eq k g) [
+    | inl same ↦
+        subst (λ i. (slice_get (set names g (Some one)) i ≡ Some (Some name)) ↔ Contains (nodes ++ node ∷ []) (a_group (i + 1) (Some name))) (sym same)
+        (named_here tree nodes names node g one formed among is lt name)
+    | inr other ↦ named_elsewhere tree nodes names node g k one so_far is other name
+  ];
+}
+
+-- the number of a group with a name is one of those there are, which begin with 1
+pub group_place : (tree : Tree) (g : ℕ) (name : Name) → IsWellFormed tree → HasName tree g name → (1 ≤ g) × (g ≤ length (numbers_of tree))
+group_place tree g name formed at =
     let some : 1 ≤ times g (numbers_of tree) = subst (λ n. 1 ≤ n) (nodes_number g tree) (times_some (nodes_of tree) g (Some name) at.0 at.1 at.2) in
     let rise : Rise 0 (numbers_of tree) = λ k lt. let e : get_or (numbers_of tree) k 0 ≡ k + 1 = formed.numbered k lt in omega (arith, e) in
     let within = number_within g 0 (numbers_of tree) rise some in
-    omega (arith, within.1)
+    (omega (arith, within.0), omega (arith, within.1))
 
--- all groups were told
-pub all_names : (tree : Tree) (n count : ℕ) (names : List (Option Name)) → IsWellFormed tree → AreNamesUpTo tree n names → count ≤ n → n ≤ count → count ≡ length (numbers_of tree)
-    → AreNamesOf tree names
-all_names tree n count names formed so_far low high is = record {
-  count = omega (arith, so_far.count, low, high, is);
+-- all nodes are done
+pub all_named : (tree : Tree) (nodes : List NodeKind) (names : List (Option Name)) → nodes ≡ nodes_of tree → AreNamesAmong tree nodes names → AreNamesOf tree names
+all_named tree nodes names all so_far = record {
+  count = so_far.count;
   named = λ k name. (
-    λ e. (so_far.named k name (subst (λ m. k < m) so_far.count (slice_get_within names k (Some name) e))).0 e,
-    λ has. (so_far.named k name (omega (arith, group_within tree (k + 1) name formed has, low, is))).1 has,
+    λ is. subst (λ xs. Contains xs (a_group (k + 1) (Some name))) all ((so_far.named k name).0 is),
+    λ has. (so_far.named k name).1 (subst (λ xs. Contains xs (a_group (k + 1) (Some name))) (sym all) has),
   );
 }
+
+-- no node is left
+pub all_taken : (nodes : List Node) (i : ℕ) → length nodes ≤ i → map kind_of (take i nodes) ≡ map kind_of nodes
+all_taken nodes i past = ap (map kind_of) (take_all i nodes (omega (arith, past)))
+
+-- ---- names that are given as texts
+
+abbrev text_of : {A : Type 0} → Option (String A) → Option Name
+text_of text = option_map string_bytes text
+
+nameless_texts : (A : Type 0) (n : ℕ) → map (text_of {A = A}) (replicate n None) ≡ replicate n None
+nameless_texts A zero = refl
+nameless_texts A (suc n) = ap (λ names. None ∷ names) (nameless_texts A n)
+
+pub names_of-none : {A : Type 0} (n : ℕ) (names : List (Option (String A))) → names ≡ replicate n None → names_of_texts names ≡ replicate n None
+names_of-none n names none = ap names_of_texts none ∙ nameless_texts _ n
+
+pub names_of-set : {A : Type 0} (names names' : List (Option (String A))) (i : ℕ) (text : String A) (name : Name) → names' ≡ set names i (Some text) → string_bytes text ≡ name
+    → names_of_texts names' ≡ set (names_of_texts names) i (Some name)
+names_of-set names names' i text name put is =
+    ap names_of_texts put ∙ map-set (option_map string_bytes) names i (Some text) ∙ ap (λ n. set (names_of_texts names) i (Some n)) is
+
+pub names_of-length : {A : Type 0} (names : List (Option (String A))) → length (names_of_texts names) ≡ length names
+names_of-length names = length-map names text_of
+
+-- ---- a node in its place
+
+node_more : (nodes : List Node) (i : ℕ) (node : Node) → i < length nodes → node ≡ get_or nodes i node
+    → map kind_of (take (i + 1) nodes) ≡ map kind_of (take i nodes) ++ kind_of node ∷ []
+node_more nodes i node lt is =
+    let more : i + 1 ≡ suc i = omega arith in
+    ap (λ n. map kind_of (take n nodes)) more ∙ ap (map kind_of) (take-suc nodes i node lt) ∙ map-append kind_of (take i nodes) (get_or nodes i node ∷ [])
+    ∙ ap (λ x. map kind_of (take i nodes) ++ kind_of x ∷ []) (sym is)
+
+-- what the next node is, among the nodes of a tree
+pub record IsNodeOf (tree : Tree) (nodes : List Node) (i : ℕ) (node : Node) : Type 0 where
+  pub more : map kind_of (take (i + 1) nodes) ≡ map kind_of (take i nodes) ++ kind_of node ∷ []
+  pub among : (x : NodeKind) → Contains (map kind_of (take i nodes) ++ kind_of node ∷ []) x → Contains (nodes_of tree) x
+
+pub node_of : (tree : Tree) (nodes : List Node) (i : ℕ) (node : Node) → map kind_of nodes ≡ nodes_of tree → i < length nodes → node ≡ get_or nodes i node → IsNodeOf tree nodes i node
+node_of tree nodes i node all lt is =
+    let more = node_more nodes i node lt is in
+    let whole : map kind_of (take (i + 1) nodes) ++ map kind_of (drop (i + 1) nodes) ≡ nodes_of tree =
+    sym (map-append kind_of (take (i + 1) nodes) (drop (i + 1) nodes)) ∙ ap (map kind_of) (take-append-drop (i + 1) nodes) ∙ all in
+    record {
+      more = more;
+      among = λ x found. subst (λ xs. Contains xs x) whole
+          (Contains-append_left (map kind_of (take (i + 1) nodes)) (map kind_of (drop (i + 1) nodes)) x (subst (λ xs. Contains xs x) (sym more) found));
+    }
+
+-- where a node's name is put
+pub place_of : (tree : Tree) (nodes : List Node) (i : ℕ) (node : Node) (g : ℕ) (name : Name) → IsWellFormed tree → IsNodeOf tree nodes i node → kind_of node ≡ a_group g (Some name)
+    → (1 ≤ g) × (g ≤ length (numbers_of tree))
+place_of tree nodes i node g name formed at is =
+    group_place tree g name formed (at.among (a_group g (Some name)) (Contains-append_right (map kind_of (take i nodes)) (kind_of node ∷ []) (a_group g (Some name)) (0, omega arith, is)))
+
+pub named_more : (tree : Tree) (nodes : List Node) (i : ℕ) (node : Node) (g : ℕ) (name : Name) (names names' : List (Option Name)) → IsWellFormed tree → IsNodeOf tree nodes i node
+    → kind_of node ≡ a_group g (Some name) → AreNamesAmong tree (map kind_of (take i nodes)) names → names' ≡ set names (g - 1) (Some name)
+    → AreNamesAmong tree (map kind_of (take (i + 1) nodes)) names'
+named_more tree nodes i node g name names names' formed at is so_far put =
+    let place = place_of tree nodes i node g name formed at is in
+    let down : g ≡ g - 1 + 1 = omega (arith, place.0) in
+    subst (λ xs. AreNamesAmong tree xs names') (sym at.more)
+    (subst (λ xs. AreNamesAmong tree (map kind_of (take i nodes) ++ kind_of node ∷ []) xs) (sym put)
+    (one_more_named tree (map kind_of (take i nodes)) names (kind_of node) (g - 1) name formed so_far at.among (is ∙ ap (λ n. a_group n (Some name)) down)
+    (omega (arith, place.0, place.1, so_far.count))))
+
+pub unnamed_more : (tree : Tree) (nodes : List Node) (i : ℕ) (node : Node) (names : List (Option Name)) → IsNodeOf tree nodes i node → own_names (kind_of node) ≡ []
+    → AreNamesAmong tree (map kind_of (take i nodes)) names → AreNamesAmong tree (map kind_of (take (i + 1) nodes)) names
+unnamed_more tree nodes i node names at none so_far =
+    subst (λ xs. AreNamesAmong tree xs names) (sym at.more) (none_more_named tree (map kind_of (take i nodes)) names (kind_of node) none so_far)
 
 -- ---- the groups of a pattern that stands alone
 

@@ -1,6 +1,6 @@
 //! The engine that follows all walks through a program side by side.
 
-ghost use Rattle.std.specs.Prelude.{◌≡◌, ℕ, ◌+◌, ◌*◌, ◌<◌, ◌≤◌, IfOk, IfErr, OnOk, OnErr, None, Some, MatchOption, length, option_map, option_copied, unwrap_or, string_bytes, true, false};
+ghost use Rattle.std.specs.Prelude.{◌≡◌, ℕ, ◌+◌, ◌*◌, ◌<◌, ◌≤◌, IfOk, IfErr, OnOk, OnErr, None, Some, MatchOption, [], length, option_map, replicate, set, vec_len, unwrap_or, true, false};
 ghost use Rattle.std.specs.Option.{ForSome};
 ghost use Rattle.std.specs.Str.{chars};
 ghost use Rattle.rx_util.specs.declared.search.MatchError.{MatchError};
@@ -9,8 +9,9 @@ ghost use Rattle.rx_util.specs.Groups.{names_of, slot_len};
 ghost use Rattle.rx_util.specs.Captured.{nothing_noted, place_in, span_between, group_span, match_found};
 ghost use Rattle.rx_grammar.specs.Grammar.{Spells};
 ghost use Rattle.rx_grammar.specs.Settings.{default_settings};
-ghost use Rattle.rx_grammar.specs.Subtrees.{IsWellFormed};
-ghost use Rattle.rx_grammar.specs.Postorder.{tree_of};
+ghost use Rattle.rx_grammar.specs.Subtrees.{IsWellFormed, a_group};
+ghost use Rattle.rx_grammar.specs.Nodes.{kind_of};
+ghost use Rattle.rx_grammar.specs.Postorder.{own_names, tree_of};
 ghost use Rattle.rx_input.specs.Cursors.{IsSameContent};
 ghost use Rattle.rx_steps.specs.Nodes.{node_count};
 ghost use Rattle.rx_steps.specs.Searching.{search_of, IsAnswer};
@@ -20,7 +21,7 @@ ghost use Rattle.rx_chunk.specs.Iterating.{EndsAhead, HasNotedNext, IsFoundNext,
 ghost use Rattle.rx_input.specs.Searchers.{EndsInside};
 ghost use Rattle.rx_chunk.specs.FindMatches.{cache_of, left_of, program_of};
 
-use rx_grammar::{Hir, SyntaxError, parse, syntax};
+use rx_grammar::{Hir, Node, SyntaxError, parse, syntax};
 use rx_input::{Cursor, Input};
 use rx_program::laws::matches_note_their_places;
 use rx_program::{BuildError, Program, compile};
@@ -255,25 +256,48 @@ fn spelled(alloc: Global, pattern: &str, settings: &syntax::Config) -> Result<Hi
     }
 }
 
-/// A group's name, copied.
-fn copied(alloc: Global, name: Option<&str>) -> Result<Option<String>, AllocError>
-    ensures { IfOk result (λ copy. option_map string_bytes copy ≡ option_copied name.entry) }
+/// The number and the name of a group that has a name.
+fn named_group(node: &Node) -> Option<(usize, &str)>
+    ensures { MatchOption result (own_names (kind_of node.now) ≡ [])
+        (λ group. kind_of node.now ≡ a_group group.0 (Some group.1.now)) }
 {
-    match name {
-        Some(name) => Ok(Some(String::from_str(alloc, name)?)),
-        None => Ok(None),
+    match node {
+        Node::Group(number, Some(name)) => Some((*number as usize, name.as_str())),
+        _ => None,
     }
 }
 
-/// The names of a pattern's groups, from group 1 on.
+/// The names of so many groups, none of which has one.
+fn nameless(alloc: Global, count: usize) -> Result<Vec<Option<String>>, AllocError>
+    ensures { IfOk result (λ names. names.items ≡ replicate count None) }
+{
+    let mut names = Vec::with_capacity(alloc, count)?;
+    for _ in 0..count {
+        names.push(None)?;
+    }
+    Ok(names)
+}
+
+/// Notes the name of a group.
+fn note_name(names: &mut Vec<Option<String>>, index: usize, name: String)
+    requires { index < vec_len names.old }
+    ensures { names.new.items ≡ set names.old.items index (Some name) }
+{
+    names[index] = Some(name);
+}
+
+/// The names of a pattern's groups, from group 1 on. `O(n)` in the number of nodes, and in the
+/// lengths of the names.
 fn group_names(alloc: Global, hir: &Hir) -> Result<Vec<Option<String>>, AllocError>
     ensures names { IfOk result (λ names. AreNamesOf (tree_of hir.now) (names_of names.items)) }
     ensures well_formed { IsWellFormed (tree_of hir.now) }
 {
-    let mut names = Vec::new(alloc);
-    for index in 0..hir.group_count() {
-        let name = copied(alloc, hir.group_name(index + 1))?;
-        names.push(name)?;
+    let mut names = nameless(alloc, hir.group_count())?;
+    for node in hir.nodes() {
+        if let Some((number, name)) = named_group(node) {
+            let name = String::from_str(alloc, name)?;
+            note_name(&mut names, number - 1, name);
+        }
     }
     Ok(names)
 }
