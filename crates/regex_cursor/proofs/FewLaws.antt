@@ -1,5 +1,5 @@
 -- How many items an iterator has left fits a machine word.
-use Rattle.std.proofs.Common.{ℕ, ◌+◌, ◌<◌, ◌^◌, Bool, true, false, arith}
+use Rattle.std.proofs.Common.{ℕ, ◌<◌, ◌^◌, Bool, true, false, arith}
 use Rattle.rx_input.specs.Searchers.{items_at_most}
 
 pub few_items : (is_over has_matched : Bool) (ahead : ℕ) → ahead < 2 ^ 63

@@ -1,4 +1,5 @@
 mod FewLaws
+pub mod OrderLaws
 pub mod ShowingLaws
 pub mod PatternLemmas
 pub mod PlaceLaws

@@ -1,8 +1,8 @@
 -- What a regex of a pattern is, in words of the pattern's tree.
-use Rattle.std.proofs.Common.{◌≡◌, ℕ, ◌+◌, ◌*◌, ◌<◌, ◌≤◌, ◌⊎◌, inl, inr, Bool, false, true, List, [], ◌∷◌, length, Option, refl, ap, sym, subst, ◌∙◌, arith}
+use Rattle.std.proofs.Common.{◌≡◌, ℕ, ◌≤◌, inl, inr, Bool, false, true, List, [], ◌∷◌, length, Option, Some, refl, ap, subst, ◌∙◌, arith}
 use Rattle.std.specs.Prelude.{option_map}
-use Rattle.std.specs.Str.{chars}
 use Rattle.std.proofs.lemmas.Bool.{cases_lt}
+use Rattle.std.proofs.lemmas.List.Elements.{All-cons, All-nil}
 use Rattle.rx_util.specs.Search.{Found}
 use Rattle.rx_util.specs.declared.search.Anchored.TheVariants.{No}
 use Rattle.rx_input.specs.Inputs.{Asked, InputState}
@@ -11,16 +11,18 @@ use Rattle.rx_walks.specs.Programs.{Program}
 use Rattle.rx_walks.specs.Looks.{Look}
 use Rattle.rx_sets.specs.Sets.{Range}
 use Rattle.rx_program.specs.Code.{program_of}
+use Rattle.rx_program.specs.Laws.{GroupsAreNotedWhole, MatchesNoteTheirPlaces}
 use Rattle.rx_program.specs.Programs.{characters_of}
 use Rattle.rx_program.specs.declared.error.BuildError.{BuildError}
 use Rattle.rx_grammar.specs.Settings.{default_settings}
+use Rattle.rx_grammar.specs.Subtrees.{IsWellFormed}
 use Rattle.rx_steps.specs.Searching.{anchoring_of}
-use Rattle.rx_chunk.specs.Engines.{IsRefused, too_long, nesting, outside, too_large, memory}
+use Rattle.rx_chunk.specs.Engines.{too_long, nesting, outside, too_large, memory}
 use Rattle.unicode.specs.Perl.{is_word_char}
 use Rattle.rx_utf8.specs.Automata.{is_in}
-use Rattle.regex_cursor.specs.Patterns.{Tree, FoundMatch, ProgramFinds, AsksFrom, TreeFinds, match_of, pattern_weight, program_for, search_from, weight_limit}
-use Rattle.regex_cursor.specs.PatternLaws.{SaysOfText}
-use Rattle.regex_cursor.specs.Regexes.{Engine, IsRegexOf, IsRefusedAsRegex, TellsMatch, regex_settings, search_by}
+use Rattle.regex_cursor.specs.Patterns.{FoundMatch, ProgramFinds, AsksFrom, TreeFinds, answer_slots, match_of, pattern_weight, program_for, search_from, weight_limit}
+use Rattle.regex_cursor.specs.PatternLaws.{HasNotedGroups, SaysOfText}
+use Rattle.regex_cursor.specs.Regexes.{Engine, IsRegexOf, IsRefusedAsRegex, TellsMatch, TellsSlots, search_by}
 
 pub light-of : (text : List ℕ) (re : Engine) → (built : IsRegexOf text re) → pattern_weight built.tree ≤ weight_limit
 light-of text re built = elim (cases_lt weight_limit (pattern_weight built.tree)) [
@@ -55,16 +57,40 @@ search-is re content from input utf8 asks =
 program-is : (text : List ℕ) (re : Engine) → (built : IsRegexOf text re) → characters_of re.program ≡ program_for built.tree
 program-is text re built = built.of_tree.program ∙ ap (λ t. program_of (built.tree ∷ []) t) built.line_terminator
 
+-- what its program finds for an input is what the tree has there
+tree-finds : (text : List ℕ) (re : Engine) → (built : IsRegexOf text re) → (content : List ℕ) (from : ℕ) (input : InputState) (out : Option FoundMatch) → AsksFrom content from input
+    → ProgramFinds is_in is_word_char (characters_of re.program) (search_by re input) out → TreeFinds built.tree content from out
+tree-finds text re built content from input out asks finds =
+    let P : Program Look (List Range) → Type 0 = λ p. ProgramFinds is_in is_word_char p (search_by re input) out in
+    let Q : Search → Type 0 = λ s. ProgramFinds is_in is_word_char (program_for built.tree) s out in
+    subst Q (search-is re content from input built.utf8_empty asks) (subst P (program-is text re built) finds)
+
 pub finds-of : (text : List ℕ) (re : Engine) → (built : IsRegexOf text re) → (content : List ℕ) (from : ℕ) (input : InputState) (found : Option Found)
     → AsksFrom content from input → TellsMatch re input found
     → (out : Option FoundMatch) × TreeFinds built.tree content from out × (found ≡ option_map match_of out)
 finds-of text re built content from input found asks tells =
     let earliest : input.asked.earliest ≡ false = ap (λ a. a.earliest) asks.asked_is in
     let is = tells.exact earliest in
-    let P : Program Look (List Range) → Type 0 = λ p. ProgramFinds is_in is_word_char p (search_by re input) is.0 in
-    let by_tree = subst P (program-is text re built) is.1 in
-    let Q : Search → Type 0 = λ s. ProgramFinds is_in is_word_char (program_for built.tree) s is.0 in
-    (is.0, subst Q (search-is re content from input built.utf8_empty asks) by_tree, is.2)
+    (is.0, tree-finds text re built content from input is.0 asks is.1, is.2)
+
+pub slots-of : (text : List ℕ) (re : Engine) → (built : IsRegexOf text re) → (content : List ℕ) (from : ℕ) (input : InputState) (pattern : Option ℕ) (slots : List (Option ℕ))
+    → AsksFrom content from input → TellsSlots re input pattern slots
+    → (out : Option FoundMatch) × TreeFinds built.tree content from out × (pattern ≡ option_map (λ t. t.pattern) out) × (slots ≡ answer_slots (length slots) out)
+slots-of text re built content from input pattern slots asks tells =
+    let earliest : input.asked.earliest ≡ false = ap (λ a. a.earliest) asks.asked_is in
+    let is = tells.exact earliest in
+    (is.found, tree-finds text re built content from input is.found asks is.finds, is.pattern_is, is.slots_are)
+
+-- what is found of a pattern's tree has noted its groups
+pub noted-of : MatchesNoteTheirPlaces → GroupsAreNotedWhole → (text : List ℕ) (re : Engine) → (built : IsRegexOf text re) → (content : List ℕ) (from : ℕ) (t : FoundMatch)
+    → TreeFinds built.tree content from (Some t) → HasNotedGroups t
+noted-of places groups text re built content from t finds =
+    let tree = built.tree in
+    let well = built.of_tree.well_formed in
+    record {
+      whole = (places tree 10 well is_word_char (program_for tree) (search_from content from) refl).finds t finds;
+      groups = (groups (tree ∷ []) 10 (All-cons IsWellFormed tree [] well (All-nil IsWellFormed)) is_word_char (program_for tree) (search_from content from) refl).finds t finds;
+    }
 
 pub says-of : (text : List ℕ) (error : BuildError) → IsRefusedAsRegex text error → SaysOfText text error
 says-of text error (too_long long) = inl long

@@ -1,5 +1,5 @@
 -- The place before the chunk that holds a byte.
-use Rattle.std.proofs.Common.{◌≡◌, ℕ, zero, suc, ◌+◌, ◌-◌, ◌<◌, ◌≤◌, ◌^◌, ◌⊎◌, inl, inr, List, [], ◌∷◌, ◌++◌, length, take, drop, refl, ap, sym, subst, ◌∙◌, append-nil, arith}
+use Rattle.std.proofs.Common.{◌≡◌, ℕ, zero, suc, ◌+◌, ◌-◌, ◌<◌, ◌≤◌, ◌^◌, ◌⊎◌, inl, inr, List, [], ◌∷◌, ◌++◌, length, take, drop, refl, ap, sym, subst, ◌∙◌, arith}
 use Rattle.std.specs.Prelude.{reverse, min, encode_utf8_all}
 use Rattle.std.proofs.lemmas.List.{length-append, reverse-reverse}
 use Rattle.std.proofs.lemmas.Str.{encodes-append}
@@ -7,7 +7,7 @@ use Rattle.std.proofs.Math.Seq.{drop-append_seam, take-append_seam}
 use Rattle.str_indices.specs.Text.{byte_len}
 use Rattle.ropey_walk.specs.Chunks.{IsCutting, text_of}
 use Rattle.ropey_walk.specs.Iter.{PassesFirst, StandsBefore}
-use Rattle.ropey_walk.specs.TwoWay.{TwoWay, before_item}
+use Rattle.ropey_walk.specs.TwoWay.{TwoWay}
 use Rattle.rx_input.specs.Cursors.{CursorState, IsLawful}
 use Rattle.rx_input.specs.Inputs.{HoldsPlace}
 use Rattle.regex_cursor.specs.Showing.{all_chunks, AreFilled, MayShowNext, EndsFirst}

@@ -1,9 +1,9 @@
 -- Chunks one after the other, of which one is shown.
 use Rattle.std.proofs.Common.{◌≡◌, ℕ, ◌+◌, ◌-◌, ◌<◌, ◌≤◌, ◌^◌, List, [], ◌∷◌, ◌++◌, length, take, drop, refl, ap, sym, subst, ◌∙◌, append_assoc, append-nil, arith}
-use Rattle.std.specs.Prelude.{true, reverse, Option, Some, None, unwrap_or, encode_utf8_all}
+use Rattle.std.specs.Prelude.{reverse, Option, Some, None, unwrap_or, encode_utf8_all}
 use Rattle.std.specs.Borrow.{Bor}
 use Rattle.std.specs.Str.{chars, IsUtf8}
-use Rattle.std.proofs.lemmas.List.{length-append, reverse-append, reverse-reverse}
+use Rattle.std.proofs.lemmas.List.{length-append, reverse-append}
 use Rattle.std.proofs.lemmas.List.Folds.{concat-append}
 use Rattle.std.proofs.lemmas.Str.{IsUtf8-nil, chars-nil, encodes-append, encodes-chars, length-le-encodes}
 use Rattle.std.proofs.Math.Seq.{drop-append_seam, take-append_seam}
@@ -12,7 +12,7 @@ use Rattle.ropey_walk.specs.Chunks.{IsCutting, text_of}
 use Rattle.ropey_walk.specs.Chunks as rope
 use Rattle.ropey_walk.specs.Iter.{GivesChunk}
 use Rattle.ropey_walk.specs.TwoWay.{TwoWay, turned, GivesPrev}
-use Rattle.rx_input.specs.Cursors.{CursorState, IsLawful, IsNext, piece_of}
+use Rattle.rx_input.specs.Cursors.{IsLawful, IsNext, piece_of}
 use Rattle.regex_cursor.specs.Showing.{all_chunks, showing, AreFilled, IsShowing, MayShowNext, EndsFirst}
 
 abbrev pub bytes : List (List ℕ) → List ℕ

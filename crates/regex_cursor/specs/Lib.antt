@@ -1,5 +1,6 @@
 pub mod Capturing
 pub mod Iterating
+pub mod Lending
 pub mod PatternLaws
 pub mod Patterns
 pub mod Regexes

@@ -1,5 +1,5 @@
 -- Laws of what patterns spell, and of what searches for them find.
-use Rattle.std.specs.Prelude.{◌≡◌, ◌⊎◌, ℕ, ◌<◌, ◌≤◌, List, length, Option, option_map}
+use Rattle.std.specs.Prelude.{◌≡◌, ◌⊎◌, ℕ, ◌*◌, ◌<◌, ◌≤◌, List, length, Option, Some, option_map}
 use Rattle.std.specs.Str.{chars}
 use Rattle.unicode.specs.Perl.{is_word_char}
 use Rattle.rx_util.specs.Search.{Found}
@@ -7,11 +7,12 @@ use Rattle.rx_utf8.specs.Automata.{is_in}
 use Rattle.rx_input.specs.Inputs.{InputState}
 use Rattle.rx_program.specs.declared.error.BuildError.{BuildError}
 use Rattle.rx_program.specs.declared.error.BuildError.TheVariants.{Syntax, Size, Memory}
+pub use Rattle.rx_program.specs.Laws.{HasNoted, IsNotedWhole}
 pub use Rattle.rx_walks.specs.Finds.{IsInside, IsPossible, MayEnd}
 pub use Rattle.rx_walks.specs.Laws.{FindsAtMostOne, FindsExist, FindsLieInside, FindsStandAtBoundaries, LiesInside, MatchesAreOneList, MayBeFound, StandsAtBoundaries}
 pub use Rattle.rx_walks.specs.MatchLaws.{AreInOrder, FirstMatchesGrow, HasFirstMatches, IsFoundBehind, LiesBetween, MatchesAreFound, MatchesExist, MatchesRise, MatchesStandAtBoundaries}
-use Rattle.regex_cursor.specs.Patterns.{Tree, SpellsTree, SpellsNone, FoundMatch, AsksFrom, TreeFinds, match_of, pattern_weight, program_for, weight_limit}
-use Rattle.regex_cursor.specs.Regexes.{Engine, IsRegexOf, IsRefusedAsRegex, TellsMatch}
+use Rattle.regex_cursor.specs.Patterns.{Tree, SpellsTree, SpellsNone, FoundMatch, AsksFrom, TreeFinds, answer_slots, match_of, pattern_weight, program_for, start_of, weight_limit}
+use Rattle.regex_cursor.specs.Regexes.{Engine, IsRegexOf, IsRefusedAsRegex, TellsMatch, TellsSlots}
 
 -- a text spells at most one tree
 abbrev pub SpellsOneTree : Type 0
@@ -46,9 +47,15 @@ SaysOfText text (Size limit) =
     (tree : Tree) × SpellsTree (chars text) tree × (weight_limit < pattern_weight tree)
 SaysOfText text Memory = Unit {0}
 
+-- a match has noted its start and its end in the slots of group 0, and of the two slots of each
+-- group both, in order, or neither
+pub record HasNotedGroups (t : FoundMatch) : Type 0 where
+  pub whole : HasNoted (start_of t) t
+  pub groups : (k : ℕ) → IsNotedWhole t.notes (2 * k)
+
 -- A regex that is built of a pattern searches for the tree that this spells, which isn't too heavy:
--- what it tells of an input over a content is what the tree has there. A refusal says why there is
--- none.
+-- what it tells of an input over a content is what the tree has there, also in slots, and each match
+-- of that tree has noted its groups. A refusal says why there is none.
 pub record RegexesHaveTrees : Type 0 where
   pub spells : (text : List ℕ) (re : Engine) → (built : IsRegexOf text re)
       → SpellsTree (chars text) built.tree
@@ -59,5 +66,13 @@ pub record RegexesHaveTrees : Type 0 where
       → AsksFrom content from input → TellsMatch re input found
       → (out : Option FoundMatch) × TreeFinds built.tree content from out
       × (found ≡ option_map match_of out)
+  pub slots : (text : List ℕ) (re : Engine) → (built : IsRegexOf text re)
+      → (content : List ℕ) (from : ℕ) (input : InputState) (pattern : Option ℕ)
+      (slots : List (Option ℕ)) → AsksFrom content from input → TellsSlots re input pattern slots
+      → (out : Option FoundMatch) × TreeFinds built.tree content from out
+      × (pattern ≡ option_map (λ t. t.pattern) out) × (slots ≡ answer_slots (length slots) out)
+  pub noted : (text : List ℕ) (re : Engine) → (built : IsRegexOf text re)
+      → (content : List ℕ) (from : ℕ) (t : FoundMatch)
+      → TreeFinds built.tree content from (Some t) → HasNotedGroups t
   pub refused : (text : List ℕ) (error : BuildError) → IsRefusedAsRegex text error
       → SaysOfText text error

@@ -7,7 +7,13 @@ use Rattle.rx_util.specs.Groups.{slot_len}
 use Rattle.rx_input.specs.Inputs.{InputState}
 use Rattle.rx_input.specs.Searchers.{EndsInside}
 use Rattle.rx_grammar.specs.Settings.{default_settings}
+use Rattle.unicode.specs.Perl.{is_word_char}
+use Rattle.rx_utf8.specs.Automata.{is_in}
 use Rattle.rx_walks.specs.Finds.{Search}
+use Rattle.rx_walks.specs.Machines.{Outcome}
+use Rattle.rx_walks.specs.Programs.{Notes}
+use Rattle.rx_walks.specs.ProgramFinds.{ProgramMatches}
+use Rattle.rx_program.specs.Programs.{characters_of}
 use Rattle.rx_program.specs.declared.error.BuildError.{BuildError}
 use Rattle.rx_steps.specs.Caches as cache
 pub use Rattle.rx_steps.specs.Caches.{CacheView}
@@ -42,6 +48,10 @@ IsCacheOf re c = cache.IsCacheOf re.program c
 -- the search that an input asks a regex for
 abbrev pub search_by : Engine → InputState → Search
 search_by re i = search_of re.utf8_empty i
+
+-- all matches that it has in a search, one after the other
+abbrev pub RegexMatches : Engine → Search → List (Outcome Notes) → Type 0
+RegexMatches re s ms = ProgramMatches is_in is_word_char (characters_of re.program) s ms
 
 -- a search tells whether there is a match; and which one it is, unless any will do
 pub record TellsMatch (re : Engine) (i : InputState) (found : Option Found) : Type 0 where

@@ -1,8 +1,12 @@
 -- A cursor over a slice of a rope: an iterator over its chunks, behind the one that is shown.
 use Rattle.std.specs.Prelude.{◌≡◌, ℕ, ◌+◌, ◌^◌, ◌<◌, true, List, [], ◌∷◌, ◌++◌, length, reverse, encode_utf8_all}
 use Rattle.std.specs.Str.{chars, IsUtf8}
-use Rattle.str_indices.specs.Text.{byte_len}
-use Rattle.ropey_walk.specs.Chunks.{piece_of, text_of}
+-- the words on slices of ropes, for crates that stand on this one
+pub use Rattle.str_indices.specs.Text.{byte_len}
+pub use Rattle.ropey_walk.specs.Chunks.{text_of}
+pub use Rattle.ropey_walk.specs.Comparing.{slice_bytes}
+pub use Rattle.ropey_walk.specs.Slices.{slice_text}
+use Rattle.ropey_walk.specs.Chunks.{piece_of}
 use Rattle.ropey_walk.specs.TwoWay.{TwoWay}
 use Rattle.rx_input.specs.Cursors.{CursorState}
 

@@ -1,6 +1,6 @@
 -- What the iterators over the parts between matches give.
-use Rattle.std.specs.Prelude.{◌≡◌, ℕ, ◌+◌, ◌<◌, ◌≤◌, Bool, true, false, List, length, min, Option, Some, None, Result, Ok, Err}
-use Rattle.std.specs.Iterator.{Count, at_most, size}
+use Rattle.std.specs.Prelude.{◌≡◌, ℕ, ◌+◌, ◌<◌, ◌≤◌, nat_lt, if◌then◌else◌, Bool, true, false, List, [], ◌∷◌, ◌++◌, length, min, Option, Some, None, Result, Ok, Err}
+use Rattle.std.specs.Iterator.{Count, Drains, Yields, at_most, size}
 use Rattle.rx_util.specs.declared.search.MatchError.{MatchError}
 use Rattle.rx_util.specs.declared.search.MatchError.TheVariants.{Memory}
 use Rattle.rx_util.specs.declared.search.Span.{Span}
@@ -12,7 +12,9 @@ use Rattle.rx_chunk.specs.Engines.{match_of}
 use Rattle.rx_chunk.specs.Iterating.{MatchesLeft, GivesNext, matches_left}
 use Rattle.regex_cursor.specs.declared.engines.meta.split.Split.{Split}
 use Rattle.regex_cursor.specs.Iterating as iterating
-use Rattle.regex_cursor.specs.Regexes.{Engine}
+use Rattle.regex_cursor.specs.Iterating.{not_refused}
+use Rattle.regex_cursor.specs.Patterns.{FoundMatch, start_of, end_of}
+use Rattle.regex_cursor.specs.Regexes.{Engine, RegexMatches}
 
 -- what is left to an iterator over parts: the matches that are left, where the next part starts,
 -- and whether no more come
@@ -48,10 +50,10 @@ pub data SplitsOff (p : ByteProgram) (m n : PartsLeft) : Option (Result Span Mat
         → SplitsOff p m n (Some (Ok (between m.last a.span.start)))
     at_end : {part : Span} → m.is_over ≡ false
         → GivesNext {A = Found} p match_of m.matches None n.matches
-        → EndsWith m.last (end_of_search n.matches.search) (Some part) → n.is_over ≡ true
+        → EndsWith m.last (end_of_search m.matches.search) (Some part) → n.is_over ≡ true
         → SplitsOff p m n (Some (Ok part))
     no_end : m.is_over ≡ false → GivesNext {A = Found} p match_of m.matches None n.matches
-        → EndsWith m.last (end_of_search n.matches.search) None → n.is_over ≡ true
+        → EndsWith m.last (end_of_search m.matches.search) None → n.is_over ≡ true
         → SplitsOff p m n None
     refused : m.is_over ≡ false → n.is_over ≡ true → SplitsOff p m n (Some (Err Memory))
 
@@ -66,6 +68,33 @@ pub record Gives {C : Type 0} {cursor : Ghosts C} (m : Split C cursor)
     (item : Option (Result Span MatchError)) (n : Split C cursor) : Type 0 where
   pub next : SplitsOff (regex_of m).program (left_of m) (left_of n) item
   pub same_regex : regex_of n ≡ regex_of m
+
+-- ---- all parts
+
+-- the last part, where there is one
+abbrev pub last_part : ℕ → ℕ → List Span
+last_part start end = if nat_lt end start then [] else between start end ∷ []
+
+-- the gaps between these matches, from a place on: up to the start of each, and from the end of the
+-- last one to the end of all
+abbrev pub gaps : ℕ → ℕ → List FoundMatch → List Span
+gaps start end [] = last_part start end
+gaps start end (t ∷ others) = between start (start_of t) ∷ gaps (end_of t) end others
+
+-- What the iterator gives of a search: the gaps between all matches that the regex has there, from 0
+-- on; before a refusal and before it is drained the first of them, and nothing after a refusal.
+pub record GivesGaps {C : Type 0} {cursor : Ghosts C} (re : Engine) (s : Search) (m : Split C cursor)
+    : Type 0 where
+  pub first : (n : Split C cursor) (parts : List Span) → Yields Gives m (not_refused parts) n
+      → (ms : List FoundMatch) × RegexMatches re s ms
+      × (others : List Span) × (gaps 0 (end_of_search s) ms ≡ parts ++ others)
+  pub all : (parts : List Span) → Drains Gives m (not_refused parts)
+      → (ms : List FoundMatch) × RegexMatches re s ms × (parts ≡ gaps 0 (end_of_search s) ms)
+  pub refused : (n : Split C cursor) (parts : List Span) (error : MatchError)
+      (others : List (Result Span MatchError))
+      → Yields Gives m (not_refused parts ++ Err error ∷ others) n → others ≡ []
+
+-- ---- how many
 
 -- at most one part more comes than matches
 abbrev pub parts_left_by : Bool → ℕ → ℕ

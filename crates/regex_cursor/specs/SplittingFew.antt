@@ -6,7 +6,9 @@ use Rattle.rx_util.specs.declared.search.Span.{Span}
 use Rattle.rx_input.specs.declared.cursor.Cursor.{Ghosts}
 use Rattle.rx_program.specs.Programs.{ByteProgram}
 use Rattle.regex_cursor.specs.declared.engines.meta.split.SplitN.{SplitN}
-use Rattle.regex_cursor.specs.Splitting.{PartsLeft, EndsWith, SplitsOff, end_of_search, left_of, regex_of}
+use Rattle.regex_cursor.specs.Splitting as splitting
+use Rattle.regex_cursor.specs.Splitting.{PartsLeft, EndsWith, SplitsOff, end_of_search}
+use Rattle.regex_cursor.specs.Regexes.{Engine}
 
 -- an item that is a part, or none
 abbrev pub told_part : Option Span → Option (Result Span MatchError)
@@ -25,12 +27,23 @@ pub data SplitsFew (p : ByteProgram) (m n : PartsLeft) : ℕ → ℕ → Option 
       → EndsWith m.last (end_of_search m.matches.search) part
       → n ≡ record m { is_over = true } → SplitsFew p m n 1 0 (told_part part)
 
--- a step of the iterator, which searches for the same regex on
-pub record GivesFew {C : Type 0} {cursor : Ghosts C} (m : SplitN C cursor)
-    (item : Option (Result Span MatchError)) (n : SplitN C cursor) : Type 0 where
-  pub next : SplitsFew (regex_of m.splits).program (left_of m.splits) (left_of n.splits) m.limit
-      n.limit item
-  pub same_regex : regex_of n.splits ≡ regex_of m.splits
+-- what is left to the iterator: the parts that are left, and how many of them may still come
+pub record FewLeft : Type 0 where
+  pub parts : PartsLeft
+  pub limit : ℕ
 
-abbrev pub few_left : ℕ → Count
-few_left limit = at_most limit
+abbrev pub left_of : {C : Type 0} {cursor : Ghosts C} → SplitN C cursor → FewLeft
+left_of m = record { parts = splitting.left_of m.splits; limit = m.limit }
+
+abbrev pub regex_of : {C : Type 0} {cursor : Ghosts C} → SplitN C cursor → Engine
+regex_of m = splitting.regex_of m.splits
+
+-- a step of the iterator, which searches for the same regex on
+pub record Gives {C : Type 0} {cursor : Ghosts C} (m : SplitN C cursor)
+    (item : Option (Result Span MatchError)) (n : SplitN C cursor) : Type 0 where
+  pub next : SplitsFew (regex_of m).program (left_of m).parts (left_of n).parts (left_of m).limit
+      (left_of n).limit item
+  pub same_regex : regex_of n ≡ regex_of m
+
+abbrev pub few_left : FewLeft → Count
+few_left m = at_most m.limit

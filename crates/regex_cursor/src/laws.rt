@@ -38,7 +38,12 @@ pub fn finds_of_trees()
 }
 
 /// What a regex tells of an input over a whole content is what the tree of its pattern has there,
-/// and why a pattern has no regex is told by that tree, or by there being none.
+/// also in slots. Each match of that tree has noted its start and its end in the slots of group 0,
+/// and of each group both places or neither. Why a pattern has no regex is told by that tree, or by
+/// there being none.
 pub fn regexes_have_trees()
     ensures { RegexesHaveTrees }
-{}
+{
+    rx_program::laws::matches_note_their_places();
+    rx_program::laws::groups_are_noted_whole();
+}

@@ -1,11 +1,8 @@
 //! A cursor over a slice of a rope.
 
 ghost use Rattle.std.specs.Prelude.{◌≡◌, ◌≤◌, ⊤, true, encode_utf8_all};
-ghost use Rattle.str_indices.specs.Text.{byte_len};
-ghost use Rattle.ropey_walk.specs.Chunks.{text_of};
-ghost use Rattle.ropey_walk.specs.Comparing.{slice_bytes};
-ghost use Rattle.ropey_walk.specs.Slices.{slice_text};
 ghost use Rattle.rx_input.specs.Cursors.{IsLawful};
+ghost use Rattle.regex_cursor.specs.Showing.{byte_len, slice_bytes, slice_text, text_of};
 
 use ropey::RopeSlice;
 use ropey::iter::Chunks;

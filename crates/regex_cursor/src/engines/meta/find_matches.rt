@@ -7,7 +7,9 @@ use super::regex::Regex;
 use rx_chunk::laws::fewer_are_left;
 use rx_chunk::pikevm;
 use rx_input::{Cursor, Input};
+use rx_sets::CharacterSet;
 use rx_util::{Match, MatchError};
+use rx_walks::laws::first_matches_grow;
 use std::iter::FusedIterator;
 
 /// Matches one after the other, each or a refusal, after which there are no more. An empty match
@@ -26,16 +28,24 @@ pub struct FindMatches<'r, C: Cursor> {
 impl<'r, C: Cursor> FindMatches<'r, C> {
     ghost use Rattle.std.specs.Prelude.{◌≡◌, ◌<◌, ◌^◌};
     ghost use Rattle.std.specs.Iterator.{size};
-    ghost use Rattle.regex_cursor.specs.Iterating.{left_of, matches_from, matches_left, regex_of};
+    ghost use Rattle.regex_cursor.specs.Iterating.{GivesAll, left_of, matches_from, matches_left, regex_of};
+    ghost use Rattle.std.specs.Borrow.{sem};
+    ghost use Rattle.regex_cursor.specs.Lending.{LendsInput};
     ghost use Rattle.regex_cursor.specs.Regexes.{search_by};
     ghost use Rattle.regex_cursor.specs.Splitting.{end_of_search};
 
     /// None of the matches in an input has come yet.
+    #[tactic(auto, using(crate::proofs::FewLaws::few_items))]
     pub(super) fn new(re: &'r Regex, cache: Cache, input: Input<C>) -> FindMatches<'r, C>
         requires made { IsCacheOf re.now cache }
         ensures left { left_of result ≡ matches_from (search_by re.now input) }
         ensures regex { regex_of result ≡ re.now }
+        ensures all { GivesAll re.now (search_by re.now input) result }
+        ensures few { size (matches_left (left_of result)) < 2 ^ 64 }
     {
+        // A law, and how long the content may be, for the proof alone.
+        first_matches_grow::<CharacterSet>();
+        let _ = input.position();
         FindMatches {
             re,
             cache,
@@ -56,14 +66,20 @@ impl<'r, C: Cursor> FindMatches<'r, C> {
         end.min(self.input.position())
     }
 
-    /// The regex that it searches for. What is left is few enough that `count` may be asked.
-    #[tactic(auto, using(crate::proofs::FewLaws::few_items))]
+    /// The regex that it searches for.
     pub fn regex(&self) -> &'r Regex
-        ensures regex { result.now ≡ regex_of self.now }
-        ensures few { size (matches_left (left_of self.now)) < 2 ^ 64 }
+        ensures { result.now ≡ regex_of self.now }
     {
-        let _at = self.input.position(); // tells how long the content may be
         self.re
+    }
+
+    /// The input in which the next match is searched, which may be changed. The end of the last
+    /// match is kept: an empty match that ends there is passed over, and no other.
+    pub fn input(&mut self) -> &mut Input<C>
+        ensures* writes_back { sem 𝓛 (LendsInput C.row C.Cursor self.entry result) }
+        ensures search { search_by (regex_of self.old) result.now ≡ (left_of self.old).search }
+    {
+        &mut self.input
     }
 }
 

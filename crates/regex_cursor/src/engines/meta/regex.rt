@@ -1,13 +1,15 @@
 //! A regular expression that is searched for.
 
-ghost use Rattle.std.specs.Prelude.{◌≡◌, ◌+◌, ◌≤◌, IfErr, IfOk, None, OnErr, OnOk, length};
+ghost use Rattle.std.specs.Prelude.{◌≡◌, ◌+◌, ◌<◌, ◌≤◌, ◌^◌, IfErr, IfOk, None, OnErr, OnOk, length};
+ghost use Rattle.std.specs.Iterator.{size};
 ghost use Rattle.rx_input.specs.Cursors.{IsSameContent};
 ghost use Rattle.rx_util.specs.declared.search.MatchError.{MatchError};
 ghost use Rattle.rx_util.specs.Captured.{nothing_noted};
 ghost use Rattle.rx_util.specs.Groups.{group_len, slot_len};
 ghost use Rattle.regex_cursor.specs.Capturing as capturing;
 ghost use Rattle.regex_cursor.specs.Splitting as splitting;
-ghost use Rattle.regex_cursor.specs.Iterating.{left_of, matches_from, regex_of};
+ghost use Rattle.regex_cursor.specs.SplittingFew as few;
+ghost use Rattle.regex_cursor.specs.Iterating.{GivesAll, left_of, matches_from, matches_left, regex_of};
 ghost use Rattle.regex_cursor.specs.Regexes.{HasRoom, HoldsMatches, IsCacheOf, IsRefusedAsRegex, IsRegex, IsRegexOf, TellsMatch, TellsSlots, TellsWhether, TellsWhole, search_by};
 
 use super::builder::Builder;
@@ -115,13 +117,16 @@ impl Regex {
     }
 
     /// All matches in an input, one after the other, also where its `earliest` is set. An empty
-    /// match where the one before ended is passed over. The one refusal is `Memory`.
+    /// match where the one before ended is passed over. They are few enough that `count` may be
+    /// asked. The one refusal is `Memory`.
     pub fn find_iter<'r, C: Cursor + Drop>(
         &'r self,
         input: Input<C>,
     ) -> Result<FindMatches<'r, C>, MatchError>
         ensures left { IfOk result (λ m. left_of m ≡ matches_from (search_by self.now input)) }
         ensures regex { IfOk result (λ m. regex_of m ≡ self.now) }
+        ensures all { IfOk result (λ m. GivesAll self.now (search_by self.now input) m) }
+        ensures few { IfOk result (λ m. size (matches_left (left_of m)) < 2 ^ 64) }
         ensures refused { IfErr result (λ error. error ≡ MatchError.Memory) }
     {
         let cache = self.create_cache()?;
@@ -137,6 +142,9 @@ impl Regex {
         ensures left { IfOk result
             (λ m. capturing.left_of m ≡ matches_from (search_by self.now input)) }
         ensures regex { IfOk result (λ m. capturing.regex_of m ≡ self.now) }
+        ensures all { IfOk result
+            (λ m. capturing.GivesAll self.now (search_by self.now input) m) }
+        ensures few { IfOk result (λ m. size (matches_left (capturing.left_of m)) < 2 ^ 64) }
         ensures refused { IfErr result (λ error. error ≡ MatchError.Memory) }
     {
         let cache = self.create_cache()?;
@@ -153,6 +161,8 @@ impl Regex {
         ensures left { IfOk result (λ m. splitting.left_of m
             ≡ splitting.parts_of (matches_from (search_by self.now input))) }
         ensures regex { IfOk result (λ m. splitting.regex_of m ≡ self.now) }
+        ensures gaps { IfOk result
+            (λ m. splitting.GivesGaps self.now (search_by self.now input) m) }
         ensures refused { IfErr result (λ error. error ≡ MatchError.Memory) }
     {
         Ok(Split::new(self.find_iter(input)?))
@@ -165,10 +175,11 @@ impl Regex {
         input: Input<C>,
         limit: usize,
     ) -> Result<SplitN<'r, C>, MatchError>
-        ensures left { IfOk result (λ m. splitting.left_of m.splits
-            ≡ splitting.parts_of (matches_from (search_by self.now input))) }
-        ensures regex { IfOk result (λ m. splitting.regex_of m.splits ≡ self.now) }
-        ensures limit { IfOk result (λ m. m.limit ≡ limit) }
+        ensures left { IfOk result (λ m. few.left_of m ≡ record {
+          parts = splitting.parts_of (matches_from (search_by self.now input));
+          limit = limit;
+        }) }
+        ensures regex { IfOk result (λ m. few.regex_of m ≡ self.now) }
         ensures refused { IfErr result (λ error. error ≡ MatchError.Memory) }
     {
         Ok(SplitN::new(self.split(input)?, limit))

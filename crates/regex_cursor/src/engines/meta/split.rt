@@ -1,8 +1,10 @@
 //! The iterators over what stands between matches.
 
 use super::find_matches::FindMatches;
-use rx_input::Cursor;
+use rx_input::{Cursor, Input};
+use rx_sets::CharacterSet;
 use rx_util::{MatchError, Span};
+use rx_walks::laws::first_matches_grow;
 use std::iter::FusedIterator;
 
 /// The parts between the matches, one after the other, from 0 to the end of the input's span, at
@@ -20,18 +22,33 @@ pub struct Split<'r, C: Cursor> {
 impl<'r, C: Cursor> Split<'r, C> {
     ghost use Rattle.std.specs.Prelude.{◌≡◌};
     ghost use Rattle.regex_cursor.specs.Iterating as iterating;
-    ghost use Rattle.regex_cursor.specs.Splitting.{left_of, parts_of};
+    ghost use Rattle.rx_walks.specs.Finds.{Search};
+    ghost use Rattle.regex_cursor.specs.Iterating.{matches_from};
+    ghost use Rattle.regex_cursor.specs.Regexes.{search_by};
+    ghost use Rattle.regex_cursor.specs.Splitting.{GivesGaps, left_of, parts_of, regex_of};
 
     /// The parts between the matches that an iterator gives.
     pub(super) fn new(finder: FindMatches<'r, C>) -> Split<'r, C>
         ensures left { left_of result ≡ parts_of (iterating.left_of finder.entry) }
-        ensures finder { result.finder ≡ finder.entry }
+        ensures regex { regex_of result ≡ iterating.regex_of finder.entry }
+        ensures gaps { (s : Search) → iterating.left_of finder.entry ≡ matches_from s
+            → GivesGaps (iterating.regex_of finder.entry) s result }
     {
+        // A law, for the proof alone.
+        first_matches_grow::<CharacterSet>();
         Split {
             finder,
             last: 0,
             is_over: false,
         }
+    }
+
+    /// The input in which the next match is searched, which may be changed, as that of
+    /// `FindMatches`. The next part starts at the end of the last match all the same.
+    pub fn input(&mut self) -> &mut Input<C>
+        ensures { search_by (regex_of self.old) result.now ≡ (left_of self.old).matches.search }
+    {
+        self.finder.input()
     }
 }
 
@@ -106,24 +123,36 @@ pub struct SplitN<'r, C: Cursor> {
 
 impl<'r, C: Cursor> SplitN<'r, C> {
     ghost use Rattle.std.specs.Prelude.{◌≡◌};
+    ghost use Rattle.regex_cursor.specs.Splitting as splitting;
+    ghost use Rattle.regex_cursor.specs.Regexes.{search_by};
+    ghost use Rattle.regex_cursor.specs.SplittingFew.{left_of, regex_of};
 
     /// At most so many of these parts.
     pub(super) fn new(splits: Split<'r, C>, limit: usize) -> SplitN<'r, C>
-        ensures splits { result.splits ≡ splits.entry }
-        ensures limit { result.limit ≡ limit }
+        ensures left { left_of result
+            ≡ record { parts = splitting.left_of splits.entry; limit = limit } }
+        ensures regex { regex_of result ≡ splitting.regex_of splits.entry }
     {
         SplitN { splits, limit }
+    }
+
+    /// The input in which the next match is searched, as that of `Split`.
+    pub fn input(&mut self) -> &mut Input<C>
+        ensures { search_by (regex_of self.old) result.now
+            ≡ (left_of self.old).parts.matches.search }
+    {
+        self.splits.input()
     }
 }
 
 impl<'r, C: Cursor + Drop> Iterator for SplitN<'r, C> {
     type Item = Result<Span, MatchError>;
 
-    ghost use Rattle.regex_cursor.specs.SplittingFew.{GivesFew, few_left};
+    ghost use Rattle.regex_cursor.specs.SplittingFew.{Gives, few_left, left_of};
 
-    ghost next_gives = { λ m item n. GivesFew m item n };
+    ghost next_gives = { λ m item n. Gives m item n };
 
-    ghost remaining = { λ m. few_left m.limit };
+    ghost remaining = { λ m. few_left (left_of m) };
 
     fn next(&mut self) -> Option<Result<Span, MatchError>> {
         if self.limit == 0 {

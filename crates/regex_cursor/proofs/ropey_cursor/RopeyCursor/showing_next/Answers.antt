@@ -1,6 +1,5 @@
 use Rattle.std.proofs.Common.{ℕ, List, length, ◌+◌, refl, sym, subst}
 use Rattle.std.specs.Borrow.{Bor}
-use Rattle.rx_input.specs.Cursors.{IsLawful}
 use Rattle.regex_cursor.specs.Showing.{EndsFirst, IsShowing}
 use Rattle.regex_cursor.proofs.ShowingLaws.{lawful, ends_first, same_content, shows_first}
 use Rattle.regex_cursor.proofs.ropey_cursor.RopeyCursor.showing_next.Goals as goal

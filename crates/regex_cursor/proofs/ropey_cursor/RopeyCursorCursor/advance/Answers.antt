@@ -1,4 +1,4 @@
-use Rattle.std.proofs.Common.{◌≡◌, ◌<◌, length, true, refl, sym, subst, arith}
+use Rattle.std.proofs.Common.{◌≡◌, ◌<◌, length, refl, sym, subst, arith}
 use Rattle.rx_input.specs.Cursors.{CursorState, IsLawful}
 use Rattle.regex_cursor.specs.Showing.{showing}
 use Rattle.regex_cursor.proofs.ShowingLaws.{lawful, fits, ends_last, shows_next, more_behind}

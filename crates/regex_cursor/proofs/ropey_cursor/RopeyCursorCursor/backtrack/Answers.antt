@@ -1,6 +1,6 @@
 use Rattle.std.proofs.Common.{ℕ, List, length, ◌-◌, ◌≤◌, sym, subst, arith}
 use Rattle.std.specs.Borrow.{Bor}
-use Rattle.rx_input.specs.Cursors.{CursorState, IsLawful, IsNext}
+use Rattle.rx_input.specs.Cursors.{IsLawful, IsNext}
 use Rattle.regex_cursor.specs.Showing.{IsShowing, showing}
 use Rattle.regex_cursor.proofs.ShowingLaws.{lawful, back_fits, shows_before, moves_back}
 use Rattle.regex_cursor.proofs.ropey_cursor.RopeyCursorCursor.backtrack.Goals as goal

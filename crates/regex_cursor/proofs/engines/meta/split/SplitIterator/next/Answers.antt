@@ -1,8 +1,8 @@
-use Rattle.std.proofs.Common.{true, Some, None, Ok, Err, refl, sym, subst, ◌∙◌}
+use Rattle.std.proofs.Common.{true, Some, None, Ok, Err, ap, refl, sym, subst, ◌∙◌}
 use Rattle.rx_chunk.specs.Engines.{match_of}
 use Rattle.rx_chunk.specs.Iterating.{GivesNext}
 use Rattle.regex_cursor.specs.Iterating as iterating
-use Rattle.regex_cursor.specs.Splitting.{SplitsOff, over, at_match, at_end, no_end, refused, between, left_of, regex_of}
+use Rattle.regex_cursor.specs.Splitting.{EndsWith, SplitsOff, end_of_search, over, at_match, at_end, no_end, refused, between, left_of, regex_of}
 use Rattle.regex_cursor.proofs.engines.meta.split.SplitIterator.next.Goals as goal
 
 pub returns-then-self-clause-steps : goal.returns-then-self-clause-steps
@@ -35,7 +35,7 @@ returns-in-Some-clause-steps g c =
     let m = c.args.self.now in
     let step = c.in-None.ensures.steps in
     record {
-      next = subst (λ x. SplitsOff (regex_of m).program (left_of m) x (Some (Ok c.in-Some.part))) (sym c.in-Some.ensures.left) (at_end c.if-self.false step.next c.in-Some.ensures.rest refl);
+      next = subst (λ x. SplitsOff (regex_of m).program (left_of m) x (Some (Ok c.in-Some.part))) (sym c.in-Some.ensures.left) (at_end c.if-self.false step.next (subst (λ e. EndsWith m.last e (Some c.in-Some.part)) (ap end_of_search step.goes_on.1) c.in-Some.ensures.rest) refl);
       same_regex = c.in-Some.ensures.same ∙ step.same_regex;
     }
 
@@ -44,6 +44,6 @@ returns-in-None-rest-clause-steps g c =
     let m = c.args.self.now in
     let step = c.in-None.ensures.steps in
     record {
-      next = subst (λ x. SplitsOff (regex_of m).program (left_of m) x None) (sym c.in-None-rest.ensures.left) (no_end c.if-self.false step.next c.in-None-rest.ensures.rest refl);
+      next = subst (λ x. SplitsOff (regex_of m).program (left_of m) x None) (sym c.in-None-rest.ensures.left) (no_end c.if-self.false step.next (subst (λ e. EndsWith m.last e None) (ap end_of_search step.goes_on.1) c.in-None-rest.ensures.rest) refl);
       same_regex = c.in-None-rest.ensures.same ∙ step.same_regex;
     }
