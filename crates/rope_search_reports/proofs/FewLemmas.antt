@@ -1,19 +1,19 @@
 -- How many matches a report has at most.
-use Rattle.std.proofs.Common.{◌≡◌, ℕ, ◌+◌, ◌^◌, ◌<◌, ◌≤◌, List, [], ◌∷◌, length, sum_by, refl, ap, ⊎_elim, length-append, arith}
+use Rattle.std.proofs.Common.{◌≡◌, ℕ, ◌+◌, ◌≤◌, List, [], ◌∷◌, length, sum_by, ap, ⊎_elim, length-append, arith}
 use Rattle.std.proofs.lemmas.Bool.{cases_Bool}
 use Rattle.std.proofs.lemmas.List.{length-map}
 use Rattle.std.proofs.lemmas.List.Sums.{sum_by-cons}
 use Rattle.std.proofs.lemmas.Str.{length-encode, len_utf8_bounds}
 use Rattle.std.proofs.Math.Utf8.{encode}
-use Rattle.str_indices.specs.Text.{byte_len, ends_break}
-use Rattle.ropey.specs.Chunks.{is_break, text_of}
+use Rattle.str_indices.specs.Text.{ends_break}
+use Rattle.ropey.specs.Chunks.{is_break}
 use Rattle.rope_search_reports.specs.Text.{bytes_of}
 use Rattle.rope_search_reports.specs.Report.{with_first, line_texts, columns, IsRow, AreRows, IsReport, match_count}
 use Rattle.regex_cursor.specs.Patterns.{search_from}
 use Rattle.rope_search_reports.specs.Pattern.{span_of}
 use Rattle.rope_search_reports.specs.Matches.{IsMatches}
 use Rattle.rope_search_reports.proofs.MatchLemmas.{AllHaveFinds}
-use Rattle.rope_search_reports.proofs.LineLemmas.{line_texts-nil, line_texts-break, line_texts-cr, line_texts-more, byte_len-append}
+use Rattle.rope_search_reports.proofs.LineLemmas.{line_texts-nil, line_texts-break, line_texts-cr, line_texts-more}
 
 encode-some : (c : ℕ) → 1 ≤ length (encode c)
 encode-some c = omega (arith, length-encode c, len_utf8_bounds c)

@@ -1,5 +1,5 @@
 -- The lines of a text: the first one cut off, the lines of joined texts, and where each line lies.
-use Rattle.std.proofs.Common.{◌≡◌, ℕ, zero, suc, ◌+◌, ◌-◌, ◌<◌, ◌≤◌, ◌==◌, Bool, true, false, not, cond, ◌&&◌, List, [], ◌∷◌, ◌++◌, length, replicate, take, drop, slice_index_or, refl, sym, ap, ◌∙◌, subst, ◌⊎◌, inl, inr, append-nil, arith, append_assoc, length-append}
+use Rattle.std.proofs.Common.{◌≡◌, ℕ, zero, suc, ◌+◌, ◌-◌, ◌<◌, ◌==◌, Bool, true, false, not, cond, ◌&&◌, List, [], ◌∷◌, ◌++◌, length, replicate, take, drop, slice_index_or, refl, sym, ap, ◌∙◌, subst, ◌⊎◌, inl, inr, append-nil, arith, append_assoc, length-append}
 use Rattle.std.proofs.Math.Seq.{take-append_seam, drop-append_seam}
 use Rattle.std.proofs.Math.Utf8.{encode}
 use Rattle.std.proofs.lemmas.Bool.{cases_Bool, cond-true, cond-false}

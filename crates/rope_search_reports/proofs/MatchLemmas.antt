@@ -1,16 +1,14 @@
 -- What is found of a pattern: it is one thing, and where it lies.
-use Rattle.std.proofs.Common.{◌≡◌, ℕ, ◌+◌, ◌-◌, ◌<◌, ◌≤◌, ◌⊎◌, inl, inr, true, List, [], ◌∷◌, ◌++◌, Option, None, Some, length, map, refl, sym, ap, subst, ◌∙◌, arith}
+use Rattle.std.proofs.Common.{◌≡◌, ℕ, ◌+◌, ◌-◌, ◌<◌, ◌≤◌, inl, inr, List, [], ◌∷◌, ◌++◌, Option, None, Some, length, map, refl, sym, ap, subst, ◌∙◌, arith}
 use Rattle.std.specs.Prelude.{option_map}
 use Rattle.std.specs.List.{last_or}
 use Rattle.std.specs.Str.{IsUtf8, IsCharBoundary}
 use Rattle.std.proofs.lemmas.Bool.{cases_lt}
 use Rattle.std.proofs.lemmas.List.{map-append}
-use Rattle.regex_cursor.specs.Patterns.{Tree, SpellsTree, SpellsNone, FoundMatch, Next, no_more, at_once, moved, TreeFinds, TreeMatches, FirstTreeMatches, ComesBehind, BehindLast, search_from, pattern_weight, start_of, end_of}
-use Rattle.regex_cursor.specs.PatternLaws.{HasFinds, SpellsOneTree, SpellsTreeOrNone, StandsAtBoundaries}
-use Rattle.rope_search_reports.specs.Pattern.{IsPattern, IsTooHeavy, FindsMatch, Finds, span_of, weight_limit}
-use Rattle.rope_search_reports.specs.Matches.{AreMatches, IsMatches}
-use Rattle.rope_search_reports.specs.Finders.{ComesAfter, IsRowOf}
-use Rattle.rope_search_reports.specs.Report.{columns}
+use Rattle.regex_cursor.specs.Patterns.{Tree, FoundMatch, at_once, moved, TreeFinds, TreeMatches, FirstTreeMatches, ComesBehind, BehindLast, search_from, pattern_weight, start_of, end_of}
+use Rattle.regex_cursor.specs.PatternLaws.{HasFinds, SpellsOneTree, SpellsTreeOrNone}
+use Rattle.rope_search_reports.specs.Pattern.{IsPattern, FindsMatch, Finds, span_of, weight_limit}
+use Rattle.rope_search_reports.specs.Finders.{ComesAfter}
 use Rattle.rope_search_reports.specs.Text.{IsText, bytes_of}
 use Rattle.rope_search_reports.specs.Laws.{IsPatternOrNot, IsOneOfThree, IsInText, FindsAreInText}
 
@@ -115,48 +113,43 @@ comes-behind tree content (Some a) out comes = comes
 
 -- ---- the matches so far
 
--- these are the first ones, the last of them ends there, and this is what a row shows of them
-pub record Searched (tree : Tree) (content : List ℕ) (last : Option ℕ) (row : List (ℕ × ℕ)) : Type 0 where
+-- these are the first ones, the last of them ends there, and this is what is shown of each
+pub record Searched {A : Type 0} (shows : FoundMatch → A) (tree : Tree) (content : List ℕ) (last : Option ℕ) (items : List A) : Type 0 where
   pub matches : List FoundMatch
   pub first : FirstTreeMatches tree content matches
   pub last_is : last ≡ option_map end_of (last_or None matches)
-  pub shown : row ≡ map (columns content) (map span_of matches)
+  pub shown : items ≡ map shows matches
 
-pub Searched-start : (tree : Tree) (content : List ℕ) → HasFinds tree → Searched tree content None []
-Searched-start tree content has = record {
+pub Searched-start : {A : Type 0} (shows : FoundMatch → A) (tree : Tree) (content : List ℕ) → HasFinds tree → Searched shows tree content None []
+Searched-start shows tree content has = record {
   matches = [];
   first = (has.first (search_from content 0)).none;
   last_is = refl;
   shown = refl;
 }
 
-next-is : (tree : Tree) (content : List ℕ) (last : Option ℕ) (row : List (ℕ × ℕ)) (out : Option FoundMatch) → (s : Searched tree content last row) → ComesAfter tree content last out
-    → ComesBehind tree content s.matches out
-next-is tree content last row out s comes =
+next-is : {A : Type 0} (shows : FoundMatch → A) (tree : Tree) (content : List ℕ) (last : Option ℕ) (items : List A) (out : Option FoundMatch)
+    → (s : Searched shows tree content last items) → ComesAfter tree content last out → ComesBehind tree content s.matches out
+next-is shows tree content last items out s comes =
     comes-behind tree content (last_or None s.matches) out (subst (λ l. ComesAfter tree content l out) s.last_is comes)
 
 last-more : (o : Option FoundMatch) (ms : List FoundMatch) (t : FoundMatch) → last_or o (ms ++ t ∷ []) ≡ Some t
 last-more o [] t = refl
 last-more o (m ∷ ms) t = last-more (Some m) ms t
 
-pub Searched-more : (tree : Tree) (content : List ℕ) (last : Option ℕ) (row : List (ℕ × ℕ)) (t : FoundMatch) → HasFinds tree → Searched tree content last row
-    → ComesAfter tree content last (Some t) → Searched tree content (Some (end_of t)) (row ++ columns content (span_of t) ∷ [])
-Searched-more tree content last row t has s comes = record {
+pub Searched-more : {A : Type 0} (shows : FoundMatch → A) (tree : Tree) (content : List ℕ) (last : Option ℕ) (items : List A) (t : FoundMatch) → HasFinds tree
+    → Searched shows tree content last items → ComesAfter tree content last (Some t) → Searched shows tree content (Some (end_of t)) (items ++ shows t ∷ [])
+Searched-more shows tree content last items t has s comes = record {
   matches = s.matches ++ t ∷ [];
-  first = ((has.first (search_from content 0)).one_more s.matches t).0 (s.first, next-is tree content last row (Some t) s comes);
+  first = ((has.first (search_from content 0)).one_more s.matches t).0 (s.first, next-is shows tree content last items (Some t) s comes);
   last_is = ap (option_map end_of) (sym (last-more None s.matches t));
-  shown =
-      ap (λ r. r ++ columns content (span_of t) ∷ []) s.shown
-      ∙ sym (ap (map (columns content)) (map-append span_of s.matches (t ∷ [])) ∙ map-append (columns content) (map span_of s.matches) (span_of t ∷ []));
+  shown = ap (λ r. r ++ shows t ∷ []) s.shown ∙ sym (map-append shows s.matches (t ∷ []));
 }
 
-pub Searched-end : (tree : Tree) (line : List ℕ) (last : Option ℕ) (row : List (ℕ × ℕ)) → HasFinds tree → Searched tree (bytes_of line) last row
-    → ComesAfter tree (bytes_of line) last None → IsRowOf tree line row
-Searched-end tree line last row has s comes = record {
-  matches = s.matches;
-  are = ((has.first (search_from (bytes_of line) 0)).all s.matches).0 (s.first, next-is tree (bytes_of line) last row None s comes);
-  shown = s.shown;
-}
+pub Searched-end : {A : Type 0} (shows : FoundMatch → A) (tree : Tree) (content : List ℕ) (last : Option ℕ) (items : List A) → HasFinds tree
+    → (s : Searched shows tree content last items) → ComesAfter tree content last None → TreeMatches tree content s.matches
+Searched-end shows tree content last items has s comes =
+    ((has.first (search_from content 0)).all s.matches).0 (s.first, next-is shows tree content last items None s comes)
 
 -- ---- in a text
 

@@ -1,72 +1,61 @@
 -- What comes next behind a match: what is found at once, or behind an empty match that is passed
 -- over.
-use Rattle.std.proofs.Common.{◌≡◌, ◌↔◌, ℕ, ◌+◌, ◌<◌, ◌≤◌, Bool, true, false, not, List, Option, None, Some, length, refl, sym, ap, subst, ◌∙◌, arith}
-use Rattle.std.specs.Prelude.{option_map, IsTrue, MatchOption}
-use Rattle.regex_cursor.specs.Patterns.{Tree, Asked, AsksFrom, InputState, Found, FoundMatch, Next, no_more, at_once, moved, TreeFinds, match_of, start_of, end_of}
-use Rattle.rope_search_reports.specs.Finders.{ComesAfter, start_behind}
+use Rattle.std.proofs.Common.{◌≡◌, ◌↔◌, ℕ, ◌+◌, Bool, true, false, List, Option, None, Some, length, sym, ap, ap₂, subst, ◌∙◌}
+use Rattle.std.specs.Prelude.{option_map, IsTrue}
+use Rattle.regex_cursor.specs.Patterns.{Tree, Asked, AsksFrom, InputState, FoundMatch, no_more, at_once, moved, TreeFinds, answer_slots}
+use Rattle.rope_search_reports.specs.Pattern.{span_of}
+use Rattle.rope_search_reports.specs.Finders.{ComesAfter, IsTold, start_behind}
 
--- something is found, of which this is told
-abbrev pub IsToldOf : (Option FoundMatch → Type 0) → Option Found → Type 0
-IsToldOf P found = (out : Option FoundMatch) × P out × (found ≡ option_map match_of out)
+-- whether an empty match was found at a place
+abbrev pub TellsEmpty : Option (ℕ × ℕ) → ℕ → Bool → Type 0
+TellsEmpty span place is_empty = IsTrue is_empty ↔ (span ≡ Some (place, place))
 
--- whether it is an empty match at a place
-abbrev pub TellsEmpty : Option Found → ℕ → Bool → Type 0
-TellsEmpty found place is_empty =
-    MatchOption found (is_empty ≡ false) (λ t. IsTrue is_empty ↔ ((t.span.start ≡ place) × (t.span.end ≡ place)))
+some-is : {A : Type 0} (a b : A) → Some a ≡ Some b → a ≡ b
+some-is a b e = cc
 
-some-found : (a b : Found) → Some a ≡ Some b → a ≡ b
-some-found a b e = cc
+-- what is told is told of something else
+told-as : (P Q : Option FoundMatch → Type 0) (span : Option (ℕ × ℕ)) (slots : List (Option ℕ)) → (told : IsTold P span slots) → Q told.out → IsTold Q span slots
+told-as P Q span slots told is = record { out = told.out; is = is; span_is = told.span_is; slots_are = told.slots_are }
 
-pub first-comes : (tree : Tree) (content : List ℕ) (last : Option ℕ) (found : Option Found) → last ≡ None → IsToldOf (TreeFinds tree content (start_behind last)) found
-    → IsToldOf (ComesAfter tree content last) found
-first-comes tree content None found e told = told
-first-comes tree content (Some end) found e told = absurd (cc e)
+pub first-comes : (tree : Tree) (content : List ℕ) (last : Option ℕ) (span : Option (ℕ × ℕ)) (slots : List (Option ℕ)) → last ≡ None
+    → IsTold (TreeFinds tree content (start_behind last)) span slots → IsTold (ComesAfter tree content last) span slots
+first-comes tree content None span slots e told = told-as (TreeFinds tree content 0) (ComesAfter tree content None) span slots told told.is
+first-comes tree content (Some end) span slots e told = absurd (cc e)
 
-at_once-comes : (tree : Tree) (content : List ℕ) (end : ℕ) (found : Option Found) (out : Option FoundMatch) (is_empty : Bool) → found ≡ option_map match_of out
-    → TellsEmpty found end is_empty → is_empty ≡ false → TreeFinds tree content end out → ComesAfter tree content (Some end) out
-at_once-comes tree content end None None is_empty e tells is_not finds = no_more finds
-at_once-comes tree content end None (Some t) is_empty e tells is_not finds = absurd (cc e)
-at_once-comes tree content end (Some f) None is_empty e tells is_not finds = absurd (cc e)
-at_once-comes tree content end (Some f) (Some t) is_empty e tells is_not finds =
-    let same = some-found f (match_of t) e in
+at_once-comes : (tree : Tree) (content : List ℕ) (end : ℕ) (out : Option FoundMatch) (is_empty : Bool) → TellsEmpty (option_map span_of out) end is_empty → is_empty ≡ false
+    → TreeFinds tree content end out → ComesAfter tree content (Some end) out
+at_once-comes tree content end None is_empty tells is_not finds = no_more finds
+at_once-comes tree content end (Some t) is_empty tells is_not finds =
     at_once finds (λ starts ends.
-    let is_so : is_empty ≡ true = tells.1 (ap (λ m. m.span.start) same ∙ starts, ap (λ m. m.span.end) same ∙ ends) in
+    let pair : ℕ → ℕ → Option (ℕ × ℕ) = λ m n. Some (m, n) in
+    let is_so : is_empty ≡ true = tells.1 (ap₂ pair starts ends) in
     let no : true ≡ false = sym is_so ∙ is_not in absurd (cc no))
 
-pub comes-at_once : (tree : Tree) (content : List ℕ) (last : Option ℕ) (end : ℕ) (found : Option Found) (is_empty : Bool) → last ≡ Some end
-    → TellsEmpty found end is_empty → is_empty ≡ false → IsToldOf (TreeFinds tree content (start_behind last)) found
-    → IsToldOf (ComesAfter tree content last) found
-comes-at_once tree content None end found is_empty e tells is_not told = absurd (cc e)
-comes-at_once tree content (Some last) end found is_empty e tells is_not told =
-    let same : end ≡ last = some-num end last (sym e) in
-    let tells' = subst (λ n. TellsEmpty found n is_empty) same tells in
-    (told.0, at_once-comes tree content last found told.0 is_empty told.2 tells' is_not told.1, told.2)
-  where
-    some-num : (m n : ℕ) → Some m ≡ Some n → m ≡ n
-    some-num m n e = cc
+pub comes-at_once : (tree : Tree) (content : List ℕ) (last : Option ℕ) (end : ℕ) (span : Option (ℕ × ℕ)) (slots : List (Option ℕ)) (is_empty : Bool) → last ≡ Some end
+    → TellsEmpty span end is_empty → is_empty ≡ false → IsTold (TreeFinds tree content (start_behind last)) span slots
+    → IsTold (ComesAfter tree content last) span slots
+comes-at_once tree content None end span slots is_empty e tells is_not told = absurd (cc e)
+comes-at_once tree content (Some last) end span slots is_empty e tells is_not told =
+    let same : end ≡ last = some-is end last (sym e) in
+    let tells' = subst (λ s. TellsEmpty s last is_empty) told.span_is (subst (λ n. TellsEmpty span n is_empty) same tells) in
+    told-as (TreeFinds tree content last) (ComesAfter tree content (Some last)) span slots told (at_once-comes tree content last told.out is_empty tells' is_not told.is)
 
-moved-comes : (tree : Tree) (content : List ℕ) (end : ℕ) (found : Option Found) (out later : Option FoundMatch) (is_empty : Bool) → found ≡ option_map match_of out
-    → TellsEmpty found end is_empty → is_empty ≡ true → TreeFinds tree content end out → TreeFinds tree content (end + 1) later → ComesAfter tree content (Some end) later
-moved-comes tree content end None None later is_empty e tells is_so finds next = absurd (let no : true ≡ false = sym is_so ∙ tells in absurd (cc no))
-moved-comes tree content end None (Some t) later is_empty e tells is_so finds next = absurd (cc e)
-moved-comes tree content end (Some f) None later is_empty e tells is_so finds next = absurd (cc e)
-moved-comes tree content end (Some f) (Some t) later is_empty e tells is_so finds next =
-    let same = some-found f (match_of t) e in
-    let at = tells.0 is_so in
-    moved finds (sym (ap (λ m. m.span.start) same) ∙ at.0) (sym (ap (λ m. m.span.end) same) ∙ at.1) next
+moved-comes : (tree : Tree) (content : List ℕ) (end : ℕ) (out later : Option FoundMatch) (is_empty : Bool) → TellsEmpty (option_map span_of out) end is_empty → is_empty ≡ true
+    → TreeFinds tree content end out → TreeFinds tree content (end + 1) later → ComesAfter tree content (Some end) later
+moved-comes tree content end None later is_empty tells is_so finds next = absurd (let none : None ≡ Some (end, end) = tells.0 is_so in cc none)
+moved-comes tree content end (Some t) later is_empty tells is_so finds next =
+    let at = some-is (span_of t) (end, end) (tells.0 is_so) in
+    moved finds (ap (λ p. p.0) at) (ap (λ p. p.1) at) next
 
-pub comes-moved : (tree : Tree) (content : List ℕ) (last : Option ℕ) (end : ℕ) (found later : Option Found) (is_empty : Bool) → last ≡ Some end
-    → TellsEmpty found end is_empty → is_empty ≡ true → IsToldOf (TreeFinds tree content (start_behind last)) found
-    → IsToldOf (TreeFinds tree content (end + 1)) later → IsToldOf (ComesAfter tree content last) later
-comes-moved tree content None end found later is_empty e tells is_so told next = absurd (cc e)
-comes-moved tree content (Some last) end found later is_empty e tells is_so told next =
-    let same : end ≡ last = some-num end last (sym e) in
-    let tells' = subst (λ n. TellsEmpty found n is_empty) same tells in
-    let next' = subst (λ n. TreeFinds tree content (n + 1) next.0) same next.1 in
-    (next.0, moved-comes tree content last found told.0 next.0 is_empty told.2 tells' is_so told.1 next', next.2)
-  where
-    some-num : (m n : ℕ) → Some m ≡ Some n → m ≡ n
-    some-num m n e = cc
+pub comes-moved : (tree : Tree) (content : List ℕ) (last : Option ℕ) (end : ℕ) (span later : Option (ℕ × ℕ)) (slots slots' : List (Option ℕ)) (is_empty : Bool) → last ≡ Some end
+    → TellsEmpty span end is_empty → is_empty ≡ true → IsTold (TreeFinds tree content (start_behind last)) span slots
+    → IsTold (TreeFinds tree content (end + 1)) later slots' → IsTold (ComesAfter tree content last) later slots'
+comes-moved tree content None end span later slots slots' is_empty e tells is_so told next = absurd (cc e)
+comes-moved tree content (Some last) end span later slots slots' is_empty e tells is_so told next =
+    let same : end ≡ last = some-is end last (sym e) in
+    let tells' = subst (λ s. TellsEmpty s last is_empty) told.span_is (subst (λ n. TellsEmpty span n is_empty) same tells) in
+    let next' = subst (λ n. TreeFinds tree content (n + 1) next.out) same next.is in
+    told-as (TreeFinds tree content (end + 1)) (ComesAfter tree content (Some last)) later slots' next (moved-comes tree content last told.out next.out is_empty tells' is_so told.is next')
 
 -- a search that starts at another place
 pub asks-moved : (content : List ℕ) (from start : ℕ) (old new : InputState) → AsksFrom content from old → new.cursor.content ≡ old.cursor.content
@@ -76,16 +65,22 @@ asks-moved content from start old new asks same asked =
     record { content_is = same ∙ asks.content_is; asked_is = asked ∙ ap started asks.asked_is }
 
 -- a match that is told is one that was found
-pub some-told : (P : Option FoundMatch → Type 0) (found : Found) → IsToldOf P (Some found) → (t : FoundMatch) × P (Some t) × (found ≡ match_of t)
-some-told P found told = by told.0 told.1 told.2
-  where
-    by : (out : Option FoundMatch) → P out → Some found ≡ option_map match_of out → (t : FoundMatch) × P (Some t) × (found ≡ match_of t)
-    by None is e = absurd (cc e)
-    by (Some t) is e = (t, is, some-found found (match_of t) e)
+pub record ToldMatch (P : Option FoundMatch → Type 0) (span : ℕ × ℕ) (slots : List (Option ℕ)) : Type 0 where
+  pub t : FoundMatch
+  pub is : P (Some t)
+  pub span_is : span ≡ span_of t
+  pub slots_are : slots ≡ answer_slots (length slots) (Some t)
 
-pub none-told : (P : Option FoundMatch → Type 0) → IsToldOf P None → P None
-none-told P told = by told.0 told.1 told.2
+pub some-told : (P : Option FoundMatch → Type 0) (span : ℕ × ℕ) (slots : List (Option ℕ)) → IsTold P (Some span) slots → ToldMatch P span slots
+some-told P span slots told = by told.out told.is told.span_is told.slots_are
   where
-    by : (out : Option FoundMatch) → P out → None ≡ option_map match_of out → P None
+    by : (out : Option FoundMatch) → P out → Some span ≡ option_map span_of out → slots ≡ answer_slots (length slots) out → ToldMatch P span slots
+    by None is e same = absurd (cc e)
+    by (Some t) is e same = record { t = t; is = is; span_is = some-is span (span_of t) e; slots_are = same }
+
+pub none-told : (P : Option FoundMatch → Type 0) (slots : List (Option ℕ)) → IsTold P None slots → P None
+none-told P slots told = by told.out told.is told.span_is
+  where
+    by : (out : Option FoundMatch) → P out → None ≡ option_map span_of out → P None
     by None is e = is
     by (Some t) is e = absurd (cc e)

@@ -1,11 +1,11 @@
 -- The lines of a rope as its slices, and their texts.
-use Rattle.std.proofs.Common.{◌≡◌, ℕ, zero, suc, ◌+◌, ◌-◌, ◌<◌, ◌≤◌, ◌==◌, Bool, true, false, not, ◌&&◌, inl, inr, List, [], ◌∷◌, ◌++◌, length, map, take, drop, slice_index_or, nat_lt, refl, sym, ap, subst, ◌∙◌, arith, append-nil, append_assoc, length-append, length-take, length-drop}
+use Rattle.std.proofs.Common.{◌≡◌, ℕ, zero, suc, ◌+◌, ◌-◌, ◌<◌, ◌≤◌, ◌==◌, Bool, true, false, not, ◌&&◌, inl, inr, List, [], ◌∷◌, ◌++◌, length, map, take, drop, slice_index_or, nat_lt, refl, sym, ap, subst, ◌∙◌, arith, append-nil, append_assoc}
 use Rattle.std.specs.List.{range_with_len}
 use Rattle.std.proofs.Math.Seq.{take-append_seam, drop-append_seam}
 use Rattle.std.proofs.lemmas.Bool.{cases_Bool, cond-true, cond-false}
 use Rattle.std.proofs.lemmas.Bool.Decides.{nat_tests}
 use Rattle.std.proofs.lemmas.List.{take_all, drop_all, drop-append-le, get_or_past}
-use Rattle.str_indices.specs.Text.{byte_len, breaks, break_ends, char_ends, ends_up_to}
+use Rattle.str_indices.specs.Text.{byte_len, break_ends, char_ends, ends_up_to}
 use Rattle.str_indices.specs.FirstBreak.{IsBreak}
 use Rattle.ropey.specs.Chunks.{is_break, text_of}
 use Rattle.ropey.specs.Iter.{line_pieces, lines_of}

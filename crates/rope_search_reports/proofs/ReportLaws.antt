@@ -1,6 +1,6 @@
 -- A text and a pattern have one report.
 use Rattle.std.proofs.Common.{◌≡◌, ℕ, suc, List, [], ◌∷◌, ◌++◌, length, map, refl, sym, ap, subst, ◌∙◌}
-use Rattle.regex_cursor.specs.Patterns.{Tree, FoundMatch, TreeMatches, search_from}
+use Rattle.regex_cursor.specs.Patterns.{FoundMatch, TreeMatches, search_from}
 use Rattle.regex_cursor.specs.PatternLaws.{SpellsOneTree}
 use Rattle.rope_search_reports.specs.Text.{bytes_of, line_count}
 use Rattle.rope_search_reports.specs.Pattern.{IsPattern, span_of}

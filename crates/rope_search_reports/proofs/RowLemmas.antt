@@ -1,70 +1,85 @@
--- The search of a line, match by match.
-use Rattle.std.proofs.Common.{◌≡◌, ℕ, ◌+◌, ◌<◌, ◌≤◌, List, [], ◌∷◌, ◌++◌, Option, None, Some, length, map, refl, sym, ap, ap₂, subst, ◌∙◌, arith}
-use Rattle.std.specs.Str.{IsUtf8, IsCharBoundary, chars}
-use Rattle.regex_cursor.specs.Patterns.{Tree, SpellsTree, Found, FoundMatch, match_of, start_of, end_of}
+-- The search of a content, match by match.
+use Rattle.std.proofs.Common.{◌≡◌, ℕ, ◌<◌, ◌≤◌, List, [], ◌∷◌, ◌++◌, Option, None, Some, length, map, refl, sym, ap, ap₂, subst, ◌∙◌}
+use Rattle.std.specs.List.{range_with_len}
+use Rattle.std.specs.Str.{IsUtf8, IsCharBoundary}
+use Rattle.std.proofs.lemmas.Simd.{map-map}
+use Rattle.regex_cursor.specs.Patterns.{Tree, SpellsTree, FoundMatch, answer_slots}
 use Rattle.regex_cursor.specs.PatternLaws.{HasFinds}
 use Rattle.rope_search_reports.specs.Text.{bytes_of}
 use Rattle.rope_search_reports.specs.Pattern.{span_of}
+use Rattle.rope_search_reports.specs.Matches.{AreGroups, groups_of}
 use Rattle.rope_search_reports.specs.Report.{IsRow, column, columns}
-use Rattle.rope_search_reports.specs.Finders.{ComesAfter, IsRowOf}
+use Rattle.rope_search_reports.specs.Finders.{AreGroupsOf, ComesAfter, IsRowOf, IsTold, group_told}
 use Rattle.rope_search_reports.proofs.MatchLemmas.{Searched, Searched-more, Searched-end, comes-from, comes-further, lies-behind, room_behind, stands}
-use Rattle.rope_search_reports.proofs.NextLemmas.{IsToldOf, none-told, some-told}
+use Rattle.rope_search_reports.proofs.NextLemmas.{ToldMatch, none-told, some-told}
 
 -- a match that comes next, and what is told of it
-pub record NextMatch (tree : Tree) (content : List ℕ) (last : Option ℕ) (found : Found) : Type 0 where
-  pub t : FoundMatch
-  pub comes : ComesAfter tree content last (Some t)
-  pub is : found ≡ match_of t
+abbrev pub NextMatch : Tree → List ℕ → Option ℕ → ℕ × ℕ → List (Option ℕ) → Type 0
+NextMatch tree content last span slots = ToldMatch (ComesAfter tree content last) span slots
 
-pub next-told : (tree : Tree) (content content' : List ℕ) (last : Option ℕ) (told : Option Found) (found : Found) → content' ≡ content
-    → IsToldOf (ComesAfter tree content' last) told → told ≡ Some found → NextMatch tree content last found
-next-told tree content content' last told found same next is =
-    let next' = subst (λ cs. IsToldOf (ComesAfter tree cs last) told) same next in
-    let some = some-told (ComesAfter tree content last) found (subst (IsToldOf (ComesAfter tree content last)) is next') in
-    record { t = some.0; comes = some.1; is = some.2 }
+pub next-told : (tree : Tree) (content content' : List ℕ) (last : Option ℕ) (told : Option (ℕ × ℕ)) (span : ℕ × ℕ) (slots : List (Option ℕ)) → content' ≡ content
+    → IsTold (ComesAfter tree content' last) told slots → told ≡ Some span → NextMatch tree content last span slots
+next-told tree content content' last told span slots same next is =
+    let next' = subst (λ cs. IsTold (ComesAfter tree cs last) told slots) same next in
+    some-told (ComesAfter tree content last) span slots (subst (λ s. IsTold (ComesAfter tree content last) s slots) is next')
 
 -- it lies in the content, at boundaries of its characters
-pub record Stands (content : List ℕ) (found : Found) : Type 0 where
-  pub starts : IsCharBoundary content found.span.start
-  pub ends : IsCharBoundary content found.span.end
-  pub inside : found.span.end ≤ length content
+pub record Stands (content : List ℕ) (span : ℕ × ℕ) : Type 0 where
+  pub starts : IsCharBoundary content span.0
+  pub ends : IsCharBoundary content span.1
+  pub inside : span.1 ≤ length content
 
-pub next-stands : (tree : Tree) (content : List ℕ) (last : Option ℕ) (found : Found) → HasFinds tree → IsUtf8 content → NextMatch tree content last found → Stands content found
-next-stands tree content last found has utf8 next =
-    let from = comes-from tree content last next.t next.comes in
+pub next-stands : (tree : Tree) (content : List ℕ) (last : Option ℕ) (span : ℕ × ℕ) (slots : List (Option ℕ)) → HasFinds tree → IsUtf8 content → NextMatch tree content last span slots
+    → Stands content span
+next-stands tree content last span slots has utf8 next =
+    let from = comes-from tree content last next.t next.is in
     let at = stands tree content from.0 next.t has utf8 from.1 in
     let inside = (lies-behind tree content from.0 next.t has from.1).inside in
-    subst (λ (f : Found). Stands content f) (sym next.is) (record { starts = at.0; ends = at.1; inside = inside })
+    subst (Stands content) (sym next.span_is) (record { starts = at.0; ends = at.1; inside = inside })
 
 -- less is left behind it
-pub next-further : (tree : Tree) (content : List ℕ) (last : Option ℕ) (found : Found) → HasFinds tree → NextMatch tree content last found
-    → room_behind (length content) (Some found.span.end) < room_behind (length content) last
-next-further tree content last found has next =
-    subst (λ (f : Found). room_behind (length content) (Some f.span.end) < room_behind (length content) last) (sym next.is)
-    (comes-further tree content last next.t has next.comes)
+pub next-further : (tree : Tree) (content : List ℕ) (last : Option ℕ) (span : ℕ × ℕ) (slots : List (Option ℕ)) → HasFinds tree → NextMatch tree content last span slots
+    → room_behind (length content) (Some span.1) < room_behind (length content) last
+next-further tree content last span slots has next =
+    subst (λ (s : ℕ × ℕ). room_behind (length content) (Some s.1) < room_behind (length content) last) (sym next.span_is)
+    (comes-further tree content last next.t has next.is)
 
--- the row with it
-pub next-row : (tree : Tree) (content : List ℕ) (last : Option ℕ) (found : Found) (row : List (ℕ × ℕ)) (start end start_column end_column : ℕ) → HasFinds tree
-    → NextMatch tree content last found → start ≡ found.span.start → end ≡ found.span.end
-    → start_column ≡ column content start → end_column ≡ column content end → Searched tree content last row
-    → Searched tree content (Some end) (row ++ (start_column, end_column) ∷ [])
-next-row tree content last found row start end start_column end_column has next starts ends starts_at ends_at sofar =
-    let more = Searched-more tree content last row next.t has sofar next.comes in
-    let start_is : start ≡ start_of next.t = starts ∙ ap (λ f. f.span.start) next.is in
-    let end_is : end ≡ end_of next.t = ends ∙ ap (λ f. f.span.end) next.is in
-    let first : start_column ≡ column content (start_of next.t) = starts_at ∙ ap (column content) start_is in
-    let second : end_column ≡ column content (end_of next.t) = ends_at ∙ ap (column content) end_is in
+-- it is shown behind those before it
+pub next-shown : {A : Type 0} (shows : FoundMatch → A) (tree : Tree) (content : List ℕ) (last : Option ℕ) (span : ℕ × ℕ) (slots : List (Option ℕ)) (items : List A) (item : A) → HasFinds tree
+    → (next : NextMatch tree content last span slots) → item ≡ shows next.t → Searched shows tree content last items
+    → Searched shows tree content (Some span.1) (items ++ item ∷ [])
+next-shown shows tree content last span slots items item has next is sofar =
+    let more = Searched-more shows tree content last items next.t has sofar next.is in
+    let at = subst (λ e. Searched shows tree content (Some e) (items ++ shows next.t ∷ [])) (sym (ap (λ s. s.1) next.span_is)) more in
+    subst (λ x. Searched shows tree content (Some span.1) (items ++ x ∷ [])) (sym is) at
+
+-- and where none comes next, all are shown
+pub none-next : (tree : Tree) (content content' : List ℕ) (last : Option ℕ) (told : Option (ℕ × ℕ)) (slots : List (Option ℕ)) → content' ≡ content
+    → IsTold (ComesAfter tree content' last) told slots → told ≡ None → ComesAfter tree content last None
+none-next tree content content' last told slots same next is =
+    let next' = subst (λ cs. IsTold (ComesAfter tree cs last) told slots) same next in
+    none-told (ComesAfter tree content last) slots (subst (λ s. IsTold (ComesAfter tree content last) s slots) is next')
+
+-- ---- rows
+
+-- the columns of a match
+abbrev pub columns_of : List ℕ → FoundMatch → ℕ × ℕ
+columns_of content t = columns content (span_of t)
+
+pub columns-are : (tree : Tree) (content : List ℕ) (last : Option ℕ) (span : ℕ × ℕ) (slots : List (Option ℕ)) (start_column end_column : ℕ) → (next : NextMatch tree content last span slots)
+    → start_column ≡ column content span.0 → end_column ≡ column content span.1 → (start_column, end_column) ≡ columns_of content next.t
+columns-are tree content last span slots start_column end_column next starts ends =
     let pair : ℕ → ℕ → ℕ × ℕ = λ m n. (m, n) in
-    let shown : row ++ (start_column, end_column) ∷ [] ≡ row ++ columns content (span_of next.t) ∷ [] = ap (λ p. row ++ p ∷ []) (ap₂ pair first second) in
-    subst (λ e. Searched tree content (Some e) (row ++ (start_column, end_column) ∷ [])) (sym end_is)
-    (subst (Searched tree content (Some (end_of next.t))) (sym shown) more)
+    ap₂ pair starts ends ∙ ap (columns content) next.span_is
 
--- all of it, where none comes next
-pub last-row : (tree : Tree) (line content' : List ℕ) (last : Option ℕ) (told : Option Found) (row : List (ℕ × ℕ)) → HasFinds tree → content' ≡ bytes_of line
-    → IsToldOf (ComesAfter tree content' last) told → told ≡ None → Searched tree (bytes_of line) last row → IsRowOf tree line row
-last-row tree line content' last told row has same next is sofar =
-    let next' = subst (λ cs. IsToldOf (ComesAfter tree cs last) told) same next in
-    Searched-end tree line last row has sofar (none-told (ComesAfter tree (bytes_of line) last) (subst (IsToldOf (ComesAfter tree (bytes_of line) last)) is next'))
+-- all of a row, where none comes next
+pub last-row : (tree : Tree) (line : List ℕ) (last : Option ℕ) (row : List (ℕ × ℕ)) → HasFinds tree → ComesAfter tree (bytes_of line) last None
+    → Searched (columns_of (bytes_of line)) tree (bytes_of line) last row → IsRowOf tree line row
+last-row tree line last row has none sofar = record {
+  matches = sofar.matches;
+  are = Searched-end (columns_of (bytes_of line)) tree (bytes_of line) last row has sofar none;
+  shown = sofar.shown ∙ sym (map-map (columns (bytes_of line)) span_of sofar.matches);
+}
 
 -- the row of a pattern's tree is the pattern's
 pub row-is : (pattern line : List ℕ) (tree : Tree) (row : List (ℕ × ℕ)) → SpellsTree pattern tree → IsRowOf tree line row → IsRow pattern line row
@@ -72,4 +87,30 @@ row-is pattern line tree row spells is = record {
   spans = map span_of is.matches;
   are = record { matches = is.matches; are = record { tree = tree; spells = spells; are = is.are }; spans_are = refl };
   shown = is.shown;
+}
+
+-- ---- groups
+
+-- they are told by the slots of groups 0 to 9
+pub groups-told : (tree : Tree) (content : List ℕ) (last : Option ℕ) (span : ℕ × ℕ) (slots : List (Option ℕ)) → length slots ≡ 20 → (next : NextMatch tree content last span slots)
+    → map (group_told slots) (range_with_len 0 10) ≡ groups_of next.t
+groups-told tree content last span slots len next =
+    ap (λ s. map (group_told s) (range_with_len 0 10)) (next.slots_are ∙ ap (λ n. answer_slots n (Some next.t)) len)
+
+-- all groups, where none comes next
+pub last-groups : (tree : Tree) (content : List ℕ) (last : Option ℕ) (groups : List (List (Option (ℕ × ℕ)))) → HasFinds tree → ComesAfter tree content last None
+    → Searched groups_of tree content last groups → AreGroupsOf tree content groups
+last-groups tree content last groups has none sofar = record {
+  matches = sofar.matches;
+  are = Searched-end groups_of tree content last groups has sofar none;
+  shown = sofar.shown;
+}
+
+-- those of a pattern's tree are the pattern's
+pub groups-are : (pattern content : List ℕ) (tree : Tree) (groups : List (List (Option (ℕ × ℕ)))) → SpellsTree pattern tree → AreGroupsOf tree content groups
+    → AreGroups pattern content groups
+groups-are pattern content tree groups spells is = record {
+  matches = is.matches;
+  are = record { tree = tree; spells = spells; are = is.are };
+  groups_are = is.shown;
 }

@@ -1,9 +1,10 @@
 -- What a finder is made of, for the contracts of the code that searches.
-use Rattle.std.specs.Prelude.{◌≡◌, ℕ, List, [], ◌∷◌, ◌++◌, Option, None, Some, unwrap_or, map}
+use Rattle.std.specs.Prelude.{◌≡◌, ℕ, ◌+◌, ◌*◌, List, [], ◌∷◌, ◌++◌, length, Option, None, Some, option_map, slice_index_or, unwrap_or, map}
 use Rattle.std.specs.Str.{chars}
-use Rattle.regex_cursor.specs.Patterns.{Tree, FoundMatch, Next, TreeFinds, TreeMatches, start_of, end_of}
+use Rattle.regex_cursor.specs.Patterns.{Tree, FoundMatch, Next, TreeFinds, TreeMatches, answer_slots, start_of, end_of}
 use Rattle.regex_cursor.specs.Regexes.{Engine, CacheView, IsRegexOf, IsCacheOf}
 use Rattle.rope_search_reports.specs.Text.{bytes_of}
+use Rattle.rope_search_reports.specs.Matches.{both, groups_of}
 use Rattle.rope_search_reports.specs.Pattern.{span_of}
 use Rattle.rope_search_reports.specs.Report.{columns}
 use Rattle.rope_search_reports.specs.declared.pattern_text.Text.{Text, Start, Longer'}
@@ -29,6 +30,25 @@ ComesAfter tree content (Some end) found = Next (TreeFinds tree content) start_o
 -- where a search for it starts
 abbrev pub start_behind : Option ℕ → ℕ
 start_behind last = unwrap_or last 0
+
+-- the span of a group, by the places in its two slots
+abbrev pub group_told : List (Option ℕ) → ℕ → Option (ℕ × ℕ)
+group_told slots k = both (slice_index_or slots (2 * k) None) (slice_index_or slots (2 * k + 1) None)
+
+-- something is found, of which the span is told, and in slots the places of its groups
+pub record IsTold (P : Option FoundMatch → Type 0) (span : Option (ℕ × ℕ)) (slots : List (Option ℕ))
+    : Type 0 where
+  pub out : Option FoundMatch
+  pub is : P out
+  pub span_is : span ≡ option_map span_of out
+  pub slots_are : slots ≡ answer_slots (length slots) out
+
+-- the groups of the matches of a tree in a whole content
+pub record AreGroupsOf (tree : Tree) (content : List ℕ) (groups : List (List (Option (ℕ × ℕ))))
+    : Type 0 where
+  pub matches : List FoundMatch
+  pub are : TreeMatches tree content matches
+  pub shown : groups ≡ map groups_of matches
 
 -- the row of a line by this tree: its matches in the line's text as the whole content
 pub record IsRowOf (tree : Tree) (line : List ℕ) (row : List (ℕ × ℕ)) : Type 0 where

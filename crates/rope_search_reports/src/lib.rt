@@ -14,4 +14,5 @@ mod searching;
 pub use positions::{Place, Position, byte_of, place_of, position_of};
 pub use replacing::replace_rows;
 pub use reports::{report_of, rows_of_lines};
-pub use rows::{Finder, Lines, PATTERN_LEN, Row, find_from, search_line};
+pub use rows::{Finder, Lines, PATTERN_LEN, Row, find_all, find_from, search_line};
+pub use searching::Groups;

@@ -9,12 +9,13 @@ ghost use Rattle.regex_cursor.specs.Regexes.{IsCacheOf, IsRegexOf};
 ghost use Rattle.rope_search_reports.specs.Text.{bytes_of};
 ghost use Rattle.rope_search_reports.specs.Pattern.{IsPattern, IsTooHeavy, SpellsNone, Finds, pattern_limit};
 ghost use Rattle.rope_search_reports.specs.Report.{IsRow};
+ghost use Rattle.rope_search_reports.specs.Matches.{AreGroups};
 ghost use Rattle.rope_search_reports.specs.Finders.{IsRowOf};
 
 use crate::columns::column_at;
 use crate::laws;
 use crate::pattern_text::PatternText;
-use crate::searching::{find, find_next, input_from};
+use crate::searching::{Groups, all_groups, find, find_next, input_from};
 use regex_cursor::BuildError;
 use regex_cursor::engines::meta::{Cache, Regex};
 use rope_search_io::Fault;
@@ -191,11 +192,11 @@ fn columns_in(
     let _ = line.len_bytes();
     let mut matches = Vec::new(alloc);
     let mut input = input_from(line, 0);
+    let mut slots = [None; 2];
     // Where the last match ended.
     let mut last = None;
-    while let Some(found) = find_next(regex, cache, &mut input, last)? {
-        let end = found.end();
-        let start_column = column_at(&line, found.start());
+    while let Some((start, end)) = find_next(regex, cache, &mut input, &mut slots, last)? {
+        let start_column = column_at(&line, start);
         matches.push((start_column, column_at(&line, end)))?;
         input.set_start(end);
         last = Some(end);
@@ -241,8 +242,27 @@ pub fn find_from(
 {
     tick.add_whole();
     let mut input = input_from(text.slice(..), from);
-    match find(&finder.regex, &mut finder.cache, &mut input)? {
-        Some(found) => Ok(Some((found.start(), found.end()))),
-        None => Ok(None),
-    }
+    find(&finder.regex, &mut finder.cache, &mut input, &mut [None; 2])
+}
+
+/// All matches in a whole text, one after the other, with their groups 0 to 9: the first from the
+/// text's start, each further one from the end of the one before, an empty match there passed over.
+/// It counts one search of a whole text, refused or not, and may be refused with `Fault::Memory`
+/// alone; the finder is then as before. Each match takes a search of what is behind the one before,
+/// in time linear in that, times the pattern's weight. Memory is in proportion to their number.
+pub fn find_all(tick: &mut Lines, finder: &mut Finder, text: &Rope) -> Result<Vec<Groups>, Fault>
+    ensures found { IfOk result (λ groups.
+        AreGroups finder.old (bytes_of (text_of text.now)) groups.items) }
+    ensures fault { IfErr result (λ fault. fault ≡ Fault.Memory) }
+    ensures finder { finder.new ≡ finder.old }
+    ensures count { tick.new.count ≡ tick.old.count }
+    ensures wholes { tick.new.wholes ≡ min (tick.old.wholes + 1) (2 ^ 64 - 1) }
+{
+    tick.add_whole();
+    all_groups(
+        finder.alloc,
+        &finder.regex,
+        &mut finder.cache,
+        text.slice(..),
+    )
 }

@@ -1,16 +1,25 @@
 //! Searches of a whole content: of a line, or of a text.
-ghost use Rattle.std.specs.Prelude.{◌≡◌, ℕ, ◌≤◌, ◌↔◌, List, length, Option, IsTrue, MatchOption, IfOk, IfErr, option_map, false};
+ghost use Rattle.std.specs.Prelude.{◌≡◌, ℕ, ◌+◌, ◌*◌, ◌<◌, ◌≤◌, ◌↔◌, List, length, Some, IsTrue, IfOk, IfErr, map};
+ghost use Rattle.std.specs.List.{range_with_len};
 ghost use Rattle.str_indices.specs.Text.{byte_len};
 ghost use Rattle.ropey_walk.specs.Comparing.{slice_bytes};
 ghost use Rattle.ropey_walk.specs.Slices.{slice_text};
-ghost use Rattle.regex_cursor.specs.Patterns.{AsksFrom, FoundMatch, TreeFinds, match_of};
+ghost use Rattle.regex_cursor.specs.Patterns.{AsksFrom, TreeFinds};
 ghost use Rattle.regex_cursor.specs.Regexes.{IsCacheOf, IsRegexOf};
-ghost use Rattle.rope_search_reports.specs.Finders.{ComesAfter, start_behind};
+ghost use Rattle.rope_search_reports.specs.Finders.{ComesAfter, AreGroupsOf, IsTold, group_told, start_behind};
 
 use regex_cursor::engines::meta::{Cache, Regex};
-use regex_cursor::{Input, Match, RopeyCursor, Span};
+use regex_cursor::{Input, NonMaxUsize, RopeyCursor, Span};
 use rope_search_io::Fault;
 use ropey::RopeSlice;
+use std::alloc::Global;
+
+/// Groups 0 to 9 of a match: of each the byte indices of its start and its end. Group 0 is the whole
+/// match; a group that the pattern doesn't have, or that takes no part in the match, is `None`.
+pub type Groups = [Option<(usize, usize)>; 10];
+
+/// How many slots `Groups` have.
+const SLOT_COUNT: usize = 20;
 
 /// An input over a slice, in which matches are searched from a place on; looks see all of the
 /// slice, and nothing outside of it.
@@ -25,17 +34,41 @@ pub fn input_from(slice: RopeSlice<'_>, from: usize) -> Input<RopeyCursor<'_>>
     input
 }
 
-/// What is found in an input's content from a place on.
+/// A group's span, by the places in its two slots.
+fn group_in(slots: &[Option<NonMaxUsize>], group: usize) -> Option<(usize, usize)>
+    requires { 2 * group + 1 < length slots.now }
+    ensures { result ≡ group_told slots.now group }
+{
+    match (slots[2 * group], slots[2 * group + 1]) {
+        (Some(start), Some(end)) => Some((start.get(), end.get())),
+        _ => None,
+    }
+}
+
+/// The spans of groups 0 to 9, by the places in their slots.
+fn groups_in(slots: &[Option<NonMaxUsize>; SLOT_COUNT]) -> Groups
+    ensures { result ≡ map (group_told slots.now) (range_with_len 0 10) }
+{
+    let mut groups = [None; 10];
+    for k in 0..10 {
+        groups[k] = group_in(slots, k);
+    }
+    groups
+}
+
+/// The span of what is found in an input's content from a place on. The places of its groups are put
+/// into the slots, of which there are two or more.
 pub fn find(
     regex: &Regex,
     cache: &mut Cache,
     input: &mut Input<RopeyCursor<'_>>,
-) -> Result<Option<Match>, Fault>
+    slots: &mut [Option<NonMaxUsize>],
+) -> Result<Option<(usize, usize)>, Fault>
     requires made { IsCacheOf regex.now cache.old }
+    requires slots { 2 ≤ length slots.old }
     ensures found { (text content : List ℕ) (from : ℕ) → (built : IsRegexOf text regex.now)
-        → AsksFrom content from input.old → IfOk result (λ found.
-        (out : Option FoundMatch) × TreeFinds built.tree content from out
-        × (found ≡ option_map match_of out)) }
+        → AsksFrom content from input.old → IfOk result (λ span.
+        IsTold (TreeFinds built.tree content from) span slots.new) }
     ensures asks { (content : List ℕ) (from : ℕ) → AsksFrom content from input.old
         → AsksFrom content from input.new }
     ensures made { IsCacheOf regex.now cache.new }
@@ -43,51 +76,78 @@ pub fn find(
 {
     // A law, for the proof alone.
     regex_cursor::laws::regexes_have_trees();
-    match regex.search_with(cache, input) {
-        Ok(found) => Ok(found),
+    match regex.search_slots_with(cache, input, slots) {
+        Ok(_) => Ok(group_in(slots, 0)),
         Err(_) => Err(Fault::Memory),
     }
 }
 
 /// Whether an empty match was found at a place.
-fn is_empty_at(found: &Option<Match>, place: usize) -> bool
-    ensures { MatchOption found.now (result ≡ false)
-        (λ found. IsTrue result ↔ ((found.span.start ≡ place) × (found.span.end ≡ place))) }
+fn is_empty_at(span: Option<(usize, usize)>, place: usize) -> bool
+    ensures { IsTrue result ↔ (span ≡ Some (place, place)) }
 {
-    match found {
-        Some(found) => found.start() == place && found.end() == place,
-        None => false,
-    }
+    span == Some((place, place))
 }
 
 /// What comes next among the matches in an input's content, behind the last one, which ended where
-/// the input's search starts; an empty match there is passed over.
+/// the input's search starts; an empty match there is passed over. Spans and slots as by `find`.
 pub fn find_next(
     regex: &Regex,
     cache: &mut Cache,
     input: &mut Input<RopeyCursor<'_>>,
+    slots: &mut [Option<NonMaxUsize>],
     last: Option<usize>,
-) -> Result<Option<Match>, Fault>
+) -> Result<Option<(usize, usize)>, Fault>
     requires made { IsCacheOf regex.now cache.old }
+    requires slots { 2 ≤ length slots.old }
     requires asks { AsksFrom input.old.cursor.content (start_behind last) input.old }
     requires within { start_behind last ≤ length input.old.cursor.content }
     ensures found { (text : List ℕ) → (built : IsRegexOf text regex.now)
-        → IfOk result (λ found. (out : Option FoundMatch)
-        × ComesAfter built.tree input.old.cursor.content last out
-        × (found ≡ option_map match_of out)) }
+        → IfOk result (λ span.
+        IsTold (ComesAfter built.tree input.old.cursor.content last) span slots.new) }
     ensures asks { (from : ℕ) × AsksFrom input.old.cursor.content from input.new }
     ensures made { IsCacheOf regex.now cache.new }
     ensures fault { IfErr result (λ fault. fault ≡ Fault.Memory) }
 {
     // How long the content may be, for the proof alone.
     let _ = input.position();
-    let found = find(regex, cache, input)?;
+    let span = find(regex, cache, input, slots)?;
     let Some(end) = last else {
-        return Ok(found);
+        return Ok(span);
     };
-    if !is_empty_at(&found, end) {
-        return Ok(found);
+    if !is_empty_at(span, end) {
+        return Ok(span);
     }
     input.set_start(end + 1);
-    find(regex, cache, input)
+    find(regex, cache, input, slots)
+}
+
+/// The groups of all matches in a content.
+pub fn all_groups(
+    alloc: Global,
+    regex: &Regex,
+    cache: &mut Cache,
+    text: RopeSlice<'_>,
+) -> Result<Vec<Groups>, Fault>
+    requires made { IsCacheOf regex.now cache.old }
+    requires built { (text : List ℕ) × IsRegexOf text regex.now }
+    ensures groups { (pattern : List ℕ) → (built : IsRegexOf pattern regex.now)
+        → IfOk result (λ groups. AreGroupsOf built.tree (slice_bytes text.entry) groups.items) }
+    ensures made { IsCacheOf regex.now cache.new }
+    ensures fault { IfErr result (λ fault. fault ≡ Fault.Memory) }
+{
+    // A law, and the slice's facts, for the proof alone.
+    regex_cursor::laws::finds_of_trees();
+    let _ = text.len_bytes();
+    let mut groups = Vec::new(alloc);
+    let mut input = input_from(text, 0);
+    let mut slots = [None; SLOT_COUNT];
+    // Where the last match ended.
+    let mut last = None;
+    while let Some((_, end)) = find_next(regex, cache, &mut input, &mut slots, last)? {
+        groups.push(groups_in(&slots))?;
+        input.set_start(end);
+        last = Some(end);
+    }
+    Ok(groups)
 }

@@ -1,5 +1,4 @@
-use Rattle.std.proofs.Common.{◌≡◌, ◌≤◌, true, List, ℕ, length, sym, ap, subst, ◌∙◌, arith}
-use Rattle.std.specs.Str.{all_scalars}
+use Rattle.std.proofs.Common.{◌≡◌, ◌∙◌, arith}
 use Rattle.ropey_walk.specs.Slices.{slice_pieces, slice_text}
 use Rattle.str_indices.specs.Text.{byte_len, units}
 use Rattle.rope_search_reports.proofs.ColumnLemmas.{ascii-column, char-column}

@@ -1,5 +1,4 @@
-use Rattle.std.proofs.Common.{◌≡◌, ℕ, ◌+◌, ◌-◌, ◌<◌, ◌≤◌, List, [], ◌∷◌, ◌++◌, length, drop, take, refl, ap, sym, subst, ◌∙◌, arith, length-drop}
-use Rattle.std.proofs.lemmas.Grind.{common_steps}
+use Rattle.std.proofs.Common.{◌≡◌, ℕ, ◌+◌, ◌-◌, ◌≤◌, List, drop, refl, ap, sym, subst, ◌∙◌, arith, length-drop}
 use Rattle.ropey.specs.Chunks.{text_of}
 use Rattle.ropey.specs.Iter.{lines_of}
 use Rattle.ropey_walk.specs.Slices.{slice_pieces, slice_text}

@@ -1,13 +1,11 @@
-use Rattle.std.proofs.Common.{◌≡◌, ℕ, ◌+◌, ◌-◌, ◌<◌, ◌≤◌, List, [], ◌∷◌, ◌++◌, Option, None, Some, IsUtf8, length, refl, ap, sym, subst, ◌∙◌, arith}
-use Rattle.std.proofs.lemmas.Grind.{common_steps}
-use Rattle.std.specs.Str.{IsCharBoundary}
+use Rattle.std.proofs.Common.{◌≡◌, [], ◌∷◌, ◌++◌, None, Some, IsUtf8, length, refl, ap, sym, subst, arith}
 use Rattle.ropey_walk.specs.Comparing.{slice_bytes}
 use Rattle.ropey_walk.specs.Slices.{slice_pieces, slice_text}
 use Rattle.regex_cursor.specs.Patterns.{AsksFrom}
 use Rattle.rope_search_reports.proofs.MatchLemmas.{Searched, Searched-start}
 use Rattle.rope_search_reports.proofs.NextLemmas.{asks-moved}
 use Rattle.rope_search_reports.proofs.PlaceLemmas.{rope-scalars}
-use Rattle.rope_search_reports.proofs.RowLemmas.{next-told, next-stands, next-further, next-row, last-row}
+use Rattle.rope_search_reports.proofs.RowLemmas.{columns_of, columns-are, next-told, next-stands, next-further, next-shown, none-next, last-row}
 use Rattle.rope_search_reports.proofs.rows.columns_in.Goals as goal
 
 pub loop-matches-init : goal.loop-matches-init
@@ -18,8 +16,8 @@ loop-matches-init c = (
     (
       omega arith,
       λ text built.
-          subst (Searched built.tree (slice_bytes c.args.line) None) (sym c.new-matches.ensures.items)
-          (Searched-start built.tree (slice_bytes c.args.line) (c.finds_of_trees.ensures built.tree)),
+          subst (Searched (columns_of (slice_bytes c.args.line)) built.tree (slice_bytes c.args.line) None) (sym c.new-matches.ensures.items)
+          (Searched-start (columns_of (slice_bytes c.args.line)) built.tree (slice_bytes c.args.line) (c.finds_of_trees.ensures built.tree)),
     ),
   ),
 )
@@ -29,63 +27,61 @@ column_at-start_column-requires c =
     let content = slice_bytes c.args.line in
     let utf8 : IsUtf8 content = (slice_text c.args.line, (rope-scalars (slice_pieces c.args.line) c.len_bytes.ensures.cut.cut, refl)) in
     let tree = c.requires.built.1.tree in
-    let next = next-told tree content _ c.loop-matches.last c.in_ok-found.field-0 c.in-Some.found c.loop-matches.invariant.1.0.content_is
-    (c.in_ok-found.ensures.found c.requires.built.0 c.requires.built.1) c.in-Some.is in
-    let at = next-stands tree content c.loop-matches.last c.in-Some.found (c.finds_of_trees.ensures tree) utf8 next in
-    subst (IsCharBoundary content) (sym c.start.ensures.start) at.starts
+    let next = next-told tree content _ c.loop-matches.last c.in_ok-start.field-0 (c.in-Some.start, c.in-Some.end) _ c.loop-matches.invariant.1.0.content_is
+    (c.in_ok-start.ensures.found c.requires.built.0 c.requires.built.1) c.in-Some.is in
+    (next-stands tree content c.loop-matches.last _ _ (c.finds_of_trees.ensures tree) utf8 next).starts
 
 pub column_at-requires : goal.column_at-requires
 column_at-requires c =
     let content = slice_bytes c.args.line in
     let utf8 : IsUtf8 content = (slice_text c.args.line, (rope-scalars (slice_pieces c.args.line) c.len_bytes.ensures.cut.cut, refl)) in
     let tree = c.requires.built.1.tree in
-    let next = next-told tree content _ c.loop-matches.last c.in_ok-found.field-0 c.in-Some.found c.loop-matches.invariant.1.0.content_is
-    (c.in_ok-found.ensures.found c.requires.built.0 c.requires.built.1) c.in-Some.is in
-    let at = next-stands tree content c.loop-matches.last c.in-Some.found (c.finds_of_trees.ensures tree) utf8 next in
-    subst (IsCharBoundary content) (sym c.end-end.ensures.end) at.ends
+    let next = next-told tree content _ c.loop-matches.last c.in_ok-start.field-0 (c.in-Some.start, c.in-Some.end) _ c.loop-matches.invariant.1.0.content_is
+    (c.in_ok-start.ensures.found c.requires.built.0 c.requires.built.1) c.in-Some.is in
+    (next-stands tree content c.loop-matches.last _ _ (c.finds_of_trees.ensures tree) utf8 next).ends
 
 pub set_start-requires : goal.set_start-requires
 set_start-requires c =
     let content = slice_bytes c.args.line in
     let utf8 : IsUtf8 content = (slice_text c.args.line, (rope-scalars (slice_pieces c.args.line) c.len_bytes.ensures.cut.cut, refl)) in
     let tree = c.requires.built.1.tree in
-    let next = next-told tree content _ c.loop-matches.last c.in_ok-found.field-0 c.in-Some.found c.loop-matches.invariant.1.0.content_is
-    (c.in_ok-found.ensures.found c.requires.built.0 c.requires.built.1) c.in-Some.is in
-    let inside = (next-stands tree content c.loop-matches.last c.in-Some.found (c.finds_of_trees.ensures tree) utf8 next).inside in
+    let next = next-told tree content _ c.loop-matches.last c.in_ok-start.field-0 (c.in-Some.start, c.in-Some.end) _ c.loop-matches.invariant.1.0.content_is
+    (c.in_ok-start.ensures.found c.requires.built.0 c.requires.built.1) c.in-Some.is in
+    let inside = (next-stands tree content c.loop-matches.last _ _ (c.finds_of_trees.ensures tree) utf8 next).inside in
     let asks = c.find_next.ensures.asks.1 in
-    omega (arith, inside, c.end-end.ensures.end, ap (λ a. a.span.end) asks.asked_is, ap length c.loop-matches.invariant.1.0.content_is)
+    omega (arith, inside, ap (λ a. a.span.end) asks.asked_is, ap length c.loop-matches.invariant.1.0.content_is)
 
 pub loop-matches-smaller : goal.loop-matches-smaller
 loop-matches-smaller c =
     let content = slice_bytes c.args.line in
     let tree = c.requires.built.1.tree in
-    let next = next-told tree content _ c.loop-matches.last c.in_ok-found.field-0 c.in-Some.found c.loop-matches.invariant.1.0.content_is
-    (c.in_ok-found.ensures.found c.requires.built.0 c.requires.built.1) c.in-Some.is in
-    let further = next-further tree content c.loop-matches.last c.in-Some.found (c.finds_of_trees.ensures tree) next in
-    omega (arith, further, c.end-end.ensures.end)
+    let next = next-told tree content _ c.loop-matches.last c.in_ok-start.field-0 (c.in-Some.start, c.in-Some.end) _ c.loop-matches.invariant.1.0.content_is
+    (c.in_ok-start.ensures.found c.requires.built.0 c.requires.built.1) c.in-Some.is in
+    next-further tree content c.loop-matches.last _ _ (c.finds_of_trees.ensures tree) next
 
 pub loop-matches-preserved : goal.loop-matches-preserved
 loop-matches-preserved c =
     let content = slice_bytes c.args.line in
     let utf8 : IsUtf8 content = (slice_text c.args.line, (rope-scalars (slice_pieces c.args.line) c.len_bytes.ensures.cut.cut, refl)) in
     let tree = c.requires.built.1.tree in
-    let next = next-told tree content _ c.loop-matches.last c.in_ok-found.field-0 c.in-Some.found c.loop-matches.invariant.1.0.content_is
-    (c.in_ok-found.ensures.found c.requires.built.0 c.requires.built.1) c.in-Some.is in
-    let inside = (next-stands tree content c.loop-matches.last c.in-Some.found (c.finds_of_trees.ensures tree) utf8 next).inside in
-    let asks = asks-moved _ _ c.end-end.result _ _ c.find_next.ensures.asks.1 c.set_start.ensures.same.content c.set_start.ensures.asked_is in
+    let next = next-told tree content _ c.loop-matches.last c.in_ok-start.field-0 (c.in-Some.start, c.in-Some.end) _ c.loop-matches.invariant.1.0.content_is
+    (c.in_ok-start.ensures.found c.requires.built.0 c.requires.built.1) c.in-Some.is in
+    let inside = (next-stands tree content c.loop-matches.last _ _ (c.finds_of_trees.ensures tree) utf8 next).inside in
+    let asks = asks-moved _ _ c.in-Some.end _ _ c.find_next.ensures.asks.1 c.set_start.ensures.same.content c.set_start.ensures.asked_is in
     let row = c.loop-matches.matches.items ++ (c.column_at-start_column.result, c.column_at.result) ∷ [] in
-    let items : c.push.new.self.items ≡ row = grind (arith, common_steps) in (
+    let items : c.push.new.self.items ≡ row = c.in_ok-push.ensures.items in (
       c.find_next.ensures.made,
       (
-        subst (λ cs. AsksFrom cs c.end-end.result c.set_start.new.self) c.loop-matches.invariant.1.0.content_is asks,
+        subst (λ cs. AsksFrom cs c.in-Some.end c.set_start.new.self) c.loop-matches.invariant.1.0.content_is asks,
         (
-          omega (arith, inside, c.end-end.ensures.end),
+          inside,
           λ text built.
-              let next' = next-told built.tree content _ c.loop-matches.last c.in_ok-found.field-0 c.in-Some.found c.loop-matches.invariant.1.0.content_is
-              (c.in_ok-found.ensures.found text built) c.in-Some.is in
-              subst (Searched built.tree content (Some c.end-end.result)) (sym items)
-              (next-row built.tree content c.loop-matches.last c.in-Some.found c.loop-matches.matches.items c.start.result c.end-end.result c.column_at-start_column.result c.column_at.result
-              (c.finds_of_trees.ensures built.tree) next' c.start.ensures.start c.end-end.ensures.end c.column_at-start_column.ensures c.column_at.ensures
+              let next' = next-told built.tree content _ c.loop-matches.last c.in_ok-start.field-0 (c.in-Some.start, c.in-Some.end) _ c.loop-matches.invariant.1.0.content_is
+              (c.in_ok-start.ensures.found text built) c.in-Some.is in
+              subst (Searched (columns_of content) built.tree content (Some c.in-Some.end)) (sym items)
+              (next-shown (columns_of content) built.tree content c.loop-matches.last (c.in-Some.start, c.in-Some.end) _ c.loop-matches.matches.items (c.column_at-start_column.result, c.column_at.result)
+              (c.finds_of_trees.ensures built.tree) next'
+              (columns-are built.tree content c.loop-matches.last (c.in-Some.start, c.in-Some.end) _ c.column_at-start_column.result c.column_at.result next' c.column_at-start_column.ensures c.column_at.ensures)
               (c.loop-matches.invariant.1.1.1 text built)),
         ),
       ),
@@ -93,5 +89,7 @@ loop-matches-preserved c =
 
 pub returns-clause-row : goal.returns-clause-row
 returns-clause-row c = λ text built.
-    last-row built.tree (slice_text c.args.line) _ c.loop-matches.last c.in_ok-found.field-0 c.loop-matches.matches.items (c.finds_of_trees.ensures built.tree)
-    c.loop-matches.invariant.1.0.content_is (c.in_ok-found.ensures.found text built) c.in_default.is (c.loop-matches.invariant.1.1.1 text built)
+    let content = slice_bytes c.args.line in
+    last-row built.tree (slice_text c.args.line) c.loop-matches.last c.loop-matches.matches.items (c.finds_of_trees.ensures built.tree)
+    (none-next built.tree content _ c.loop-matches.last c.in_ok-start.field-0 _ c.loop-matches.invariant.1.0.content_is (c.in_ok-start.ensures.found text built) c.in_default.is)
+    (c.loop-matches.invariant.1.1.1 text built)

@@ -1,4 +1,4 @@
-use Rattle.std.proofs.Common.{◌≡◌, ℕ, List, sym, subst, ◌∙◌}
+use Rattle.std.proofs.Common.{sym, subst, ◌∙◌}
 use Rattle.ropey_walk.specs.Slices.{slice_text}
 use Rattle.regex_cursor.specs.Patterns.{SpellsTree}
 use Rattle.rope_search_reports.proofs.RowLemmas.{row-is}

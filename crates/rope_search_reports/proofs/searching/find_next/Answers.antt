@@ -1,24 +1,24 @@
-use Rattle.std.proofs.Common.{◌≡◌, ℕ, ◌+◌, ◌-◌, ◌<◌, ◌≤◌, ◌^◌, List, length, Option, Some, None, Bool, true, false, not, option_map, refl, ap, sym, subst, ◌∙◌, arith, Fits, w64}
+use Rattle.std.proofs.Common.{◌+◌, ap, arith}
 use Rattle.std.proofs.lemmas.Result.{IfOk-weaker}
-use Rattle.regex_cursor.specs.Patterns.{AsksFrom, FoundMatch, TreeFinds, Found, match_of}
-use Rattle.rope_search_reports.specs.Finders.{ComesAfter, start_behind}
-use Rattle.rope_search_reports.proofs.NextLemmas.{IsToldOf, asks-moved, first-comes, comes-at_once, comes-moved}
+use Rattle.regex_cursor.specs.Patterns.{TreeFinds}
+use Rattle.rope_search_reports.specs.Finders.{ComesAfter, IsTold, start_behind}
+use Rattle.rope_search_reports.proofs.NextLemmas.{asks-moved, first-comes, comes-at_once, comes-moved}
 use Rattle.rope_search_reports.proofs.searching.find_next.Goals as goal
 
-pub returns-in_err-found-clause-asks : goal.returns-in_err-found-clause-asks
-returns-in_err-found-clause-asks c = (start_behind c.args.last, c.find.ensures.asks _ _ c.requires.asks)
+pub returns-in_err-span-clause-asks : goal.returns-in_err-span-clause-asks
+returns-in_err-span-clause-asks c = (start_behind c.args.last, c.find.ensures.asks _ _ c.requires.asks)
 
 pub returns-in_default-clause-found : goal.returns-in_default-clause-found
 returns-in_default-clause-found c = λ text built.
-    first-comes built.tree _ c.args.last c.in_ok-found.found c.in_default.is (c.in_ok-found.ensures.found text _ _ built c.requires.asks)
+    first-comes built.tree _ c.args.last c.in_ok-span.span c.find.new.slots c.in_default.is (c.in_ok-span.ensures.found text _ _ built c.requires.asks)
 
 pub returns-in_default-clause-asks : goal.returns-in_default-clause-asks
 returns-in_default-clause-asks c = (start_behind c.args.last, c.find.ensures.asks _ _ c.requires.asks)
 
 pub returns-then-not-is_empty_at-clause-found : goal.returns-then-not-is_empty_at-clause-found
 returns-then-not-is_empty_at-clause-found c = λ text built.
-    comes-at_once built.tree _ c.args.last c.in-Some.end c.in_ok-found.found c.is_empty_at.result c.in-Some.is c.is_empty_at.ensures c.if-not-is_empty_at.true
-    (c.in_ok-found.ensures.found text _ _ built c.requires.asks)
+    comes-at_once built.tree _ c.args.last c.in-Some.end c.in_ok-span.span c.find.new.slots c.is_empty_at.result c.in-Some.is c.is_empty_at.ensures c.if-not-is_empty_at.true
+    (c.in_ok-span.ensures.found text _ _ built c.requires.asks)
 
 pub returns-then-not-is_empty_at-clause-asks : goal.returns-then-not-is_empty_at-clause-asks
 returns-then-not-is_empty_at-clause-asks c = (start_behind c.args.last, c.find.ensures.asks _ _ c.requires.asks)
@@ -36,9 +36,9 @@ set_start-requires c =
 pub returns-clause-found : goal.returns-clause-found
 returns-clause-found c = λ text built.
     let asks = asks-moved _ _ (c.in-Some.end + 1) _ _ (c.find.ensures.asks _ _ c.requires.asks) c.set_start.ensures.same.content c.set_start.ensures.asked_is in
-    IfOk-weaker c.find-2.result (IsToldOf (TreeFinds built.tree _ (c.in-Some.end + 1))) (IsToldOf (ComesAfter built.tree _ c.args.last))
-    (λ later next. comes-moved built.tree _ c.args.last c.in-Some.end c.in_ok-found.found later c.is_empty_at.result c.in-Some.is c.is_empty_at.ensures c.if-not-is_empty_at.false
-    (c.in_ok-found.ensures.found text _ _ built c.requires.asks) next)
+    IfOk-weaker c.find-2.result (λ span. IsTold (TreeFinds built.tree _ (c.in-Some.end + 1)) span c.find-2.new.slots) (λ span. IsTold (ComesAfter built.tree _ c.args.last) span c.find-2.new.slots)
+    (λ later next. comes-moved built.tree _ c.args.last c.in-Some.end c.in_ok-span.span later c.find.new.slots c.find-2.new.slots c.is_empty_at.result c.in-Some.is c.is_empty_at.ensures c.if-not-is_empty_at.false
+    (c.in_ok-span.ensures.found text _ _ built c.requires.asks) next)
     (c.find-2.ensures.found text _ _ built asks)
 
 pub returns-clause-asks : goal.returns-clause-asks

@@ -1,4 +1,4 @@
-use Rattle.std.proofs.Common.{◌≡◌, ◌<◌, ◌≤◌, length, arith, subst, ℕ, List}
+use Rattle.std.proofs.Common.{arith, subst}
 use Rattle.regex_cursor.specs.PatternLaws.{SaysOfText}
 use Rattle.rope_search_reports.proofs.FinderLemmas.{short-none}
 use Rattle.rope_search_reports.proofs.rows.Finder.new.Goals as goal
