@@ -1,6 +1,6 @@
 -- A text and a pattern have one report.
 use Rattle.std.proofs.Common.{◌≡◌, ℕ, suc, List, [], ◌∷◌, ◌++◌, length, map, refl, sym, ap, subst, ◌∙◌}
-use Rattle.regex_cursor.specs.Patterns.{Tree, FoundMatch, TreeMatches, search_from}
+use Rattle.regex_cursor.specs.Patterns.{FoundMatch, TreeMatches, search_from}
 use Rattle.regex_cursor.specs.PatternLaws.{SpellsOneTree}
 use Rattle.rope_search_reports.specs.Text.{bytes_of, line_count}
 use Rattle.rope_search_reports.specs.Pattern.{IsPattern, span_of}
@@ -67,7 +67,7 @@ has-report law text pattern is = has-rows law pattern (line_texts text) is
 
 -- ---- a row for each line
 
-AreRows-length : (pattern : List ℕ) (lines : List (List ℕ)) (rows : List (List (ℕ × ℕ))) → AreRows pattern lines rows → length rows ≡ length lines
+pub AreRows-length : (pattern : List ℕ) (lines : List (List ℕ)) (rows : List (List (ℕ × ℕ))) → AreRows pattern lines rows → length rows ≡ length lines
 AreRows-length pattern [] [] are = refl
 AreRows-length pattern [] (row ∷ rows) are = absurd are
 AreRows-length pattern (line ∷ lines) [] are = absurd are
