@@ -12,8 +12,13 @@ pub mod ReplaceLemmas
 pub mod SpotLemmas
 pub mod FewLemmas
 pub mod SpliceLemmas
+pub mod ChangeLemmas
+pub mod WeaveLemmas
+pub mod PutLemmas
+pub mod ReplacementLemmas
 pub mod ReportLaws
 pub mod TextExamples
 pub mod PositionExamples
 pub mod ReportExamples
+mod ReplacementExamples
 mod BoundaryLemmas

@@ -67,7 +67,7 @@ has-report law text pattern is = has-rows law pattern (line_texts text) is
 
 -- ---- a row for each line
 
-AreRows-length : (pattern : List ℕ) (lines : List (List ℕ)) (rows : List (List (ℕ × ℕ))) → AreRows pattern lines rows → length rows ≡ length lines
+pub AreRows-length : (pattern : List ℕ) (lines : List (List ℕ)) (rows : List (List (ℕ × ℕ))) → AreRows pattern lines rows → length rows ≡ length lines
 AreRows-length pattern [] [] are = refl
 AreRows-length pattern [] (row ∷ rows) are = absurd are
 AreRows-length pattern (line ∷ lines) [] are = absurd are

@@ -45,15 +45,15 @@ bytes-cons c cs = omega (arith, length-append (encode_utf8 c) (encode_utf8_all c
 -- ---- a character before the first line
 
 -- whether it ends a break, whether it is in the break set, and the lines behind it
-abbrev put : Bool → Bool → ℕ → List (List ℕ) → List (List ℕ)
+abbrev pub put : Bool → Bool → ℕ → List (List ℕ) → List (List ℕ)
 put ends in_set c lines = cond ends ([] ∷ lines) (cond in_set lines (with_first c lines))
 
-line_texts-put : (c : ℕ) (rest : List ℕ) → line_texts (c ∷ rest) ≡ put (ends_break is_break c rest) (is_break c) c (line_texts rest)
+pub line_texts-put : (c : ℕ) (rest : List ℕ) → line_texts (c ∷ rest) ≡ put (ends_break is_break c rest) (is_break c) c (line_texts rest)
 unfolding line_texts
 line_texts-put c rest = refl
 
 -- how many breaks end in the first of two texts
-abbrev ended : List ℕ → List ℕ → ℕ
+abbrev pub ended : List ℕ → List ℕ → ℕ
 ended [] rest = 0
 ended (c ∷ cs) rest = cond (ends_break is_break c (cs ++ rest)) (suc (ended cs rest)) (ended cs rest)
 
@@ -86,7 +86,7 @@ first-lf (d ∷ ds) is_so =
     let same : d ≡ 10 = grind (arith, nat_tests, is_so) in
     ap (λ n. take 1 (line_texts (n ∷ ds))) same ∙ ap (take 1) (line_texts-break 10 ds refl)
 
-front : (before after after' : List ℕ) → take (ended before after) (line_texts (before ++ after)) ≡ take (ended before after) (line_texts (before ++ after'))
+pub front : (before after after' : List ℕ) → take (ended before after) (line_texts (before ++ after)) ≡ take (ended before after) (line_texts (before ++ after'))
 front [] after after' = refl
 front (c ∷ []) after after' =
     ap (take (ended (c ∷ []) after)) (line_texts-put c after)
@@ -105,7 +105,7 @@ rear-put false true c k lines = refl
 rear-put false false c k [] = drop_all k [] (omega arith)
 rear-put false false c k (line ∷ lines) = refl
 
-rear : (before after : List ℕ) → drop (suc (ended before after)) (line_texts (before ++ after)) ≡ drop 1 (line_texts after)
+pub rear : (before after : List ℕ) → drop (suc (ended before after)) (line_texts (before ++ after)) ≡ drop 1 (line_texts after)
 rear [] after = refl
 rear (c ∷ cs) after =
     ap (drop (suc (ended (c ∷ cs) after))) (line_texts-put c (cs ++ after))
@@ -119,7 +119,7 @@ one-more true p q r e = omega (arith, e)
 one-more false p q r e = e
 
 -- the breaks that end in two texts joined
-ended-append : (before part after : List ℕ) → ended (before ++ part) after ≡ ended before (part ++ after) + ended part after
+pub ended-append : (before part after : List ℕ) → ended (before ++ part) after ≡ ended before (part ++ after) + ended part after
 ended-append [] part after = omega arith
 ended-append (c ∷ cs) part after =
     ap (λ t. cond (ends_break is_break c t) (suc (ended (cs ++ part) after)) (ended (cs ++ part) after)) (append_assoc cs part after)
@@ -139,7 +139,7 @@ few-last true true true at = omega arith
 few-last true true false at = omega arith
 
 -- what follows a text ends no further break in it
-few : (at : ℕ) (text after : List ℕ) → ended text after ≤ length (ends_from count at text)
+pub few : (at : ℕ) (text after : List ℕ) → ended text after ≤ length (ends_from count at text)
 few at [] after = omega arith
 few at (c ∷ []) after = few-last (is_break c) (c == 13) (starts_with_lf after) (at + len_utf8 c)
 few at (c ∷ d ∷ ds) after =
@@ -168,7 +168,7 @@ near-put true p q h = omega (arith, h)
 near-put false p q h = h
 
 -- what follows a text decides on one break in it at most
-near : (before after after' : List ℕ) → ended before after ≤ ended before after' + 1
+pub near : (before after after' : List ℕ) → ended before after ≤ ended before after' + 1
 near [] after after' = omega arith
 near (c ∷ []) after after' = near-last (ends_break is_break c after) (ends_break is_break c after')
 near (c ∷ d ∷ ds) after after' = near-put (ends_break is_break c (d ∷ ds)) (ended (d ∷ ds) after) (ended (d ∷ ds) after') (near (d ∷ ds) after after')
@@ -185,7 +185,7 @@ spliced xs ys i j k low begins ends =
     ∙ sym (append_assoc (take i ys) (take (j - i) (drop i xs)) (drop k ys))
 
 -- the line of the place between two texts
-line_at-is : (place : ℕ) (before after : List ℕ) → place ≡ byte_len before → line_at (before ++ after) place ≡ ended before after
+pub line_at-is : (place : ℕ) (before after : List ℕ) → place ≡ byte_len before → line_at (before ++ after) place ≡ ended before after
 line_at-is place before after e = up_to-ended 0 place before after (omega (arith, e))
 
 pub splices : EditsSpliceLines
@@ -223,14 +223,14 @@ splices before removed inserted after =
     )
 
 -- ---- rows of lines
-AreRows-take : (pattern : List ℕ) (n : ℕ) (lines : List (List ℕ)) (rows : List (List (ℕ × ℕ))) → AreRows pattern lines rows → AreRows pattern (take n lines) (take n rows)
+pub AreRows-take : (pattern : List ℕ) (n : ℕ) (lines : List (List ℕ)) (rows : List (List (ℕ × ℕ))) → AreRows pattern lines rows → AreRows pattern (take n lines) (take n rows)
 AreRows-take pattern zero lines rows h = tt
 AreRows-take pattern (suc n) [] [] h = tt
 AreRows-take pattern (suc n) [] (row ∷ rows) h = absurd h
 AreRows-take pattern (suc n) (line ∷ lines) [] h = absurd h
 AreRows-take pattern (suc n) (line ∷ lines) (row ∷ rows) h = (h.0, AreRows-take pattern n lines rows h.1)
 
-AreRows-drop : (pattern : List ℕ) (n : ℕ) (lines : List (List ℕ)) (rows : List (List (ℕ × ℕ))) → AreRows pattern lines rows → AreRows pattern (drop n lines) (drop n rows)
+pub AreRows-drop : (pattern : List ℕ) (n : ℕ) (lines : List (List ℕ)) (rows : List (List (ℕ × ℕ))) → AreRows pattern lines rows → AreRows pattern (drop n lines) (drop n rows)
 AreRows-drop pattern zero lines rows h = h
 AreRows-drop pattern (suc n) [] [] h = tt
 AreRows-drop pattern (suc n) [] (row ∷ rows) h = absurd h

@@ -5,6 +5,9 @@ pub mod Report
 pub mod Position
 pub mod Ticks
 pub mod Splice
+pub mod Changes
+pub mod Patches
+pub mod Replacement
 pub mod Laws
 pub mod Drafts
 pub mod Finders

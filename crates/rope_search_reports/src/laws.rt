@@ -3,6 +3,8 @@
 
 ghost use Rattle.rope_search_reports.specs.Laws.{IsPatternOrNot, IsOneOfThree, FindsOne, HasFind, FindsAreInText, HasOneListOfMatches, HasMatches, HasFewMatches, HasOneReport, HasReport, HasARowALine, PlacesAreInLines, HasOnePlace, MatchesStandAtBoundaries, HasLinesInPlace, PlaceLaws};
 ghost use Rattle.rope_search_reports.specs.Splice.{EditsSpliceLines, KeepsRows};
+ghost use Rattle.rope_search_reports.specs.Changes.{ChangesKeepLines, TailsKeepLines};
+ghost use Rattle.rope_search_reports.specs.Replacement.{ReplacementsAreChanges};
 
 /// Each text is a pattern, or it is one but for its weight, or it spells nothing. So it is settled
 /// for each text how `Finder::new` answers, but for want of memory.
@@ -119,6 +121,23 @@ pub fn edits_splice_lines()
 /// rows of those that it makes anew.
 pub fn splices_keep_rows()
     ensures { KeepsRows }
+{}
+
+/// Whatever breaks meet at the ends of changes, the lines that begin behind one change and end
+/// before the next are as they were.
+pub fn changes_keep_lines()
+    ensures { ChangesKeepLines }
+{}
+
+/// So are those that begin behind the last change.
+pub fn tails_keep_lines()
+    ensures { TailsKeepLines }
+{}
+
+/// To replace matches is to make changes: the text outside the matches stays, in order, and the
+/// changes may have as many lines searched as what takes the matches' places has.
+pub fn replacements_are_changes()
+    ensures { ReplacementsAreChanges }
 {}
 
 /// Places in a text by characters, by code units and by lines agree with one another.

@@ -2,8 +2,10 @@
 //! count of the lines that were searched.
 #![tactic(auto)]
 
+mod changes;
 mod columns;
 pub mod laws;
+mod patches;
 mod pattern_text;
 mod positions;
 mod replacing;
@@ -11,6 +13,8 @@ mod reports;
 mod rows;
 mod searching;
 
+pub use changes::{Change, patches_of};
+pub use patches::{Patch, put_patches};
 pub use positions::{Place, Position, byte_of, place_of, position_of};
 pub use replacing::replace_rows;
 pub use reports::{report_of, rows_of_lines};

@@ -1,0 +1,127 @@
+-- Rows that are moved one by one, and patches put in their places.
+use Rattle.std.proofs.Common.{◌≡◌, MatchOption, ℕ, zero, suc, ◌+◌, ◌-◌, ◌<◌, ◌≤◌, List, [], ◌∷◌, ◌++◌, length, take, drop, Option, None, Some, sym, ap, ◌∙◌, subst, arith, append_assoc, length-append, length-take, length-drop}
+use Rattle.std.specs.Option.{option_to_list}
+use Rattle.std.proofs.lemmas.List.{drop-drop, take_all}
+use Rattle.rope_search_reports.specs.declared.patches.Patch.{Patch}
+use Rattle.rope_search_reports.specs.Patches.{patched, AreInTurn}
+
+-- what one step of an iterator moves
+pub record Stepped {A : Type 0} (all ys : List A) (i : ℕ) (r : Option A) : Type 0 where
+  pub left : ys ≡ drop (i + 1) all
+  pub moved : take (i + 1) all ≡ take i all ++ option_to_list r
+
+take-more : {A : Type 0} (i : ℕ) (all : List A) (x : A) (ys : List A) → drop i all ≡ x ∷ ys → take (i + 1) all ≡ take i all ++ x ∷ []
+take-more zero [] x ys is = absurd (omega (arith, ap length is))
+take-more zero (a ∷ all) x ys is = ap (take 1) is
+take-more (suc i) [] x ys is = absurd (omega (arith, ap length is))
+take-more (suc i) (a ∷ all) x ys is =
+    let more : suc i + 1 ≡ suc (i + 1) = omega arith in
+    ap (λ n. take n (a ∷ all)) more ∙ ap (λ zs. a ∷ zs) (take-more i all x ys is)
+
+next-drop : {A : Type 0} (all ys : List A) (i : ℕ) (x : A) → drop i all ≡ x ∷ ys → Stepped all ys i (Some x)
+next-drop all ys i x is =
+    record {
+      left = sym (ap (drop 1) is) ∙ drop-drop 1 i all;
+      moved = take-more i all x ys is;
+    }
+
+pub stepped : {A : Type 0} (all xs ys : List A) (i n m : ℕ) (r : Option A) → xs ≡ drop i all → i < length all → length xs ≡ n
+    → MatchOption r ((n ≡ 0) × (m ≡ 0)) (λ x. (xs ≡ x ∷ ys) × (m + 1 ≡ n)) → Stepped all ys i r
+stepped all xs ys i n m None is less len none = absurd (omega (arith, less, len, none.0, ap length is, length-drop i all))
+stepped all xs ys i n m (Some x) is less len some = next-drop all ys i x (sym is ∙ some.0)
+
+-- ---- patches
+
+-- patches in turn end inside the list
+pub turn-within : (at len : ℕ) (patches : List Patch) → AreInTurn at len patches → at ≤ len
+turn-within at len [] turn = turn
+turn-within at len (p ∷ ps) turn = omega (arith, turn.0, turn.1, turn-within p.end len ps turn.2)
+
+-- the first patches are put, and the rows before the last of them; the rows from `at` on and the
+-- other patches are left
+pub record IsPut (rows : List (List (ℕ × ℕ))) (patches : List Patch) (out left : List (List (ℕ × ℕ))) (at : ℕ) (rest : List Patch) (room : ℕ) : Type 0 where
+  pub left_is : left ≡ drop at rows
+  pub turn : AreInTurn at (length rows) rest
+  pub whole : out ++ patched at rows rest ≡ patched 0 rows patches
+  pub fits : length (patched 0 rows patches) ≤ room
+
+pub IsPut-start : (rows : List (List (ℕ × ℕ))) (patches : List Patch) (out left : List (List (ℕ × ℕ))) (rest : List Patch) (room : ℕ) → AreInTurn 0 (length rows) patches
+    → out ≡ [] → left ≡ rows → rest ≡ patches → length (patched 0 rows patches) ≤ room → IsPut rows patches out left 0 rest room
+IsPut-start rows patches out left rest room turn empty is all fits = record {
+  left_is = is;
+  turn = subst (AreInTurn 0 (length rows)) (sym all) turn;
+  whole = ap (λ xs. xs ++ patched 0 rows rest) empty ∙ ap (patched 0 rows) all;
+  fits = fits;
+}
+
+-- what the next patch needs
+pub record NextFits (left out : List (List (ℕ × ℕ))) (at first end made most : ℕ) : Type 0 where
+  pub kept : first - at ≤ length left
+  pub gone : end - first ≤ length (drop (first - at) left)
+  pub room : length out + (first - at) + made ≤ most
+  pub ordered : at ≤ first
+  pub ordered' : first ≤ end
+
+pub IsPut-next : (rows : List (List (ℕ × ℕ))) (patches : List Patch) (out left : List (List (ℕ × ℕ))) (at : ℕ) (p : Patch) (ps rest : List Patch) (room : ℕ)
+    → rest ≡ p ∷ ps → IsPut rows patches out left at rest room → NextFits left out at p.first p.end (length p.made.items) room
+IsPut-next rows patches out left at p ps rest room is put =
+    let turn = subst (AreInTurn at (length rows)) is put.turn in
+    let within = turn-within p.end (length rows) ps turn.2 in
+    let long : length left ≡ length rows - at = ap length put.left_is ∙ length-drop at rows in
+    let kept : length (take (p.first - at) (drop at rows)) ≡ p.first - at = omega (arith, length-take (p.first - at) (drop at rows), length-drop at rows, turn.0, turn.1, within) in
+    let whole = ap length (ap (λ xs. out ++ patched at rows xs) (sym is) ∙ put.whole) in
+    record {
+      kept = omega (arith, long, turn.0, turn.1, within);
+      gone = omega (arith, length-drop (p.first - at) left, long, turn.0, turn.1, within);
+      room =
+          omega (
+            arith,
+            put.fits,
+            whole,
+            kept,
+            length-append out (take (p.first - at) (drop at rows) ++ p.made.items ++ patched p.end rows ps),
+            length-append (take (p.first - at) (drop at rows) ++ p.made.items) (patched p.end rows ps),
+            length-append (take (p.first - at) (drop at rows)) p.made.items,
+          );
+      ordered = turn.0;
+      ordered' = turn.1;
+    }
+
+pub IsPut-step : (rows : List (List (ℕ × ℕ))) (patches : List Patch) (out left out' left' : List (List (ℕ × ℕ))) (at : ℕ) (p : Patch) (ps rest : List Patch) (room : ℕ)
+    → rest ≡ p ∷ ps → IsPut rows patches out left at rest room
+    → out' ≡ out ++ take (p.first - at) left ++ p.made.items → left' ≡ drop (p.end - p.first) (drop (p.first - at) left)
+    → IsPut rows patches out' left' p.end ps room
+IsPut-step rows patches out left out' left' at p ps rest room is put out-is left-is =
+    let turn = subst (AreInTurn at (length rows)) is put.turn in
+    let kept = take (p.first - at) (drop at rows) in
+    let sum : (p.end - p.first) + ((p.first - at) + at) ≡ p.end = omega (arith, turn.0, turn.1) in
+    record {
+      left_is =
+          left-is ∙ ap (λ xs. drop (p.end - p.first) (drop (p.first - at) xs)) put.left_is
+          ∙ ap (drop (p.end - p.first)) (drop-drop (p.first - at) at rows)
+          ∙ drop-drop (p.end - p.first) (at + (p.first - at)) rows
+          ∙ ap (λ n. drop n rows) (omega (arith, turn.0, turn.1));
+      turn = turn.2;
+      whole =
+          ap (λ xs. xs ++ patched p.end rows ps) (out-is ∙ ap (λ xs. out ++ take (p.first - at) xs ++ p.made.items) put.left_is)
+          ∙ (append_assoc (out ++ kept) p.made.items (patched p.end rows ps)
+          ∙ append_assoc out kept (p.made.items ++ patched p.end rows ps)
+          ∙ ap (λ xs. out ++ xs) (sym (append_assoc kept p.made.items (patched p.end rows ps))))
+          ∙ ap (λ xs. out ++ patched at rows xs) (sym is) ∙ put.whole;
+      fits = put.fits;
+    }
+
+pub IsPut-end : (rows : List (List (ℕ × ℕ))) (patches : List Patch) (out left out' : List (List (ℕ × ℕ))) (at count : ℕ) (rest : List Patch) (room : ℕ)
+    → rest ≡ [] → IsPut rows patches out left at rest room → count ≡ length left → out' ≡ out ++ take count left → out' ≡ patched 0 rows patches
+IsPut-end rows patches out left out' at count rest room is put long out-is =
+    out-is ∙ ap (λ xs. out ++ xs) (take_all count left (omega (arith, long)) ∙ put.left_is)
+    ∙ ap (λ xs. out ++ patched at rows xs) (sym is) ∙ put.whole
+
+pub IsPut-room : (rows : List (List (ℕ × ℕ))) (patches : List Patch) (out left : List (List (ℕ × ℕ))) (at : ℕ) (rest : List Patch) (room room' : ℕ) → room ≤ room'
+    → IsPut rows patches out left at rest room → IsPut rows patches out left at rest room'
+IsPut-room rows patches out left at rest room room' more put = record {
+  left_is = put.left_is;
+  turn = put.turn;
+  whole = put.whole;
+  fits = omega (arith, more, put.fits);
+}

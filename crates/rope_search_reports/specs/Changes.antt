@@ -1,0 +1,89 @@
+-- What several changes do to the lines of a text. A change takes a part of the old text away and
+-- puts another text in its place; what stands between two changes stays.
+use Rattle.std.specs.Prelude.{◌≡◌, ℕ, ◌+◌, ◌-◌, ◌≤◌, ◌⊎◌, List, [], ◌∷◌, ◌++◌, length, take, drop, max}
+use Rattle.str_indices.specs.Text.{byte_len, breaks}
+use Rattle.ropey.specs.Chunks.{is_break}
+use Rattle.rope_search_reports.specs.Report.{line_texts}
+use Rattle.rope_search_reports.specs.Position.{line_at}
+use Rattle.rope_search_reports.specs.declared.changes.Change.{Change}
+
+-- ---- changes, one after the other, told by places
+
+-- The first change of what is left of two texts, from these two places on: a part stays, one is
+-- taken away from the old text, and one is put in its place in the new one. It may have the put
+-- part's breaks plus one lines searched, and what is left the rest of the number.
+pub record IsChange (Left : ℕ → ℕ → List ℕ → List ℕ → ℕ → Type 0)
+    (at_old at_new : ℕ) (old new : List ℕ) (change : Change) (n : ℕ) : Type 0 where
+  pub gap : List ℕ
+  pub removed : List ℕ
+  pub inserted : List ℕ
+  pub old_behind : List ℕ
+  pub new_behind : List ℕ
+  pub left : ℕ
+  pub old_is : old ≡ gap ++ removed ++ old_behind
+  pub new_is : new ≡ gap ++ inserted ++ new_behind
+  pub old_end : change.old_end ≡ at_old + byte_len gap + byte_len removed
+  pub new_start : change.new_start ≡ at_new + byte_len gap
+  pub new_end : change.new_end ≡ at_new + byte_len gap + byte_len inserted
+  pub counts : n ≡ breaks is_break inserted + 1 + left
+  pub further : Left change.old_end change.new_end old_behind new_behind left
+
+-- The changes that make the new text of the old one, from two places on; behind the last one both
+-- are alike. They may have so many lines searched.
+abbrev pub AreChanges : List Change → ℕ → ℕ → List ℕ → List ℕ → ℕ → Type 0
+AreChanges [] at_old at_new old new n = (old ≡ new) × (n ≡ 0)
+AreChanges (change ∷ changes) at_old at_new old new n =
+    IsChange (AreChanges changes) at_old at_new old new change n
+
+-- ---- the lines that they leave
+
+-- Two texts up to where they go on alike, and how many of their lines are done with: none where no
+-- change was met yet, and else those up to the one in which the last change ends.
+pub record IsAtStart (before before' : List ℕ) (kept done : ℕ) : Type 0 where
+  pub old : before ≡ []
+  pub new : before' ≡ []
+  pub none : kept ≡ 0
+  pub none_new : done ≡ 0
+
+pub record StandsAt (old new : List ℕ) (at_old at_new kept done : ℕ) : Type 0 where
+  pub old_is : kept ≡ line_at old at_old + 1
+  pub new_is : done ≡ line_at new at_new + 1
+
+abbrev pub IsInStep : List ℕ → List ℕ → List ℕ → List ℕ → ℕ → ℕ → Type 0
+IsInStep before before' after after' kept done =
+    IsAtStart before before' kept done
+    ⊎ StandsAt (before ++ after) (before' ++ after')
+    (byte_len before) (byte_len before') kept done
+
+-- One change more. Lines `done` to `start` of the new text are those of the old one from `kept` on;
+-- lines `start` to `last` are made anew; those up to `gone` of the old text are gone.
+pub record IsFurther (old new : List ℕ) (kept done start last gone : ℕ) : Type 0 where
+  pub lines : take (last + 1) (line_texts new) ≡ take done (line_texts new)
+      ++ take (start - done) (drop kept (line_texts old))
+      ++ take (last + 1 - start) (drop start (line_texts new))
+  pub forward : done ≤ start
+  pub ordered : start ≤ last + 1
+  pub within : kept + (start - done) ≤ gone + 1
+  pub inside : gone + 1 ≤ length (line_texts old)
+  pub inside_new : last + 1 ≤ length (line_texts new)
+
+-- Whatever breaks meet at the ends of the changes: the lines that begin behind a change and end
+-- before the next one are as they were. A change makes its own text's breaks plus one lines anew
+-- at most.
+abbrev pub ChangesKeepLines : Type 0
+ChangesKeepLines = (before before' gap removed inserted after after' : List ℕ) (kept done : ℕ)
+    → IsInStep before before' (gap ++ removed ++ after) (gap ++ inserted ++ after') kept done
+    → let old = before ++ gap ++ removed ++ after in
+    let new = before' ++ gap ++ inserted ++ after' in
+    let start = max (line_at new (byte_len (before' ++ gap))) done in
+    let last = line_at new (byte_len (before' ++ gap ++ inserted)) in
+    let gone = line_at old (byte_len (before ++ gap ++ removed)) in
+    IsFurther old new kept done start last gone
+    × (last + 1 - start ≤ breaks is_break inserted + 1)
+
+-- behind the last change
+abbrev pub TailsKeepLines : Type 0
+TailsKeepLines = (before before' tail : List ℕ) (kept done : ℕ)
+    → IsInStep before before' tail tail kept done
+    → line_texts (before' ++ tail) ≡ take done (line_texts (before' ++ tail))
+    ++ drop kept (line_texts (before ++ tail))

@@ -1,0 +1,15 @@
+-- Rows with patches in them.
+use Rattle.std.specs.Prelude.{ℕ, ◌-◌, ◌≤◌, List, [], ◌∷◌, ◌++◌, take, drop}
+use Rattle.rope_search_reports.specs.declared.patches.Patch.{Patch}
+
+-- the rows from one on, each patch in the place of the rows that are gone
+abbrev pub patched : ℕ → List (List (ℕ × ℕ)) → List Patch → List (List (ℕ × ℕ))
+patched at rows [] = drop at rows
+patched at rows (patch ∷ patches) =
+    take (patch.first - at) (drop at rows) ++ patch.made.items ++ patched patch.end rows patches
+
+-- the patches follow each other, from a row on, up to the last one at most
+abbrev pub AreInTurn : ℕ → ℕ → List Patch → Type 0
+AreInTurn at len [] = at ≤ len
+AreInTurn at len (patch ∷ patches) =
+    (at ≤ patch.first) × (patch.first ≤ patch.end) × AreInTurn patch.end len patches

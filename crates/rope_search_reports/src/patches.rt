@@ -1,0 +1,72 @@
+//! Rows put in the place of others, at several places of a list.
+ghost use Rattle.std.specs.Prelude.{◌≡◌, ◌+◌, ◌-◌, ◌≤◌, [], length, ◌++◌, take, drop, vec_len, vec_capacity};
+ghost use Rattle.std.specs.Vec.Iter.{into_iter_items, into_iter_len};
+ghost use Rattle.rope_search_reports.specs.Patches.{patched, AreInTurn};
+
+use crate::rows::Row;
+use std::alloc::Global;
+use std::mem;
+use std::vec::IntoIter;
+
+/// Rows that are made anew, and those in whose place they go.
+#[derive(Drop)]
+pub struct Patch {
+    /// The first row that is gone.
+    pub first: usize,
+    /// The row behind those that are gone.
+    pub end: usize,
+    /// The new rows.
+    pub made: Vec<Row>,
+}
+
+/// Moves the first `count` rows that are left behind those of a list, which has room for them.
+fn move_rows(left: &mut IntoIter<Row, Global>, count: usize, rows: &mut Vec<Row>)
+    requires within { count ≤ length (into_iter_items left.old) }
+    requires room { length rows.old.items + count ≤ vec_capacity rows.old }
+    ensures left { into_iter_items left.new ≡ drop count (into_iter_items left.old) }
+    ensures rows { rows.new.items ≡ rows.old.items ++ take count (into_iter_items left.old) }
+    ensures capacity { vec_capacity rows.new ≡ vec_capacity rows.old }
+{
+    for _ in 0..count {
+        if let Some(row) = left.next() {
+            rows.push_reserved(row);
+        }
+    }
+}
+
+/// Drops the first `count` rows that are left.
+fn drop_rows(left: &mut IntoIter<Row, Global>, count: usize)
+    requires within { count ≤ length (into_iter_items left.old) }
+    ensures { into_iter_items left.new ≡ drop count (into_iter_items left.old) }
+{
+    for _ in 0..count {
+        let _row = left.next();
+    }
+}
+
+/// Puts patches in their places: each one's rows come in the place of those that are gone. The new
+/// list is built in `room`, an empty list with room for all of it. It takes no memory, and time is
+/// linear in both lists.
+pub fn put_patches(rows: &mut Vec<Row>, patches: Vec<Patch>, room: Vec<Row>)
+    requires in_turn { AreInTurn 0 (length rows.old.items) patches.items }
+    requires empty { room.items ≡ [] }
+    requires room { length (patched 0 rows.old.items patches.items) ≤ vec_capacity room }
+    ensures { rows.new.items ≡ patched 0 rows.old.items patches.items }
+{
+    let mut left = mem::replace(rows, room).into_iter();
+    let mut at = 0;
+    for patch in patches {
+        let Patch {
+            first,
+            end,
+            mut made,
+        } = patch;
+        move_rows(&mut left, first - at, rows);
+        drop_rows(&mut left, end - first);
+        // There is room, so it isn't refused.
+        let _ = rows.append(&mut made);
+        at = end;
+    }
+    let count = left.len();
+    move_rows(&mut left, count, rows);
+}
