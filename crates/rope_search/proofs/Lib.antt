@@ -15,6 +15,7 @@ pub mod RequestLemmas
 pub mod RunEndings
 pub mod RunLaws
 pub mod SessionLemmas
+pub mod NextLaws
 pub mod NextLemmas
 pub mod StandLaws
 pub mod HoldLaws

@@ -1,18 +1,21 @@
 -- Laws of the definitions themselves: that they leave one reading, one step and one cost, and that
 -- no command is left out.
-use Rattle.std.specs.Prelude.{◌≡◌, ◌≢◌, ℕ, ◌<◌, ◌↔◌, ◌⊎◌, List, [], ◌++◌, length, All, slice_index_or, Some, IfSome, Ok, Err}
+use Rattle.std.specs.Prelude.{◌≡◌, ◌≢◌, ℕ, ◌<◌, ◌≤◌, ◌↔◌, ◌⊎◌, List, [], ◌++◌, length, All, slice_index_or, Some, IfSome, Ok, Err}
 use Rattle.rope_search_io.specs.declared.faults.Fault.TheVariants.{Memory}
 use Rattle.rope_search.specs.declared.endings.Ended.{Ended}
 use Rattle.rope_search.specs.declared.endings.Ended.TheVariants.{Command}
 use Rattle.rope_search.specs.declared.commands.CommandOf.{CommandOf}
 use Rattle.rope_search.specs.declared.commands.Payload.{Payload}
 use Rattle.rope_search.specs.declared.commands.Reply.{Reply}
+use Rattle.rope_search.specs.declared.commands.Reply.TheVariants.{Found}
 use Rattle.rope_search_reports.specs.declared.positions.Position.{Position}
 use Rattle.rope_search_reports.specs.Text.{IsText, Encodes}
 use Rattle.rope_search_reports.specs.Pattern.{IsPattern}
+use Rattle.rope_search_reports.specs.Laws.{IsInText}
 use Rattle.rope_search_reports.specs.Position.{IsAt, IsNowhere, StandsAtBoundaries}
-use Rattle.rope_search.specs.Order.{Order, EditText, UndoEdit, RedoEdit, SetPattern}
+use Rattle.rope_search.specs.Order.{Order, EditText, UndoEdit, RedoEdit, SetPattern, FindNext}
 use Rattle.rope_search.specs.Session.{BufferState, State, first, current_text, chosen_buffer, IsReportIn}
+use Rattle.rope_search.specs.Finding.{ArePositionsOf}
 use Rattle.rope_search.specs.Places.{HasNoneBetween}
 use Rattle.rope_search.specs.Shows.{Shows}
 use Rattle.rope_search.specs.Stands.{Stands}
@@ -109,6 +112,45 @@ RepliesAlike order = (limit limit' : ℕ) (session other new new' : State) (answ
     (bytes bytes' : List ℕ) → AreAlike session other → Step limit session order answer new
     → Step limit' other order answer' new' → Shows new answer bytes → Shows new' answer' bytes'
     → bytes ≡ bytes'
+
+-- and so they do to `next` from a position, but for want of memory
+abbrev pub FindsAlike : Type 0
+FindsAlike = (limit limit' : ℕ) (session other new new' : State) (from : Position)
+    (answer answer' : Answer) (bytes bytes' : List ℕ) → AllHoldTexts session
+    → AreAlike session other → Step limit session (FindNext from) answer new
+    → Step limit' other (FindNext from) answer' new' → answer ≢ Err Memory → answer' ≢ Err Memory
+    → Shows new answer bytes → Shows new' answer' bytes' → bytes ≡ bytes'
+
+-- a match told by its positions lies at the place of the one from which it was searched or behind
+-- it, and starts and ends at boundaries
+pub record IsFoundFrom (text : List ℕ) (from start end : Position) : Type 0 where
+  pub place : ℕ
+  pub span : ℕ × ℕ
+  pub searched : IsAt text (from.line, from.column) place
+  pub lies : IsInText text place span
+  pub told : ArePositionsOf text start end span
+
+-- each match that `next` tells is one
+abbrev pub FindsBoundaries : Type 0
+FindsBoundaries = (limit : ℕ) (old new : State) (from start end : Position) → AllHoldTexts old
+    → Step limit old (FindNext from) (Ok (Found start end)) new
+    → IsFoundFrom (current_text (chosen_buffer old)) from start end
+
+-- two positions are at places of a text, the second not before the first, and are the positions of
+-- these places
+pub record HavePlaces (text : List ℕ) (from to : Position) : Type 0 where
+  pub start : ℕ
+  pub end : ℕ
+  pub starts : IsAt text (from.line, from.column) start
+  pub ends : IsAt text (to.line, to.column) end
+  pub ordered : start ≤ end
+  pub told : ArePositionsOf text from to (start, end)
+
+-- those of an edit that is accepted are such
+abbrev pub EditsHavePlaces : Type 0
+EditsHavePlaces = (limit : ℕ) (old new : State) (from to : Position) (payload : List ℕ)
+    (reply : Reply) → Step limit old (EditText from to payload) (Ok reply) new
+    → HavePlaces (current_text (chosen_buffer old)) from to
 
 -- the report of a session is the one that its pattern, set anew, would give
 abbrev pub KeptIsAnew : Type 0

@@ -6,7 +6,7 @@ ghost use Rattle.rope_search.specs.Order.{Order, PrintText, ListMatches};
 ghost use Rattle.rope_search.specs.Session.{State};
 ghost use Rattle.rope_search.specs.declared.commands.CommandOf.{CommandOf};
 ghost use Rattle.rope_search.specs.declared.commands.Payload.{Payload};
-ghost use Rattle.rope_search.specs.Laws.{AllHoldTexts, StepsHoldTexts, HasOneReading, HasOneStep, HasOneCost, EndsAtBadLine, HasAnswer, HasOneShow, StandsForSome, UndoUndoesEdit, RedoRedoesUndo, RepliesAlike, KeptIsAnew, ListsBoundaries, NoneIsNowhereOrTurned};
+ghost use Rattle.rope_search.specs.Laws.{AllHoldTexts, StepsHoldTexts, HasOneReading, HasOneStep, HasOneCost, EndsAtBadLine, HasAnswer, HasOneShow, StandsForSome, UndoUndoesEdit, RedoRedoesUndo, RepliesAlike, FindsAlike, FindsBoundaries, EditsHavePlaces, KeptIsAnew, ListsBoundaries, NoneIsNowhereOrTurned};
 ghost use Rattle.rope_search.specs.Step.{Answer};
 
 /// Each input has exactly one reading: a list of commands, and how it ends.
@@ -98,6 +98,31 @@ pub fn replies_alike()
 {
     rope_search_reports::laws::one_report();
 }
+
+/// So is `next` from a position, but for want of memory.
+pub fn finds_alike()
+    ensures { FindsAlike }
+{
+    rope_search_reports::laws::one_place();
+    rope_search_reports::laws::finds_one();
+    rope_search_reports::laws::has_find();
+    rope_search_reports::laws::pattern_or_not();
+    rope_search_reports::laws::one_of_three();
+}
+
+/// Each match that `next` tells starts at the place of its position or behind it, and starts and
+/// ends at boundaries of the text. The positions that are told are those of the two places.
+pub fn finds_at_boundaries()
+    ensures { FindsBoundaries }
+{
+    rope_search_reports::laws::finds_are_in_text();
+}
+
+/// The positions of an edit that is accepted are at places of the text, the second not before the
+/// first, and the positions of these places are those positions again.
+pub fn edits_have_places()
+    ensures { EditsHavePlaces }
+{}
 
 /// The report that a session keeps is the one that setting its pattern anew would give.
 pub fn kept_is_anew()

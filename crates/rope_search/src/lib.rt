@@ -26,7 +26,7 @@ pub use endings::Ended;
 pub use limits::Limits;
 pub use rope_search_io::{Broken, Device, Failed, Fault, MemorySink, MemorySource, Sink, Source};
 pub use rope_search_reports::{
-    Finder, Lines, Position, Row, byte_of, find_from, position_of, search_line,
+    Finder, Groups, Lines, Position, Row, byte_of, find_all, find_from, position_of, search_line,
 };
 pub use ropey::Rope;
 pub use runs::{run, run_limited};
