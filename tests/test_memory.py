@@ -46,6 +46,15 @@ MEMORY_INPUTS = [
 ]
 
 
+def growths(length):
+    """How often a list grows that takes the characters of so many bytes: it asks for room for a quarter of them, or for
+    four, and then for twice as much each time."""
+    room, count = max(4, (length + 3) // 4), 1
+    while room < length:
+        room, count = 2 * room, count + 1
+    return count
+
+
 def test_all():
     if library() is None:
         return
@@ -55,13 +64,13 @@ def test_all():
 
     def one_refused(data, count):
         """Each request refused alone: no session at all, or want of memory told by one command. But of each pattern
-        one request may be refused with nothing told: the list of its characters asks for room for all of them at once,
-        and where that is refused for the room of one after the other."""
+        some requests may be refused with nothing told: the list of its characters asks for more room than it needs at
+        once, and where that is refused for the room of one after the other."""
         commands, _ = read_commands(data)
         may_lack = takers(commands)
         allowed = {answer(data, {place})[0]: place for place in may_lack}
         whole, seen = answer(data), set()
-        untold = sum(word == "pattern" for word, _, _ in commands)
+        untold = sum(growths(len(payload)) for word, _, payload in commands if word == "pattern")
         for number in range(1, count + 1):
             ended, _, _ = session(data, at=number)
             if ended.status == 1:
