@@ -6,7 +6,7 @@ import subprocess
 
 TOP = os.path.dirname(os.path.dirname(os.path.abspath(__file__)))
 
-WORDS = "let count lines iter filter line len value self match Some None Ok Err return fn pub use struct impl for in while if else mut ref".split()
+WORDS = "let count lines iter filter line len value self match Some None Ok Err return fn pub use struct impl for in while if else mut ref => todo Error 0x1f 42".split()
 
 
 def text_of(lines):
