@@ -240,6 +240,20 @@ put_between t l r text longer new from to h front whole =
       ends = g.ends;
     }
 
+-- of nothing by nothing
+pub replaced_nothing : (t : List ℕ) (from to : ℕ) (text : List ℕ) → from ≡ to → text ≡ [] → IsBoundaryOf t from → IsReplaced t from to text t
+replaced_nothing t from to text same none at =
+    let front : at.front ++ [] ≡ at.front = append-nil at.front in
+    record {
+      front = at.front;
+      gone = [];
+      back = at.back;
+      old_is = at.parts ∙ ap (λ f. f ++ at.back) (sym front);
+      new_is = at.parts ∙ ap (λ f. f ++ at.back) (sym front ∙ ap (λ x. at.front ++ x) (sym none));
+      starts = at.place;
+      ends = ap byte_len front ∙ at.place ∙ same;
+    }
+
 -- in no text
 pub replaced_none : (ps : List (List ℕ)) (from to : ℕ) (text new : List ℕ) → ps ≡ [] → IsBoundaryOf (text_of ps) from → IsBoundaryOf (text_of ps) to → new ≡ text → IsReplaced (text_of ps) from to text new
 replaced_none ps from to text new none first last is =

@@ -1,10 +1,11 @@
 //! Edits of a rope: a text is inserted, a range is removed, a text takes the place of a range, the
 //! text is split in two, another one is appended.
 //!
-//! Indices count characters, but bytes where a name says so. The plain form has its index or its range inside the text as its
-//! condition; the `try_` form refuses it exactly where it isn't. After any refusal the rope is the
-//! very same, its chunks too. A place may lie between a CR and an LF, and a CR and an LF that come
-//! to lie side by side are one break. No edit changes another rope, also not a clone.
+//! Indices count characters, but bytes where a name says so. The plain form has its index or its
+//! range inside the text as its condition; the `try_` form refuses it exactly where it isn't. After
+//! any refusal the rope is the very same, its chunks too. A place may lie between a CR and an LF,
+//! and a CR and an LF that come to lie side by side are one break. No edit changes another rope,
+//! also not a clone.
 //!
 //! An edit inside one chunk that leaves the chunk's ends as they are, and the chunk long enough,
 //! copies the path to it, at most 19 nodes. Any other one splits the tree and joins it again, in
@@ -44,12 +45,16 @@ impl Rope {
             (2 ^ 63 ≤ byte_len (text_of self.old) - (to - from) + length text.now) }
         ensures refused { IfErr result (λ error. (error ≡ Error.Size) ⊎ (error ≡ Error.Memory)) }
     {
-        let kept = self.len_bytes() - (to - from);
+        let len = self.len_bytes();
+        let kept = len - (to - from);
         if text.len() > MAX_TEXT_BYTES - kept {
             return Err(Error::Size);
         }
+        if from == to && text.is_empty() {
+            return Ok(());
+        }
         let alloc = self.alloc;
-        let root = replaced(alloc, &self.root, from, to, text)?;
+        let root = replaced(alloc, &self.root, len, from, to, text)?;
         *self = Rope::of_tree(alloc, root);
         Ok(())
     }

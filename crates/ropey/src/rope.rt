@@ -16,6 +16,7 @@ ghost use Rattle.ropey_walk.specs.Slices.{slice_pieces};
 use crate::rope_builder::RopeBuilder;
 use ropey_tree::MAX_BYTES;
 use ropey_tree::builds::build;
+use ropey_tree::counts::Counts;
 use ropey_tree::cutter::leaves_of;
 use ropey_tree::error::Error;
 use ropey_tree::node::Node;
@@ -38,18 +39,20 @@ pub struct Rope {
     pub(crate) alloc: Global,
     // A text with no character has no tree.
     pub(crate) root: Option<Rc<Node>>,
+    // What the text counts.
+    counts: Counts,
 }
 
 impl Model for Rope {
     ghost use Rattle.std.specs.Prelude.{List, ℕ};
     ghost use Rattle.ropey_tree.specs.Splits.{pieces_in};
-    ghost use Rattle.ropey_tree.specs.Cutting.{IsText};
+    ghost use Rattle.ropey.specs.Chunks.{IsRopeOf};
 
     ghost Value = { List (List ℕ) };
 
     ghost view = { λ rope. pieces_in rope.root };
 
-    ghost invariant = { λ rope. IsText (pieces_in rope.root) };
+    ghost invariant = { λ rope. IsRopeOf (pieces_in rope.root) rope.counts };
 }
 
 impl Clone for Rope {
@@ -63,6 +66,7 @@ impl Clone for Rope {
                 Ok(Rope {
                     alloc: self.alloc,
                     root: Some(node),
+                    counts: self.counts,
                 })
             }
         }
@@ -74,7 +78,11 @@ impl Rope {
     pub fn new(alloc: Global) -> Self
         ensures { result ≡ [] }
     {
-        Rope { alloc, root: None }
+        Rope {
+            alloc,
+            root: None,
+            counts: Counts::zero(),
+        }
     }
 
     /// A rope of a text.
@@ -133,24 +141,25 @@ impl Rope {
             return Ok(Rope::new(alloc));
         }
         let root = build(alloc, leaves)?;
-        Ok(Rope {
-            alloc,
-            root: Some(root),
-        })
+        Ok(Rope::of_tree(alloc, Some(root)))
     }
 
     /// A rope over a tree, or over none.
     pub(crate) fn of_tree(alloc: Global, root: Option<Rc<Node>>) -> Self
         ensures { result ≡ pieces_in root }
     {
+        // A law, for the proof alone.
+        ropey_tree::laws::counts_of_a_cutting();
         match root {
             None => Rope::new(alloc),
             Some(tree) => {
                 // For its facts alone.
                 let _ = tree.height();
+                let counts = tree.counts();
                 Rope {
                     alloc,
                     root: Some(tree),
+                    counts,
                 }
             }
         }
@@ -165,7 +174,7 @@ impl Rope {
             None => RopeSlice::new(None),
             Some(root) => {
                 let node: &Node = root;
-                RopeSlice::new(Some(node))
+                RopeSlice::with_counts(Some(node), self.counts)
             }
         }
     }

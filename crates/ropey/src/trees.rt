@@ -78,22 +78,24 @@ fn stays_long(node: &Rc<Node>, len: usize, at: usize, gone: usize, come: usize) 
         || found.before.bytes.saturating_add(leaf_len) >= len
 }
 
-/// The tree with a text in the place of what stands from one byte index up to another, if both lie
-/// in one leaf that takes it and stays long enough: the path to that is copied.
+/// The tree, of `len` bytes, with a text in the place of what stands from one byte index up to
+/// another, if both lie in one leaf that takes it and stays long enough: the path to that is
+/// copied.
 fn replaced_in_leaf(
     alloc: Global,
     node: &Rc<Node>,
+    len: usize,
     from: usize,
     to: usize,
     text: &str,
 ) -> Result<Option<Rc<Node>>, AllocError>
+    requires len { len ≡ byte_len (text_of node.now.value.pieces) }
     requires order { from ≤ to }
     ensures edited { IfOk result (λ tree. IfSome tree (λ edited.
         IsEdited node.now.value from to (chars text.now) edited.value)) }
 {
     // For its facts alone.
     let _ = node.height();
-    let len = node.counts().bytes;
     // What goes isn't counted against what comes.
     if text.len() > MAX_TEXT_BYTES - len || !stays_long(node, len, from, to - from, text.len()) {
         return Ok(None);
@@ -130,17 +132,19 @@ fn around(alloc: Global, node: &Rc<Node>, from: usize, to: usize) -> Result<Halv
     })
 }
 
-/// The tree with a text in the place of what stands from one byte index up to another. Where both
-/// lie in one leaf that takes it, or two in its place, the path to that is copied; else the tree is
-/// split at both, and what is left of the first, the text, and what is right of the second are
-/// joined.
+/// The tree, of `len` bytes, with a text in the place of what stands from one byte index up to
+/// another. Where both lie in one leaf that takes it, or two in its place, the path to that is
+/// copied; else the tree is split at both, and what is left of the first, the text, and what is
+/// right of the second are joined.
 pub(crate) fn replaced(
     alloc: Global,
     root: &Option<Rc<Node>>,
+    len: usize,
     from: usize,
     to: usize,
     text: &str,
 ) -> Result<Option<Rc<Node>>, AllocError>
+    requires len { len ≡ byte_len (text_of (pieces_in root.now)) }
     requires order { from ≤ to }
     requires starts { IsBoundaryOf (text_of (pieces_in root.now)) from }
     requires ends { IsBoundaryOf (text_of (pieces_in root.now)) to }
@@ -155,7 +159,7 @@ pub(crate) fn replaced(
             Ok(tree)
         }
         Some(node) => {
-            if let Some(edited) = replaced_in_leaf(alloc, node, from, to, text)? {
+            if let Some(edited) = replaced_in_leaf(alloc, node, len, from, to, text)? {
                 return Ok(Some(edited));
             }
             let rest = around(alloc, node, from, to)?;

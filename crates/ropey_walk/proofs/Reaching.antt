@@ -34,7 +34,7 @@ pub record IsPart (t : List ℕ) (start len : Counts) : Type 0 where
   pub starts : start ≡ standing t start.chars
   pub counted : len ≡ counts_of (between start.chars (start.chars + len.chars) t)
 
-nothing_stands : BreaksOfParts → (t : List ℕ) → zero_counts ≡ standing t 0
+pub nothing_stands : BreaksOfParts → (t : List ℕ) → zero_counts ≡ standing t 0
 nothing_stands law t = let none = front_breaks law [] t in let lines : 0 ≡ line_of_byte t 0 = omega (arith, none) in ap (λ (n : ℕ). record { bytes = 0; chars = 0; units = 0; breaks = n }) lines
 
 pub whole_part : BreaksOfParts → (pieces : List (List ℕ)) (start len : Counts) → start ≡ zero_counts → len ≡ counts_of (text_of pieces) → IsPart (text_of pieces) start len

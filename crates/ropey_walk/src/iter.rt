@@ -19,7 +19,7 @@ ghost use Rattle.ropey_walk.specs.Slices.{slice_pieces, slice_text};
 mod bytes;
 mod chars;
 mod chunks;
-mod lines;
+pub(crate) mod lines;
 
 use crate::slice::RopeSlice;
 pub use bytes::Bytes;

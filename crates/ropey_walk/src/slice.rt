@@ -89,9 +89,17 @@ impl<'a> RopeSlice<'a> {
     pub fn new(node: Option<&'a Node>) -> Self
         ensures { slice_pieces result ≡ pieces_under node.entry }
     {
+        RopeSlice::with_counts(node, counts_under(node))
+    }
+
+    /// `new` where it is known what the text counts, which isn't counted then. `O(1)`.
+    pub fn with_counts(node: Option<&'a Node>, len: Counts) -> Self
+        requires cut { IsText (pieces_under node) }
+        requires counts { len ≡ counts_of (text_of (pieces_under node)) }
+        ensures { slice_pieces result ≡ pieces_under node.entry }
+    {
         // A law, for the proof alone.
         laws::breaks_of_parts();
-        let len = counts_under(node);
         RopeSlice {
             node,
             start: Counts::zero(),

@@ -20,6 +20,7 @@ ghost use Rattle.ropey_walk.specs.Ranges.{start_of, end_of, chars_in, bytes_in};
 ghost use Rattle.ropey_walk.specs.Ranges.{IsRangeIn, IsByteRangeIn, RefusesChars, RefusesBytes};
 ghost use Rattle.ropey_walk.specs.Standing.{IsPlaceIn};
 
+use crate::iter::lines::LinePlace;
 use crate::laws;
 use crate::places::Place;
 use crate::ranges::{Ends, TextRange};
@@ -77,12 +78,9 @@ impl<'a> RopeSlice<'a> {
         requires { line_idx < line_breaks (slice_text self.now) + 1 }
         ensures { slice_pieces result ≡ line_pieces (slice_pieces self.now) line_idx }
     {
-        // Laws, for the proof alone.
-        str_indices::laws::to_byte_idx_is_monotone();
-        str_indices::laws::counts_are_at_most_bytes();
-        let start = self.place_of_line(line_idx);
-        let end = self.place_of_line(line_idx + 1);
-        self.between_places(&start, &end)
+        let start = LinePlace::look_up(self, line_idx);
+        let end = start.next(self);
+        start.line_to(end, self)
     }
 
     /// `line`, and none from `len_lines` on. `O(log n)`.
@@ -98,20 +96,47 @@ impl<'a> RopeSlice<'a> {
         }
     }
 
+    /// What stands before a character. Before the first it is nothing, which isn't looked up.
+    fn standing_before_char(&self, char_idx: usize) -> Counts
+        requires { char_idx ≤ length (slice_text self.now) }
+        ensures chars { result.chars ≡ char_idx }
+        ensures stands { result ≡ standing (slice_text self.now) result.chars }
+    {
+        // Laws, for the proof alone.
+        laws::breaks_of_parts();
+        str_indices::laws::ends_of_a_part();
+        str_indices::laws::boundaries_and_indices_agree();
+        str_indices::laws::place_there_and_back();
+        if char_idx == 0 {
+            return Counts::zero();
+        }
+        self.standing_at(&self.place_of_char(char_idx))
+    }
+
+    /// What the text up to a character counts by itself. Up to the end it is what the slice counts,
+    /// which isn't looked up.
+    fn counted_to_char(&self, char_idx: usize) -> Counts
+        requires { char_idx ≤ length (slice_text self.now) }
+        ensures chars { result.chars ≡ char_idx }
+        ensures counted { result ≡ counts_of (take result.chars (slice_text self.now)) }
+    {
+        // Laws, for the proof alone.
+        str_indices::laws::ends_of_a_part();
+        str_indices::laws::boundaries_and_indices_agree();
+        str_indices::laws::place_there_and_back();
+        if char_idx == self.len_chars() {
+            return self.counts();
+        }
+        self.counted_to(&self.place_of_char(char_idx))
+    }
+
     /// The part from one character up to another.
     fn chars_between(&self, start: usize, end: usize) -> Self
         requires order { start ≤ end }
         requires within { end ≤ length (slice_text self.now) }
         ensures { slice_pieces result ≡ clip start end (slice_pieces self.now) }
     {
-        // Laws, for the proof alone.
-        str_indices::laws::to_byte_idx_is_monotone();
-        str_indices::laws::ends_of_a_part();
-        str_indices::laws::boundaries_and_indices_agree();
-        str_indices::laws::place_there_and_back();
-        let from = self.place_of_char(start);
-        let to = self.place_of_char(end);
-        self.between_places(&from, &to)
+        self.between(self.standing_before_char(start), self.counted_to_char(end))
     }
 
     /// Where a range of characters starts and ends, or why it is refused, as in `try_slice`.
@@ -213,6 +238,52 @@ impl<'a> RopeSlice<'a> {
         }
     }
 
+    /// `standing_before_char` of a byte between two characters.
+    fn standing_before_byte(&self, byte_idx: usize) -> Counts
+        requires { IsCharBoundary (slice_bytes self.now) byte_idx }
+        ensures chars { result.chars ≡ char_of_byte (slice_text self.now) byte_idx }
+        ensures stands { result ≡ standing (slice_text self.now) result.chars }
+    {
+        // Laws, for the proof alone.
+        laws::breaks_of_parts();
+        str_indices::laws::ends_of_a_part();
+        if byte_idx == 0 {
+            return Counts::zero();
+        }
+        self.standing_at(&self.place_of_byte(byte_idx))
+    }
+
+    /// `counted_to_char` of a byte between two characters.
+    fn counted_to_byte(&self, byte_idx: usize) -> Counts
+        requires { IsCharBoundary (slice_bytes self.now) byte_idx }
+        ensures chars { result.chars ≡ char_of_byte (slice_text self.now) byte_idx }
+        ensures within { result.chars ≤ length (slice_text self.now) }
+        ensures counted { result ≡ counts_of (take result.chars (slice_text self.now)) }
+    {
+        // A law, for the proof alone.
+        str_indices::laws::ends_of_a_part();
+        if byte_idx == self.len_bytes() {
+            return self.counts();
+        }
+        self.counted_to(&self.place_of_byte(byte_idx))
+    }
+
+    /// The part from one byte up to another, both between two characters.
+    fn bytes_between(&self, start: usize, end: usize) -> Self
+        requires order { start ≤ end }
+        requires starts { IsCharBoundary (slice_bytes self.now) start }
+        requires ends { IsCharBoundary (slice_bytes self.now) end }
+        ensures pieces { slice_pieces result ≡ clip (char_of_byte (slice_text self.now) start)
+            (char_of_byte (slice_text self.now) end) (slice_pieces self.now) }
+        ensures bytes { slice_bytes result ≡ between start end (slice_bytes self.now) }
+    {
+        // Laws, and the text's facts, for the proof alone.
+        str_indices::laws::from_byte_idx_is_monotone();
+        str_indices::laws::ends_of_a_part();
+        let _ = self.len_bytes();
+        self.between(self.standing_before_byte(start), self.counted_to_byte(end))
+    }
+
     /// A range of bytes. It lies inside the text: it starts no later than it ends, ends at most at
     /// `len_bytes`, and neither inside a character. `O(log n)`.
     pub fn byte_slice<R: TextRange>(&self, byte_range: R) -> Self
@@ -224,9 +295,7 @@ impl<'a> RopeSlice<'a> {
     {
         let ends = byte_range.ends();
         let end = ends.end.unwrap_or(self.len_bytes());
-        let from = self.place_of_byte(ends.start.unwrap_or(0));
-        let to = self.place_of_byte(end);
-        self.between_places(&from, &to)
+        self.bytes_between(ends.start.unwrap_or(0), end)
     }
 
     /// `byte_slice`, or why the range is refused: `ByteRangeInvalid` where it starts above its end,

@@ -21,7 +21,7 @@ use str_indices::{chars, utf16};
 
 /// The place where a line of a text starts, or its end.
 #[derive(Clone, Copy)]
-struct LinePlace<'a> {
+pub(crate) struct LinePlace<'a> {
     // The line index, or the number of lines at the end.
     line_idx: usize,
     // Where it is in a chunk.
@@ -52,7 +52,7 @@ fn chars_and_units(part: &str, is_ascii: bool) -> (usize, usize)
 
 impl<'a> LinePlace<'a> {
     /// The place where a line starts, or the text's end, looked up in the tree.
-    fn look_up(slice: &RopeSlice<'a>, line_idx: usize) -> Self
+    pub(crate) fn look_up(slice: &RopeSlice<'a>, line_idx: usize) -> Self
         ensures place { IsLinePlace (slice_text slice.now) result }
         ensures line { result.line_idx ≡ line_idx }
     {
@@ -67,7 +67,7 @@ impl<'a> LinePlace<'a> {
 
     /// The end of the line that starts here. Inside the chunk it takes no look-up.
     #[inline]
-    fn next(self, slice: &RopeSlice<'a>) -> Self
+    pub(crate) fn next(self, slice: &RopeSlice<'a>) -> Self
         requires here { IsLinePlace (slice_text slice.now) self }
         requires some { self.line_idx < line_breaks (slice_text slice.now) + 1 }
         ensures place { IsLinePlace (slice_text slice.now) result }
@@ -138,7 +138,7 @@ impl<'a> LinePlace<'a> {
 
     /// The line from here to its end.
     #[inline]
-    fn line_to(self, end: Self, slice: &RopeSlice<'a>) -> RopeSlice<'a>
+    pub(crate) fn line_to(self, end: Self, slice: &RopeSlice<'a>) -> RopeSlice<'a>
         requires here { IsLinePlace (slice_text slice.now) self }
         requires there { IsLinePlace (slice_text slice.now) end }
         requires next { end.line_idx ≡ self.line_idx + 1 }

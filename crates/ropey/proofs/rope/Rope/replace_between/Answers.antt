@@ -1,16 +1,17 @@
-use Rattle.std.proofs.Common.{ℕ, List, ap, sym, subst, ◌∙◌, arith}
+use Rattle.std.proofs.Common.{◌≡◌, ℕ, List, length, ap, sym, subst, ◌∙◌, arith}
 use Rattle.std.specs.Str.{chars}
 use Rattle.str_indices.specs.Text.{byte_len}
 use Rattle.ropey_tree.specs.Cutting.{IsBoundaryOf}
 use Rattle.ropey_tree.specs.Edits.{IsReplaced}
 use Rattle.ropey_tree.specs.Splits.{pieces_in}
 use Rattle.ropey.specs.Chunks.{text_of}
-use Rattle.ropey.proofs.Editing.{place_within}
+use Rattle.std.proofs.lemmas.Bool.Decides.{nat_tests}
+use Rattle.ropey.proofs.Editing.{place_within, chars_of_none, replaced_nothing}
 use Rattle.ropey.proofs.rope.Rope.replace_between.Goals as goal
 
 pub overflow_sub-kept-2 : goal.overflow_sub-kept-2
 overflow_sub-kept-2 c =
-    omega (arith, c.requires.order, c.len_bytes.ensures.bytes, place_within (text_of c.args.self.now) c.args.to c.requires.ends)
+    omega (arith, c.requires.order, c.len_bytes-len.ensures.bytes, place_within (text_of c.args.self.now) c.args.to c.requires.ends)
 
 pub replaced-requires-clause-starts : goal.replaced-requires-clause-starts
 replaced-requires-clause-starts c = subst (λ (ps : List (List ℕ)). IsBoundaryOf (text_of ps) c.args.from) (sym c.self.view_is) c.requires.starts
@@ -20,7 +21,13 @@ replaced-requires-clause-ends c = subst (λ (ps : List (List ℕ)). IsBoundaryOf
 
 pub replaced-requires-clause-fits : goal.replaced-requires-clause-fits
 replaced-requires-clause-fits c =
-    omega (arith, c.if-text-kept.false, c.requires.order, c.len_bytes.ensures.bytes, place_within (text_of c.args.self.now) c.args.to c.requires.ends, ap (λ ps. byte_len (text_of ps)) c.self.view_is)
+    omega (arith, c.if-text-kept.false, c.requires.order, c.len_bytes-len.ensures.bytes, place_within (text_of c.args.self.now) c.args.to c.requires.ends, ap (λ ps. byte_len (text_of ps)) c.self.view_is)
+
+pub returns-then-is_empty-clause-text : goal.returns-then-is_empty-clause-text
+returns-then-is_empty-clause-text c =
+    let none : length c.args.text.now ≡ 0 = grind (arith, nat_tests, c.is_empty.ensures, c.if-is_empty.true) in
+    let same : c.args.from ≡ c.args.to = omega (arith, c.if-from-to.true) in
+    replaced_nothing (text_of c.args.self.now) c.args.from c.args.to (chars c.args.text.now) same (chars_of_none c.args.text.now none) c.requires.starts
 
 pub returns-clause-text : goal.returns-clause-text
 returns-clause-text c =

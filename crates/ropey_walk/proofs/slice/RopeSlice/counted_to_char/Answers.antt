@@ -1,0 +1,23 @@
+use Rattle.std.proofs.Common.{◌≡◌, length, ap, sym, ◌∙◌, arith}
+use Rattle.std.proofs.lemmas.List.{take_all}
+use Rattle.ropey_tree.specs.Counts.{counts_of}
+use Rattle.ropey_walk.specs.Conversions.{char_of_byte}
+use Rattle.ropey_walk.specs.Slices.{slice_text}
+use Rattle.ropey_walk.proofs.Edges.{char_there_and_back}
+use Rattle.ropey_walk.proofs.slice.RopeSlice.counted_to_char.Goals as goal
+
+pub returns-then-char_idx-len_chars-clause-chars : goal.returns-then-char_idx-len_chars-clause-chars
+returns-then-char_idx-len_chars-clause-chars c =
+    omega (arith, ap (λ k. k.chars) c.counts.ensures.counts, c.if-char_idx-len_chars.true, c.len_chars.ensures)
+
+pub returns-then-char_idx-len_chars-clause-counted : goal.returns-then-char_idx-len_chars-clause-counted
+returns-then-char_idx-len_chars-clause-counted c =
+    let t = slice_text c.args.self.now in
+    let all : c.counts.result.chars ≡ length t = ap (λ k. k.chars) c.counts.ensures.counts in
+    c.counts.ensures.counts ∙ ap counts_of (sym (take_all c.counts.result.chars t (omega (arith, all))))
+
+pub returns-clause-chars : goal.returns-clause-chars
+returns-clause-chars c =
+    let t = slice_text c.args.self.now in
+    c.counted_to.ensures.chars ∙ ap (char_of_byte t) c.place_of_char.ensures.place
+    ∙ char_there_and_back c.ends_of_a_part.ensures.chars c.boundaries_and_indices_agree.ensures.chars c.place_there_and_back.ensures.chars t c.args.char_idx c.requires
