@@ -3,10 +3,12 @@ use Rattle.std.proofs.Common.{◌≡◌, ℕ, zero, suc, ◌+◌, ◌-◌, ◌<�
 use Rattle.std.specs.Str.{IsCharBoundary, all_scalars}
 use Rattle.std.specs.Char.{len_utf8}
 use Rattle.std.proofs.Math.Utf8.{encode}
-use Rattle.std.proofs.lemmas.Bool.{cases_Bool, cases_lt, cases_eq, true≢false}
+use Rattle.std.proofs.lemmas.Bool.{cases_Bool, cases_lt, cases_eq, and_parts, and_from, true≢false}
 use Rattle.std.proofs.lemmas.List.{append_cancel_left}
-use Rattle.std.proofs.lemmas.Str.{encodes-append, length-encode, len_utf8_bounds}
+use Rattle.std.proofs.lemmas.Str.{encodes-append, length-encode, len_utf8_bounds, IsCharBoundary-at_seam}
 use Rattle.str_indices.specs.Text.{byte_len}
+use Rattle.ropey.specs.Chunks.{IsCutting, text_of}
+use Rattle.ropey.specs.Edits.{IsReplaced}
 use Rattle.rope_search_reports.specs.declared.positions.Place.{Place}
 use Rattle.rope_search_reports.specs.declared.positions.Position.{Position}
 use Rattle.rope_search_reports.specs.Laws.{HasOnePlace}
@@ -45,6 +47,24 @@ fronts_one l r f b e same =
     let none : mid.0 ≡ [] = no_bytes mid.0 (omega (arith, same, ap byte_len mid.1, byte_len-append l mid.0)) in
     let whole : f ≡ l = mid.1 ∙ ap (λ m. l ++ m) none ∙ append-nil l in
     (sym whole, append_cancel_left l r b (e ∙ ap (λ m. m ++ b) whole))
+
+-- ---- scalar values
+
+scalars_joined : (s t : List ℕ) → all_scalars s ≡ true → all_scalars t ≡ true → all_scalars (s ++ t) ≡ true
+scalars_joined [] t one other = other
+scalars_joined (c ∷ cs) t one other =
+    let both = and_parts _ _ one in
+    and_from _ _ both.0 (scalars_joined cs t both.1 other)
+
+cutting_scalars : (pieces : List (List ℕ)) → IsCutting pieces → all_scalars (text_of pieces) ≡ true
+cutting_scalars [] cut = refl
+cutting_scalars (p ∷ []) cut = scalars_joined p [] cut.scalars refl
+cutting_scalars (p ∷ q ∷ ps) cut = scalars_joined p (text_of (q ∷ ps)) cut.0.scalars (cutting_scalars (q ∷ ps) cut.2)
+
+scalars_behind : (n : ℕ) (text : List ℕ) → all_scalars text ≡ true → all_scalars (drop n text) ≡ true
+scalars_behind zero text h = h
+scalars_behind (suc n) [] h = h
+scalars_behind (suc n) (c ∷ cs) h = scalars_behind n cs (and_parts _ _ h).1
 
 -- ---- whether a position is at a place
 
@@ -288,6 +308,26 @@ marked_within text part marked =
       omega (arith, marked.starts, marked.ends, byte_len-append before here, ap byte_len (take_between text part.start.char_idx part.end.char_idx marked.ordered)),
       omega (arith, marked.ends, byte_len-append (take part.end.char_idx text) (drop part.end.char_idx text), ap byte_len (take-append-drop part.end.char_idx text)),
     )
+
+-- both its places are between characters
+pub boundary_at : (pieces : List (List ℕ)) (char place : ℕ) → IsCutting pieces → byte_len (take char (text_of pieces)) ≡ place → IsCharBoundary (bytes_of (text_of pieces)) place
+boundary_at pieces char place cut is =
+    let text = text_of pieces in
+    let front = bytes_of (take char text) in
+    let back = bytes_of (drop char text) in
+    let spelled : bytes_of text ≡ front ++ back = ap bytes_of (sym (take-append-drop char text)) ∙ encodes-append (take char text) (drop char text) in
+    let rest = scalars_behind char text (cutting_scalars pieces cut) in
+    subst (IsCharBoundary (bytes_of text)) is (IsCharBoundary-at_seam (bytes_of text) front back spelled (drop char text, (rest, refl)))
+
+-- the text in its place, by its bytes
+pub replaced_there : (text new : List ℕ) (part : Part) (inserted : List ℕ) → IsMarked text part → IsReplaced text part.start.byte_idx part.end.byte_idx inserted new → new ≡ with_replaced text part inserted
+replaced_there text new part inserted marked h =
+    let start = part.start.char_idx in
+    let end = part.end.char_idx in
+    let whole : h.front ++ h.gone ++ h.back ≡ text = sym h.old_is in
+    let first = fronts_one h.front (h.gone ++ h.back) (take start text) (drop start text) (sym (append_assoc h.front h.gone h.back) ∙ whole ∙ sym (take-append-drop start text)) (h.starts ∙ sym marked.starts) in
+    let last = fronts_one (h.front ++ h.gone) h.back (take end text) (drop end text) (whole ∙ sym (take-append-drop end text)) (h.ends ∙ sym marked.ends) in
+    h.new_is ∙ ap (λ l. l ++ inserted ++ h.back) first.0 ∙ ap (λ l. take start text ++ inserted ++ l) last.1
 
 -- what the new text would have, by the part that is marked
 pub long_known : HasOnePlace → (limit : ℕ) (text : List ℕ) (from to : Position) (part : Part) (inserted : List ℕ) (len : ℕ) → IsMarkedBetween text from to part

@@ -61,18 +61,13 @@ impl Part {
             with_replaced (text_of text.now) self (chars inserted.now)) }
         ensures fault { IfErr result (λ fault. fault ≡ Fault.Memory) }
     {
+        // For its facts alone.
+        let _ = text.len_bytes();
         let mut new = text.clone()?;
-        let (start, end) = (self.start.char_idx, self.end.char_idx);
-        if start < end {
-            let Ok(()) = new.remove(start..end) else {
-                return Err(Fault::Memory);
-            };
-        }
-        if !inserted.is_empty() {
-            let Ok(()) = new.insert(start, inserted) else {
-                return Err(Fault::Memory);
-            };
-        }
+        let range = self.start.byte_idx..self.end.byte_idx;
+        let Ok(()) = new.byte_replace(range, inserted) else {
+            return Err(Fault::Memory);
+        };
         Ok(new)
     }
 }
