@@ -1,0 +1,5 @@
+pub mod ClassLaws
+pub mod BareLaws
+pub mod LookLaws
+pub mod StepLaws
+pub mod LoopLaws

@@ -1,0 +1,5 @@
+pub mod Classes
+pub mod Behind
+pub mod States
+pub mod Searching
+pub mod Dfas
