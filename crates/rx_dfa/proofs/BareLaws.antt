@@ -1,5 +1,5 @@
 -- Threads without slots.
-use Rattle.std.proofs.Common.{◌≡◌, ℕ, zero, suc, ◌+◌, ◌<◌, All, List, [], ◌∷◌, ◌++◌, length, take, get_or, Option, Some, None, slice_get, refl, sym, ap, subst, ◌∙◌, arith}
+use Rattle.std.proofs.Common.{inl, inr, ◌≡◌, ℕ, zero, suc, ◌+◌, ◌<◌, ◌≤◌, All, List, [], ◌∷◌, ◌++◌, length, take, get_or, Option, Some, None, slice_get, refl, sym, ap, ap₂, subst, ◌∙◌, arith}
 use Rattle.std.proofs.lemmas.List.{append_assoc, append-nil}
 use Rattle.std.proofs.lemmas.List.Elements.{All-append, All-cons, All-nil}
 use Rattle.rx_program.specs.declared.states.State.{State}
@@ -8,6 +8,7 @@ use Rattle.rx_steps.specs.Nodes.{IsNodeOf, MayStand}
 use Rattle.rx_steps.specs.Threads.{Thread, IsThreadOf}
 use Rattle.rx_steps.specs.Alike.{AreBare}
 use Rattle.rx_dfa.specs.States.{started}
+use Rattle.rx_dfa.proofs.ClassLaws.{same_or_not, below_is}
 
 pub bare_append : (threads others : List Thread) → AreBare threads → AreBare others → AreBare (threads ++ others)
 bare_append [] others bare bare' = bare'
@@ -64,3 +65,26 @@ started_threads states threads from start e all = subst (All (IsThreadOf states)
     of_start : (o : Option ℕ) → All (IsThreadOf states) (started o)
     of_start None = All-nil (IsThreadOf states)
     of_start (Some q) = All-cons (IsThreadOf states) ([], (q, 0)) [] (first_stays states q) (All-nil (IsThreadOf states))
+
+-- of so many threads the nodes are the same
+abbrev pub SameUpTo : List Thread → List Thread → ℕ → Type 0
+SameUpTo threads others n = (k : ℕ) (x : Thread) → k < n → (get_or threads k x).1 ≡ (get_or others k x).1
+
+pub one_more_same : (threads others : List Thread) (n : ℕ) (q r : ℕ × ℕ) → ((x : Thread) → q ≡ (get_or threads n x).1) → ((x : Thread) → r ≡ (get_or others n x).1) → q ≡ r → SameUpTo threads others n → SameUpTo threads others (n + 1)
+one_more_same threads others n q r is is' e same k x lt = elim (same_or_not k n) [
+  | inl here ↦ subst (λ j. (get_or threads j x).1 ≡ (get_or others j x).1) (sym here) (sym (is x) ∙ e ∙ is' x)
+  | inr other ↦ same k x (below_is k n lt other)
+]
+
+pub same_bare : (threads others : List Thread) → AreBare threads → AreBare others → length threads ≡ length others → SameUpTo threads others (length threads) → threads ≡ others
+same_bare [] [] bare bare' e same = refl
+same_bare [] (u ∷ others) bare bare' e same = absurd (omega (arith, e))
+same_bare (t ∷ threads) [] bare bare' e same = absurd (omega (arith, e))
+same_bare (t ∷ threads) (u ∷ others) bare bare' e same =
+    ap₂ (λ x xs. x ∷ xs) (one t u bare.0 bare'.0 (same 0 t (omega arith))) (same_bare threads others bare.1 bare'.1 (omega (arith, e)) (λ k x lt. same (suc k) x (omega (arith, lt))))
+  where
+    one : (t u : Thread) → t.0 ≡ [] → u.0 ≡ [] → t.1 ≡ u.1 → t ≡ u
+    one (n, q) (m, r) f g h = ap (λ k. (k, q)) (f ∙ sym g) ∙ ap (λ s. (m, s)) h
+
+pub same_before : (threads others : List Thread) (n m : ℕ) → m ≤ n → SameUpTo threads others n → SameUpTo threads others m
+same_before threads others n m le same k x lt = same k x (omega (arith, le, lt))

@@ -3,3 +3,4 @@ pub mod BareLaws
 pub mod LookLaws
 pub mod StepLaws
 pub mod LoopLaws
+pub mod TableLaws

@@ -3,3 +3,4 @@ pub mod Behind
 pub mod States
 pub mod Searching
 pub mod Dfas
+pub mod Caches

@@ -49,8 +49,8 @@ pub record IsStateOf (p : ByteProgram) (x : AutomatonState) : Type 0 where
   pub bare : AreBare x.threads.threads
   pub threads : All (IsThreadOf p.states) x.threads.threads
 
--- A state leads to another one: the step of its threads, and of a walk that starts after them, gives
--- the other's threads, of which some were left out, and the end that is met there.
+-- A state leads to another one: the step of its threads, and of a walk that starts after them,
+-- gives the other's threads, of which some were left out, and the end that is met there.
 pub record IsStep (p : ByteProgram) (asked : AskedLooks) (x : AutomatonState) (ahead : Ahead)
     (y : AutomatonState) : Type 0 where
   pub next : List Thread

@@ -2,7 +2,9 @@
 
 ghost use Rattle.std.specs.Prelude.{◌≡◌, true, []};
 ghost use Rattle.rx_dfa.specs.declared.states.Starting.TheVariants.{Never};
+ghost use Rattle.rx_steps.specs.Alike.{AreBare};
 ghost use Rattle.rx_dfa.specs.Classes.{continues};
+ghost use Rattle.rx_dfa.specs.Caches.{IsSameState};
 ghost use Rattle.rx_dfa.specs.States.{start_at, starting_after, ahead_of};
 
 use crate::behind::Behind;
@@ -71,6 +73,30 @@ impl Ahead {
     }
 }
 
+/// Whether both have the same nodes.
+fn same_nodes(threads: &ThreadList, others: &ThreadList) -> bool
+    requires bare { AreBare threads.now.threads }
+    requires bare_others { AreBare others.now.threads }
+    ensures { result ≡ true → threads.now.threads ≡ others.now.threads }
+{
+    if threads.len() != others.len() {
+        return false;
+    }
+    for index in 0..threads.len() {
+        if threads.node(index) != others.node(index) {
+            return false;
+        }
+    }
+    true
+}
+
+/// A hash with a further number mixed in.
+fn mixed(hash: u64, number: usize) -> u64 {
+    (hash ^ number as u64)
+        .wrapping_mul(0x9E37_79B9_7F4A_7C15)
+        .rotate_left(29)
+}
+
 /// What a search knows where it stands.
 #[derive(Debug, Drop)]
 pub(crate) struct AutomatonState {
@@ -92,5 +118,41 @@ impl AutomatonState {
         ensures starting { result ≡ true → self.now.starting ≡ Never }
     {
         self.threads.len() == 0 && self.starting == Starting::Never
+    }
+
+    /// Whether both are the same state.
+    pub(crate) fn is_same(&self, other: &AutomatonState) -> bool
+        requires bare { AreBare self.now.threads.threads }
+        requires bare_other { AreBare other.now.threads.threads }
+        ensures { result ≡ true → IsSameState other.now self.now }
+    {
+        self.starting == other.starting
+            && self.behind == other.behind
+            && self.ended == other.ended
+            && same_nodes(&self.threads, &other.threads)
+    }
+
+    /// A number by which states are looked up: same states have the same.
+    pub(crate) fn hash(&self) -> u64 {
+        let mut hash = match self.starting {
+            Starting::Never => 1,
+            Starting::Once(state) => mixed(2, state.as_usize()),
+            Starting::Always(state) => mixed(3, state.as_usize()),
+        };
+        hash = match self.behind {
+            Behind::Edge => mixed(hash, 4),
+            Behind::Byte(ends_line, is_word) => {
+                mixed(hash, usize::from(ends_line) + 2 * usize::from(is_word))
+            }
+        };
+        hash = match self.ended {
+            None => hash,
+            Some(pattern) => mixed(hash.wrapping_add(1), pattern.as_usize()),
+        };
+        for index in 0..self.threads.len() {
+            let node = self.threads.node(index);
+            hash = mixed(mixed(hash, node.state().as_usize()), node.within());
+        }
+        hash
     }
 }
