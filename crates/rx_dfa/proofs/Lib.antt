@@ -4,3 +4,7 @@ pub mod LookLaws
 pub mod StepLaws
 pub mod LoopLaws
 pub mod TableLaws
+pub mod PassLaws
+pub mod SearchLaws
+pub mod InputLaws
+pub mod ScanLaws

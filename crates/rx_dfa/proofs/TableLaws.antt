@@ -61,7 +61,7 @@ get_other (y ∷ xs) zero (suc j) v other = refl
 get_other (y ∷ xs) (suc k) zero v other = refl
 get_other (y ∷ xs) (suc k) (suc j) v other = get_other xs k j v (λ e. other (ap suc e))
 
-the_same : {A : Type 0} {o : Option A} {x y : A} → o ≡ Some x → o ≡ Some y → x ≡ y
+pub the_same : {A : Type 0} {o : Option A} {x y : A} → o ≡ Some x → o ≡ Some y → x ≡ y
 the_same e f = some_is (sym e ∙ f)
   where
     some_is : {A : Type 0} {x y : A} → Some x ≡ Some y → x ≡ y

@@ -4,3 +4,4 @@ pub mod States
 pub mod Searching
 pub mod Dfas
 pub mod Caches
+pub mod Passing

@@ -1,6 +1,6 @@
 //! What looks have to know of a place: by one byte on each side, or none.
 
-ghost use Rattle.std.specs.Prelude.{◌≡◌};
+ghost use Rattle.std.specs.Prelude.{◌≡◌, true, false, Some, None, IfSome};
 ghost use Rattle.rx_dfa.specs.Behind.{is_word_ascii, behind_of, looks_of, quits, ends_line_at, is_word_at, starts_line, was_word, is_start, is_end};
 
 use rx_steps::{AskedLooks, Looks};
@@ -30,6 +30,23 @@ pub(crate) fn quits_at(asked: AskedLooks, byte: Option<u8>) -> bool
     match byte {
         None => false,
         Some(byte) => asked.words && byte >= 128,
+    }
+}
+
+/// The byte, if looks of words are asked for and it doesn't tell them by itself.
+pub(crate) fn byte_that_quits(asked: AskedLooks, byte: Option<u8>) -> Option<u8>
+    ensures none { result ≡ None → quits asked byte ≡ false }
+    ensures some { IfSome result (λ b. (byte ≡ Some b) × (quits asked (Some b) ≡ true)) }
+{
+    match byte {
+        Some(seen) => {
+            if quits_at(asked, byte) {
+                Some(seen)
+            } else {
+                None
+            }
+        }
+        None => None,
     }
 }
 

@@ -6,7 +6,10 @@ mod cache;
 mod classes;
 mod dfa;
 mod maker;
+mod scan;
+mod search;
 mod states;
 
 pub use cache::Cache;
 pub use dfa::Dfa;
+pub use search::try_search_fwd;

@@ -5,11 +5,12 @@ ghost use Rattle.rx_dfa.specs.declared.states.Starting.TheVariants.{Never};
 ghost use Rattle.rx_steps.specs.Alike.{AreBare};
 ghost use Rattle.rx_dfa.specs.Classes.{continues};
 ghost use Rattle.rx_dfa.specs.Caches.{IsSameState};
+ghost use Rattle.rx_dfa.specs.Searching.{met_after};
 ghost use Rattle.rx_dfa.specs.States.{start_at, starting_after, ahead_of};
 
 use crate::behind::Behind;
 use rx_steps::ThreadList;
-use rx_util::{PatternID, StateID};
+use rx_util::{HalfMatch, PatternID, StateID};
 
 /// Whether walks start at a place and at those behind it, and from which state of the program.
 #[derive(Clone, Copy, Debug, PartialEq, Eq)]
@@ -112,6 +113,16 @@ pub(crate) struct AutomatonState {
 }
 
 impl AutomatonState {
+    /// The match whose end was met last, once the place before is passed.
+    pub(crate) fn met_after(&self, at: usize, met: Option<HalfMatch>) -> Option<HalfMatch>
+        ensures { result ≡ met_after at self.now.ended met }
+    {
+        match self.ended {
+            None => met,
+            Some(pattern) => Some(HalfMatch::new(pattern, at)),
+        }
+    }
+
     /// Whether no walk lives, and none will start.
     pub(crate) fn is_over(&self) -> bool
         ensures threads { result ≡ true → self.now.threads.threads ≡ [] }
