@@ -10,7 +10,8 @@ use Rattle.rx_dfa.specs.declared.states.Ahead.{Ahead}
 use Rattle.rx_dfa.specs.declared.states.AutomatonState.{AutomatonState}
 use Rattle.rx_dfa.specs.Behind.{quits}
 use Rattle.rx_dfa.specs.States.{place_of_step, started, start_at, starting_after, IsStateOf, IsStep}
-use Rattle.rx_dfa.specs.Dfas.{DfaView, ahead_in}
+use Rattle.rx_steps.specs.Nodes.{widths_of}
+use Rattle.rx_dfa.specs.Dfas.{DfaView, column_count, ahead_in}
 use Rattle.rx_dfa.specs.Caches.{CacheView, LeadsTo, IsEntry, unknown, quit, plain, special, IsEntryTo, unknown_to, plain_to, special_to, AreEntries, IsCacheOf, IsBare, IsSameState, KeepNumbers}
 use Rattle.rx_dfa.proofs.ClassLaws.{below_or_not, same_or_not}
 
@@ -143,11 +144,10 @@ kept_more before after z e = subst (λ xs. KeepNumbers before xs) (sym e) (keep_
 pub stands_last : (before after : List AutomatonState) (z : AutomatonState) (number : ℕ) → after ≡ before ++ z ∷ [] → number ≡ length before → slice_get after number ≡ Some z
 stands_last before after z number e f = ap (λ xs. slice_get xs number) e ∙ ap (λ k. slice_get (before ++ z ∷ []) k) f ∙ get_last before z
 
--- no state, and no row
-pub cache_empty : (p : ByteProgram) (dfa : DfaView) (cache after : CacheView) → IsCacheOf p dfa cache → after.widths ≡ cache.widths → after.width ≡ cache.width → after.table ≡ [] → after.states ≡ [] → IsCacheOf p dfa after
-cache_empty p dfa cache after made widths width table states = record {
-  widths = widths ∙ made.widths;
-  width = width ∙ made.width;
+pub cache_none : (p : ByteProgram) (dfa : DfaView) (after : CacheView) → after.widths ≡ widths_of p → after.width ≡ column_count dfa → after.table ≡ [] → after.states ≡ [] → IsCacheOf p dfa after
+cache_none p dfa after widths width table states = record {
+  widths = widths;
+  width = width;
   states = subst (All (IsStateOf p)) (sym states) (All-nil (IsStateOf p));
   rows =
       let no_entries : length after.table ≡ 0 = ap (λ (xs : List ℕ). length xs) table in
@@ -156,6 +156,10 @@ cache_empty p dfa cache after made widths width table states = record {
       no_entries ∙ sym (ap (λ n. n * after.width) no_states ∙ no_rows);
   entries = λ number column entry x stands in_row is. absurd (cc (sym (ap (λ xs. slice_get xs number) states) ∙ stands));
 }
+
+-- no state, and no row
+pub cache_empty : (p : ByteProgram) (dfa : DfaView) (cache after : CacheView) → IsCacheOf p dfa cache → after.widths ≡ cache.widths → after.width ≡ cache.width → after.table ≡ [] → after.states ≡ [] → IsCacheOf p dfa after
+cache_empty p dfa cache after made widths width table states = cache_none p dfa after (widths ∙ made.widths) (width ∙ made.width) table states
 
 -- ---- an entry is set
 

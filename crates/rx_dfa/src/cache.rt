@@ -1,6 +1,6 @@
 //! The states of an automaton that searches have come to, and the table of the steps between them.
 
-ghost use Rattle.std.specs.Prelude.{◌≡◌, ◌⊎◌, ◌+◌, ◌*◌, ◌<◌, ◌≤◌, ◌++◌, ◌∷◌, [], ℕ, true, false, None, Some, length, replicate, set, slice_get, All, IfSome, IfOk, IfErr, OnOk};
+ghost use Rattle.std.specs.Prelude.{◌≡◌, ◌⊎◌, ◌+◌, ◌*◌, ◌<◌, ◌≤◌, ◌++◌, ◌∷◌, [], ℕ, true, false, None, Some, length, replicate, set, slice_get, All, IfSome, IfOk, IfErr, OnOk, OnErr};
 ghost use Rattle.rx_util.specs.declared.search.MatchError.{MatchError};
 ghost use Rattle.rx_dfa.specs.declared.states.AutomatonState.{AutomatonState};
 ghost use Rattle.rx_dfa.specs.Behind.{quits};
@@ -86,6 +86,24 @@ impl Cache {
             used: 0,
             cleared: 0,
         })
+    }
+
+    /// Makes the cache one for searches by this automaton, of which it knows nothing yet. The one
+    /// refusal is `Memory`; the cache is then as it was.
+    pub fn reset(&mut self, program: &Program, dfa: &Dfa) -> Result<(), MatchError>
+        ensures made { OnOk result (IsCacheOf program.now dfa.now self.new) }
+        ensures kept { OnErr result (self.new ≡ self.old) }
+        ensures refused { IfErr result (λ error. error ≡ MatchError.Memory) }
+    {
+        self.maker = Maker::new(self.maker.allocator(), program)?;
+        self.width = dfa.column_count();
+        self.clear();
+        Ok(())
+    }
+
+    /// About how many bytes its states take: a count that no contract fixes.
+    pub fn memory_usage(&self) -> usize {
+        self.used
     }
 
     /// Takes all states out.

@@ -62,6 +62,11 @@ impl Maker {
         })
     }
 
+    /// Where it takes memory from.
+    pub(crate) fn allocator(&self) -> Global {
+        self.alloc
+    }
+
     /// Takes over threads, and after them one of a walk that starts at a state, if one does.
     fn begin(&mut self, threads: &ThreadList, start: Option<StateID>) -> Result<(), AllocError>
         requires { AreBare threads.now.threads }

@@ -57,7 +57,7 @@ fn is_at_last<C: Cursor>(input: &Input<C>) -> bool
     input.position() >= last_place(input) || input.chunk_pos() >= input.chunk().len()
 }
 
-/// The byte of the slice that stands where an input stands, which has to be a place inside.
+/// The byte of the slice that stands where an input stands, if there is one.
 fn byte_seen<C: Cursor>(input: &Input<C>) -> Option<u8>
     ensures { (utf8_empty : Bool)
         → result ≡ byte_after (search_of utf8_empty input.now) input.now.position }
