@@ -1,0 +1,10 @@
+pub mod ClassLaws
+pub mod BareLaws
+pub mod LookLaws
+pub mod StepLaws
+pub mod LoopLaws
+pub mod TableLaws
+pub mod PassLaws
+pub mod SearchLaws
+pub mod InputLaws
+pub mod ScanLaws

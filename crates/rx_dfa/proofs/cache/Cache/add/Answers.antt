@@ -1,0 +1,24 @@
+use Rattle.std.proofs.Common.{◌≡◌, length, slice_get, sym, ap, subst, ◌∙◌, arith, vec_len}
+use Rattle.std.proofs.lemmas.Grind.{common_steps}
+use Rattle.rx_dfa.specs.Caches.{CacheView, IsCacheOf}
+use Rattle.rx_dfa.proofs.TableLaws.{cache_more, kept_more, stands_last}
+use Rattle.rx_dfa.proofs.cache.Cache.add.Goals as goal
+
+pub returns-in-Ok-clause-made : goal.returns-in-Ok-clause-made
+returns-in-Ok-clause-made c =
+    let before = c.args.self.now in
+    let after = c.push_state.new.self in
+    subst (λ v. IsCacheOf c.args.program.now c.args.dfa.now v) (sym c.self-in-Ok.view_is)
+    (cache_more c.args.program.now c.args.dfa.now before after c.args.state c.requires.made c.requires.state c.in-Ok.ensures.table c.in-Ok.ensures.states c.push_state.ensures.widths c.push_state.ensures.width)
+
+pub returns-in-Ok-clause-number : goal.returns-in-Ok-clause-number
+returns-in-Ok-clause-number c =
+    let states = c.self.inside.states in
+    let long : vec_len states ≡ length states.items = grind (arith, common_steps) in
+    let number : c.len-number.result ≡ length c.args.self.now.states = c.len-number.ensures ∙ long ∙ ap (λ (v : CacheView). length v.states) c.self.view_is in
+    ap (λ (v : CacheView). slice_get v.states c.len-number.result) c.self-in-Ok.view_is
+    ∙ stands_last c.args.self.now.states c.push_state.new.self.states c.args.state c.len-number.result c.in-Ok.ensures.states number
+
+pub returns-in-Ok-clause-kept : goal.returns-in-Ok-clause-kept
+returns-in-Ok-clause-kept c = λ number x e.
+    ap (λ (v : CacheView). slice_get v.states number) c.self-in-Ok.view_is ∙ kept_more c.args.self.now.states c.push_state.new.self.states c.args.state c.in-Ok.ensures.states number x e

@@ -1,0 +1,9 @@
+use Rattle.std.proofs.Common.{◌≡◌, ◌≤◌, ◌++◌, replicate}
+use Rattle.rx_dfa.proofs.cache.push_row.Given as goal
+
+-- so many entries were put at the end
+abbrev pub invariant-loop : goal.invariant-loop
+invariant-loop l = record {
+  entries : l.table.items ≡ l.fn.table.items ++ replicate l.counter 4294967295;
+  within : l.counter ≤ l.width;
+}

@@ -1,0 +1,84 @@
+-- The table of an automaton, and the states that its rows are of.
+use Rattle.std.specs.Prelude.{◌≡◌, ℕ, ◌+◌, ◌*◌, ◌<◌, true, false, List, All, length, Option, Some, None, slice_get}
+use Rattle.rx_program.specs.Programs.{ByteProgram}
+use Rattle.rx_steps.specs.Nodes.{widths_of}
+use Rattle.rx_steps.specs.Alike.{AreBare}
+use Rattle.rx_dfa.specs.declared.states.Ahead.{Ahead}
+use Rattle.rx_dfa.specs.declared.states.AutomatonState.{AutomatonState}
+use Rattle.rx_dfa.specs.Behind.{quits}
+use Rattle.rx_dfa.specs.States.{IsStateOf, IsStep}
+use Rattle.rx_dfa.specs.Dfas.{DfaView, column_count, ahead_in}
+
+-- how many nodes each state is of the program that a cache was made for; how many entries a row
+-- has, the rows one after the other; and the state of each row
+pub record CacheView : Type 0 where
+  pub widths : List ℕ
+  pub width : ℕ
+  pub table : List ℕ
+  pub states : List AutomatonState
+
+-- the state with this number is one to which a state leads
+pub record LeadsTo (p : ByteProgram) (dfa : DfaView) (states : List AutomatonState)
+    (x : AutomatonState) (ahead : Ahead) (number : ℕ) : Type 0 where
+  pub next : AutomatonState
+  pub stands : slice_get states number ≡ Some next
+  pub step : IsStep p dfa.asked x ahead next
+  pub told : quits dfa.asked ahead.seen ≡ false
+
+-- what an entry says of a state and what stands ahead: nothing; that a search can't go on; or where
+-- the row of the next state begins, with the highest bit set if a search has to look at that state
+pub data IsEntry (p : ByteProgram) (dfa : DfaView) (width : ℕ) (states : List AutomatonState)
+    (x : AutomatonState) (ahead : Ahead) (entry : ℕ) : Type 0 where
+  unknown : entry ≡ 4294967295 → IsEntry p dfa width states x ahead entry
+  quit : entry ≡ 4294967294 → quits dfa.asked ahead.seen ≡ true
+      → IsEntry p dfa width states x ahead entry
+  plain : {number : ℕ} (to : LeadsTo p dfa states x ahead number) → entry ≡ number * width
+      → entry < 2147483648 → to.next.ended ≡ None → IsEntry p dfa width states x ahead entry
+  special : {number : ℕ} → LeadsTo p dfa states x ahead number
+      → entry ≡ 2147483648 + number * width → entry < 4294967294
+      → IsEntry p dfa width states x ahead entry
+
+-- an entry leads to this state, or tells nothing
+pub data IsEntryTo (width : ℕ) (y : AutomatonState) (number entry : ℕ) : Type 0 where
+  unknown_to : entry ≡ 4294967295 → IsEntryTo width y number entry
+  plain_to : entry ≡ number * width → entry < 2147483648 → y.ended ≡ None
+      → IsEntryTo width y number entry
+  special_to : entry ≡ 2147483648 + number * width → entry < 4294967294
+      → IsEntryTo width y number entry
+
+-- a step came to a state, or can't be made
+abbrev pub HasStepped : ByteProgram → DfaView → List AutomatonState → AutomatonState → Ahead
+    → Option ℕ → Type 0
+HasStepped p dfa states x ahead None = quits dfa.asked ahead.seen ≡ true
+HasStepped p dfa states x ahead (Some number) = LeadsTo p dfa states x ahead number
+
+-- each entry of each row is right
+abbrev pub AreEntries : ByteProgram → DfaView → ℕ → List AutomatonState → List ℕ → Type 0
+AreEntries p dfa width states table = (number column entry : ℕ) (x : AutomatonState)
+    → slice_get states number ≡ Some x → column < width
+    → slice_get table (number * width + column) ≡ Some entry
+    → IsEntry p dfa width states x (ahead_in dfa column) entry
+
+-- a cache of an automaton of a program
+pub record IsCacheOf (p : ByteProgram) (dfa : DfaView) (cache : CacheView) : Type 0 where
+  pub widths : cache.widths ≡ widths_of p
+  pub width : cache.width ≡ column_count dfa
+  pub states : All (IsStateOf p) cache.states
+  pub rows : length cache.table ≡ length cache.states * cache.width
+  pub entries : AreEntries p dfa cache.width cache.states cache.table
+
+-- its threads have no slots
+abbrev pub IsBare : AutomatonState → Type 0
+IsBare x = AreBare x.threads.threads
+
+-- both states are the same
+pub record IsSameState (x y : AutomatonState) : Type 0 where
+  pub threads : y.threads.threads ≡ x.threads.threads
+  pub starting : y.starting ≡ x.starting
+  pub behind : y.behind ≡ x.behind
+  pub ended : y.ended ≡ x.ended
+
+-- states keep their numbers
+abbrev pub KeepNumbers : List AutomatonState → List AutomatonState → Type 0
+KeepNumbers before after = (number : ℕ) (x : AutomatonState) → slice_get before number ≡ Some x
+    → slice_get after number ≡ Some x

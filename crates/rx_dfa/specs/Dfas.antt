@@ -1,0 +1,27 @@
+-- The automaton of a program.
+use Rattle.std.specs.Prelude.{ℕ, ◌+◌, Bool, length, slice_get}
+use Rattle.rx_program.specs.Programs.{ByteProgram}
+use Rattle.rx_steps.specs.declared.asked.AskedLooks.{AskedLooks}
+use Rattle.rx_dfa.specs.declared.states.Ahead.{Ahead}
+use Rattle.rx_dfa.specs.Classes.{ByteClassesView, AreClassesOf}
+use Rattle.rx_dfa.specs.States.{ahead_of}
+use Rattle.rx_dfa.specs.Searching.{AreAskedBy}
+
+-- what an automaton has to know of a program: which looks it asks for, its classes of bytes, and
+-- whether empty matches inside a character are passed over; and how much room its states may take
+pub record DfaView : Type 0 where
+  pub asked : AskedLooks
+  pub classes : ByteClassesView
+  pub utf8_empty : Bool
+  pub capacity : ℕ
+
+pub record IsDfaOf (p : ByteProgram) (dfa : DfaView) : Type 0 where
+  pub asked : AreAskedBy p.states dfa.asked
+  pub classes : AreClassesOf p dfa.asked dfa.classes
+
+-- the columns of a table are the classes, and the end of the slice behind them
+abbrev pub column_count : DfaView → ℕ
+column_count dfa = length dfa.classes.bytes + 1
+
+abbrev pub ahead_in : DfaView → ℕ → Ahead
+ahead_in dfa column = ahead_of dfa.utf8_empty (slice_get dfa.classes.bytes column)

@@ -1,0 +1,62 @@
+-- The states of an automaton, and the steps between them.
+use Rattle.std.specs.Prelude.{◌≡◌, ℕ, Bool, true, false, not, ◌||◌, List, [], ◌∷◌, ◌++◌, All, Option, Some, None}
+use Rattle.rx_walks.specs.Steps.{Thins}
+use Rattle.rx_program.specs.Programs.{ByteProgram}
+use Rattle.rx_steps.specs.declared.asked.AskedLooks.{AskedLooks}
+use Rattle.rx_steps.specs.declared.place.Place.{Place}
+use Rattle.rx_steps.specs.Threads.{Slots, Thread, IsThreadOf, first_node}
+use Rattle.rx_steps.specs.Lists.{IsNextList}
+use Rattle.rx_steps.specs.Alike.{AreBare}
+use Rattle.rx_dfa.specs.declared.states.Starting.{Starting}
+use Rattle.rx_dfa.specs.declared.states.Starting.TheVariants.{Never, Once, Always}
+use Rattle.rx_dfa.specs.declared.states.Ahead.{Ahead}
+use Rattle.rx_dfa.specs.declared.states.AutomatonState.{AutomatonState}
+use Rattle.rx_dfa.specs.Classes.{continues}
+use Rattle.rx_dfa.specs.Behind.{behind_of, looks_of}
+
+-- the state of the program from which a walk starts at a place, where a match may begin there or
+-- not
+abbrev pub start_at : Starting → Bool → Option ℕ
+start_at Never may_begin = None
+start_at (Once q) true = Some q
+start_at (Once q) false = None
+start_at (Always q) true = Some q
+start_at (Always q) false = None
+
+-- whether walks start behind a place at which this end was met
+abbrev pub starting_after : Starting → Option ℕ → Starting
+starting_after (Always q) None = Always q
+starting_after _ _ = Never
+
+-- a thread without slots of a walk that starts there, if one does
+abbrev pub started : Option ℕ → List Thread
+started None = []
+started (Some q) = ([], first_node q) ∷ []
+
+-- what stands ahead of a byte that is read, and at the slice's end
+abbrev pub ahead_of : Bool → Option ℕ → Ahead
+ahead_of utf8_empty None = record { read = None; seen = None; may_begin = true }
+ahead_of utf8_empty (Some b) =
+    record { read = Some b; seen = Some b; may_begin = not utf8_empty || not (continues b) }
+
+-- where a state's threads make their step
+abbrev pub place_of_step : ℕ → AutomatonState → Ahead → Place
+place_of_step terminator x ahead =
+    record { at = 0; byte = ahead.read; looks = looks_of terminator x.behind ahead.seen }
+
+-- a state of an automaton of a program: its threads have no slots
+pub record IsStateOf (p : ByteProgram) (x : AutomatonState) : Type 0 where
+  pub bare : AreBare x.threads.threads
+  pub threads : All (IsThreadOf p.states) x.threads.threads
+
+-- A state leads to another one: the step of its threads, and of a walk that starts after them,
+-- gives the other's threads, of which some were left out, and the end that is met there.
+pub record IsStep (p : ByteProgram) (asked : AskedLooks) (x : AutomatonState) (ahead : Ahead)
+    (y : AutomatonState) : Type 0 where
+  pub next : List Thread
+  pub slots : Slots
+  pub list : IsNextList p (place_of_step p.line_terminator x ahead)
+      (x.threads.threads ++ started (start_at x.starting ahead.may_begin)) next y.ended slots
+  pub thins : Thins [] next y.threads.threads
+  pub starting : y.starting ≡ starting_after x.starting y.ended
+  pub behind : y.behind ≡ behind_of asked p.line_terminator ahead.read

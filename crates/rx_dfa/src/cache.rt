@@ -1,0 +1,387 @@
+//! The states of an automaton that searches have come to, and the table of the steps between them.
+
+ghost use Rattle.std.specs.Prelude.{◌≡◌, ◌⊎◌, ◌+◌, ◌*◌, ◌<◌, ◌≤◌, ◌++◌, ◌∷◌, [], ℕ, true, false, None, Some, length, replicate, set, slice_get, All, IfSome, IfOk, IfErr, OnOk, OnErr};
+ghost use Rattle.rx_util.specs.declared.search.MatchError.{MatchError};
+ghost use Rattle.rx_dfa.specs.declared.states.AutomatonState.{AutomatonState};
+ghost use Rattle.rx_dfa.specs.Behind.{quits};
+ghost use Rattle.rx_dfa.specs.Dfas.{IsDfaOf, ahead_in, column_count};
+ghost use Rattle.rx_dfa.specs.Caches.{IsCacheOf, IsEntryTo, HasStepped, IsBare, IsSameState, KeepNumbers};
+ghost use Rattle.rx_dfa.specs.States.{IsStateOf, IsStep};
+
+use crate::behind::quits_at;
+use crate::dfa::Dfa;
+use crate::maker::Maker;
+use crate::states::{Ahead, AutomatonState};
+use rx_program::Program;
+use rx_steps::Node;
+use rx_util::MatchError;
+use std::alloc::{AllocError, Global};
+use std::collections::HashMap;
+use std::marker::Model;
+use std::mem::size_of;
+
+/// Entries below this lead to states at which a search needn't look.
+pub(crate) const SPECIAL: u32 = 0x8000_0000;
+/// An entry with which a search can't go on.
+const QUIT: u32 = 0xFFFF_FFFE;
+/// An entry that isn't known.
+const UNKNOWN: u32 = 0xFFFF_FFFF;
+
+/// How often a cache is cleared in one search before it gives up.
+const CLEARS: usize = 3;
+
+/// What searches by an automaton keep from one to the next. Contracts see how many nodes each state
+/// is of the program that it was made for, how many entries a row of its table has, the rows, and
+/// the state of each.
+#[derive(Debug, Drop)]
+pub struct Cache {
+    pub(crate) maker: Maker,
+    pub(crate) width: usize,
+    // For each state a row, with an entry for each column.
+    pub(crate) table: Vec<u32>,
+    pub(crate) states: Vec<AutomatonState>,
+    // By its hash the number of a state.
+    numbers: HashMap<u64, usize>,
+    // About how much room the states take.
+    used: usize,
+    // How often it was cleared in this search.
+    pub(crate) cleared: usize,
+}
+
+impl Model for Cache {
+    ghost use Rattle.rx_dfa.specs.Caches.{CacheView};
+
+    ghost Value = { CacheView };
+
+    ghost view = { λ c. record {
+      widths = c.maker.stepper.widths;
+      width = c.width;
+      table = c.table.items;
+      states = c.states.items;
+    } };
+}
+
+/// Adds a row of which nothing is known.
+fn push_row(table: &mut Vec<u32>, width: usize) -> Result<(), AllocError>
+    ensures { OnOk result (table.new.items ≡ table.old.items ++ replicate width 4294967295) }
+{
+    for _ in 0..width {
+        table.push(UNKNOWN)?;
+    }
+    Ok(())
+}
+
+impl Cache {
+    /// A cache for searches by an automaton of a program. The one refusal is `Memory`.
+    pub fn new(alloc: Global, program: &Program, dfa: &Dfa) -> Result<Cache, MatchError>
+        ensures made { IfOk result (λ cache. IsCacheOf program.now dfa.now cache) }
+        ensures refused { IfErr result (λ error. error ≡ MatchError.Memory) }
+    {
+        Ok(Cache {
+            maker: Maker::new(alloc, program)?,
+            width: dfa.column_count(),
+            table: Vec::new(alloc),
+            states: Vec::new(alloc),
+            numbers: HashMap::new(alloc),
+            used: 0,
+            cleared: 0,
+        })
+    }
+
+    /// Makes the cache one for searches by this automaton, of which it knows nothing yet. The one
+    /// refusal is `Memory`; the cache is then as it was.
+    pub fn reset(&mut self, program: &Program, dfa: &Dfa) -> Result<(), MatchError>
+        ensures made { OnOk result (IsCacheOf program.now dfa.now self.new) }
+        ensures kept { OnErr result (self.new ≡ self.old) }
+        ensures refused { IfErr result (λ error. error ≡ MatchError.Memory) }
+    {
+        self.maker = Maker::new(self.maker.allocator(), program)?;
+        self.width = dfa.column_count();
+        self.clear();
+        Ok(())
+    }
+
+    /// About how many bytes its states take: a count that no contract fixes.
+    pub fn memory_usage(&self) -> usize {
+        self.used
+    }
+
+    /// Takes all states out.
+    fn clear(&mut self)
+        ensures widths { self.new.widths ≡ self.old.widths }
+        ensures width { self.new.width ≡ self.old.width }
+        ensures table { self.new.table ≡ [] }
+        ensures states { self.new.states ≡ [] }
+    {
+        self.table.clear();
+        self.states.clear();
+        self.numbers.clear();
+        self.used = 0;
+    }
+
+    /// The number of a state, if it is found.
+    fn find(&self, state: &AutomatonState) -> Option<usize>
+        requires states { All IsBare self.now.states }
+        requires state { IsBare state.now }
+        ensures { IfSome result (λ number. (x : AutomatonState)
+            × (slice_get self.now.states number ≡ Some x) × IsSameState state.now x) }
+    {
+        let number = *self.numbers.get(&state.hash())?;
+        let known = self.states.get(number)?;
+        if known.is_same(state) {
+            Some(number)
+        } else {
+            None
+        }
+    }
+
+    /// About how much room a state takes.
+    fn size_of(&self, state: &AutomatonState) -> usize {
+        let nodes = state.threads.len().saturating_mul(size_of::<Node>());
+        let row = self.width.saturating_mul(size_of::<u32>());
+        nodes
+            .saturating_add(row)
+            .saturating_add(2 * size_of::<AutomatonState>())
+    }
+
+    /// Adds a state with a row of which nothing is known. Where it is refused, any part of them may
+    /// be left.
+    fn push_state(&mut self, state: AutomatonState) -> Result<(), AllocError>
+        ensures table { OnOk result
+            (self.new.table ≡ self.old.table ++ replicate self.old.width 4294967295) }
+        ensures states { OnOk result (self.new.states ≡ self.old.states ++ state ∷ []) }
+        ensures widths { self.new.widths ≡ self.old.widths }
+        ensures width { self.new.width ≡ self.old.width }
+    {
+        push_row(&mut self.table, self.width)?;
+        if self
+            .numbers
+            .insert(state.hash(), self.states.len())
+            .is_err()
+        {
+            return Err(AllocError);
+        }
+        self.states.push(state)?;
+        Ok(())
+    }
+
+    /// Adds a state, and tells its number. Where it is refused, no state is left.
+    fn add(
+        &mut self,
+        program: &Program,
+        dfa: &Dfa,
+        state: AutomatonState,
+    ) -> Result<usize, MatchError>
+        requires made { IsCacheOf program.now dfa.now self.old }
+        requires state { IsStateOf program.now state }
+        ensures made { IsCacheOf program.now dfa.now self.new }
+        ensures number { IfOk result (λ number.
+            slice_get self.new.states number ≡ Some state) }
+        ensures kept { OnOk result (KeepNumbers self.old.states self.new.states) }
+        ensures refused { IfErr result (λ error. error ≡ MatchError.Memory) }
+    {
+        let number = self.states.len();
+        let used = self.used.saturating_add(self.size_of(&state));
+        match self.push_state(state) {
+            Ok(()) => {
+                self.used = used;
+                Ok(number)
+            }
+            Err(_) => {
+                self.clear();
+                Err(MatchError::Memory)
+            }
+        }
+    }
+
+    /// Whether a further state fits: beside one state another one always does.
+    fn has_room(&self, dfa: &Dfa, state: &AutomatonState) -> bool {
+        self.states.len() < 2 || self.used.saturating_add(self.size_of(state)) <= dfa.capacity
+    }
+
+    /// The number of a state, which is added where it isn't found, and whether all others were
+    /// taken out for it. Where the cache was cleared too often in this search, it gives up.
+    pub(crate) fn number_of(
+        &mut self,
+        program: &Program,
+        dfa: &Dfa,
+        state: AutomatonState,
+        at: usize,
+    ) -> Result<(usize, bool), MatchError>
+        requires made { IsCacheOf program.now dfa.now self.old }
+        requires state { IsStateOf program.now state }
+        ensures made { IsCacheOf program.now dfa.now self.new }
+        ensures number { IfOk result (λ told. (x : AutomatonState)
+            × (slice_get self.new.states told.0 ≡ Some x) × IsSameState state x) }
+        ensures kept { IfOk result (λ told. told.1 ≡ false
+            → KeepNumbers self.old.states self.new.states) }
+        ensures refused { IfErr result (λ error.
+            (error ≡ MatchError.Memory) ⊎ (error ≡ MatchError.GaveUp at)) }
+    {
+        if let Some(number) = self.find(&state) {
+            return Ok((number, false));
+        }
+        if self.has_room(dfa, &state) {
+            let number = self.add(program, dfa, state)?;
+            return Ok((number, false));
+        }
+        if self.cleared >= CLEARS {
+            return Err(MatchError::GaveUp { offset: at });
+        }
+        self.cleared += 1;
+        self.clear();
+        let number = self.add(program, dfa, state)?;
+        Ok((number, true))
+    }
+}
+
+impl Cache {
+    /// The entry of a state in a column.
+    fn entry(&self, number: usize, column: usize) -> u32
+        requires rows { length self.now.table ≡ length self.now.states * self.now.width }
+        requires number { number < length self.now.states }
+        requires column { column < self.now.width }
+        ensures { slice_get self.now.table (number * self.now.width + column) ≡ Some result }
+    {
+        self.table[number * self.width + column]
+    }
+
+    /// Sets the entry of a state in a column.
+    fn set_entry(&mut self, number: usize, column: usize, entry: u32)
+        requires rows { length self.old.table ≡ length self.old.states * self.old.width }
+        requires number { number < length self.old.states }
+        requires column { column < self.old.width }
+        ensures table { self.new.table
+            ≡ set self.old.table (number * self.old.width + column) entry }
+        ensures states { self.new.states ≡ self.old.states }
+        ensures widths { self.new.widths ≡ self.old.widths }
+        ensures width { self.new.width ≡ self.old.width }
+    {
+        self.table[number * self.width + column] = entry;
+    }
+
+    /// The entry that leads to a state, or the one of which nothing is known, if it has no room for
+    /// where that state's row begins.
+    fn entry_to(&self, next: usize) -> u32
+        requires rows { length self.now.table ≡ length self.now.states * self.now.width }
+        requires next { next < length self.now.states }
+        ensures { (y : AutomatonState) → slice_get self.now.states next ≡ Some y
+            → IsEntryTo self.now.width y next result }
+    {
+        let state = &self.states[next];
+        let row = next * self.width;
+        if row >= (QUIT - SPECIAL) as usize {
+            return UNKNOWN;
+        }
+        if state.ended.is_some() || state.is_over() {
+            SPECIAL + row as u32
+        } else {
+            row as u32
+        }
+    }
+
+    /// The state from which a row begins that an entry leads to.
+    fn number_at(&self, entry: u32) -> usize
+        requires { 0 < self.now.width }
+        ensures plain { (number : ℕ) → entry ≡ number * self.now.width → entry < 2147483648
+            → result ≡ number }
+        ensures special { (number : ℕ) → entry ≡ 2147483648 + number * self.now.width
+            → result ≡ number }
+    {
+        let row = if entry >= SPECIAL {
+            entry - SPECIAL
+        } else {
+            entry
+        };
+        row as usize / self.width
+    }
+
+    /// The state to which the one with a number leads before what stands ahead. The one refusal is
+    /// `Memory`.
+    pub(crate) fn next_state(
+        &mut self,
+        program: &Program,
+        dfa: &Dfa,
+        number: usize,
+        ahead: &Ahead,
+    ) -> Result<AutomatonState, MatchError>
+        requires made { IsCacheOf program.now dfa.now self.old }
+        requires number { number < length self.old.states }
+        ensures step { IfOk result (λ next. (x : AutomatonState)
+            → slice_get self.old.states number ≡ Some x
+            → IsStep program.now dfa.now.asked x ahead.now next) }
+        ensures state { IfOk result (λ next. IsStateOf program.now next) }
+        ensures made { IsCacheOf program.now dfa.now self.new }
+        ensures states { self.new.states ≡ self.old.states }
+        ensures refused { IfErr result (λ error. error ≡ MatchError.Memory) }
+    {
+        let state = &self.states[number];
+        self.maker.next_state(program, dfa.asked, state, ahead)
+    }
+
+    /// Makes the step from a state in a column, and enters it: the number of the next state, and
+    /// none where a search can't go on.
+    fn make_step(
+        &mut self,
+        program: &Program,
+        dfa: &Dfa,
+        number: usize,
+        column: usize,
+        at: usize,
+    ) -> Result<Option<usize>, MatchError>
+        requires dfa { IsDfaOf program.now dfa.now }
+        requires made { IsCacheOf program.now dfa.now self.old }
+        requires number { number < length self.old.states }
+        requires column { column < self.old.width }
+        ensures made { IsCacheOf program.now dfa.now self.new }
+        ensures step { IfOk result (λ next. (x : AutomatonState)
+            → slice_get self.old.states number ≡ Some x
+            → HasStepped program.now dfa.now self.new.states x (ahead_in dfa.now column) next) }
+        ensures refused { IfErr result (λ error.
+            (error ≡ MatchError.Memory) ⊎ (error ≡ MatchError.GaveUp at)) }
+    {
+        let ahead = dfa.ahead(column);
+        if quits_at(dfa.asked, ahead.seen) {
+            self.set_entry(number, column, QUIT);
+            return Ok(None);
+        }
+        let state = self.next_state(program, dfa, number, &ahead)?;
+        let (next, was_cleared) = self.number_of(program, dfa, state, at)?;
+        if !was_cleared {
+            let entry = self.entry_to(next);
+            self.set_entry(number, column, entry);
+        }
+        Ok(Some(next))
+    }
+
+    /// Where a column leads from a state: the number of the next state, and none where a search
+    /// can't go on.
+    pub(crate) fn step(
+        &mut self,
+        program: &Program,
+        dfa: &Dfa,
+        number: usize,
+        column: usize,
+        at: usize,
+    ) -> Result<Option<usize>, MatchError>
+        requires dfa { IsDfaOf program.now dfa.now }
+        requires made { IsCacheOf program.now dfa.now self.old }
+        requires number { number < length self.old.states }
+        requires column { column < self.old.width }
+        ensures made { IsCacheOf program.now dfa.now self.new }
+        ensures step { IfOk result (λ next. (x : AutomatonState)
+            → slice_get self.old.states number ≡ Some x
+            → HasStepped program.now dfa.now self.new.states x (ahead_in dfa.now column) next) }
+        ensures refused { IfErr result (λ error.
+            (error ≡ MatchError.Memory) ⊎ (error ≡ MatchError.GaveUp at)) }
+    {
+        let entry = self.entry(number, column);
+        if entry == UNKNOWN {
+            return self.make_step(program, dfa, number, column, at);
+        }
+        if entry == QUIT {
+            return Ok(None);
+        }
+        Ok(Some(self.number_at(entry)))
+    }
+}

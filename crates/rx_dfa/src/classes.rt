@@ -1,0 +1,189 @@
+//! Classes of bytes that are alike to a program.
+
+ghost use Rattle.std.specs.Prelude.{◌≡◌, ℕ, ◌+◌, ◌-◌, ◌<◌, ◌≤◌, length, slice_get, All, IfOk, true, false};
+ghost use Rattle.unicode.specs.Perl.{is_word_char};
+ghost use Rattle.rx_dfa.specs.Classes.{HasCut, HasMoreCuts, RowIsCut, AutomatonIsCut, StateIsCut, WordsAreCut, LooksAreCut, AreClasses, AreClassesOf, class_of};
+
+use rx_program::{Program, State};
+use rx_steps::AskedLooks;
+use rx_utf8::{ByteRange, SetAutomaton};
+use std::alloc::{AllocError, Global};
+use std::marker::Model;
+use unicode::perl::is_word_code;
+
+/// Cuts before a range of bytes and behind it.
+fn cut(cuts: &mut [bool; 257], first: u8, last: u8)
+    ensures first { HasCut cuts.new first }
+    ensures behind { HasCut cuts.new (last + 1) }
+    ensures more { HasMoreCuts cuts.old cuts.new }
+{
+    cuts[usize::from(first)] = true;
+    cuts[usize::from(last) + 1] = true;
+}
+
+/// Cuts round each range of a row.
+fn cut_row(cuts: &mut [bool; 257], row: &[ByteRange])
+    ensures cut { RowIsCut cuts.new row.now }
+    ensures more { HasMoreCuts cuts.old cuts.new }
+{
+    for range in row {
+        cut(cuts, range.first, range.last);
+    }
+}
+
+/// Cuts round each range of an automaton.
+fn cut_ranges(cuts: &mut [bool; 257], automaton: &SetAutomaton)
+    ensures cut { AutomatonIsCut cuts.new automaton.now }
+    ensures more { HasMoreCuts cuts.old cuts.new }
+{
+    for number in 0..automaton.state_count() {
+        cut_row(cuts, automaton.row(number));
+    }
+}
+
+/// Cuts round each range of the automaton of a state, if it has one.
+fn cut_state(cuts: &mut [bool; 257], state: &State)
+    ensures cut { StateIsCut cuts.new state.now }
+    ensures more { HasMoreCuts cuts.old cuts.new }
+{
+    if let State::Ranges(automaton, _) = state {
+        cut_ranges(cuts, automaton);
+    }
+}
+
+/// Whether ASCII word characters and others meet before a byte.
+fn do_words_meet(byte: usize) -> bool
+    requires above { 0 < byte }
+    requires below { byte < 128 }
+    ensures { result ≡ false → is_word_char (byte - 1) ≡ is_word_char byte }
+{
+    is_word_code(byte as u32 - 1) != is_word_code(byte as u32)
+}
+
+/// Cuts before a byte, if it is to be cut there.
+fn cut_before(cuts: &mut [bool; 257], byte: usize, is_cut: bool)
+    requires { byte < 257 }
+    ensures cut { is_cut ≡ true → HasCut cuts.new byte }
+    ensures more { HasMoreCuts cuts.old cuts.new }
+{
+    if is_cut {
+        cuts[byte] = true;
+    }
+}
+
+/// Cuts wherever ASCII word characters and others meet, if looks of words are asked for.
+fn cut_words(cuts: &mut [bool; 257], are_asked: bool)
+    ensures cut { are_asked ≡ true → WordsAreCut cuts.new 128 }
+    ensures more { HasMoreCuts cuts.old cuts.new }
+{
+    if !are_asked {
+        return;
+    }
+    for byte in 1..128_usize {
+        cut_before(cuts, byte, do_words_meet(byte));
+    }
+}
+
+/// Cuts round the byte that ends a line, if looks of lines are asked for.
+fn cut_lines(cuts: &mut [bool; 257], are_asked: bool, line_terminator: u8)
+    ensures first { are_asked ≡ true → HasCut cuts.new line_terminator }
+    ensures behind { are_asked ≡ true → HasCut cuts.new (line_terminator + 1) }
+    ensures more { HasMoreCuts cuts.old cuts.new }
+{
+    if are_asked {
+        cut(cuts, line_terminator, line_terminator);
+    }
+}
+
+/// Where looks, or that characters are told apart, make bytes stop being alike.
+fn look_cuts(asked: AskedLooks, line_terminator: u8) -> [bool; 257]
+    ensures { LooksAreCut asked line_terminator result }
+{
+    let mut cuts = [false; 257];
+    cut(&mut cuts, 128, 191);
+    cut_lines(&mut cuts, asked.lines, line_terminator);
+    cut_words(&mut cuts, asked.words);
+    cuts
+}
+
+/// Where bytes stop being alike to a program.
+fn cuts_of(program: &Program, asked: AskedLooks) -> [bool; 257]
+    ensures looks { LooksAreCut asked program.now.line_terminator result }
+    ensures states { All (StateIsCut result) program.now.states }
+{
+    let mut cuts = look_cuts(asked, program.line_terminator());
+    for state in program.states() {
+        cut_state(&mut cuts, state);
+    }
+    cuts
+}
+
+/// The class of each byte, and a byte of each class. Contracts see both as lists.
+#[derive(Debug, Drop)]
+pub(crate) struct ByteClasses {
+    of: [u8; 256],
+    bytes: Vec<u8>,
+}
+
+impl Model for ByteClasses {
+    ghost use Rattle.rx_dfa.specs.Classes.{ByteClassesView};
+
+    ghost Value = { ByteClassesView };
+
+    ghost view = { λ c. record { of = c.of; bytes = c.bytes.items } };
+}
+
+impl ByteClasses {
+    /// The classes between cuts.
+    fn between(alloc: Global, cuts: &[bool; 257]) -> Result<ByteClasses, AllocError>
+        ensures { IfOk result (λ classes. AreClasses cuts.now classes 256) }
+    {
+        let mut of = [0_u8; 256];
+        let mut bytes = Vec::new(alloc);
+        bytes.push(0_u8)?;
+        let mut class = 0_u8;
+        for byte in 1..256_usize {
+            if cuts[byte] {
+                class += 1;
+                bytes.push(byte as u8)?;
+            }
+            of[byte] = class;
+        }
+        Ok(ByteClasses { of, bytes })
+    }
+
+    /// Those of a program that asks for these looks. `O(n)` in the ranges of its automata.
+    pub(crate) fn new(
+        alloc: Global,
+        program: &Program,
+        asked: AskedLooks,
+    ) -> Result<ByteClasses, AllocError>
+        ensures { IfOk result (λ classes. AreClassesOf program.now asked classes) }
+    {
+        let cuts = cuts_of(program, asked);
+        let classes = ByteClasses::between(alloc, &cuts)?;
+        Ok(classes)
+    }
+
+    /// How many there are, and the end of the slice.
+    pub(crate) fn column_count(&self) -> usize
+        ensures { result ≡ length self.now.bytes + 1 }
+    {
+        self.bytes.len() + 1
+    }
+
+    /// The class of a byte.
+    #[inline(always)]
+    pub(crate) fn class(&self, byte: u8) -> usize
+        ensures { result ≡ class_of self.now byte }
+    {
+        usize::from(self.of[usize::from(byte)])
+    }
+
+    /// A byte of a class, and none of the number past the last class.
+    pub(crate) fn byte(&self, class: usize) -> Option<u8>
+        ensures { result ≡ slice_get self.now.bytes class }
+    {
+        self.bytes.get(class).copied()
+    }
+}

@@ -1,0 +1,73 @@
+//! Automata of programs.
+
+ghost use Rattle.std.specs.Prelude.{◌≡◌, length, IfOk};
+ghost use Rattle.rx_dfa.specs.Dfas.{IsDfaOf, column_count, ahead_in};
+
+use crate::classes::ByteClasses;
+use crate::states::Ahead;
+use rx_program::Program;
+use rx_steps::AskedLooks;
+use std::alloc::{AllocError, Global};
+use std::marker::Model;
+
+/// What the automaton of a program has to know of it, and how much room its states may take in a
+/// cache, about, in bytes. Contracts see the looks that the program asks for, its classes of bytes,
+/// whether empty matches inside a character are passed over, and that room.
+#[derive(Debug, Drop)]
+pub struct Dfa {
+    pub(crate) asked: AskedLooks,
+    pub(crate) classes: ByteClasses,
+    pub(crate) utf8_empty: bool,
+    pub(crate) capacity: usize,
+}
+
+impl Model for Dfa {
+    ghost use Rattle.rx_dfa.specs.Dfas.{DfaView};
+
+    ghost Value = { DfaView };
+
+    ghost view = { λ d. record {
+      asked = d.asked;
+      classes = d.classes;
+      utf8_empty = d.utf8_empty;
+      capacity = d.capacity;
+    } };
+}
+
+impl Dfa {
+    /// The automaton of a program. `utf8_empty` passes over empty matches inside a character. It
+    /// takes time in proportion to the program's states and the ranges of their automata, and a few
+    /// hundred bytes.
+    pub fn new(
+        alloc: Global,
+        program: &Program,
+        utf8_empty: bool,
+        capacity: usize,
+    ) -> Result<Dfa, AllocError>
+        ensures made { IfOk result (λ dfa. IsDfaOf program.now dfa) }
+        ensures utf8_empty { IfOk result (λ dfa. dfa.utf8_empty ≡ utf8_empty) }
+    {
+        let asked = AskedLooks::of(program.states());
+        let classes = ByteClasses::new(alloc, program, asked)?;
+        Ok(Dfa {
+            asked,
+            classes,
+            utf8_empty,
+            capacity,
+        })
+    }
+
+    /// How many columns a table has: one for each class, and one for the end of the slice.
+    pub(crate) fn column_count(&self) -> usize
+        ensures { result ≡ column_count self.now }
+    {
+        self.classes.column_count()
+    }
+
+    /// What stands ahead in a column.
+    pub(crate) fn ahead(&self, column: usize) -> Ahead
+        ensures { result ≡ ahead_in self.now column }
+    {
+        Ahead::of(self.utf8_empty, self.classes.byte(column))
+    }
+}

@@ -1,0 +1,15 @@
+//! Automata whose states are lists of threads.
+#![tactic(auto)]
+
+mod behind;
+mod cache;
+mod classes;
+mod dfa;
+mod maker;
+mod scan;
+mod search;
+mod states;
+
+pub use cache::Cache;
+pub use dfa::Dfa;
+pub use search::try_search_fwd;

@@ -1,0 +1,153 @@
+//! Bytes that lie in one piece.
+
+ghost use Rattle.std.specs.Prelude.{◌≡◌, ◌+◌, ◌<◌, ◌≤◌, ◌⊎◌, ◌^◌, ◌∷◌, [], ℕ, true, Option, Some, length, take, slice_get, IfOk, IfErr};
+ghost use Rattle.rx_util.specs.Search.{HalfFound};
+ghost use Rattle.rx_dfa.specs.declared.states.AutomatonState.{AutomatonState};
+ghost use Rattle.rx_dfa.specs.Dfas.{IsDfaOf};
+ghost use Rattle.rx_dfa.specs.Caches.{IsCacheOf};
+ghost use Rattle.rx_dfa.specs.Passing.{HasPassed, IsOverAt, IsRefusalAmong, error_of};
+
+use crate::cache::{Cache, SPECIAL};
+use crate::dfa::Dfa;
+use rx_program::Program;
+use rx_steps::laws::steps_are_alike;
+use rx_util::{HalfMatch, MatchError};
+
+/// Why a search answers nothing.
+#[derive(Clone, Copy, Debug)]
+pub(crate) enum Refusal {
+    /// There was no memory.
+    Memory,
+    /// Before this byte it can't go on; the byte's index.
+    Quit(u8, usize),
+    /// At this place the cache would have been cleared once too often.
+    GaveUp(usize),
+}
+
+impl Refusal {
+    /// As the searches of a regular expression tell it.
+    pub(crate) fn error(&self) -> MatchError
+        ensures { result ≡ error_of self.now }
+    {
+        match self {
+            Refusal::Memory => MatchError::Memory,
+            Refusal::Quit(byte, offset) => MatchError::Quit {
+                byte: *byte,
+                offset: *offset,
+            },
+            Refusal::GaveUp(offset) => MatchError::GaveUp { offset: *offset },
+        }
+    }
+}
+
+impl Cache {
+    /// Follows bytes from a state as far as entries lead to states at which a search needn't look:
+    /// the last of these states, and how many bytes were followed.
+    fn run(&self, program: &Program, dfa: &Dfa, first: usize, bytes: &[u8]) -> (usize, usize)
+        requires dfa { IsDfaOf program.now dfa.now }
+        requires made { IsCacheOf program.now dfa.now self.now }
+        requires first { first < length self.now.states }
+        ensures within { result.1 ≤ length bytes.now }
+        ensures passed { (x : AutomatonState) → slice_get self.now.states first ≡ Some x
+            → (i : ℕ) → (met : Option HalfFound) → HasPassed program.now dfa.now self.now.states x
+            (take result.1 bytes.now) i met result.0 met }
+    {
+        // A law, for the proof alone.
+        steps_are_alike();
+        let mut row = first * self.width;
+        let mut len = 0_usize;
+        for byte in bytes {
+            let next = self.table[row + dfa.classes.class(*byte)];
+            if next >= SPECIAL {
+                return (row / self.width, len);
+            }
+            row = next as usize;
+            len += 1;
+        }
+        (row / self.width, len)
+    }
+
+    /// Passes a byte that stands at a place, and notes an end that is met there.
+    fn pass(
+        &mut self,
+        program: &Program,
+        dfa: &Dfa,
+        number: usize,
+        byte: u8,
+        at: usize,
+        met: &mut Option<HalfMatch>,
+    ) -> Result<usize, Refusal>
+        requires dfa { IsDfaOf program.now dfa.now }
+        requires made { IsCacheOf program.now dfa.now self.old }
+        requires number { number < length self.old.states }
+        ensures made { IsCacheOf program.now dfa.now self.new }
+        ensures passed { IfOk result (λ next. (x : AutomatonState)
+            → slice_get self.old.states number ≡ Some x
+            → HasPassed program.now dfa.now self.new.states x (byte ∷ []) at met.old next met.new) }
+        ensures number { IfOk result (λ next. next < length self.new.states) }
+        ensures refused { IfErr result (IsRefusalAmong dfa.now.asked at (byte ∷ [])) }
+    {
+        // A law, for the proof alone.
+        steps_are_alike();
+        let column = dfa.classes.class(byte);
+        let next = match self.step(program, dfa, number, column, at) {
+            Ok(Some(next)) => next,
+            Ok(None) => return Err(Refusal::Quit(byte, at)),
+            Err(MatchError::Memory) => return Err(Refusal::Memory),
+            Err(_) => return Err(Refusal::GaveUp(at)),
+        };
+        *met = self.states[next].met_after(at, *met);
+        Ok(next)
+    }
+
+    /// Whether no walk lives at a state, and none will start.
+    pub(crate) fn is_over(&self, number: usize) -> bool
+        requires { number < length self.now.states }
+        ensures { result ≡ true → IsOverAt self.now.states number }
+    {
+        self.states[number].is_over()
+    }
+
+    /// Passes bytes that stand from a place on, up to a state at which the search is over, and
+    /// notes the last end that is met: the state behind them, and how many bytes were passed, which
+    /// is at least one, if there is one.
+    pub(crate) fn scan(
+        &mut self,
+        program: &Program,
+        dfa: &Dfa,
+        first: usize,
+        bytes: &[u8],
+        at: usize,
+        met: &mut Option<HalfMatch>,
+    ) -> Result<(usize, usize), Refusal>
+        requires dfa { IsDfaOf program.now dfa.now }
+        requires made { IsCacheOf program.now dfa.now self.old }
+        requires first { first < length self.old.states }
+        requires fits { at + length bytes.now < 2 ^ 64 }
+        ensures made { IsCacheOf program.now dfa.now self.new }
+        ensures within { IfOk result (λ told. told.1 ≤ length bytes.now) }
+        ensures some { IfOk result (λ told. 0 < length bytes.now → 0 < told.1) }
+        ensures passed { IfOk result (λ told. (x : AutomatonState)
+            → slice_get self.old.states first ≡ Some x
+            → HasPassed program.now dfa.now self.new.states x (take told.1 bytes.now) at met.old
+            told.0 met.new) }
+        ensures refused { IfErr result (IsRefusalAmong dfa.now.asked at bytes.now) }
+    {
+        let mut number = first;
+        let mut len = 0_usize;
+        while len < bytes.len() {
+            let (there, passed) = self.run(program, dfa, number, &bytes[len..]);
+            number = there;
+            len += passed;
+            if len >= bytes.len() {
+                break;
+            }
+            number = self.pass(program, dfa, number, bytes[len], at + len, met)?;
+            len += 1;
+            if self.is_over(number) {
+                break;
+            }
+        }
+        Ok((number, len))
+    }
+}

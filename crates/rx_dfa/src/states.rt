@@ -1,0 +1,169 @@
+//! The states of an automaton.
+
+ghost use Rattle.std.specs.Prelude.{◌≡◌, true, []};
+ghost use Rattle.rx_dfa.specs.declared.states.Starting.TheVariants.{Never};
+ghost use Rattle.rx_steps.specs.Alike.{AreBare};
+ghost use Rattle.rx_dfa.specs.Classes.{continues};
+ghost use Rattle.rx_dfa.specs.Caches.{IsSameState};
+ghost use Rattle.rx_dfa.specs.Searching.{met_after};
+ghost use Rattle.rx_dfa.specs.States.{start_at, starting_after, ahead_of};
+
+use crate::behind::Behind;
+use rx_steps::ThreadList;
+use rx_util::{HalfMatch, PatternID, StateID};
+
+/// Whether walks start at a place and at those behind it, and from which state of the program.
+#[derive(Clone, Copy, Debug, PartialEq, Eq)]
+pub(crate) enum Starting {
+    /// Nowhere: an end was met, or the search is anchored at a place before.
+    Never,
+    /// At this place alone.
+    Once(StateID),
+    /// At this place and at each one behind it, until an end is met.
+    Always(StateID),
+}
+
+impl Starting {
+    /// The state from which a walk starts at a place, where one may begin.
+    pub(crate) fn at(&self, may_begin: bool) -> Option<StateID>
+        ensures { result ≡ start_at self.now may_begin }
+    {
+        match self {
+            Starting::Never => None,
+            Starting::Once(start) | Starting::Always(start) => {
+                if may_begin { Some(*start) } else { None }
+            }
+        }
+    }
+
+    /// Whether walks start behind a place, at which an end was met or not.
+    pub(crate) fn after(&self, ended: &Option<PatternID>) -> Starting
+        ensures { result ≡ starting_after self.now ended.now }
+    {
+        match (self, ended) {
+            (Starting::Always(start), None) => Starting::Always(*start),
+            _ => Starting::Never,
+        }
+    }
+}
+
+/// What a step has to know of what stands behind a place.
+#[derive(Clone, Copy, Debug)]
+pub(crate) struct Ahead {
+    /// The byte that is read, and none where walks may go no further.
+    pub(crate) read: Option<u8>,
+    /// The byte that looks see, and none where the slice ends.
+    pub(crate) seen: Option<u8>,
+    /// Whether a match may begin at the place.
+    pub(crate) may_begin: bool,
+}
+
+impl Ahead {
+    /// A byte that is read, or the end of the slice, at which no character is cut.
+    pub(crate) fn of(utf8_empty: bool, byte: Option<u8>) -> Ahead
+        ensures { result ≡ ahead_of utf8_empty byte }
+    {
+        Ahead {
+            read: byte,
+            seen: byte,
+            may_begin: match byte {
+                None => true,
+                Some(byte) => !utf8_empty || !(128 <= byte && byte < 192),
+            },
+        }
+    }
+}
+
+/// Whether both have the same nodes.
+fn same_nodes(threads: &ThreadList, others: &ThreadList) -> bool
+    requires bare { AreBare threads.now.threads }
+    requires bare_others { AreBare others.now.threads }
+    ensures { result ≡ true → threads.now.threads ≡ others.now.threads }
+{
+    if threads.len() != others.len() {
+        return false;
+    }
+    for index in 0..threads.len() {
+        if threads.node(index) != others.node(index) {
+            return false;
+        }
+    }
+    true
+}
+
+/// A hash with a further number mixed in.
+fn mixed(hash: u64, number: usize) -> u64 {
+    (hash ^ number as u64)
+        .wrapping_mul(0x9E37_79B9_7F4A_7C15)
+        .rotate_left(29)
+}
+
+/// What a search knows where it stands.
+#[derive(Debug, Drop)]
+pub(crate) struct AutomatonState {
+    /// Where walks stand, in order of preference, before empty edges are followed. They have no
+    /// slots.
+    pub(crate) threads: ThreadList,
+    /// Whether walks start.
+    pub(crate) starting: Starting,
+    /// What stands before the place.
+    pub(crate) behind: Behind,
+    /// The pattern whose end was met at the place before.
+    pub(crate) ended: Option<PatternID>,
+}
+
+impl AutomatonState {
+    /// The match whose end was met last, once the place before is passed.
+    pub(crate) fn met_after(&self, at: usize, met: Option<HalfMatch>) -> Option<HalfMatch>
+        ensures { result ≡ met_after at self.now.ended met }
+    {
+        match self.ended {
+            None => met,
+            Some(pattern) => Some(HalfMatch::new(pattern, at)),
+        }
+    }
+
+    /// Whether no walk lives, and none will start.
+    pub(crate) fn is_over(&self) -> bool
+        ensures threads { result ≡ true → self.now.threads.threads ≡ [] }
+        ensures starting { result ≡ true → self.now.starting ≡ Never }
+    {
+        self.threads.len() == 0 && self.starting == Starting::Never
+    }
+
+    /// Whether both are the same state.
+    pub(crate) fn is_same(&self, other: &AutomatonState) -> bool
+        requires bare { AreBare self.now.threads.threads }
+        requires bare_other { AreBare other.now.threads.threads }
+        ensures { result ≡ true → IsSameState other.now self.now }
+    {
+        self.starting == other.starting
+            && self.behind == other.behind
+            && self.ended == other.ended
+            && same_nodes(&self.threads, &other.threads)
+    }
+
+    /// A number by which states are looked up: same states have the same.
+    pub(crate) fn hash(&self) -> u64 {
+        let mut hash = match self.starting {
+            Starting::Never => 1,
+            Starting::Once(state) => mixed(2, state.as_usize()),
+            Starting::Always(state) => mixed(3, state.as_usize()),
+        };
+        hash = match self.behind {
+            Behind::Edge => mixed(hash, 4),
+            Behind::Byte(ends_line, is_word) => {
+                mixed(hash, usize::from(ends_line) + 2 * usize::from(is_word))
+            }
+        };
+        hash = match self.ended {
+            None => hash,
+            Some(pattern) => mixed(hash.wrapping_add(1), pattern.as_usize()),
+        };
+        for index in 0..self.threads.len() {
+            let node = self.threads.node(index);
+            hash = mixed(mixed(hash, node.state().as_usize()), node.within());
+        }
+        hash
+    }
+}
