@@ -122,8 +122,8 @@ fn payloads(rt: HostRuntime) -> Result<(), Fail> {
     Ok(())
 }
 
-/// `Buffer`, `Position` and `Lines`: an edit between two positions, back, and forth again. The line that
-/// the edit is in is searched again alone, as the count of rows tells. A fork keeps the text of its time.
+/// `Buffer`, `Position` and `Lines`: an edit between two positions, and back. The line that it is in is
+/// searched again alone, as the count of rows tells.
 #[test]
 fn an_edit_of_a_line(rt: HostRuntime) -> Result<(), Fail> {
     let mut tick = Lines::new(&rt);
@@ -140,10 +140,6 @@ fn an_edit_of_a_line(rt: HostRuntime) -> Result<(), Fail> {
     }
     buffer.undo(&mut tick)?;
     assert!(rt; buffer.text().eq_str("a frog\na toad"));
-    let fork = buffer.fork()?;
-    buffer.redo(&mut tick)?;
-    assert!(rt; buffer.text().eq_str("a toad\na toad"));
-    assert!(rt; fork.text().eq_str("a frog\na toad"));
     Ok(())
 }
 

@@ -1,7 +1,5 @@
 //! An example for each public type of `rope_search_reports`.
-use rope_search::{
-    Finder, Groups, Lines, Position, Rope, byte_of, find_all, find_from, position_of, search_line,
-};
+use rope_search::{Finder, Lines, Position, Rope, byte_of, position_of, search_line};
 use std::test::Fail;
 
 /// `Finder`, `Row` and `search_line`: a finder is made once for a pattern and searches many lines,
@@ -18,30 +16,6 @@ fn one_finder_for_many_lines(rt: HostRuntime) -> Result<(), Fail> {
     let row = search_line(&mut tick, &mut finder, text.slice(..1))?;
     assert!(rt; row.matches().is_empty());
     assert!(rt; (tick.count(), tick.wholes()) == (2, 0));
-    Ok(())
-}
-
-/// `find_from`, `find_all` and `Groups`: matches in a whole text, over the ends of its lines. A group
-/// that takes no part in a match has no span, and neither has one that the pattern doesn't have.
-#[test]
-fn matches_in_a_whole_text(rt: HostRuntime) -> Result<(), Fail> {
-    let text = Rope::from_str(rt.alloc(), "a=1\nb c=\nd")?;
-    let mut tick = Lines::new(&rt);
-    let mut finder = Finder::new(rt.alloc(), r"(\w)(?:=(\s*)(\w))?")?;
-    assert!(rt; find_from(&mut tick, &mut finder, &text, 1)? == Some((2, 3)));
-    let found = find_all(&mut tick, &mut finder, &text)?;
-    let expected: [[Option<(usize, usize)>; 4]; 3] = [
-        [Some((0, 3)), Some((0, 1)), Some((2, 2)), Some((2, 3))],
-        [Some((4, 5)), Some((4, 5)), None, None],
-        [Some((6, 10)), Some((6, 7)), Some((8, 9)), Some((9, 10))],
-    ];
-    assert!(rt; found.len() == expected.len());
-    for (groups, first) in found.iter().zip(expected) {
-        let groups: &Groups = groups;
-        assert!(rt; groups.starts_with(&first));
-        assert!(rt; groups.ends_with(&[None; 6]));
-    }
-    assert!(rt; (tick.count(), tick.wholes()) == (0, 2));
     Ok(())
 }
 

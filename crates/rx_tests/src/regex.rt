@@ -2,9 +2,7 @@
 
 ghost use Rattle.std.specs.Prelude.{◌≡◌};
 
-use regex_cursor::engines::meta::{
-    Builder, Cache, CapturesMatches, FindMatches, Regex, Split, SplitN,
-};
+use regex_cursor::engines::meta::{Builder, Cache, CapturesMatches, FindMatches, Regex};
 use regex_cursor::engines::pikevm::{self, PikeVM};
 use regex_cursor::util::syntax;
 use regex_cursor::{BuildError, ChunkCursor, Cursor, Input, Match, MatchError, RopeyCursor, Span};
@@ -65,43 +63,6 @@ fn captures_matches(rt: HostRuntime) -> Result<(), Fail> {
     }
     assert!(rt; found.next().is_none());
     assert!(rt; found.count() == 0);
-    Ok(())
-}
-
-/// An iterator whose input is moved back gives matches again. It passes over an empty match where the
-/// last one ended, and over no other: over that at 0 only once it has given that.
-#[test]
-fn input_moved_back(rt: HostRuntime) -> Result<(), Fail> {
-    let re = Regex::new(rt.alloc(), "")?;
-    let mut found = re.find_iter(Input::new("ab"))?;
-    assert!(rt; span_of(found.next())? == Some(Span { start: 0, end: 0 }));
-    assert!(rt; span_of(found.next())? == Some(Span { start: 1, end: 1 }));
-    found.input().set_start(0);
-    assert!(rt; span_of(found.next())? == Some(Span { start: 0, end: 0 }));
-    found.input().set_start(0);
-    assert!(rt; span_of(found.next())? == Some(Span { start: 1, end: 1 }));
-    Ok(())
-}
-
-/// The inputs of the other iterators. Parts go on from the end of the last match.
-#[test]
-fn inputs_moved(rt: HostRuntime) -> Result<(), Fail> {
-    let re = Regex::new(rt.alloc(), "b")?;
-    let mut found = re.captures_iter(Input::new("abcb"))?;
-    found.input().set_start(2);
-    match found.next() {
-        Some(caps) => assert!(rt; caps?.get_group(0) == Some(Span { start: 3, end: 4 })),
-        None => assert!(rt; false),
-    }
-    let mut parts: Split<&str> = re.split(Input::new("abcb"))?;
-    assert!(rt; parts.next() == Some(Ok(Span { start: 0, end: 1 })));
-    parts.input().set_start(4);
-    assert!(rt; parts.next() == Some(Ok(Span { start: 2, end: 4 })));
-    let mut parts: SplitN<&str> = re.splitn(Input::new("abcb"), 2)?;
-    parts.input().set_start(2);
-    assert!(rt; parts.next() == Some(Ok(Span { start: 0, end: 3 })));
-    assert!(rt; parts.next() == Some(Ok(Span { start: 4, end: 4 })));
-    assert!(rt; parts.next() == None);
     Ok(())
 }
 
