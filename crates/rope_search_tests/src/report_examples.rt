@@ -1,5 +1,7 @@
 //! An example for each public type of `rope_search_reports`.
-use rope_search::{Finder, Lines, Position, Rope, byte_of, position_of, search_line};
+use rope_search::{
+    Finder, Groups, Lines, Position, Rope, byte_of, find_all, position_of, search_line,
+};
 use std::test::Fail;
 
 /// `Finder`, `Row` and `search_line`: a finder is made once for a pattern and searches many lines,
@@ -13,9 +15,33 @@ fn one_finder_for_many_lines(rt: HostRuntime) -> Result<(), Fail> {
     assert!(rt; row.matches() == [(0, 2), (4, 7)].as_slice());
     assert!(rt; tick.count() == 1);
     // Each search of a line is counted, whatever it finds.
-    let row = search_line(&mut tick, &mut finder, text.slice(..1))?;
-    assert!(rt; row.matches().is_empty());
+    if let Some(front) = text.get_slice(..1) {
+        let row = search_line(&mut tick, &mut finder, front)?;
+        assert!(rt; row.matches().is_empty());
+    }
     assert!(rt; (tick.count(), tick.wholes()) == (2, 0));
+    Ok(())
+}
+
+/// `find_all` and `Groups`: all matches in a whole text, over the ends of its lines, each with the
+/// spans of its groups. One that the pattern doesn't have has none.
+#[test]
+fn matches_in_a_whole_text(rt: HostRuntime) -> Result<(), Fail> {
+    let text = Rope::from_str(rt.alloc(), "a=1\nb c=\nd")?;
+    let mut tick = Lines::new(&rt);
+    let mut finder = Finder::new(rt.alloc(), r"(\w)(?:=(\s*)(\w))?")?;
+    let found = find_all(&mut tick, &mut finder, &text)?;
+    assert!(rt; found.len() == 3);
+    let first: Option<&Groups> = found.first();
+    match first {
+        Some(groups) => {
+            assert!(rt; (groups[0], groups[1]) == (Some((0, 3)), Some((0, 1))));
+            assert!(rt; (groups[2], groups[3]) == (Some((2, 2)), Some((2, 3))));
+            assert!(rt; groups[4].is_none());
+        }
+        None => assert!(rt; false),
+    }
+    assert!(rt; (tick.count(), tick.wholes()) == (0, 1));
     Ok(())
 }
 
