@@ -35,7 +35,7 @@ $(program): crate := rope_search_cli
 bin/rope-driver: crate := rope_driver
 bin/search-driver: crate := search_driver
 minutes := some minutes
-$(program): minutes := ten minutes on four cores
+$(program): minutes := some half an hour on four cores
 
 programs: $(programs)
 

@@ -49,7 +49,7 @@ MEMBERS = [
     ("(?i)[^k]", "j", "kK\u212a"),
     ("(?i)[\\w]", "k", "-"),
     ("(?i)[^\\w-]", "+", "-k"),
-    ("(?i)[^a-f\\d]", "x", "D7"),
+    ("(?i)[^a-f\\d]", "x", "7D"),
 ]
 
 # Sets that are searched for in every scalar value, by runs of members, and what Python judges of a character.

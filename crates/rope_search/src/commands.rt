@@ -43,9 +43,9 @@ pub enum CommandOf<P> {
     Off,
     /// Shows the chosen buffer's report. Refused with `Fault::Nothing` where it has no pattern.
     List,
-    /// Finds the first match in the chosen buffer's whole text that starts at the position or behind
-    /// it. Refused with `Fault::Nothing` where the buffer has no pattern, `Fault::Range` where the
-    /// position is nowhere in the text, or `Fault::Memory`.
+    /// Finds the first match in the chosen buffer's whole text that starts at the position or
+    /// behind it. Refused with `Fault::Nothing` where the buffer has no pattern, `Fault::Range`
+    /// where the position is nowhere in the text, or `Fault::Memory`.
     Next(Position),
     /// Chooses a buffer by its number, from 0. Refused with `Fault::Nothing` where there is none.
     Use(u64),

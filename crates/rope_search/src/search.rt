@@ -92,8 +92,8 @@ impl Search {
     }
 
     /// The first match in a whole text that starts at a position or behind it: the positions where
-    /// it starts and where it ends, or none. It is refused with `Fault::Range` where the position is
-    /// nowhere in the text, and perhaps with `Fault::Memory`. The report is as before.
+    /// it starts and where it ends, or none. It is refused with `Fault::Range` where the position
+    /// is nowhere in the text, and perhaps with `Fault::Memory`. The report is as before.
     pub fn next_from(
         &mut self,
         tick: &mut Lines,

@@ -87,8 +87,8 @@ impl Lines {
     }
 }
 
-/// A pattern that is ready to search, with what its searches keep from one to the next: all of it is
-/// made once. It can't be copied.
+/// A pattern that is ready to search, with what its searches keep from one to the next: all of it
+/// is made once. It can't be copied.
 #[derive(Drop)]
 pub struct Finder {
     alloc: Global,

@@ -14,8 +14,9 @@ use rope_search_io::Fault;
 use ropey::RopeSlice;
 use std::alloc::Global;
 
-/// Groups 0 to 9 of a match: of each the byte indices of its start and its end. Group 0 is the whole
-/// match; a group that the pattern doesn't have, or that takes no part in the match, is `None`.
+/// Groups 0 to 9 of a match: of each the byte indices of its start and its end. Group 0 is the
+/// whole match; a group that the pattern doesn't have, or that takes no part in the match, is
+/// `None`.
 pub type Groups = [Option<(usize, usize)>; 10];
 
 /// How many slots `Groups` have.
@@ -56,8 +57,8 @@ fn groups_in(slots: &[Option<NonMaxUsize>; SLOT_COUNT]) -> Groups
     groups
 }
 
-/// The span of what is found in an input's content from a place on. The places of its groups are put
-/// into the slots, of which there are two or more.
+/// The span of what is found in an input's content from a place on. The places of its groups are
+/// put into the slots, of which there are two or more.
 pub fn find(
     regex: &Regex,
     cache: &mut Cache,

@@ -69,8 +69,8 @@ fn rows_that_runs_make(rt: HostRuntime) -> Result<(), Fail> {
     Ok(())
 }
 
-/// Each search of a whole text is counted, and makes no row; one that is refused for its position is
-/// none.
+/// Each search of a whole text is counted, and makes no row; one that is refused for its position
+/// is none.
 #[test]
 fn whole_searches_that_runs_make(rt: HostRuntime) -> Result<(), Fail> {
     let input = b"text 3\nabapattern 3\n\\b.next 0 1\nnext 0 3\nnext 0 4\nlist\n";
