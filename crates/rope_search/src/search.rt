@@ -70,9 +70,8 @@ impl Search {
         new: &Rope,
         changes: &[Change],
     ) -> Result<Patches, Fault>
-        ghost lines: { ℕ }
         requires report { IsReport (text_of old.now) self.old.finder self.old.rows.items }
-        requires changed { AreChanges changes.now 0 0 (text_of old.now) (text_of new.now) lines }
+        requires changed { (n : ℕ) × AreChanges changes.now 0 0 (text_of old.now) (text_of new.now) n }
         ensures fit { IfOk result (λ patches. FitIn self.new patches) }
         ensures report { IfOk result (λ patches.
             IsReport (text_of new.now) self.old.finder
@@ -82,7 +81,8 @@ impl Search {
         ensures fault { IfErr result (λ fault. fault ≡ Fault.Memory) }
         ensures finder { self.new.finder ≡ self.old.finder }
         ensures rows { self.new.rows.items ≡ self.old.rows.items }
-        ensures count { tick.new.count ≤ tick.old.count + lines }
+        ensures count { (n : ℕ) → AreChanges changes.now 0 0 (text_of old.now) (text_of new.now) n
+            → tick.new.count ≤ tick.old.count + n }
         ensures wholes { tick.new.wholes ≡ tick.old.wholes }
     {
         // Laws, and the old text's facts, for the proof alone.

@@ -37,10 +37,9 @@ pub fn patches_of(
     new: &Rope,
     changes: &[Change],
 ) -> Result<Vec<Patch>, Fault>
-    ghost lines: { ℕ }
     requires old_fits { line_count (text_of old.now) < 2 ^ 64 }
     requires new_fits { line_count (text_of new.now) < 2 ^ 64 }
-    requires changed { AreChanges changes.now 0 0 (text_of old.now) (text_of new.now) lines }
+    requires changed { (n : ℕ) × AreChanges changes.now 0 0 (text_of old.now) (text_of new.now) n }
     ensures turn { IfOk result (λ patches.
         AreInTurn 0 (length (line_texts (text_of old.now))) patches.items) }
     ensures report { IfOk result (λ patches. (rows : List (List (ℕ × ℕ)))
@@ -48,7 +47,8 @@ pub fn patches_of(
         → IsReport (text_of new.now) finder.old (patched 0 rows patches.items)) }
     ensures fault { IfErr result (λ fault. fault ≡ Fault.Memory) }
     ensures finder { finder.new ≡ finder.old }
-    ensures count { tick.new.count ≤ tick.old.count + lines }
+    ensures count { (n : ℕ) → AreChanges changes.now 0 0 (text_of old.now) (text_of new.now) n
+        → tick.new.count ≤ tick.old.count + n }
     ensures once { tick.new.count ≤ tick.old.count + line_count (text_of new.now) }
     ensures wholes { tick.new.wholes ≡ tick.old.wholes }
 {
