@@ -179,7 +179,7 @@ last-put at rows (q ∷ ps) p turn =
     let last = last-turn q.end (length rows) ps p turn.2 in
     let behind = p.made.items ++ drop p.end rows in
     ap (λ xs. xs ++ q.made.items ++ patched q.end (take p.first rows ++ behind) ps)
-        (before-patch at p.first (q.first - at) rows behind (omega (arith, turn.0, turn.1, last.behind)) (omega (arith, last.ordered, last.within)))
+    (before-patch at p.first (q.first - at) rows behind (omega (arith, turn.0, turn.1, last.behind)) (omega (arith, last.ordered, last.within)))
     ∙ ap (λ xs. take (q.first - at) (drop at rows) ++ q.made.items ++ xs) (last-put q.end rows ps p turn.2)
 
 -- the last patches are put, and the first ones are left
