@@ -11,6 +11,7 @@ pub mod PatchLemmas
 pub mod PayloadLemmas
 pub mod PutLemmas
 pub mod ReadLaws
+pub mod ReplaceLaws
 pub mod RequestLemmas
 pub mod RunEndings
 pub mod RunLaws
