@@ -1,0 +1,2 @@
+pub mod ExpandLemmas
+pub mod PieceLemmas
