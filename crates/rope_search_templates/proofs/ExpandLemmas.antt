@@ -1,6 +1,6 @@
 -- What a template stands for, piece by piece.
-use Rattle.std.proofs.Common.{◌≡◌, ℕ, ◌-◌, ◌<◌, ◌≤◌, ◌==◌, Bool, true, false, List, [], ◌∷◌, ◌++◌, refl, ap, sym, ◌∙◌, arith}
-use Rattle.std.proofs.lemmas.Bool.{cond-true, cond-false}
+use Rattle.std.proofs.Common.{◌≡◌, ℕ, ◌-◌, ◌≤◌, ◌==◌, ◌&&◌, Bool, true, false, List, [], ◌∷◌, ◌++◌, refl, ap, ◌∙◌, arith, inl, inr}
+use Rattle.std.proofs.lemmas.Bool.{cases_Bool}
 use Rattle.std.proofs.lemmas.Bool.Decides.{nat_tests}
 use Rattle.std.specs.Str.{NonePass}
 use Rattle.rope_search_reports.specs.Replacement.{Groups, expand, group_text, is_digit}
@@ -60,3 +60,16 @@ names-group d cs low high =
     let other : is_dollar d ≡ false = grind (arith, nat_tests) in
     let digit : is_digit d ≡ true = grind (arith, nat_tests) in
     rw (other, digit) refl
+
+-- where none is named, it is one text
+pub expand-fixed : (content : List ℕ) (groups : Groups) (template : List ℕ) → names_groups template ≡ false
+    → expand content groups template ≡ expand [] [] template
+expand-fixed content groups [] none = refl
+expand-fixed content groups (c ∷ []) none = refl
+expand-fixed content groups (c ∷ d ∷ rest) none = elim (cases_Bool ((c == 36) && (d == 36))) [
+  | inl pair ↦ rw pair (ap (λ cs. 36 ∷ cs) (expand-fixed content groups rest (rw pair at none)))
+  | inr other ↦ elim (cases_Bool ((c == 36) && is_digit d)) [
+    | inl named ↦ let is : true ≡ false = rw (other, named) at none in absurd (cc)
+    | inr more ↦ rw (other, more) (ap (λ cs. c ∷ cs) (expand-fixed content groups (d ∷ rest) (rw (other, more) at none)))
+  ]
+]

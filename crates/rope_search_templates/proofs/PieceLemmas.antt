@@ -1,6 +1,6 @@
 -- A template's first piece, by its bytes.
-use Rattle.std.proofs.Common.{◌≡◌, ℕ, zero, suc, ◌+◌, ◌-◌, ◌<◌, ◌≤◌, ◌==◌, Bool, true, false, List, [], ◌∷◌, ◌++◌, length, take, drop, slice_index, slice_index_or, refl, ap, sym, subst, ◌∙◌, inl, inr, arith, IsUtf8, encode_utf8_all, encode_utf8, nat_lt, lit<, length-append, Option, Some, None, ◌⊎◌, ◌≢◌}
-use Rattle.std.proofs.lemmas.Bool.{cases_Bool, eqb-true, eqb-false, eq-eqb, ne_eqb}
+use Rattle.std.proofs.Common.{◌≡◌, ℕ, zero, suc, ◌+◌, ◌-◌, ◌<◌, ◌≤◌, false, List, [], ◌∷◌, ◌++◌, length, take, drop, slice_index, refl, ap, sym, subst, ◌∙◌, inl, inr, arith, IsUtf8, encode_utf8_all, encode_utf8, nat_lt, lit<, length-append, Option, Some, None}
+use Rattle.std.proofs.lemmas.Bool.{cases_Bool, eqb-true, eqb-false, eq-eqb}
 use Rattle.std.proofs.lemmas.Bool.Decides.{nat_tests}
 use Rattle.std.proofs.lemmas.List.{get_or-append-add, take-append-drop, get_or-take, length-take}
 use Rattle.std.proofs.lemmas.Str.{encode_ascii, encodes-chars, chars_past_char, IsUtf8-past_char, chars-append, chars-nil, IsCharBoundary-after_ascii}
@@ -8,8 +8,7 @@ use Rattle.std.specs.Str.{chars, NonePass, IsCharBoundary}
 use Rattle.std.specs.Borrow.{Bor}
 use Rattle.std.specs.Option.{unwrap_or}
 use Rattle.memchr.specs.Find.{IsFirstByte, is_byte}
-use Rattle.rope_search_reports.specs.Replacement.{Groups, expand, is_digit}
-use Rattle.rope_search_templates.specs.Templates.{names_groups}
+use Rattle.rope_search_reports.specs.Replacement.{expand, is_digit}
 use Rattle.rope_search_templates.specs.Pieces.{BeginsWith, IsFirstPiece, StartsPlain}
 use Rattle.rope_search_templates.specs.declared.pieces.Piece.{Piece}
 use Rattle.rope_search_templates.specs.declared.pieces.Piece.TheVariants.{Text, Group}

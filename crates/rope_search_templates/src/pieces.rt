@@ -4,6 +4,7 @@ ghost use Rattle.std.specs.Str.{chars};
 ghost use Rattle.rope_search_templates.specs.Pieces.{BeginsWith, GivesPiece, IsFirstPiece, StartsPlain};
 
 use memchr::memchr;
+use rope_search_reports::Groups;
 use std::iter::FusedIterator;
 use std::marker::Model;
 
@@ -14,6 +15,31 @@ pub enum Piece<'a> {
     Text(&'a str),
     /// It stands for the text of the group with this number, which is 0 to 9.
     Group(usize),
+}
+
+impl Piece<'_> {
+    ghost use Rattle.std.specs.Prelude.{◌≡◌, ℕ, List};
+    ghost use Rattle.str_indices.specs.Text.{byte_len};
+    ghost use Rattle.rope_search_reports.specs.Text.{IsText, bytes_of};
+    ghost use Rattle.rope_search_reports.specs.Replacement.{HasSpansIn};
+    ghost use Rattle.rope_search_templates.specs.Pieces.{IsPiece, shown};
+
+    /// How many bytes of UTF-8 it stands for at a match, which is told by its groups.
+    pub fn len(self, groups: &Groups) -> usize
+        ghost text: { List ℕ }
+        requires piece { IsPiece self }
+        requires text { IsText text }
+        requires spans { HasSpansIn (bytes_of text) groups.now }
+        ensures { result ≡ byte_len (shown (bytes_of text) groups.now self.entry) }
+    {
+        match self {
+            Piece::Text(part) => part.len(),
+            Piece::Group(number) => match groups[number] {
+                Some((start, end)) => end - start,
+                None => 0,
+            },
+        }
+    }
 }
 
 /// What a template begins with that is told by two characters: a dollar, and another one or a

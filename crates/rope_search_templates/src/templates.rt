@@ -90,14 +90,7 @@ impl<'a> Template<'a> {
     {
         let mut left = limit;
         for piece in self.pieces() {
-            let len = match piece {
-                Piece::Text(text) => text.len(),
-                Piece::Group(number) => match groups[number] {
-                    Some((start, end)) => end - start,
-                    None => 0,
-                },
-            };
-            left = left.checked_sub(len)?;
+            left = left.checked_sub(piece.len(groups))?;
         }
         Some(limit - left)
     }
