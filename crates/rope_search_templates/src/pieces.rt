@@ -26,11 +26,10 @@ impl Piece<'_> {
 
     /// How many bytes of UTF-8 it stands for at a match, which is told by its groups.
     pub fn len(self, groups: &Groups) -> usize
-        ghost text: { List ℕ }
         requires piece { IsPiece self }
-        requires text { IsText text }
-        requires spans { HasSpansIn (bytes_of text) groups.now }
-        ensures { result ≡ byte_len (shown (bytes_of text) groups.now self.entry) }
+        requires spans { (text : List ℕ) × IsText text × HasSpansIn (bytes_of text) groups.now }
+        ensures { (text : List ℕ) → IsText text → HasSpansIn (bytes_of text) groups.now
+            → result ≡ byte_len (shown (bytes_of text) groups.now self.entry) }
     {
         match self {
             Piece::Text(part) => part.len(),

@@ -82,10 +82,9 @@ impl<'a> Template<'a> {
     /// they are more than `limit`. It reads no further than to where they are. `O(m)` for a
     /// template of m bytes, however long the groups are.
     pub fn len_within(&self, limit: usize, groups: &Groups) -> Option<usize>
-        ghost text: { List ℕ }
-        requires text { IsText text }
-        requires spans { HasSpansIn (bytes_of text) groups.now }
-        ensures { let len = byte_len (expand (bytes_of text) groups.now self.now) in
+        requires { (text : List ℕ) × IsText text × HasSpansIn (bytes_of text) groups.now }
+        ensures { (text : List ℕ) → IsText text → HasSpansIn (bytes_of text) groups.now
+            → let len = byte_len (expand (bytes_of text) groups.now self.now) in
             SomeIff result (len ≤ limit) len }
     {
         let mut left = limit;
