@@ -1,7 +1,10 @@
 //! The pieces of a template.
-ghost use Rattle.rope_search_templates.specs.Pieces.{GivesPiece};
+ghost use Rattle.std.specs.Prelude.{◌≡◌, [], drop, slice_index, IfNone, IfSome};
+ghost use Rattle.std.specs.Str.{chars};
+ghost use Rattle.rope_search_templates.specs.Pieces.{BeginsWith, GivesPiece, IsFirstPiece, StartsPlain};
 
 use memchr::memchr;
+use rope_search_reports::Groups;
 use std::iter::FusedIterator;
 use std::marker::Model;
 
@@ -12,6 +15,64 @@ pub enum Piece<'a> {
     Text(&'a str),
     /// It stands for the text of the group with this number, which is 0 to 9.
     Group(usize),
+}
+
+impl Piece<'_> {
+    ghost use Rattle.std.specs.Prelude.{◌≡◌, ℕ, List};
+    ghost use Rattle.str_indices.specs.Text.{byte_len};
+    ghost use Rattle.rope_search_reports.specs.Text.{IsText, bytes_of};
+    ghost use Rattle.rope_search_reports.specs.Replacement.{HasSpansIn};
+    ghost use Rattle.rope_search_templates.specs.Pieces.{IsPiece, shown};
+
+    /// How many bytes of UTF-8 it stands for at a match, which is told by its groups.
+    pub fn len(self, groups: &Groups) -> usize
+        requires piece { IsPiece self }
+        requires spans { (text : List ℕ) × IsText text × HasSpansIn (bytes_of text) groups.now }
+        ensures { (text : List ℕ) → IsText text → HasSpansIn (bytes_of text) groups.now
+            → result ≡ byte_len (shown (bytes_of text) groups.now self.entry) }
+    {
+        match self {
+            Piece::Text(part) => part.len(),
+            Piece::Group(number) => match groups[number] {
+                Some((start, end)) => end - start,
+                None => 0,
+            },
+        }
+    }
+}
+
+/// What a template begins with that is told by two characters: a dollar, and another one or a
+/// digit. None where it begins otherwise; a dollar that comes first then stands for itself.
+fn pair(left: &str) -> Option<Piece<'_>>
+    ensures pair { IfSome result (BeginsWith left.now) }
+    ensures none { IfNone result (slice_index left.now 0 ≡ 36 → StartsPlain (drop 1 left.now)) }
+{
+    let [b'$', second, ..] = left.as_bytes() else {
+        return None;
+    };
+    match *second {
+        // The second one stays.
+        b'$' => Some(Piece::Text(&left[1..2])),
+        b'0'..=b'9' => Some(Piece::Group((*second - b'0') as usize)),
+        _ => None,
+    }
+}
+
+/// The first piece of what is left of a template, and what is left behind it. None where nothing is
+/// left.
+fn first_piece(left: &str) -> Option<(Piece<'_>, &str)>
+    ensures none { IfNone result (chars left.now ≡ []) }
+    ensures piece { IfSome result (λ first.
+        IsFirstPiece (chars left.now) first.0 (chars first.1.now)) }
+{
+    let [_, behind @ ..] = left.as_bytes() else {
+        return None;
+    };
+    if let Some(piece) = pair(left) {
+        return Some((piece, &left[2..]));
+    }
+    let len = 1 + memchr(b'$', behind).unwrap_or(behind.len());
+    Some((Piece::Text(&left[..len]), &left[len..]))
 }
 
 /// The pieces of a template, from a place on. Contracts see the characters that are left.
@@ -47,25 +108,15 @@ impl<'a> Iterator for Pieces<'a> {
     type Item = Piece<'a>;
 
     ghost use Rattle.std.specs.Prelude.{length};
+    ghost use Rattle.std.specs.Iterator.{at_most};
 
     ghost next_gives = { GivesPiece };
 
-    ghost remaining = { λ left. Some (length left) };
+    ghost remaining = { λ left. at_most (length left) };
 
     fn next(&mut self) -> Option<Piece<'a>> {
-        let left = self.left;
-        let (piece, len) = match left.as_bytes() {
-            [] => return None,
-            // The second one stays.
-            [b'$', b'$', ..] => (Piece::Text(&left[1..2]), 2),
-            [b'$', digit @ b'0'..=b'9', ..] => (Piece::Group((*digit - b'0') as usize), 2),
-            // A dollar that comes first here stands for itself.
-            [_, behind @ ..] => {
-                let len = 1 + memchr(b'$', behind).unwrap_or(behind.len());
-                (Piece::Text(&left[..len]), len)
-            }
-        };
-        self.left = &left[len..];
+        let (piece, left) = first_piece(self.left)?;
+        self.left = left;
         Some(piece)
     }
 }

@@ -82,22 +82,14 @@ impl<'a> Template<'a> {
     /// they are more than `limit`. It reads no further than to where they are. `O(m)` for a
     /// template of m bytes, however long the groups are.
     pub fn len_within(&self, limit: usize, groups: &Groups) -> Option<usize>
-        ghost text: { List ℕ }
-        requires text { IsText text }
-        requires spans { HasSpansIn (bytes_of text) groups.now }
-        ensures { let len = byte_len (expand (bytes_of text) groups.now self.now) in
+        requires { (text : List ℕ) × IsText text × HasSpansIn (bytes_of text) groups.now }
+        ensures { (text : List ℕ) → IsText text → HasSpansIn (bytes_of text) groups.now
+            → let len = byte_len (expand (bytes_of text) groups.now self.now) in
             SomeIff result (len ≤ limit) len }
     {
         let mut left = limit;
         for piece in self.pieces() {
-            let len = match piece {
-                Piece::Text(text) => text.len(),
-                Piece::Group(number) => match groups[number] {
-                    Some((start, end)) => end - start,
-                    None => 0,
-                },
-            };
-            left = left.checked_sub(len)?;
+            left = left.checked_sub(piece.len(groups))?;
         }
         Some(limit - left)
     }

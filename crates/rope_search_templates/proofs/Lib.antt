@@ -1,0 +1,3 @@
+pub mod ExpandLemmas
+pub mod PieceLemmas
+pub mod SpanLemmas
