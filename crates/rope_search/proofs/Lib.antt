@@ -1,5 +1,6 @@
 pub mod AnswerLaws
 pub mod EditLemmas
+pub mod ReplaceLemmas
 pub mod HeaderLemmas
 pub mod ListingLemmas
 pub mod HistoryLaws

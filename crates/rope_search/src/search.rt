@@ -85,10 +85,11 @@ impl Search {
             → tick.new.count ≤ tick.old.count + n }
         ensures wholes { tick.new.wholes ≡ tick.old.wholes }
     {
-        // Laws, and the old text's facts, for the proof alone.
+        // Laws, and the texts' facts, for the proof alone.
         rope_search_reports::laws::few_matches();
         rope_search_reports::laws::a_row_a_line();
         let _ = old.len_lines();
+        let _ = new.len_bytes();
         let len = new.len_lines();
         let patches = patches_of(tick, alloc, &mut self.finder, old, new, changes)?;
         let room = room_for(alloc, &mut self.rows, &patches, len)?;

@@ -1,8 +1,8 @@
 -- Rows that are moved one by one, and patches put in their places.
-use Rattle.std.proofs.Common.{◌≡◌, MatchOption, ℕ, zero, suc, ◌+◌, ◌-◌, ◌<◌, ◌≤◌, List, [], ◌∷◌, ◌++◌, length, take, drop, Option, None, Some, sym, ap, ◌∙◌, subst, arith, append_assoc, length-append, length-take, length-drop, sum_by}
+use Rattle.std.proofs.Common.{◌≡◌, MatchOption, ℕ, zero, suc, ◌+◌, ◌-◌, ◌<◌, ◌≤◌, List, [], ◌∷◌, ◌++◌, length, take, drop, Option, None, Some, sym, ap, ◌∙◌, subst, arith, append_assoc, length-append, length-take, length-drop}
 use Rattle.std.specs.Option.{option_to_list}
 use Rattle.std.proofs.lemmas.List.{drop-drop, take_all, drop-append-le, take-append-le, take-take, drop-take, length-take-le}
-use Rattle.std.proofs.lemmas.List.Sums.{sum_by-append, sum_by-drop_more, sum_by-cons}
+use Rattle.std.proofs.lemmas.List.Sums.{sum_by-append, sum_by-cons}
 use Rattle.rope_search_reports.specs.declared.patches.Patch.{Patch}
 use Rattle.rope_search_reports.specs.Patches.{patched, AreInTurn, made_by}
 
@@ -212,15 +212,3 @@ IsPutDown-step old all rows rows' patches ps p room room' is put rows-is more =
       whole = ap (λ xs. patched 0 xs ps) joined ∙ last-put 0 rows ps p turn ∙ ap (patched 0 rows) (sym is) ∙ put.whole;
       fits = omega (arith, put.fits, long, made, last.ordered, last.within, more);
     }
-
--- the rows of patches are rows of the patched list
-pub made-within : (at : ℕ) (rows : List (List (ℕ × ℕ))) (patches : List Patch) → made_by patches ≤ length (patched at rows patches)
-made-within at rows [] = omega arith
-made-within at rows (p ∷ ps) =
-    omega (
-      arith,
-      made-within p.end rows ps,
-      sum_by-cons (λ (q : Patch). length q.made.items) p ps,
-      length-append (take (p.first - at) (drop at rows) ++ p.made.items) (patched p.end rows ps),
-      length-append (take (p.first - at) (drop at rows)) p.made.items,
-    )

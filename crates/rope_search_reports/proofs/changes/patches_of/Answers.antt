@@ -4,6 +4,8 @@ use Rattle.rope_search_reports.specs.Position.{line_at}
 use Rattle.rope_search_reports.specs.Text.{line_count}
 use Rattle.ropey.specs.Chunks.{text_of}
 use Rattle.rope_search_reports.proofs.WeaveLemmas.{Woven, change_at, next-at, Woven-at, Woven-start, Woven-step, Woven-turn, Woven-report, start-is, ordered-at, count-at, rows-at, once-at, drop-none, max-is}
+use Rattle.rope_search_reports.specs.Patches.{AreInTurn}
+use Rattle.rope_search_reports.proofs.LineLemmas.{lines-counted}
 use Rattle.rope_search_reports.proofs.changes.patches_of.Goals as goal
 
 pub loop-change-init : goal.loop-change-init
@@ -77,7 +79,10 @@ loop-change-preserved c =
     )
 
 pub returns-clause-turn : goal.returns-clause-turn
-returns-clause-turn c = Woven-turn _ _ _ _ _ _ _ _ (c.loop-change.invariant.0 c.requires.changed.0 c.requires.changed.1).1
+returns-clause-turn c =
+    let patches = c.loop-change.patches.items in
+    subst (λ n. AreInTurn 0 n patches) (lines-counted (text_of c.args.old.now))
+    (Woven-turn _ _ _ _ _ _ _ _ (c.loop-change.invariant.0 c.requires.changed.0 c.requires.changed.1).1)
 
 pub returns-clause-report : goal.returns-clause-report
 returns-clause-report c = Woven-report _ _ _ _ _ _ _ _ (drop-none c.loop-change.change-index c.args.changes.now c.loop-change-test.false) (c.loop-change.invariant.0 c.requires.changed.0 c.requires.changed.1).1

@@ -1,12 +1,10 @@
-use Rattle.std.proofs.Common.{rules, ◌≡◌, ℕ, ◌+◌, ◌^◌, ◌<◌, ◌↔◌, List, [], ◌∷◌, length, IsTrue, IfOk, IfErr, IfSome, IfNone, ◌-◌, ◌*◌, ◌≤◌, ◌/◌, ◌%◌, Bool, true, false, nat_eq, nat_lt, ◌++◌, slice_index_or, slice_set, bit_and, bit_or, Fits, w8, w32, w64, Bor, MutBor}
+use Rattle.std.proofs.Common.{◌+◌, length, ap, arith}
 use Rattle.std.specs.Str.{chars}
-use Rattle.str_indices.specs.Text.{byte_len}
-use Rattle.ropey.specs.Chunks.{text_of}
-use Rattle.rope_search_reports.specs.Text.{line_count}
-use Rattle.rope_search_reports.specs.Changes.{AreChanges}
-use Rattle.rope_search.specs.Places.{HasNoneBetween, IsMarked, IsMarkedBetween, with_replaced}
+use Rattle.std.proofs.lemmas.Str.{encodes-chars}
+use Rattle.rope_search.proofs.PatchLemmas.{change_of}
 use Rattle.rope_search.proofs.parts.Part.change.Goals as goal
 
--- src/parts.rt:77:5
 pub returns : goal.returns
-returns c = ?
+returns c = λ text marked.
+    let bytes = ap length (encodes-chars c.args.inserted.now c.utf8.inserted) in
+    change_of text (chars c.args.inserted.now) c.args.self c.result marked (omega arith) (omega arith) (omega (arith, bytes))
