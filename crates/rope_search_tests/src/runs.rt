@@ -80,15 +80,21 @@ fn whole_searches_that_runs_make(rt: HostRuntime) -> Result<(), Fail> {
     Ok(())
 }
 
-/// How many rows the last command of an input makes, if the run ends well, and all before it.
-fn rows_of_last(rt: &HostRuntime, before: &[u8], last: &[u8]) -> Result<Option<(u64, u64)>, Fail> {
+/// How many rows the last command of an input makes, if the run ends well, and all before it. It
+/// searches whole texts this often, and none before it does.
+fn rows_of_last(
+    rt: &HostRuntime,
+    before: &[u8],
+    last: &[u8],
+    wholes: u64,
+) -> Result<Option<(u64, u64)>, Fail> {
     let mut input = Vec::new(rt.alloc());
     input.extend_from_slice(before)?;
     let first = run_once(rt, input.as_slice(), Limits::default(), AMPLE)?;
     input.extend_from_slice(last)?;
     let both = run_once(rt, input.as_slice(), Limits::default(), AMPLE)?;
     let ended = first.result == Ok(Ended::Input) && both.result == Ok(Ended::Input);
-    if !ended || both.wholes != 0 || both.rows < first.rows {
+    if !ended || (first.wholes, both.wholes) != (0, wholes) || both.rows < first.rows {
         return Ok(None);
     }
     Ok(Some((both.rows - first.rows, first.rows)))
@@ -105,7 +111,7 @@ fn most_rows_of_edits_at_seams(rt: HostRuntime) -> Result<(), Fail> {
         (b"text 5\nx\rb\nypattern 1\ny", b"edit 1 0 1 1 2\n\n\r", 3),
     ];
     for (before, edit, most) in cases {
-        let rows = rows_of_last(&rt, before, edit)?;
+        let rows = rows_of_last(&rt, before, edit, 0)?;
         match rows {
             None => assert!(rt; false),
             Some((rows, _)) => assert!(rt; rows <= most),
@@ -122,8 +128,29 @@ fn a_letter_in_ten_thousand_lines(rt: HostRuntime) -> Result<(), Fail> {
         before.extend_from_slice(b"some line\n")?;
     }
     before.extend_from_slice(b"pattern 4\nline")?;
-    let rows = rows_of_last(&rt, before.as_slice(), b"edit 5000 5 5000 5 1\nx")?;
+    let rows = rows_of_last(&rt, before.as_slice(), b"edit 5000 5 5000 5 1\nx", 0)?;
     assert!(rt; rows == Some((1, 10_000)));
+    Ok(())
+}
+
+/// A match may start or end between a CR and an LF, and part them; what takes its place may join
+/// them. Where there is none no line is searched.
+#[test]
+fn most_rows_of_replacements(rt: HostRuntime) -> Result<(), Fail> {
+    let cases: [(&[u8], &[u8], u64); 5] = [
+        (b"text 4\na\r\nbpattern 1\n\n", b"replace 0\n", 1),
+        (b"text 5\na\rx\nypattern 1\nx", b"replace 0\n", 1),
+        (b"text 4\na\r\nbpattern 2\n\r\n", b"replace 2\n\n\r", 3),
+        (b"text 2\nabpattern 2\nx*", b"replace 1\n-", 3),
+        (b"text 1\napattern 1\nb", b"replace 1\nc", 0),
+    ];
+    for (before, replace, most) in cases {
+        let rows = rows_of_last(&rt, before, replace, 1)?;
+        match rows {
+            None => assert!(rt; false),
+            Some((rows, _)) => assert!(rt; rows <= most),
+        }
+    }
     Ok(())
 }
 
