@@ -5,7 +5,7 @@ ghost use Rattle.str_indices.specs.Text.{byte_len};
 ghost use Rattle.ropey.specs.Chunks.{text_of};
 ghost use Rattle.ropey_walk.specs.Slices.{slice_text};
 ghost use Rattle.rope_search_reports.specs.Text.{IsText, bytes_of};
-ghost use Rattle.rope_search_reports.specs.Replacement.{Groups, HasSpansIn, between, expand};
+ghost use Rattle.rope_search_reports.specs.Replacement.{Groups, HasSpansIn, expand};
 ghost use Rattle.rope_search_templates.specs.Templates.{names_groups};
 ghost use Rattle.rope_search_templates.specs.Pieces.{IsPiece, shown};
 
