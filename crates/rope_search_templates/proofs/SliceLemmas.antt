@@ -1,11 +1,10 @@
 -- The texts of slices of a rope.
-use Rattle.std.proofs.Common.{◌≡◌, ℕ, zero, suc, ◌+◌, ◌-◌, ◌<◌, ◌≤◌, ◌==◌, true, false, List, [], ◌∷◌, ◌++◌, length, take, drop, nat_lt, chars, refl, sym, ap, subst, ◌∙◌, arith, length-append, IsUtf8}
+use Rattle.std.proofs.Common.{◌≡◌, ℕ, zero, suc, ◌+◌, ◌-◌, ◌≤◌, ◌==◌, true, false, List, [], ◌∷◌, ◌++◌, length, take, drop, nat_lt, chars, refl, sym, ap, ◌∙◌, arith, length-append, IsUtf8}
 use Rattle.std.specs.Str.{IsCharBoundary}
 use Rattle.std.proofs.lemmas.Bool.{cond-true, cond-false}
 use Rattle.std.proofs.lemmas.Bool.Decides.{nat_tests}
 use Rattle.std.proofs.lemmas.List.{take_all, drop-take, nil_from_length}
 use Rattle.std.proofs.lemmas.Str.{IsUtf8-between, IsUtf8-drop, chars_from_encodes}
-use Rattle.str_indices.specs.Text.{byte_len}
 use Rattle.ropey.specs.Chunks.{text_of}
 use Rattle.ropey.specs.Slices.{pieces_from_char, pieces_to_char, clip}
 use Rattle.rope_search_reports.specs.Text.{bytes_of}
