@@ -1,3 +1,5 @@
 pub mod ExpandLemmas
 pub mod PieceLemmas
 pub mod SpanLemmas
+pub mod PushLemmas
+pub mod SliceLemmas

@@ -5,8 +5,9 @@ ghost use Rattle.str_indices.specs.Text.{byte_len};
 ghost use Rattle.ropey.specs.Chunks.{text_of};
 ghost use Rattle.ropey_walk.specs.Slices.{slice_text};
 ghost use Rattle.rope_search_reports.specs.Text.{IsText, bytes_of};
-ghost use Rattle.rope_search_reports.specs.Replacement.{Groups, HasSpansIn, between, expand};
+ghost use Rattle.rope_search_reports.specs.Replacement.{Groups, HasSpansIn, expand};
 ghost use Rattle.rope_search_templates.specs.Templates.{names_groups};
+ghost use Rattle.rope_search_templates.specs.Pieces.{IsPiece, shown};
 
 use crate::pieces::{Piece, Pieces};
 use rope_search_reports::Groups;
@@ -46,6 +47,35 @@ fn push_slice(slice: RopeSlice<'_>, out: &mut String) -> Result<(), AllocError>
         out.push_str(chunk)?;
     }
     Ok(())
+}
+
+/// Puts what a piece of a template stands for behind what `out` has. Where memory is refused, a
+/// front of it may have been put there.
+fn push_piece(
+    piece: Piece<'_>,
+    text: &Rope,
+    groups: &Groups,
+    out: &mut String,
+) -> Result<(), AllocError>
+    requires piece { IsPiece piece }
+    requires spans { HasSpansIn (bytes_of (text_of text.now)) groups.now }
+    ensures pushed { OnOk result (chars (string_bytes out.new) ≡ chars (string_bytes out.old)
+        ++ shown (bytes_of (text_of text.now)) groups.now piece.entry) }
+    ensures front { OnErr result ((len : ℕ) × (chars (string_bytes out.new) ≡
+        chars (string_bytes out.old)
+        ++ take len (shown (bytes_of (text_of text.now)) groups.now piece.entry))) }
+{
+    match piece {
+        Piece::Text(part) => out.push_str(part),
+        Piece::Group(number) => {
+            let Some((start, end)) = groups[number] else {
+                return Ok(());
+            };
+            // For its facts alone.
+            let _ = text.len_bytes();
+            push_slice(text.slice(..).byte_slice(start..end), out)
+        }
+    }
 }
 
 impl<'a> Template<'a> {
@@ -107,14 +137,7 @@ impl<'a> Template<'a> {
             ++ take len (expand (bytes_of (text_of text.now)) groups.now self.now))) }
     {
         for piece in self.pieces() {
-            match piece {
-                Piece::Text(part) => out.push_str(part)?,
-                Piece::Group(number) => {
-                    if let Some((start, end)) = groups[number] {
-                        push_slice(text.byte_slice(start..end), out)?;
-                    }
-                }
-            }
+            push_piece(piece, text, groups, out)?;
         }
         Ok(())
     }

@@ -1,4 +1,4 @@
-use Rattle.std.proofs.Common.{◌≡◌, ℕ, ap, sym, subst, length, arith, ◌<◌}
+use Rattle.std.proofs.Common.{ℕ, ap, sym, subst, length, arith, ◌<◌}
 use Rattle.std.proofs.lemmas.Str.{encodes-chars}
 use Rattle.rope_search_reports.specs.Text.{bytes_of}
 use Rattle.rope_search_templates.specs.Pieces.{IsPiece}
