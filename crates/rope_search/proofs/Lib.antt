@@ -1,5 +1,6 @@
 pub mod AnswerLaws
 pub mod EditLemmas
+pub mod ReplaceLemmas
 pub mod HeaderLemmas
 pub mod ListingLemmas
 pub mod HistoryLaws
@@ -11,6 +12,7 @@ pub mod PatchLemmas
 pub mod PayloadLemmas
 pub mod PutLemmas
 pub mod ReadLaws
+pub mod ReplaceLaws
 pub mod RequestLemmas
 pub mod RunEndings
 pub mod RunLaws

@@ -80,15 +80,21 @@ fn whole_searches_that_runs_make(rt: HostRuntime) -> Result<(), Fail> {
     Ok(())
 }
 
-/// How many rows the last command of an input makes, if the run ends well, and all before it.
-fn rows_of_last(rt: &HostRuntime, before: &[u8], last: &[u8]) -> Result<Option<(u64, u64)>, Fail> {
+/// How many rows the last command of an input makes, if the run ends well, and all before it, where
+/// it searches whole texts so often and they don't.
+fn rows_of_last(
+    rt: &HostRuntime,
+    before: &[u8],
+    last: &[u8],
+    wholes: u64,
+) -> Result<Option<(u64, u64)>, Fail> {
     let mut input = Vec::new(rt.alloc());
     input.extend_from_slice(before)?;
     let first = run_once(rt, input.as_slice(), Limits::default(), AMPLE)?;
     input.extend_from_slice(last)?;
     let both = run_once(rt, input.as_slice(), Limits::default(), AMPLE)?;
     let ended = first.result == Ok(Ended::Input) && both.result == Ok(Ended::Input);
-    if !ended || both.wholes != 0 || both.rows < first.rows {
+    if !ended || (first.wholes, both.wholes) != (0, wholes) || both.rows < first.rows {
         return Ok(None);
     }
     Ok(Some((both.rows - first.rows, first.rows)))
@@ -105,7 +111,7 @@ fn most_rows_of_edits_at_seams(rt: HostRuntime) -> Result<(), Fail> {
         (b"text 5\nx\rb\nypattern 1\ny", b"edit 1 0 1 1 2\n\n\r", 3),
     ];
     for (before, edit, most) in cases {
-        let rows = rows_of_last(&rt, before, edit)?;
+        let rows = rows_of_last(&rt, before, edit, 0)?;
         match rows {
             None => assert!(rt; false),
             Some((rows, _)) => assert!(rt; rows <= most),
@@ -122,14 +128,54 @@ fn a_letter_in_ten_thousand_lines(rt: HostRuntime) -> Result<(), Fail> {
         before.extend_from_slice(b"some line\n")?;
     }
     before.extend_from_slice(b"pattern 4\nline")?;
-    let rows = rows_of_last(&rt, before.as_slice(), b"edit 5000 5 5000 5 1\nx")?;
+    let rows = rows_of_last(&rt, before.as_slice(), b"edit 5000 5 5000 5 1\nx", 0)?;
+    assert!(rt; rows == Some((1, 10_000)));
+    Ok(())
+}
+
+/// For each match as many as what takes its place has lines, also where a CR LF is parted or made,
+/// and none where there is no match.
+#[test]
+fn most_rows_of_replacements(rt: HostRuntime) -> Result<(), Fail> {
+    let cases: [(&[u8], &[u8], u64); 7] = [
+        (b"text 4\na\r\nbpattern 1\n\n", b"replace 0\n", 1),
+        (b"text 5\na\rx\nypattern 1\nx", b"replace 0\n", 1),
+        (b"text 4\na\r\nbpattern 2\n\r\n", b"replace 2\n\n\r", 3),
+        (b"text 1\napattern 1\nb", b"replace 1\nc", 0),
+        (b"text 2\nabpattern 2\nx*", b"replace 1\n-", 3),
+        (b"text 5\na\nb\napattern 1\na", b"replace 3\n$0\n", 4),
+        (b"text 5\na\nb\napattern 1\n\n", b"replace 1\n\r", 4),
+    ];
+    for (before, replace, most) in cases {
+        let rows = rows_of_last(&rt, before, replace, 1)?;
+        match rows {
+            None => assert!(rt; false),
+            Some((rows, _)) => assert!(rt; rows <= most),
+        }
+    }
+    Ok(())
+}
+
+#[test]
+fn one_match_in_ten_thousand_lines(rt: HostRuntime) -> Result<(), Fail> {
+    let mut before = Vec::new(rt.alloc());
+    before.extend_from_slice(b"text 99995\n")?;
+    for _ in 0..5_000 {
+        before.extend_from_slice(b"some line\n")?;
+    }
+    before.extend_from_slice(b"match")?;
+    for _ in 0..4_999 {
+        before.extend_from_slice(b"some line\n")?;
+    }
+    before.extend_from_slice(b"pattern 5\nmatch")?;
+    let rows = rows_of_last(&rt, before.as_slice(), b"replace 1\nz", 1)?;
     assert!(rt; rows == Some((1, 10_000)));
     Ok(())
 }
 
 #[test]
 fn limits_on_texts(rt: HostRuntime) -> Result<(), Fail> {
-    let cases: [(usize, &[u8], &[u8]); 10] = [
+    let cases: [(usize, &[u8], &[u8]); 13] = [
         (4, b"text 5\nabcdeprint\n", b"error size\ntext 0\n\n"),
         (4, b"text 4\nabcdprint\n", b"ok\ntext 4\nabcd\n"),
         (
@@ -146,6 +192,21 @@ fn limits_on_texts(rt: HostRuntime) -> Result<(), Fail> {
             4,
             b"text 5\n\xff\xff\xff\xff\xfftext 5\nabcde",
             b"error utf8\nerror size\n",
+        ),
+        (
+            4,
+            b"text 3\nabcpattern 0\nreplace 1\n-print\n",
+            b"ok\nok\nerror size\ntext 3\nabc\n",
+        ),
+        (
+            4,
+            b"text 3\nabcpattern 1\nbreplace 4\n$0$0print\nundo\nreplace 6\n$0$0$0",
+            b"ok\nok\nok 1\ntext 4\nabbc\nok\nerror size\n",
+        ),
+        (
+            4,
+            b"text 2\nabreplace 5\n$0$0$pattern 1\nxreplace 5\n$0$0$replace 1\n$",
+            b"ok\nerror none\nok\nerror size\nok 0\n",
         ),
         // A pattern may have more bytes than a text.
         (4, b"pattern 5\nabcde", b"ok\n"),
