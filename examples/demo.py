@@ -19,13 +19,14 @@ from client import PROGRAM, Client, read_reply
 TOP = os.path.dirname(os.path.dirname(os.path.abspath(__file__)))
 FIRST = os.path.join(TOP, "examples", "first.session")
 RT = os.environ.get("RT") or "rt"
+PAYLOADS = (b"text", b"edit", b"pattern", b"replace")  # the words of commands that have one
 
 
 def commands(file):
     """The commands of a session, each with its payload."""
     for line in file:
         word, *numbers = line.split()
-        yield line + (file.read(int(numbers[-1])) if word in (b"text", b"edit", b"pattern") else b"")
+        yield line + (file.read(int(numbers[-1])) if word in PAYLOADS else b"")
 
 
 def show(session, ask):

@@ -4,9 +4,10 @@ one edits the text.
 
     examples/pane.py FILE [PROGRAM]
 
-Enter goes to the next match, and from the last one to the first; Up and Down move the file. Tab goes to the text, to
-where the match is: what is typed is put in there, Backspace takes away, the arrows move, Ctrl-Z and Ctrl-Y undo and
-redo, and Tab goes back. Escape or Ctrl-C leaves. The file itself stays as it is.
+Enter goes to the next match, and from the last one to the first; Up and Down move the file. Ctrl-R asks for a template,
+in which $0 stands for the match and $1 to $9 for its groups; Enter puts what it stands for in the place of all matches,
+Escape goes back. Tab goes to the text, to where the match is: what is typed is put in there, Backspace takes away, the
+arrows move, and Tab goes back. Ctrl-Z and Ctrl-Y undo and redo. Escape or Ctrl-C leaves. The file itself stays as it is.
 """
 import os, re, select, sys, termios, tty
 
@@ -45,8 +46,9 @@ class Pane:
     """The text as the program has it, a cursor in it, and what was typed to search for."""
 
     def __init__(self, search):
-        self.search, self.is_in_text, self.is_stale = search, False, False
+        self.search, self.mode, self.is_stale = search, "search", False  # or the mode is "text", or "template"
         self.typed, self.asked, self.is_live = "", "", False  # a pattern, the one asked for, and if it was taken
+        self.template, self.replaced = "", ""  # what is typed for all matches, and what is told once that is done
         self.top, self.place, self.found = 0, (0, 0), None  # the first line shown, the cursor, and the match gone to
         self.matches, self.told = {}, ""
         self.take_text()
@@ -75,7 +77,8 @@ class Pane:
             for match in found:
                 line, start, end = map(int, match.split()[1:])
                 self.matches.setdefault(line, []).append((start, end))
-            self.told = f"matches: {int(count[3:])}, lines: {len(self.matches)}" if self.is_live else self.told
+            report = f"matches: {int(count[3:])}, lines: {len(self.matches)}" if self.is_live else self.told
+            self.told, self.replaced = self.replaced + report, ""
         shown = self.shown()
         if is_new and not any(line in shown for line in self.matches):
             self.top = min(self.matches, default=self.top)
@@ -131,14 +134,29 @@ class Pane:
             added = len(self.lines) - count
             self.go((first[0] + added, 0) if text == "\n" else (first[0], first[1] + units(text)))
 
+    def replace_all(self):
+        """Puts what the template stands for in the place of all matches, if the pattern that was typed is one."""
+        if self.typed != self.asked:
+            self.set_pattern()
+            self.is_stale = True
+        data = self.template.encode()
+        done = self.is_live and self.changes(b"replace %d\n%b" % (len(data), data))
+        self.replaced = f"replaced: {done[1]}, " if done else ""
+
+    def undo_or_redo(self, key):
+        """Goes a text back, or forward."""
+        if self.changes(b"undo\n" if key == "\x1a" else b"redo\n") and self.mode == "text":
+            self.go(self.place)
+
     def changes(self, command):
-        """Whether a command that changes the text does so."""
-        reply = self.search.ask(command)
-        self.told = reply.decode().strip()
-        if reply == b"ok\n":
-            self.is_stale, self.found, self.told = True, None, ""
-            self.take_text()
-        return reply == b"ok\n"
+        """The words of the reply to a command that changes the text, or none where it is refused."""
+        reply = self.search.ask(command).decode().split()
+        self.told = " ".join(reply)
+        if reply[0] == "error":
+            return []
+        self.is_stale, self.found, self.told = True, None, ""
+        self.take_text()
+        return reply
 
     def move(self, key):
         """Moves the cursor by an arrow."""
@@ -155,9 +173,6 @@ class Pane:
         """A key where it edits the text."""
         if key.startswith("\x1b["):
             self.move(key[2:])
-        elif key in ("\x1a", "\x19"):
-            if self.changes(b"undo\n" if key == "\x1a" else b"redo\n"):
-                self.go(self.place)
         elif key == "\x7f":
             before = self.before(*self.place)
             if before:
@@ -174,6 +189,36 @@ class Pane:
         else:
             self.typed = self.typed[:-1] if key == "\x7f" else self.typed + key * key.isprintable()
 
+    def type_into_template(self, key):
+        """A key where it is of the template."""
+        if key in ("\r", "\x1b"):
+            self.mode = "search"
+        if key == "\r":
+            self.replace_all()
+        else:
+            self.template = self.template[:-1] if key == "\x7f" else self.template + key * key.isprintable()
+
+    def change_mode(self, key):
+        """Goes to the template, or by Tab to the text or back."""
+        if key == "\x12":
+            self.mode, self.template = "template", ""
+        else:
+            self.mode = "search" if self.mode == "text" else "text"
+            self.place = self.place if self.place[0] in self.shown() else (self.top, 0)
+
+    def take(self, key):
+        """Does what a key says."""
+        if key in ("\t", "\x12"):
+            self.change_mode(key)
+        elif key in ("\x1a", "\x19"):
+            self.undo_or_redo(key)
+        elif self.mode == "text":
+            self.type_into_text(key)
+        elif self.mode == "template":
+            self.type_into_template(key)
+        else:
+            self.type_into_search(key)
+
     def found_in(self, line):
         """What of the match that was gone to lies in a line."""
         if not self.found or not self.found[0][0] <= line <= self.found[1][0]:
@@ -183,12 +228,14 @@ class Pane:
         return [(start if line == first else 0, min(end, whole) if line == last else whole)]
 
     def draw(self):
-        """Shows the pattern and what is told of it, and below them the lines from `top` on."""
-        out = f"\x1b[H\x1b[Ksearch: {self.typed}{'' if self.is_in_text else chr(27) + '7'}   {self.told}"
+        """Shows the pattern, the template if one is typed, and what is told, and below them the lines from `top` on."""
+        cursors = {mode: "\x1b7" if mode == self.mode else "" for mode in ("search", "template")}
+        template = f"   replace: {self.template}{cursors['template']}" if self.mode == "template" else ""
+        out = f"\x1b[H\x1b[Ksearch: {self.typed}{cursors['search']}{template}   {self.told}"
         for row, line in enumerate(self.shown()):
             out += f"\x1b[{row + 2}H\x1b[K"
             if line < len(self.lines):
-                cursor = self.place[1] if self.is_in_text and line == self.place[0] else None
+                cursor = self.place[1] if self.mode == "text" and line == self.place[0] else None
                 matches, found = self.matches.get(line, []), self.found_in(line)
                 out += f"{line + 1:6}  {highlighted(self.lines[line], matches, found, cursor)}"
         print(out, end="\x1b8", flush=True)
@@ -201,15 +248,9 @@ class Pane:
                 self.draw()
             given = os.read(0, 1024)
             for key in re.findall(r"\x1b\[.|[\s\S]", given.decode(errors="ignore")) if given else ["\x1b"]:
-                if key in ("\x1b", "\x03"):
+                if key == "\x03" or (key == "\x1b" and self.mode != "template"):
                     return
-                if key == "\t":
-                    self.is_in_text = not self.is_in_text
-                    self.place = self.place if self.place[0] in self.shown() else (self.top, 0)
-                elif self.is_in_text:
-                    self.type_into_text(key)
-                else:
-                    self.type_into_search(key)
+                self.take(key)
 
 
 def main(path, program=PROGRAM):

@@ -20,7 +20,7 @@ SECONDS = 120
 PASSED, FAILED = [], []
 
 # The first session of docs/protocol.md, which is also the stored run of the program.
-FIRST = b"text 2\nhifork\ntext 1\nxuse 1\nprint\n"
+FIRST = b"text 5\nab abpattern 6\n(a)(b)replace 4\n$2$1print\nundo\nlist\nprint\nredo\nlist\n"
 
 
 def test(name, problems):

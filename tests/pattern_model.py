@@ -361,6 +361,13 @@ def matches(pattern, text):
     return [in_characters(text, groups[0]) for groups in search_in(pattern, text).matches()]
 
 
+@functools.lru_cache(maxsize=1_000)
+def matches_with_groups(pattern, text):
+    """The matches of a pattern in a text, each as the spans of its groups in the text's UTF-8, from group 0 on, None for
+    an absent one."""
+    return search_in(pattern, text).matches()
+
+
 def match_from(pattern, text, place):
     """The first match in a text that starts at a place or behind it, or None."""
     slots = search_in(pattern, text).find(len(text[:place].encode()))

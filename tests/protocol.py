@@ -3,7 +3,7 @@ program ends with."""
 import functools
 import re
 
-from pattern_model import match_from, matches, pattern_weight, tree_of
+from pattern_model import match_from, matches, matches_with_groups, pattern_weight, tree_of
 
 TEXT_LIMIT = 1 << 30  # the most bytes that a text may have
 PATTERN_LIMIT = 65_536  # the most bytes that a pattern may have
@@ -12,6 +12,7 @@ BREAK = re.compile("\r\n|[\r\n]")
 LINE_LIMIT = 128  # the most bytes of a command line, its LF left off
 NUMBER_LIMIT = (1 << 64) - 1
 LINE = re.compile(rb"([a-z]+)((?: [0-9]{1,20})*)")
+REFERENCE = re.compile(r"\$([0-9$])")  # what of a template doesn't stand for itself
 # The words of commands, each with how many numbers follow it.
 WORDS = {
     b"text": 1,
@@ -23,10 +24,11 @@ WORDS = {
     b"off": 0,
     b"list": 0,
     b"next": 2,
+    b"replace": 1,
     b"fork": 0,
     b"use": 1,
 }
-HAS_PAYLOAD = ("text", "edit", "pattern")  # the last number is how many bytes it has
+HAS_PAYLOAD = ("text", "edit", "pattern", "replace")  # the last number is how many bytes it has
 STATUS = {"input": 0, "command": 2, "cut": 2}
 CLOSING = {"input": b"", "command": b"error command\n", "cut": b"error end\n"}
 
@@ -138,6 +140,24 @@ def found_next(text, pattern, place):
     return b"m %d %d %d %d\n" % (*position_at(text, found[0]), *position_at(text, found[1])) if found else b"no match\n"
 
 
+def expanded(template, groups):
+    """What a template stands for at a match, of whose groups these are the texts, None for an absent one."""
+    meant = {"$": "$", **{str(number): text for number, text in enumerate(groups)}}
+    return REFERENCE.sub(lambda found: meant.get(found[1]) or "", template)
+
+
+def parts_replaced(text, pattern, template):
+    """The parts of a text with all matches replaced, in turn: what stands before a match, what takes its place, and so
+    on, and what stands behind the last."""
+    data, parts, at = text.encode(), [], 0
+    for groups in matches_with_groups(pattern, text):
+        start, end = groups[0]
+        texts = [span and data[slice(*span)].decode() for span in groups]
+        parts += [data[at:start].decode(), expanded(template, texts)]
+        at = end
+    return parts + [data[at:].decode()]
+
+
 class Buffer:
     """The texts of a buffer, of which one is the current one, and its pattern or None."""
 
@@ -156,6 +176,11 @@ class Buffer:
             return None
         return self.text[:first] + payload + self.text[last:]
 
+    def add(self, text):
+        """Puts a text behind the current one, in the place of all that stood there, and makes it current."""
+        self.texts[self.at + 1 :] = [text]
+        self.at += 1
+
 
 class Session:
     """Buffers, of which one is chosen."""
@@ -169,7 +194,7 @@ class Session:
 
     def takes_memory(self, word):
         """Whether a command of this word may be answered that memory lacks."""
-        return word in ("text", "edit", "pattern", "fork", "next") or (
+        return word in ("text", "edit", "pattern", "fork", "next", "replace") or (
             word in ("undo", "redo") and self.buffer.pattern is not None
         )
 
@@ -178,6 +203,7 @@ class Session:
         return {
             "list": self.buffer.pattern is None,
             "next": self.buffer.pattern is None,
+            "replace": self.buffer.pattern is None,
             "undo": self.buffer.at == 0,
             "redo": self.buffer.at + 1 == len(self.buffer.texts),
             "use": word == "use" and numbers[0] >= len(self.buffers),
@@ -195,8 +221,13 @@ class Session:
             return b"utf8"
         if word == "pattern":
             return refused_pattern(payload.decode())
-        text = self.buffer.edited(*numbers[:4], "").encode() if word == "edit" else b""
-        return b"size" if len(text) + len(payload) > TEXT_LIMIT else None
+        lengths = [len(payload)]
+        if word == "edit":
+            lengths.append(len(self.buffer.edited(*numbers[:4], "").encode()))
+        if word == "replace" and len(payload) <= TEXT_LIMIT:
+            parts = parts_replaced(self.buffer.text, self.buffer.pattern, payload.decode())
+            lengths = [len(part.encode()) for part in parts]
+        return b"size" if sum(lengths) > TEXT_LIMIT else None
 
     def carry_out(self, word, numbers, payload):
         """The reply to a command that isn't refused."""
@@ -204,8 +235,7 @@ class Session:
         if word == "text":
             buffer.texts, buffer.at = [payload.decode()], 0
         elif word == "edit":
-            buffer.texts[buffer.at + 1 :] = [buffer.edited(*numbers[:4], payload.decode())]
-            buffer.at += 1
+            buffer.add(buffer.edited(*numbers[:4], payload.decode()))
         elif word in ("undo", "redo"):
             buffer.at += 1 if word == "redo" else -1
         elif word in ("pattern", "off"):
@@ -214,6 +244,10 @@ class Session:
             return listed(buffer.text, buffer.pattern)
         elif word == "next":
             return found_next(buffer.text, buffer.pattern, place_of(buffer.text, *numbers))
+        elif word == "replace":
+            parts = parts_replaced(buffer.text, buffer.pattern, payload.decode())
+            buffer.add("".join(parts))
+            return b"ok %d\n" % (len(parts) // 2)
         elif word == "print":
             text = buffer.text.encode()
             return b"text %d\n%b\n" % (len(text), text)

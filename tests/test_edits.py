@@ -1,5 +1,5 @@
-"""Edits and their history: what bin/rope-search answers to sessions at random, and to every edit of every
-small text, beside the model."""
+"""Edits, replacements and their history: what bin/rope-search answers to sessions at random, to every edit of every
+small text, and to every replacement in it, beside the model."""
 import itertools
 import random
 
@@ -18,8 +18,12 @@ PATTERNS = r"""
     a$ ^ $ ^$ \b \B \ba a\b. (?m)^a (?m)a$ (?m)^$ \Aa|\z
 """.split() + ["", "|b", "a\n", "a\r\n?"]
 REFUSED_PATTERNS = r"a( * a|* (?x)a [b-a] a{2,1} \q [[a] (?<n>a)(?<n>b) (?=a) \w{1000}{1000} a{65535}{65535}".split()
-# Under these all small texts are edited, and in them what is next is found from each position by some more.
+# Of these templates at random are made.
+PIECES = ("$0", "$0", "$1", "$2", "$9", "$$", "$", "$a", "\r", "\n", "\n\r", "a", "b", "é🐸", "")
+# Under these all small texts are edited, their matches are replaced, and in them what is next is found from each
+# position by some more.
 SMALL_PATTERNS = ("a", "x*", "a$", "^", r"\b", "(a|b)+")
+REPLACED_PATTERNS = ("\r", "\n", "\r\n", "a", "x*")
 NEXT_PATTERNS = (*SMALL_PATTERNS, r"\r", r"\n", r"\r\n", "(?m)^a", "(?m)a$", "[^a]", r"\B", "(?s)a.*?$")
 
 # The heaviest that a pattern may be; and the lines of a text, and the edits of it, under that.
@@ -81,6 +85,14 @@ def some_edit(chosen, writer):
     writer.write("edit", *first, *last, text=payload)
 
 
+def some_template(chosen, text):
+    """A template, which in a long text stands for little more than it takes away."""
+    if chosen.random() < 0.02:
+        return "\ud800"
+    most = 1 if len(text) > 30 else chosen.choice((0, 1, 1, 2, 2, 4))
+    return "".join(chosen.choice(PIECES) for _ in range(chosen.randint(0, most)))
+
+
 def some_pattern(chosen):
     """A pattern of those above, one at random, or one that is refused."""
     roll = chosen.random()
@@ -91,8 +103,8 @@ def some_pattern(chosen):
 
 def some_command(chosen, writer):
     word = chosen.choices(
-        ("edit", "undo", "redo", "list", "print", "pattern", "text", "fork", "use", "off", "next"),
-        (40, 14, 5, 20, 4, 7, 2, 3, 4, 1, 9),
+        ("edit", "undo", "redo", "list", "print", "pattern", "text", "fork", "use", "off", "next", "replace"),
+        (34, 14, 5, 20, 4, 7, 2, 3, 4, 1, 8, 8),
     )[0]
     if writer.commands[-1][0] in ("undo", "redo") and chosen.random() < 0.4:
         word = "redo"
@@ -102,6 +114,8 @@ def some_command(chosen, writer):
         writer.write("pattern", text=some_pattern(chosen))
     elif word == "text":
         writer.write("text", text=some_text(chosen, 12))
+    elif word == "replace":
+        writer.write("replace", text=some_template(chosen, writer.session.buffer.text))
     elif word == "next":
         positions = positions_of(writer.session.buffer.text)
         at = chosen.choice(positions) if chosen.random() < 0.9 else (chosen.randint(0, 4), chosen.randint(0, 5))
@@ -128,10 +142,10 @@ def some_sessions(seed, count):
     return writer
 
 
-def texts_of(most):
+def texts_of(most, characters=SMALL):
     """All texts of a few characters."""
     for length in range(most + 1):
-        yield from map("".join, itertools.product(SMALL, repeat=length))
+        yield from map("".join, itertools.product(characters, repeat=length))
 
 
 def edits_of(text, pattern):
@@ -148,6 +162,23 @@ def edits_of(text, pattern):
             writer.write("list")
             writer.write("undo")
             writer.write("list")
+    return writer
+
+
+def replacements_in(text, pattern):
+    """The text with all matches of a pattern replaced, by each of some templates: what is listed is what the pattern,
+    set anew, lists, and what was listed before is listed after `undo`."""
+    writer = Writer()
+    writer.write("text", text=text)
+    writer.write("pattern", text=pattern)
+    for template in (*texts_of(2, "\r\na"), "$0$0", "\n$0\r"):
+        assert writer.write("replace", text=template).startswith(b"ok ")
+        assert writer.write("list") == listed(writer.session.buffer.text, pattern)
+        writer.write("print")
+        writer.write("pattern", text=pattern)
+        writer.write("list")
+        writer.write("undo")
+        writer.write("list")
     return writer
 
 
@@ -193,10 +224,26 @@ def edited_under_heaviest():
     return writer
 
 
+def replaced_in_lines(count, *patterns):
+    """Matches among so many lines, replaced by more lines, by fewer and by as many; each replacement is undone and done
+    again."""
+    writer = Writer()
+    writer.write("text", text="".join(f"line {number}\n" for number in range(count)))
+    for pattern in patterns:
+        writer.write("pattern", text=pattern)
+        for template in ("z", "", "$1\n"):
+            writer.write("replace", text=template)
+            for word in ("list", "undo", "redo", "list", "print", "undo"):
+                writer.write(word)
+    return writer
+
+
 def test_all():
     weight = pattern_weight(HEAVIEST)
     test("the heaviest pattern weighs what one may", [] if weight == WEIGHT_LIMIT else [f"it weighs {weight}"])
     test(f"{EDITS} edits of {LINES} lines under it", edited_under_heaviest().problems())
+    test(f"a match replaced in {LINES} lines", replaced_in_lines(LINES, "(e) 5000\n").problems())
+    test("a match replaced in each line", replaced_in_lines(LINES // 10, r"\n", r"e", r"(?m)e(.*)$").problems())
     for seed in range(SESSIONS // SESSIONS_IN_RUN):
         name = f"{SESSIONS_IN_RUN} sessions at random, by seed {seed}"
         test(name, some_sessions(seed, SESSIONS_IN_RUN).problems())
@@ -206,5 +253,8 @@ def test_all():
         for pattern in SMALL_PATTERNS:
             wrong = (wrong for text in texts for wrong in edits_of(text, pattern).problems())
             test(f"{name}, each edit under {pattern}", wrong)
+        for pattern in REPLACED_PATTERNS:
+            wrong = (wrong for text in texts for wrong in replacements_in(text, pattern).problems())
+            test(f"{name}, each replacement under {pattern!r}", wrong)
         test(f"{name}, next from each position", (wrong for text in texts for wrong in nexts_of(text).problems()))
         test(f"{name}, all positions", (wrong for text in texts for wrong in positions_around(text).problems()))

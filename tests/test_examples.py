@@ -131,6 +131,21 @@ def test_typing(asked):
     test("Tab goes back to the search, and Enter on from there", wrong)
 
 
+def test_replacing(asked):
+    """A template that is typed for all matches of the pattern `t\\w+d`."""
+    wrong = asked("\x12", "search: t\\w+d   replace: \x1b7") + asked("big $0s\x7f", "replace: big $0\x1b7")
+    test("Ctrl-R asks for a template", wrong)
+    lines = ["     1  A frog 🐸 and a big \x1b[7mtoad\x1b[27m.", "     2  No big \x1b[7mtoad\x1b[27m here"]
+    wrong = asked("\r", "search: t\\w+d\x1b7   replaced: 2, matches: 2, lines: 2", *lines)
+    test("Enter puts it in the place of all matches, and the matches follow", wrong)
+    wrong = asked("\x1a", "     2  No \x1b[7mtoad") + asked("\x19", *lines) + asked("\x1a", "     2  No \x1b[7mtoad")
+    test("Ctrl-Z undoes it, and Ctrl-Y does it again", wrong)
+    test("Escape leaves all as it is", asked("\x12x\x1b", "search: t\\w+d\x1b7", "     2  No \x1b[7mtoad"))
+    wrong = asked("(", "error pattern") + asked("\x12x\r", "error pattern", "     2  No toad here")
+    wrong += asked("\x7f", "matches: 2, lines: 2")
+    test("nothing is replaced under a pattern that is refused", wrong)
+
+
 def test_pane():
     pane = Pane(TEXT.encode())
 
@@ -151,6 +166,7 @@ def test_pane():
     wrong = asked("\x1b[B", "\x1b[2H\x1b[K     2  ") + asked("\x1b[A", "\x1b[2H\x1b[K     1  ")
     test("Up and Down move the file", wrong)
     test_typing(asked)
+    test_replacing(asked)
     far = asked("\x7f" * 5 + "^the", "search: ^the", "    43  \x1b[7mthe\x1b[27m end")
     test("the pane goes to the first match where none is in sight", far)
     test("without a pattern the pane marks nothing", asked("\x7f" * 4, "    43  the end"))

@@ -4,6 +4,12 @@ from harness import FIRST, differences, run, short, test, told
 from memory import counted, library, tallied
 from protocol import HAS_PAYLOAD, NUMBER_LIMIT, TEXT_LIMIT, Session, answer, read_commands, spelled, takers
 
+
+def given(word, payload):
+    """A command with a payload."""
+    return spelled(word, (len(payload),), payload)
+
+
 # Without a pattern `undo` and `redo` take no memory, and an edit that changes nothing drops what could be
 # redone.
 HISTORY = b"text 1\naedit 0 1 0 1 1\nbundo\nredo\nprint\nundo\nedit 0 0 0 0 0\nredo\n"
@@ -14,12 +20,27 @@ UNDER_PATTERN = (
 )
 # Regular expressions, one of them outside the grammar and one too heavy, and what they find next.
 UNDER_REGEX = (
-    spelled("text", (26,), b"Todo a\nan error\r\nno todo\n\n") + spelled("pattern", (19,), rb"(?i)\btodo\b|e\w+r$")
+    given("text", b"Todo a\nan error\r\nno todo\n\n") + given("pattern", rb"(?i)\btodo\b|e\w+r$")
     + b"list\nnext 0 1\nnext 2 4\nedit 1 3 1 8 4\nTODOlist\nnext 0 5\nundo\nnext 1 3\nredo\nlist\n"
-    + spelled("pattern", (3,), b"(a|") + spelled("pattern", (14,), rb"\w{1000}{1000}") + b"next 9 9\nfork\n"
-    + spelled("pattern", (13,), rb"(\r\n|o$)+|^$") + b"next 0 4\nlist\noff\nnext 0 0\nuse 1\nnext 0 0\n"
+    + given("pattern", b"(a|") + given("pattern", rb"\w{1000}{1000}") + b"next 9 9\nfork\n"
+    + given("pattern", rb"(\r\n|o$)+|^$") + b"next 0 4\nlist\noff\nnext 0 0\nuse 1\nnext 0 0\n"
 )
-SENT_AGAIN = (HISTORY, UNDER_PATTERN, UNDER_REGEX)
+
+# All matches replaced: some, none, one by what is as long as the text, breaks that are parted, and refused templates.
+REPLACED = (
+    given("text", b"ab\r\ncab\nb\r\nxabc") + given("pattern", rb"(a)?b|\r") + b"list\n" + given("replace", b"$1\n$0")
+    + b"list\nundo\nlist\nredo\n" + given("replace", b"$2") + b"redo\nlist\nprint\n" + given("replace", b"\xff")
+    + given("pattern", b"(?s)^.*|never") + given("replace", b"$0$0") + given("replace", b"") + b"undo\n"
+    + given("pattern", b"never") + given("replace", b"x") + b"redo\nlist\nfork\nuse 1\n" + given("replace", b"x")
+    + b"off\nuse 0\nundo\nprint\n"
+)
+# Few matches in a text of many chunks, and many there.
+REPLACED_IN_LONG = (
+    given("text", b"mark\n".join([b"-" * 3_000] * 3)) + given("pattern", rb"mark|\A") + given("replace", b"$0\nbar")
+    + b"list\nundo\n" + given("pattern", b"-") + given("replace", b"+") + given("pattern", rb"\++\n?") + b"list\n"
+    + given("replace", b"x") + b"list\nundo\nundo\nprint\n"
+)
+SENT_AGAIN = (HISTORY, UNDER_PATTERN, UNDER_REGEX, REPLACED)
 
 # A text of a megabyte, and how many of its lines are edited, each in a fork of its own and all in one buffer.
 LINES, LINE, EDITED = 20_000, b"a line of fifty bytes, which holds one mark: here\n", 50
@@ -39,6 +60,8 @@ MEMORY_INPUTS = [
     HISTORY,
     UNDER_PATTERN,
     UNDER_REGEX,
+    REPLACED,
+    REPLACED_IN_LONG,
     b"pattern 2\nabtext 3063\n" + b"ab" * 1500 + b"\n" + b"ab\n" * 20 + b"abedit 0 1500 10 1 47\n" + b"\nab" * 15 + b"\r\n"
     + b"list\nundo\nlist\nredo\nprint\nedit 0 0 5 2 0\nlist\n",
     b"text 3\na\nbfork\nedit 0 1 1 0 1\n\ruse 1\nedit 0 0 0 1 2\n\xc3\xa9undo\nprint\nuse 0\nundo\nundo\nredo\nprint\n"
@@ -159,7 +182,7 @@ def test_all():
 
     def taken_for_edits(first, edits):
         """What an edit takes after these first commands, where there is too much of it, in bytes."""
-        text = spelled("text", (LINES * len(LINE),), LINE * LINES) + first
+        text = given("text", LINE * LINES) + first
         _, _, _, alone = tallied(lambda environment: run(text, environment=environment))
         ended, _, _, total = tallied(lambda environment: run(text + edits, environment=environment))
         yield from differences(ended, ended.out, 0)
@@ -174,5 +197,6 @@ def test_all():
     one = edited_lines(lambda k: b"")
     test("an edit takes memory for what it changes, not for the text", taken_for_edits(b"", one))
     for pattern in (b"mark", rb"(?i)\bM\w+k\b|^$"):
-        setting = spelled("pattern", (len(pattern),), pattern)
-        test(f"so does an edit under the pattern {pattern.decode()}", taken_for_edits(setting, one))
+        test(f"so does an edit under the pattern {pattern.decode()}", taken_for_edits(given("pattern", pattern), one))
+    replacements = given("replace", b"$0x") * EDITED
+    test("and so does a replacement of one match", taken_for_edits(given("pattern", rb"\A."), replacements))

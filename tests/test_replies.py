@@ -56,6 +56,17 @@ def long_lines(length):
     return with_payload("text", text) + b"list\n", b"ok\n" + matches + b"ok 4\n"
 
 
+def replaced_in_chunks(step, template):
+    """A text of many chunks, with matches so many bytes apart and one from its third line to its fourth, and what it is
+    once a template takes the place of each, without groups of its own."""
+    text = ("-" * (step - 1) + "x") * (10_000 // step) + "\r\n\nab\r" + "-" * 1_000 + "c"
+    new = re.sub("x|b\r-*", lambda found: template.replace("$0", found[0]), text)
+    commands = [("text", text), ("pattern", "x|b\\r-*"), ("replace", template)]
+    count = 10_000 // step + 1
+    data = b"".join(with_payload(*command) for command in commands)
+    return data + b"print\n", b"ok\nok\nok %d\ntext %d\n%b\n" % (count, len(new.encode()), new.encode()), 0
+
+
 MOST = 2**64 - 1
 TEXT = "a🐸b\r\nc\r"
 # Positions that are nowhere in this text.
@@ -147,6 +158,34 @@ MORE_EXAMPLES = [
     (b"next 9 9\npattern 0\nnext %d 0\nnext 0 %d\nnext 000 00\nnext 0 %d\n" % (MOST, MOST, MOST + 1),
      b"error none\nok\nerror range\nerror range\nm 0 0 0 0\nerror command\n", 2),
     (b"next 0\n", b"error command\n", 2),
+    # all matches replaced, by templates
+    (with_payload("text", "aé🐸 b") + with_payload("pattern", r"(\w)(é)?|(🐸)") + with_payload("replace", "[$0$1$2$3$4$9]")
+     + b"list\nprint\nundo\nlist\nredo\nredo\n",
+     "ok\nok\nok 3\nm 0 1 3\nm 0 3 5\nm 0 7 9\nm 0 9 11\nm 0 14 15\nm 0 15 16\nok 6\n"
+     "text 23\n[aéaé][🐸🐸] [bb]\nok\nm 0 0 2\nm 0 2 4\nm 0 5 6\nok 3\nok\nerror none\n".encode(), 0),
+    (b"text 3\nabcpattern 4\n(b)creplace 12\n$$$1$$1$a$$$print\nreplace 2\n$0print\nundo\nundo\nprint\nundo\n",
+     b"ok\nok\nok 1\ntext 9\na$b$1$a$$\nok 0\ntext 9\na$b$1$a$$\nok\nok\ntext 3\nabc\nerror none\n", 0),
+    (b"text 3\nabcpattern 1\nbreplace 3\n$\xc3\xa9" + b"replace 1\n$print\nreplace 1\n\xc3replace 2\n0\xffreplace 1\n0list\nprint\n",
+     "ok\nok\nok 1\nok 0\ntext 5\na$éc\nerror utf8\nerror utf8\nok 0\nok 0\ntext 5\na$éc\n".encode(), 0),
+    (b"replace 1\n\xffreplace 0\npattern 0\nreplace 1\naoff\nreplace 1\nbundo\nprint\nreplace 0 0\n",
+     b"error none\nerror none\nok\nok 1\nok\nerror none\nok\ntext 0\n\nerror command\n", 2),
+    (b"text 2\nabpattern 1\na" + b"edit 0 0 0 0 1\naundo\nreplace 1\nxredo\nlist\nundo\nlist\nprint\n",
+     b"ok\nok\nok\nok\nok 1\nerror none\nok 0\nok\nm 0 0 1\nok 1\ntext 2\nab\n", 0),
+    (b"text 2\nabpattern 1\nafork\nreplace 1\nxuse 1\nprint\nreplace 1\nyuse 0\nprint\n",
+     b"ok\nok\nok 1\nok 1\nok\ntext 2\nab\nerror none\nok\ntext 2\nxb\n", 0),
+    # replaced matches that start or end between a CR and an LF, or over several lines
+    (with_payload("text", "a\r\nb\r\n") + with_payload("pattern", "\r") + with_payload("replace", "")
+     + b"list\nprint\nundo\n" + with_payload("replace", "$0x") + b"list\nprint\n" + with_payload("pattern", "x")
+     + b"list\n" + with_payload("replace", "") + b"list\nprint\n",
+     b"ok\nok\nok 2\nok 0\ntext 4\na\nb\n\nok\nok 2\nok 0\ntext 8\na\rx\nb\rx\n\nok\nm 1 0 1\nm 3 0 1\nok 2\nok 2\nok 0\n"
+     b"text 6\na\r\nb\r\n\n", 0),
+    (with_payload("text", "aba\r\nbab\n\na") + with_payload("pattern", "(?s)b(.*?)b") + with_payload("replace", "b$1$1b")
+     + b"list\nnext 0 0\nprint\n" + with_payload("pattern", "a|$") + b"list\n" + with_payload("replace", "\n") + b"list\nprint\n",
+     b"ok\nok\nok 1\nm 2 0 3\nok 1\nm 0 1 2 1\ntext 14\naba\r\na\r\nbab\n\na\nok\nm 0 0 1\nm 0 2 3\nm 1 0 1\nm 2 1 2\n"
+     b"m 2 3 3\nm 3 0 0\nm 4 0 1\nok 7\nok 5\nm 0 0 0\nm 1 1 1\nm 2 0 0\nm 3 0 0\nm 4 0 0\nm 5 1 1\nm 6 1 1\nm 7 0 0\n"
+     b"m 8 0 0\nm 9 0 0\nok 10\ntext 14\n\nb\n\r\n\n\r\nb\nb\n\n\n\n", 0),
+    # matches over chunks of 984 bytes, many in one, few in many, and a new text of one chunk or of many
+    *[replaced_in_chunks(step, template) for step in (1, 30, 5_000) for template in ("", "y", "$0$0", "é\r\n" * 100)],
     # positions that are nowhere: inside the frog's pair, between CR and LF, behind a line's text, past the last
     (with_payload("text", TEXT) + b"".join(b"edit %d %d %d %d 1\nx" % (place * 2) for place in NOWHERE) + b"undo\n",
      b"ok\n" + b"error range\n" * len(NOWHERE) + b"error none\n", 0),
@@ -187,20 +226,39 @@ def test_ample_memory():
     ended = run(data)
     wrong = differences(ended, *answer(data))
     test("a text of many reads, and no want of memory", wrong + (["error memory"] if b"error memory" in ended.out else []))
+    test("the first session a thousand times over", differences(run(FIRST * 1_000), answer(FIRST)[0] * 1_000, 0))
+
+
+def read_past(line, before=b""):
+    """A command line, the number of which is a payload one byte over the limit, and `print`: they lie in a file with a
+    hole. Answers the run."""
+    line %= TEXT_LIMIT + 1
+    with tempfile.TemporaryFile(dir=ROOM) as given:
+        given.write(before + line)
+        given.truncate(len(before) + len(line) + TEXT_LIMIT + 1)
+        given.seek(0, os.SEEK_END)
+        given.write(b"print\n")
+        given.seek(0)
+        return end_of(start(stdin=given))
 
 
 def test_long_text():
-    """A text one byte over the limit is read past and refused; it lies in a file with a hole."""
+    """A text one byte over the limit is read past and refused, and so is a template; and a text that would be too long
+    with all its matches replaced."""
     for name, line in (("a text", b"text %d\n"), ("an edit", b"edit 0 0 0 0 %d\n")):
-        line %= TEXT_LIMIT + 1
-        with tempfile.TemporaryFile(dir=ROOM) as given:
-            given.write(line)
-            given.truncate(len(line) + TEXT_LIMIT + 1)
-            given.seek(0, os.SEEK_END)
-            given.write(b"print\n")
-            given.seek(0)
-            ended = end_of(start(stdin=given))
-        test(f"{name} one byte over the limit", differences(ended, b"error size\ntext 0\n\n", 0))
+        test(f"{name} one byte over the limit", differences(read_past(line), b"error size\ntext 0\n\n", 0))
+    ended = read_past(b"replace %d\n", b"pattern 1\na")
+    test("a template one byte over the limit", differences(ended, b"ok\nerror size\ntext 0\n\n", 0))
+    ended = read_past(b"replace %d\n")
+    test("such a template without a pattern", differences(ended, b"error none\ntext 0\n\n", 0))
+
+    letters = 1 << 15
+    text = b"a" * letters
+    for pattern, template in ((b"a", b"x" * (letters + 1)), (b".*", b"$0" * (letters + 1))):
+        data = spelled("text", (letters,), text) + spelled("pattern", (len(pattern),), pattern)
+        data += spelled("replace", (len(template),), template) + b"print\n"
+        out = b"ok\nok\nerror size\n" + b"text %d\n%b\n" % (letters, text)
+        test(f"{letters + 1} times {letters} bytes in the place of {pattern.decode()}", differences(run(data), out, 0))
 
 
 def test_conversation():
@@ -242,6 +300,7 @@ def test_conversation():
         b"text 3\na\nbpattern 1\nbedit 0 1 1 0 0\nlist\nundo\nlist\nredo\nedit 0 9 0 9 1\nbprint\n",
         b"list\npattern 1\naoff\ntext 3\na\napattern 1\nalist\npattern 1\n(list\n",
         b"next 0 0\ntext 4\na\nabpattern 3\n\\w+next 0 1\nnext 1 2\nnext 2 0\nedit 1 0 1 0 1\n\nnext 0 1\nlist\n",
+        b"replace 1\nbpattern 1\nareplace 1\nbtext 3\na\nareplace 2\n$$listprint\nundo\nlist\n",
     ):
         test(f"{short(data)} command by command, each reply before the next", talk(data))
 

@@ -80,8 +80,8 @@ fn whole_searches_that_runs_make(rt: HostRuntime) -> Result<(), Fail> {
     Ok(())
 }
 
-/// How many rows the last command of an input makes, if the run ends well, and all before it. It
-/// searches whole texts this often, and none before it does.
+/// How many rows the last command of an input makes, if the run ends well, and all before it, where
+/// it searches whole texts so often and they don't.
 fn rows_of_last(
     rt: &HostRuntime,
     before: &[u8],
@@ -133,16 +133,18 @@ fn a_letter_in_ten_thousand_lines(rt: HostRuntime) -> Result<(), Fail> {
     Ok(())
 }
 
-/// A match may start or end between a CR and an LF, and part them; what takes its place may join
-/// them. Where there is none no line is searched.
+/// For each match as many as what takes its place has lines, also where a CR LF is parted or made,
+/// and none where there is no match.
 #[test]
 fn most_rows_of_replacements(rt: HostRuntime) -> Result<(), Fail> {
-    let cases: [(&[u8], &[u8], u64); 5] = [
+    let cases: [(&[u8], &[u8], u64); 7] = [
         (b"text 4\na\r\nbpattern 1\n\n", b"replace 0\n", 1),
         (b"text 5\na\rx\nypattern 1\nx", b"replace 0\n", 1),
         (b"text 4\na\r\nbpattern 2\n\r\n", b"replace 2\n\n\r", 3),
-        (b"text 2\nabpattern 2\nx*", b"replace 1\n-", 3),
         (b"text 1\napattern 1\nb", b"replace 1\nc", 0),
+        (b"text 2\nabpattern 2\nx*", b"replace 1\n-", 3),
+        (b"text 5\na\nb\napattern 1\na", b"replace 3\n$0\n", 4),
+        (b"text 5\na\nb\napattern 1\n\n", b"replace 1\n\r", 4),
     ];
     for (before, replace, most) in cases {
         let rows = rows_of_last(&rt, before, replace, 1)?;
@@ -155,8 +157,25 @@ fn most_rows_of_replacements(rt: HostRuntime) -> Result<(), Fail> {
 }
 
 #[test]
+fn one_match_in_ten_thousand_lines(rt: HostRuntime) -> Result<(), Fail> {
+    let mut before = Vec::new(rt.alloc());
+    before.extend_from_slice(b"text 99995\n")?;
+    for _ in 0..5_000 {
+        before.extend_from_slice(b"some line\n")?;
+    }
+    before.extend_from_slice(b"match")?;
+    for _ in 0..4_999 {
+        before.extend_from_slice(b"some line\n")?;
+    }
+    before.extend_from_slice(b"pattern 5\nmatch")?;
+    let rows = rows_of_last(&rt, before.as_slice(), b"replace 1\nz", 1)?;
+    assert!(rt; rows == Some((1, 10_000)));
+    Ok(())
+}
+
+#[test]
 fn limits_on_texts(rt: HostRuntime) -> Result<(), Fail> {
-    let cases: [(usize, &[u8], &[u8]); 10] = [
+    let cases: [(usize, &[u8], &[u8]); 13] = [
         (4, b"text 5\nabcdeprint\n", b"error size\ntext 0\n\n"),
         (4, b"text 4\nabcdprint\n", b"ok\ntext 4\nabcd\n"),
         (
@@ -173,6 +192,21 @@ fn limits_on_texts(rt: HostRuntime) -> Result<(), Fail> {
             4,
             b"text 5\n\xff\xff\xff\xff\xfftext 5\nabcde",
             b"error utf8\nerror size\n",
+        ),
+        (
+            4,
+            b"text 3\nabcpattern 0\nreplace 1\n-print\n",
+            b"ok\nok\nerror size\ntext 3\nabc\n",
+        ),
+        (
+            4,
+            b"text 3\nabcpattern 1\nbreplace 4\n$0$0print\nundo\nreplace 6\n$0$0$0",
+            b"ok\nok\nok 1\ntext 4\nabbc\nok\nerror size\n",
+        ),
+        (
+            4,
+            b"text 2\nabreplace 5\n$0$0$pattern 1\nxreplace 5\n$0$0$replace 1\n$",
+            b"ok\nerror none\nok\nerror size\nok 0\n",
         ),
         // A pattern may have more bytes than a text.
         (4, b"pattern 5\nabcde", b"ok\n"),
