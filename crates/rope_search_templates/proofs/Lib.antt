@@ -3,3 +3,7 @@ pub mod PieceLemmas
 pub mod SpanLemmas
 pub mod PushLemmas
 pub mod SliceLemmas
+pub mod ContentLemmas
+pub mod LengthLemmas
+pub mod EditingLemmas
+pub mod BuildingLemmas
