@@ -6,7 +6,8 @@ use Rattle.ropey_walk.specs.Clips as walk
 use Rattle.rope_search_reports.specs.Text.{bytes_of}
 use Rattle.rope_search_templates.specs.Pieces.{IsPiece, shown}
 use Rattle.rope_search_templates.proofs.PushLemmas.{pushed-ok}
-use Rattle.rope_search_templates.proofs.SpanLemmas.{span-of, range-in, text-utf8, group-is}
+use Rattle.rope_search_templates.proofs.ContentLemmas.{text-utf8}
+use Rattle.rope_search_templates.proofs.SpanLemmas.{span-of, range-in, group-is}
 use Rattle.rope_search_templates.proofs.SliceLemmas.{whole-is}
 use Rattle.rope_search_templates.proofs.templates.push_piece.Goals as goal
 
