@@ -58,7 +58,7 @@ def long_lines(length):
 
 def replaced_in_chunks(step, template):
     """A text of many chunks, with matches so many bytes apart and one from its third line to its fourth, and what it is
-    once a template takes the place of each, without groups of its own."""
+    once a template takes the place of each, which names no group but 0."""
     text = ("-" * (step - 1) + "x") * (4_000 // step) + "\r\n\nab\r" + "-" * 1_000 + "c"
     new = re.sub("x|b\r-*", lambda found: template.replace("$0", found[0]), text)
     commands = [("text", text), ("pattern", "x|b\\r-*"), ("replace", template)]
