@@ -7,7 +7,7 @@ use Rattle.rx_utf8.specs.Automata.{is_in}
 use Rattle.rx_input.specs.Inputs.{InputState}
 use Rattle.rx_program.specs.declared.error.BuildError.{BuildError}
 use Rattle.rx_program.specs.declared.error.BuildError.TheVariants.{Syntax, Size, Memory}
-pub use Rattle.rx_program.specs.Laws.{HasNoted, IsNotedWhole}
+pub use Rattle.rx_program.specs.Laws.{HasNoted, IsNotedWhole, noted, not_noted}
 pub use Rattle.rx_walks.specs.Finds.{IsInside, IsPossible, MayEnd}
 pub use Rattle.rx_walks.specs.Laws.{FindsAtMostOne, FindsExist, FindsLieInside, FindsStandAtBoundaries, LiesInside, MatchesAreOneList, MayBeFound, StandsAtBoundaries}
 pub use Rattle.rx_walks.specs.MatchLaws.{AreInOrder, FirstMatchesGrow, HasFirstMatches, IsFoundBehind, LiesBetween, MatchesAreFound, MatchesExist, MatchesRise, MatchesStandAtBoundaries}

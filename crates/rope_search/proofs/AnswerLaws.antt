@@ -8,9 +8,9 @@ use Rattle.rope_search.specs.Session.{first}
 use Rattle.rope_search.specs.Reads.{Reads}
 use Rattle.rope_search.specs.Shows.{closing}
 use Rattle.rope_search.specs.Answers.{Run, Answers}
+use Rattle.rope_search.specs.Laws.{Known}
 use Rattle.rope_search.proofs.RunLaws.{Reads-more}
 use Rattle.rope_search.proofs.HoldLaws.{first_holds}
-use Rattle.rope_search.proofs.StepLaws.{Known}
 use Rattle.rope_search.proofs.ExistLaws.{run_exists}
 use Rattle.rope_search.proofs.ReadLaws.{reads_exist, reads_one}
 

@@ -3,10 +3,10 @@ use Rattle.std.proofs.Common.{ℕ, ◌+◌, List, [], ◌∷◌, ◌++◌, refl}
 use Rattle.rope_search_reports.specs.Laws.{HasReport}
 use Rattle.rope_search.specs.Order.{Order}
 use Rattle.rope_search.specs.Session.{State}
-use Rattle.rope_search.specs.Laws.{AllHoldTexts}
+use Rattle.rope_search.specs.Laws.{AllHoldTexts, Known}
 use Rattle.rope_search.specs.Answers.{Run}
 use Rattle.rope_search.proofs.RunLaws.{Run-nil}
-use Rattle.rope_search.proofs.StepLaws.{Known, step_exists, costs_exist, shows_exist}
+use Rattle.rope_search.proofs.StepLaws.{step_exists, costs_exist, shows_exist}
 use Rattle.rope_search.proofs.TextLaws.{step_holds}
 
 pub run_exists : Known → HasReport → (limit : ℕ) (s : State) (os : List Order) → AllHoldTexts s → (out : List ℕ) × (cost : ℕ) × (new : State) × Run limit s os out cost new
@@ -14,7 +14,7 @@ run_exists known reported limit s [] all = ([], 0, s, Run-nil limit s)
 run_exists known reported limit s (o ∷ os) all =
     let step = step_exists known limit s o all in
     let costs = costs_exist known limit s o all in
-    let later = step_holds known.told limit s step.1 o step.0 step.3 all in
+    let later = step_holds known limit s step.1 o step.0 step.3 all in
     let shows = shows_exist reported step.1 step.0 later in
     let others = run_exists known reported limit step.1 os later in (
       shows.0 ++ others.0,

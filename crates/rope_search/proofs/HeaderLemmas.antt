@@ -2,7 +2,7 @@
 use Rattle.std.proofs.Common.{◌≡◌, ◌↔◌, ℕ, ◌+◌, ◌-◌, ◌*◌, ◌^◌, ◌<◌, ◌≤◌, List, [], ◌∷◌, ◌++◌, length, take, drop, zero, suc, slice_index_or, inl, inr, get_or, codes, sym, ap, ◌∙◌, subst, refl, add-one, append_assoc, append-nil, length-append, arith}
 use Rattle.std.proofs.lemmas.List.{append_cancel_left, take_all, drop_all}
 use Rattle.rope_search_reports.specs.declared.positions.Position.{Position}
-use Rattle.rope_search.specs.Order.{Order, SetText, EditText, SetPattern, FindNext, UseBuffer}
+use Rattle.rope_search.specs.Order.{Order, SetText, EditText, SetPattern, FindNext, ReplaceAll, UseBuffer}
 use Rattle.rope_search.proofs.NumberLaws.{AreSpelled-first, IsNumber-one}
 use Rattle.rope_search.proofs.ReadLaws.{fronts_same}
 use Rattle.rope_search.proofs.LineLaws.{positions_same, IsLine-first, IsLine-third}
@@ -159,6 +159,20 @@ header_pattern line len told o = (from o, to o)
 
     to : (o : Order) → IsHeaderOf (SetPattern len) o → IsLine o line
     to (SetPattern payload) h = (told (length payload ∷ [])).1 (ap (λ n. n ∷ []) h)
+    to p h = absurd h
+
+pub header_replace : (line : List ℕ) (len : ℕ) → ((ns : List ℕ) → IsWorded (codes "replace") line ns ↔ ns ≡ len ∷ []) → (o : Order) → IsLine o line ↔ IsHeaderOf (ReplaceAll len) o
+header_replace line len told o = (from o, to o)
+  where
+    there : IsWorded (codes "replace") line (len ∷ [])
+    there = (told (len ∷ [])).1 refl
+
+    from : (o : Order) → IsLine o line → IsHeaderOf (ReplaceAll len) o
+    from (ReplaceAll payload) h = let e : length payload ∷ [] ≡ len ∷ [] = (told (length payload ∷ [])).0 h in cc
+    from p h = absurd (omega (arith, IsLine-first p line h, IsLine-third p line h, ap (λ l. get_or l 0 0) there.2, ap (λ l. get_or l 2 0) there.2))
+
+    to : (o : Order) → IsHeaderOf (ReplaceAll len) o → IsLine o line
+    to (ReplaceAll payload) h = (told (length payload ∷ [])).1 (ap (λ n. n ∷ []) h)
     to p h = absurd h
 
 pub header_use : (line : List ℕ) (k : ℕ) → ((ns : List ℕ) → IsWorded (codes "use") line ns ↔ ns ≡ k ∷ []) → (o : Order) → IsLine o line ↔ IsHeaderOf (UseBuffer k) o

@@ -5,21 +5,22 @@ use Rattle.std.proofs.lemmas.List.{get_or-set_same, length-set}
 use Rattle.rope_search_io.specs.declared.faults.Fault.{Fault}
 use Rattle.rope_search_io.specs.declared.faults.Fault.TheVariants.{Nothing, Memory}
 use Rattle.rope_search.specs.declared.commands.Reply.{Reply}
-use Rattle.rope_search.specs.declared.commands.Reply.TheVariants.{Done, List as Listing, Print}
+use Rattle.rope_search.specs.declared.commands.Reply.TheVariants.{Done, Number, List as Listing, Print}
 use Rattle.rope_search_reports.specs.declared.positions.Position.{Position}
 use Rattle.rope_search_reports.specs.Text.{bytes_of}
 use Rattle.rope_search_reports.specs.Report.{IsReport}
 use Rattle.rope_search_reports.specs.Laws.{HasOneReport}
 use Rattle.rope_search.specs.Order.{Order, EditText, UndoEdit, RedoEdit, PrintText, ListMatches}
 use Rattle.rope_search.specs.Session.{State, BufferState, fresh, current_text, chosen_buffer, with_chosen, with_edit, undone, redone, IsReportIn}
+use Rattle.rope_search.specs.Replacing.{text_with}
 use Rattle.rope_search.specs.Shows.{Shows, IsListed, shows, shown_text, shown_report}
 use Rattle.rope_search.specs.Step.{Answer, Does, Step}
-use Rattle.rope_search.specs.Laws.{HasCurrent, AreAlike, UndoUndoesEdit, RedoRedoesUndo, RepliesAlike}
+use Rattle.rope_search.specs.Laws.{HasCurrent, AreAlike, UndoUndoesEdit, UndoUndoesReplace, RedoRedoesUndo, RepliesAlike}
 
 -- ---- the chosen buffer of a session
 
 -- a buffer in the chosen one's place is the chosen one
-chosen_set : (s : State) (buffer : BufferState) → s.chosen < length s.buffers → chosen_buffer (with_chosen s buffer) ≡ buffer
+pub chosen_set : (s : State) (buffer : BufferState) → s.chosen < length s.buffers → chosen_buffer (with_chosen s buffer) ≡ buffer
 chosen_set s buffer inside = get_or-set_same s.buffers s.chosen buffer (fresh []) inside
 
 -- ---- undo and redo
@@ -31,23 +32,34 @@ kept_text [] n (suc m) more inside kept = absurd (omega arith)
 kept_text (t ∷ ts) zero (suc m) more inside kept = refl
 kept_text (t ∷ ts) (suc n) (suc m) more inside kept = kept_text ts n m more (omega arith) (omega arith)
 
-pub undo_edit : UndoUndoesEdit
-undo_edit limit old edited new from to payload Done Done current first second =
+-- an undo directly after a further text gives back text and pattern
+undone_edit : (limit : ℕ) (old edited new : State) (text : List ℕ) (reply : Reply) → HasCurrent old → edited ≡ with_chosen old (with_edit (chosen_buffer old) text)
+    → Step limit edited UndoEdit (Ok reply) new → AreAlike new old
+undone_edit limit old edited new text Done current is step =
     let buffer = chosen_buffer old in
-    let edit = first.1.3 in
-    let there : chosen_buffer edited ≡ first.1.1 = ap chosen_buffer first.1.4 ∙ chosen_set old first.1.1 current.chosen in
+    let with = with_edit buffer text in
+    let there : chosen_buffer edited ≡ with = ap chosen_buffer is ∙ chosen_set old with current.chosen in
     let still : edited.chosen < length edited.buffers =
-    subst (λ (s : State). s.chosen < length s.buffers) (sym first.1.4) (omega (arith, current.chosen, length-set old.buffers old.chosen first.1.1)) in
-    let back : chosen_buffer new ≡ undone first.1.1 = ap chosen_buffer second.1 ∙ chosen_set edited (undone (chosen_buffer edited)) still ∙ ap undone there in
-    let whole : chosen_buffer new ≡ undone (with_edit buffer (edit.before ++ first.1.0 ++ edit.behind)) = back ∙ ap undone edit.changed in
+    subst (λ (s : State). s.chosen < length s.buffers) (sym is) (omega (arith, current.chosen, length-set old.buffers old.chosen with)) in
+    let back : chosen_buffer new ≡ undone with = ap chosen_buffer step.1 ∙ chosen_set edited (undone (chosen_buffer edited)) still ∙ ap undone there in
     let number : buffer.current + 1 - 1 ≡ buffer.current = omega arith in
-    let texts = take (buffer.current + 1) buffer.texts ++ (edit.before ++ first.1.0 ++ edit.behind) ∷ [] in
     record {
-      text = ap current_text whole ∙ ap (λ n. slice_index_or texts n []) number ∙ kept_text buffer.texts buffer.current (buffer.current + 1) ((edit.before ++ first.1.0 ++ edit.behind) ∷ []) current.current (omega arith);
-      pattern = ap (λ (b : BufferState). b.pattern) whole;
+      text = ap current_text back ∙ ap (λ n. slice_index_or with.texts n []) number ∙ kept_text buffer.texts buffer.current (buffer.current + 1) (text ∷ []) current.current (omega arith);
+      pattern = ap (λ (b : BufferState). b.pattern) back;
     }
-undo_edit limit old edited new from to payload Done other current first second = absurd second.1
-undo_edit limit old edited new from to payload reply other current first second = absurd first.1
+undone_edit limit old edited new text reply current is step = absurd step.1
+
+pub undo_edit : UndoUndoesEdit
+undo_edit limit old edited new from to payload Done undone current first second =
+    let edit = first.1.3 in
+    undone_edit limit old edited new (edit.before ++ first.1.0 ++ edit.behind) undone current (first.1.4 ∙ ap (with_chosen old) edit.changed) second
+undo_edit limit old edited new from to payload reply undone current first second = absurd first.1
+
+pub undo_replace : UndoUndoesReplace
+undo_replace limit old edited new payload (Number count) undone current first second =
+    let change = first.1.3 in
+    undone_edit limit old edited new (text_with (chosen_buffer old) first.1.0 change.matches) undone current (first.1.4 ∙ ap (with_chosen old) change.changed) second
+undo_replace limit old edited new payload reply undone current first second = absurd first.1
 
 positive : (n : ℕ) → (n ≡ 0 → ⊥) → 0 < n
 positive zero some = absurd (some refl)

@@ -1,9 +1,11 @@
 pub mod AnswerLaws
 pub mod EditLemmas
+pub mod ReplaceLemmas
 pub mod HeaderLemmas
 pub mod ListingLemmas
 pub mod HistoryLaws
 pub mod LineLaws
+pub mod MatchLemmas
 pub mod NoneLaws
 pub mod NumberLaws
 pub mod PartLaws
@@ -11,6 +13,7 @@ pub mod PatchLemmas
 pub mod PayloadLemmas
 pub mod PutLemmas
 pub mod ReadLaws
+pub mod ReplaceLaws
 pub mod RequestLemmas
 pub mod RunEndings
 pub mod RunLaws

@@ -3,7 +3,7 @@ use Rattle.std.proofs.Common.{◌≡◌, ℕ, ◌≤◌, ◌⊎◌, List, [], �
 use Rattle.std.proofs.lemmas.Bool.{cases_eq}
 use Rattle.std.proofs.lemmas.List.{length-replicate, append_cancel_left}
 use Rattle.rope_search_reports.specs.declared.positions.Position.{Position}
-use Rattle.rope_search.specs.Order.{Order, SetText, EditText, UndoEdit, RedoEdit, PrintText, ForkBuffer, SetPattern, DropPattern, ListMatches, FindNext, UseBuffer}
+use Rattle.rope_search.specs.Order.{Order, SetText, EditText, UndoEdit, RedoEdit, PrintText, ForkBuffer, SetPattern, DropPattern, ListMatches, FindNext, ReplaceAll, UseBuffer}
 use Rattle.rope_search.specs.Reads.{AreSpelled, IsWorded, payload_of, IsLine, HasNoLf}
 use Rattle.rope_search.proofs.NumberLaws.{spelled_choice, AreSpelled-one, HasNoLf-append, HasNoLf-spelled, length-spelled_le}
 
@@ -103,6 +103,7 @@ pub record IsNoLine (line : List ℕ) : Type 0 where
   pub no_off : line ≡ codes "off" → ⊥
   pub no_list : line ≡ codes "list" → ⊥
   pub no_next : (a b : ℕ) → IsWorded (codes "next") line (a ∷ b ∷ []) → ⊥
+  pub no_replace : (n : ℕ) → IsWorded (codes "replace") line (n ∷ []) → ⊥
   pub no_use : (n : ℕ) → IsWorded (codes "use") line (n ∷ []) → ⊥
 
 pub no_line : (line : List ℕ) → IsNoLine line → (o : Order) → IsLine o line → ⊥
@@ -116,6 +117,7 @@ no_line line none (SetPattern payload) h = none.no_pattern (length payload) h
 no_line line none DropPattern h = none.no_off h
 no_line line none ListMatches h = none.no_list h
 no_line line none (FindNext from) h = none.no_next from.line from.column h
+no_line line none (ReplaceAll payload) h = none.no_replace (length payload) h
 no_line line none (UseBuffer k) h = none.no_use k h
 
 -- a payload of so many bytes
@@ -138,9 +140,12 @@ line_choice line = elim (one_choice (codes "text") line) [
       | inl pattern ↦ inl (SetPattern (bytes_for pattern.0), as_long (codes "pattern") line [] pattern.0 pattern.1)
       | inr no_pattern ↦ elim (two_choice (codes "next") line) [
         | inl next ↦ inl (FindNext (record { line = next.0; column = next.1 }), next.2)
-        | inr no_next ↦ elim (one_choice (codes "use") line) [
-          | inl chosen ↦ inl (UseBuffer chosen.0, chosen.1)
-          | inr no_use ↦ plain_choice no_text no_edit no_pattern no_next no_use
+        | inr no_next ↦ elim (one_choice (codes "replace") line) [
+          | inl template ↦ inl (ReplaceAll (bytes_for template.0), as_long (codes "replace") line [] template.0 template.1)
+          | inr no_replace ↦ elim (one_choice (codes "use") line) [
+            | inl chosen ↦ inl (UseBuffer chosen.0, chosen.1)
+            | inr no_use ↦ plain_choice no_text no_edit no_pattern no_next no_replace no_use
+          ]
         ]
       ]
     ]
@@ -149,9 +154,9 @@ line_choice line = elim (one_choice (codes "text") line) [
   where
     plain_choice : ((n : ℕ) → IsWorded (codes "text") line (n ∷ []) → ⊥) → ((a b c d n : ℕ) → IsWorded (codes "edit") line (five a b c d n) → ⊥)
         → ((n : ℕ) → IsWorded (codes "pattern") line (n ∷ []) → ⊥) → ((a b : ℕ) → IsWorded (codes "next") line (a ∷ b ∷ []) → ⊥)
-        → ((n : ℕ) → IsWorded (codes "use") line (n ∷ []) → ⊥)
+        → ((n : ℕ) → IsWorded (codes "replace") line (n ∷ []) → ⊥) → ((n : ℕ) → IsWorded (codes "use") line (n ∷ []) → ⊥)
         → ((o : Order) × IsLine o line) ⊎ ((o : Order) → IsLine o line → ⊥)
-    plain_choice no_text no_edit no_pattern no_next no_use = elim (list_choice line (codes "undo")) [
+    plain_choice no_text no_edit no_pattern no_next no_replace no_use = elim (list_choice line (codes "undo")) [
       | inl undo ↦ inl (UndoEdit, undo)
       | inr no_undo ↦ elim (list_choice line (codes "redo")) [
         | inl redo ↦ inl (RedoEdit, redo)
@@ -174,6 +179,7 @@ line_choice line = elim (one_choice (codes "text") line) [
                   no_off = no_off;
                   no_list = no_list;
                   no_next = no_next;
+                  no_replace = no_replace;
                   no_use = no_use;
                 }))
               ]
@@ -197,6 +203,7 @@ first_byte (SetPattern payload) = 112
 first_byte DropPattern = 111
 first_byte ListMatches = 108
 first_byte (FindNext from) = 110
+first_byte (ReplaceAll payload) = 114
 first_byte (UseBuffer k) = 117
 
 abbrev pub third_byte : Order → ℕ
@@ -210,6 +217,7 @@ third_byte (SetPattern payload) = 116
 third_byte DropPattern = 102
 third_byte ListMatches = 115
 third_byte (FindNext from) = 120
+third_byte (ReplaceAll payload) = 112
 third_byte (UseBuffer k) = 101
 
 pub IsLine-first : (o : Order) (line : List ℕ) → IsLine o line → get_or line 0 0 ≡ first_byte o
@@ -217,6 +225,7 @@ IsLine-first (SetText payload) line h = ap (λ l. get_or l 0 0) h.2
 IsLine-first (EditText from to payload) line h = ap (λ l. get_or l 0 0) h.2
 IsLine-first (SetPattern payload) line h = ap (λ l. get_or l 0 0) h.2
 IsLine-first (FindNext from) line h = ap (λ l. get_or l 0 0) h.2
+IsLine-first (ReplaceAll payload) line h = ap (λ l. get_or l 0 0) h.2
 IsLine-first (UseBuffer k) line h = ap (λ l. get_or l 0 0) h.2
 IsLine-first o line h = ap (λ l. get_or l 0 0) h
 
@@ -225,6 +234,7 @@ IsLine-third (SetText payload) line h = ap (λ l. get_or l 2 0) h.2
 IsLine-third (EditText from to payload) line h = ap (λ l. get_or l 2 0) h.2
 IsLine-third (SetPattern payload) line h = ap (λ l. get_or l 2 0) h.2
 IsLine-third (FindNext from) line h = ap (λ l. get_or l 2 0) h.2
+IsLine-third (ReplaceAll payload) line h = ap (λ l. get_or l 2 0) h.2
 IsLine-third (UseBuffer k) line h = ap (λ l. get_or l 2 0) h.2
 IsLine-third o line h = ap (λ l. get_or l 2 0) h
 
@@ -276,6 +286,7 @@ IsLine-one (SetPattern payload) (SetPattern payload') line one other = one_told 
 IsLine-one DropPattern DropPattern line one other = refl
 IsLine-one ListMatches ListMatches line one other = refl
 IsLine-one (FindNext from) (FindNext start) line one other = refl
+IsLine-one (ReplaceAll payload) (ReplaceAll payload') line one other = one_told (codes "replace") line (length payload) (length payload') one other
 IsLine-one (UseBuffer k) (UseBuffer j) line one other = refl
 IsLine-one o p line one other = absurd (omega (arith, IsLine-first o line one, IsLine-first p line other, IsLine-third o line one, IsLine-third p line other))
 
@@ -295,6 +306,7 @@ IsLine-same (SetPattern payload) (SetPattern payload') line one other same = ap 
 IsLine-same DropPattern DropPattern line one other same = refl
 IsLine-same ListMatches ListMatches line one other same = refl
 IsLine-same (FindNext from) (FindNext start) line one other same = ap FindNext (position_told line from start one other)
+IsLine-same (ReplaceAll payload) (ReplaceAll payload') line one other same = ap ReplaceAll same
 IsLine-same (UseBuffer k) (UseBuffer j) line one other same = ap UseBuffer (one_told (codes "use") line k j one other)
 IsLine-same o p line one other same = absurd (omega (arith, IsLine-first o line one, IsLine-first p line other, IsLine-third o line one, IsLine-third p line other))
 
@@ -308,6 +320,7 @@ HasNoLf-line (SetText payload) line h = HasNoLf-worded (codes "text") line (leng
 HasNoLf-line (EditText from to payload) line h = HasNoLf-worded (codes "edit") line (five from.line from.column to.line to.column (length payload)) (omega arith) h
 HasNoLf-line (SetPattern payload) line h = HasNoLf-worded (codes "pattern") line (length payload ∷ []) (omega arith) h
 HasNoLf-line (FindNext from) line h = HasNoLf-worded (codes "next") line (from.line ∷ from.column ∷ []) (omega arith) h
+HasNoLf-line (ReplaceAll payload) line h = HasNoLf-worded (codes "replace") line (length payload ∷ []) (omega arith) h
 HasNoLf-line (UseBuffer k) line h = HasNoLf-worded (codes "use") line (k ∷ []) (omega arith) h
 HasNoLf-line o line h = subst HasNoLf (sym h) (omega arith)
 
@@ -317,5 +330,6 @@ length-line_le (EditText from to payload) line h =
     omega (arith, ap length h.2, length-spelled_le (five from.line from.column to.line to.column (length payload)) h.0 h.1)
 length-line_le (SetPattern payload) line h = omega (arith, ap length h.2, length-spelled_le (length payload ∷ []) h.0 h.1)
 length-line_le (FindNext from) line h = omega (arith, ap length h.2, length-spelled_le (from.line ∷ from.column ∷ []) h.0 h.1)
+length-line_le (ReplaceAll payload) line h = omega (arith, ap length h.2, length-spelled_le (length payload ∷ []) h.0 h.1)
 length-line_le (UseBuffer k) line h = omega (arith, ap length h.2, length-spelled_le (k ∷ []) h.0 h.1)
 length-line_le o line h = omega (arith, ap length h)

@@ -21,9 +21,9 @@ use Rattle.rope_search.specs.Finding.{ArePositionsOf, FindsNext, TellsNext}
 use Rattle.rope_search.specs.Places.{IsBetween}
 use Rattle.rope_search.specs.Shows.{Shows, shows}
 use Rattle.rope_search.specs.Step.{Answer, Does, IsFirstRefusal, Refuses, Step}
-use Rattle.rope_search.specs.Laws.{AllHoldTexts, AreAlike, EditsHavePlaces, FindsAlike, FindsBoundaries, HavePlaces}
+use Rattle.rope_search.specs.Laws.{AllHoldTexts, AreAlike, EditsHavePlaces, FindsAlike, FindsBoundaries, HavePlaces, Known}
 use Rattle.rope_search.proofs.HoldLaws.{chosen_holds, text_holds}
-use Rattle.rope_search.proofs.StepLaws.{IsFirstRefusal-one, Known, Step-told, next_one}
+use Rattle.rope_search.proofs.StepLaws.{IsFirstRefusal-one, Step-told, next_one}
 
 -- ---- replies to `next`
 

@@ -9,7 +9,7 @@ use Rattle.rope_search.specs.declared.payloads.Collected.{Collected}
 use Rattle.rope_search.specs.declared.requests.Request.{Request}
 use Rattle.rope_search.specs.declared.requests.Request.TheVariants.{Given, End}
 use Rattle.rope_search.specs.declared.endings.Ended.TheVariants.{Input, Command, Cut}
-use Rattle.rope_search.specs.Order.{Order, SetText, EditText, UndoEdit, RedoEdit, PrintText, ForkBuffer, SetPattern, DropPattern, ListMatches, FindNext, UseBuffer}
+use Rattle.rope_search.specs.Order.{Order, SetText, EditText, UndoEdit, RedoEdit, PrintText, ForkBuffer, SetPattern, DropPattern, ListMatches, FindNext, ReplaceAll, UseBuffer}
 use Rattle.rope_search.specs.Stands.{limit_on}
 use Rattle.rope_search.specs.Header.{IsHeaderOf}
 use Rattle.rope_search.specs.Reads.{IsLine, payload_of}
@@ -38,6 +38,7 @@ order_for (SetPattern n) len bytes has is = (SetPattern bytes, is ∙ sym (has (
 order_for DropPattern len bytes has is = (DropPattern, tt, no_bytes bytes (is ∙ sym (has DropPattern tt)))
 order_for ListMatches len bytes has is = (ListMatches, tt, no_bytes bytes (is ∙ sym (has ListMatches tt)))
 order_for (FindNext from) len bytes has is = (FindNext from, refl, no_bytes bytes (is ∙ sym (has (FindNext from) refl)))
+order_for (ReplaceAll n) len bytes has is = (ReplaceAll bytes, is ∙ sym (has (ReplaceAll (replicate n 0)) (length-replicate n 0)) ∙ length-replicate n 0, refl)
 order_for (UseBuffer k) len bytes has is = (UseBuffer k, refl, no_bytes bytes (is ∙ sym (has (UseBuffer k) refl)))
 
 -- a payload that was read whole

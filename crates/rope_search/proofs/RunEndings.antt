@@ -17,9 +17,9 @@ use Rattle.rope_search.specs.Reads.{Reads, Ends, payload_of}
 use Rattle.rope_search.specs.Answers.{Answers}
 use Rattle.rope_search.specs.Requests.{TakesEnding, IsUnfinished}
 use Rattle.rope_search.specs.Runs.{Scene, start, SoFar, Turned, TakesTurn, OnlyReads, TellsEnd, SearchesWithin, FlushesAll, FlushesLast, IsAnswered, IsAnswerTo, AnswersWhole, StopsFor, StopsReading, StopsWriting, Ran, Closes, ClosesWhole, ClosesFront}
+use Rattle.rope_search.specs.Laws.{Known}
 use Rattle.rope_search.proofs.RunLaws.{Ends-more, Reads-more, Reads-after, Run-append, Run-push, SpellAll-append, SpellAll-one}
 use Rattle.rope_search.proofs.TurnLemmas.{SearchesWithin-more, SearchesWithin-trans}
-use Rattle.rope_search.proofs.StepLaws.{Known}
 use Rattle.rope_search.proofs.ExistLaws.{run_exists}
 use Rattle.rope_search.proofs.TextLaws.{holds_always}
 use Rattle.rope_search.proofs.ReadLaws.{reads_exist}
@@ -208,7 +208,7 @@ cut_short known reported limit source sink ticks mid new so turned =
     let spells = SpellAll-append so.orders (turned.order ∷ []) so.bytes turned.bytes so.spells (SpellAll-one turned.order turned.bytes turned.spells) in
     let run = Run-push limit first mid.session new.session so.orders turned.order so.out so.cost turned.cost turned.answer shown so.run turned.step turned.costs turned.reply.shows in
     let unread = reads_exist new.buffer.bytes in
-    let later = run_exists known reported limit new.session unread.0 (holds_always known.told limit new.session (so.orders ++ turned.order ∷ []) (so.out ++ turned.reply.bytes) (so.cost + turned.cost) run) in
+    let later = run_exists known reported limit new.session unread.0 (holds_always known limit new.session (so.orders ++ turned.order ∷ []) (so.out ++ turned.reply.bytes) (so.cost + turned.cost) run) in
     record {
       input = bytes ++ new.buffer.bytes;
       orders = orders ++ unread.0;

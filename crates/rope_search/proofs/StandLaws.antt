@@ -7,7 +7,7 @@ use Rattle.std.proofs.Math.Utf8.{encode, encodes, scalar, scalars}
 use Rattle.rope_search.specs.declared.commands.CommandOf.{CommandOf}
 use Rattle.rope_search.specs.declared.commands.Payload.{Payload}
 use Rattle.rope_search.specs.declared.commands.Payload.TheVariants.{Kept, Long, Lost}
-use Rattle.rope_search.specs.Order.{Order, SetText, EditText, UndoEdit, RedoEdit, PrintText, ForkBuffer, SetPattern, DropPattern, ListMatches, FindNext, UseBuffer}
+use Rattle.rope_search.specs.Order.{Order, SetText, EditText, UndoEdit, RedoEdit, PrintText, ForkBuffer, SetPattern, DropPattern, ListMatches, FindNext, ReplaceAll, UseBuffer}
 use Rattle.rope_search_reports.specs.Pattern.{pattern_limit}
 use Rattle.rope_search.specs.Stands.{StandsFor, Stands}
 
@@ -53,4 +53,5 @@ stands_exist limit (SetPattern payload) = let whole = payload_for pattern_limit 
 stands_exist limit DropPattern = (DropPattern, tt)
 stands_exist limit ListMatches = (ListMatches, tt)
 stands_exist limit (FindNext from) = (FindNext from, refl)
+stands_exist limit (ReplaceAll payload) = let whole = payload_for limit payload in (ReplaceAll whole.0, whole.1)
 stands_exist limit (UseBuffer k) = (UseBuffer k, refl)

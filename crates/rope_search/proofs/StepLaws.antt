@@ -9,7 +9,7 @@ use Rattle.rope_search_io.specs.declared.faults.Fault.TheVariants.{Nothing, Rang
 use Rattle.rope_search.specs.declared.commands.Reply.{Reply}
 use Rattle.rope_search.specs.declared.commands.Reply.TheVariants.{Done, Number, Found, NoMatch, List as Listing, Print}
 use Rattle.rope_search_reports.specs.Text.{IsText, Encodes, bytes_of}
-use Rattle.rope_search.specs.Order.{Order, SetText, EditText, UndoEdit, RedoEdit, PrintText, ForkBuffer, SetPattern, DropPattern, ListMatches, FindNext, UseBuffer}
+use Rattle.rope_search.specs.Order.{Order, SetText, EditText, UndoEdit, RedoEdit, PrintText, ForkBuffer, SetPattern, DropPattern, ListMatches, FindNext, ReplaceAll, UseBuffer}
 use Rattle.rope_search.specs.Session.{BufferState, State, fresh, current_text, chosen_buffer, with_text, with_edit, undone, redone, with_pattern, with_chosen}
 use Rattle.rope_search_reports.specs.declared.positions.Position.{Position}
 use Rattle.rope_search.specs.Places.{IsBetween, HasNoneBetween, GetsTooLong, IsEdit}
@@ -17,7 +17,10 @@ use Rattle.rope_search.proofs.PartLaws.{edited_by, IsEdit-known, IsEdit-by, betw
 use Rattle.rope_search_reports.specs.Pattern.{IsPattern, IsTooHeavy, SpellsNone, Finds, pattern_limit}
 use Rattle.rope_search_reports.specs.Position.{IsAt, IsNowhere, position}
 use Rattle.rope_search.specs.Finding.{FindsNext, TellsNext, ArePositionsOf}
-use Rattle.rope_search.specs.Laws.{AllHoldTexts, HoldsTexts}
+use Rattle.rope_search.specs.Replacing.{AreAllMatches, IsReplacement, GetsTooLongWith, text_with}
+use Rattle.rope_search_reports.specs.Matches.{AreGroups}
+use Rattle.rope_search_reports.specs.Replacement.{Groups, searched}
+use Rattle.rope_search.specs.Laws.{AllHoldTexts, HoldsTexts, Known}
 use Rattle.rope_search.proofs.HoldLaws.{chosen_holds, text_holds, pattern_holds}
 use Rattle.rope_search.proofs.LineLaws.{positions_same}
 use Rattle.rope_search.proofs.NoneLaws.{none_between}
@@ -27,15 +30,7 @@ use Rattle.rope_search.specs.Step.{Answer, Refuses, IsFirstRefusal, Accepts, Doe
 use Rattle.rope_search.specs.Shows.{IsListed, Shows, shows}
 use Rattle.rope_search_reports.specs.Report.{IsReport}
 use Rattle.rope_search_reports.specs.Laws.{HasOnePlace, HasOneReport, HasReport, IsPatternOrNot, IsOneOfThree, FindsOne, HasFind}
-use Rattle.rope_search.specs.Cost.{Costs, CostsAccepted, rows_of}
-
--- what is known of places, of patterns and of what is found of them
-pub record Known : Type 0 where
-  pub placed : HasOnePlace
-  pub told : IsPatternOrNot
-  pub apart : IsOneOfThree
-  pub one : FindsOne
-  pub some : HasFind
+use Rattle.rope_search.specs.Cost.{Costs, CostsAccepted, RowsOf}
 
 -- bytes are UTF-8 or not
 pub utf8_choice : (bytes : List ℕ) → IsUtf8 bytes ⊎ (¬ (IsUtf8 bytes))
@@ -58,6 +53,7 @@ Refuses-memory limit s (SetPattern payload) h = h
 Refuses-memory limit s DropPattern h = h
 Refuses-memory limit s ListMatches h = h
 Refuses-memory limit s (FindNext from) h = h
+Refuses-memory limit s (ReplaceAll payload) h = h
 Refuses-memory limit s (UseBuffer k) h = h
 
 -- a payload that isn't UTF-8 is refused for that first
@@ -231,6 +227,113 @@ spot_choice placed text from scalars = elim (between_choice placed text from fro
   ]
 ]
 
+-- ---- what is replaced
+
+-- without a pattern nothing is replaced
+pub refused_replace : (limit : ℕ) (s : State) (payload : List ℕ) → (chosen_buffer s).pattern ≡ None → IsFirstRefusal limit s (ReplaceAll payload) Nothing
+refused_replace limit s payload none = record { refuses = none; none_before = before }
+  where
+    before : (other : Fault) → rank_of other < 1 → Refuses limit s (ReplaceAll payload) other → ⊥
+    before other lower h = rank_some other lower
+
+-- with one a template that isn't UTF-8 is refused for that
+pub refused_replace_utf8 : (limit : ℕ) (s : State) (payload : List ℕ) → (chosen_buffer s).pattern ≢ None → ¬ (IsUtf8 payload) → IsFirstRefusal limit s (ReplaceAll payload) Utf8
+refused_replace_utf8 limit s payload some broken = record { refuses = broken; none_before = before }
+  where
+    before : (other : Fault) → rank_of other < 3 → Refuses limit s (ReplaceAll payload) other → ⊥
+    before Nothing lower h = some h
+    before Range lower h = h
+    before other lower h = omega arith
+
+-- and one that is too long itself, or makes the text too long, for that
+pub refused_replace_size : (limit : ℕ) (s : State) (payload : List ℕ) → (chosen_buffer s).pattern ≢ None → IsUtf8 payload
+    → (limit < length payload) ⊎ GetsTooLongWith limit (chosen_buffer s) (chars payload) → IsFirstRefusal limit s (ReplaceAll payload) Size
+refused_replace_size limit s payload some text long = record { refuses = long; none_before = before }
+  where
+    before : (other : Fault) → rank_of other < 6 → Refuses limit s (ReplaceAll payload) other → ⊥
+    before Nothing lower h = some h
+    before Range lower h = h
+    before Utf8 lower h = h text
+    before Pattern lower h = h
+    before Limit lower h = h
+    before other lower h = omega arith
+
+pub accepted_replace : (limit : ℕ) (s : State) (payload : List ℕ) → (chosen_buffer s).pattern ≢ None → IsUtf8 payload → length payload ≤ limit
+    → (GetsTooLongWith limit (chosen_buffer s) (chars payload) → ⊥) → Accepts limit s (ReplaceAll payload)
+accepted_replace limit s payload some text short fits Nothing h = some h
+accepted_replace limit s payload some text short fits Range h = h
+accepted_replace limit s payload some text short fits Utf8 h = h text
+accepted_replace limit s payload some text short fits Pattern h = h
+accepted_replace limit s payload some text short fits Limit h = h
+accepted_replace limit s payload some text short fits Size (inl long) = omega arith
+accepted_replace limit s payload some text short fits Size (inr long) = fits long
+accepted_replace limit s payload some text short fits Memory h = h
+
+-- ---- all matches of a buffer's pattern
+
+-- the pattern that there is
+pub pattern_of : (pattern : Option (List ℕ)) → pattern ≢ None → (p : List ℕ) × (pattern ≡ Some p)
+pattern_of None some = absurd (some refl)
+pattern_of (Some p) some = (p, refl)
+
+-- those of a text that is a pattern
+abbrev matches_by : Known → (p content : List ℕ) → IsPattern p ⊎ (IsTooHeavy p ⊎ SpellsNone p) → List Groups
+matches_by known p content (inl is) = (known.groups p content is).0
+matches_by known p content (inr other) = []
+
+matches_by-are : (known : Known) (p content : List ℕ) (choice : IsPattern p ⊎ (IsTooHeavy p ⊎ SpellsNone p)) → IsPattern p → AreGroups p content (matches_by known p content choice)
+matches_by-are known p content (inl is) it = (known.groups p content is).1
+matches_by-are known p content (inr (inl heavy)) it = absurd (known.apart.not_heavy p it heavy)
+matches_by-are known p content (inr (inr none)) it = absurd (known.apart.some p it none)
+
+abbrev matches_in : Known → Option (List ℕ) → List ℕ → List Groups
+matches_in known None content = []
+matches_in known (Some p) content = matches_by known p content (known.told p)
+
+-- those of a buffer
+abbrev pub matches_of : Known → BufferState → List Groups
+matches_of known buffer = matches_in known buffer.pattern (bytes_of (current_text buffer))
+
+matches_of-are : (known : Known) (b : BufferState) (p : List ℕ) → HoldsTexts b → b.pattern ≡ Some p → AreAllMatches b (matches_of known b)
+matches_of-are known b p h is =
+    let content = bytes_of (current_text b) in
+    let it = pattern_holds b p h is in
+    record {
+      pattern = p;
+      is_pattern = is;
+      are = subst (λ o. AreGroups p content (matches_in known o content)) (sym is) (matches_by-are known p content (known.told p) it);
+    }
+
+-- they are these and no others
+matches_known : (known : Known) (b : BufferState) (matches : List Groups) → HoldsTexts b → AreAllMatches b matches → matches ≡ matches_of known b
+matches_known known b matches h all =
+    let content = bytes_of (current_text b) in
+    let own = matches_by-are known all.pattern content (known.told all.pattern) (pattern_holds b all.pattern h all.is_pattern) in
+    known.one_list all.pattern content matches (matches_in known (Some all.pattern) content) all.are own
+    ∙ ap (λ o. matches_in known o content) (sym all.is_pattern)
+
+-- the text with all of them replaced
+abbrev replaced_text : Known → BufferState → List ℕ → List ℕ
+replaced_text known b template = text_with b template (matches_of known b)
+
+-- all matches are replaced in one way
+IsReplacement-known : (known : Known) (b : BufferState) (template : List ℕ) (count : ℕ) (new : BufferState) → HoldsTexts b → IsReplacement b template count new
+    → (count ≡ length (matches_of known b)) × (new ≡ with_edit b (replaced_text known b template))
+IsReplacement-known known b template count new h is =
+    let same = matches_known known b is.matches h is.are in
+    (is.counted ∙ ap length same, is.changed ∙ ap (λ ms. with_edit b (text_with b template ms)) same)
+
+-- that makes a text too long or not
+long_with_choice : (known : Known) (limit : ℕ) (b : BufferState) (template p : List ℕ) → HoldsTexts b → b.pattern ≡ Some p
+    → GetsTooLongWith limit b template ⊎ (GetsTooLongWith limit b template → ⊥)
+long_with_choice known limit b template p h is = elim (cases_lt limit (byte_len (replaced_text known b template))) [
+  | inl long ↦ inl (record { matches = matches_of known b; are = matches_of-are known b p h is; long = long })
+  | inr short ↦ inr (λ gets.
+      let long = gets.long in
+      let same = ap (λ ms. byte_len (text_with b template ms)) (matches_known known b gets.matches h gets.are) in
+      omega (arith, long, same, short))
+]
+
 -- ---- edits
 
 -- where no part lies between the positions, an edit is refused for that first
@@ -325,6 +428,25 @@ edit_choice placed limit s from to payload = elim (between_choice placed (curren
   ]
 ]
 
+-- so is a replacement
+replace_choice : Known → (limit : ℕ) (s : State) (payload : List ℕ) → AllHoldTexts s
+    → ((f : Fault) × IsFirstRefusal limit s (ReplaceAll payload) f) ⊎ Accepts limit s (ReplaceAll payload)
+replace_choice known limit s payload all = elim (has_pattern (chosen_buffer s).pattern) [
+  | inl none ↦ inl (Nothing, refused_replace limit s payload none)
+  | inr some ↦ elim (utf8_choice payload) [
+    | inr broken ↦ inl (Utf8, refused_replace_utf8 limit s payload some broken)
+    | inl text ↦ elim (cases_lt limit (length payload)) [
+      | inl long ↦ inl (Size, refused_replace_size limit s payload some text (inl long))
+      | inr short ↦
+          let pattern = pattern_of (chosen_buffer s).pattern some in
+          elim (long_with_choice known limit (chosen_buffer s) (chars payload) pattern.0 (chosen_holds s all) pattern.1) [
+            | inl long ↦ inl (Size, refused_replace_size limit s payload some text (inr long))
+            | inr fits ↦ inr (accepted_replace limit s payload some text (omega (arith, short)) fits)
+          ]
+    ]
+  ]
+]
+
 -- a command is refused for some first reason, or accepted
 pub refusal_choice : Known → (limit : ℕ) (s : State) (o : Order) → AllHoldTexts s → ((f : Fault) × IsFirstRefusal limit s o f) ⊎ Accepts limit s o
 refusal_choice known limit s (SetText payload) all = elim (utf8_choice payload) [
@@ -368,6 +490,7 @@ refusal_choice known limit s (FindNext from) all = elim (has_pattern (chosen_buf
     | inr nowhere ↦ inl (Range, refused_astray limit s from some nowhere)
   ]
 ]
+refusal_choice known limit s (ReplaceAll payload) all = replace_choice known limit s payload all
 refusal_choice known limit s (UseBuffer k) all = elim (cases_lt k (length s.buffers)) [
   | inl inside ↦ inr (accepted_use limit s k inside)
   | inr past ↦ inl (Nothing, refused_nothing limit s k past)
@@ -395,66 +518,69 @@ IsFirstRefusal-one limit s o f g one other = elim (cases_order (rank_of f) (rank
 -- ---- what a command does
 
 -- what an accepted command replies; `next` is what it replies that looks for a match
-abbrev pub reply_to : Reply → State → Order → Reply
-reply_to next old (SetText payload) = Done
-reply_to next old (EditText from to payload) = Done
-reply_to next old UndoEdit = Done
-reply_to next old RedoEdit = Done
-reply_to next old PrintText = Print
-reply_to next old ForkBuffer = Number (length old.buffers)
-reply_to next old (SetPattern payload) = Done
-reply_to next old DropPattern = Done
-reply_to next old ListMatches = Listing
-reply_to next old (FindNext from) = next
-reply_to next old (UseBuffer k) = Done
+abbrev pub reply_to : Known → Reply → State → Order → Reply
+reply_to known next old (SetText payload) = Done
+reply_to known next old (EditText from to payload) = Done
+reply_to known next old UndoEdit = Done
+reply_to known next old RedoEdit = Done
+reply_to known next old PrintText = Print
+reply_to known next old ForkBuffer = Number (length old.buffers)
+reply_to known next old (SetPattern payload) = Done
+reply_to known next old DropPattern = Done
+reply_to known next old ListMatches = Listing
+reply_to known next old (FindNext from) = next
+reply_to known next old (ReplaceAll payload) = Number (length (matches_of known (chosen_buffer old)))
+reply_to known next old (UseBuffer k) = Done
 
 -- the session after an accepted command
-abbrev pub after : HasOnePlace → State → Order → State
-after placed old (EditText from to payload) =
-    with_chosen old (edited_by (chosen_buffer old) from to (chars payload) (between_choice placed (current_text (chosen_buffer old)) from to))
-after placed old UndoEdit = with_chosen old (undone (chosen_buffer old))
-after placed old RedoEdit = with_chosen old (redone (chosen_buffer old))
-after placed old (SetText payload) = with_chosen old (with_text (chosen_buffer old) (chars payload))
-after placed old PrintText = old
-after placed old ForkBuffer = record old { buffers = old.buffers ++ fresh (current_text (chosen_buffer old)) ∷ [] }
-after placed old (SetPattern payload) = with_chosen old (with_pattern (chosen_buffer old) (Some (chars payload)))
-after placed old DropPattern = with_chosen old (with_pattern (chosen_buffer old) None)
-after placed old ListMatches = old
-after placed old (FindNext from) = old
-after placed old (UseBuffer k) = record old { chosen = k }
+abbrev pub after : Known → State → Order → State
+after known old (EditText from to payload) =
+    with_chosen old (edited_by (chosen_buffer old) from to (chars payload) (between_choice known.placed (current_text (chosen_buffer old)) from to))
+after known old UndoEdit = with_chosen old (undone (chosen_buffer old))
+after known old RedoEdit = with_chosen old (redone (chosen_buffer old))
+after known old (SetText payload) = with_chosen old (with_text (chosen_buffer old) (chars payload))
+after known old PrintText = old
+after known old ForkBuffer = record old { buffers = old.buffers ++ fresh (current_text (chosen_buffer old)) ∷ [] }
+after known old (SetPattern payload) = with_chosen old (with_pattern (chosen_buffer old) (Some (chars payload)))
+after known old DropPattern = with_chosen old (with_pattern (chosen_buffer old) None)
+after known old ListMatches = old
+after known old (FindNext from) = old
+after known old (ReplaceAll payload) =
+    with_chosen old (with_edit (chosen_buffer old) (replaced_text known (chosen_buffer old) (chars payload)))
+after known old (UseBuffer k) = record old { chosen = k }
 
 -- the text that bytes encode is the list of their characters
 pub Encodes-chars : (text bytes : List ℕ) → Encodes text bytes → text ≡ chars bytes
 Encodes-chars text bytes h = chars_from_encodes text bytes (text, (h.scalars, h.spelled)) h.spelled
 
 -- an accepted command does one thing
-pub Does-known : (placed : HasOnePlace) (old : State) (o : Order) (r : Reply) (new : State) → Does old o r new → (r ≡ reply_to r old o) × (new ≡ after placed old o)
-Does-known placed old (EditText from to payload) Done new h =
+pub Does-known : (known : Known) (old : State) (o : Order) (r : Reply) (new : State) → AllHoldTexts old → Does old o r new → (r ≡ reply_to known r old o) × (new ≡ after known old o)
+Does-known known old (EditText from to payload) Done new all h =
     let buffer = chosen_buffer old in
-    let known = IsEdit-known placed buffer from to h.0 h.1 (between_choice placed (current_text buffer) from to) h.3 in
+    let edited = IsEdit-known known.placed buffer from to h.0 h.1 (between_choice known.placed (current_text buffer) from to) h.3 in
     let text : h.0 ≡ chars payload = Encodes-chars h.0 payload h.2 in
-    (refl, h.4 ∙ ap (with_chosen old) known ∙ ap (λ t. with_chosen old (edited_by buffer from to t (between_choice placed (current_text buffer) from to))) text)
-Does-known placed old UndoEdit Done new h = (refl, h)
-Does-known placed old RedoEdit Done new h = (refl, h)
-Does-known placed old (SetText payload) Done new h = (refl, h.2 ∙ ap (λ t. with_chosen old (with_text (chosen_buffer old) t)) (Encodes-chars h.0 payload h.1))
-Does-known placed old PrintText Print new h = (refl, h)
-Does-known placed old ForkBuffer (Number k) new h = (ap Number h.0, h.1)
-Does-known placed old (SetPattern payload) Done new h = (refl, h.2 ∙ ap (λ p. with_chosen old (with_pattern (chosen_buffer old) (Some p))) (Encodes-chars h.0 payload h.1))
-Does-known placed old DropPattern Done new h = (refl, h)
-Does-known placed old ListMatches Listing new h = (refl, h)
-Does-known placed old (FindNext from) (Found start end) new h = (refl, h.1)
-Does-known placed old (FindNext from) NoMatch new h = (refl, h.1)
-Does-known placed old (UseBuffer k) Done new h = (refl, h)
-Does-known placed old o r new h = absurd h
+    (refl, h.4 ∙ ap (with_chosen old) edited ∙ ap (λ t. with_chosen old (edited_by buffer from to t (between_choice known.placed (current_text buffer) from to))) text)
+Does-known known old UndoEdit Done new all h = (refl, h)
+Does-known known old RedoEdit Done new all h = (refl, h)
+Does-known known old (SetText payload) Done new all h = (refl, h.2 ∙ ap (λ t. with_chosen old (with_text (chosen_buffer old) t)) (Encodes-chars h.0 payload h.1))
+Does-known known old PrintText Print new all h = (refl, h)
+Does-known known old ForkBuffer (Number k) new all h = (ap Number h.0, h.1)
+Does-known known old (SetPattern payload) Done new all h = (refl, h.2 ∙ ap (λ p. with_chosen old (with_pattern (chosen_buffer old) (Some p))) (Encodes-chars h.0 payload h.1))
+Does-known known old DropPattern Done new all h = (refl, h)
+Does-known known old ListMatches Listing new all h = (refl, h)
+Does-known known old (FindNext from) (Found start end) new all h = (refl, h.1)
+Does-known known old (FindNext from) NoMatch new all h = (refl, h.1)
+Does-known known old (ReplaceAll payload) (Number k) new all h =
+    let buffer = chosen_buffer old in
+    let edited = IsReplacement-known known buffer h.0 k h.1 (chosen_holds old all) h.3 in
+    let text : h.0 ≡ chars payload = Encodes-chars h.0 payload h.2 in
+    (ap Number edited.0, h.4 ∙ ap (with_chosen old) edited.1 ∙ ap (λ t. with_chosen old (with_edit buffer (replaced_text known buffer t))) text)
+Does-known known old (UseBuffer k) Done new all h = (refl, h)
+Does-known known old o r new all h = absurd h
 
 -- a place as a position
 abbrev pub spot_of : List ℕ → ℕ → Position
 spot_of text place = record { line = (position text place).0; column = (position text place).1 }
-
--- the pattern that there is
-pattern_of : (pattern : Option (List ℕ)) → pattern ≢ None → (p : List ℕ) × (pattern ≡ Some p)
-pattern_of None some = absurd (some refl)
-pattern_of (Some p) some = (p, refl)
 
 -- something is told of what is found
 next_by : (old : State) (from : Position) (found : Option (ℕ × ℕ)) → FindsNext (chosen_buffer old) from found → (r : Reply) × Does old (FindNext from) r old
@@ -475,8 +601,24 @@ next_does known limit old from all accepts =
       | inr nowhere ↦ absurd (accepts Range nowhere)
     ]
 
+-- so are all matches replaced
+replace_does : (known : Known) (limit : ℕ) (old : State) (payload : List ℕ) → AllHoldTexts old → Accepts limit old (ReplaceAll payload)
+    → (r : Reply) × Does old (ReplaceAll payload) r (after known old (ReplaceAll payload))
+replace_does known limit old payload all accepts =
+    let buffer = chosen_buffer old in
+    let pattern = pattern_of buffer.pattern (accepts Nothing) in
+    elim (utf8_choice payload) [
+      | inl text ↦
+          let encodes : Encodes text.0 payload = record { scalars = text.1.0; spelled = text.1.1 } in
+          let template : Encodes (chars payload) payload = subst (λ t. Encodes t payload) (Encodes-chars text.0 payload encodes) encodes in
+          let changed : IsReplacement buffer (chars payload) (length (matches_of known buffer)) (with_edit buffer (replaced_text known buffer (chars payload))) =
+          record { matches = matches_of known buffer; are = matches_of-are known buffer pattern.0 (chosen_holds old all) pattern.1; counted = refl; changed = refl } in
+          (Number (length (matches_of known buffer)), (chars payload, with_edit buffer (replaced_text known buffer (chars payload)), template, changed, refl))
+      | inr broken ↦ absurd (accepts Utf8 broken)
+    ]
+
 -- and each accepted command does it
-pub Does-after : (known : Known) (limit : ℕ) (old : State) (o : Order) → AllHoldTexts old → Accepts limit old o → (r : Reply) × Does old o r (after known.placed old o)
+pub Does-after : (known : Known) (limit : ℕ) (old : State) (o : Order) → AllHoldTexts old → Accepts limit old o → (r : Reply) × Does old o r (after known old o)
 Does-after known limit old (EditText from to payload) all accepts =
     let buffer = chosen_buffer old in
     let choice = between_choice known.placed (current_text buffer) from to in
@@ -506,6 +648,7 @@ Does-after known limit old (SetPattern payload) all accepts = elim (utf8_choice 
 Does-after known limit old DropPattern all accepts = (Done, refl)
 Does-after known limit old ListMatches all accepts = (Listing, refl)
 Does-after known limit old (FindNext from) all accepts = next_does known limit old from all accepts
+Does-after known limit old (ReplaceAll payload) all accepts = replace_does known limit old payload all accepts
 Does-after known limit old (UseBuffer k) all accepts = (Done, refl)
 
 -- ---- one reply
@@ -557,7 +700,7 @@ next_one known old from r q x y all one other = absurd one
 -- an accepted command is replied to in one way
 pub reply_one : Known → (old : State) (o : Order) (r q : Reply) (x y : State) → AllHoldTexts old → Does old o r x → Does old o q y → r ≡ q
 reply_one known old (FindNext from) r q x y all one other = next_one known old from r q x y all one other
-reply_one known old o r q x y all one other = (Does-known known.placed old o r x one).0 ∙ sym (Does-known known.placed old o q y other).0
+reply_one known old o r q x y all one other = (Does-known known old o r x all one).0 ∙ sym (Does-known known old o q y all other).0
 
 -- ---- steps
 
@@ -585,7 +728,7 @@ Step-told limit s o Memory new other step = absurd (other refl)
 pub step_exists : Known → (limit : ℕ) (s : State) (o : Order) → AllHoldTexts s → (answer : Answer) × (new : State) × (answer ≢ Err Memory) × Step limit s o answer new
 step_exists known limit s o all = elim (refusal_choice known limit s o all) [
   | inl refused ↦ (Err refused.0, s, memory refused.0 (Err refused.0) refl refused.1, Step-refused limit s o refused.0 refused.1)
-  | inr accepts ↦ let does = Does-after known limit s o all accepts in (Ok does.0, after known.placed s o, (λ e. cc), (accepts, does.1))
+  | inr accepts ↦ let does = Does-after known limit s o all accepts in (Ok does.0, after known s o, (λ e. cc), (accepts, does.1))
 ]
   where
     memory : (f : Fault) (told : Answer) → told ≡ Err f → IsFirstRefusal limit s o f → told ≡ Err Memory → ⊥
@@ -594,7 +737,7 @@ step_exists known limit s o all = elim (refusal_choice known limit s o all) [
 -- and no other
 pub step_one : Known → (limit : ℕ) (s : State) (o : Order) → AllHoldTexts s → (a b : Answer) (x y : State) → Step limit s o a x → Step limit s o b y → a ≢ Err Memory → b ≢ Err Memory → (a ≡ b) × (x ≡ y)
 step_one known limit s o all (Ok p) (Ok q) x y one other memory memory' =
-    (ap Ok (reply_one known s o p q x y all one.1 other.1), (Does-known known.placed s o p x one.1).1 ∙ sym (Does-known known.placed s o q y other.1).1)
+    (ap Ok (reply_one known s o p q x y all one.1 other.1), (Does-known known s o p x all one.1).1 ∙ sym (Does-known known s o q y all other.1).1)
 step_one known limit s o all (Ok p) (Err g) x y one other memory memory' =
     absurd (one.0 g (Step-told limit s o g y (λ e. memory' (ap Err e)) other).0.refuses)
 step_one known limit s o all (Err f) (Ok q) x y one other memory memory' =
@@ -606,34 +749,71 @@ step_one known limit s o all (Err f) (Err g) x y one other memory memory' =
 
 -- ---- costs
 
+-- an accepted command may make some number of rows
+rows_after : (known : Known) (limit : ℕ) (old : State) (o : Order) → AllHoldTexts old → Accepts limit old o → (n : ℕ) × RowsOf old o (after known old o) n
+rows_after known limit old (ReplaceAll payload) all accepts =
+    let buffer = chosen_buffer old in
+    let pattern = pattern_of buffer.pattern (accepts Nothing) in (
+      searched (bytes_of (current_text buffer)) (chars payload) (matches_of known buffer),
+      record { matches = matches_of known buffer; are = matches_of-are known buffer pattern.0 (chosen_holds old all) pattern.1; rows = refl },
+    )
+rows_after known limit old (SetText payload) all accepts = (_, refl)
+rows_after known limit old (EditText from to payload) all accepts = (_, refl)
+rows_after known limit old UndoEdit all accepts = (_, refl)
+rows_after known limit old RedoEdit all accepts = (_, refl)
+rows_after known limit old PrintText all accepts = (_, refl)
+rows_after known limit old ForkBuffer all accepts = (_, refl)
+rows_after known limit old (SetPattern payload) all accepts = (_, refl)
+rows_after known limit old DropPattern all accepts = (_, refl)
+rows_after known limit old ListMatches all accepts = (_, refl)
+rows_after known limit old (FindNext from) all accepts = (_, refl)
+rows_after known limit old (UseBuffer k) all accepts = (_, refl)
+
+-- and no other number
+RowsOf-one : (known : Known) (old new : State) (o : Order) (m n : ℕ) → AllHoldTexts old → RowsOf old o new m → RowsOf old o new n → m ≡ n
+RowsOf-one known old new (ReplaceAll payload) m n all one other =
+    let buffer = chosen_buffer old in
+    let same = matches_known known buffer one.matches (chosen_holds old all) one.are ∙ sym (matches_known known buffer other.matches (chosen_holds old all) other.are) in
+    one.rows ∙ ap (searched (bytes_of (current_text buffer)) (chars payload)) same ∙ sym other.rows
+RowsOf-one known old new (SetText payload) m n all one other = one ∙ sym other
+RowsOf-one known old new (EditText from to payload) m n all one other = one ∙ sym other
+RowsOf-one known old new UndoEdit m n all one other = one ∙ sym other
+RowsOf-one known old new RedoEdit m n all one other = one ∙ sym other
+RowsOf-one known old new PrintText m n all one other = one ∙ sym other
+RowsOf-one known old new ForkBuffer m n all one other = one ∙ sym other
+RowsOf-one known old new (SetPattern payload) m n all one other = one ∙ sym other
+RowsOf-one known old new DropPattern m n all one other = one ∙ sym other
+RowsOf-one known old new ListMatches m n all one other = one ∙ sym other
+RowsOf-one known old new (FindNext from) m n all one other = one ∙ sym other
+RowsOf-one known old new (UseBuffer k) m n all one other = one ∙ sym other
+
 -- a command that is accepted costs so much
-pub accepted_cost : (known : Known) (limit : ℕ) (s : State) (o : Order) → AllHoldTexts s → Accepts limit s o → CostsAccepted limit s o (rows_of o (after known.placed s o))
+accepted_cost : (known : Known) (limit : ℕ) (s : State) (o : Order) → AllHoldTexts s → Accepts limit s o → (n : ℕ) × CostsAccepted limit s o n
 accepted_cost known limit s o all accepts =
     let does = Does-after known limit s o all accepts in
-    record { reply = does.0; new = after known.placed s o; step = (accepts, does.1); rows = refl }
+    let rows = rows_after known limit s o all accepts in
+    (rows.0, record { reply = does.0; new = after known s o; step = (accepts, does.1); rows = rows.1 })
 
 -- and no more
-pub accepted_rows : (placed : HasOnePlace) (limit : ℕ) (s : State) (o : Order) (n : ℕ) → CostsAccepted limit s o n → n ≡ rows_of o (after placed s o)
-accepted_rows placed limit s o n costs = costs.rows ∙ ap (rows_of o) (Does-known placed s o costs.reply costs.new costs.step.1).1
-
--- where there is no reason to refuse a command it costs that
-pub Costs-accepted : (placed : HasOnePlace) (limit : ℕ) (s : State) (o : Order) (n : ℕ) → Accepts limit s o → Costs limit s o n → n ≡ rows_of o (after placed s o)
-Costs-accepted placed limit s o n accepts (inl refused) = absurd (accepts refused.0 refused.1)
-Costs-accepted placed limit s o n accepts (inr costs) = accepted_rows placed limit s o n costs
+accepted_one : (known : Known) (limit : ℕ) (s : State) (o : Order) (m n : ℕ) → AllHoldTexts s → CostsAccepted limit s o m → CostsAccepted limit s o n → m ≡ n
+accepted_one known limit s o m n all one other =
+    let here = (Does-known known s o one.reply one.new all one.step.1).1 in
+    let there = (Does-known known s o other.reply other.new all other.step.1).1 in
+    RowsOf-one known s (after known s o) o m n all (subst (λ t. RowsOf s o t m) here one.rows) (subst (λ t. RowsOf s o t n) there other.rows)
 
 -- each command has a cost
 pub costs_exist : Known → (limit : ℕ) (s : State) (o : Order) → AllHoldTexts s → (n : ℕ) × Costs limit s o n
 costs_exist known limit s o all = elim (refusal_choice known limit s o all) [
   | inl refused ↦ (0, inl (refused.0, refused.1.refuses, refl))
-  | inr accepts ↦ (rows_of o (after known.placed s o), inr (accepted_cost known limit s o all accepts))
+  | inr accepts ↦ let cost = accepted_cost known limit s o all accepts in (cost.0, inr cost.1)
 ]
 
 -- and no other
-pub costs_one : (placed : HasOnePlace) (limit : ℕ) (s : State) (o : Order) (m n : ℕ) → Costs limit s o m → Costs limit s o n → m ≡ n
-costs_one placed limit s o m n (inl one) (inl other) = one.2 ∙ sym other.2
-costs_one placed limit s o m n (inl one) (inr other) = absurd (other.step.0 one.0 one.1)
-costs_one placed limit s o m n (inr one) (inl other) = absurd (one.step.0 other.0 other.1)
-costs_one placed limit s o m n (inr one) (inr other) = accepted_rows placed limit s o m one ∙ sym (accepted_rows placed limit s o n other)
+pub costs_one : Known → (limit : ℕ) (s : State) (o : Order) → AllHoldTexts s → (m n : ℕ) → Costs limit s o m → Costs limit s o n → m ≡ n
+costs_one known limit s o all m n (inl one) (inl other) = one.2 ∙ sym other.2
+costs_one known limit s o all m n (inl one) (inr other) = absurd (other.step.0 one.0 one.1)
+costs_one known limit s o all m n (inr one) (inl other) = absurd (one.step.0 other.0 other.1)
+costs_one known limit s o all m n (inr one) (inr other) = accepted_one known limit s o m n all one other
 
 -- ---- what is shown
 

@@ -14,13 +14,14 @@ use Rattle.rope_search_reports.specs.Text.{IsText, Encodes}
 use Rattle.rope_search_reports.specs.Pattern.{IsPattern, IsTooHeavy, SpellsNone, pattern_limit}
 use Rattle.rope_search_reports.specs.Position.{StandsAtBoundaries}
 use Rattle.rope_search_reports.specs.Report.{IsReport}
-use Rattle.rope_search_reports.specs.Laws.{IsPatternOrNot, HasOneReport, MatchesStandAtBoundaries}
-use Rattle.rope_search.specs.Order.{Order, SetText, EditText, UndoEdit, RedoEdit, PrintText, ForkBuffer, SetPattern, DropPattern, ListMatches, FindNext, UseBuffer}
+use Rattle.rope_search_reports.specs.Laws.{HasOneReport, MatchesStandAtBoundaries}
+use Rattle.rope_search.specs.Order.{Order, SetText, EditText, UndoEdit, RedoEdit, PrintText, ForkBuffer, SetPattern, DropPattern, ListMatches, FindNext, ReplaceAll, UseBuffer}
 use Rattle.rope_search.specs.Places.{IsEdit}
+use Rattle.rope_search.specs.Replacing.{text_with}
 use Rattle.rope_search.specs.Session.{BufferState, State, first, fresh, current_text, chosen_buffer, with_pattern, with_chosen, IsReportIn}
 use Rattle.rope_search.specs.Step.{Answer, Accepts, Does, Step}
 use Rattle.rope_search.specs.Answers.{Run}
-use Rattle.rope_search.specs.Laws.{HoldsTexts, AllHoldTexts, StepsHoldTexts, KeptIsAnew, ListsBoundaries}
+use Rattle.rope_search.specs.Laws.{HoldsTexts, AllHoldTexts, Known, StepsHoldTexts, KeptIsAnew, ListsBoundaries}
 use Rattle.rope_search.proofs.HistoryLaws.{same_report}
 use Rattle.rope_search.proofs.HoldLaws.{one_text, holds_fresh, chosen_holds, text_holds, first_holds}
 use Rattle.rope_search.proofs.StepLaws.{Encodes-chars}
@@ -48,10 +49,10 @@ set_chosen s t b all one is = subst AllHoldTexts (sym is) (All-set HoldsTexts s.
 unchanged : (s t : State) → AllHoldTexts s → t ≡ s → AllHoldTexts t
 unchanged s t all is = subst AllHoldTexts (sym is) all
 
-does_hold : IsPatternOrNot → (limit : ℕ) (s t : State) (o : Order) (r : Reply) → Accepts limit s o → Does s o r t → AllHoldTexts s → AllHoldTexts t
-does_hold told limit s t (SetText payload) Done accepts does all =
+does_hold : Known → (limit : ℕ) (s t : State) (o : Order) (r : Reply) → Accepts limit s o → Does s o r t → AllHoldTexts s → AllHoldTexts t
+does_hold known limit s t (SetText payload) Done accepts does all =
     set_chosen s t _ all (record { texts = one_text does.0 does.1.scalars; pattern = (chosen_holds s all).pattern }) does.2
-does_hold told limit s t (EditText from to payload) Done accepts does all =
+does_hold known limit s t (EditText from to payload) Done accepts does all =
     let old = chosen_buffer s in
     let h = chosen_holds s all in
     let edit = does.3 in
@@ -61,56 +62,64 @@ does_hold told limit s t (EditText from to payload) Done accepts does all =
     let text = scalars_joined (edit.before ++ does.0) edit.behind front parted.1 in
     let texts = All-append IsText (take (old.current + 1) old.texts) ((edit.before ++ does.0 ++ edit.behind) ∷ []) (All-take IsText (old.current + 1) old.texts h.texts) (one_text _ text) in
     set_chosen s t does.1 all (subst HoldsTexts (sym edit.changed) (record { texts = texts; pattern = h.pattern })) does.4
-does_hold told limit s t UndoEdit Done accepts does all = let h = chosen_holds s all in set_chosen s t _ all (record { texts = h.texts; pattern = h.pattern }) does
-does_hold told limit s t RedoEdit Done accepts does all = let h = chosen_holds s all in set_chosen s t _ all (record { texts = h.texts; pattern = h.pattern }) does
-does_hold told limit s t PrintText Print accepts does all = unchanged s t all does
-does_hold told limit s t ForkBuffer (Number k) accepts does all =
+does_hold known limit s t UndoEdit Done accepts does all = let h = chosen_holds s all in set_chosen s t _ all (record { texts = h.texts; pattern = h.pattern }) does
+does_hold known limit s t RedoEdit Done accepts does all = let h = chosen_holds s all in set_chosen s t _ all (record { texts = h.texts; pattern = h.pattern }) does
+does_hold known limit s t PrintText Print accepts does all = unchanged s t all does
+does_hold known limit s t ForkBuffer (Number k) accepts does all =
     let one = holds_fresh (current_text (chosen_buffer s)) (text_holds (chosen_buffer s) (chosen_holds s all)) in
     let others = All-cons HoldsTexts (fresh (current_text (chosen_buffer s))) [] one (All-nil HoldsTexts) in
     subst AllHoldTexts (sym does.1) (All-append HoldsTexts s.buffers (fresh (current_text (chosen_buffer s)) ∷ []) all others)
-does_hold told limit s t (SetPattern payload) Done accepts does all =
+does_hold known limit s t (SetPattern payload) Done accepts does all =
     let h = chosen_holds s all in
     let chars_is = Encodes-chars does.0 payload does.1 in
     let few = within (length payload) (λ high. accepts Limit (inl high)) in
-    let is = known (chars payload) (told (chars payload)) (λ heavy. accepts Limit (inr heavy)) (λ none. accepts Pattern (few, none)) in
+    let is = known_pattern (chars payload) (known.told (chars payload)) (λ heavy. accepts Limit (inr heavy)) (λ none. accepts Pattern (few, none)) in
     set_chosen s t _ all (record { texts = h.texts; pattern = (does.1.scalars, subst IsPattern (sym chars_is) is) }) does.2
   where
     within : (n : ℕ) → (pattern_limit < n → ⊥) → n ≤ pattern_limit
     within n low = elim (cases_lt pattern_limit n) [ inl high ↦ absurd (low high) | inr not_high ↦ omega (arith, not_high) ]
 
-    known : (text : List ℕ) → IsPattern text ⊎ (IsTooHeavy text ⊎ SpellsNone text) → (IsTooHeavy text → ⊥) → (SpellsNone text → ⊥) → IsPattern text
-    known text (inl is) light some = is
-    known text (inr (inl heavy)) light some = absurd (light heavy)
-    known text (inr (inr none)) light some = absurd (some none)
-does_hold told limit s t DropPattern Done accepts does all = let h = chosen_holds s all in set_chosen s t _ all (record { texts = h.texts; pattern = tt }) does
-does_hold told limit s t ListMatches Listing accepts does all = unchanged s t all does
-does_hold told limit s t (FindNext from) (Found start end) accepts does all = unchanged s t all does.1
-does_hold told limit s t (FindNext from) NoMatch accepts does all = unchanged s t all does.1
-does_hold told limit s t (UseBuffer k) Done accepts does all = subst AllHoldTexts (sym does) all
-does_hold told limit s t o r accepts does all = absurd does
+    known_pattern : (text : List ℕ) → IsPattern text ⊎ (IsTooHeavy text ⊎ SpellsNone text) → (IsTooHeavy text → ⊥) → (SpellsNone text → ⊥) → IsPattern text
+    known_pattern text (inl is) light some = is
+    known_pattern text (inr (inl heavy)) light some = absurd (light heavy)
+    known_pattern text (inr (inr none)) light some = absurd (some none)
+does_hold known limit s t DropPattern Done accepts does all = let h = chosen_holds s all in set_chosen s t _ all (record { texts = h.texts; pattern = tt }) does
+does_hold known limit s t ListMatches Listing accepts does all = unchanged s t all does
+does_hold known limit s t (FindNext from) (Found start end) accepts does all = unchanged s t all does.1
+does_hold known limit s t (FindNext from) NoMatch accepts does all = unchanged s t all does.1
+does_hold known limit s t (ReplaceAll payload) (Number k) accepts does all =
+    let old = chosen_buffer s in
+    let h = chosen_holds s all in
+    let change = does.3 in
+    let text = known.replaced (current_text old) change.are.pattern does.0 change.matches (text_holds old h) does.2.scalars change.are.are in
+    let whole = text_with old does.0 change.matches in
+    let texts = All-append IsText (take (old.current + 1) old.texts) (whole ∷ []) (All-take IsText (old.current + 1) old.texts h.texts) (one_text whole text) in
+    set_chosen s t does.1 all (subst HoldsTexts (sym change.changed) (record { texts = texts; pattern = h.pattern })) does.4
+does_hold known limit s t (UseBuffer k) Done accepts does all = subst AllHoldTexts (sym does) all
+does_hold known limit s t o r accepts does all = absurd does
 
-pub step_holds : IsPatternOrNot → (limit : ℕ) (s t : State) (o : Order) (a : Answer) → Step limit s o a t → AllHoldTexts s → AllHoldTexts t
-step_holds told limit s t o (Ok r) step all = does_hold told limit s t o r step.0 step.1 all
-step_holds told limit s t o (Err Memory) step all = unchanged s t all step.1
-step_holds told limit s t o (Err fault) step all = unchanged s t all step.1
+pub step_holds : Known → (limit : ℕ) (s t : State) (o : Order) (a : Answer) → Step limit s o a t → AllHoldTexts s → AllHoldTexts t
+step_holds known limit s t o (Ok r) step all = does_hold known limit s t o r step.0 step.1 all
+step_holds known limit s t o (Err Memory) step all = unchanged s t all step.1
+step_holds known limit s t o (Err fault) step all = unchanged s t all step.1
 
-pub run_holds : IsPatternOrNot → (limit : ℕ) (s t : State) (os : List Order) (out : List ℕ) (cost : ℕ) → Run limit s os out cost t → AllHoldTexts s → AllHoldTexts t
-run_holds told limit s t [] out cost run all = unchanged s t all run.2
-run_holds told limit s t (o ∷ os) out cost run all = run_holds told limit run.new t os run.later run.later_cost run.others (step_holds told limit s run.new o run.answer run.step all)
+pub run_holds : Known → (limit : ℕ) (s t : State) (os : List Order) (out : List ℕ) (cost : ℕ) → Run limit s os out cost t → AllHoldTexts s → AllHoldTexts t
+run_holds known limit s t [] out cost run all = unchanged s t all run.2
+run_holds known limit s t (o ∷ os) out cost run all = run_holds known limit run.new t os run.later run.later_cost run.others (step_holds known limit s run.new o run.answer run.step all)
 
 -- so it is of all sessions that commands lead to
-pub holds_always : IsPatternOrNot → (limit : ℕ) (s : State) (os : List Order) (out : List ℕ) (cost : ℕ) → Run limit first os out cost s → AllHoldTexts s
-holds_always told limit s os out cost run = run_holds told limit first s os out cost run first_holds
+pub holds_always : Known → (limit : ℕ) (s : State) (os : List Order) (out : List ℕ) (cost : ℕ) → Run limit first os out cost s → AllHoldTexts s
+holds_always known limit s os out cost run = run_holds known limit first s os out cost run first_holds
 
-pub steps_hold : IsPatternOrNot → StepsHoldTexts
-steps_hold told = record { first = first_holds; step = λ limit old new order answer all step. step_holds told limit old new order answer step all }
+pub steps_hold : Known → StepsHoldTexts
+steps_hold known = record { first = first_holds; step = λ limit old new order answer all step. step_holds known limit old new order answer step all }
 
 -- ---- where matches stand
 
-pub boundaries_listed : IsPatternOrNot → MatchesStandAtBoundaries → ListsBoundaries
-boundaries_listed choice law limit orders out cost session rows line run report =
+pub boundaries_listed : Known → MatchesStandAtBoundaries → ListsBoundaries
+boundaries_listed known law limit orders out cost session rows line run report =
     let buffer = chosen_buffer session in
-    let h = chosen_holds session (holds_always choice limit session orders out cost run) in
+    let h = chosen_holds session (holds_always known limit session orders out cost run) in
     stand law (current_text buffer) buffer.pattern rows line (text_holds buffer h) report
   where
     stand : MatchesStandAtBoundaries → (text : List ℕ) (p : Option (List ℕ)) (rows : List (List (ℕ × ℕ))) (line : ℕ) → IsText text

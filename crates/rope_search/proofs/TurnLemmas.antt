@@ -15,8 +15,8 @@ use Rattle.rope_search.specs.Shows.{IsShown}
 use Rattle.rope_search.specs.Cost.{Costs, whole_searches}
 use Rattle.rope_search.specs.Requests.{IsReadAs, TakesOrder}
 use Rattle.rope_search.specs.Runs.{SearchesWithin, Scene, Turned, TakesTurn, SoFar}
-use Rattle.rope_search.specs.Laws.{AllHoldTexts}
-use Rattle.rope_search.proofs.StepLaws.{Known, costs_exist}
+use Rattle.rope_search.specs.Laws.{AllHoldTexts, Known}
+use Rattle.rope_search.proofs.StepLaws.{costs_exist}
 use Rattle.rope_search.proofs.RunLaws.{SpellAll-append, SpellAll-one, Run-nil, Run-push}
 use Rattle.rope_search.proofs.TakesLemmas.{Takes-nil, Takes-trans}
 

@@ -3,8 +3,9 @@ use Rattle.std.specs.Prelude.{◌≡◌, ℕ, ◌⊎◌, List, if◌then◌else�
 use Rattle.rope_search_io.specs.declared.faults.Fault.{Fault}
 use Rattle.rope_search.specs.declared.commands.Reply.{Reply}
 use Rattle.rope_search_reports.specs.Text.{line_count}
-use Rattle.rope_search.specs.Order.{Order, SetText, EditText, UndoEdit, RedoEdit, PrintText, ForkBuffer, SetPattern, DropPattern, ListMatches, FindNext, UseBuffer}
+use Rattle.rope_search.specs.Order.{Order, SetText, EditText, UndoEdit, RedoEdit, PrintText, ForkBuffer, SetPattern, DropPattern, ListMatches, FindNext, ReplaceAll, UseBuffer}
 use Rattle.rope_search.specs.Session.{BufferState, State, current_text, chosen_buffer}
+use Rattle.rope_search.specs.Replacing.{RowsOfReplacement}
 use Rattle.rope_search.specs.Step.{Refuses, Step}
 
 -- a row for each line of a text that is searched; there is none without a pattern
@@ -15,28 +16,31 @@ rows_anew buffer text = if is_some buffer.pattern then line_count text else 0
 abbrev pub rows_of_report : State → ℕ
 rows_of_report session = rows_anew (chosen_buffer session) (current_text (chosen_buffer session))
 
--- the rows that a command may make, once it is accepted, by the session after it
-abbrev pub rows_of : Order → State → ℕ
-rows_of (SetText payload) new = rows_of_report new
+-- a command may make so many rows, once it is accepted, by the sessions before and after it
+abbrev pub RowsOf : State → Order → State → ℕ → Type 0
+RowsOf old (SetText payload) new n = n ≡ rows_of_report new
 -- the rows of the lines that the edit touches: as many as the inserted text has lines, which are its
 -- breaks plus one
-rows_of (EditText from to payload) new = rows_anew (chosen_buffer new) (chars payload)
-rows_of UndoEdit new = rows_of_report new
-rows_of RedoEdit new = rows_of_report new
-rows_of PrintText new = 0
-rows_of ForkBuffer new = 0
-rows_of (SetPattern payload) new = rows_of_report new
-rows_of DropPattern new = 0
-rows_of ListMatches new = 0
-rows_of (FindNext from) new = 0
-rows_of (UseBuffer k) new = 0
+RowsOf old (EditText from to payload) new n = n ≡ rows_anew (chosen_buffer new) (chars payload)
+RowsOf old UndoEdit new n = n ≡ rows_of_report new
+RowsOf old RedoEdit new n = n ≡ rows_of_report new
+RowsOf old PrintText new n = n ≡ 0
+RowsOf old ForkBuffer new n = n ≡ 0
+RowsOf old (SetPattern payload) new n = n ≡ rows_of_report new
+RowsOf old DropPattern new n = n ≡ 0
+RowsOf old ListMatches new n = n ≡ 0
+RowsOf old (FindNext from) new n = n ≡ 0
+-- the rows of the lines that the replacement touches: for each match as many as what takes its place
+-- has lines
+RowsOf old (ReplaceAll payload) new n = RowsOfReplacement (chosen_buffer old) (chars payload) n
+RowsOf old (UseBuffer k) new n = n ≡ 0
 
 -- what a command costs that there is no reason to refuse: so many rows
 pub record CostsAccepted (limit : ℕ) (old : State) (order : Order) (n : ℕ) : Type 0 where
   pub reply : Reply
   pub new : State
   pub step : Step limit old order (Ok reply) new
-  pub rows : n ≡ rows_of order new
+  pub rows : RowsOf old order new n
 
 -- a command costs nothing where there is a reason to refuse it, and else what it costs once
 -- accepted, whatever it is answered
@@ -56,4 +60,5 @@ whole_searches (SetPattern payload) = 0
 whole_searches DropPattern = 0
 whole_searches ListMatches = 0
 whole_searches (FindNext from) = 1
+whole_searches (ReplaceAll payload) = 1
 whole_searches (UseBuffer k) = 0

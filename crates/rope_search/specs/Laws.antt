@@ -1,19 +1,21 @@
 -- Laws of the definitions themselves: that they leave one reading, one step and one cost, and that
 -- no command is left out.
-use Rattle.std.specs.Prelude.{◌≡◌, ◌≢◌, ℕ, ◌<◌, ◌≤◌, ◌↔◌, ◌⊎◌, List, [], ◌++◌, length, All, slice_index_or, Some, IfSome, Ok, Err}
+use Rattle.std.specs.Prelude.{◌≡◌, ◌≢◌, ℕ, ◌<◌, ◌≤◌, ◌↔◌, ◌⊎◌, List, [], ◌++◌, length, All, slice_index_or, Some, IfSome, Ok, Err, chars}
 use Rattle.rope_search_io.specs.declared.faults.Fault.TheVariants.{Memory}
 use Rattle.rope_search.specs.declared.endings.Ended.{Ended}
 use Rattle.rope_search.specs.declared.endings.Ended.TheVariants.{Command}
 use Rattle.rope_search.specs.declared.commands.CommandOf.{CommandOf}
 use Rattle.rope_search.specs.declared.commands.Payload.{Payload}
 use Rattle.rope_search.specs.declared.commands.Reply.{Reply}
-use Rattle.rope_search.specs.declared.commands.Reply.TheVariants.{Found}
+use Rattle.rope_search.specs.declared.commands.Reply.TheVariants.{Number, Found}
 use Rattle.rope_search_reports.specs.declared.positions.Position.{Position}
-use Rattle.rope_search_reports.specs.Text.{IsText, Encodes}
+use Rattle.rope_search_reports.specs.Text.{IsText, Encodes, bytes_of}
 use Rattle.rope_search_reports.specs.Pattern.{IsPattern}
-use Rattle.rope_search_reports.specs.Laws.{IsInText}
+use Rattle.rope_search_reports.specs.Laws.{IsInText, HasOnePlace, IsPatternOrNot, IsOneOfThree, FindsOne, HasFind, HasOneListOfGroups, HasGroups, ReplacedIsText}
 use Rattle.rope_search_reports.specs.Position.{IsAt, IsNowhere, StandsAtBoundaries}
-use Rattle.rope_search.specs.Order.{Order, EditText, UndoEdit, RedoEdit, SetPattern, FindNext}
+use Rattle.rope_search_reports.specs.Changes.{AreChanges}
+use Rattle.rope_search_reports.specs.Replacement.{Groups, FollowEachOther, changes_of, searched}
+use Rattle.rope_search.specs.Order.{Order, EditText, UndoEdit, RedoEdit, SetPattern, FindNext, ReplaceAll}
 use Rattle.rope_search.specs.Session.{BufferState, State, first, current_text, chosen_buffer, IsReportIn}
 use Rattle.rope_search.specs.Finding.{ArePositionsOf}
 use Rattle.rope_search.specs.Places.{HasNoneBetween}
@@ -100,6 +102,12 @@ UndoUndoesEdit = (limit : ℕ) (old edited new : State) (from to : Position) (pa
     → Step limit old (EditText from to payload) (Ok reply) edited
     → Step limit edited UndoEdit (Ok undone) new → AreAlike new old
 
+-- so do a replacement, and directly after it an undo
+abbrev pub UndoUndoesReplace : Type 0
+UndoUndoesReplace = (limit : ℕ) (old edited new : State) (payload : List ℕ) (reply undone : Reply)
+    → HasCurrent old → Step limit old (ReplaceAll payload) (Ok reply) edited
+    → Step limit edited UndoEdit (Ok undone) new → AreAlike new old
+
 -- an undo, and directly after it a redo, give back text and pattern
 abbrev pub RedoRedoesUndo : Type 0
 RedoRedoesUndo = (limit : ℕ) (old undone new : State) (reply redone : Reply) → HasCurrent old
@@ -169,6 +177,23 @@ ListsBoundaries = (limit : ℕ) (orders : List Order) (out : List ℕ) (cost : �
     → All (StandsAtBoundaries (current_text (chosen_buffer session)) line)
     (slice_index_or rows line [])
 
+-- so many parts of a text were replaced: they follow each other, and each starts and ends at a
+-- boundary; all text outside them stays, in order
+pub record KeepsTheRest (template old new : List ℕ) (count : ℕ) : Type 0 where
+  pub matches : List Groups
+  pub counted : count ≡ length matches
+  pub follow : FollowEachOther (bytes_of old) 0 matches
+  pub stays : AreChanges (changes_of (bytes_of old) template 0 0 matches) 0 0 old new
+      (searched (bytes_of old) template matches)
+
+-- `replace` answers how many
+abbrev pub ReplaceKeepsTheRest : Type 0
+ReplaceKeepsTheRest = (limit : ℕ) (old new : State) (payload : List ℕ) (count : ℕ)
+    → AllHoldTexts old → HasCurrent old
+    → Step limit old (ReplaceAll payload) (Ok (Number count)) new
+    → KeepsTheRest (chars payload) (current_text (chosen_buffer old))
+    (current_text (chosen_buffer new)) count
+
 -- of two positions the second is before the first
 pub record AreTurned (text : List ℕ) (from to : Position) : Type 0 where
   pub start : ℕ
@@ -184,3 +209,14 @@ NoneIsNowhereOrTurned = (text : List ℕ) (from to : Position) → IsText text
     → HasNoneBetween text from to
     ↔ (IsNowhere text (from.line, from.column)
     ⊎ (IsNowhere text (to.line, to.column) ⊎ AreTurned text from to))
+
+-- what is known of places, of patterns, of what is found of them, and of what replaces that
+pub record Known : Type 0 where
+  pub placed : HasOnePlace
+  pub told : IsPatternOrNot
+  pub apart : IsOneOfThree
+  pub one : FindsOne
+  pub some : HasFind
+  pub one_list : HasOneListOfGroups
+  pub groups : HasGroups
+  pub replaced : ReplacedIsText

@@ -2,7 +2,7 @@
 use Rattle.std.specs.Prelude.{◌≡◌, ℕ, List}
 use Rattle.rope_search.specs.declared.commands.CommandOf.{CommandOf}
 use Rattle.rope_search_reports.specs.Pattern.{pattern_limit}
-pub use Rattle.rope_search.specs.declared.commands.CommandOf.TheVariants.{Text as SetText, Edit as EditText, Undo as UndoEdit, Redo as RedoEdit, Print as PrintText, Fork as ForkBuffer, Pattern as SetPattern, Off as DropPattern, List as ListMatches, Next as FindNext, Use as UseBuffer}
+pub use Rattle.rope_search.specs.declared.commands.CommandOf.TheVariants.{Text as SetText, Edit as EditText, Undo as UndoEdit, Redo as RedoEdit, Print as PrintText, Fork as ForkBuffer, Pattern as SetPattern, Off as DropPattern, List as ListMatches, Next as FindNext, Replace as ReplaceAll, Use as UseBuffer}
 
 abbrev pub Order : Type 0
 Order = CommandOf (List ℕ)
@@ -22,5 +22,6 @@ IsOf R limit (SetPattern p) (SetPattern bytes) = R pattern_limit p bytes
 IsOf R limit DropPattern DropPattern = Unit {0}
 IsOf R limit ListMatches ListMatches = Unit {0}
 IsOf R limit (FindNext p) (FindNext from) = from ≡ p
+IsOf R limit (ReplaceAll p) (ReplaceAll bytes) = R limit p bytes
 IsOf R limit (UseBuffer k) (UseBuffer n) = n ≡ k
 IsOf R limit command order = ⊥

@@ -3,7 +3,7 @@ use Rattle.std.specs.Prelude.{◌≡◌, ◌≢◌, ℕ, ◌+◌, ◌-◌, ◌*�
 use Rattle.std.specs.List.{AllByRecursion}
 use Rattle.rope_search.specs.declared.endings.Ended.{Ended}
 use Rattle.rope_search.specs.declared.endings.Ended.TheVariants.{Input, Command, Cut}
-use Rattle.rope_search.specs.Order.{Order, SetText, EditText, UndoEdit, RedoEdit, PrintText, ForkBuffer, SetPattern, DropPattern, ListMatches, FindNext, UseBuffer}
+use Rattle.rope_search.specs.Order.{Order, SetText, EditText, UndoEdit, RedoEdit, PrintText, ForkBuffer, SetPattern, DropPattern, ListMatches, FindNext, ReplaceAll, UseBuffer}
 
 -- the number that decimal digits spell after those of n
 abbrev pub digits_after : ℕ → List ℕ → ℕ
@@ -30,6 +30,7 @@ payload_of (SetPattern payload) = payload
 payload_of DropPattern = []
 payload_of ListMatches = []
 payload_of (FindNext from) = []
+payload_of (ReplaceAll payload) = payload
 payload_of (UseBuffer k) = []
 
 -- numbers, each after one space
@@ -57,6 +58,7 @@ IsLine (SetPattern payload) line = IsWorded (codes "pattern") line (length paylo
 IsLine DropPattern line = line ≡ codes "off"
 IsLine ListMatches line = line ≡ codes "list"
 IsLine (FindNext from) line = IsWorded (codes "next") line (from.line ∷ from.column ∷ [])
+IsLine (ReplaceAll payload) line = IsWorded (codes "replace") line (length payload ∷ [])
 IsLine (UseBuffer k) line = IsWorded (codes "use") line (k ∷ [])
 
 -- a command is spelled by its line, LF, and its payload

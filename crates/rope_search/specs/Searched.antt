@@ -1,14 +1,18 @@
--- The rows that an edit makes anew, and where in a report they go.
-use Rattle.std.specs.Prelude.{◌≡◌, ℕ, ◌+◌, ◌≤◌, List, ◌++◌, length, take, drop, vec_len, vec_capacity}
-use Rattle.rope_search.specs.declared.search.Patch.{Patch}
+-- Where patches go in a report, and the room for them.
+use Rattle.std.specs.Prelude.{◌≡◌, ℕ, ◌+◌, ◌≤◌, List, [], length, Option, None, Some, vec_capacity}
+use Rattle.std.specs.Global.{Vec}
+use Rattle.rope_search_reports.specs.declared.patches.Patch.{Patch}
+use Rattle.rope_search_reports.specs.Patches.{patched, AreInTurn, made_by}
+use Rattle.rope_search.specs.declared.search.Patches.{Patches}
 use Rattle.rope_search.specs.declared.search.Search.{Search}
 
--- a report with a patch in it
-abbrev pub patched : List (List (ℕ × ℕ)) → Patch → List (List (ℕ × ℕ))
-patched rows patch = take patch.first rows ++ patch.made.items ++ drop patch.end rows
+-- there is room for them: in the report's own list, or in an empty one for the whole new report
+abbrev pub HasRoom : Vec (List (ℕ × ℕ)) → List Patch → Option (Vec (List (ℕ × ℕ))) → Type 0
+HasRoom rows patches None = length rows.items + made_by patches ≤ vec_capacity rows
+HasRoom rows patches (Some room) =
+    (room.items ≡ []) × (length (patched 0 rows.items patches) ≤ vec_capacity room)
 
--- the patch has its place in the report, where there is room for it
-pub record FitsIn (search : Search) (patch : Patch) : Type 0 where
-  pub ordered : patch.first ≤ patch.end
-  pub within : patch.end ≤ vec_len search.rows
-  pub room : vec_len search.rows + vec_len patch.made ≤ vec_capacity search.rows
+-- the patches have their places in the report, and there is room for them
+pub record FitIn (search : Search) (patches : Patches) : Type 0 where
+  pub in_turn : AreInTurn 0 (length search.rows.items) patches.patches.items
+  pub room : HasRoom search.rows patches.patches.items patches.room

@@ -3,7 +3,7 @@ use Rattle.std.specs.Prelude.{◌≡◌, ℕ, ◌<◌, ◌↔◌, List, length, 
 use Rattle.rope_search.specs.declared.commands.CommandOf.{CommandOf}
 use Rattle.rope_search.specs.declared.commands.Payload.{Payload}
 use Rattle.rope_search.specs.declared.commands.Payload.TheVariants.{Kept, Long, Lost}
-use Rattle.rope_search.specs.Order.{Order, SetText, EditText, UndoEdit, RedoEdit, PrintText, ForkBuffer, SetPattern, DropPattern, ListMatches, FindNext, UseBuffer, IsOf}
+use Rattle.rope_search.specs.Order.{Order, SetText, EditText, UndoEdit, RedoEdit, PrintText, ForkBuffer, SetPattern, DropPattern, ListMatches, FindNext, ReplaceAll, UseBuffer, IsOf}
 use Rattle.rope_search_reports.specs.Pattern.{pattern_limit}
 
 -- what was kept of a payload stands for each payload of its kind, under a limit on its bytes
@@ -28,6 +28,7 @@ kept_of (SetPattern payload) = Some payload
 kept_of DropPattern = None
 kept_of ListMatches = None
 kept_of (FindNext from) = None
+kept_of (ReplaceAll payload) = Some payload
 kept_of (UseBuffer k) = None
 
 -- how many bytes of a command's payload are kept at most, under a limit on texts
@@ -42,4 +43,5 @@ limit_on (SetPattern p) limit = pattern_limit
 limit_on DropPattern limit = limit
 limit_on ListMatches limit = limit
 limit_on (FindNext from) limit = limit
+limit_on (ReplaceAll p) limit = limit
 limit_on (UseBuffer k) limit = limit

@@ -7,11 +7,12 @@ use Rattle.rope_search.specs.declared.commands.Reply.{Reply}
 use Rattle.rope_search.specs.declared.commands.Reply.TheVariants.{Done, Number, Found, NoMatch, List as Listing, Print}
 use Rattle.rope_search_reports.specs.Text.{Encodes}
 use Rattle.rope_search.specs.Places.{HasNoneBetween, GetsTooLong, IsEdit}
-use Rattle.rope_search.specs.Order.{Order, SetText, EditText, UndoEdit, RedoEdit, PrintText, ForkBuffer, SetPattern, DropPattern, ListMatches, FindNext, UseBuffer}
+use Rattle.rope_search.specs.Order.{Order, SetText, EditText, UndoEdit, RedoEdit, PrintText, ForkBuffer, SetPattern, DropPattern, ListMatches, FindNext, ReplaceAll, UseBuffer}
 use Rattle.rope_search.specs.Session.{BufferState, State, fresh, current_text, chosen_buffer, with_text, undone, redone, with_pattern, with_chosen}
 use Rattle.rope_search_reports.specs.Pattern.{IsTooHeavy, SpellsNone, pattern_limit}
 use Rattle.rope_search_reports.specs.Position.{IsNowhere}
 use Rattle.rope_search.specs.Finding.{TellsNext}
+use Rattle.rope_search.specs.Replacing.{IsReplacement, GetsTooLongWith}
 
 -- what a command is answered: a reply, or why it is refused
 abbrev pub Answer : Type 0
@@ -56,6 +57,12 @@ Refuses limit session (FindNext from) Nothing = (chosen_buffer session).pattern 
 Refuses limit session (FindNext from) Range =
     IsNowhere (current_text (chosen_buffer session)) (from.line, from.column)
 Refuses limit session (FindNext from) fault = ⊥
+-- there is no pattern; the payload isn't UTF-8; or it has too many bytes, or the new text would
+Refuses limit session (ReplaceAll payload) Nothing = (chosen_buffer session).pattern ≡ None
+Refuses limit session (ReplaceAll payload) Utf8 = ¬ (IsUtf8 payload)
+Refuses limit session (ReplaceAll payload) Size =
+    (limit < length payload) ⊎ GetsTooLongWith limit (chosen_buffer session) (chars payload)
+Refuses limit session (ReplaceAll payload) fault = ⊥
 -- there is no such buffer
 Refuses limit session (UseBuffer k) Nothing = length session.buffers ≤ k
 Refuses limit session (UseBuffer k) fault = ⊥
@@ -84,6 +91,7 @@ TakesMemory session (SetPattern payload) = Unit {0}
 TakesMemory session DropPattern = ⊥
 TakesMemory session ListMatches = ⊥
 TakesMemory session (FindNext from) = Unit {0}
+TakesMemory session (ReplaceAll payload) = Unit {0}
 TakesMemory session (UseBuffer k) = ⊥
 
 -- what an accepted command does: its reply, and the session after it
@@ -114,6 +122,11 @@ Does old ListMatches Listing new = new ≡ old
 Does old (FindNext from) (Found start end) new =
     TellsNext (chosen_buffer old) from (Some (start, end)) × (new ≡ old)
 Does old (FindNext from) NoMatch new = TellsNext (chosen_buffer old) from None × (new ≡ old)
+-- what the payload's text stands for takes the place of each match, of which the number is told; the
+-- texts that could be redone are dropped
+Does old (ReplaceAll payload) (Number k) new =
+    (template : List ℕ) × (edited : BufferState) × Encodes template payload
+    × IsReplacement (chosen_buffer old) template k edited × (new ≡ with_chosen old edited)
 Does old (UseBuffer k) Done new = new ≡ record old { chosen = k }
 -- no other reply is given
 Does old order reply new = ⊥

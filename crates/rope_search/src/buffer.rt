@@ -1,5 +1,5 @@
 //! A buffer: a text with its history, and perhaps a pattern.
-ghost use Rattle.std.specs.Prelude.{◌≡◌, ◌+◌, ◌^◌, ◌<◌, ◌≤◌, ◌↔◌, ◌⊎◌, [], length, chars, None, Some, Err, OnOk, OnErr, IfOk, IfErr, IfSome};
+ghost use Rattle.std.specs.Prelude.{◌≡◌, ℕ, ◌+◌, ◌^◌, ◌<◌, ◌≤◌, ◌↔◌, ◌⊎◌, [], length, chars, None, Some, Err, OnOk, OnErr, IfOk, IfErr, IfSome, MatchOption};
 ghost use Rattle.ropey.specs.Chunks.{text_of};
 ghost use Rattle.rope_search_reports.specs.Text.{line_count};
 ghost use Rattle.rope_search_reports.specs.Report.{match_count};
@@ -9,6 +9,7 @@ ghost use Rattle.str_indices.specs.Text.{byte_len};
 ghost use Rattle.rope_search_reports.specs.Pattern.{IsPattern, IsTooHeavy, SpellsNone, pattern_limit};
 ghost use Rattle.rope_search_reports.specs.Position.{IsNowhere};
 ghost use Rattle.rope_search.specs.Finding.{TellsNext};
+ghost use Rattle.rope_search.specs.Replacing.{IsReplacement, GetsTooLongWith, RowsOfReplacement};
 ghost use Rattle.rope_search.specs.Cost.{rows_anew};
 
 use crate::history::History;
@@ -160,9 +161,10 @@ impl Buffer {
             return Ok(());
         };
         // All that may be refused comes before the first change.
-        let patch = search.patch(tick, self.alloc, old, &new, part, inserted)?;
+        let changes = [part.change(inserted)];
+        let patches = search.patches(tick, self.alloc, old, &new, &changes)?;
         self.history.add(new)?;
-        search.apply(patch);
+        search.apply(patches);
         Ok(())
     }
 
@@ -340,6 +342,71 @@ impl Buffer {
         };
         let found = search.next_from(tick, self.history.current(), from)?;
         Ok(found)
+    }
+
+    /// Replaces all matches of the pattern in the current text, as a whole, by what the template
+    /// stands for at each, and tells their number. In a template `$` and a digit stand for the text
+    /// of that group, which is empty where the group is absent or not in the pattern; `$$` stands
+    /// for a dollar, and all else for itself. Matches that start or end between the CR and the LF
+    /// of a break are replaced too. The pattern stays, and of the report only the rows of the lines
+    /// that are touched are made anew. What could be redone is dropped, also where there is no
+    /// match.
+    ///
+    /// It is refused with `Fault::Nothing` where there is no pattern, else with `Fault::Size` where
+    /// the template has more bytes than the limit, or the new text would; and perhaps, but for a
+    /// template that is too long, with `Fault::Memory`. The buffer is then as before. It counts at
+    /// most one search of a whole text. Time is that of this search, and linear in the matches, in
+    /// what takes their places, in the lines that this touches, and where the number of lines
+    /// changes also in all lines.
+    pub fn replace(&mut self, tick: &mut Lines, template: &str) -> Result<usize, Fault>
+        ensures ok { IfOk result (λ count.
+            IsReplacement self.old.state (chars template.now) count self.new.state) }
+        ensures limit { self.new.limit ≡ self.old.limit }
+        ensures nothing { (result ≡ Err Fault.Nothing) ↔ (self.old.state.pattern ≡ None) }
+        ensures too_long { (self.old.state.pattern ≡ None → ⊥) → self.old.limit < length template.now
+            → result ≡ Err Fault.Size }
+        ensures size { result ≡ Err Fault.Size → (self.old.limit < length template.now)
+            ⊎ GetsTooLongWith self.old.limit self.old.state (chars template.now) }
+        ensures fits { OnOk result
+            (GetsTooLongWith self.old.limit self.old.state (chars template.now) → ⊥) }
+        ensures fault { IfErr result (λ fault.
+            (fault ≡ Fault.Nothing) ⊎ ((fault ≡ Fault.Size) ⊎ (fault ≡ Fault.Memory))) }
+        ensures err { OnErr result (self.new ≡ self.old) }
+
+        // For each match it makes at most as many rows as what takes its place has lines; and none
+        // where the new text would be too long.
+        ensures astray { result ≡ Err Fault.Nothing → tick.new ≡ tick.old }
+        ensures refused { self.old.limit < length template.now → tick.new ≡ tick.old }
+        ensures unmade { GetsTooLongWith self.old.limit self.old.state (chars template.now)
+            → tick.new.count ≡ tick.old.count }
+        ensures rows { (n : ℕ) → RowsOfReplacement self.old.state (chars template.now) n
+            → tick.new.count ≤ tick.old.count + n }
+        ensures wholes { tick.new.wholes ≤ tick.old.wholes + 1 }
+    {
+        let Some(search) = &mut self.search else {
+            return Err(Fault::Nothing);
+        };
+        if self.limits.text < template.len() {
+            return Err(Fault::Size);
+        }
+        let old = self.history.current();
+        // All that may be refused comes before the first change.
+        let replaced = search.replaced(tick, self.alloc, self.limits, old, template)?;
+        self.history.add(replaced.text)?;
+        search.apply(replaced.patches);
+        Ok(replaced.count)
+    }
+
+    /// `Fault::Nothing` where there is no pattern, and else the other fault: the one of both that
+    /// is told.
+    pub(crate) fn nothing_or(&self, other: Fault) -> Fault
+        ensures { MatchOption self.now.state.pattern (result ≡ Fault.Nothing)
+            (λ pattern. result ≡ other) }
+    {
+        match self.search {
+            None => Fault::Nothing,
+            Some(_) => other,
+        }
     }
 
     /// A new buffer with the current text alone: a history of its own, and no pattern. It may be

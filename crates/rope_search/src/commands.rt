@@ -47,6 +47,15 @@ pub enum CommandOf<P> {
     /// behind it. Refused with `Fault::Nothing` where the buffer has no pattern, `Fault::Range`
     /// where the position is nowhere in the text, or `Fault::Memory`.
     Next(Position),
+    /// Replaces all matches in the chosen buffer's whole text by what the payload, a template,
+    /// stands for at each, and answers their number: `$` and a digit stand for the text of that
+    /// group, which is empty where the group is absent or not in the pattern; `$$` for a dollar;
+    /// all else for itself. The pattern stays, and of the report only the rows of the lines that
+    /// are touched are made anew. What could be redone is dropped, also where there is no match.
+    /// Refused with `Fault::Nothing` where the buffer has no pattern, `Fault::Utf8` where the
+    /// payload isn't UTF-8, `Fault::Size` where the payload or the new text has more bytes than the
+    /// limit, or `Fault::Memory`.
+    Replace(P),
     /// Chooses a buffer by its number, from 0. Refused with `Fault::Nothing` where there is none.
     Use(u64),
 }
@@ -64,7 +73,8 @@ impl CommandOf<u64> {
         ensures { (order : Order) → IsHeaderOf self.now order → length (payload_of order) ≡ result }
     {
         match self {
-            CommandOf::Text(len) | CommandOf::Edit(_, _, len) | CommandOf::Pattern(len) => *len,
+            CommandOf::Text(len) | CommandOf::Edit(_, _, len) => *len,
+            CommandOf::Pattern(len) | CommandOf::Replace(len) => *len,
             CommandOf::Undo
             | CommandOf::Redo
             | CommandOf::Print
@@ -80,7 +90,7 @@ impl CommandOf<u64> {
     {
         match self {
             CommandOf::Pattern(_) => PATTERN_LEN,
-            CommandOf::Text(_) | CommandOf::Edit(_, _, _) => limits.text,
+            CommandOf::Text(_) | CommandOf::Edit(_, _, _) | CommandOf::Replace(_) => limits.text,
             CommandOf::Undo | CommandOf::Redo | CommandOf::Print | CommandOf::Fork => limits.text,
             CommandOf::Off | CommandOf::List | CommandOf::Next(_) => limits.text,
             CommandOf::Use(_) => limits.text,
@@ -105,6 +115,7 @@ impl CommandOf<u64> {
             CommandOf::Off => Command::Off,
             CommandOf::List => Command::List,
             CommandOf::Next(from) => Command::Next(from),
+            CommandOf::Replace(_) => Command::Replace(payload),
             CommandOf::Use(number) => Command::Use(number),
         }
     }
@@ -131,7 +142,7 @@ pub enum Payload<'a> {
 pub enum Reply {
     /// It is done.
     Done,
-    /// It is done, and this is the number of a buffer.
+    /// It is done, and this is the number of the new buffer, or that of the replaced matches.
     Number(usize),
     /// A match was found: the positions where it starts and where it ends.
     Found(Position, Position),

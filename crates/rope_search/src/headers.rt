@@ -29,6 +29,9 @@ pub fn header_of(line: &[u8]) -> Option<Header>
     if let Some(from) = position_after(line, b"next") {
         return Some(Header::Next(from));
     }
+    if let Some(len) = number_after(line, b"replace") {
+        return Some(Header::Replace(len));
+    }
     if let Some(number) = number_after(line, b"use") {
         return Some(Header::Use(number));
     }

@@ -6,7 +6,7 @@ ghost use Rattle.rope_search.specs.Order.{Order, PrintText, ListMatches};
 ghost use Rattle.rope_search.specs.Session.{State};
 ghost use Rattle.rope_search.specs.declared.commands.CommandOf.{CommandOf};
 ghost use Rattle.rope_search.specs.declared.commands.Payload.{Payload};
-ghost use Rattle.rope_search.specs.Laws.{AllHoldTexts, StepsHoldTexts, HasOneReading, HasOneStep, HasOneCost, EndsAtBadLine, HasAnswer, HasOneShow, StandsForSome, UndoUndoesEdit, RedoRedoesUndo, RepliesAlike, FindsAlike, FindsBoundaries, EditsHavePlaces, KeptIsAnew, ListsBoundaries, NoneIsNowhereOrTurned};
+ghost use Rattle.rope_search.specs.Laws.{AllHoldTexts, Known, StepsHoldTexts, HasOneReading, HasOneStep, HasOneCost, EndsAtBadLine, HasAnswer, HasOneShow, StandsForSome, UndoUndoesEdit, UndoUndoesReplace, ReplaceKeepsTheRest, RedoRedoesUndo, RepliesAlike, FindsAlike, FindsBoundaries, EditsHavePlaces, KeptIsAnew, ListsBoundaries, NoneIsNowhereOrTurned};
 ghost use Rattle.rope_search.specs.Step.{Answer};
 
 /// Each input has exactly one reading: a list of commands, and how it ends.
@@ -20,11 +20,7 @@ pub fn one_step()
     ensures { (limit : ℕ) (session : State) (order : Order) → AllHoldTexts session
         → HasOneStep limit session order }
 {
-    rope_search_reports::laws::one_place();
-    rope_search_reports::laws::finds_one();
-    rope_search_reports::laws::has_find();
-    rope_search_reports::laws::pattern_or_not();
-    rope_search_reports::laws::one_of_three();
+    known();
 }
 
 /// The texts and patterns of a session are texts and patterns: so it is at first, and each command
@@ -32,7 +28,7 @@ pub fn one_step()
 pub fn steps_hold_texts()
     ensures { StepsHoldTexts }
 {
-    rope_search_reports::laws::pattern_or_not();
+    known();
 }
 
 /// Each command in each session of texts has exactly one cost.
@@ -40,11 +36,7 @@ pub fn one_cost()
     ensures { (limit : ℕ) (session : State) (order : Order) → AllHoldTexts session
         → HasOneCost limit session order }
 {
-    rope_search_reports::laws::one_place();
-    rope_search_reports::laws::finds_one();
-    rope_search_reports::laws::has_find();
-    rope_search_reports::laws::pattern_or_not();
-    rope_search_reports::laws::one_of_three();
+    known();
 }
 
 /// What follows a line that is no command changes nothing that may be written.
@@ -56,12 +48,8 @@ pub fn ends_at_bad_line()
 pub fn has_answer()
     ensures { (limit : ℕ) (input : List ℕ) → HasAnswer limit input }
 {
-    rope_search_reports::laws::finds_one();
-    rope_search_reports::laws::has_find();
-    rope_search_reports::laws::pattern_or_not();
-    rope_search_reports::laws::one_of_three();
+    known();
     rope_search_reports::laws::has_report();
-    rope_search_reports::laws::one_place();
 }
 
 /// Each answer in a session of texts is shown in exactly one way.
@@ -85,6 +73,11 @@ pub fn undo_undoes_edit()
     ensures { UndoUndoesEdit }
 {}
 
+/// So do a replacement and directly after it an undo.
+pub fn undo_undoes_replace()
+    ensures { UndoUndoesReplace }
+{}
+
 /// An undo and directly after it a redo give back the text and the pattern, and so the report.
 pub fn redo_redoes_undo()
     ensures { RedoRedoesUndo }
@@ -103,11 +96,7 @@ pub fn replies_alike()
 pub fn finds_alike()
     ensures { FindsAlike }
 {
-    rope_search_reports::laws::one_place();
-    rope_search_reports::laws::finds_one();
-    rope_search_reports::laws::has_find();
-    rope_search_reports::laws::pattern_or_not();
-    rope_search_reports::laws::one_of_three();
+    known();
 }
 
 /// Each match that `next` tells starts at the place of its position or behind it, and starts and
@@ -116,6 +105,15 @@ pub fn finds_at_boundaries()
     ensures { FindsBoundaries }
 {
     rope_search_reports::laws::finds_are_in_text();
+}
+
+/// The matches that `replace` replaces follow each other, and each starts and ends at a boundary of
+/// the text. All text outside of them stays, in order, and their number is told.
+pub fn replace_keeps_the_rest()
+    ensures { ReplaceKeepsTheRest }
+{
+    rope_search_reports::laws::groups_follow_each_other();
+    rope_search_reports::laws::replacements_are_changes();
 }
 
 /// The positions of an edit that is accepted are at places of the text, the second not before the
@@ -136,7 +134,7 @@ pub fn kept_is_anew()
 pub fn matches_at_boundaries()
     ensures { ListsBoundaries }
 {
-    rope_search_reports::laws::pattern_or_not();
+    known();
     rope_search_reports::laws::matches_at_boundaries();
 }
 
@@ -146,4 +144,19 @@ pub fn none_is_nowhere_or_turned()
     ensures { NoneIsNowhereOrTurned }
 {
     rope_search_reports::laws::one_place();
+}
+
+/// What is known of places in texts, of patterns, of what is found of them and of what replaces
+/// that.
+pub(crate) fn known()
+    ensures { Known }
+{
+    rope_search_reports::laws::one_place();
+    rope_search_reports::laws::pattern_or_not();
+    rope_search_reports::laws::one_of_three();
+    rope_search_reports::laws::finds_one();
+    rope_search_reports::laws::has_find();
+    rope_search_reports::laws::one_list_of_groups();
+    rope_search_reports::laws::has_groups();
+    rope_search_reports::laws::replaced_is_text();
 }

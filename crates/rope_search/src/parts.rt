@@ -1,12 +1,14 @@
 //! A part of a text, between two places, and another text in its place.
-ghost use Rattle.std.specs.Prelude.{◌≡◌, ◌^◌, ◌<◌, ◌↔◌, IsTrue, IfOk, IfErr, IfSome, IfNone};
+ghost use Rattle.std.specs.Prelude.{◌≡◌, ℕ, ◌+◌, ◌^◌, ◌<◌, ◌↔◌, List, [], ◌∷◌, length, IsTrue, IfOk, IfErr, IfSome, IfNone};
 ghost use Rattle.std.specs.Str.{chars};
 ghost use Rattle.str_indices.specs.Text.{byte_len};
 ghost use Rattle.ropey.specs.Chunks.{text_of};
+ghost use Rattle.rope_search_reports.specs.Text.{line_count};
+ghost use Rattle.rope_search_reports.specs.Changes.{AreChanges};
 ghost use Rattle.rope_search.specs.Places.{HasNoneBetween, IsMarked, IsMarkedBetween, with_replaced};
 
 use rope_search_io::Fault;
-use rope_search_reports::{Place, Position, place_of};
+use rope_search_reports::{Change, Place, Position, place_of};
 use ropey::Rope;
 
 /// A part of a text: from one place to another.
@@ -69,5 +71,20 @@ impl Part {
             return Err(Fault::Memory);
         };
         Ok(new)
+    }
+
+    /// The change that puts another text in this part's place.
+    pub fn change(self, inserted: &str) -> Change
+        requires { self.start.byte_idx + length inserted.now < 2 ^ 64 }
+        ensures { (text : List ℕ) → IsMarked text self
+            → AreChanges (result ∷ []) 0 0 text (with_replaced text self (chars inserted.now))
+            (line_count (chars inserted.now)) }
+    {
+        let start = self.start.byte_idx;
+        Change {
+            old_end: self.end.byte_idx,
+            new_start: start,
+            new_end: start + inserted.len(),
+        }
     }
 }

@@ -5,6 +5,7 @@ ghost use Rattle.rope_search.specs.Laws.{AllHoldTexts};
 ghost use Rattle.rope_search.specs.Runs.{AnswersWhole, Ran, TakesTurn, Closes};
 
 use crate::endings::Ended;
+use crate::laws;
 use crate::limits::Limits;
 use crate::replies::write_answer;
 use crate::requests::{Request, read_request};
@@ -83,12 +84,8 @@ fn run_turns<R: Source, W: Sink>(
         return Err(Broken::Memory);
     };
     // Laws, for the proof alone: the replies that a failed write keeps back can be told.
+    laws::known();
     rope_search_reports::laws::has_report();
-    rope_search_reports::laws::one_place();
-    rope_search_reports::laws::pattern_or_not();
-    rope_search_reports::laws::one_of_three();
-    rope_search_reports::laws::finds_one();
-    rope_search_reports::laws::has_find();
     let mut read_buffer = ReadBuffer::new();
     let mut write_buffer = WriteBuffer::new();
     loop {
@@ -138,12 +135,8 @@ fn turn<R: Source, W: Sink>(
           ticks = tick.new;
         }) }
 {
-    // Laws, for the proof alone: each command has a cost.
-    rope_search_reports::laws::one_place();
-    rope_search_reports::laws::pattern_or_not();
-    rope_search_reports::laws::one_of_three();
-    rope_search_reports::laws::finds_one();
-    rope_search_reports::laws::has_find();
+    // A law, for the proof alone: each command has a cost.
+    laws::known();
     let alloc = session.alloc();
     let limits = session.limits();
     match read_request(read_buffer, reader, alloc, limits)? {

@@ -1,18 +1,22 @@
-//! A pattern that is set, and its report, which an edit patches.
-ghost use Rattle.std.specs.Prelude.{◌≡◌, ◌+◌, ◌^◌, ◌<◌, ◌≤◌, ◌↔◌, ◌⊎◌, chars, Err, IfOk, IfErr};
+//! A pattern that is set, and its report, which edits and replacements patch.
+ghost use Rattle.std.specs.Prelude.{◌≡◌, ℕ, ◌+◌, ◌^◌, ◌<◌, ◌≤◌, ◌↔◌, ◌⊎◌, length, chars, Err, OnOk, IfOk, IfErr};
 ghost use Rattle.ropey.specs.Chunks.{text_of};
 ghost use Rattle.rope_search_reports.specs.Text.{line_count};
 ghost use Rattle.rope_search_reports.specs.Report.{IsReport, match_count};
+ghost use Rattle.rope_search_reports.specs.Changes.{AreChanges};
+ghost use Rattle.rope_search_reports.specs.Patches.{patched, made_by};
 ghost use Rattle.rope_search_reports.specs.Position.{IsNowhere};
 ghost use Rattle.rope_search.specs.Finding.{TellsIn};
-ghost use Rattle.rope_search.specs.Places.{IsMarked, with_replaced};
-ghost use Rattle.rope_search.specs.Searched.{FitsIn, patched};
+ghost use Rattle.rope_search.specs.Replacing.{IsReplacementIn, GetsTooLongIn, RowsOfReplacementIn};
+ghost use Rattle.rope_search.specs.Searched.{FitIn, HasRoom};
 
-use crate::parts::Part;
+use crate::limits::Limits;
 use rope_search_io::Fault;
 use rope_search_reports::{
-    Finder, Lines, Position, Row, find_from, place_of, position_of, replace_rows, rows_of_lines,
+    Change, Finder, Lines, Patch, Position, Row, find_all, find_from, patches_of, place_of,
+    position_of, put_in_place, put_patches, rows_made, shift_once,
 };
+use rope_search_templates::{Replacement, Template, is_over, replace_all};
 use ropey::Rope;
 use std::alloc::Global;
 
@@ -25,70 +29,152 @@ pub struct Search {
     pub rows: Vec<Row>,
 }
 
-/// Rows that an edit makes anew, and those in whose place they go.
+/// The patches of a report, and room for what they bring.
 #[derive(Drop)]
-pub struct Patch {
-    /// The first line that is gone.
-    pub first: usize,
-    /// The line behind those that are gone.
-    pub end: usize,
-    /// The new rows.
-    pub made: Vec<Row>,
+pub struct Patches {
+    /// The patches, from the first row on.
+    pub patches: Vec<Patch>,
+    /// An empty list for the whole new report. None where the old one's list has room.
+    pub room: Option<Vec<Row>>,
+}
+
+/// A text with all matches replaced, and what that makes of its report.
+#[derive(Drop)]
+pub struct Replaced {
+    /// How many matches were replaced.
+    pub count: usize,
+    /// The new text.
+    pub text: Rope,
+    /// The patches that make the report that of the new text.
+    pub patches: Patches,
+}
+
+/// Room for patches. Where at most one of them moves the rows behind it, it is made in the report's
+/// own list, and else in a new one with room for `len` rows, into which each row is moved once. It
+/// may be refused with `Fault::Memory` alone; the report is as before.
+fn room_for(
+    alloc: Global,
+    rows: &mut Vec<Row>,
+    patches: &[Patch],
+    len: usize,
+) -> Result<Option<Vec<Row>>, Fault>
+    requires within { length (patched 0 rows.old.items patches.now) ≤ len }
+    requires few { made_by patches.now < 2 ^ 64 }
+    ensures room { IfOk result (λ room. HasRoom rows.new patches.now room) }
+    ensures rows { rows.new.items ≡ rows.old.items }
+    ensures fault { IfErr result (λ fault. fault ≡ Fault.Memory) }
+{
+    if shift_once(patches) {
+        rows.reserve(rows_made(patches))?;
+        return Ok(None);
+    }
+    let room = Vec::with_capacity(alloc, len)?;
+    Ok(Some(room))
 }
 
 impl Search {
-    /// The patch that makes the report that of the text after an edit, and room for it: the rows of
-    /// the lines that the edit touches, which are at most as many as what it inserts has lines. It
-    /// may be refused with `Fault::Memory` alone. The report is as before.
-    pub fn patch(
+    /// The patches that make the report that of the text after some changes, and room for them. For
+    /// each change they make at most as many rows as what it puts in has lines. It may be refused
+    /// with `Fault::Memory` alone. The report is as before.
+    pub fn patches(
         &mut self,
         tick: &mut Lines,
         alloc: Global,
         old: &Rope,
         new: &Rope,
-        part: Part,
-        inserted: &str,
-    ) -> Result<Patch, Fault>
+        changes: &[Change],
+    ) -> Result<Patches, Fault>
         requires report { IsReport (text_of old.now) self.old.finder self.old.rows.items }
-        requires marked { IsMarked (text_of old.now) part }
-        requires edited { text_of new.now ≡
-            with_replaced (text_of old.now) part (chars inserted.now) }
-        ensures fits { IfOk result (λ patch. FitsIn self.new patch) }
-        ensures report { IfOk result (λ patch.
-            IsReport (text_of new.now) self.old.finder (patched self.old.rows.items patch)) }
-        ensures few { IfOk result (λ patch.
-            match_count (patched self.old.rows.items patch) < 2 ^ 64) }
+        requires changed { (n : ℕ) × AreChanges changes.now 0 0 (text_of old.now) (text_of new.now) n }
+        ensures fit { IfOk result (λ patches. FitIn self.new patches) }
+        ensures report { IfOk result (λ patches.
+            IsReport (text_of new.now) self.old.finder
+            (patched 0 self.old.rows.items patches.patches.items)) }
+        ensures few { IfOk result (λ patches.
+            match_count (patched 0 self.old.rows.items patches.patches.items) < 2 ^ 64) }
         ensures fault { IfErr result (λ fault. fault ≡ Fault.Memory) }
         ensures finder { self.new.finder ≡ self.old.finder }
         ensures rows { self.new.rows.items ≡ self.old.rows.items }
-        ensures count { tick.new.count ≤ tick.old.count + line_count (chars inserted.now) }
+        ensures count { (n : ℕ) → AreChanges changes.now 0 0 (text_of old.now) (text_of new.now) n
+            → tick.new.count ≤ tick.old.count + n }
         ensures wholes { tick.new.wholes ≡ tick.old.wholes }
     {
-        // Laws, for the proof alone.
-        rope_search_reports::laws::edits_splice_lines();
-        rope_search_reports::laws::splices_keep_rows();
+        // Laws, and the texts' facts, for the proof alone.
         rope_search_reports::laws::few_matches();
         rope_search_reports::laws::a_row_a_line();
-        rope_search_reports::laws::places_are_in_lines();
-        str_indices::laws::counts_are_at_most_bytes();
-        let first = new.byte_to_line(part.start.byte_idx);
-        // What follows the part follows what is inserted too.
-        let behind = old.len_bytes() - part.end.byte_idx;
-        let last = new.byte_to_line(new.len_bytes() - behind);
-        let end = old.byte_to_line(part.end.byte_idx) + 1;
-        let made = rows_of_lines(tick, alloc, &mut self.finder, new, first, last + 1)?;
-        self.rows.reserve(made.len())?;
-        Ok(Patch { first, end, made })
+        let _ = old.len_lines();
+        let _ = new.len_bytes();
+        let len = new.len_lines();
+        let patches = patches_of(tick, alloc, &mut self.finder, old, new, changes)?;
+        let room = room_for(alloc, &mut self.rows, &patches, len)?;
+        Ok(Patches { patches, room })
+    }
+
+    /// A text with all its matches replaced by what the template stands for at each, and the patches
+    /// that make the report that of this text. It is refused with `Fault::Size` where the new text
+    /// would have more bytes than the limit, and perhaps with `Fault::Memory`. The report is as
+    /// before.
+    pub fn replaced(
+        &mut self,
+        tick: &mut Lines,
+        alloc: Global,
+        limits: Limits,
+        old: &Rope,
+        template: &str,
+    ) -> Result<Replaced, Fault>
+        requires report { IsReport (text_of old.now) self.old.finder self.old.rows.items }
+        ensures replaced { IfOk result (λ new. IsReplacementIn (text_of old.now) self.old.finder
+            (chars template.now) new.count (text_of new.text)) }
+        ensures fit { IfOk result (λ new. FitIn self.new new.patches) }
+        ensures report { IfOk result (λ new.
+            IsReport (text_of new.text) self.old.finder
+            (patched 0 self.old.rows.items new.patches.patches.items)) }
+        ensures few { IfOk result (λ new.
+            match_count (patched 0 self.old.rows.items new.patches.patches.items) < 2 ^ 64) }
+        ensures size { result ≡ Err Fault.Size
+            → GetsTooLongIn limits.text (text_of old.now) self.old.finder (chars template.now) }
+        ensures fits { OnOk result
+            (GetsTooLongIn limits.text (text_of old.now) self.old.finder (chars template.now)
+            → ⊥) }
+        ensures fault { IfErr result (λ fault. (fault ≡ Fault.Size) ⊎ (fault ≡ Fault.Memory)) }
+        ensures finder { self.new.finder ≡ self.old.finder }
+        ensures rows { self.new.rows.items ≡ self.old.rows.items }
+        ensures unmade { GetsTooLongIn limits.text (text_of old.now) self.old.finder
+            (chars template.now) → tick.new.count ≡ tick.old.count }
+        ensures count { (n : ℕ) → RowsOfReplacementIn (text_of old.now) self.old.finder
+            (chars template.now) n → tick.new.count ≤ tick.old.count + n }
+        ensures wholes { tick.new.wholes ≤ tick.old.wholes + 1 }
+    {
+        // Laws, and the text's facts, for the proof alone.
+        rope_search_reports::laws::replacements_are_changes();
+        rope_search_reports::laws::one_list_of_groups();
+        let _ = old.len_bytes();
+        let template = Template::new(template);
+        let matches = find_all(tick, &mut self.finder, old)?;
+        if is_over(limits.text, old, &template, &matches) {
+            return Err(Fault::Size);
+        }
+        let Replacement { text, changes } = replace_all(alloc, old, &template, &matches)?;
+        let patches = self.patches(tick, alloc, old, &text, &changes)?;
+        Ok(Replaced {
+            count: matches.len(),
+            text,
+            patches,
+        })
     }
 
     /// Patches the report. It takes no memory.
-    pub fn apply(&mut self, patch: Patch)
-        requires { FitsIn self.old patch }
+    pub fn apply(&mut self, patches: Patches)
+        requires { FitIn self.old patches }
         ensures finder { self.new.finder ≡ self.old.finder }
-        ensures rows { self.new.rows.items ≡ patched self.old.rows.items patch }
+        ensures rows { self.new.rows.items
+            ≡ patched 0 self.old.rows.items patches.patches.items }
     {
-        let Patch { first, end, made } = patch;
-        replace_rows(&mut self.rows, first, end, made);
+        let Patches { patches, room } = patches;
+        match room {
+            None => put_in_place(&mut self.rows, patches),
+            Some(room) => put_patches(&mut self.rows, patches, room),
+        }
     }
 
     /// The first match in a whole text that starts at a position or behind it: the positions where

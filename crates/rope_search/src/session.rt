@@ -1,6 +1,6 @@
 //! A session: buffers, of which one is chosen.
 ghost use Rattle.std.specs.Prelude.{◌≡◌, ◌+◌, ◌<◌, ◌≤◌, ◌↔◌, [], ◌∷◌, ◌++◌, List, ℕ, length, Bool, Err, OnOk, OnErr, IfOk, IfErr, IsOk, None, Some};
-ghost use Rattle.rope_search.specs.Order.{Order, SetText, EditText, UndoEdit, RedoEdit, SetPattern, ListMatches, FindNext};
+ghost use Rattle.rope_search.specs.Order.{Order, SetText, EditText, UndoEdit, RedoEdit, SetPattern, ListMatches, FindNext, ReplaceAll};
 ghost use Rattle.rope_search.specs.Session.{first, fresh, current_text, chosen_buffer, with_pattern, with_chosen};
 ghost use Rattle.rope_search_reports.specs.Pattern.{pattern_limit};
 ghost use Rattle.rope_search.specs.Laws.{HasCurrent};
@@ -132,7 +132,8 @@ impl Session {
     /// so do `Undo` and `Redo` where there is a pattern. `Edit` takes time in the bytes of the
     /// payload and `O(log n)`, and where there is a pattern searches the lines that it touches,
     /// which are at most as many as the payload has; where the number of lines changes, it moves
-    /// the rows behind them.
+    /// the rows behind them. `Replace` searches the whole text once, and takes time in the matches
+    /// and what takes their places, of which it searches the lines.
     /// `Off` lets go of the report, a row a line. All others are `O(1)`, but for what `fork` says.
     pub fn apply(&mut self, tick: &mut Lines, command: Command<'_>) -> Result<Reply, Fault>
         // What it answers and leaves is a step, for each command that this one stands for.
@@ -167,6 +168,7 @@ impl Session {
             Command::Off => Ok(self.drop_pattern()),
             Command::List => self.list(),
             Command::Next(from) => self.find_next(tick, from),
+            Command::Replace(payload) => self.replace(tick, payload),
             Command::Use(number) => {
                 self.choose(number)?;
                 Ok(Reply::Done)
@@ -318,6 +320,33 @@ impl Session {
     {
         let found = self.buffers[self.chosen].next_from(tick, from)?;
         Ok(reply_for(found))
+    }
+
+    // Replaces all matches in the chosen buffer's text by what the payload stands for at each.
+    fn replace(&mut self, tick: &mut Lines, payload: Payload<'_>) -> Result<Reply, Fault>
+        ensures step { (bytes : List ℕ) → StandsFor self.old.limit payload.entry bytes
+            → Step self.old.limit self.old.state (ReplaceAll bytes) result self.new.state }
+        ensures lost { payload.entry ≡ Payload.Lost → result ≡ Err Fault.Memory }
+        ensures long { (utf8 : Bool) → payload.entry ≡ Payload.Long utf8
+            → result ≡ Err Fault.Memory → ⊥ }
+        ensures limit { self.new.limit ≡ self.old.limit }
+        ensures rows { (bytes : List ℕ) (cost : ℕ) → StandsFor self.old.limit payload.entry bytes
+            → Costs self.old.limit self.old.state (ReplaceAll bytes) cost
+            → tick.new.count ≤ tick.old.count + cost }
+        ensures wholes { tick.new.wholes ≤ tick.old.wholes + 1 }
+    {
+        match payload {
+            Payload::Kept(bytes) => match str::from_utf8(bytes) {
+                Ok(template) => {
+                    let number = self.buffers[self.chosen].replace(tick, template)?;
+                    Ok(Reply::Number(number))
+                }
+                Err(_) => Err(self.buffer().nothing_or(Fault::Utf8)),
+            },
+            Payload::Long { utf8: true } => Err(self.buffer().nothing_or(Fault::Size)),
+            Payload::Long { utf8: false } => Err(self.buffer().nothing_or(Fault::Utf8)),
+            Payload::Lost => Err(Fault::Memory),
+        }
     }
 }
 

@@ -11,6 +11,7 @@ pub mod PartLemmas
 pub mod ReplaceLemmas
 pub mod SpotLemmas
 pub mod FewLemmas
+pub mod GroupLemmas
 pub mod SpliceLemmas
 pub mod ChangeLemmas
 pub mod WeaveLemmas

@@ -6,7 +6,7 @@ use Rattle.std.specs.Str.{IsUtf8, IsCharBoundary}
 use Rattle.std.proofs.lemmas.Bool.{cases_lt}
 use Rattle.std.proofs.lemmas.List.{map-append}
 use Rattle.regex_cursor.specs.Patterns.{Tree, FoundMatch, at_once, moved, TreeFinds, TreeMatches, FirstTreeMatches, ComesBehind, BehindLast, search_from, pattern_weight, start_of, end_of}
-use Rattle.regex_cursor.specs.PatternLaws.{HasFinds, SpellsOneTree, SpellsTreeOrNone}
+use Rattle.regex_cursor.specs.PatternLaws.{HasFinds, HasNotedGroups, SpellsOneTree, SpellsTreeOrNone}
 use Rattle.rope_search_reports.specs.Pattern.{IsPattern, FindsMatch, Finds, span_of, weight_limit}
 use Rattle.rope_search_reports.specs.Finders.{ComesAfter}
 use Rattle.rope_search_reports.specs.Text.{IsText, bytes_of}
@@ -14,6 +14,10 @@ use Rattle.rope_search_reports.specs.Laws.{IsPatternOrNot, IsOneOfThree, IsInTex
 
 abbrev pub AllHaveFinds : Type 0
 AllHaveFinds = (tree : Tree) → HasFinds tree
+
+-- each match that is found of a tree has noted its groups
+abbrev pub AllNote : Tree → List ℕ → Type 0
+AllNote tree content = (from : ℕ) (t : FoundMatch) → TreeFinds tree content from (Some t) → HasNotedGroups t
 
 -- ---- which texts are patterns
 

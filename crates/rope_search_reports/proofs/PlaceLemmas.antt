@@ -17,7 +17,7 @@ use Rattle.rope_search_reports.proofs.LineLemmas.{byte_len-append, byte_len-one,
 
 -- ---- scalar values
 
-scalars-joined : (s t : List ℕ) → all_scalars s ≡ true → all_scalars t ≡ true → all_scalars (s ++ t) ≡ true
+pub scalars-joined : (s t : List ℕ) → all_scalars s ≡ true → all_scalars t ≡ true → all_scalars (s ++ t) ≡ true
 scalars-joined [] t one other = other
 scalars-joined (c ∷ cs) t one other =
     let both = and_parts _ _ one in

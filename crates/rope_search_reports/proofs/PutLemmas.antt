@@ -1,9 +1,10 @@
 -- Rows that are moved one by one, and patches put in their places.
 use Rattle.std.proofs.Common.{◌≡◌, MatchOption, ℕ, zero, suc, ◌+◌, ◌-◌, ◌<◌, ◌≤◌, List, [], ◌∷◌, ◌++◌, length, take, drop, Option, None, Some, sym, ap, ◌∙◌, subst, arith, append_assoc, length-append, length-take, length-drop}
 use Rattle.std.specs.Option.{option_to_list}
-use Rattle.std.proofs.lemmas.List.{drop-drop, take_all}
+use Rattle.std.proofs.lemmas.List.{drop-drop, take_all, drop-append-le, take-append-le, take-take, drop-take, length-take-le}
+use Rattle.std.proofs.lemmas.List.Sums.{sum_by-append, sum_by-cons}
 use Rattle.rope_search_reports.specs.declared.patches.Patch.{Patch}
-use Rattle.rope_search_reports.specs.Patches.{patched, AreInTurn}
+use Rattle.rope_search_reports.specs.Patches.{patched, AreInTurn, made_by}
 
 -- what one step of an iterator moves
 pub record Stepped {A : Type 0} (all ys : List A) (i : ℕ) (r : Option A) : Type 0 where
@@ -125,3 +126,89 @@ IsPut-room rows patches out left at rest room room' more put = record {
   whole = put.whole;
   fits = omega (arith, more, put.fits);
 }
+
+-- ---- patches put in place, from the last one on
+
+-- where the last patch stands
+pub record IsLast (at len : ℕ) (p : Patch) : Type 0 where
+  pub behind : at ≤ p.first
+  pub ordered : p.first ≤ p.end
+  pub within : p.end ≤ len
+
+pub last-turn : (at len : ℕ) (ps : List Patch) (p : Patch) → AreInTurn at len (ps ++ p ∷ []) → IsLast at len p
+last-turn at len [] p turn = record { behind = turn.0; ordered = turn.1; within = turn.2 }
+last-turn at len (q ∷ ps) p turn =
+    let last = last-turn q.end len ps p turn.2 in
+    record { behind = omega (arith, turn.0, turn.1, last.behind); ordered = last.ordered; within = last.within }
+
+-- the others end before it
+first-turn : (at len : ℕ) (ps : List Patch) (p : Patch) (more : ℕ) → AreInTurn at len (ps ++ p ∷ []) → p.first ≤ more → AreInTurn at more ps
+first-turn at len [] p more turn less = omega (arith, turn.0, less)
+first-turn at len (q ∷ ps) p more turn less = (turn.0, turn.1, first-turn q.end len ps p more turn.2 less)
+
+-- rows between two places before a patch
+before-patch : (at first n : ℕ) (rows behind : List (List (ℕ × ℕ))) → at + n ≤ first → first ≤ length rows
+    → take n (drop at (take first rows ++ behind)) ≡ take n (drop at rows)
+before-patch at first n rows behind less within =
+    let kept : length (take first rows) ≡ first = length-take-le first rows within in
+    let left : length (drop at (take first rows)) ≡ first - at = omega (arith, length-drop at (take first rows), kept) in
+    let sum : at + (first - at) ≡ first = omega (arith, less) in
+    let front : drop at (take first rows) ≡ take (first - at) (drop at rows) = ap (λ m. drop at (take m rows)) (sym sum) ∙ drop-take at (first - at) rows in
+    let sum' : n + (first - at - n) ≡ first - at = omega (arith, less) in
+    ap (take n) (drop-append-le at (take first rows) behind (omega (arith, kept, less)))
+    ∙ take-append-le n (drop at (take first rows)) behind (omega (arith, left, less))
+    ∙ ap (take n) front
+    ∙ take-take n (first - at) (drop at rows) (omega (arith, less))
+
+-- the rows from a place on, up to a patch and behind it
+drop-front : (at first : ℕ) (rows behind : List (List (ℕ × ℕ))) → at ≤ first → first ≤ length rows
+    → drop at (take first rows ++ behind) ≡ take (first - at) (drop at rows) ++ behind
+drop-front at first rows behind less within =
+    let kept : length (take first rows) ≡ first = length-take-le first rows within in
+    let sum : at + (first - at) ≡ first = omega (arith, less) in
+    drop-append-le at (take first rows) behind (omega (arith, kept, less))
+    ∙ ap (λ xs. xs ++ behind) (ap (λ m. drop at (take m rows)) (sym sum) ∙ drop-take at (first - at) rows)
+
+-- the last patch is put in its place, and the others are left
+last-put : (at : ℕ) (rows : List (List (ℕ × ℕ))) (ps : List Patch) (p : Patch) → AreInTurn at (length rows) (ps ++ p ∷ [])
+    → patched at (take p.first rows ++ (p.made.items ++ drop p.end rows)) ps ≡ patched at rows (ps ++ p ∷ [])
+last-put at rows [] p turn =
+    drop-front at p.first rows (p.made.items ++ drop p.end rows) turn.0 (omega (arith, turn.1, turn.2))
+    ∙ sym (append_assoc (take (p.first - at) (drop at rows)) p.made.items (drop p.end rows))
+last-put at rows (q ∷ ps) p turn =
+    let last = last-turn q.end (length rows) ps p turn.2 in
+    let behind = p.made.items ++ drop p.end rows in
+    ap (λ xs. xs ++ q.made.items ++ patched q.end (take p.first rows ++ behind) ps)
+    (before-patch at p.first (q.first - at) rows behind (omega (arith, turn.0, turn.1, last.behind)) (omega (arith, last.ordered, last.within)))
+    ∙ ap (λ xs. take (q.first - at) (drop at rows) ++ q.made.items ++ xs) (last-put q.end rows ps p turn.2)
+
+-- the last patches are put, and the first ones are left
+pub record IsPutDown (old : List (List (ℕ × ℕ))) (all : List Patch) (rows : List (List (ℕ × ℕ))) (patches : List Patch) (room : ℕ) : Type 0 where
+  pub turn : AreInTurn 0 (length rows) patches
+  pub whole : patched 0 rows patches ≡ patched 0 old all
+  pub fits : length rows + made_by patches ≤ room
+
+pub IsPutDown-step : (old : List (List (ℕ × ℕ))) (all : List Patch) (rows rows' : List (List (ℕ × ℕ))) (patches ps : List Patch) (p : Patch) (room room' : ℕ)
+    → patches ≡ ps ++ p ∷ [] → IsPutDown old all rows patches room
+    → rows' ≡ take p.first rows ++ p.made.items ++ drop p.end rows → room ≤ room' → IsPutDown old all rows' ps room'
+IsPutDown-step old all rows rows' patches ps p room room' is put rows-is more =
+    let turn = subst (AreInTurn 0 (length rows)) is put.turn in
+    let last = last-turn 0 (length rows) ps p turn in
+    let joined : rows' ≡ take p.first rows ++ (p.made.items ++ drop p.end rows) = rows-is ∙ append_assoc (take p.first rows) p.made.items (drop p.end rows) in
+    let kept : length (take p.first rows) ≡ p.first = length-take-le p.first rows (omega (arith, last.ordered, last.within)) in
+    let long : length rows' ≡ p.first + (length p.made.items + (length rows - p.end)) =
+    omega (
+      arith,
+      ap length joined,
+      length-append (take p.first rows) (p.made.items ++ drop p.end rows),
+      length-append p.made.items (drop p.end rows),
+      length-drop p.end rows,
+      kept,
+    ) in
+    let made : made_by patches ≡ made_by ps + length p.made.items =
+    omega (arith, ap made_by is, sum_by-append (λ (q : Patch). length q.made.items) ps (p ∷ []), sum_by-cons (λ (q : Patch). length q.made.items) p []) in
+    record {
+      turn = first-turn 0 (length rows) ps p (length rows') turn (omega (arith, long));
+      whole = ap (λ xs. patched 0 xs ps) joined ∙ last-put 0 rows ps p turn ∙ ap (patched 0 rows) (sym is) ∙ put.whole;
+      fits = omega (arith, put.fits, long, made, last.ordered, last.within, more);
+    }

@@ -12,7 +12,7 @@ use Rattle.rope_search_reports.proofs.MatchLemmas.{AllHaveFinds}
 
 -- ---- at most one
 
-matches-one : SpellsOneTree → AllHaveFinds → (pattern content : List ℕ) (ms ns : List FoundMatch) → AreMatches pattern content ms → AreMatches pattern content ns → ms ≡ ns
+pub matches-one : SpellsOneTree → AllHaveFinds → (pattern content : List ℕ) (ms ns : List FoundMatch) → AreMatches pattern content ms → AreMatches pattern content ns → ms ≡ ns
 matches-one trees finds pattern content ms ns one other =
     let same = trees pattern other.tree one.tree other.spells one.spells in
     let moved_to : TreeMatches one.tree content ns = subst (λ tree. TreeMatches tree content ns) same other.are in

@@ -7,10 +7,10 @@ use Rattle.regex_cursor.specs.Patterns.{Tree, SpellsTree, FoundMatch, answer_slo
 use Rattle.regex_cursor.specs.PatternLaws.{HasFinds}
 use Rattle.rope_search_reports.specs.Text.{bytes_of}
 use Rattle.rope_search_reports.specs.Pattern.{span_of}
-use Rattle.rope_search_reports.specs.Matches.{AreGroups, groups_of}
+use Rattle.rope_search_reports.specs.Matches.{AreGroups, both, group_of, groups_of}
 use Rattle.rope_search_reports.specs.Report.{IsRow, column, columns}
 use Rattle.rope_search_reports.specs.Finders.{AreGroupsOf, ComesAfter, IsRowOf, IsTold, group_told}
-use Rattle.rope_search_reports.proofs.MatchLemmas.{Searched, Searched-more, Searched-end, comes-from, comes-further, lies-behind, room_behind, stands}
+use Rattle.rope_search_reports.proofs.MatchLemmas.{AllNote, Searched, Searched-more, Searched-end, comes-from, comes-further, lies-behind, room_behind, stands}
 use Rattle.rope_search_reports.proofs.NextLemmas.{ToldMatch, none-told, some-told}
 
 -- a match that comes next, and what is told of it
@@ -92,10 +92,13 @@ row-is pattern line tree row spells is = record {
 -- ---- groups
 
 -- they are told by the slots of groups 0 to 9
-pub groups-told : (tree : Tree) (content : List ℕ) (last : Option ℕ) (span : ℕ × ℕ) (slots : List (Option ℕ)) → length slots ≡ 20 → (next : NextMatch tree content last span slots)
-    → map (group_told slots) (range_with_len 0 10) ≡ groups_of next.t
-groups-told tree content last span slots len next =
+pub groups-told : (tree : Tree) (content : List ℕ) (last : Option ℕ) (span : ℕ × ℕ) (slots : List (Option ℕ)) → length slots ≡ 20 → AllNote tree content
+    → (next : NextMatch tree content last span slots) → map (group_told slots) (range_with_len 0 10) ≡ groups_of next.t
+groups-told tree content last span slots len notes next =
+    let from = comes-from tree content last next.t next.is in
+    let has = (notes from.0 next.t from.1).whole in
     ap (λ s. map (group_told s) (range_with_len 0 10)) (next.slots_are ∙ ap (λ n. answer_slots n (Some next.t)) len)
+    ∙ ap (λ g. g ∷ map (group_of next.t) (range_with_len 1 9)) (ap₂ both has.start has.end)
 
 -- all groups, where none comes next
 pub last-groups : (tree : Tree) (content : List ℕ) (last : Option ℕ) (groups : List (List (Option (ℕ × ℕ)))) → HasFinds tree → ComesAfter tree content last None

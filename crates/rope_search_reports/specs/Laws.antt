@@ -6,9 +6,10 @@ use Rattle.str_indices.specs.Laws.{AnyTexts, EndsAddUp, LastEndIsBefore, LastUni
 use Rattle.ropey.specs.Chunks.{is_break}
 use Rattle.rope_search_reports.specs.Text.{IsText, bytes_of, line_count}
 use Rattle.rope_search_reports.specs.Pattern.{IsPattern, IsTooHeavy, SpellsNone, Finds}
-use Rattle.rope_search_reports.specs.Matches.{IsMatches}
+use Rattle.rope_search_reports.specs.Matches.{AreGroups, IsMatches}
 use Rattle.rope_search_reports.specs.Position.{line_at, IsAt, StandsAtBoundaries, LiesInPlace}
 use Rattle.rope_search_reports.specs.Report.{IsReport, match_count}
+use Rattle.rope_search_reports.specs.Replacement.{Groups, replaced, FollowEachOther}
 
 -- a text is a pattern, or it is one but for its weight, or it spells nothing
 abbrev pub IsPatternOrNot : Type 0
@@ -51,6 +52,32 @@ HasOneListOfMatches = (pattern content : List ℕ) (spans spans' : List (ℕ × 
 abbrev pub HasMatches : Type 0
 HasMatches = (pattern content : List ℕ) → IsPattern pattern
     → (spans : List (ℕ × ℕ)) × IsMatches pattern content spans
+
+-- a pattern has at most one list of groups of matches in a content
+abbrev pub HasOneListOfGroups : Type 0
+HasOneListOfGroups = (pattern content : List ℕ) (groups groups' : List Groups)
+    → AreGroups pattern content groups → AreGroups pattern content groups' → groups ≡ groups'
+
+-- and one
+abbrev pub HasGroups : Type 0
+HasGroups = (pattern content : List ℕ) → IsPattern pattern
+    → (groups : List Groups) × AreGroups pattern content groups
+
+-- they are at most one match more than the content has bytes
+abbrev pub HasFewGroups : Type 0
+HasFewGroups = (pattern content : List ℕ) (groups : List Groups)
+    → AreGroups pattern content groups → length groups ≤ length content + 1
+
+-- in a text they follow each other, between characters
+abbrev pub GroupsFollowEachOther : Type 0
+GroupsFollowEachOther = (text pattern : List ℕ) (groups : List Groups) → IsText text
+    → AreGroups pattern (bytes_of text) groups → FollowEachOther (bytes_of text) 0 groups
+
+-- a text in which all matches are replaced is a text
+abbrev pub ReplacedIsText : Type 0
+ReplacedIsText = (text pattern template : List ℕ) (groups : List Groups) → IsText text
+    → IsText template → AreGroups pattern (bytes_of text) groups
+    → IsText (replaced (bytes_of text) template 0 groups)
 
 -- a report has at most one match more than its text has bytes
 abbrev pub HasFewMatches : Type 0

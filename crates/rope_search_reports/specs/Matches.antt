@@ -1,7 +1,7 @@
 -- The matches of a pattern in a content, one after the other: the first is found from the content's
 -- start, each further one from the end of the one before, or one place on where an empty match is
 -- found there.
-use Rattle.std.specs.Prelude.{◌≡◌, ℕ, ◌+◌, ◌*◌, List, Option, None, Some, map}
+use Rattle.std.specs.Prelude.{◌≡◌, ℕ, ◌+◌, ◌*◌, List, ◌∷◌, Option, None, Some, map}
 use Rattle.std.specs.List.{range_with_len}
 use Rattle.regex_cursor.specs.Patterns.{Tree, SpellsTree, FoundMatch, TreeMatches, slot_of}
 use Rattle.rope_search_reports.specs.Pattern.{span_of}
@@ -26,13 +26,13 @@ both None end = None
 both (Some start) None = None
 both (Some start) (Some end) = Some (start, end)
 
--- the span of a match's group, if that takes part in the match; group 0 is the whole match
+-- the span of a match's group, if that takes part in the match
 abbrev pub group_of : FoundMatch → ℕ → Option (ℕ × ℕ)
 group_of found k = both (slot_of found.notes (2 * k)) (slot_of found.notes (2 * k + 1))
 
--- the spans of groups 0 to 9
+-- the spans of groups 0 to 9, of which group 0 is the whole match
 abbrev pub groups_of : FoundMatch → List (Option (ℕ × ℕ))
-groups_of found = map (group_of found) (range_with_len 0 10)
+groups_of found = Some (span_of found) ∷ map (group_of found) (range_with_len 1 9)
 
 -- the groups 0 to 9 of all matches
 pub record AreGroups (pattern content : List ℕ) (groups : List (List (Option (ℕ × ℕ)))) : Type 0 where

@@ -1,5 +1,5 @@
 -- Rows with patches in them.
-use Rattle.std.specs.Prelude.{ℕ, ◌-◌, ◌≤◌, List, [], ◌∷◌, ◌++◌, take, drop}
+use Rattle.std.specs.Prelude.{ℕ, ◌-◌, ◌≤◌, List, [], ◌∷◌, ◌++◌, length, take, drop, sum_by}
 use Rattle.rope_search_reports.specs.declared.patches.Patch.{Patch}
 
 -- the rows from one on, each patch in the place of the rows that are gone
@@ -13,3 +13,7 @@ abbrev pub AreInTurn : ℕ → ℕ → List Patch → Type 0
 AreInTurn at len [] = at ≤ len
 AreInTurn at len (patch ∷ patches) =
     (at ≤ patch.first) × (patch.first ≤ patch.end) × AreInTurn patch.end len patches
+
+-- how many rows they bring
+abbrev pub made_by : List Patch → ℕ
+made_by patches = sum_by (λ (patch : Patch). length patch.made.items) patches

@@ -1,6 +1,6 @@
 -- What takes the place of matches in a text. A template has characters; a match is told by its
 -- groups 0 to 9, of which group 0 is the whole match, each as a span of places or as none.
-use Rattle.std.specs.Prelude.{ℕ, ◌+◌, ◌-◌, ◌≤◌, ◌==◌, ◌&&◌, nat_le, Bool, if◌then◌else◌, List, [], ◌∷◌, ◌++◌, take, drop, Option, None, Some, slice_index_or, sum_by, chars}
+use Rattle.std.specs.Prelude.{ℕ, ◌+◌, ◌-◌, ◌≤◌, ◌==◌, ◌&&◌, nat_le, Bool, if◌then◌else◌, List, [], ◌∷◌, ◌++◌, take, drop, Option, None, Some, slice_index_or, sum_by, chars, All, IfSome}
 use Rattle.std.specs.Str.{IsCharBoundary}
 use Rattle.str_indices.specs.Text.{byte_len}
 use Rattle.rope_search_reports.specs.Text.{IsText, bytes_of, line_count}
@@ -64,7 +64,22 @@ FollowEachOther content at (match ∷ matches) =
     × IsCharBoundary content (whole match).0 × IsCharBoundary content (whole match).1
     × FollowEachOther content (whole match).1 matches
 
--- the changes that replace them, from two places on
+-- a span of a content starts no later than it ends, and does both between characters
+pub record IsSpanIn (content : List ℕ) (span : ℕ × ℕ) : Type 0 where
+  pub ordered : span.0 ≤ span.1
+  pub starts : IsCharBoundary content span.0
+  pub stops : IsCharBoundary content span.1
+
+-- so do the spans of the groups that take part in a match
+abbrev pub HasSpansIn : List ℕ → Groups → Type 0
+HasSpansIn content groups = All (λ group. IfSome group (IsSpanIn content)) groups
+
+-- matches in a content, one after the other, each with its groups' spans
+pub record AreMatchesIn (content : List ℕ) (matches : List Groups) : Type 0 where
+  pub follow : FollowEachOther content 0 matches
+  pub spans : All (HasSpansIn content) matches
+
+-- the changes that replace matches, from two places on
 abbrev pub changes_of : List ℕ → List ℕ → ℕ → ℕ → List Groups → List Change
 changes_of content template at at_new [] = []
 changes_of content template at at_new (match ∷ matches) =

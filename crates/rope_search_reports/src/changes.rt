@@ -1,6 +1,6 @@
 //! The rows that several changes of a text make anew.
-ghost use Rattle.std.specs.Prelude.{◌≡◌, ℕ, ◌+◌, ◌-◌, ◌^◌, ◌<◌, ◌≤◌, List, [], length, take, drop, IfOk, IfErr};
-ghost use Rattle.rope_search_reports.specs.Report.{line_texts, IsReport};
+ghost use Rattle.std.specs.Prelude.{◌≡◌, ℕ, ◌+◌, ◌-◌, ◌^◌, ◌<◌, ◌≤◌, List, [], take, drop, IfOk, IfErr};
+ghost use Rattle.rope_search_reports.specs.Report.{IsReport};
 ghost use Rattle.rope_search_reports.specs.Text.{line_count};
 ghost use Rattle.ropey.specs.Chunks.{text_of};
 ghost use Rattle.rope_search_reports.specs.Changes.{AreChanges};
@@ -37,18 +37,18 @@ pub fn patches_of(
     new: &Rope,
     changes: &[Change],
 ) -> Result<Vec<Patch>, Fault>
-    ghost lines: { ℕ }
     requires old_fits { line_count (text_of old.now) < 2 ^ 64 }
     requires new_fits { line_count (text_of new.now) < 2 ^ 64 }
-    requires changed { AreChanges changes.now 0 0 (text_of old.now) (text_of new.now) lines }
+    requires changed { (n : ℕ) × AreChanges changes.now 0 0 (text_of old.now) (text_of new.now) n }
     ensures turn { IfOk result (λ patches.
-        AreInTurn 0 (length (line_texts (text_of old.now))) patches.items) }
+        AreInTurn 0 (line_count (text_of old.now)) patches.items) }
     ensures report { IfOk result (λ patches. (rows : List (List (ℕ × ℕ)))
         → IsReport (text_of old.now) finder.old rows
         → IsReport (text_of new.now) finder.old (patched 0 rows patches.items)) }
     ensures fault { IfErr result (λ fault. fault ≡ Fault.Memory) }
     ensures finder { finder.new ≡ finder.old }
-    ensures count { tick.new.count ≤ tick.old.count + lines }
+    ensures count { (n : ℕ) → AreChanges changes.now 0 0 (text_of old.now) (text_of new.now) n
+        → tick.new.count ≤ tick.old.count + n }
     ensures once { tick.new.count ≤ tick.old.count + line_count (text_of new.now) }
     ensures wholes { tick.new.wholes ≡ tick.old.wholes }
 {

@@ -1,7 +1,7 @@
 //! Laws of the definitions that the contracts of this crate cite. Each function does nothing: its
 //! contract is the law.
 
-ghost use Rattle.rope_search_reports.specs.Laws.{IsPatternOrNot, IsOneOfThree, FindsOne, HasFind, FindsAreInText, HasOneListOfMatches, HasMatches, HasFewMatches, HasOneReport, HasReport, HasARowALine, PlacesAreInLines, HasOnePlace, MatchesStandAtBoundaries, HasLinesInPlace, PlaceLaws};
+ghost use Rattle.rope_search_reports.specs.Laws.{IsPatternOrNot, IsOneOfThree, FindsOne, HasFind, FindsAreInText, HasOneListOfMatches, HasMatches, HasOneListOfGroups, HasGroups, HasFewGroups, GroupsFollowEachOther, ReplacedIsText, HasFewMatches, HasOneReport, HasReport, HasARowALine, PlacesAreInLines, HasOnePlace, MatchesStandAtBoundaries, HasLinesInPlace, PlaceLaws};
 ghost use Rattle.rope_search_reports.specs.Splice.{EditsSpliceLines, KeepsRows};
 ghost use Rattle.rope_search_reports.specs.Changes.{ChangesKeepLines, TailsKeepLines};
 ghost use Rattle.rope_search_reports.specs.Replacement.{ReplacementsAreChanges};
@@ -55,6 +55,42 @@ pub fn one_list_of_matches()
 /// And it has one.
 pub fn has_matches()
     ensures { HasMatches }
+{
+    regex_cursor::laws::finds_of_trees();
+}
+
+/// A pattern has at most one list of matches with their groups in a content.
+pub fn one_list_of_groups()
+    ensures { HasOneListOfGroups }
+{
+    regex_cursor::laws::one_tree();
+    regex_cursor::laws::finds_of_trees();
+}
+
+/// And it has one.
+pub fn has_groups()
+    ensures { HasGroups }
+{
+    regex_cursor::laws::finds_of_trees();
+}
+
+/// They are at most one match more than the content has bytes.
+pub fn few_groups()
+    ensures { HasFewGroups }
+{
+    regex_cursor::laws::finds_of_trees();
+}
+
+/// In a text the matches follow each other, and each starts and ends at boundaries of the text.
+pub fn groups_follow_each_other()
+    ensures { GroupsFollowEachOther }
+{
+    regex_cursor::laws::finds_of_trees();
+}
+
+/// A text in which all matches are replaced is a text.
+pub fn replaced_is_text()
+    ensures { ReplacedIsText }
 {
     regex_cursor::laws::finds_of_trees();
 }

@@ -14,7 +14,7 @@ mod rows;
 mod searching;
 
 pub use changes::{Change, patches_of};
-pub use patches::{Patch, put_patches};
+pub use patches::{Patch, put_in_place, put_patches, rows_made, shift_once};
 pub use positions::{Place, Position, byte_of, place_of, position_of};
 pub use replacing::replace_rows;
 pub use reports::{report_of, rows_of_lines};

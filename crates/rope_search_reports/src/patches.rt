@@ -1,8 +1,9 @@
 //! Rows put in the place of others, at several places of a list.
-ghost use Rattle.std.specs.Prelude.{◌≡◌, ◌+◌, ◌-◌, ◌≤◌, [], length, ◌++◌, take, drop, vec_len, vec_capacity};
+ghost use Rattle.std.specs.Prelude.{◌≡◌, ◌+◌, ◌-◌, ◌^◌, ◌<◌, ◌≤◌, [], length, ◌++◌, take, drop, vec_len, vec_capacity};
 ghost use Rattle.std.specs.Vec.Iter.{into_iter_items, into_iter_len};
-ghost use Rattle.rope_search_reports.specs.Patches.{patched, AreInTurn};
+ghost use Rattle.rope_search_reports.specs.Patches.{patched, AreInTurn, made_by};
 
+use crate::replacing::replace_rows;
 use crate::rows::Row;
 use std::alloc::Global;
 use std::mem;
@@ -17,6 +18,34 @@ pub struct Patch {
     pub end: usize,
     /// The new rows.
     pub made: Vec<Row>,
+}
+
+impl Patch {
+    /// Whether the rows behind it move: it doesn't bring as many as it takes.
+    fn shifts(&self) -> bool {
+        self.end.checked_sub(self.first) != Some(self.made.len())
+    }
+}
+
+/// Whether at most one of the patches moves the rows behind it. `O(k)` for k patches.
+pub fn shift_once(patches: &[Patch]) -> bool {
+    patches
+        .iter()
+        .filter(|patch| patch.shifts())
+        .nth(1)
+        .is_none()
+}
+
+/// How many rows the patches bring. `O(k)` for k patches.
+pub fn rows_made(patches: &[Patch]) -> usize
+    requires { made_by patches.now < 2 ^ 64 }
+    ensures { result ≡ made_by patches.now }
+{
+    let mut count = 0;
+    for patch in patches {
+        count += patch.made.len();
+    }
+    count
 }
 
 /// Moves the first `count` rows that are left behind those of a list, which has room for them.
@@ -69,4 +98,19 @@ pub fn put_patches(rows: &mut Vec<Row>, patches: Vec<Patch>, room: Vec<Row>)
     }
     let count = left.len();
     move_rows(&mut left, count, rows);
+}
+
+/// Puts patches in their places in a list that has room for the rows that they bring beside its
+/// own. It takes no memory. Time is linear in these rows and those that are gone; and in the rows
+/// behind for each patch that doesn't bring as many as it takes.
+pub fn put_in_place(rows: &mut Vec<Row>, mut patches: Vec<Patch>)
+    requires in_turn { AreInTurn 0 (length rows.old.items) patches.items }
+    requires room { length rows.old.items + made_by patches.items ≤ vec_capacity rows.old }
+    ensures { rows.new.items ≡ patched 0 rows.old.items patches.items }
+{
+    // From the last one on: the rows before it stay where they are.
+    while let Some(patch) = patches.pop() {
+        let Patch { first, end, made } = patch;
+        replace_rows(rows, first, end, made);
+    }
 }

@@ -25,6 +25,7 @@ fn move_to_end(rows: &mut Vec<Row>, at: usize, count: usize)
     ensures rows { rows.new.items ≡ take at rows.old.items ++ drop (at + count) rows.old.items
         ++ take count (drop at rows.old.items) }
     ensures len { vec_len rows.new ≡ vec_len rows.old }
+    ensures capacity { vec_capacity rows.old ≤ vec_capacity rows.new }
 {
     rows.slice_mut(at..).rotate_left(count);
 }
@@ -32,7 +33,8 @@ fn move_to_end(rows: &mut Vec<Row>, at: usize, count: usize)
 /// Drops `count` rows from `at` on.
 fn remove_rows(rows: &mut Vec<Row>, at: usize, count: usize)
     requires within { at + count ≤ vec_len rows.old }
-    ensures { rows.new.items ≡ take at rows.old.items ++ drop (at + count) rows.old.items }
+    ensures rows { rows.new.items ≡ take at rows.old.items ++ drop (at + count) rows.old.items }
+    ensures capacity { vec_capacity rows.old ≤ vec_capacity rows.new }
 {
     move_to_end(rows, at, count);
     rows.truncate(rows.len() - count);
@@ -44,8 +46,9 @@ fn insert_rows(rows: &mut Vec<Row>, at: usize, mut made: Vec<Row>, from: usize)
     requires at_within { at ≤ vec_len rows.old }
     requires within { from ≤ vec_len made }
     requires room { vec_len rows.old + vec_len made ≤ vec_capacity rows.old }
-    ensures { rows.new.items ≡ take at rows.old.items ++ drop from made.items
+    ensures rows { rows.new.items ≡ take at rows.old.items ++ drop from made.items
         ++ drop at rows.old.items }
+    ensures capacity { vec_capacity rows.old ≤ vec_capacity rows.new }
 {
     // The rows behind the place, and those that are dropped, go behind the ones that come.
     let behind = rows.len() - at + from;
@@ -62,8 +65,9 @@ pub fn replace_rows(rows: &mut Vec<Row>, first: usize, end: usize, mut made: Vec
     requires ordered { first ≤ end }
     requires within { end ≤ vec_len rows.old }
     requires room { vec_len rows.old + vec_len made ≤ vec_capacity rows.old }
-    ensures { rows.new.items ≡ take first rows.old.items ++ made.items
+    ensures rows { rows.new.items ≡ take first rows.old.items ++ made.items
         ++ drop end rows.old.items }
+    ensures capacity { vec_capacity rows.old ≤ vec_capacity rows.new }
 {
     let gone = end - first;
     let common = gone.min(made.len());

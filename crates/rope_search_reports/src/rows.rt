@@ -10,6 +10,7 @@ ghost use Rattle.rope_search_reports.specs.Text.{bytes_of};
 ghost use Rattle.rope_search_reports.specs.Pattern.{IsPattern, IsTooHeavy, SpellsNone, Finds, pattern_limit};
 ghost use Rattle.rope_search_reports.specs.Report.{IsRow};
 ghost use Rattle.rope_search_reports.specs.Matches.{AreGroups};
+ghost use Rattle.rope_search_reports.specs.Replacement.{AreMatchesIn};
 ghost use Rattle.rope_search_reports.specs.Finders.{IsRowOf};
 
 use crate::columns::column_at;
@@ -253,6 +254,8 @@ pub fn find_from(
 pub fn find_all(tick: &mut Lines, finder: &mut Finder, text: &Rope) -> Result<Vec<Groups>, Fault>
     ensures found { IfOk result (λ groups.
         AreGroups finder.old (bytes_of (text_of text.now)) groups.items) }
+    ensures stand { IfOk result (λ groups.
+        AreMatchesIn (bytes_of (text_of text.now)) groups.items) }
     ensures fault { IfErr result (λ fault. fault ≡ Fault.Memory) }
     ensures finder { finder.new ≡ finder.old }
     ensures count { tick.new.count ≡ tick.old.count }

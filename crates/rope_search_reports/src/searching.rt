@@ -6,6 +6,7 @@ ghost use Rattle.ropey_walk.specs.Comparing.{slice_bytes};
 ghost use Rattle.ropey_walk.specs.Slices.{slice_text};
 ghost use Rattle.regex_cursor.specs.Patterns.{AsksFrom, TreeFinds};
 ghost use Rattle.regex_cursor.specs.Regexes.{IsCacheOf, IsRegexOf};
+ghost use Rattle.rope_search_reports.specs.Replacement.{AreMatchesIn};
 ghost use Rattle.rope_search_reports.specs.Finders.{ComesAfter, AreGroupsOf, IsTold, group_told, start_behind};
 
 use regex_cursor::engines::meta::{Cache, Regex};
@@ -134,11 +135,13 @@ pub fn all_groups(
     requires built { (text : List ℕ) × IsRegexOf text regex.now }
     ensures groups { (pattern : List ℕ) → (built : IsRegexOf pattern regex.now)
         → IfOk result (λ groups. AreGroupsOf built.tree (slice_bytes text.entry) groups.items) }
+    ensures stand { IfOk result (λ groups. AreMatchesIn (slice_bytes text.entry) groups.items) }
     ensures made { IsCacheOf regex.now cache.new }
     ensures fault { IfErr result (λ fault. fault ≡ Fault.Memory) }
 {
-    // A law, and the slice's facts, for the proof alone.
+    // Laws, and the slice's facts, for the proof alone.
     regex_cursor::laws::finds_of_trees();
+    regex_cursor::laws::regexes_have_trees();
     let _ = text.len_bytes();
     let mut groups = Vec::new(alloc);
     let mut input = input_from(text, 0);

@@ -12,3 +12,5 @@ mod io_examples;
 mod report_examples;
 #[cfg(test)]
 mod runs;
+#[cfg(test)]
+mod template_examples;

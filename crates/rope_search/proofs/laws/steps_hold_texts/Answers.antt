@@ -2,4 +2,4 @@ use Rattle.rope_search.proofs.TextLaws.{steps_hold}
 use Rattle.rope_search.proofs.laws.steps_hold_texts.Goals as goal
 
 pub returns : goal.returns
-returns c = steps_hold c.pattern_or_not.ensures
+returns c = steps_hold c.known.ensures

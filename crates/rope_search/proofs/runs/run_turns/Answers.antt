@@ -17,7 +17,7 @@ pub returns-in_err-turn : goal.returns-in_err-turn
 returns-in_err-turn g c =
     let p = err_from_is_err_and c.from_residual.result c.from_residual.ensures.1 in
     let so = c.loop-session.invariant in
-    rw (p.1, p.2) (Ran-broken (record { placed = c.one_place.ensures; told = c.pattern_or_not.ensures; apart = c.one_of_three.ensures; one = c.finds_one.ensures; some = c.has_find.ensures }) c.has_report.ensures _ _ _ _ _ _ _ so.2 (TakesTurn-at _ _ _ _ _ so.1 c.in_err-turn.ensures.taken))
+    rw (p.1, p.2) (Ran-broken c.known.ensures c.has_report.ensures _ _ _ _ _ _ _ so.2 (TakesTurn-at _ _ _ _ _ so.1 c.in_err-turn.ensures.taken))
 
 pub returns-in_err-close-in-Some : goal.returns-in_err-close-in-Some
 returns-in_err-close-in-Some g c =
@@ -41,4 +41,4 @@ loop-session-preserved g c =
 pub turn-requires-clause-texts : goal.turn-requires-clause-texts
 turn-requires-clause-texts g c =
     let so = c.loop-session.invariant.2 in
-    holds_always c.pattern_or_not.ensures _ _ so.orders so.out so.cost so.run
+    holds_always c.known.ensures _ _ so.orders so.out so.cost so.run

@@ -2,11 +2,13 @@
 use Rattle.std.proofs.Common.{◌≡◌, ℕ, ◌+◌, ◌≤◌, drop}
 use Rattle.ropey.specs.Chunks.{text_of}
 use Rattle.rope_search_reports.specs.Text.{line_count}
+use Rattle.rope_search_reports.specs.Changes.{AreChanges}
 use Rattle.rope_search_reports.proofs.WeaveLemmas.{Woven}
 use Rattle.rope_search_reports.proofs.changes.patches_of.Given as goal
 
 abbrev pub invariant-loop-change : goal.invariant-loop-change
-invariant-loop-change g l =
-    ((n : ℕ) × Woven l.fn.finder (text_of l.old) (text_of l.new) (drop l.change-index l.changes) n l.kept l.done l.patches.items × (l.tick.count + n ≤ l.fn.tick.count + g.lines))
+invariant-loop-change l =
+    ((all : ℕ) → AreChanges l.changes 0 0 (text_of l.old) (text_of l.new) all
+    → (n : ℕ) × Woven l.fn.finder (text_of l.old) (text_of l.new) (drop l.change-index l.changes) n l.kept l.done l.patches.items × (l.tick.count + n ≤ l.fn.tick.count + all))
     × (l.finder ≡ l.fn.finder) × (l.tick.wholes ≡ l.fn.tick.wholes)
     × (l.tick.count ≤ l.fn.tick.count + l.done) × (l.done ≤ line_count (text_of l.new))

@@ -3,8 +3,8 @@ use Rattle.std.proofs.lemmas.Grind.{common_steps}
 use Rattle.rope_search_reports.proofs.ReplaceLemmas.{inserted}
 use Rattle.rope_search_reports.proofs.replacing.insert_rows.Goals as goal
 
-pub returns : goal.returns
-returns c =
+pub returns-clause-rows : goal.returns-clause-rows
+returns-clause-rows c =
     let rows = c.args.rows.now in
     let made = c.args.made in
     let all = c.append.new.self in

@@ -7,6 +7,7 @@ use Rattle.regex_cursor.specs.Patterns.{SpellsTree}
 use Rattle.rope_search_reports.specs.Text.{bytes_of}
 use Rattle.rope_search_reports.specs.Finders.{AreGroupsOf}
 use Rattle.rope_search_reports.specs.Matches.{AreGroups}
+use Rattle.rope_search_reports.specs.Replacement.{AreMatchesIn}
 use Rattle.rope_search_reports.proofs.FinderLemmas.{whole-is}
 use Rattle.rope_search_reports.proofs.RowLemmas.{groups-are}
 use Rattle.rope_search_reports.proofs.rows.find_all.Goals as goal
@@ -21,3 +22,8 @@ returns-clause-found c =
     IfOk-weaker c.all_groups.result (λ groups. P (text_of c.args.text.now) groups.items) (λ groups. AreGroups c.args.finder.now (bytes_of (text_of c.args.text.now)) groups.items)
     (λ groups is. groups-are c.args.finder.now (bytes_of (text_of c.args.text.now)) built.tree groups.items spells is)
     (subst (λ t. IfOk c.all_groups.result (λ groups. P t groups.items)) whole (c.all_groups.ensures.groups c.finder.invariant.text built))
+
+pub returns-clause-stand : goal.returns-clause-stand
+returns-clause-stand c =
+    let whole : slice_text c.slice.result ≡ text_of c.args.text.now = ap text_of c.slice.ensures ∙ whole-is c.args.text.now in
+    subst (λ t. IfOk c.all_groups.result (λ groups. AreMatchesIn (bytes_of t) groups.items)) whole c.all_groups.ensures.stand

@@ -5,6 +5,8 @@ use Rattle.ropey_walk.specs.Slices.{slice_pieces, slice_text}
 use Rattle.regex_cursor.specs.Patterns.{AsksFrom}
 use Rattle.rope_search_reports.specs.Matches.{groups_of}
 use Rattle.rope_search_reports.specs.Finders.{group_told}
+use Rattle.rope_search_reports.specs.Replacement.{AreMatchesIn}
+use Rattle.rope_search_reports.proofs.GroupLemmas.{matches-in}
 use Rattle.rope_search_reports.proofs.MatchLemmas.{Searched, Searched-start}
 use Rattle.rope_search_reports.proofs.NextLemmas.{asks-moved}
 use Rattle.rope_search_reports.proofs.PlaceLemmas.{rope-scalars}
@@ -67,7 +69,8 @@ loop-groups-preserved c =
               subst (Searched groups_of built.tree content (Some c.in-Some.end)) (sym items)
               (next-shown groups_of built.tree content c.loop-groups.last (c.in-Some.field-0-0, c.in-Some.end) slots c.loop-groups.groups.items shown
               (c.finds_of_trees.ensures built.tree) next'
-              (groups-told built.tree content c.loop-groups.last (c.in-Some.field-0-0, c.in-Some.end) slots (omega (arith, c.find_next.auto.slots)) next')
+              (groups-told built.tree content c.loop-groups.last (c.in-Some.field-0-0, c.in-Some.end) slots (omega (arith, c.find_next.auto.slots))
+              (c.regexes_have_trees.ensures.noted text c.args.regex.now built content) next')
               (c.loop-groups.invariant.1.1.1 text built)),
         ),
       ),
@@ -79,3 +82,16 @@ returns-clause-groups c = λ text built.
     last-groups built.tree content c.loop-groups.last c.loop-groups.groups.items (c.finds_of_trees.ensures built.tree)
     (none-next built.tree content _ c.loop-groups.last c.in_ok-end.field-0 _ c.loop-groups.invariant.1.0.content_is (c.in_ok-end.ensures.found text built) c.in_default.is)
     (c.loop-groups.invariant.1.1.1 text built)
+
+pub returns-clause-stand : goal.returns-clause-stand
+returns-clause-stand c =
+    let content = slice_bytes c.args.text in
+    let utf8 : IsUtf8 content = (slice_text c.args.text, (rope-scalars (slice_pieces c.args.text) c.len_bytes.ensures.cut.cut, refl)) in
+    let text = c.requires.built.0 in
+    let built = c.requires.built.1 in
+    let has = c.finds_of_trees.ensures built.tree in
+    let all = last-groups built.tree content c.loop-groups.last c.loop-groups.groups.items has
+    (none-next built.tree content _ c.loop-groups.last c.in_ok-end.field-0 _ c.loop-groups.invariant.1.0.content_is (c.in_ok-end.ensures.found text built) c.in_default.is)
+    (c.loop-groups.invariant.1.1.1 text built) in
+    subst (AreMatchesIn content) (sym all.shown)
+    (matches-in built.tree content all.matches has (c.regexes_have_trees.ensures.noted text c.args.regex.now built content) utf8 all.are)

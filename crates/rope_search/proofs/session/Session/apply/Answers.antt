@@ -1,5 +1,6 @@
 use Rattle.rope_search.proofs.SessionLemmas.{rows_for_text, rows_for_pattern}
 use Rattle.rope_search.proofs.EditLemmas.{rows_for_edit, rows_for_undo, rows_for_redo}
+use Rattle.rope_search.proofs.ReplaceLemmas.{rows_for_replace}
 use Rattle.rope_search.proofs.session.Session.apply.Goals as goal
 
 pub returns-in-Text-clause-rows : goal.returns-in-Text-clause-rows
@@ -16,3 +17,6 @@ returns-in-Undo-clause-rows c = rw c.in-Undo.is (rows_for_undo c.args.self.now.l
 
 pub returns-in-Redo-clause-rows : goal.returns-in-Redo-clause-rows
 returns-in-Redo-clause-rows c = rw c.in-Redo.is (rows_for_redo c.args.self.now.limit c.args.self.now.state _ _ c.redo.ensures.rows)
+
+pub returns-in-Replace-clause-rows : goal.returns-in-Replace-clause-rows
+returns-in-Replace-clause-rows c = rw c.in-Replace.is (rows_for_replace c.args.self.now.limit c.args.self.now.state _ _ _ c.replace.ensures.rows)

@@ -1,0 +1,33 @@
+use Rattle.std.proofs.Common.{◌≡◌, ◌≤◌, length, sym, subst, ap, arith}
+use Rattle.ropey.specs.Chunks.{text_of}
+use Rattle.rope_search_reports.specs.Patches.{patched, AreInTurn}
+use Rattle.rope_search.proofs.PatchLemmas.{made-within}
+use Rattle.rope_search.proofs.search.Search.patches.Goals as goal
+
+pub room_for-requires-clause-few : goal.room_for-requires-clause-few
+room_for-requires-clause-few c =
+    let search = c.args.self.now in
+    let new = text_of c.args.new.now in
+    let rows = search.rows.items in
+    let patches = c.in_ok-patches.patches.items in
+    let long = c.a_row_a_line.ensures new search.finder (patched 0 rows patches) (c.in_ok-patches.ensures.report rows c.requires.report) in
+    omega (arith, made-within 0 rows patches, long, c.len_lines-len.ensures)
+
+pub returns-clause-fit : goal.returns-clause-fit
+returns-clause-fit c =
+    let search = c.args.self.now in
+    let patches = c.in_ok-patches.patches.items in
+    let rows = c.a_row_a_line.ensures (text_of c.args.old.now) search.finder search.rows.items c.requires.report in
+    record {
+      in_turn = subst (λ rows. AreInTurn 0 (length rows) patches) (sym c.room_for.ensures.rows) (subst (λ n. AreInTurn 0 n patches) (sym rows) c.in_ok-patches.ensures.turn);
+      room = c.in_ok-room.ensures.room;
+    }
+
+pub returns-clause-few : goal.returns-clause-few
+returns-clause-few c =
+    let search = c.args.self.now in
+    let new = text_of c.args.new.now in
+    let rows = search.rows.items in
+    let patches = c.in_ok-patches.patches.items in
+    let few = c.few_matches.ensures new search.finder (patched 0 rows patches) (c.in_ok-patches.ensures.report rows c.requires.report) in
+    omega (arith, few, c.len_bytes.ensures.bytes, c.len_bytes.ensures.fits)

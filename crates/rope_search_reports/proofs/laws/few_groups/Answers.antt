@@ -1,0 +1,5 @@
+use Rattle.rope_search_reports.proofs.GroupLemmas.{groups-few}
+use Rattle.rope_search_reports.proofs.laws.few_groups.Goals as goal
+
+pub returns : goal.returns
+returns c = groups-few c.finds_of_trees.ensures

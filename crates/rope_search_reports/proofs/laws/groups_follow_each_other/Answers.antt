@@ -1,0 +1,5 @@
+use Rattle.rope_search_reports.proofs.GroupLemmas.{groups-follow}
+use Rattle.rope_search_reports.proofs.laws.groups_follow_each_other.Goals as goal
+
+pub returns : goal.returns
+returns c = groups-follow c.finds_of_trees.ensures

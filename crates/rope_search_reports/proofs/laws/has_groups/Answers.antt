@@ -1,0 +1,5 @@
+use Rattle.rope_search_reports.proofs.GroupLemmas.{has-groups}
+use Rattle.rope_search_reports.proofs.laws.has_groups.Goals as goal
+
+pub returns : goal.returns
+returns c = has-groups c.finds_of_trees.ensures

@@ -1,0 +1,5 @@
+use Rattle.rope_search_reports.proofs.GroupLemmas.{replaced-is}
+use Rattle.rope_search_reports.proofs.laws.replaced_is_text.Goals as goal
+
+pub returns : goal.returns
+returns c = replaced-is c.finds_of_trees.ensures

@@ -1,0 +1,75 @@
+-- What a template stands for, piece by piece.
+use Rattle.std.proofs.Common.{◌≡◌, ℕ, ◌-◌, ◌≤◌, ◌==◌, ◌&&◌, Bool, true, false, List, [], ◌∷◌, ◌++◌, refl, ap, ◌∙◌, arith, inl, inr}
+use Rattle.std.proofs.lemmas.Bool.{cases_Bool}
+use Rattle.std.proofs.lemmas.Bool.Decides.{nat_tests}
+use Rattle.std.specs.Str.{NonePass}
+use Rattle.rope_search_reports.specs.Replacement.{Groups, expand, group_text, is_digit}
+use Rattle.rope_search_templates.specs.Templates.{names_groups}
+use Rattle.rope_search_templates.specs.Pieces.{StartsPlain}
+
+-- the test that a character is a dollar
+abbrev pub is_dollar : ℕ → Bool
+is_dollar c = c == 36
+
+-- ---- characters that stand for themselves
+
+expand-other : (content : List ℕ) (groups : Groups) (c : ℕ) (cs : List ℕ) → is_dollar c ≡ false
+    → expand content groups (c ∷ cs) ≡ c ∷ expand content groups cs
+expand-other content groups c [] other = refl
+expand-other content groups c (d ∷ ds) other = rw other refl
+
+pub expand-plain : (content : List ℕ) (groups : Groups) (xs ys : List ℕ) → NonePass is_dollar xs
+    → expand content groups (xs ++ ys) ≡ xs ++ expand content groups ys
+expand-plain content groups [] ys none = refl
+expand-plain content groups (x ∷ xs) ys none =
+    expand-other content groups x (xs ++ ys) none.0
+    ∙ ap (λ zs. x ∷ zs) (expand-plain content groups xs ys none.1)
+
+pub expand-lone : (content : List ℕ) (groups : Groups) (cs : List ℕ) → StartsPlain cs
+    → expand content groups (36 ∷ cs) ≡ 36 ∷ expand content groups cs
+expand-lone content groups [] plain = refl
+expand-lone content groups (c ∷ cs) plain = rw (plain.0, plain.1) refl
+
+pub expand-dollar : (content : List ℕ) (groups : Groups) (cs : List ℕ)
+    → expand content groups (36 ∷ 36 ∷ cs) ≡ 36 ∷ expand content groups cs
+expand-dollar content groups cs = refl
+
+pub expand-group : (content : List ℕ) (groups : Groups) (d : ℕ) (cs : List ℕ) → 48 ≤ d → d ≤ 57
+    → expand content groups (36 ∷ d ∷ cs) ≡ group_text content groups (d - 48) ++ expand content groups cs
+expand-group content groups d cs low high =
+    let other : is_dollar d ≡ false = grind (arith, nat_tests) in
+    let digit : is_digit d ≡ true = grind (arith, nat_tests) in
+    rw (other, digit) refl
+
+-- ---- and whether groups are named
+
+names-other : (c : ℕ) (cs : List ℕ) → is_dollar c ≡ false → names_groups (c ∷ cs) ≡ names_groups cs
+names-other c [] other = refl
+names-other c (d ∷ ds) other = rw other refl
+
+pub names-plain : (xs ys : List ℕ) → NonePass is_dollar xs → names_groups (xs ++ ys) ≡ names_groups ys
+names-plain [] ys none = refl
+names-plain (x ∷ xs) ys none = names-other x (xs ++ ys) none.0 ∙ names-plain xs ys none.1
+
+pub names-lone : (cs : List ℕ) → StartsPlain cs → names_groups (36 ∷ cs) ≡ names_groups cs
+names-lone [] plain = refl
+names-lone (c ∷ cs) plain = rw (plain.0, plain.1) refl
+
+pub names-group : (d : ℕ) (cs : List ℕ) → 48 ≤ d → d ≤ 57 → names_groups (36 ∷ d ∷ cs) ≡ true
+names-group d cs low high =
+    let other : is_dollar d ≡ false = grind (arith, nat_tests) in
+    let digit : is_digit d ≡ true = grind (arith, nat_tests) in
+    rw (other, digit) refl
+
+-- where none is named, it is one text
+pub expand-fixed : (content : List ℕ) (groups : Groups) (template : List ℕ) → names_groups template ≡ false
+    → expand content groups template ≡ expand [] [] template
+expand-fixed content groups [] none = refl
+expand-fixed content groups (c ∷ []) none = refl
+expand-fixed content groups (c ∷ d ∷ rest) none = elim (cases_Bool ((c == 36) && (d == 36))) [
+  | inl pair ↦ rw pair (ap (λ cs. 36 ∷ cs) (expand-fixed content groups rest (rw pair at none)))
+  | inr other ↦ elim (cases_Bool ((c == 36) && is_digit d)) [
+    | inl named ↦ let is : true ≡ false = rw (other, named) at none in absurd (cc)
+    | inr more ↦ rw (other, more) (ap (λ cs. c ∷ cs) (expand-fixed content groups (d ∷ rest) (rw (other, more) at none)))
+  ]
+]

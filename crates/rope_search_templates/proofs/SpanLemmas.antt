@@ -1,0 +1,72 @@
+-- The texts of groups.
+use Rattle.std.proofs.Common.{◌≡◌, ℕ, ◌+◌, ◌-◌, ◌<◌, ◌≤◌, List, [], ◌∷◌, refl, length, take, drop, ◌++◌, length-append, Option, Some, None, slice_index_or, ap, sym, subst, ◌∙◌, arith, IsUtf8, IfSome, encode_utf8_all}
+use Rattle.std.proofs.lemmas.List.{length-take-le, length-drop}
+use Rattle.std.proofs.lemmas.Str.{encodes-chars, encodes-append, IsUtf8-between}
+use Rattle.std.proofs.lemmas.Bool.{and_parts, and_from}
+use Rattle.str_indices.specs.Text.{byte_len}
+use Rattle.ropey.specs.Chunks.{text_of, IsCutting}
+use Rattle.ropey_walk.specs.Ranges.{IsByteRangeIn}
+use Rattle.ropey_walk.specs.Clips as walk
+use Rattle.rope_search_templates.proofs.SliceLemmas.{part-is}
+use Rattle.rope_search_reports.specs.Text.{IsText, bytes_of}
+use Rattle.rope_search_reports.specs.Replacement.{Groups, IsSpanIn, HasSpansIn, text_of_span, group_text, expand}
+use Rattle.rope_search_templates.specs.Pieces.{IsFirstPiece, shown}
+use Rattle.rope_search_templates.specs.declared.pieces.Piece.{Piece}
+
+-- a text's UTF-8
+pub utf8-of : (text : List ℕ) → IsText text → IsUtf8 (bytes_of text)
+utf8-of text scalars = (text, (scalars, refl))
+
+pub span-len : (content : List ℕ) (span : ℕ × ℕ) → IsUtf8 content → IsSpanIn content span
+    → byte_len (text_of_span content (Some span)) ≡ span.1 - span.0
+span-len content span utf8 is =
+    let part = take (span.1 - span.0) (drop span.0 content) in
+    let within : span.1 ≤ length content = is.stops.0 in
+    ap length (encodes-chars part (IsUtf8-between content span.0 span.1 utf8 is.ordered is.starts is.stops))
+    ∙ length-take-le (span.1 - span.0) (drop span.0 content) (omega (arith, length-drop span.0 content, within))
+
+-- a group that takes part in the match has a span there
+pub span-of : (content : List ℕ) (groups : Groups) (number : ℕ) (span : ℕ × ℕ) → HasSpansIn content groups
+    → number < length groups → slice_index_or groups number None ≡ Some span → IsSpanIn content span
+span-of content groups number span all low is =
+    subst (λ (group : Option (ℕ × ℕ)). IfSome group (IsSpanIn content)) is (all number None low)
+
+pub byte_len-append : (xs ys : List ℕ) → byte_len (xs ++ ys) ≡ byte_len xs + byte_len ys
+byte_len-append xs ys = ap length (encodes-append xs ys) ∙ length-append (encode_utf8_all xs) (encode_utf8_all ys)
+
+-- what is left of a template, and its first piece
+pub piece-len : (content : List ℕ) (groups : Groups) (left : List ℕ) (piece : Piece) (behind : List ℕ) → IsFirstPiece left piece behind
+    → byte_len (expand content groups left) ≡ byte_len (shown content groups piece) + byte_len (expand content groups behind)
+piece-len content groups left piece behind first =
+    ap byte_len (first.expands content groups) ∙ byte_len-append (shown content groups piece) (expand content groups behind)
+
+-- ---- spans of a rope's text
+
+pub range-in : (text : List ℕ) (span : ℕ × ℕ) → IsSpanIn (bytes_of text) span
+    → IsByteRangeIn text (record { start = Some span.0; end = Some span.1 })
+range-in text span is = record {
+  range = record { order = is.ordered; within = is.stops.0 };
+  starts = is.starts;
+  stops = is.stops;
+}
+
+-- the text that pieces of a rope make together
+pub text-utf8 : (pieces : List (List ℕ)) → IsCutting pieces → IsUtf8 (bytes_of (text_of pieces))
+text-utf8 pieces cut = utf8-of (text_of pieces) (each pieces cut)
+  where
+    joined : (s t : List ℕ) → IsText s → IsText t → IsText (s ++ t)
+    joined [] t one other = other
+    joined (c ∷ cs) t one other = let both = and_parts _ _ one in and_from _ _ both.0 (joined cs t both.1 other)
+
+    each : (pieces : List (List ℕ)) → IsCutting pieces → IsText (text_of pieces)
+    each [] cut = refl
+    each (p ∷ []) cut = joined p [] cut.scalars refl
+    each (p ∷ q ∷ ps) cut = joined p (text_of (q ∷ ps)) cut.0.scalars (each (q ∷ ps) cut.2)
+
+-- a slice that was cut at a group's span has that group's text
+pub group-is : (text part : List ℕ) (groups : Groups) (number : ℕ) (span : ℕ × ℕ) → IsUtf8 (bytes_of text) → IsSpanIn (bytes_of text) span
+    → slice_index_or groups number None ≡ Some span → bytes_of part ≡ walk.between span.0 span.1 (bytes_of text)
+    → part ≡ group_text (bytes_of text) groups number
+group-is text part groups number span utf8 in-text is bytes =
+    part-is (bytes_of text) part span.0 span.1 utf8 in-text.ordered in-text.starts in-text.stops bytes
+    ∙ sym (ap (text_of_span (bytes_of text)) is)

@@ -1,0 +1,90 @@
+use Rattle.std.proofs.Common.{◌≡◌, ℕ, ◌+◌, ◌-◌, ◌<◌, ◌≤◌, List, [], ◌∷◌, length, drop, slice_index_or, refl, ap, sym, subst, ◌∙◌, arith}
+use Rattle.std.proofs.lemmas.Bool.Decides.{nat_tests}
+use Rattle.std.proofs.lemmas.List.{drop_all}
+use Rattle.std.proofs.lemmas.List.Elements.{All-get_or}
+use Rattle.str_indices.specs.Text.{byte_len}
+use Rattle.ropey.specs.Chunks.{text_of}
+use Rattle.rope_search_reports.specs.Text.{bytes_of}
+use Rattle.rope_search_reports.specs.Replacement.{replaced, whole, HasSpansIn}
+use Rattle.rope_search_templates.proofs.ContentLemmas.{text-scalars, text-utf8, all-left}
+use Rattle.rope_search_templates.proofs.LengthLemmas.{HasRoom, room-next, room-more, room-gap, room-told, room-end}
+use Rattle.rope_search_templates.proofs.replacing.is_over.Goals as goal
+
+pub loop-groups-init : goal.loop-groups-init
+loop-groups-init c = record {
+  left = all-left _ _ (text-utf8 _ c.len_bytes-text_len.ensures.cut.cut) c.requires;
+  room_is = refl;
+}
+
+pub overflow_sub-gap : goal.overflow_sub-gap
+overflow_sub-gap c =
+    let here = room-next _ _ _ c.args.matches.now c.loop-groups.groups-index _ _ _ c.loop-groups-test.true c.loop-groups.invariant in
+    omega (arith, here.left.follow.0, ap (λ p. p.0) c.span_of-start.ensures)
+
+pub returns-then-room-gap : goal.returns-then-room-gap
+returns-then-room-gap c =
+    let here = room-next _ _ _ c.args.matches.now c.loop-groups.groups-index _ _ _ c.loop-groups-test.true c.loop-groups.invariant in
+    let none = subst (λ p. c.loop-groups.room < p.0 - c.loop-groups.at) c.span_of-start.ensures c.if-room-gap.true in
+    (λ _. room-gap _ _ _ _ _ _ _ _ (text-utf8 _ c.len_bytes-text_len.ensures.cut.cut) here none, λ _. refl)
+
+pub len_within-requires : goal.len_within-requires
+len_within-requires c = (
+  text_of c.args.text.now,
+  text-scalars _ c.len_bytes-text_len.ensures.cut.cut,
+  All-get_or (HasSpansIn (bytes_of (text_of c.args.text.now))) c.args.matches.now c.loop-groups.groups-index [] c.loop-groups-test.true c.requires.spans,
+)
+
+pub returns-in_default : goal.returns-in_default
+returns-in_default c =
+    let cut = c.len_bytes-text_len.ensures.cut.cut in
+    let here = room-next _ _ _ c.args.matches.now c.loop-groups.groups-index _ _ _ c.loop-groups-test.true c.loop-groups.invariant in
+    let spans = All-get_or (HasSpansIn (bytes_of (text_of c.args.text.now))) c.args.matches.now c.loop-groups.groups-index [] c.loop-groups-test.true c.requires.spans in
+    let long = c.in_default.ensures (text_of c.args.text.now) (text-scalars _ cut) spans in
+    let start = ap (λ p. p.0) c.span_of-start.ensures in (
+      λ _. room-told _ _ _ _ _ _ _ _ (text-utf8 _ cut) here (omega (arith, c.if-room-gap.false, start)) (omega (arith, long, start)),
+      λ _. refl,
+    )
+
+pub overflow_add-room : goal.overflow_add-room
+overflow_add-room c =
+    let spans = All-get_or (HasSpansIn (bytes_of (text_of c.args.text.now))) c.args.matches.now c.loop-groups.groups-index [] c.loop-groups-test.true c.requires.spans in
+    let told = c.in-Some.ensures (text_of c.args.text.now) (text-scalars _ c.len_bytes-text_len.ensures.cut.cut) spans in
+    omega (arith, told.0, told.1)
+
+pub overflow_sub-room-in-loop-groups : goal.overflow_sub-room-in-loop-groups
+overflow_sub-room-in-loop-groups c =
+    let spans = All-get_or (HasSpansIn (bytes_of (text_of c.args.text.now))) c.args.matches.now c.loop-groups.groups-index [] c.loop-groups-test.true c.requires.spans in
+    let told = c.in-Some.ensures (text_of c.args.text.now) (text-scalars _ c.len_bytes-text_len.ensures.cut.cut) spans in
+    omega (arith, told.0, told.1)
+
+pub loop-groups-preserved : goal.loop-groups-preserved
+loop-groups-preserved c =
+    let cut = c.len_bytes-text_len.ensures.cut.cut in
+    let content = bytes_of (text_of c.args.text.now) in
+    let template = c.args.template.now in
+    let here = room-next _ _ _ c.args.matches.now c.loop-groups.groups-index _ _ _ c.loop-groups-test.true c.loop-groups.invariant in
+    let spans = All-get_or (HasSpansIn content) c.args.matches.now c.loop-groups.groups-index [] c.loop-groups-test.true c.requires.spans in
+    let told = c.in-Some.ensures (text_of c.args.text.now) (text-scalars _ cut) spans in
+    let start = ap (λ p. p.0) c.span_of-start.ensures in
+    let match = slice_index_or c.args.matches.now c.loop-groups.groups-index [] in
+    subst (λ (p : ℕ × ℕ). HasRoom content template p.1 (drop (c.loop-groups.groups-index + 1) c.args.matches.now)
+    (c.loop-groups.room - (p.0 - c.loop-groups.at + c.in-Some.len)) c.args.limit (byte_len (replaced content template 0 c.args.matches.now)))
+    (sym c.span_of-start.ensures)
+    (room-more content template c.loop-groups.at match (drop (c.loop-groups.groups-index + 1) c.args.matches.now) c.loop-groups.room c.args.limit
+    (byte_len (replaced content template 0 c.args.matches.now)) (c.loop-groups.room - ((whole match).0 - c.loop-groups.at + c.in-Some.len)) (text-utf8 _ cut) here
+    (omega (arith, told.0, told.1, start, c.if-room-gap.false)))
+
+pub overflow_sub-result : goal.overflow_sub-result
+overflow_sub-result c = omega (arith, c.loop-groups.invariant.left.here.0, c.len_bytes-text_len.ensures.bytes)
+
+pub returns : goal.returns
+returns c =
+    let content = bytes_of (text_of c.args.text.now) in
+    let template = c.args.template.now in
+    let ended = subst (λ ms. HasRoom content template c.loop-groups.at ms c.loop-groups.room c.args.limit (byte_len (replaced content template 0 c.args.matches.now)))
+    (drop_all c.loop-groups.groups-index c.args.matches.now c.loop-groups-test.false) c.loop-groups.invariant in
+    let bytes = c.len_bytes-text_len.ensures.bytes in
+    let end = room-end content template c.loop-groups.at c.loop-groups.room c.args.limit (byte_len (replaced content template 0 c.args.matches.now)) (text-utf8 _ c.len_bytes-text_len.ensures.cut.cut) ended in (
+      λ so. end.0 (grind (arith, nat_tests, so, bytes)),
+      λ long. let below = end.1 long in grind (arith, nat_tests, below, bytes),
+    )

@@ -1,0 +1,13 @@
+-- What the pieces so far stand for stands behind the old text.
+use Rattle.std.proofs.Common.{string_bytes}
+use Rattle.std.specs.Str.{chars}
+use Rattle.ropey.specs.Chunks.{text_of}
+use Rattle.rope_search_reports.specs.Text.{bytes_of}
+use Rattle.rope_search_reports.specs.Replacement.{expand}
+use Rattle.rope_search_templates.proofs.PushLemmas.{IsPushed}
+use Rattle.rope_search_templates.proofs.templates.Template.expand.Given as goal
+
+abbrev pub invariant-loop-piece : goal.invariant-loop-piece
+invariant-loop-piece l =
+    let content = bytes_of (text_of l.text) in
+    IsPushed (chars (string_bytes l.fn.out)) (chars (string_bytes l.out)) (expand content l.groups l.piece-iterator) (expand content l.groups l.self)

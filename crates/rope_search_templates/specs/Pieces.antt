@@ -1,0 +1,52 @@
+-- The pieces of a template, one after the other.
+use Rattle.std.specs.Prelude.{◌≡◌, ℕ, ◌+◌, ◌<◌, ◌≤◌, ◌==◌, Bool, true, false, ◌||◌, List, [], ◌∷◌, ◌++◌, length, slice_index, Option, chars, MatchOption, IsUtf8}
+use Rattle.rope_search_reports.specs.Replacement.{Groups, expand, group_text, is_digit}
+use Rattle.rope_search_templates.specs.Templates.{names_groups}
+use Rattle.rope_search_templates.specs.declared.pieces.Piece.{Piece}
+use Rattle.rope_search_templates.specs.declared.pieces.Piece.TheVariants.{Text, Group}
+
+-- what a piece stands for at a match
+abbrev pub shown : List ℕ → Groups → Piece → List ℕ
+shown content groups (Text text) = chars text.now
+shown content groups (Group number) = group_text content groups number
+
+-- whether it names a group
+abbrev pub is_group : Piece → Bool
+is_group (Text text) = false
+is_group (Group number) = true
+
+-- a text is UTF-8, and a group has one digit
+abbrev pub IsPiece : Piece → Type 0
+IsPiece (Text text) = IsUtf8 text.now
+IsPiece (Group number) = number < 10
+
+-- the first piece of what is left of a template, and what is left behind it
+pub record IsFirstPiece (left : List ℕ) (piece : Piece) (behind : List ℕ) : Type 0 where
+  pub is_one : IsPiece piece
+  pub expands : (content : List ℕ) (groups : Groups)
+      → expand content groups left ≡ shown content groups piece ++ expand content groups behind
+  pub names : names_groups left ≡ (is_group piece || names_groups behind)
+  pub shorter : length behind < length left
+
+-- A step gives the first piece of what is left. Where nothing is left it gives none.
+abbrev pub GivesPiece : List ℕ → Option Piece → List ℕ → Type 0
+GivesPiece old given new =
+    MatchOption given ((old ≡ []) × (new ≡ old)) (λ piece. IsFirstPiece old piece new)
+
+-- ---- by bytes
+
+-- neither a dollar, which is 36, nor a digit comes first
+abbrev pub StartsPlain : List ℕ → Type 0
+StartsPlain [] = Unit {0}
+StartsPlain (c ∷ cs) = ((c == 36) ≡ false) × (is_digit c ≡ false)
+
+-- a dollar and a second byte begin it
+pub record BeginsPair (bytes : List ℕ) (second : ℕ) : Type 0 where
+  pub two : 2 ≤ length bytes
+  pub first : slice_index bytes 0 ≡ 36
+  pub second_is : slice_index bytes 1 ≡ second
+
+-- a pair begins it that is this piece
+abbrev pub BeginsWith : List ℕ → Piece → Type 0
+BeginsWith bytes (Text text) = BeginsPair bytes 36 × (text.now ≡ 36 ∷ []) × IsUtf8 text.now
+BeginsWith bytes (Group number) = BeginsPair bytes (48 + number) × (number < 10)

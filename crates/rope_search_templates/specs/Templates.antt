@@ -1,0 +1,12 @@
+-- Whether a template names groups: if it names none, it stands for one text at every match.
+use Rattle.std.specs.Prelude.{ℕ, Bool, true, false, ◌==◌, ◌&&◌, if◌then◌else◌, List, [], ◌∷◌}
+use Rattle.rope_search_reports.specs.Replacement.{is_digit}
+
+-- `$` and a digit name a group; `$$` doesn't, and so the second dollar of one names none either.
+abbrev pub names_groups : List ℕ → Bool
+names_groups [] = false
+names_groups (c ∷ []) = false
+names_groups (c ∷ d ∷ rest) =
+    if (c == 36) && (d == 36) then names_groups rest
+    else if (c == 36) && is_digit d then true
+    else names_groups (d ∷ rest)

@@ -1,0 +1,124 @@
+//! The pieces of a template.
+ghost use Rattle.std.specs.Prelude.{◌≡◌, [], drop, slice_index, IfNone, IfSome};
+ghost use Rattle.std.specs.Str.{chars};
+ghost use Rattle.rope_search_templates.specs.Pieces.{BeginsWith, GivesPiece, IsFirstPiece, StartsPlain};
+
+use memchr::memchr;
+use rope_search_reports::Groups;
+use std::iter::FusedIterator;
+use std::marker::Model;
+
+/// A piece of a template.
+#[derive(Clone, Copy, Debug)]
+pub enum Piece<'a> {
+    /// It stands for this text.
+    Text(&'a str),
+    /// It stands for the text of the group with this number, which is 0 to 9.
+    Group(usize),
+}
+
+impl Piece<'_> {
+    ghost use Rattle.std.specs.Prelude.{◌≡◌, ℕ, List};
+    ghost use Rattle.str_indices.specs.Text.{byte_len};
+    ghost use Rattle.rope_search_reports.specs.Text.{IsText, bytes_of};
+    ghost use Rattle.rope_search_reports.specs.Replacement.{HasSpansIn};
+    ghost use Rattle.rope_search_templates.specs.Pieces.{IsPiece, shown};
+
+    /// How many bytes of UTF-8 it stands for at a match, which is told by its groups.
+    pub fn len(self, groups: &Groups) -> usize
+        requires piece { IsPiece self }
+        requires spans { (text : List ℕ) × IsText text × HasSpansIn (bytes_of text) groups.now }
+        ensures { (text : List ℕ) → IsText text → HasSpansIn (bytes_of text) groups.now
+            → result ≡ byte_len (shown (bytes_of text) groups.now self.entry) }
+    {
+        match self {
+            Piece::Text(part) => part.len(),
+            Piece::Group(number) => match groups[number] {
+                Some((start, end)) => end - start,
+                None => 0,
+            },
+        }
+    }
+}
+
+/// What a template begins with that is told by two characters: a dollar, and another one or a
+/// digit. None where it begins otherwise; a dollar that comes first then stands for itself.
+fn pair(left: &str) -> Option<Piece<'_>>
+    ensures pair { IfSome result (BeginsWith left.now) }
+    ensures none { IfNone result (slice_index left.now 0 ≡ 36 → StartsPlain (drop 1 left.now)) }
+{
+    let [b'$', second, ..] = left.as_bytes() else {
+        return None;
+    };
+    match *second {
+        // The second one stays.
+        b'$' => Some(Piece::Text(&left[1..2])),
+        b'0'..=b'9' => Some(Piece::Group((*second - b'0') as usize)),
+        _ => None,
+    }
+}
+
+/// The first piece of what is left of a template, and what is left behind it. None where nothing is
+/// left.
+fn first_piece(left: &str) -> Option<(Piece<'_>, &str)>
+    ensures none { IfNone result (chars left.now ≡ []) }
+    ensures piece { IfSome result (λ first.
+        IsFirstPiece (chars left.now) first.0 (chars first.1.now)) }
+{
+    let [_, behind @ ..] = left.as_bytes() else {
+        return None;
+    };
+    if let Some(piece) = pair(left) {
+        return Some((piece, &left[2..]));
+    }
+    let len = 1 + memchr(b'$', behind).unwrap_or(behind.len());
+    Some((Piece::Text(&left[..len]), &left[len..]))
+}
+
+/// The pieces of a template, from a place on. Contracts see the characters that are left.
+#[derive(Drop)]
+pub struct Pieces<'a> {
+    left: &'a str,
+}
+
+impl<'a> Model for Pieces<'a> {
+    ghost use Rattle.std.specs.Prelude.{List, ℕ, IsUtf8};
+    ghost use Rattle.std.specs.Str.{chars};
+
+    ghost Value = { List ℕ };
+
+    ghost view = { λ pieces. chars pieces.left.now };
+
+    ghost invariant = { λ pieces. IsUtf8 pieces.left.now };
+}
+
+impl<'a> Pieces<'a> {
+    ghost use Rattle.std.specs.Prelude.{◌≡◌};
+    ghost use Rattle.std.specs.Str.{chars};
+
+    /// The pieces of a text.
+    pub fn new(text: &'a str) -> Pieces<'a>
+        ensures { result ≡ chars text.now }
+    {
+        Pieces { left: text }
+    }
+}
+
+impl<'a> Iterator for Pieces<'a> {
+    type Item = Piece<'a>;
+
+    ghost use Rattle.std.specs.Prelude.{length};
+    ghost use Rattle.std.specs.Iterator.{at_most};
+
+    ghost next_gives = { GivesPiece };
+
+    ghost remaining = { λ left. at_most (length left) };
+
+    fn next(&mut self) -> Option<Piece<'a>> {
+        let (piece, left) = first_piece(self.left)?;
+        self.left = left;
+        Some(piece)
+    }
+}
+
+impl<'a> FusedIterator for Pieces<'a> {}
