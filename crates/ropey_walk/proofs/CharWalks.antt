@@ -142,6 +142,13 @@ boundary_behind chunk rest bytes at utf8 reads =
     let len : length front ≡ length chunk - length rest = omega (arith, ap length whole, length-append front rest) in
     subst (λ (n : ℕ). IsCharBoundary chunk n) len (IsCharBoundary-at_seam chunk front rest whole utf8)
 
+pub read_behind : (chunk rest bytes : List ℕ) (at : ℕ) → drop at chunk ≡ bytes ++ rest → drop at chunk ≡ bytes ++ drop (length chunk - length rest) chunk
+read_behind chunk rest bytes at reads =
+    let front = take at chunk ++ bytes in
+    let whole : chunk ≡ front ++ rest = sym (take-append-drop at chunk) ∙ ap (λ bs. take at chunk ++ bs) reads ∙ sym (append_assoc (take at chunk) bytes rest) in
+    let len : length chunk - length rest ≡ length front = omega (arith, ap length whole, length-append front rest) in
+    reads ∙ ap (λ bs. bytes ++ bs) (sym (ap (λ n. drop n chunk) len ∙ ap (drop (length front)) whole ∙ drop_at front rest (length front) refl))
+
 pub boundary_before : (chunk rest bytes : List ℕ) (at : ℕ) → IsUtf8 chunk → IsUtf8 rest → take at chunk ≡ rest ++ bytes → IsCharBoundary chunk (length rest)
 boundary_before chunk rest bytes at utf8 front_utf8 reads =
     let back = bytes ++ drop at chunk in

@@ -88,7 +88,7 @@ to-behind e (p ∷ front) rest h =
     to-here e p (front ++ rest) (omega (arith, h)) ∙ ap (λ q. q ∷ pieces_to_char (e - length p) (front ++ rest)) (take_all e p (omega (arith, h, sum)))
     ∙ ap (λ ps. p ∷ ps) below ∙ ap (λ k. p ∷ (front ++ pieces_to_char k rest)) same
 
-from-all : (a : ℕ) (ps : List (List ℕ)) → length (concat ps) ≤ a → pieces_from_char a ps ≡ []
+pub from-all : (a : ℕ) (ps : List (List ℕ)) → length (concat ps) ≤ a → pieces_from_char a ps ≡ []
 from-all a ps h = ap (pieces_from_char a) (sym (append-nil ps)) ∙ from-behind a ps [] h
 
 -- the clip around a piece into which it reaches

@@ -7,6 +7,7 @@ pub mod Counting
 pub mod Clipped
 pub mod Reaching
 pub mod Slices
+pub mod ChunkParts
 pub mod OnePiece
 pub mod TwoWay
 pub mod ChunkWalks

@@ -280,7 +280,7 @@ module _ (law : BreaksOfParts) (counted : CountsAreOfTheText) (pieces : List (Li
       }
 
 -- ---- what of the leaf lies in the part
-minus-plus : (c d : Counts) → minus (plus c d) c ≡ d
+pub minus-plus : (c d : Counts) → minus (plus c d) c ≡ d
 minus-plus c d =
     let b : c.bytes + d.bytes - c.bytes ≡ d.bytes = omega arith in
     let h : c.chars + d.chars - c.chars ≡ d.chars = omega arith in
@@ -326,7 +326,7 @@ boundary_at n text scalars =
     let bytes : encode_utf8_all text ≡ encode_utf8_all (take n text) ++ encode_utf8_all (drop n text) = ap encode_utf8_all (sym (take-append-drop n text)) ∙ encodes-append (take n text) (drop n text) in
     IsCharBoundary-at_seam (encode_utf8_all text) (encode_utf8_all (take n text)) (encode_utf8_all (drop n text)) bytes (drop n text, (scalars-drop n text scalars, refl))
 
-cut_text : (text : List ℕ) (x y from to : ℕ) → all_scalars text ≡ true → x ≤ y → from ≡ byte_len (take x text) → to ≡ byte_len (take y text) → IsCutAt (encode_utf8_all text) from to (between x y text)
+pub cut_text : (text : List ℕ) (x y from to : ℕ) → all_scalars text ≡ true → x ≤ y → from ≡ byte_len (take x text) → to ≡ byte_len (take y text) → IsCutAt (encode_utf8_all text) from to (between x y text)
 cut_text text x y from to scalars order p q =
     let bytes = encode_utf8_all text in
     let first = encode_utf8_all (take x text) in

@@ -4,6 +4,7 @@ pub mod Standing
 pub mod Laws
 pub mod Clips
 pub mod Parts
+pub mod Sources
 pub mod Slices
 pub mod Lines
 pub mod TwoWay

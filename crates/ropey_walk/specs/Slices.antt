@@ -1,13 +1,14 @@
--- What a slice is seen as: the pieces of its rope, clipped.
+-- What a slice is seen as: the pieces of its source, clipped.
 use Rattle.std.specs.Prelude.{ℕ, ◌+◌, List}
 use Rattle.ropey_walk.specs.declared.slice.RopeSlice.{RopeSlice}
 use Rattle.ropey_walk.specs.Chunks.{text_of}
 use Rattle.ropey_walk.specs.Clips.{clip}
+use Rattle.ropey_walk.specs.Sources.{source_pieces}
 pub use Rattle.ropey_walk.specs.Parts.{pieces_under, standing}
 
 -- the pieces of a slice
 abbrev pub slice_pieces : RopeSlice → List (List ℕ)
-slice_pieces slice = clip slice.start.chars (slice.start.chars + slice.len.chars) (pieces_under slice.node)
+slice_pieces slice = clip slice.start.chars (slice.start.chars + slice.len.chars) (source_pieces slice.source)
 
 -- its text
 abbrev pub slice_text : RopeSlice → List ℕ

@@ -26,3 +26,10 @@ pub record IsPlaceIn (text chunk : List ℕ) (start : Counts) (at : ℕ) : Type 
   pub whole_after : NoCrLfBetween (before ++ chunk) after
   pub within : at ≤ byte_len chunk
   pub fits : byte_len text < 2 ^ 63
+
+-- a chunk of a text that is cut into pieces, with what stands before it; an empty one is none of the pieces, and nothing is told of it
+pub record IsChunkOf (pieces : List (List ℕ)) (chunk : List ℕ) (start : Counts) : Type 0 where
+  pub before : List (List ℕ)
+  pub after : List (List ℕ)
+  pub parts : pieces ≡ before ++ piece_of chunk ++ after
+  pub start_is : start ≡ counts_of (text_of before)

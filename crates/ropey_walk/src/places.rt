@@ -9,7 +9,7 @@ ghost use Rattle.ropey_tree.specs.Cutting.{IsText};
 ghost use Rattle.ropey_walk.specs.Chunks.{line_breaks};
 ghost use Rattle.ropey_walk.specs.Conversions.{char_of_byte, unit_of_byte, line_of_byte, byte_of_char, byte_of_unit, byte_of_line};
 ghost use Rattle.ropey_walk.specs.Parts.{standing};
-ghost use Rattle.ropey_walk.specs.Standing.{StandsAt, IsPlaceIn};
+ghost use Rattle.ropey_walk.specs.Standing.{StandsAt, IsPlaceIn, IsChunkOf};
 
 use crate::laws;
 use crate::slice::{Chunk, RopeSlice};
@@ -32,6 +32,18 @@ impl<'a> Place<'a> {
     {
         self.text.is_char_boundary(self.at)
     }
+
+    /// The chunk in which it lies.
+    #[inline]
+    pub(crate) fn chunk(&self) -> Chunk<'a>
+        ensures text { result.text ≡ self.now.text }
+        ensures start { result.start ≡ self.now.start }
+    {
+        Chunk {
+            text: self.text,
+            start: self.start,
+        }
+    }
 }
 
 impl<'a> RopeSlice<'a> {
@@ -43,6 +55,7 @@ impl<'a> RopeSlice<'a> {
         ensures stands { IsPlaceIn (slice_text self.now) (chars result.text.now) result.start
             result.at }
         ensures place { result.start.bytes + result.at ≡ byte_idx }
+        ensures chunk { IsChunkOf (slice_pieces self.now) (chars result.text.now) result.start }
         ensures boundary { IsCharBoundary (encode_utf8_all (slice_text self.now)) byte_idx ↔
             IsCharBoundary result.text.now result.at }
         ensures utf8 { IsUtf8 result.text.now }
@@ -61,6 +74,7 @@ impl<'a> RopeSlice<'a> {
             result.at }
         ensures place { result.start.bytes + result.at ≡ byte_of_char (slice_text self.now)
             char_idx }
+        ensures chunk { IsChunkOf (slice_pieces self.now) (chars result.text.now) result.start }
         ensures boundary { IsCharBoundary result.text.now result.at }
         ensures utf8 { IsUtf8 result.text.now }
     {
@@ -116,6 +130,7 @@ impl<'a> RopeSlice<'a> {
             result.at }
         ensures place { result.start.bytes + result.at ≡ byte_of_line (slice_text self.now)
             line_idx }
+        ensures chunk { IsChunkOf (slice_pieces self.now) (chars result.text.now) result.start }
         ensures boundary { IsCharBoundary result.text.now result.at }
         ensures utf8 { IsUtf8 result.text.now }
     {

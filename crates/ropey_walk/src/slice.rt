@@ -1,12 +1,14 @@
 //! A part of a rope that acts as a text of its own.
 
-ghost use Rattle.std.specs.Prelude.{◌≡◌, ◌+◌, ◌<◌, ◌≤◌, ◌^◌, length};
+ghost use Rattle.std.specs.Prelude.{◌≡◌, ◌+◌, ◌<◌, ◌≤◌, ◌^◌, ◌⊎◌, [], length, true};
+ghost use Rattle.std.specs.Str.{is_utf8};
 ghost use Rattle.str_indices.specs.Text.{byte_len};
 ghost use Rattle.ropey_tree.specs.Counts.{counts_of};
 ghost use Rattle.ropey_tree.specs.Cutting.{IsText};
 ghost use Rattle.ropey_walk.specs.Chunks.{text_of};
 ghost use Rattle.ropey_walk.specs.Clips.{between};
 ghost use Rattle.ropey_walk.specs.Parts.{pieces_under, standing};
+ghost use Rattle.ropey_walk.specs.Sources.{source_pieces, light_bytes};
 
 use crate::laws;
 use ropey_tree::counts::{By, Counts};
@@ -19,17 +21,27 @@ use ropey_tree::node::{Found, Node, leaf_at};
 /// It takes no memory. Contracts see the pieces into which its rope is cut, clipped to it.
 #[derive(Clone, Copy)]
 pub struct RopeSlice<'a> {
-    // A text with no character has no tree.
-    node: Option<&'a Node>,
-    // What stands before it in the rope.
+    source: Source<'a>,
+    // What stands before it in its source.
     start: Counts,
     // What it counts itself.
     len: Counts,
-    ghost within: { start.chars + len.chars ≤ length (text_of (pieces_under node)) },
-    ghost starts: { start ≡ standing (text_of (pieces_under node)) start.chars },
+    ghost within: { start.chars + len.chars ≤ length (text_of (source_pieces source)) },
+    ghost starts: { start ≡ standing (text_of (source_pieces source)) start.chars },
     ghost counted: { len ≡ counts_of (between start.chars (start.chars + len.chars)
-        (text_of (pieces_under node))) },
-    ghost fits: { byte_len (text_of (pieces_under node)) < 2 ^ 63 },
+        (text_of (source_pieces source))) },
+    ghost fits: { byte_len (text_of (source_pieces source)) < 2 ^ 63 },
+    ghost utf8: { is_utf8 (light_bytes source) ≡ true },
+    ghost short: { length (light_bytes source) ≤ 984 },
+}
+
+/// What a slice is a part of, by the names of `ropey`.
+#[derive(Clone, Copy)]
+enum Source<'a> {
+    /// The text of a tree.
+    Full(&'a Node),
+    /// A text in one chunk, or none. What lies in it isn't looked up in a tree.
+    Light(&'a str),
 }
 
 /// A chunk, with what stands before it.
@@ -47,7 +59,7 @@ impl<'a> Chunk<'a> {
     ghost use Rattle.ropey_tree.specs.Counts.{zero_counts};
 
     /// The chunk of an empty text.
-    fn nothing() -> Self
+    pub(crate) fn nothing() -> Self
         ensures text { chars result.text.now ≡ [] }
         ensures start { result.start ≡ zero_counts }
         ensures utf8 { IsUtf8 result.text.now }
@@ -55,6 +67,26 @@ impl<'a> Chunk<'a> {
         Chunk {
             text: "",
             start: Counts::zero(),
+        }
+    }
+
+    /// This one, or another where it is empty.
+    pub(crate) fn or(self, other: Self) -> Self
+        ensures { (result ≡ self.entry) ⊎ (result ≡ other.entry) }
+    {
+        if self.text.is_empty() { other } else { self }
+    }
+}
+
+impl<'a> Source<'a> {
+    /// A tree, or the empty text.
+    fn new(node: Option<&'a Node>) -> Self
+        ensures pieces { source_pieces result ≡ pieces_under node.entry }
+        ensures bytes { light_bytes result ≡ [] }
+    {
+        match node {
+            None => Source::Light(""),
+            Some(node) => Source::Full(node),
         }
     }
 }
@@ -81,8 +113,11 @@ impl<'a> RopeSlice<'a> {
     ghost use Rattle.str_indices.specs.Text.{units};
     ghost use Rattle.ropey_walk.specs.Chunks.{line_breaks};
     ghost use Rattle.ropey_walk.specs.Clips.{clip};
+    ghost use Rattle.std.specs.Prelude.{ℕ, IfSome};
+    ghost use Rattle.ropey_tree.specs.declared.counts.By.{By};
+    ghost use Rattle.ropey_walk.specs.Chunks.{piece_of};
     ghost use Rattle.ropey_walk.specs.Parts.{IsReached};
-    ghost use Rattle.ropey_walk.specs.Standing.{StandsAt};
+    ghost use Rattle.ropey_walk.specs.Standing.{StandsAt, IsChunkOf};
     ghost use Rattle.ropey_walk.specs.Slices.{slice_pieces, slice_text};
 
     /// The whole text of a tree, or the empty text. `O(1)`.
@@ -101,18 +136,52 @@ impl<'a> RopeSlice<'a> {
         // A law, for the proof alone.
         laws::breaks_of_parts();
         RopeSlice {
-            node,
+            source: Source::new(node),
             start: Counts::zero(),
             len,
         }
     }
 
-    /// The part of a slice that starts where `start` stands before it, and counts `len`. `O(1)`.
-    pub fn part(&self, start: Counts, len: Counts) -> Self
+    /// The part of a slice that starts where `start` stands before it, and counts `len`, where it
+    /// has some character and lies in a chunk of the slice: it is a part of that chunk then. None
+    /// where it doesn't lie there.
+    #[inline]
+    fn part_of_chunk(&self, chunk: &Chunk<'a>, start: Counts, len: Counts) -> Option<Self>
+        requires some { 0 < len.chars }
         requires within { start.chars + len.chars ≤ length (slice_text self.now) }
         requires starts { start ≡ standing (slice_text self.now) start.chars }
         requires counted { len ≡ counts_of (between start.chars (start.chars + len.chars)
             (slice_text self.now)) }
+        requires chunk { IsChunkOf (slice_pieces self.now) (chars chunk.now.text.now)
+            chunk.now.start }
+        requires utf8 { IsUtf8 chunk.now.text.now }
+        ensures { IfSome result (λ part. slice_pieces part ≡
+            clip start.chars (start.chars + len.chars) (slice_pieces self.now)) }
+    {
+        // A law, and the slice's facts, for the proof alone.
+        laws::breaks_of_parts();
+        let _ = self.len_bytes();
+        let end = start.bytes + len.bytes;
+        if start.bytes < chunk.start.bytes || end > chunk.start.bytes + chunk.text.len() {
+            return None;
+        }
+        Some(RopeSlice {
+            source: Source::Light(chunk.text),
+            start: start.saturating_sub(chunk.start),
+            len,
+        })
+    }
+
+    /// The part of a slice that starts where `start` stands before it, and counts `len`. Where it
+    /// lies in the chunk, it is a part of that alone. `O(1)`.
+    pub(crate) fn part(&self, chunk: &Chunk<'a>, start: Counts, len: Counts) -> Self
+        requires within { start.chars + len.chars ≤ length (slice_text self.now) }
+        requires starts { start ≡ standing (slice_text self.now) start.chars }
+        requires counted { len ≡ counts_of (between start.chars (start.chars + len.chars)
+            (slice_text self.now)) }
+        requires chunk { IsChunkOf (slice_pieces self.now) (chars chunk.now.text.now)
+            chunk.now.start }
+        requires utf8 { IsUtf8 chunk.now.text.now }
         ensures { slice_pieces result ≡ clip start.chars (start.chars + len.chars)
             (slice_pieces self.now) }
     {
@@ -121,8 +190,11 @@ impl<'a> RopeSlice<'a> {
         if len.chars == 0 {
             return RopeSlice::new(None);
         }
+        if let Some(part) = self.part_of_chunk(chunk, start, len) {
+            return part;
+        }
         RopeSlice {
-            node: self.node,
+            source: self.source,
             start: self.start.plus(start),
             len,
         }
@@ -142,9 +214,9 @@ impl<'a> RopeSlice<'a> {
         ensures fits { result < 2 ^ 63 }
         ensures cut { IsText (slice_pieces self.now) }
     {
-        match self.node {
-            None => self.counts().bytes,
-            Some(node) => {
+        match self.source {
+            Source::Light(_) => self.counts().bytes,
+            Source::Full(node) => {
                 // For its facts alone.
                 let _ = node.height();
                 self.counts().bytes
@@ -178,7 +250,7 @@ impl<'a> RopeSlice<'a> {
     /// The leaf of the rope in which place `i` of a measure of the slice lies, or at which it ends.
     fn leaf(&self, node: &'a Node, by: By, i: usize) -> Found<'a>
         requires some { 0 < self.now.len.chars }
-        requires under { pieces_under self.now.node ≡ node.now.pieces }
+        requires under { source_pieces self.now.source ≡ node.now.pieces }
         ensures { IsReached node.now.pieces self.now.start self.now.len by i result.leaf.now
             result.before }
     {
@@ -196,7 +268,7 @@ impl<'a> RopeSlice<'a> {
     /// What of a leaf lies in the slice, where the slice has some character.
     fn clipped(&self, node: &'a Node, by: By, i: usize) -> Chunk<'a>
         requires some { 0 < self.now.len.chars }
-        requires under { pieces_under self.now.node ≡ node.now.pieces }
+        requires under { source_pieces self.now.source ≡ node.now.pieces }
         ensures stands { StandsAt (slice_pieces self.now) by i (chars result.text.now) result.start }
         ensures cut { IsText (slice_pieces self.now) }
         ensures utf8 { IsUtf8 result.text.now }
@@ -214,6 +286,23 @@ impl<'a> RopeSlice<'a> {
         }
     }
 
+    /// The text of a slice of a text in one chunk, where it has some character.
+    #[inline]
+    fn only(&self, text: &'a str) -> Chunk<'a>
+        requires some { 0 < self.now.len.chars }
+        requires under { self.now.source ≡ Source.Light text }
+        ensures stands { (by : By) (i : ℕ) →
+            StandsAt (slice_pieces self.now) by i (chars result.text.now) result.start }
+        ensures utf8 { IsUtf8 result.text.now }
+    {
+        // A law, for the proof alone.
+        laws::breaks_of_parts();
+        Chunk {
+            text: &text[self.start.bytes..self.start.bytes + self.len.bytes],
+            start: Counts::zero(),
+        }
+    }
+
     /// The chunk in which place `i` of a measure lies, or the last. An empty text shows an empty
     /// one. `O(log n)`.
     pub fn chunk(&self, by: By, i: usize) -> Chunk<'a>
@@ -224,9 +313,9 @@ impl<'a> RopeSlice<'a> {
         if self.len.chars == 0 {
             return Chunk::nothing();
         }
-        match self.node {
-            None => Chunk::nothing(),
-            Some(node) => self.clipped(node, by, i),
+        match self.source {
+            Source::Light(text) => self.only(text),
+            Source::Full(node) => self.clipped(node, by, i),
         }
     }
 }

@@ -18,27 +18,39 @@ ghost use Rattle.ropey_walk.specs.Lines.{line_pieces};
 ghost use Rattle.ropey_walk.specs.Parts.{standing};
 ghost use Rattle.ropey_walk.specs.Ranges.{start_of, end_of, chars_in, bytes_in};
 ghost use Rattle.ropey_walk.specs.Ranges.{IsRangeIn, IsByteRangeIn, RefusesChars, RefusesBytes};
-ghost use Rattle.ropey_walk.specs.Standing.{IsPlaceIn};
+ghost use Rattle.ropey_walk.specs.Standing.{IsPlaceIn, IsChunkOf};
 
 use crate::iter::lines::LinePlace;
 use crate::laws;
 use crate::places::Place;
 use crate::ranges::{Ends, TextRange};
-use crate::slice::RopeSlice;
+use crate::slice::{Chunk, RopeSlice};
 use ropey_tree::counts::Counts;
 use ropey_tree::error::Error;
+
+/// An end of a part: what is counted up to it, and the chunk in which it was looked up, or an empty
+/// one where it wasn't.
+#[derive(Clone, Copy)]
+struct Edge<'a> {
+    counts: Counts,
+    chunk: Chunk<'a>,
+}
 
 impl<'a> RopeSlice<'a> {
     ghost use Rattle.ropey_walk.specs.Slices.{slice_pieces, slice_text};
     ghost use Rattle.ropey_walk.specs.Comparing.{slice_bytes};
 
     /// The part from where `start` stands before it up to where `end` is what the text up to there
-    /// counts by itself. `O(1)`.
-    pub(crate) fn between(&self, start: Counts, end: Counts) -> Self
+    /// counts by itself. Where it lies in the chunk, it is a part of that alone. `O(1)`.
+    #[inline]
+    pub(crate) fn between(&self, chunk: &Chunk<'a>, start: Counts, end: Counts) -> Self
         requires order { start.chars ≤ end.chars }
         requires within { end.chars ≤ length (slice_text self.now) }
         requires starts { start ≡ standing (slice_text self.now) start.chars }
         requires ends { end ≡ counts_of (take end.chars (slice_text self.now)) }
+        requires chunk { IsChunkOf (slice_pieces self.now) (chars chunk.now.text.now)
+            chunk.now.start }
+        requires utf8 { IsUtf8 chunk.now.text.now }
         ensures { slice_pieces result ≡ clip start.chars end.chars (slice_pieces self.now) }
     {
         // A law, for the proof alone.
@@ -46,11 +58,11 @@ impl<'a> RopeSlice<'a> {
         if start.chars == end.chars {
             return RopeSlice::new(None);
         }
-        self.part(start, end.saturating_sub(start))
+        self.part(chunk, start, end.saturating_sub(start))
     }
 
     /// The part from one place between two characters to another.
-    fn between_places(&self, from: &Place<'_>, to: &Place<'_>) -> Self
+    fn between_places(&self, from: &Place<'a>, to: &Place<'_>) -> Self
         requires from { IsPlaceIn (slice_text self.now) (chars from.now.text.now) from.now.start
             from.now.at }
         requires from_boundary { IsCharBoundary from.now.text.now from.now.at }
@@ -60,6 +72,8 @@ impl<'a> RopeSlice<'a> {
         requires to_boundary { IsCharBoundary to.now.text.now to.now.at }
         requires to_utf8 { IsUtf8 to.now.text.now }
         requires order { from.now.start.bytes + from.now.at ≤ to.now.start.bytes + to.now.at }
+        requires chunk { IsChunkOf (slice_pieces self.now) (chars from.now.text.now)
+            from.now.start }
         ensures pieces { slice_pieces result ≡
             clip (char_of_byte (slice_text self.now) (from.now.start.bytes + from.now.at))
             (char_of_byte (slice_text self.now) (to.now.start.bytes + to.now.at))
@@ -70,7 +84,7 @@ impl<'a> RopeSlice<'a> {
         // Laws, for the proof alone.
         str_indices::laws::from_byte_idx_is_monotone();
         str_indices::laws::ends_of_a_part();
-        self.between(self.standing_at(from), self.counted_to(to))
+        self.between(&from.chunk(), self.standing_at(from), self.counted_to(to))
     }
 
     /// A line, with the break that ends it. The line index is below `len_lines`. `O(log n)`.
@@ -97,10 +111,13 @@ impl<'a> RopeSlice<'a> {
     }
 
     /// What stands before a character. Before the first it is nothing, which isn't looked up.
-    fn standing_before_char(&self, char_idx: usize) -> Counts
+    fn start_at_char(&self, char_idx: usize) -> Edge<'a>
         requires { char_idx ≤ length (slice_text self.now) }
-        ensures chars { result.chars ≡ char_idx }
-        ensures stands { result ≡ standing (slice_text self.now) result.chars }
+        ensures chars { result.counts.chars ≡ char_idx }
+        ensures stands { result.counts ≡ standing (slice_text self.now) result.counts.chars }
+        ensures chunk { IsChunkOf (slice_pieces self.now) (chars result.chunk.text.now)
+            result.chunk.start }
+        ensures utf8 { IsUtf8 result.chunk.text.now }
     {
         // Laws, for the proof alone.
         laws::breaks_of_parts();
@@ -108,26 +125,44 @@ impl<'a> RopeSlice<'a> {
         str_indices::laws::boundaries_and_indices_agree();
         str_indices::laws::place_there_and_back();
         if char_idx == 0 {
-            return Counts::zero();
+            return Edge {
+                counts: Counts::zero(),
+                chunk: Chunk::nothing(),
+            };
         }
-        self.standing_at(&self.place_of_char(char_idx))
+        let place = self.place_of_char(char_idx);
+        Edge {
+            counts: self.standing_at(&place),
+            chunk: place.chunk(),
+        }
     }
 
     /// What the text up to a character counts by itself. Up to the end it is what the slice counts,
     /// which isn't looked up.
-    fn counted_to_char(&self, char_idx: usize) -> Counts
+    fn end_at_char(&self, char_idx: usize) -> Edge<'a>
         requires { char_idx ≤ length (slice_text self.now) }
-        ensures chars { result.chars ≡ char_idx }
-        ensures counted { result ≡ counts_of (take result.chars (slice_text self.now)) }
+        ensures chars { result.counts.chars ≡ char_idx }
+        ensures counted { result.counts ≡
+            counts_of (take result.counts.chars (slice_text self.now)) }
+        ensures chunk { IsChunkOf (slice_pieces self.now) (chars result.chunk.text.now)
+            result.chunk.start }
+        ensures utf8 { IsUtf8 result.chunk.text.now }
     {
         // Laws, for the proof alone.
         str_indices::laws::ends_of_a_part();
         str_indices::laws::boundaries_and_indices_agree();
         str_indices::laws::place_there_and_back();
         if char_idx == self.len_chars() {
-            return self.counts();
+            return Edge {
+                counts: self.counts(),
+                chunk: Chunk::nothing(),
+            };
         }
-        self.counted_to(&self.place_of_char(char_idx))
+        let place = self.place_of_char(char_idx);
+        Edge {
+            counts: self.counted_to(&place),
+            chunk: place.chunk(),
+        }
     }
 
     /// The part from one character up to another.
@@ -136,7 +171,10 @@ impl<'a> RopeSlice<'a> {
         requires within { end ≤ length (slice_text self.now) }
         ensures { slice_pieces result ≡ clip start end (slice_pieces self.now) }
     {
-        self.between(self.standing_before_char(start), self.counted_to_char(end))
+        let from = self.start_at_char(start);
+        let to = self.end_at_char(end);
+        // The chunk of a character's place holds the character before it.
+        self.between(&to.chunk.or(from.chunk), from.counts, to.counts)
     }
 
     /// Where a range of characters starts and ends, or why it is refused, as in `try_slice`.
@@ -238,34 +276,55 @@ impl<'a> RopeSlice<'a> {
         }
     }
 
-    /// `standing_before_char` of a byte between two characters.
-    fn standing_before_byte(&self, byte_idx: usize) -> Counts
+    /// `start_at_char` of a byte between two characters.
+    fn start_at_byte(&self, byte_idx: usize) -> Edge<'a>
         requires { IsCharBoundary (slice_bytes self.now) byte_idx }
-        ensures chars { result.chars ≡ char_of_byte (slice_text self.now) byte_idx }
-        ensures stands { result ≡ standing (slice_text self.now) result.chars }
+        ensures chars { result.counts.chars ≡ char_of_byte (slice_text self.now) byte_idx }
+        ensures stands { result.counts ≡ standing (slice_text self.now) result.counts.chars }
+        ensures chunk { IsChunkOf (slice_pieces self.now) (chars result.chunk.text.now)
+            result.chunk.start }
+        ensures utf8 { IsUtf8 result.chunk.text.now }
     {
         // Laws, for the proof alone.
         laws::breaks_of_parts();
         str_indices::laws::ends_of_a_part();
         if byte_idx == 0 {
-            return Counts::zero();
+            return Edge {
+                counts: Counts::zero(),
+                chunk: Chunk::nothing(),
+            };
         }
-        self.standing_at(&self.place_of_byte(byte_idx))
+        let place = self.place_of_byte(byte_idx);
+        Edge {
+            counts: self.standing_at(&place),
+            chunk: place.chunk(),
+        }
     }
 
-    /// `counted_to_char` of a byte between two characters.
-    fn counted_to_byte(&self, byte_idx: usize) -> Counts
+    /// `end_at_char` of a byte between two characters.
+    fn end_at_byte(&self, byte_idx: usize) -> Edge<'a>
         requires { IsCharBoundary (slice_bytes self.now) byte_idx }
-        ensures chars { result.chars ≡ char_of_byte (slice_text self.now) byte_idx }
-        ensures within { result.chars ≤ length (slice_text self.now) }
-        ensures counted { result ≡ counts_of (take result.chars (slice_text self.now)) }
+        ensures chars { result.counts.chars ≡ char_of_byte (slice_text self.now) byte_idx }
+        ensures within { result.counts.chars ≤ length (slice_text self.now) }
+        ensures counted { result.counts ≡
+            counts_of (take result.counts.chars (slice_text self.now)) }
+        ensures chunk { IsChunkOf (slice_pieces self.now) (chars result.chunk.text.now)
+            result.chunk.start }
+        ensures utf8 { IsUtf8 result.chunk.text.now }
     {
         // A law, for the proof alone.
         str_indices::laws::ends_of_a_part();
         if byte_idx == self.len_bytes() {
-            return self.counts();
+            return Edge {
+                counts: self.counts(),
+                chunk: Chunk::nothing(),
+            };
         }
-        self.counted_to(&self.place_of_byte(byte_idx))
+        let place = self.place_of_byte(byte_idx);
+        Edge {
+            counts: self.counted_to(&place),
+            chunk: place.chunk(),
+        }
     }
 
     /// The part from one byte up to another, both between two characters.
@@ -281,7 +340,10 @@ impl<'a> RopeSlice<'a> {
         str_indices::laws::from_byte_idx_is_monotone();
         str_indices::laws::ends_of_a_part();
         let _ = self.len_bytes();
-        self.between(self.standing_before_byte(start), self.counted_to_byte(end))
+        let from = self.start_at_byte(start);
+        let to = self.end_at_byte(end);
+        // The chunk of a byte's place holds the byte behind it.
+        self.between(&from.chunk.or(to.chunk), from.counts, to.counts)
     }
 
     /// A range of bytes. It lies inside the text: it starts no later than it ends, ends at most at

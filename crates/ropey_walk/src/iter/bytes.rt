@@ -107,7 +107,9 @@ impl<'a> Iterator for Bytes<'a> {
                     return None;
                 }
                 let byte_idx = self.start - 1;
-                let chunk = self.slice.chunk(By::Bytes, byte_idx);
+                // A copy, so that a loop keeps the iterator itself in registers.
+                let slice = self.slice;
+                let chunk = slice.chunk(By::Bytes, byte_idx);
                 let at = byte_idx - chunk.start.bytes;
                 self.chunk = chunk.text;
                 self.start = chunk.start.bytes;
@@ -123,7 +125,9 @@ impl<'a> Iterator for Bytes<'a> {
                 if byte_idx == self.len {
                     return None;
                 }
-                let chunk = self.slice.chunk(By::Bytes, byte_idx);
+                // A copy, so that a loop keeps the iterator itself in registers.
+                let slice = self.slice;
+                let chunk = slice.chunk(By::Bytes, byte_idx);
                 let at = byte_idx - chunk.start.bytes;
                 self.chunk = chunk.text;
                 self.start = chunk.start.bytes;

@@ -62,7 +62,9 @@ fn place_to_go_on<'a>(slice: &RopeSlice<'a>, place: CharPlace<'a>, char_idx: usi
     if place.at < place.chunk.len() {
         return place;
     }
-    place_in_chunk_of(slice, char_idx, char_idx)
+    // A copy, so that a loop keeps the iterator itself in registers.
+    let slice = *slice;
+    place_in_chunk_of(&slice, char_idx, char_idx)
 }
 
 /// The place, in a chunk that starts before it.
@@ -81,7 +83,9 @@ fn place_to_go_back<'a>(
     if place.at > 0 {
         return place;
     }
-    place_in_chunk_of(slice, char_idx - 1, char_idx)
+    // A copy, so that a loop keeps the iterator itself in registers.
+    let slice = *slice;
+    place_in_chunk_of(&slice, char_idx - 1, char_idx)
 }
 
 /// The character that starts at a byte of a text.
@@ -92,6 +96,13 @@ fn read_on(chunk: &str, at: usize) -> Read
     ensures reads { drop at chunk.now ≡ encode_utf8 result.character ++ drop result.at chunk.now }
     ensures boundary { IsCharBoundary chunk.now result.at }
 {
+    let byte = chunk.as_bytes()[at];
+    if byte < 0x80 {
+        return Read {
+            character: byte as char,
+            at: at + 1,
+        };
+    }
     let mut rest = chunk[at..].chars();
     match rest.next() {
         Some(character) => Read {
@@ -110,6 +121,13 @@ fn read_back(chunk: &str, at: usize) -> Read
     ensures reads { drop result.at chunk.now ≡ encode_utf8 result.character ++ drop at chunk.now }
     ensures boundary { IsCharBoundary chunk.now result.at }
 {
+    let byte = chunk.as_bytes()[at - 1];
+    if byte < 0x80 {
+        return Read {
+            character: byte as char,
+            at: at - 1,
+        };
+    }
     let mut rest = chunk[..at].chars();
     match rest.next_back() {
         Some(character) => Read {

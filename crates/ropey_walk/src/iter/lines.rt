@@ -8,6 +8,7 @@ ghost use Rattle.ropey_walk.specs.Lines.{line_pieces, lines_of};
 ghost use Rattle.ropey_walk.specs.TwoWay.{turned, before_item, GivesPrev};
 ghost use Rattle.ropey_walk.specs.Iter.{GivesLine, IsLinePlace};
 ghost use Rattle.ropey_walk.specs.Slices.{slice_pieces, slice_text};
+ghost use Rattle.ropey_walk.specs.Standing.{IsChunkOf};
 
 use crate::laws;
 use crate::places::Place;
@@ -54,6 +55,8 @@ impl<'a> LinePlace<'a> {
     /// The place where a line starts, or the text's end, looked up in the tree.
     pub(crate) fn look_up(slice: &RopeSlice<'a>, line_idx: usize) -> Self
         ensures place { IsLinePlace (slice_text slice.now) result }
+        ensures chunk { IsChunkOf (slice_pieces slice.now) (chars result.place.text.now)
+            result.place.start }
         ensures line { result.line_idx ≡ line_idx }
     {
         let place = slice.place_of_line(line_idx);
@@ -69,8 +72,12 @@ impl<'a> LinePlace<'a> {
     #[inline]
     pub(crate) fn next(self, slice: &RopeSlice<'a>) -> Self
         requires here { IsLinePlace (slice_text slice.now) self }
+        requires chunk { IsChunkOf (slice_pieces slice.now) (chars self.place.text.now)
+            self.place.start }
         requires some { self.line_idx < line_breaks (slice_text slice.now) + 1 }
         ensures place { IsLinePlace (slice_text slice.now) result }
+        ensures chunk { IsChunkOf (slice_pieces slice.now) (chars result.place.text.now)
+            result.place.start }
         ensures line { result.line_idx ≡ self.entry.line_idx + 1 }
     {
         // A law, for the proof alone.
@@ -105,9 +112,13 @@ impl<'a> LinePlace<'a> {
     #[inline]
     fn prev(self, slice: &RopeSlice<'a>) -> Self
         requires here { IsLinePlace (slice_text slice.now) self }
+        requires chunk { IsChunkOf (slice_pieces slice.now) (chars self.place.text.now)
+            self.place.start }
         requires some { 0 < self.line_idx }
         requires within { self.line_idx ≤ line_breaks (slice_text slice.now) + 1 }
         ensures place { IsLinePlace (slice_text slice.now) result }
+        ensures chunk { IsChunkOf (slice_pieces slice.now) (chars result.place.text.now)
+            result.place.start }
         ensures line { result.line_idx + 1 ≡ self.entry.line_idx }
     {
         // A law, for the proof alone.
@@ -142,11 +153,13 @@ impl<'a> LinePlace<'a> {
         requires here { IsLinePlace (slice_text slice.now) self }
         requires there { IsLinePlace (slice_text slice.now) end }
         requires next { end.line_idx ≡ self.line_idx + 1 }
+        requires chunk { IsChunkOf (slice_pieces slice.now) (chars end.place.text.now)
+            end.place.start }
         ensures { slice_pieces result ≡ line_pieces (slice_pieces slice.now) self.entry.line_idx }
     {
         // A law, for the proof alone.
         laws::line_starts();
-        slice.between(self.before, end.before)
+        slice.between(&end.place.chunk(), self.before, end.before)
     }
 }
 
@@ -171,7 +184,9 @@ impl<'a> Model for Lines<'a> {
     ghost use Rattle.ropey_walk.specs.Lines.{lines_of};
     ghost use Rattle.ropey_walk.specs.TwoWay.{TwoWay, facing};
     ghost use Rattle.ropey_walk.specs.Iter.{IsLinePlace};
+    ghost use Rattle.std.specs.Str.{chars};
     ghost use Rattle.ropey_walk.specs.Slices.{slice_pieces, slice_text};
+    ghost use Rattle.ropey_walk.specs.Standing.{IsChunkOf};
 
     ghost Value = { TwoWay (List (List ℕ)) };
 
@@ -179,6 +194,8 @@ impl<'a> Model for Lines<'a> {
         (lines_of (slice_pieces lines.slice)) };
 
     ghost invariant = { λ lines. IsLinePlace (slice_text lines.slice) lines.place ×
+        IsChunkOf (slice_pieces lines.slice) (chars lines.place.place.text.now)
+        lines.place.place.start ×
         (lines.place.line_idx ≤ lines.len) ×
         (lines.len ≡ line_breaks (slice_text lines.slice) + 1) };
 }

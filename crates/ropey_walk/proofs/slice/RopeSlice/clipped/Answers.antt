@@ -3,7 +3,7 @@ use Rattle.std.specs.Str.{chars}
 use Rattle.ropey_tree.specs.declared.counts.By.TheVariants.{Bytes}
 use Rattle.ropey_tree.specs.Cutting.{IsText}
 use Rattle.ropey_walk.specs.Chunks.{text_of}
-use Rattle.ropey_walk.specs.Parts.{pieces_under}
+use Rattle.ropey_walk.specs.Sources.{source_pieces}
 use Rattle.ropey_walk.proofs.Cuts.{text_fits}
 use Rattle.ropey_walk.proofs.Clipped.{text-is}
 use Rattle.ropey_walk.proofs.Reaching.{IsCutAt, clipped_leaf, leaf_stands_in, leaf_cut_at, ends_behind, sum-fits}
@@ -59,5 +59,5 @@ returns-clause-stands c =
 pub returns-clause-cut : goal.returns-clause-cut
 returns-clause-cut c =
     let s = c.args.self.now in
-    let text : IsText (pieces_under s.node) = subst IsText (sym c.requires.under) c.height.ensures.tree.text in
-    text-is s.start.chars (s.start.chars + s.len.chars) (pieces_under s.node) text
+    let text : IsText (source_pieces s.source) = subst IsText (sym c.requires.under) c.height.ensures.tree.text in
+    text-is s.start.chars (s.start.chars + s.len.chars) (source_pieces s.source) text

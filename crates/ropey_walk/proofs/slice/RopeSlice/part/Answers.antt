@@ -3,7 +3,8 @@ use Rattle.ropey_tree.specs.declared.counts.By.TheVariants.{Bytes, Chars, Units,
 use Rattle.ropey_tree.specs.Counts.{counts_of}
 use Rattle.ropey_walk.specs.Chunks.{text_of}
 use Rattle.ropey_walk.specs.Clips.{between, clip}
-use Rattle.ropey_walk.specs.Parts.{pieces_under, standing}
+use Rattle.ropey_walk.specs.Parts.{standing}
+use Rattle.ropey_walk.specs.Sources.{source_pieces}
 use Rattle.ropey_walk.specs.Slices.{slice_pieces}
 use Rattle.ropey_walk.proofs.Clipping.{clip-nothing}
 use Rattle.ropey_walk.proofs.Slices.{in_part, parts_fit, deeper_pieces}
@@ -25,13 +26,15 @@ pub invariant_of-result : goal.invariant_of-result
 invariant_of-result c =
     let s = c.args.self.now in
     let deeper = in_part c.breaks_of_parts.ensures s c.args.start c.args.len c.requires.within c.requires.starts c.requires.counted (omega (arith, c.if-len-eq0.false)) in
-    let t = text_of (pieces_under s.node) in
+    let t = text_of (source_pieces s.source) in
     let e = c.plus.ensures in
     record {
       within = omega (arith, deeper.within, ap (λ n. n.chars) e);
       starts = e ∙ deeper.starts ∙ ap (λ n. standing t n.chars) (sym e);
       counted = deeper.counted ∙ ap (λ n. counts_of (between n.chars (n.chars + c.args.len.chars) t)) (sym e);
       fits = s.fits;
+      utf8 = s.utf8;
+      short = s.short;
     }
 
 pub returns-then-len-eq0 : goal.returns-then-len-eq0
@@ -42,4 +45,4 @@ returns-then-len-eq0 c =
 pub returns : goal.returns
 returns c =
     let s = c.args.self.now in
-    ap (λ n. clip n.chars (n.chars + c.args.len.chars) (pieces_under s.node)) c.plus.ensures ∙ deeper_pieces s c.args.start c.args.len c.requires.within
+    ap (λ n. clip n.chars (n.chars + c.args.len.chars) (source_pieces s.source)) c.plus.ensures ∙ deeper_pieces s c.args.start c.args.len c.requires.within

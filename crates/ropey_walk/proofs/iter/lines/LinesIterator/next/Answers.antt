@@ -16,13 +16,13 @@ returns-then-self-2-clause-steps c =
     let k = c.self.inside.place.line_idx in
     let seen = faces_on c.self.inside.is_reversed k lines c.args.self.now c.if-self.false c.self.view_is in
     let all : length lines ≡ line_breaks (slice_text c.self.inside.slice) + 1 = length-map-range_with_len (line_pieces pieces) 0 (line_breaks (slice_text c.self.inside.slice) + 1) in
-    (ap (λ w. w.ahead) seen ∙ none_ahead lines k (c.if-self-2.true ∙ c.self.invariant.2 ∙ sym all), refl)
+    (ap (λ w. w.ahead) seen ∙ none_ahead lines k (c.if-self-2.true ∙ c.self.invariant.3 ∙ sym all), refl)
 
 seen_next : (c : After-next-self-inside) → Crosses (line_pieces (slice_pieces c.self.inside.slice) c.self.inside.place.line_idx) c.args.self.now (facing c.self.inside.is_reversed c.next-self-inside.result.line_idx (lines_of (slice_pieces c.self.inside.slice)))
 seen_next c =
     let pieces = slice_pieces c.self.inside.slice in
     let k = c.self.inside.place.line_idx in
-    let over = crosses_mapped (line_pieces pieces) (line_breaks (slice_text c.self.inside.slice) + 1) k c.next-self-inside.result.line_idx (omega (arith, c.self.invariant.1, c.self.invariant.2, c.if-self-2.false)) c.next-self-inside.ensures.line in
+    let over = crosses_mapped (line_pieces pieces) (line_breaks (slice_text c.self.inside.slice) + 1) k c.next-self-inside.result.line_idx (omega (arith, c.self.invariant.2, c.self.invariant.3, c.if-self-2.false)) c.next-self-inside.ensures.line in
     crosses_on c.self.inside.is_reversed k c.next-self-inside.result.line_idx (lines_of pieces) (line_pieces pieces k) c.args.self.now c.if-self.false c.self.view_is over
 
 pub returns-else-self-2-clause-steps : goal.returns-else-self-2-clause-steps
@@ -41,7 +41,7 @@ seen_prev c =
     let pieces = slice_pieces c.self.inside.slice in
     let k = c.self.inside.place.line_idx in
     let i = c.prev-self-inside.result.line_idx in
-    let over = crosses_mapped (line_pieces pieces) (line_breaks (slice_text c.self.inside.slice) + 1) i k (omega (arith, c.self.invariant.1, c.self.invariant.2, c.prev-self-inside.ensures.line)) (sym c.prev-self-inside.ensures.line) in
+    let over = crosses_mapped (line_pieces pieces) (line_breaks (slice_text c.self.inside.slice) + 1) i k (omega (arith, c.self.invariant.2, c.self.invariant.3, c.prev-self-inside.ensures.line)) (sym c.prev-self-inside.ensures.line) in
     crosses_back c.self.inside.is_reversed k i (lines_of pieces) (line_pieces pieces i) c.args.self.now c.if-self.true c.self.view_is over
 
 pub returns-else-self-eq0-clause-steps : goal.returns-else-self-eq0-clause-steps

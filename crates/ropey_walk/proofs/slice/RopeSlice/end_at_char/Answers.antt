@@ -2,9 +2,10 @@ use Rattle.std.proofs.Common.{◌≡◌, length, ap, sym, ◌∙◌, arith}
 use Rattle.std.proofs.lemmas.List.{take_all}
 use Rattle.ropey_tree.specs.Counts.{counts_of}
 use Rattle.ropey_walk.specs.Conversions.{char_of_byte}
-use Rattle.ropey_walk.specs.Slices.{slice_text}
+use Rattle.ropey_walk.specs.Slices.{slice_pieces, slice_text}
+use Rattle.ropey_walk.proofs.ChunkParts.{nothing_of}
 use Rattle.ropey_walk.proofs.Edges.{char_there_and_back}
-use Rattle.ropey_walk.proofs.slice.RopeSlice.counted_to_char.Goals as goal
+use Rattle.ropey_walk.proofs.slice.RopeSlice.end_at_char.Goals as goal
 
 pub returns-then-char_idx-len_chars-clause-chars : goal.returns-then-char_idx-len_chars-clause-chars
 returns-then-char_idx-len_chars-clause-chars c =
@@ -19,5 +20,8 @@ returns-then-char_idx-len_chars-clause-counted c =
 pub returns-clause-chars : goal.returns-clause-chars
 returns-clause-chars c =
     let t = slice_text c.args.self.now in
-    c.counted_to.ensures.chars ∙ ap (char_of_byte t) c.place_of_char.ensures.place
+    c.counted_to.ensures.chars ∙ ap (char_of_byte t) c.place_of_char-place.ensures.place
     ∙ char_there_and_back c.ends_of_a_part.ensures.chars c.boundaries_and_indices_agree.ensures.chars c.place_there_and_back.ensures.chars t c.args.char_idx c.requires
+
+pub returns-then-char_idx-len_chars-clause-chunk : goal.returns-then-char_idx-len_chars-clause-chunk
+returns-then-char_idx-len_chars-clause-chunk c = rw (c.nothing.ensures.text, c.nothing.ensures.start) (nothing_of (slice_pieces c.args.self.now))

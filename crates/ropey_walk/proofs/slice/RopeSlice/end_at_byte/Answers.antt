@@ -3,9 +3,10 @@ use Rattle.std.proofs.lemmas.List.{take_all}
 use Rattle.str_indices.specs.Text.{byte_len}
 use Rattle.ropey_tree.specs.Counts.{counts_of}
 use Rattle.ropey_walk.specs.Conversions.{char_of_byte}
-use Rattle.ropey_walk.specs.Slices.{slice_text}
+use Rattle.ropey_walk.specs.Slices.{slice_pieces, slice_text}
+use Rattle.ropey_walk.proofs.ChunkParts.{nothing_of}
 use Rattle.ropey_walk.proofs.Placing.{whole_chars}
-use Rattle.ropey_walk.proofs.slice.RopeSlice.counted_to_byte.Goals as goal
+use Rattle.ropey_walk.proofs.slice.RopeSlice.end_at_byte.Goals as goal
 
 pub returns-then-byte_idx-len_bytes-clause-chars : goal.returns-then-byte_idx-len_bytes-clause-chars
 returns-then-byte_idx-len_bytes-clause-chars c =
@@ -21,4 +22,7 @@ returns-then-byte_idx-len_bytes-clause-counted c =
     c.counts.ensures.counts ∙ ap counts_of (sym (take_all c.counts.result.chars t (omega (arith, all))))
 
 pub returns-clause-chars : goal.returns-clause-chars
-returns-clause-chars c = c.counted_to.ensures.chars ∙ ap (char_of_byte (slice_text c.args.self.now)) c.place_of_byte.ensures.place
+returns-clause-chars c = c.counted_to.ensures.chars ∙ ap (char_of_byte (slice_text c.args.self.now)) c.place_of_byte-place.ensures.place
+
+pub returns-then-byte_idx-len_bytes-clause-chunk : goal.returns-then-byte_idx-len_bytes-clause-chunk
+returns-then-byte_idx-len_bytes-clause-chunk c = rw (c.nothing.ensures.text, c.nothing.ensures.start) (nothing_of (slice_pieces c.args.self.now))

@@ -1,10 +1,11 @@
 use Rattle.std.proofs.Common.{◌≡◌, [], ap, sym, ◌∙◌, arith}
 use Rattle.ropey_walk.specs.Conversions.{char_of_byte}
 use Rattle.ropey_walk.specs.Parts.{standing}
-use Rattle.ropey_walk.specs.Slices.{slice_text}
+use Rattle.ropey_walk.specs.Slices.{slice_pieces, slice_text}
+use Rattle.ropey_walk.proofs.ChunkParts.{nothing_of}
 use Rattle.ropey_walk.proofs.Placing.{whole_chars}
 use Rattle.ropey_walk.proofs.Reaching.{nothing_stands}
-use Rattle.ropey_walk.proofs.slice.RopeSlice.standing_before_byte.Goals as goal
+use Rattle.ropey_walk.proofs.slice.RopeSlice.start_at_byte.Goals as goal
 
 pub returns-then-byte_idx-eq0-clause-chars : goal.returns-then-byte_idx-eq0-clause-chars
 returns-then-byte_idx-eq0-clause-chars c =
@@ -19,4 +20,7 @@ returns-then-byte_idx-eq0-clause-stands c =
     c.zero.ensures ∙ nothing_stands c.breaks_of_parts.ensures t ∙ ap (standing t) (sym first)
 
 pub returns-clause-chars : goal.returns-clause-chars
-returns-clause-chars c = c.standing_at.ensures.chars ∙ ap (char_of_byte (slice_text c.args.self.now)) c.place_of_byte.ensures.place
+returns-clause-chars c = c.standing_at.ensures.chars ∙ ap (char_of_byte (slice_text c.args.self.now)) c.place_of_byte-place.ensures.place
+
+pub returns-then-byte_idx-eq0-clause-chunk : goal.returns-then-byte_idx-eq0-clause-chunk
+returns-then-byte_idx-eq0-clause-chunk c = rw (c.nothing.ensures.text, c.nothing.ensures.start) (nothing_of (slice_pieces c.args.self.now))

@@ -1,0 +1,42 @@
+use Rattle.std.proofs.Common.{◌+◌, ap, refl, sym, ◌∙◌, arith}
+use Rattle.std.specs.Str.{chars}
+use Rattle.str_indices.specs.Text.{byte_len}
+use Rattle.ropey_tree.specs.declared.counts.By.TheVariants.{Bytes}
+use Rattle.ropey_walk.specs.Chunks.{text_of, piece_of}
+use Rattle.ropey_walk.specs.Clips.{clip}
+use Rattle.ropey_walk.specs.Slices.{slice_pieces}
+use Rattle.ropey_walk.specs.Sources.{source_pieces}
+use Rattle.ropey_walk.proofs.ChunkParts.{light_utf8, only_cut, only_stands}
+use Rattle.ropey_walk.proofs.Reaching.{sum-fits}
+use Rattle.ropey_walk.proofs.Slices.{part_of}
+use Rattle.ropey_walk.proofs.slice.RopeSlice.only.Goals as goal
+
+pub overflow_add-self : goal.overflow_add-self
+overflow_add-self c =
+    let s = c.args.self.now in
+    let t = chars c.args.text.now in
+    let same = ap source_pieces c.requires.under in
+    let part = part_of s (piece_of t) same in
+    omega (arith, sum-fits c.breaks_of_parts.ensures Bytes (text_of (piece_of t)) s.start s.len part (omega (arith, s.fits, ap (λ ps. byte_len (text_of ps)) same)))
+
+pub range-requires-clause-start_boundary : goal.range-requires-clause-start_boundary
+range-requires-clause-start_boundary c =
+    let s = c.args.self.now in
+    let t = chars c.args.text.now in
+    λ _. (only_cut t s.start s.len (part_of s (piece_of t) (ap source_pieces c.requires.under)) c.requires.some c.args.text.now (light_utf8 s c.args.text c.requires.under) refl).starts
+
+pub range-requires-clause-end_boundary : goal.range-requires-clause-end_boundary
+range-requires-clause-end_boundary c =
+    let s = c.args.self.now in
+    let t = chars c.args.text.now in
+    (only_cut t s.start s.len (part_of s (piece_of t) (ap source_pieces c.requires.under)) c.requires.some c.args.text.now (light_utf8 s c.args.text c.requires.under) refl).ends
+
+pub returns-clause-stands : goal.returns-clause-stands
+returns-clause-stands c =
+    let s = c.args.self.now in
+    let t = chars c.args.text.now in
+    let same = ap source_pieces c.requires.under in
+    let part = part_of s (piece_of t) same in
+    let cut = only_cut t s.start s.len part c.requires.some c.args.text.now (light_utf8 s c.args.text c.requires.under) refl in
+    let text = ap chars c.range.ensures.value ∙ cut.is in
+    λ by i. rw (text, c.zero.ensures) (only_stands t s.start s.len part c.requires.some (slice_pieces s) by i (ap (clip s.start.chars (s.start.chars + s.len.chars)) same))
