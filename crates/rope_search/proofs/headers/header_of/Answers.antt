@@ -22,8 +22,8 @@ returns-in-Some-number_after-2-clause-found c = header_replace c.args.line.now c
 pub returns-in-Some-number_after-3-clause-found : goal.returns-in-Some-number_after-3-clause-found
 returns-in-Some-number_after-3-clause-found c = header_use c.args.line.now c.in-Some-number_after-3.number c.in-Some-number_after-3.ensures.found
 
-pub returns-in_default-line-25-clause-none : goal.returns-in_default-line-25-clause-none
-returns-in_default-line-25-clause-none c =
+pub returns-in_default-line-22-clause-none : goal.returns-in_default-line-22-clause-none
+returns-in_default-line-22-clause-none c =
     let no_text = c.in_default.ensures.none in
     let no_edit = c.in_default-edit_of.ensures.none in
     let no_pattern = c.in_default-number_after.ensures.none in
@@ -45,8 +45,8 @@ returns-in_default-line-25-clause-none c =
       no_use = no_use;
     })
 
-pub returns-in_default-line-26-clause-none : goal.returns-in_default-line-26-clause-none
-returns-in_default-line-26-clause-none c =
+pub returns-in_default-line-23-clause-none : goal.returns-in_default-line-23-clause-none
+returns-in_default-line-23-clause-none c =
     let no_text = c.in_default.ensures.none in
     let no_edit = c.in_default-edit_of.ensures.none in
     let no_pattern = c.in_default-number_after.ensures.none in
