@@ -5,7 +5,7 @@ use Rattle.std.proofs.lemmas.Bool.{cases_lt, cases_eq}
 use Rattle.std.proofs.lemmas.List.{length-take-le}
 use Rattle.rope_search.specs.declared.endings.Ended.{Ended}
 use Rattle.rope_search.specs.declared.endings.Ended.TheVariants.{Input, Command, Cut}
-use Rattle.rope_search.specs.Order.{Order, SetText, EditText, SetPattern}
+use Rattle.rope_search.specs.Order.{Order, SetText, EditText, SetPattern, ReplaceAll}
 use Rattle.rope_search.specs.Reads.{IsWorded, payload_of, IsLine, Spells, SpellAll, HasNoLf, Ends, Reads}
 use Rattle.rope_search.proofs.LineLaws.{line_choice, IsLine-one, IsLine-same, HasNoLf-line, length-line_le}
 
@@ -107,6 +107,8 @@ line_with (EditText from to payload) line more is_line enough = (
 )
 line_with (SetPattern payload) line more is_line enough =
     (SetPattern (take (length payload) more), subst (λ n. IsWorded (codes "pattern") line (n ∷ [])) (sym (length-take-le (length payload) more enough)) is_line, refl)
+line_with (ReplaceAll payload) line more is_line enough =
+    (ReplaceAll (take (length payload) more), subst (λ n. IsWorded (codes "replace") line (n ∷ [])) (sym (length-take-le (length payload) more enough)) is_line, refl)
 line_with o line more is_line enough = (o, is_line, refl)
 
 -- ---- endings
