@@ -50,16 +50,16 @@ undone_edit limit old edited new text Done current is step =
 undone_edit limit old edited new text reply current is step = absurd step.1
 
 pub undo_edit : UndoUndoesEdit
-undo_edit limit old edited new from to payload Done undone current first second =
+undo_edit limit old edited new from to payload Done reply current first second =
     let edit = first.1.3 in
-    undone_edit limit old edited new (edit.before ++ first.1.0 ++ edit.behind) undone current (first.1.4 ∙ ap (with_chosen old) edit.changed) second
-undo_edit limit old edited new from to payload reply undone current first second = absurd first.1
+    undone_edit limit old edited new (edit.before ++ first.1.0 ++ edit.behind) reply current (first.1.4 ∙ ap (with_chosen old) edit.changed) second
+undo_edit limit old edited new from to payload other reply current first second = absurd first.1
 
 pub undo_replace : UndoUndoesReplace
-undo_replace limit old edited new payload (Number count) undone current first second =
+undo_replace limit old edited new payload (Number count) reply current first second =
     let change = first.1.3 in
-    undone_edit limit old edited new (text_with (chosen_buffer old) first.1.0 change.matches) undone current (first.1.4 ∙ ap (with_chosen old) change.changed) second
-undo_replace limit old edited new payload reply undone current first second = absurd first.1
+    undone_edit limit old edited new (text_with (chosen_buffer old) first.1.0 change.matches) reply current (first.1.4 ∙ ap (with_chosen old) change.changed) second
+undo_replace limit old edited new payload other reply current first second = absurd first.1
 
 positive : (n : ℕ) → (n ≡ 0 → ⊥) → 0 < n
 positive zero some = absurd (some refl)

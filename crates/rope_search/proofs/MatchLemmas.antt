@@ -4,8 +4,10 @@ use Rattle.std.specs.Prelude.{Some}
 use Rattle.str_indices.specs.Text.{byte_len}
 use Rattle.rope_search_reports.specs.Laws.{HasOneListOfGroups}
 use Rattle.rope_search_reports.specs.Matches.{AreGroups}
-use Rattle.rope_search_reports.specs.Replacement.{Groups, replaced, searched}
-use Rattle.rope_search_reports.specs.Text.{bytes_of}
+use Rattle.rope_search_reports.specs.Changes.{AreChanges}
+use Rattle.rope_search_reports.specs.declared.changes.Change.{Change}
+use Rattle.rope_search_reports.specs.Replacement.{Groups, FollowEachOther, ReplacementsAreChanges, changes_of, replaced, searched}
+use Rattle.rope_search_reports.specs.Text.{IsText, bytes_of}
 use Rattle.rope_search.specs.Session.{BufferState, current_text, with_edit}
 use Rattle.rope_search.specs.Replacing.{AreAllMatches, IsReplacement, GetsTooLongWith, RowsOfReplacement, IsReplacementIn, GetsTooLongIn, RowsOfReplacementIn, text_with}
 
@@ -26,6 +28,26 @@ pub rows_in : HasOneListOfGroups → (text pattern template : List ℕ) (matches
     → RowsOfReplacementIn text pattern template n → searched (bytes_of text) template matches ≡ n
 rows_in one text pattern template matches n are rows =
     sym (rows.rows ∙ ap (searched (bytes_of text) template) (one pattern (bytes_of text) rows.matches matches rows.are are))
+
+-- a text that is known not to be over the limit is none that is too long
+pub not_over : HasOneListOfGroups → (limit : ℕ) (text pattern template told : List ℕ) (matches shown : List Groups) → AreGroups pattern (bytes_of text) matches
+    → shown ≡ matches → told ≡ template → (limit < byte_len (replaced (bytes_of text) told 0 shown) → ⊥) → GetsTooLongIn limit text pattern template → ⊥
+not_over one limit text pattern template told matches shown are same same' fits gets =
+    let long = (long_in one limit text pattern template matches are).1 gets in
+    fits (subst (λ ms. limit < byte_len (replaced (bytes_of text) told 0 ms)) (sym same)
+    (subst (λ t. limit < byte_len (replaced (bytes_of text) t 0 matches)) (sym same') long))
+
+-- what was made of them are changes
+pub changed_by : ReplacementsAreChanges → (text template told new : List ℕ) (matches shown : List Groups) (changes : List Change) → IsText text
+    → FollowEachOther (bytes_of text) 0 matches → shown ≡ matches → told ≡ template → changes ≡ changes_of (bytes_of text) told 0 0 shown
+    → new ≡ replaced (bytes_of text) told 0 shown → AreChanges changes 0 0 text new (searched (bytes_of text) template matches)
+changed_by law text template told new matches shown changes is_text follow same same' changes_are new_is =
+    let content = bytes_of text in
+    let made : changes ≡ changes_of content template 0 0 matches =
+    changes_are ∙ ap (λ t. changes_of content t 0 0 shown) same' ∙ ap (changes_of content template 0 0) same in
+    let left : new ≡ replaced content template 0 matches = new_is ∙ ap (λ t. replaced content t 0 shown) same' ∙ ap (replaced content template 0) same in
+    subst (λ cs. AreChanges cs 0 0 text new (searched content template matches)) (sym made)
+    (subst (λ t. AreChanges (changes_of content template 0 0 matches) 0 0 text t (searched content template matches)) (sym left) (law text template matches is_text follow))
 
 -- ---- the buffer's text, and its pattern
 

@@ -29,7 +29,7 @@ use Rattle.rope_search_io.specs.Faults.{rank_of}
 use Rattle.rope_search.specs.Step.{Answer, Refuses, IsFirstRefusal, Accepts, Does, Step}
 use Rattle.rope_search.specs.Shows.{IsListed, Shows, shows}
 use Rattle.rope_search_reports.specs.Report.{IsReport}
-use Rattle.rope_search_reports.specs.Laws.{HasOnePlace, HasOneReport, HasReport, IsPatternOrNot, IsOneOfThree, FindsOne, HasFind}
+use Rattle.rope_search_reports.specs.Laws.{HasOnePlace, HasOneReport, HasReport, IsOneOfThree}
 use Rattle.rope_search.specs.Cost.{Costs, CostsAccepted, RowsOf}
 
 -- bytes are UTF-8 or not

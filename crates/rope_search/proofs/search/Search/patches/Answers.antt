@@ -1,6 +1,7 @@
-use Rattle.std.proofs.Common.{◌≡◌, ◌≤◌, length, sym, subst, ap, arith}
+use Rattle.std.proofs.Common.{◌≡◌, ◌^◌, ◌<◌, length, sym, subst, arith}
 use Rattle.ropey.specs.Chunks.{text_of}
-use Rattle.rope_search_reports.specs.Patches.{patched, AreInTurn}
+use Rattle.rope_search_reports.specs.Patches.{patched, AreInTurn, made_by}
+use Rattle.rope_search.specs.Searched.{HasRoom}
 use Rattle.rope_search.proofs.PatchLemmas.{made-within}
 use Rattle.rope_search.proofs.search.Search.patches.Goals as goal
 
@@ -11,7 +12,8 @@ room_for-requires-clause-few c =
     let rows = search.rows.items in
     let patches = c.in_ok-patches.patches.items in
     let long = c.a_row_a_line.ensures new search.finder (patched 0 rows patches) (c.in_ok-patches.ensures.report rows c.requires.report) in
-    omega (arith, made-within 0 rows patches, long, c.len_lines-len.ensures)
+    let few : made_by patches < 2 ^ 64 = omega (arith, made-within 0 rows patches, long, c.len_lines-len.ensures) in
+    subst (λ ps. made_by ps < 2 ^ 64) (sym c.deref.ensures.value) few
 
 pub returns-clause-fit : goal.returns-clause-fit
 returns-clause-fit c =
@@ -20,7 +22,7 @@ returns-clause-fit c =
     let rows = c.a_row_a_line.ensures (text_of c.args.old.now) search.finder search.rows.items c.requires.report in
     record {
       in_turn = subst (λ rows. AreInTurn 0 (length rows) patches) (sym c.room_for.ensures.rows) (subst (λ n. AreInTurn 0 n patches) (sym rows) c.in_ok-patches.ensures.turn);
-      room = c.in_ok-room.ensures.room;
+      room = subst (λ ps. HasRoom c.room_for.new.rows ps c.in_ok-room.room) c.deref.ensures.value c.in_ok-room.ensures.room;
     }
 
 pub returns-clause-few : goal.returns-clause-few

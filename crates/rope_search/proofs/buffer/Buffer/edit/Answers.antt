@@ -1,0 +1,30 @@
+use Rattle.std.proofs.Common.{◌≡◌, ◌≤◌, ◌+◌, if◌then◌else◌, [], ◌∷◌, sym, ap, ◌∙◌, subst, arith}
+use Rattle.std.specs.Prelude.{Option, Some, option_map, is_some}
+use Rattle.std.specs.Str.{chars}
+use Rattle.ropey.specs.Chunks.{text_of}
+use Rattle.rope_search.specs.declared.search.Search.{Search}
+use Rattle.rope_search.specs.Session.{BufferState, LimitedBuffer, current_text}
+use Rattle.rope_search_reports.specs.Changes.{AreChanges}
+use Rattle.rope_search_reports.specs.Text.{line_count}
+use Rattle.rope_search.specs.Cost.{rows_anew}
+use Rattle.rope_search.specs.Places.{IsMarked}
+use Rattle.rope_search.proofs.buffer.Buffer.edit.Goals as goal
+
+pub returns-in_err-add-2-clause-rows : goal.returns-in_err-add-2-clause-rows
+returns-in_err-add-2-clause-rows c =
+    let history = c.self.inside.history in
+    let finder = c.in-Some.search.finder in
+    let state : BufferState = record { texts = history.texts; current = history.current; pattern = Some finder } in
+    let one : c.self.inside.search ≡ Some c.in-Some.search = c.in-Some.is in
+    let same : state ≡ c.args.self.now.state =
+    ap (λ (o : Option Search). record { texts = history.texts; current = history.current; pattern = option_map (λ (s : Search). s.finder) o }) (sym one)
+    ∙ ap (λ (v : LimitedBuffer). v.state) c.self.view_is in
+    let is : c.args.self.now.state.pattern ≡ Some finder = ap (λ (b : BufferState). b.pattern) (sym same) in
+    let here : text_of c.current-old.result.now ≡ current_text c.args.self.now.state = c.current-old.ensures.text ∙ ap current_text same in
+    let old = text_of c.current-old.result.now in
+    let inserted = chars c.args.inserted.now in
+    let marked : IsMarked old c.in_ok-part.part = subst (λ t. IsMarked t c.in_ok-part.part) (sym here) c.in_ok-part.ensures.part.marked in
+    let changed : AreChanges (c.change.result ∷ []) 0 0 old (text_of c.in_ok-new.new) (line_count inserted) =
+    subst (λ t. AreChanges (c.change.result ∷ []) 0 0 old t (line_count inserted)) (sym c.in_ok-new.ensures.text) (c.change.ensures old marked) in
+    let rows : rows_anew c.args.self.now.state inserted ≡ line_count inserted = ap (λ p. if is_some p then line_count inserted else 0) is in
+    omega (arith, c.patches.ensures.count (line_count inserted) changed, rows)
