@@ -1,5 +1,5 @@
 -- What the definitions say of a few small lines and sessions, each by computation.
-use Rattle.std.proofs.Common.{◌≡◌, ℕ, List, [], ◌∷◌, true, false, map, codes, refl, arith}
+use Rattle.std.proofs.Common.{◌≡◌, ℕ, List, [], ◌∷◌, codes, refl, arith}
 use Rattle.std.specs.Prelude.{Ok, Err, None}
 use Rattle.std.specs.Str.{chars}
 use Rattle.std.specs.Fmt.{digits}

@@ -2,19 +2,17 @@
 use Rattle.std.proofs.Common.{◌≡◌, ℕ, zero, suc, ◌+◌, ◌-◌, ◌<◌, List, [], ◌∷◌, ◌++◌, length, take, slice_index_or, refl, sym, ap, ◌∙◌, subst, arith}
 use Rattle.std.specs.Prelude.{Option, None, Some, MatchOption, Ok, Err}
 use Rattle.std.proofs.lemmas.List.{get_or-set_same, length-set}
-use Rattle.rope_search_io.specs.declared.faults.Fault.{Fault}
 use Rattle.rope_search_io.specs.declared.faults.Fault.TheVariants.{Nothing, Memory}
 use Rattle.rope_search.specs.declared.commands.Reply.{Reply}
 use Rattle.rope_search.specs.declared.commands.Reply.TheVariants.{Done, Number, List as Listing, Print}
-use Rattle.rope_search_reports.specs.declared.positions.Position.{Position}
 use Rattle.rope_search_reports.specs.Text.{bytes_of}
 use Rattle.rope_search_reports.specs.Report.{IsReport}
 use Rattle.rope_search_reports.specs.Laws.{HasOneReport}
-use Rattle.rope_search.specs.Order.{Order, EditText, UndoEdit, RedoEdit, PrintText, ListMatches}
+use Rattle.rope_search.specs.Order.{UndoEdit, PrintText, ListMatches}
 use Rattle.rope_search.specs.Session.{State, BufferState, fresh, current_text, chosen_buffer, with_chosen, with_edit, undone, redone, IsReportIn}
 use Rattle.rope_search.specs.Replacing.{text_with}
-use Rattle.rope_search.specs.Shows.{Shows, IsListed, shows, shown_text, shown_report}
-use Rattle.rope_search.specs.Step.{Answer, Does, Step}
+use Rattle.rope_search.specs.Shows.{Shows, shown_text, shown_report}
+use Rattle.rope_search.specs.Step.{Answer, Step}
 use Rattle.rope_search.specs.Laws.{HasCurrent, AreAlike, UndoUndoesEdit, UndoUndoesReplace, RedoRedoesUndo, RepliesAlike}
 
 -- ---- the chosen buffer of a session

@@ -9,7 +9,7 @@ use Rattle.rope_search_reports.specs.declared.changes.Change.{Change}
 use Rattle.rope_search_reports.specs.Replacement.{Groups, FollowEachOther, ReplacementsAreChanges, changes_of, replaced, searched}
 use Rattle.rope_search_reports.specs.Text.{IsText, bytes_of}
 use Rattle.rope_search.specs.Session.{BufferState, current_text, with_edit}
-use Rattle.rope_search.specs.Replacing.{AreAllMatches, IsReplacement, GetsTooLongWith, RowsOfReplacement, IsReplacementIn, GetsTooLongIn, RowsOfReplacementIn, text_with}
+use Rattle.rope_search.specs.Replacing.{AreAllMatches, IsReplacement, GetsTooLongWith, RowsOfReplacement, IsReplacementIn, GetsTooLongIn, RowsOfReplacementIn}
 
 -- ---- of these matches all is known
 

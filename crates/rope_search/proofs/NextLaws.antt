@@ -1,13 +1,12 @@
 -- What `next` replies depends on text and pattern alone, and its matches are at boundaries; and the
 -- positions of an edit are those of its places.
-use Rattle.std.proofs.Common.{◌≡◌, ◌≢◌, ℕ, ◌+◌, ◌<◌, ◌≤◌, List, ◌++◌, length, refl, sym, ap, ap₂, subst, ◌∙◌, arith}
+use Rattle.std.proofs.Common.{◌≡◌, ◌≢◌, ℕ, List, ◌++◌, length, refl, sym, ap, subst, ◌∙◌, arith}
 use Rattle.std.specs.Prelude.{Option, None, Some, Ok, Err, encode_utf8_all}
 use Rattle.std.proofs.lemmas.List.{length-append}
 use Rattle.std.proofs.lemmas.Str.{encodes-append}
 use Rattle.str_indices.specs.Text.{byte_len}
 use Rattle.rope_search_io.specs.declared.faults.Fault.{Fault}
 use Rattle.rope_search_io.specs.declared.faults.Fault.TheVariants.{Nothing, Range, Memory}
-use Rattle.rope_search_io.specs.Faults.{rank_of}
 use Rattle.rope_search.specs.declared.commands.Reply.{Reply}
 use Rattle.rope_search.specs.declared.commands.Reply.TheVariants.{Done, Found, NoMatch}
 use Rattle.rope_search_reports.specs.declared.positions.Position.{Position}
@@ -15,11 +14,11 @@ use Rattle.rope_search_reports.specs.Text.{bytes_of}
 use Rattle.rope_search_reports.specs.Pattern.{Finds}
 use Rattle.rope_search_reports.specs.Laws.{FindsAreInText}
 use Rattle.rope_search_reports.specs.Position.{IsAt, IsNowhere}
-use Rattle.rope_search.specs.Order.{EditText, FindNext}
-use Rattle.rope_search.specs.Session.{BufferState, State, current_text, chosen_buffer}
+use Rattle.rope_search.specs.Order.{FindNext}
+use Rattle.rope_search.specs.Session.{State, current_text, chosen_buffer}
 use Rattle.rope_search.specs.Finding.{ArePositionsOf, FindsNext, TellsNext}
 use Rattle.rope_search.specs.Places.{IsBetween}
-use Rattle.rope_search.specs.Shows.{Shows, shows}
+use Rattle.rope_search.specs.Shows.{shows}
 use Rattle.rope_search.specs.Step.{Answer, Does, IsFirstRefusal, Refuses, Step}
 use Rattle.rope_search.specs.Laws.{AllHoldTexts, AreAlike, EditsHavePlaces, FindsAlike, FindsBoundaries, HavePlaces, Known}
 use Rattle.rope_search.proofs.HoldLaws.{chosen_holds, text_holds}

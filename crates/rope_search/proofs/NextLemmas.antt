@@ -1,5 +1,5 @@
 -- What a session is answered that looks for a match.
-use Rattle.std.proofs.Common.{◌≡◌, ◌≢◌, ℕ, ◌⊎◌, inl, inr, List, sym, ap, subst, ◌∙◌, refl, Ok, Err}
+use Rattle.std.proofs.Common.{◌≡◌, ◌≢◌, ℕ, ◌⊎◌, inl, inr, List, sym, subst, ◌∙◌, refl, Ok, Err}
 use Rattle.std.specs.Prelude.{Option, None, Some}
 use Rattle.rope_search_io.specs.declared.faults.Fault.{Fault}
 use Rattle.rope_search_io.specs.declared.faults.Fault.TheVariants.{Nothing, Range, Memory}
@@ -8,7 +8,7 @@ use Rattle.rope_search_reports.specs.Position.{IsNowhere}
 use Rattle.rope_search.specs.Order.{FindNext}
 use Rattle.rope_search.specs.Session.{BufferState, State, LimitedBuffer, LimitedSession, current_text, chosen_buffer}
 use Rattle.rope_search.specs.Finding.{FindsNext, FindsIn, TellsIn, TellsNext, reply_for}
-use Rattle.rope_search.specs.Step.{Does, Step}
+use Rattle.rope_search.specs.Step.{Step}
 use Rattle.rope_search.proofs.SessionLemmas.{Chosen, Chosen-state, Chosen-kept, state_with}
 use Rattle.rope_search.proofs.StepLaws.{accepted_next, refused_next, refused_astray}
 

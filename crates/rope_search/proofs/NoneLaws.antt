@@ -1,16 +1,15 @@
 -- Between which positions nothing stands.
-use Rattle.std.proofs.Common.{◌≡◌, ℕ, ◌+◌, ◌<◌, ◌≤◌, ◌⊎◌, ◌↔◌, List, ◌++◌, length, take, drop, take-append-drop, length-take-le, refl, sym, ap, ◌∙◌, subst, inl, inr, arith, chars}
-use Rattle.std.specs.Str.{IsCharBoundary, IsUtf8}
+use Rattle.std.proofs.Common.{◌≡◌, ℕ, ◌⊎◌, List, ◌++◌, length, take, drop, take-append-drop, length-take-le, refl, sym, ap, ◌∙◌, subst, inl, inr, arith, chars}
+use Rattle.std.specs.Str.{IsUtf8}
 use Rattle.std.proofs.lemmas.Bool.{cases_lt}
 use Rattle.std.proofs.lemmas.Str.{IsUtf8-take, chars-append, chars-encodes, encodes-chars}
 use Rattle.str_indices.specs.Text.{byte_len}
-use Rattle.rope_search_reports.specs.declared.positions.Position.{Position}
 use Rattle.rope_search_reports.specs.Laws.{HasOnePlace}
 use Rattle.rope_search_reports.specs.Text.{bytes_of, IsText}
 use Rattle.rope_search_reports.specs.Position.{IsAt, IsNowhere}
-use Rattle.rope_search.specs.Places.{IsBetween, HasNoneBetween}
+use Rattle.rope_search.specs.Places.{HasNoneBetween}
 use Rattle.rope_search.specs.Laws.{AreTurned, NoneIsNowhereOrTurned}
-use Rattle.rope_search.proofs.PartLaws.{EndsAt, ends_choice, front_within, byte_len-append}
+use Rattle.rope_search.proofs.PartLaws.{ends_choice, front_within, byte_len-append}
 
 -- where no front ends at a position, it is nowhere
 nowhere : (text : List ℕ) (line column : ℕ) → IsText text → ((x y : List ℕ) → text ≡ x ++ y → IsAt text (line, column) (byte_len x) → ⊥) → IsNowhere text (line, column)

@@ -8,7 +8,7 @@ use Rattle.rope_search.specs.declared.commands.CommandOf.TheVariants.{Replace}
 use Rattle.rope_search.specs.declared.commands.Payload.{Payload}
 use Rattle.rope_search.specs.declared.commands.Reply.TheVariants.{Number}
 use Rattle.rope_search.specs.Order.{Order, ReplaceAll}
-use Rattle.rope_search.specs.Session.{BufferState, State, LimitedBuffer, LimitedSession, chosen_buffer, with_chosen}
+use Rattle.rope_search.specs.Session.{BufferState, State, LimitedBuffer, LimitedSession, chosen_buffer}
 use Rattle.rope_search.specs.Stands.{Stands, StandsFor}
 use Rattle.rope_search.specs.Replacing.{IsReplacement, GetsTooLongWith, RowsOfReplacement}
 use Rattle.rope_search.specs.Step.{Refuses, Step}

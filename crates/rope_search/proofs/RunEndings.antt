@@ -1,11 +1,11 @@
 -- How a run ends, by the turns before and what came after them.
-use Rattle.std.proofs.Common.{◌≡◌, ◌≢◌, ℕ, ◌+◌, ◌<◌, ◌≤◌, List, [], ◌∷◌, ◌++◌, length, Option, None, Some, IfSome, Result, Ok, Err, refl, sym, ap, ◌∙◌, subst, inl, inr, append_assoc, append-nil, length-append, arith}
+use Rattle.std.proofs.Common.{◌≡◌, ◌≢◌, ℕ, ◌+◌, List, [], ◌∷◌, ◌++◌, Option, None, Some, IfSome, Result, Ok, Err, refl, sym, ap, ◌∙◌, subst, inl, inr, append_assoc, append-nil, arith}
 use Rattle.std.proofs.KnownBytes.{Appends-trans, Consumes-trans}
 use Rattle.std.specs.Io.KnownBytes.{Appends, Consumes, prepend_known, IsAtEnd}
 use Rattle.rope_search_io.specs.declared.faults.Broken.{Broken}
 use Rattle.rope_search_io.specs.declared.faults.Broken.TheVariants.{Read, Write, Turns, Memory}
 use Rattle.rope_search_io.specs.Sources.{SourceState, SinkState}
-use Rattle.rope_search_io.specs.ReadBuffer.{to_come, most_to_come}
+use Rattle.rope_search_io.specs.ReadBuffer.{to_come}
 use Rattle.rope_search_io.specs.WriteBuffer.{Writes, WritesFront}
 use Rattle.rope_search_reports.specs.Laws.{HasReport}
 use Rattle.rope_search.specs.declared.endings.Ended.{Ended}
@@ -13,7 +13,7 @@ use Rattle.rope_search.specs.declared.endings.Ended.TheVariants.{Input, Command,
 use Rattle.rope_search_reports.specs.Ticks.{Ticks}
 use Rattle.rope_search.specs.Session.{first}
 use Rattle.rope_search.specs.Shows.{closing}
-use Rattle.rope_search.specs.Reads.{Reads, Ends, payload_of}
+use Rattle.rope_search.specs.Reads.{Reads, Ends}
 use Rattle.rope_search.specs.Answers.{Answers}
 use Rattle.rope_search.specs.Requests.{TakesEnding, IsUnfinished}
 use Rattle.rope_search.specs.Runs.{Scene, start, SoFar, Turned, TakesTurn, OnlyReads, TellsEnd, SearchesWithin, FlushesAll, FlushesLast, IsAnswered, IsAnswerTo, AnswersWhole, StopsFor, StopsReading, StopsWriting, Ran, Closes, ClosesWhole, ClosesFront}

@@ -12,11 +12,11 @@ use Rattle.rope_search_reports.specs.Text.{IsText, Encodes, bytes_of}
 use Rattle.rope_search.specs.Order.{Order, SetText, EditText, UndoEdit, RedoEdit, PrintText, ForkBuffer, SetPattern, DropPattern, ListMatches, FindNext, ReplaceAll, UseBuffer}
 use Rattle.rope_search.specs.Session.{BufferState, State, fresh, current_text, chosen_buffer, with_text, with_edit, undone, redone, with_pattern, with_chosen}
 use Rattle.rope_search_reports.specs.declared.positions.Position.{Position}
-use Rattle.rope_search.specs.Places.{IsBetween, HasNoneBetween, GetsTooLong, IsEdit}
-use Rattle.rope_search.proofs.PartLaws.{edited_by, IsEdit-known, IsEdit-by, between_choice, long_choice, part_one}
+use Rattle.rope_search.specs.Places.{IsBetween, HasNoneBetween, GetsTooLong}
+use Rattle.rope_search.proofs.PartLaws.{edited_by, IsEdit-known, IsEdit-by, between_choice, long_choice}
 use Rattle.rope_search_reports.specs.Pattern.{IsPattern, IsTooHeavy, SpellsNone, Finds, pattern_limit}
 use Rattle.rope_search_reports.specs.Position.{IsAt, IsNowhere, position}
-use Rattle.rope_search.specs.Finding.{FindsNext, TellsNext, ArePositionsOf}
+use Rattle.rope_search.specs.Finding.{FindsNext, TellsNext}
 use Rattle.rope_search.specs.Replacing.{AreAllMatches, IsReplacement, GetsTooLongWith, text_with}
 use Rattle.rope_search_reports.specs.Matches.{AreGroups}
 use Rattle.rope_search_reports.specs.Replacement.{Groups, searched}

@@ -1,24 +1,21 @@
 -- Texts and patterns of a session are lists of scalar values, so its matches are at boundaries; and
 -- its report is that of its pattern set anew.
-use Rattle.std.proofs.Common.{◌≡◌, ℕ, ◌+◌, ◌<◌, ◌≤◌, ◌⊎◌, true, List, [], ◌∷◌, ◌++◌, length, take, slice_index_or, refl, sym, ap, ◌∙◌, subst, All, arith, inl, inr}
-use Rattle.std.specs.Prelude.{Option, None, Some, MatchOption, IfSome, Ok, Err, chars}
-use Rattle.std.specs.Str.{all_scalars}
+use Rattle.std.proofs.Common.{◌≡◌, ℕ, ◌+◌, ◌<◌, ◌≤◌, ◌⊎◌, List, [], ◌∷◌, ◌++◌, length, take, slice_index_or, refl, sym, ap, ◌∙◌, subst, All, arith, inl, inr}
+use Rattle.std.specs.Prelude.{Option, None, Some, MatchOption, Ok, Err, chars}
 use Rattle.std.proofs.lemmas.Bool.{cases_lt, and_parts, and_from}
-use Rattle.std.proofs.lemmas.List.{get_or_past, set-get_or}
+use Rattle.std.proofs.lemmas.List.{set-get_or}
 use Rattle.std.proofs.lemmas.List.Elements.{All-nil, All-cons, All-append, All-take, All-set}
-use Rattle.rope_search_io.specs.declared.faults.Fault.{Fault}
 use Rattle.rope_search_io.specs.declared.faults.Fault.TheVariants.{Pattern, Limit, Memory}
 use Rattle.rope_search.specs.declared.commands.Reply.{Reply}
 use Rattle.rope_search.specs.declared.commands.Reply.TheVariants.{Done, Number, Found, NoMatch, List as Listing, Print}
-use Rattle.rope_search_reports.specs.Text.{IsText, Encodes}
+use Rattle.rope_search_reports.specs.Text.{IsText}
 use Rattle.rope_search_reports.specs.Pattern.{IsPattern, IsTooHeavy, SpellsNone, pattern_limit}
 use Rattle.rope_search_reports.specs.Position.{StandsAtBoundaries}
 use Rattle.rope_search_reports.specs.Report.{IsReport}
 use Rattle.rope_search_reports.specs.Laws.{HasOneReport, MatchesStandAtBoundaries}
 use Rattle.rope_search.specs.Order.{Order, SetText, EditText, UndoEdit, RedoEdit, PrintText, ForkBuffer, SetPattern, DropPattern, ListMatches, FindNext, ReplaceAll, UseBuffer}
-use Rattle.rope_search.specs.Places.{IsEdit}
 use Rattle.rope_search.specs.Replacing.{text_with}
-use Rattle.rope_search.specs.Session.{BufferState, State, first, fresh, current_text, chosen_buffer, with_pattern, with_chosen, IsReportIn}
+use Rattle.rope_search.specs.Session.{BufferState, State, first, fresh, current_text, chosen_buffer, with_pattern, with_chosen}
 use Rattle.rope_search.specs.Step.{Answer, Accepts, Does, Step}
 use Rattle.rope_search.specs.Answers.{Run}
 use Rattle.rope_search.specs.Laws.{HoldsTexts, AllHoldTexts, Known, StepsHoldTexts, KeptIsAnew, ListsBoundaries}

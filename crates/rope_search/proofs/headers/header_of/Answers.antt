@@ -1,4 +1,4 @@
-use Rattle.std.proofs.Common.{◌≡◌, List, length, get_or, ap, arith}
+use Rattle.std.proofs.Common.{length, get_or, ap, arith}
 use Rattle.rope_search.proofs.LineLaws.{no_line}
 use Rattle.rope_search.proofs.HeaderLemmas.{header_text, header_edit, header_next, header_pattern, header_replace, header_use}
 use Rattle.rope_search.proofs.headers.header_of.Goals as goal

@@ -1,5 +1,3 @@
-use Rattle.std.proofs.Common.{◌≡◌, ℕ, drop, sym, subst, take}
-use Rattle.rope_search.specs.Header.{HasNoSpace, EndsNumber}
 use Rattle.rope_search.proofs.HeaderLemmas.{no_space_more, no_space_all, space_ends, none_left}
 use Rattle.rope_search.proofs.headers.len_to_space.Goals as goal
 

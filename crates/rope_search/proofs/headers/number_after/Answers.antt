@@ -1,4 +1,4 @@
-use Rattle.std.proofs.Common.{◌≡◌, ℕ, [], ◌∷◌, length, Some, None, refl, ap, sym, arith}
+use Rattle.std.proofs.Common.{◌≡◌, [], ◌∷◌, length, Some, None, refl, ap, arith}
 use Rattle.std.proofs.lemmas.Slice.Eq.{strip_prefix_is}
 use Rattle.std.proofs.lemmas.Bool.Decides.{Decides-eqb, nat_tests}
 use Rattle.rope_search.proofs.HeaderLemmas.{IsWorded-told, IsWorded-none, IsWorded-more, nothing_left}

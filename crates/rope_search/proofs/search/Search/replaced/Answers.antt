@@ -1,11 +1,10 @@
-use Rattle.std.proofs.Common.{◌≡◌, ◌+◌, ◌<◌, ◌≤◌, List, sym, ap, ◌∙◌, arith}
+use Rattle.std.proofs.Common.{sym, ◌∙◌, arith}
 use Rattle.std.specs.Str.{chars}
 use Rattle.std.proofs.lemmas.Bool.{true≢false}
 use Rattle.ropey.specs.Chunks.{text_of}
 use Rattle.rope_search_reports.specs.Changes.{AreChanges}
 use Rattle.rope_search_reports.specs.Replacement.{searched}
 use Rattle.rope_search_reports.specs.Text.{IsText, bytes_of}
-use Rattle.rope_search.specs.Replacing.{GetsTooLongIn}
 use Rattle.rope_search.proofs.PartLaws.{cutting_scalars}
 use Rattle.rope_search.proofs.MatchLemmas.{changed_by, not_over, rows_in}
 use Rattle.rope_search.proofs.search.Search.replaced.Goals as goal

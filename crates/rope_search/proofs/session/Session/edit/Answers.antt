@@ -1,11 +1,11 @@
-use Rattle.std.proofs.Common.{◌≡◌, ◌+◌, ◌<◌, ◌≤◌, ◌↔◌, true, List, ℕ, IsUtf8, Err, length, sym, ap, ◌∙◌, subst, arith}
+use Rattle.std.proofs.Common.{◌≡◌, ◌+◌, ◌≤◌, true, IsUtf8, Err, length, sym, ap, ◌∙◌, subst, arith}
 use Rattle.std.specs.Str.{chars}
 use Rattle.std.proofs.lemmas.Result.{err_from_is_err_and}
-use Rattle.rope_search_io.specs.declared.faults.Fault.TheVariants.{Utf8, Size}
+use Rattle.rope_search_io.specs.declared.faults.Fault.TheVariants.{Size}
 use Rattle.rope_search_reports.specs.Ticks.{Ticks}
 use Rattle.rope_search.specs.Order.{EditText}
-use Rattle.rope_search.specs.Session.{LimitedBuffer, limit_in, current_text, chosen_buffer}
-use Rattle.rope_search.specs.Places.{HasNoneBetween, GetsTooLong, TellsRangeOr, IsEdit}
+use Rattle.rope_search.specs.Session.{LimitedBuffer, limit_in, current_text}
+use Rattle.rope_search.specs.Places.{HasNoneBetween, GetsTooLong, IsEdit}
 use Rattle.rope_search.specs.Step.{Step}
 use Rattle.rope_search.specs.Cost.{rows_anew}
 use Rattle.rope_search.proofs.SessionLemmas.{Chosen, Chosen-state, Chosen-limit, Chosen-kept}

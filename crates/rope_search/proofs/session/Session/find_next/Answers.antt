@@ -1,9 +1,7 @@
-use Rattle.std.proofs.Common.{◌≡◌, Err, Ok, sym, ap, subst, arith}
+use Rattle.std.proofs.Common.{Err, ap, arith}
 use Rattle.std.proofs.lemmas.Result.{err_from_is_err_and}
-use Rattle.rope_search.specs.Order.{FindNext}
 use Rattle.rope_search.specs.Session.{limit_in}
-use Rattle.rope_search.specs.Step.{Step}
-use Rattle.rope_search.proofs.SessionLemmas.{Chosen, state_with}
+use Rattle.rope_search.proofs.SessionLemmas.{Chosen}
 use Rattle.rope_search.proofs.NextLemmas.{Step-next, Step-next_err}
 use Rattle.rope_search.proofs.session.Session.find_next.Goals as goal
 

@@ -1,4 +1,4 @@
-use Rattle.std.proofs.Common.{◌≡◌, ◌<◌, ◌≤◌, ◌+◌, ◌⊎◌, inl, ℕ, Some, Err, IsUtf8, length, sym, ap, ◌∙◌, subst, arith}
+use Rattle.std.proofs.Common.{◌≡◌, ◌<◌, ◌≤◌, ◌⊎◌, Some, Err, IsUtf8, length, sym, ap, ◌∙◌, subst, arith}
 use Rattle.std.specs.Str.{chars}
 use Rattle.rope_search.specs.Session.{with_pattern, limit_in}
 use Rattle.rope_search_reports.specs.Pattern.{IsPattern, pattern_limit}
@@ -6,9 +6,6 @@ use Rattle.std.proofs.lemmas.Result.{err_from_is_err_and}
 use Rattle.rope_search.specs.Order.{SetPattern}
 use Rattle.rope_search.specs.Step.{Step}
 use Rattle.rope_search_reports.specs.Ticks.{Ticks}
-use Rattle.rope_search_reports.specs.Text.{line_count}
-use Rattle.rope_search.specs.Session.{current_text}
-use Rattle.rope_search_io.specs.declared.faults.Fault.TheVariants.{Limit}
 use Rattle.rope_search_reports.specs.Pattern.{IsTooHeavy, SpellsNone}
 use Rattle.rope_search.proofs.SessionLemmas.{Chosen, Chosen-kept, Step-take_pattern, Step-pattern_err, pattern_rows}
 use Rattle.rope_search.proofs.session.Session.set_pattern.Goals as goal
