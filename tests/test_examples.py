@@ -42,22 +42,25 @@ def test_demo():
 
 
 def test_code():
-    """Each block of code of README.md stands in a test that the gate runs."""
+    """Each block of code of a page stands in a test that the gate runs."""
 
     def bare(text):
         return "\n".join(line.strip() for line in text.splitlines())
 
-    tests = []
-    for form in ("*_tests/src/*.rt", "*/src/tests.rt"):
-        for path in glob.glob(os.path.join(TOP, "crates", form)):
-            with open(path, encoding="utf-8") as file:
-                tests.append(bare(file.read()))
-    with open(os.path.join(TOP, "README.md"), encoding="utf-8") as file:
-        blocks = re.findall(r"```rust\n(.*?)\n```", file.read(), re.DOTALL)
-    for block in blocks:
-        stands = any(bare(block) in lines for lines in tests)
-        test(f"README.md's {block.splitlines()[0]!r} is in a test", [] if stands else ["it is in none"])
-    test("README.md has code", [] if len(blocks) >= 2 else [f"{len(blocks)} blocks"])
+    def read(path):
+        with open(path, encoding="utf-8") as file:
+            return file.read()
+
+    tests = [bare(read(path)) for path in glob.glob(os.path.join(TOP, "crates", "*_tests", "src", "*.rt"))]
+    for form in ("*.md", "docs/*.md", "crates/*/README.md"):
+        for path in sorted(glob.glob(os.path.join(TOP, form))):
+            name = os.path.relpath(path, TOP)
+            blocks = re.findall(r"```rust\n(.*?)\n```", read(path), re.DOTALL)
+            for block in blocks:
+                stands = any(bare(block) in lines for lines in tests)
+                test(f"{name}: {block.splitlines()[0]!r} is in a test", [] if stands else ["it is in none"])
+            if name == "README.md":
+                test("README.md has code", [] if len(blocks) >= 2 else [f"{len(blocks)} blocks"])
 
 
 class Pane:

@@ -58,11 +58,11 @@ def long_lines(length):
 
 def replaced_in_chunks(step, template):
     """A text of many chunks, with matches so many bytes apart and one from its third line to its fourth, and what it is
-    once a template takes the place of each, without groups of its own."""
-    text = ("-" * (step - 1) + "x") * (10_000 // step) + "\r\n\nab\r" + "-" * 1_000 + "c"
+    once a template takes the place of each, which names no group but 0."""
+    text = ("-" * (step - 1) + "x") * (4_000 // step) + "\r\n\nab\r" + "-" * 1_000 + "c"
     new = re.sub("x|b\r-*", lambda found: template.replace("$0", found[0]), text)
     commands = [("text", text), ("pattern", "x|b\\r-*"), ("replace", template)]
-    count = 10_000 // step + 1
+    count = 4_000 // step + 1
     data = b"".join(with_payload(*command) for command in commands)
     return data + b"print\n", b"ok\nok\nok %d\ntext %d\n%b\n" % (count, len(new.encode()), new.encode()), 0
 
@@ -185,7 +185,7 @@ MORE_EXAMPLES = [
      b"m 2 3 3\nm 3 0 0\nm 4 0 1\nok 7\nok 5\nm 0 0 0\nm 1 1 1\nm 2 0 0\nm 3 0 0\nm 4 0 0\nm 5 1 1\nm 6 1 1\nm 7 0 0\n"
      b"m 8 0 0\nm 9 0 0\nok 10\ntext 14\n\nb\n\r\n\n\r\nb\nb\n\n\n\n", 0),
     # matches over chunks of 984 bytes, many in one, few in many, and a new text of one chunk or of many
-    *[replaced_in_chunks(step, template) for step in (1, 30, 5_000) for template in ("", "y", "$0$0", "é\r\n" * 100)],
+    *[replaced_in_chunks(step, template) for step in (1, 30, 4_000) for template in ("", "y", "$0$0", "é\r\n" * 100)],
     # positions that are nowhere: inside the frog's pair, between CR and LF, behind a line's text, past the last
     (with_payload("text", TEXT) + b"".join(b"edit %d %d %d %d 1\nx" % (place * 2) for place in NOWHERE) + b"undo\n",
      b"ok\n" + b"error range\n" * len(NOWHERE) + b"error none\n", 0),

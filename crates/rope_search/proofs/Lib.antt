@@ -5,6 +5,7 @@ pub mod HeaderLemmas
 pub mod ListingLemmas
 pub mod HistoryLaws
 pub mod LineLaws
+pub mod MatchLemmas
 pub mod NoneLaws
 pub mod NumberLaws
 pub mod PartLaws

@@ -56,7 +56,7 @@ scalars_joined (c ∷ cs) t one other =
     let both = and_parts _ _ one in
     and_from _ _ both.0 (scalars_joined cs t both.1 other)
 
-cutting_scalars : (pieces : List (List ℕ)) → IsCutting pieces → all_scalars (text_of pieces) ≡ true
+pub cutting_scalars : (pieces : List (List ℕ)) → IsCutting pieces → all_scalars (text_of pieces) ≡ true
 cutting_scalars [] cut = refl
 cutting_scalars (p ∷ []) cut = scalars_joined p [] cut.scalars refl
 cutting_scalars (p ∷ q ∷ ps) cut = scalars_joined p (text_of (q ∷ ps)) cut.0.scalars (cutting_scalars (q ∷ ps) cut.2)

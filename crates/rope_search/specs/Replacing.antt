@@ -38,3 +38,23 @@ pub record RowsOfReplacement (buffer : BufferState) (template : List ℕ) (n : �
   pub matches : List Groups
   pub are : AreAllMatches buffer matches
   pub rows : n ≡ searched (bytes_of (current_text buffer)) template matches
+
+-- ---- in a text, for a pattern
+
+-- all matches are replaced, and they are so many; this text is left
+pub record IsReplacementIn (text pattern template : List ℕ) (count : ℕ)
+    (new : List ℕ) : Type 0 where
+  pub matches : List Groups
+  pub are : AreGroups pattern (bytes_of text) matches
+  pub counted : count ≡ length matches
+  pub changed : new ≡ replaced (bytes_of text) template 0 matches
+
+pub record GetsTooLongIn (limit : ℕ) (text pattern template : List ℕ) : Type 0 where
+  pub matches : List Groups
+  pub are : AreGroups pattern (bytes_of text) matches
+  pub long : limit < byte_len (replaced (bytes_of text) template 0 matches)
+
+pub record RowsOfReplacementIn (text pattern template : List ℕ) (n : ℕ) : Type 0 where
+  pub matches : List Groups
+  pub are : AreGroups pattern (bytes_of text) matches
+  pub rows : n ≡ searched (bytes_of text) template matches

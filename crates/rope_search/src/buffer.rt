@@ -17,8 +17,7 @@ use crate::limits::Limits;
 use crate::parts::Part;
 use crate::search::Search;
 use rope_search_io::Fault;
-use rope_search_reports::{Finder, Lines, Position, Row, find_all, report_of};
-use rope_search_templates::{Replacement, Template, is_over, replace_all};
+use rope_search_reports::{Finder, Lines, Position, Row, report_of};
 use ropey::Rope;
 use std::alloc::Global;
 use std::marker::Model;
@@ -390,19 +389,12 @@ impl Buffer {
         if self.limits.text < template.len() {
             return Err(Fault::Size);
         }
-        let template = Template::new(template);
         let old = self.history.current();
-        let matches = find_all(tick, &mut search.finder, old)?;
-        if is_over(self.limits.text, old, &template, &matches) {
-            return Err(Fault::Size);
-        }
-        let new = replace_all(self.alloc, old, &template, &matches)?;
-        let Replacement { text, changes } = new;
         // All that may be refused comes before the first change.
-        let patches = search.patches(tick, self.alloc, old, &text, &changes)?;
-        self.history.add(text)?;
-        search.apply(patches);
-        Ok(matches.len())
+        let replaced = search.replaced(tick, self.alloc, self.limits, old, template)?;
+        self.history.add(replaced.text)?;
+        search.apply(replaced.patches);
+        Ok(replaced.count)
     }
 
     /// `Fault::Nothing` where there is no pattern, and else the other fault: the one of both that

@@ -1,5 +1,5 @@
 //! A pattern that is set, and its report, which edits and replacements patch.
-ghost use Rattle.std.specs.Prelude.{◌≡◌, ℕ, ◌+◌, ◌^◌, ◌<◌, ◌≤◌, ◌↔◌, ◌⊎◌, length, Err, IfOk, IfErr, OnErr};
+ghost use Rattle.std.specs.Prelude.{◌≡◌, ℕ, ◌+◌, ◌^◌, ◌<◌, ◌≤◌, ◌↔◌, ◌⊎◌, length, chars, Err, OnOk, IfOk, IfErr};
 ghost use Rattle.ropey.specs.Chunks.{text_of};
 ghost use Rattle.rope_search_reports.specs.Text.{line_count};
 ghost use Rattle.rope_search_reports.specs.Report.{IsReport, match_count};
@@ -7,13 +7,16 @@ ghost use Rattle.rope_search_reports.specs.Changes.{AreChanges};
 ghost use Rattle.rope_search_reports.specs.Patches.{patched, made_by};
 ghost use Rattle.rope_search_reports.specs.Position.{IsNowhere};
 ghost use Rattle.rope_search.specs.Finding.{TellsIn};
+ghost use Rattle.rope_search.specs.Replacing.{IsReplacementIn, GetsTooLongIn, RowsOfReplacementIn};
 ghost use Rattle.rope_search.specs.Searched.{FitIn, HasRoom};
 
+use crate::limits::Limits;
 use rope_search_io::Fault;
 use rope_search_reports::{
-    Change, Finder, Lines, Patch, Position, Row, find_from, patches_of, place_of, position_of,
-    put_in_place, put_patches, rows_made, shift_once,
+    Change, Finder, Lines, Patch, Position, Row, find_all, find_from, patches_of, place_of,
+    position_of, put_in_place, put_patches, rows_made, shift_once,
 };
+use rope_search_templates::{Replacement, Template, is_over, replace_all};
 use ropey::Rope;
 use std::alloc::Global;
 
@@ -33,6 +36,17 @@ pub struct Patches {
     pub patches: Vec<Patch>,
     /// An empty list for the whole new report. None where the old one's list has room.
     pub room: Option<Vec<Row>>,
+}
+
+/// A text with all matches replaced, and what that makes of its report.
+#[derive(Drop)]
+pub struct Replaced {
+    /// How many matches were replaced.
+    pub count: usize,
+    /// The new text.
+    pub text: Rope,
+    /// The patches that make the report that of the new text.
+    pub patches: Patches,
 }
 
 /// Room for patches. Where at most one of them moves the rows behind it, it is made in the report's
@@ -94,6 +108,59 @@ impl Search {
         let patches = patches_of(tick, alloc, &mut self.finder, old, new, changes)?;
         let room = room_for(alloc, &mut self.rows, &patches, len)?;
         Ok(Patches { patches, room })
+    }
+
+    /// A text with all its matches replaced by what the template stands for at each, and the patches
+    /// that make the report that of this text. It is refused with `Fault::Size` where the new text
+    /// would have more bytes than the limit, and perhaps with `Fault::Memory`. The report is as
+    /// before.
+    pub fn replaced(
+        &mut self,
+        tick: &mut Lines,
+        alloc: Global,
+        limits: Limits,
+        old: &Rope,
+        template: &str,
+    ) -> Result<Replaced, Fault>
+        requires report { IsReport (text_of old.now) self.old.finder self.old.rows.items }
+        ensures replaced { IfOk result (λ new. IsReplacementIn (text_of old.now) self.old.finder
+            (chars template.now) new.count (text_of new.text)) }
+        ensures fit { IfOk result (λ new. FitIn self.new new.patches) }
+        ensures report { IfOk result (λ new.
+            IsReport (text_of new.text) self.old.finder
+            (patched 0 self.old.rows.items new.patches.patches.items)) }
+        ensures few { IfOk result (λ new.
+            match_count (patched 0 self.old.rows.items new.patches.patches.items) < 2 ^ 64) }
+        ensures size { result ≡ Err Fault.Size
+            → GetsTooLongIn limits.text (text_of old.now) self.old.finder (chars template.now) }
+        ensures fits { OnOk result
+            (GetsTooLongIn limits.text (text_of old.now) self.old.finder (chars template.now)
+            → ⊥) }
+        ensures fault { IfErr result (λ fault. (fault ≡ Fault.Size) ⊎ (fault ≡ Fault.Memory)) }
+        ensures finder { self.new.finder ≡ self.old.finder }
+        ensures rows { self.new.rows.items ≡ self.old.rows.items }
+        ensures unmade { GetsTooLongIn limits.text (text_of old.now) self.old.finder
+            (chars template.now) → tick.new.count ≡ tick.old.count }
+        ensures count { (n : ℕ) → RowsOfReplacementIn (text_of old.now) self.old.finder
+            (chars template.now) n → tick.new.count ≤ tick.old.count + n }
+        ensures wholes { tick.new.wholes ≤ tick.old.wholes + 1 }
+    {
+        // Laws, and the text's facts, for the proof alone.
+        rope_search_reports::laws::replacements_are_changes();
+        rope_search_reports::laws::one_list_of_groups();
+        let _ = old.len_bytes();
+        let template = Template::new(template);
+        let matches = find_all(tick, &mut self.finder, old)?;
+        if is_over(limits.text, old, &template, &matches) {
+            return Err(Fault::Size);
+        }
+        let Replacement { text, changes } = replace_all(alloc, old, &template, &matches)?;
+        let patches = self.patches(tick, alloc, old, &text, &changes)?;
+        Ok(Replaced {
+            count: matches.len(),
+            text,
+            patches,
+        })
     }
 
     /// Patches the report. It takes no memory.

@@ -143,6 +143,21 @@ fn an_edit_of_a_line(rt: HostRuntime) -> Result<(), Fail> {
     Ok(())
 }
 
+/// `Command::Replace`: each match in the whole text gives way to what the template stands for at it, and
+/// their number is told. The line that this touches is searched again alone.
+#[test]
+fn all_matches_replaced(rt: HostRuntime) -> Result<(), Fail> {
+    let mut tick = Lines::new(&rt);
+    let mut session = Session::new(rt.alloc(), Limits::default())?;
+    session.apply(&mut tick, Command::Text(Payload::Kept(b"ab")))?;
+    session.apply(&mut tick, Command::Pattern(Payload::Kept(b"(b)")))?;
+    let replace = Command::Replace(Payload::Kept(b"x$1"));
+    assert!(rt; apply(&mut session, &mut tick, replace) == Ok(Reply::Number(1)));
+    assert!(rt; session.buffer().text().eq_str("axb"));
+    assert!(rt; (tick.count(), tick.wholes()) == (2, 1));
+    Ok(())
+}
+
 /// What is refused leaves the report: here a pattern for whose payload there was no memory.
 #[test]
 fn a_pattern_that_has_no_memory(rt: HostRuntime) -> Result<(), Fail> {
