@@ -68,6 +68,7 @@ edits:
 bench: $(program)
 	@bench/load_print
 	@bench/list_matches
+	@bench/replace_matches
 	@RT='$(RT)' sh bench/indices.sh
 	@RT='$(RT)' sh bench/ropes.sh
 	@RT='$(RT)' sh bench/slices.sh

@@ -12,5 +12,3 @@ mod io_examples;
 mod report_examples;
 #[cfg(test)]
 mod runs;
-#[cfg(test)]
-mod template_examples;
