@@ -1,12 +1,13 @@
 -- Ways down a tree: the part of a text in which a place lies.
-use Rattle.std.proofs.Common.{◌≡◌, ℕ, ◌+◌, ◌-◌, ◌^◌, ◌<◌, ◌≤◌, ◌⊎◌, inl, inr, List, [], ◌++◌, length, get_or, take, drop, refl, ap, arith, sym, ◌∙◌, append_assoc}
+use Rattle.std.proofs.Common.{◌≡◌, ℕ, ◌+◌, ◌-◌, ◌^◌, ◌<◌, ◌≤◌, ◌⊎◌, ◌==◌, true, inl, inr, List, [], ◌++◌, length, get_or, take, drop, refl, ap, arith, sym, ◌∙◌, append_assoc}
+use Rattle.std.proofs.lemmas.Bool.Decides.{nat_tests}
 use Rattle.std.proofs.lemmas.List.{append-nil}
 use Rattle.std.proofs.Math.ListN.{drop_of_length-le}
 use Rattle.ropey_tree.specs.declared.counts.Counts.{Counts}
 use Rattle.ropey_tree.specs.declared.counts.By.{By}
 use Rattle.ropey_tree.specs.Counts.{total, plus, amount, zero_counts}
 use Rattle.ropey_tree.specs.NodeView.{NodeView}
-use Rattle.ropey_tree.specs.Nodes.{all_pieces, LiesIn}
+use Rattle.ropey_tree.specs.Nodes.{all_pieces, LiesIn, StandsIn}
 use Rattle.ropey_tree.proofs.Totals.{total-append, amount-plus, amount-zero, total-below}
 use Rattle.ropey_tree.proofs.InRow.{all_pieces-parts, all_pieces-take_more}
 
@@ -97,3 +98,24 @@ lies_fits whole inner by i before within fits h =
       units = omega (arith, u, below.units);
       breaks = omega (arith, l, below.breaks);
     }
+
+-- a part in hand, and a place that lies there
+pub stands_lies : (whole part : List (List ℕ)) (by : By) (i : ℕ) (before : Counts) → StandsIn whole part before → amount by before ≤ i → i < amount by before + amount by (total part)
+    → LiesIn whole part by i before
+stands_lies whole part by i before h low high = record {
+  left = h.left;
+  right = h.right;
+  parts = h.parts;
+  stands_before = h.stands_before;
+  not_past = low;
+  passed = inl (omega (arith, high, ap (amount by) h.stands_before, amount-append by h.left part));
+}
+
+pub lies_stands : (whole part : List (List ℕ)) (by : By) (i : ℕ) (before : Counts) → LiesIn whole part by i before → StandsIn whole part before
+lies_stands whole part by i before h = record { left = h.left; right = h.right; parts = h.parts; stands_before = h.stands_before }
+
+-- what is known of a part by its counts
+pub known_bytes : (len : Counts) (ps : List (List ℕ)) → (len.chars == len.bytes) ≡ true → len ≡ total ps → (total ps).chars ≡ (total ps).bytes
+known_bytes len ps e is =
+    let same : len.chars ≡ len.bytes = grind (arith, nat_tests) in
+    omega (arith, same, ap (λ c. c.chars) is, ap (λ c. c.bytes) is)

@@ -54,6 +54,13 @@ pub record LiesIn (whole part : List (List ℕ)) (by : By) (i : ℕ) (before : C
   pub not_past : amount by before ≤ i
   pub passed : (i < amount by (total (left ++ part))) ⊎ (right ≡ [])
 
+-- a part of a row of pieces, and what stands before it
+pub record StandsIn (whole part : List (List ℕ)) (before : Counts) : Type 0 where
+  pub left : List (List ℕ)
+  pub right : List (List ℕ)
+  pub parts : whole ≡ left ++ part ++ right
+  pub stands_before : before ≡ total left
+
 -- The nodes that two nodes are joined to, in one row: one, or two that are full. They are as high as the higher one, and no smaller than it.
 pub record AreJoined (left right : NodeView) (joined : List NodeView) : Type 0 where
   pub pieces : all_pieces joined ≡ left.pieces ++ right.pieces

@@ -43,7 +43,7 @@ fn level(alloc: Global, height: usize, nodes: &[Rc<Node>]) -> Result<Vec<Rc<Node
     let mut from = 0;
     while from < nodes.len() {
         let to = from + share(nodes.len() - from);
-        let children = Siblings::Nodes(nodes).gather(from, to)?;
+        let children = Siblings::Nodes(nodes).gather(alloc, from, to)?;
         let node = over(alloc, height, children, &mut Made::new())?;
         above.push(node)?;
         from = to;

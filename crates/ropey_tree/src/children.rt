@@ -132,6 +132,8 @@ impl Children {
         requires { 0 < length self.now }
         ensures within { result.index < length self.now }
         ensures stands_before { result.before ≡ total (all_pieces (take result.index self.now)) }
+        ensures counted { (d : NodeView) →
+            result.len ≡ count_of (slice_index_or self.now result.index d) }
         ensures not_past { amount by result.before ≤ i }
         ensures passed { (i < amount by (total (all_pieces (take (result.index + 1) self.now)))) ⊎
             (result.index + 1 ≡ length self.now) }
@@ -143,6 +145,7 @@ impl Children {
         Choice {
             index,
             before: self.before(index),
+            len: self.count(index),
         }
     }
 }
@@ -154,4 +157,6 @@ pub struct Choice {
     pub index: usize,
     /// What the children before it count together.
     pub before: Counts,
+    /// What it counts itself.
+    pub len: Counts,
 }

@@ -222,6 +222,7 @@ pub fn replace_in_leaf(
             children.push(first, counts);
             let counts = second.counts();
             children.push(second, counts);
+            let children = Box::new(alloc, children)?;
             let root = over(alloc, height + 1, children, made)?;
             Ok(Some(root))
         }

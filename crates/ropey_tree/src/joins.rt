@@ -88,6 +88,7 @@ pub fn concat(alloc: Global, left: &Rc<Node>, right: &Rc<Node>) -> Result<Rc<Nod
             children.push(first, counts);
             let counts = second.counts();
             children.push(second, counts);
+            let children = Box::new(alloc, children)?;
             let node = over(alloc, height + 1, children, &mut Made::new())?;
             Ok(node)
         }

@@ -1,8 +1,9 @@
 //! Nodes: leaves, and nodes of children one level below.
 
-ghost use Rattle.std.specs.Prelude.{◌≡◌, ◌+◌, ◌*◌, ◌<◌, ◌≤◌, [], ◌∷◌, IfOk};
-ghost use Rattle.ropey_tree.specs.Counts.{total};
-ghost use Rattle.ropey_tree.specs.Nodes.{leaf_view, inner_view, IsInner, IsTree, LiesIn};
+ghost use Rattle.std.specs.Prelude.{◌≡◌, ◌+◌, ◌-◌, ◌*◌, ◌<◌, ◌≤◌, [], ◌∷◌, length, true, IfOk, IfSome};
+ghost use Rattle.str_indices.specs.Text.{byte_len};
+ghost use Rattle.ropey_tree.specs.Counts.{total, amount};
+ghost use Rattle.ropey_tree.specs.Nodes.{leaf_view, inner_view, IsInner, IsTree, LiesIn, StandsIn};
 ghost use Rattle.ropey_tree.specs.Parts.{ShowsParts};
 
 use crate::children::Children;
@@ -61,18 +62,13 @@ impl Node {
     }
 
     /// A node over children that are one level below its height.
-    pub fn from_children(
-        alloc: Global,
-        height: usize,
-        children: Children,
-    ) -> Result<Self, AllocError>
-        requires { IsInner height children }
-        ensures { IfOk result (λ node. node ≡ inner_view height children) }
+    pub fn from_children(height: usize, children: Box<Children>) -> Self
+        requires { IsInner height children.value }
+        ensures { result ≡ inner_view height children.value }
     {
-        let children = Box::new(alloc, children)?;
-        Ok(Node {
+        Node {
             body: Body::Inner(height, children),
-        })
+        }
     }
 
     /// How many levels there are below: 0 for a leaf.
@@ -139,6 +135,8 @@ pub struct Entered<'a> {
     pub node: &'a Node,
     /// What the children before it count together.
     pub before: Counts,
+    /// What it counts itself.
+    pub len: Counts,
 }
 
 /// The child in which place `i` of a measure lies: the first up to whose end more than `i` stand,
@@ -148,6 +146,7 @@ pub fn enter<'a>(node: &'a Node, by: By, i: usize, visits: &mut Visits) -> Enter
     requires { 0 < node.now.height }
     ensures level { result.node.now.height + 1 ≡ node.now.height }
     ensures lies { LiesIn node.now.pieces result.node.now.pieces by i result.before }
+    ensures counted { result.len ≡ total result.node.now.pieces }
     ensures visited { visits.new.nodes ≡ visits.old.nodes + 1 }
     ensures compared { visits.new.comparisons ≤ visits.old.comparisons + 5 }
 {
@@ -158,8 +157,54 @@ pub fn enter<'a>(node: &'a Node, by: By, i: usize, visits: &mut Visits) -> Enter
             Entered {
                 node: children.get(choice.index),
                 before: choice.before,
+                len: choice.len,
             }
         }
+    }
+}
+
+/// A node on the way to a place, and what stands before it.
+#[derive(Clone, Copy)]
+pub struct OnTheWay<'a> {
+    /// The node.
+    pub node: &'a Node,
+    /// What the nodes of its height before it count together.
+    pub before: Counts,
+    /// Whether it is known that each character of its text is one byte.
+    pub is_ascii: bool,
+    ghost ascii: { is_ascii ≡ true →
+        (total node.now.pieces).chars ≡ (total node.now.pieces).bytes },
+}
+
+/// The node of a height in which place `i` of a measure lies: on each level above it the first up
+/// to whose end more than `i` stand, else the last.
+fn descend_to<'a>(
+    node: &'a Node,
+    height: usize,
+    by: By,
+    i: usize,
+    visits: &mut Visits,
+) -> OnTheWay<'a>
+    requires { height ≤ node.now.height }
+    ensures level { result.node.now.height ≡ height }
+    ensures lies { LiesIn node.now.pieces result.node.now.pieces by i result.before }
+    ensures visited { visits.new.nodes + height ≡ visits.old.nodes + node.now.height }
+    ensures compared { visits.new.comparisons ≤
+        visits.old.comparisons + 5 * (node.now.height - height) }
+{
+    let mut at = node;
+    let mut before = Counts::zero();
+    let mut is_ascii = false;
+    for _ in height..node.height() {
+        let entered = enter(at, by, i - before.by(by), visits);
+        before = before.plus(entered.before);
+        is_ascii = entered.len.chars == entered.len.bytes;
+        at = entered.node;
+    }
+    OnTheWay {
+        node: at,
+        before,
+        is_ascii,
     }
 }
 
@@ -170,25 +215,35 @@ pub struct Found<'a> {
     pub leaf: &'a Leaf,
     /// What the leaves before it count together.
     pub before: Counts,
+    /// Whether it is known that each character of its text is one byte.
+    pub is_ascii: bool,
+    ghost ascii: { is_ascii ≡ true → length leaf.now ≡ byte_len leaf.now },
 }
 
 /// The leaf in which place `i` of a measure lies: the first up to whose end more than `i` stand,
-/// else the last. The path to it enters at most 18 nodes below the root, 19 with the root.
+/// else the last. The path to it enters at most 18 nodes below the root, 19 with the root. What a
+/// leaf counts is known on the way, so where each character of its text is one byte, that is told;
+/// of a root that is a leaf it isn't.
 pub fn descend<'a>(node: &'a Node, by: By, i: usize, visits: &mut Visits) -> Found<'a>
     ensures lies { LiesIn node.now.pieces (result.leaf.now ∷ []) by i result.before }
     ensures visited { visits.new.nodes ≡ visits.old.nodes + node.now.height }
     ensures few { visits.new.nodes ≤ visits.old.nodes + 18 }
     ensures compared { visits.new.comparisons ≤ visits.old.comparisons + 5 * node.now.height }
 {
-    let mut at = node;
-    let mut before = Counts::zero();
-    for _ in 0..node.height() {
-        let entered = enter(at, by, i - before.by(by), visits);
-        before = before.plus(entered.before);
-        at = entered.node;
-    }
+    // For its facts alone.
+    let _ = node.height();
+    let OnTheWay {
+        node: at,
+        before,
+        is_ascii,
+        ..
+    } = descend_to(node, 0, by, i, visits);
     match &at.body {
-        Body::Leaf(leaf) => Found { leaf, before },
+        Body::Leaf(leaf) => Found {
+            leaf,
+            before,
+            is_ascii,
+        },
         Body::Inner(..) => unreachable!(),
     }
 }
@@ -198,4 +253,55 @@ pub fn leaf_at(node: &Node, by: By, i: usize) -> Found<'_>
     ensures { LiesIn node.now.pieces (result.leaf.now ∷ []) by i result.before }
 {
     descend(node, by, i, &mut Visits::new())
+}
+
+impl<'a> OnTheWay<'a> {
+    /// Whether place `i` of a measure of the whole text lies in the node.
+    #[inline]
+    fn has(&self, by: By, i: usize) -> bool
+        ensures from { result ≡ true → amount by self.now.before ≤ i }
+        ensures to { result ≡ true →
+            i < amount by self.now.before + amount by (total self.now.node.now.pieces) }
+    {
+        let before = self.before.by(by);
+        if i < before {
+            return false;
+        }
+        i - before < self.node.counts().by(by)
+    }
+}
+
+/// The lowest node above the leaf in which place `i` of a measure lies, or a root that is a leaf:
+/// one that is in hand if the place lies there.
+#[inline]
+fn way_near<'a>(node: &'a Node, near: Option<OnTheWay<'a>>, by: By, i: usize) -> OnTheWay<'a>
+    requires { IfSome near (λ way. StandsIn node.now.pieces way.node.now.pieces way.before) }
+    ensures { LiesIn node.now.pieces result.node.now.pieces by i result.before }
+{
+    if let Some(way) = near {
+        if way.has(by, i) {
+            return way;
+        }
+    }
+    descend_to(node, node.height().min(1), by, i, &mut Visits::new())
+}
+
+/// `leaf_at`, for callers that go from leaf to leaf: the node above the leaf that was found stays in
+/// hand, and what lies under it is found from there.
+pub fn leaf_near<'a>(node: &'a Node, near: &mut Option<OnTheWay<'a>>, by: By, i: usize) -> Found<'a>
+    requires { IfSome near.old (λ way. StandsIn node.now.pieces way.node.now.pieces way.before) }
+    ensures near { IfSome near.new (λ way.
+        StandsIn node.now.pieces way.node.now.pieces way.before) }
+    ensures lies { LiesIn node.now.pieces (result.leaf.now ∷ []) by i result.before }
+{
+    // For its facts alone.
+    let _ = node.height();
+    let way = way_near(node, *near, by, i);
+    let found = descend(way.node, by, i - way.before.by(by), &mut Visits::new());
+    *near = Some(way);
+    Found {
+        leaf: found.leaf,
+        before: way.before.plus(found.before),
+        is_ascii: found.is_ascii,
+    }
 }

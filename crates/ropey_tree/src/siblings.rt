@@ -172,21 +172,42 @@ impl Siblings<'_> {
         }
     }
 
-    /// Copies of those from one index up to another.
-    pub(crate) fn gather(&self, from: usize, to: usize) -> Result<Children, AllocError>
+    /// Appends copies of those from one index up to another to a list of none.
+    fn copy_into(&self, from: usize, to: usize, children: &mut Children) -> Result<(), AllocError>
         requires filled { IsFilled self.now }
         requires range { from ≤ to }
         requires room { to ≤ from + 24 }
         requires fits { (total (all_pieces (siblings_of self.now))).bytes < 2 ^ 63 }
         requires within { to ≤ length (siblings_of self.now) }
-        ensures { IfOk result (λ children. take from (siblings_of self.now) ++ children ≡
+        requires none { children.old ≡ [] }
+        ensures { IfOk result (λ _. take from (siblings_of self.now) ++ children.new ≡
             take to (siblings_of self.now)) }
     {
-        let mut children = Children::new();
         for k in from..to {
             let node = self.get(k).clone()?;
             children.push(node, self.count(k));
         }
+        Ok(())
+    }
+
+    /// Copies of those from one index up to another. They are filled in where they stay, since a
+    /// list of children is too large to be moved for nothing.
+    pub(crate) fn gather(
+        &self,
+        alloc: Global,
+        from: usize,
+        to: usize,
+    ) -> Result<Box<Children>, AllocError>
+        requires filled { IsFilled self.now }
+        requires range { from ≤ to }
+        requires room { to ≤ from + 24 }
+        requires fits { (total (all_pieces (siblings_of self.now))).bytes < 2 ^ 63 }
+        requires within { to ≤ length (siblings_of self.now) }
+        ensures { IfOk result (λ children. take from (siblings_of self.now) ++ children.value ≡
+            take to (siblings_of self.now)) }
+    {
+        let mut children = Box::new(alloc, Children::new())?;
+        self.copy_into(from, to, &mut children)?;
         Ok(children)
     }
 }
@@ -195,17 +216,16 @@ impl Siblings<'_> {
 pub(crate) fn over(
     alloc: Global,
     height: usize,
-    children: Children,
+    children: Box<Children>,
     made: &mut Made,
 ) -> Result<Rc<Node>, AllocError>
-    requires { IsInner height children }
-    ensures node { IfOk result (λ node. node.value ≡ inner_view height children) }
+    requires { IsInner height children.value }
+    ensures node { IfOk result (λ node. node.value ≡ inner_view height children.value) }
     ensures counted { IfOk result (λ _. made.new.nodes ≡ made.old.nodes + 1) }
     ensures least { made.old.nodes ≤ made.new.nodes }
     ensures most { made.new.nodes ≤ made.old.nodes + 1 }
 {
-    let node = Node::from_children(alloc, height, children)?;
-    let node = made.share(alloc, node)?;
+    let node = made.share(alloc, Node::from_children(height, children))?;
     Ok(node)
 }
 
@@ -229,10 +249,10 @@ pub(crate) fn pack(
 {
     let n = siblings.len();
     if n <= MAX_CHILDREN {
-        let node = over(alloc, height, siblings.gather(0, n)?, made)?;
+        let node = over(alloc, height, siblings.gather(alloc, 0, n)?, made)?;
         return Ok(Joined::One(node));
     }
-    let first = over(alloc, height, siblings.gather(0, n / 2)?, made)?;
-    let second = over(alloc, height, siblings.gather(n / 2, n)?, made)?;
+    let first = over(alloc, height, siblings.gather(alloc, 0, n / 2)?, made)?;
+    let second = over(alloc, height, siblings.gather(alloc, n / 2, n)?, made)?;
     Ok(Joined::Two(first, second))
 }

@@ -79,7 +79,7 @@ fn tree_over(
         let child = children.get(from).clone()?;
         return Ok(Some(child));
     }
-    let some = Siblings::One(children).gather(from, to)?;
+    let some = Siblings::One(children).gather(alloc, from, to)?;
     let node = over(alloc, height, some, &mut Made::new())?;
     Ok(Some(node))
 }

@@ -3,7 +3,6 @@ use Rattle.std.proofs.Common.{◌≡◌, ℕ, ◌+◌, ◌-◌, ◌^◌, ◌<◌
 use Rattle.std.specs.List.{concat}
 use Rattle.std.specs.Str.{chars, IsUtf8, all_scalars, is_utf8}
 use Rattle.std.specs.Borrow.{Bor}
-use Rattle.std.specs.Prelude.{encode_utf8_all}
 use Rattle.std.proofs.lemmas.Bool.{cases_lt}
 use Rattle.std.proofs.lemmas.List.{take_all, drop_at}
 use Rattle.std.proofs.lemmas.List.Folds.{concat-append}
@@ -11,7 +10,7 @@ use Rattle.std.proofs.lemmas.Str.{length-le-encodes, encodes-chars, scalars-char
 use Rattle.str_indices.specs.Text.{byte_len}
 use Rattle.ropey_tree.specs.declared.counts.Counts.{Counts}
 use Rattle.ropey_tree.specs.declared.counts.By.{By}
-use Rattle.ropey_tree.specs.Counts.{counts_of, zero_counts, plus, minus, amount}
+use Rattle.ropey_tree.specs.Counts.{counts_of, zero_counts, plus, minus}
 use Rattle.ropey_tree.specs.Cutting.{IsPiece, IsCutting, IsText}
 use Rattle.ropey_walk.specs.Chunks.{text_of, piece_of}
 use Rattle.ropey_walk.specs.Clips.{between, pieces_from_char, pieces_to_char, clip}

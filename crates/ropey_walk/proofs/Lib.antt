@@ -1,4 +1,5 @@
 pub mod Cuts
+pub mod OneByte
 pub mod Shows
 pub mod Placing
 pub mod Reading

@@ -106,11 +106,11 @@ module _ (law : LineStarts) (text : List ℕ) (from : LinePlace) (h : IsLinePlac
 
   -- ---- characters of one byte
   -- in a chunk of such characters each part has them
-  one_byte : (a b c : List ℕ) → from.is_ascii ≡ true → chars chunk ≡ a ++ (b ++ c) → length b ≡ byte_len b
+  one_byte : (a b c : List ℕ) → from.place.is_ascii ≡ true → chars chunk ≡ a ++ (b ++ c) → length b ≡ byte_len b
   one_byte a b c is whole =
       omega (
         arith,
-        h.ascii is,
+        from.place.ascii is,
         chunk_is,
         ap length whole,
         ap byte_len whole,
@@ -123,7 +123,7 @@ module _ (law : LineStarts) (text : List ℕ) (from : LinePlace) (h : IsLinePlac
         length-le-encodes c,
       )
 
-  pub one_byte_on : (start' end : ℕ) → IsFirstBreak is_break (drop at chunk) start' end → from.is_ascii ≡ true → length (chars (take end (drop at chunk))) ≡ length (take end (drop at chunk))
+  pub one_byte_on : (start' end : ℕ) → IsFirstBreak is_break (drop at chunk) start' end → from.place.is_ascii ≡ true → length (chars (take end (drop at chunk))) ≡ length (take end (drop at chunk))
   one_byte_on start' end first is =
       let utf8 = IsUtf8-drop chunk at h.utf8 h.boundary in
       let line = chars (take end (drop at chunk)) in
@@ -192,8 +192,9 @@ module _ (law : LineStarts) (text : List ℕ) (from : LinePlace) (h : IsLinePlac
         let l : k + 1 ≡ line_breaks (front ++ line) = omega (arith, there_after.breaks_are, more) in
         cc
 
-    pub line_passed : IsLinePlace text (record { line_idx = k + 1; place = record { text = from.place.text; start = start; at = at + end }; is_ascii = from.is_ascii; before = after_line })
-    line_passed =
+    pub line_passed : (ascii : from.place.is_ascii ≡ true → length (chars chunk) ≡ length chunk)
+        → IsLinePlace text (record { line_idx = k + 1; place = record { text = from.place.text; start = start; at = at + end; is_ascii = from.place.is_ascii; ascii = ascii }; before = after_line })
+    line_passed ascii =
         let inner : at + end ≤ length chunk = omega (arith, h.boundary.0, first.ends.0, length-drop at chunk) in
         record {
           utf8 = h.utf8;
@@ -209,7 +210,6 @@ module _ (law : LineStarts) (text : List ℕ) (from : LinePlace) (h : IsLinePlac
             fits = h.place.fits;
           };
           starts = omega (arith, next_start, place_is);
-          ascii = h.ascii;
           counted = counted_after ∙ ap counts_of (sym there_after.taken);
         }
 
@@ -255,7 +255,7 @@ module _ (law : LineStarts) (text : List ℕ) (from : LinePlace) (h : IsLinePlac
     width_back : length (take (at - to) (drop to chunk)) ≡ at - to
     width_back = length-take-le (at - to) (drop to chunk) (omega (arith, order, h.boundary.0, length-drop to chunk))
 
-    pub one_byte_back : from.is_ascii ≡ true → length (chars (take (at - to) (drop to chunk))) ≡ at - to
+    pub one_byte_back : from.place.is_ascii ≡ true → length (chars (take (at - to) (drop to chunk))) ≡ at - to
     one_byte_back is =
         let f = chars (take to chunk) in
         let l = chars (take (at - to) (drop to chunk)) in
@@ -325,8 +325,9 @@ module _ (law : LineStarts) (text : List ℕ) (from : LinePlace) (h : IsLinePlac
           let l : i ≡ line_breaks front_back = omega (arith, there_back.breaks_are, next, inside) in
           cc
 
-      pub line_unpassed : IsLinePlace text (record { line_idx = i; place = record { text = from.place.text; start = start; at = to }; is_ascii = from.is_ascii; before = before_line })
-      line_unpassed = record {
+      pub line_unpassed : (ascii : from.place.is_ascii ≡ true → length (chars chunk) ≡ length chunk)
+          → IsLinePlace text (record { line_idx = i; place = record { text = from.place.text; start = start; at = to; is_ascii = from.place.is_ascii; ascii = ascii }; before = before_line })
+      line_unpassed ascii = record {
         utf8 = h.utf8;
         boundary = boundary_back;
         place = record {
@@ -340,7 +341,6 @@ module _ (law : LineStarts) (text : List ℕ) (from : LinePlace) (h : IsLinePlac
           fits = h.place.fits;
         };
         starts = starts_back;
-        ascii = h.ascii;
         counted = counted_back ∙ ap counts_of (sym there_back.taken);
       }
 

@@ -1,5 +1,5 @@
 -- What the iterators over a text give.
-use Rattle.std.specs.Prelude.{◌≡◌, ℕ, suc, ◌+◌, ◌-◌, ◌<◌, ◌≤◌, true, List, [], ◌∷◌, ◌++◌, length, take, drop, Option, IfSome, if◌then◌else◌, ◌==◌}
+use Rattle.std.specs.Prelude.{◌≡◌, ℕ, suc, ◌+◌, ◌-◌, ◌<◌, ◌≤◌, List, [], ◌∷◌, ◌++◌, length, take, drop, Option, IfSome, if◌then◌else◌, ◌==◌}
 use Rattle.std.specs.Str.{chars, IsUtf8, IsCharBoundary}
 use Rattle.std.specs.Borrow.{Bor}
 use Rattle.str_indices.specs.Text.{byte_len, NoCrLfBetween}
@@ -61,7 +61,6 @@ pub record IsLinePlace (text : List ℕ) (line : LinePlace) : Type 0 where
   pub boundary : IsCharBoundary line.place.text.now line.place.at
   pub place : IsPlaceIn text (chars line.place.text.now) line.place.start line.place.at
   pub starts : line.place.start.bytes + line.place.at ≡ byte_of_line text line.line_idx
-  pub ascii : line.is_ascii ≡ true → length (chars line.place.text.now) ≡ length line.place.text.now
   pub counted : line.before ≡ counts_of (take (char_of_line text line.line_idx) text)
 
 -- ---- chunks from a place

@@ -1,5 +1,7 @@
 -- What a slice is seen as: the pieces of its source, clipped.
-use Rattle.std.specs.Prelude.{ℕ, ◌+◌, List}
+use Rattle.std.specs.Prelude.{ℕ, ◌+◌, List, Option, IfSome}
+use Rattle.ropey_tree.specs.declared.node.OnTheWay.{OnTheWay}
+use Rattle.ropey_tree.specs.Nodes.{StandsIn}
 use Rattle.ropey_walk.specs.declared.slice.RopeSlice.{RopeSlice}
 use Rattle.ropey_walk.specs.Chunks.{text_of}
 use Rattle.ropey_walk.specs.Clips.{clip}
@@ -13,3 +15,7 @@ slice_pieces slice = clip slice.start.chars (slice.start.chars + slice.len.chars
 -- its text
 abbrev pub slice_text : RopeSlice → List ℕ
 slice_text slice = text_of (slice_pieces slice)
+
+-- a node that is in hand, if one is, is one of the slice's tree
+abbrev pub IsNear : RopeSlice → Option OnTheWay → Type 0
+IsNear slice near = IfSome near (λ way. StandsIn (source_pieces slice.source) way.node.now.pieces way.before)

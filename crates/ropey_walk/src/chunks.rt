@@ -5,10 +5,10 @@ ghost use Rattle.std.specs.Str.{chars, IsUtf8};
 ghost use Rattle.str_indices.specs.Text.{byte_len};
 ghost use Rattle.ropey_walk.specs.Chunks.{line_breaks, IsText, ShowsChunk};
 
+use crate::ascii::byte_of_char;
 use crate::slice::RopeSlice;
 use ropey_tree::counts::By;
 use ropey_tree::error::Error;
-use str_indices::chars;
 
 impl<'a> RopeSlice<'a> {
     ghost use Rattle.ropey_walk.specs.Slices.{slice_pieces, slice_text};
@@ -45,7 +45,7 @@ impl<'a> RopeSlice<'a> {
         str_indices::laws::place_there_and_back();
         str_indices::laws::ends_of_a_part();
         let chunk = self.chunk(By::Chars, char_idx);
-        let at = chars::to_byte_idx(chunk.text, char_idx - chunk.start.chars);
+        let at = byte_of_char(chunk.text, chunk.is_ascii, char_idx - chunk.start.chars);
         match chunk.text[at..].chars().next() {
             Some(character) => character,
             None => unreachable!(),

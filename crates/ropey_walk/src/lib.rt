@@ -1,6 +1,7 @@
 //! Parts of a rope that act as texts of their own, as the slices of the Rust crate `ropey` do.
 #![tactic(auto)]
 
+mod ascii;
 mod chunks;
 mod comparing;
 mod conversions;

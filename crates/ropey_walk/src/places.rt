@@ -1,6 +1,6 @@
 //! Places in a rope: a chunk, and a byte index in it.
 
-ghost use Rattle.std.specs.Prelude.{◌≡◌, ◌+◌, ◌-◌, ◌<◌, ◌≤◌, ◌↔◌, length, take, IsTrue, encode_utf8_all};
+ghost use Rattle.std.specs.Prelude.{◌≡◌, ◌+◌, ◌-◌, ◌<◌, ◌≤◌, ◌↔◌, length, take, true, IsTrue, encode_utf8_all};
 ghost use Rattle.std.specs.Str.{chars, IsUtf8, IsCharBoundary};
 ghost use Rattle.str_indices.specs.Text.{units};
 ghost use Rattle.str_indices.specs.Text.{byte_len};
@@ -11,11 +11,11 @@ ghost use Rattle.ropey_walk.specs.Conversions.{char_of_byte, unit_of_byte, line_
 ghost use Rattle.ropey_walk.specs.Parts.{standing};
 ghost use Rattle.ropey_walk.specs.Standing.{StandsAt, IsPlaceIn, IsChunkOf};
 
+use crate::ascii::{byte_of_char, byte_of_unit, char_of_byte, counts, unit_of_byte};
 use crate::laws;
 use crate::slice::{Chunk, RopeSlice};
 use ropey_tree::breaks;
 use ropey_tree::counts::{By, Counts};
-use str_indices::{chars, utf16};
 
 /// A byte index in a chunk, with what stands before the chunk.
 #[derive(Clone, Copy)]
@@ -23,6 +23,9 @@ pub(crate) struct Place<'a> {
     pub(crate) text: &'a str,
     pub(crate) start: Counts,
     pub(crate) at: usize,
+    // Whether it is known that each character of the chunk is one byte.
+    pub(crate) is_ascii: bool,
+    ghost ascii: { is_ascii ≡ true → length (chars text.now) ≡ length text.now },
 }
 
 impl<'a> Place<'a> {
@@ -42,6 +45,7 @@ impl<'a> Place<'a> {
         Chunk {
             text: self.text,
             start: self.start,
+            is_ascii: self.is_ascii,
         }
     }
 }
@@ -65,6 +69,7 @@ impl<'a> RopeSlice<'a> {
             text: chunk.text,
             start: chunk.start,
             at: byte_idx - chunk.start.bytes,
+            is_ascii: chunk.is_ascii,
         }
     }
 
@@ -85,7 +90,8 @@ impl<'a> RopeSlice<'a> {
         Place {
             text: chunk.text,
             start: chunk.start,
-            at: chars::to_byte_idx(chunk.text, char_idx - chunk.start.chars),
+            at: byte_of_char(chunk.text, chunk.is_ascii, char_idx - chunk.start.chars),
+            is_ascii: chunk.is_ascii,
         }
     }
 
@@ -103,7 +109,8 @@ impl<'a> RopeSlice<'a> {
         Place {
             text: chunk.text,
             start: chunk.start,
-            at: utf16::to_byte_idx(chunk.text, utf16_cu_idx - chunk.start.units),
+            at: byte_of_unit(chunk.text, chunk.is_ascii, utf16_cu_idx - chunk.start.units),
+            is_ascii: chunk.is_ascii,
         }
     }
 
@@ -142,6 +149,7 @@ impl<'a> RopeSlice<'a> {
             text: chunk.text,
             start: chunk.start,
             at: breaks::to_byte_idx(chunk.text, line_idx - chunk.start.breaks),
+            is_ascii: chunk.is_ascii,
         }
     }
 
@@ -165,7 +173,7 @@ impl<'a> RopeSlice<'a> {
         str_indices::laws::ends_of_a_part();
         str_indices::laws::from_byte_idx_is_monotone();
         str_indices::laws::counts_are_at_most_bytes();
-        place.start.chars + chars::from_byte_idx(place.text, place.at)
+        place.start.chars + char_of_byte(place.text, place.is_ascii, place.at)
     }
 
     /// The code units of the characters that end at or before a place.
@@ -179,7 +187,7 @@ impl<'a> RopeSlice<'a> {
         str_indices::laws::ends_of_a_part();
         str_indices::laws::from_byte_idx_is_monotone();
         str_indices::laws::counts_are_at_most_bytes();
-        place.start.units + utf16::from_byte_idx(place.text, place.at)
+        place.start.units + unit_of_byte(place.text, place.is_ascii, place.at)
     }
 
     /// The line in which a place lies.
@@ -231,6 +239,8 @@ impl<'a> RopeSlice<'a> {
         // Laws, for the proof alone.
         str_indices::laws::ends_of_a_part();
         laws::breaks_of_parts();
-        place.start.plus(Counts::of(&place.text[..place.at]))
+        place
+            .start
+            .plus(counts(&place.text[..place.at], place.is_ascii))
     }
 }

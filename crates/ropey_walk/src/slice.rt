@@ -1,7 +1,7 @@
 //! A part of a rope that acts as a text of its own.
 
 ghost use Rattle.std.specs.Prelude.{◌≡◌, ◌+◌, ◌<◌, ◌≤◌, ◌^◌, ◌⊎◌, [], length, true};
-ghost use Rattle.std.specs.Str.{is_utf8};
+ghost use Rattle.std.specs.Str.{chars, is_utf8};
 ghost use Rattle.str_indices.specs.Text.{byte_len};
 ghost use Rattle.ropey_tree.specs.Counts.{counts_of};
 ghost use Rattle.ropey_tree.specs.Cutting.{IsText};
@@ -12,7 +12,7 @@ ghost use Rattle.ropey_walk.specs.Sources.{source_pieces, light_bytes};
 
 use crate::laws;
 use ropey_tree::counts::{By, Counts};
-use ropey_tree::node::{Found, Node, leaf_at};
+use ropey_tree::node::{Found, Node, OnTheWay, leaf_at, leaf_near};
 
 /// A part of a rope, which acts as a text of its own: an index counts from its start, and a line
 /// break is what its own text has for one. A slice that starts at the LF of a CR LF has that LF as
@@ -51,11 +51,14 @@ pub struct Chunk<'a> {
     pub text: &'a str,
     /// What stands before it.
     pub start: Counts,
+    /// Whether it is known that each of its characters is one byte.
+    pub is_ascii: bool,
+    ghost ascii: { is_ascii ≡ true → length (chars text.now) ≡ length text.now },
 }
 
 impl<'a> Chunk<'a> {
     ghost use Rattle.std.specs.Prelude.{[]};
-    ghost use Rattle.std.specs.Str.{chars, IsUtf8};
+    ghost use Rattle.std.specs.Str.{IsUtf8};
     ghost use Rattle.ropey_tree.specs.Counts.{zero_counts};
 
     /// The chunk of an empty text.
@@ -67,6 +70,7 @@ impl<'a> Chunk<'a> {
         Chunk {
             text: "",
             start: Counts::zero(),
+            is_ascii: false,
         }
     }
 
@@ -109,7 +113,7 @@ fn counts_under(node: Option<&Node>) -> Counts
 }
 
 impl<'a> RopeSlice<'a> {
-    ghost use Rattle.std.specs.Str.{chars, IsUtf8};
+    ghost use Rattle.std.specs.Str.{IsUtf8};
     ghost use Rattle.str_indices.specs.Text.{units};
     ghost use Rattle.ropey_walk.specs.Chunks.{line_breaks};
     ghost use Rattle.ropey_walk.specs.Clips.{clip};
@@ -118,7 +122,7 @@ impl<'a> RopeSlice<'a> {
     ghost use Rattle.ropey_walk.specs.Chunks.{piece_of};
     ghost use Rattle.ropey_walk.specs.Parts.{IsReached};
     ghost use Rattle.ropey_walk.specs.Standing.{StandsAt, IsChunkOf};
-    ghost use Rattle.ropey_walk.specs.Slices.{slice_pieces, slice_text};
+    ghost use Rattle.ropey_walk.specs.Slices.{slice_pieces, slice_text, IsNear};
 
     /// The whole text of a tree, or the empty text. `O(1)`.
     pub fn new(node: Option<&'a Node>) -> Self
@@ -265,10 +269,37 @@ impl<'a> RopeSlice<'a> {
         }
     }
 
-    /// What of a leaf lies in the slice, where the slice has some character.
-    fn clipped(&self, node: &'a Node, by: By, i: usize) -> Chunk<'a>
+    /// `leaf` of a byte, for callers that go from chunk to chunk: they keep a node in hand.
+    fn leaf_near(
+        &self,
+        node: &'a Node,
+        near: &mut Option<OnTheWay<'a>>,
+        byte_idx: usize,
+    ) -> Found<'a>
         requires some { 0 < self.now.len.chars }
         requires under { source_pieces self.now.source ≡ node.now.pieces }
+        requires near { IsNear self.now near.old }
+        ensures near { IsNear self.now near.new }
+        ensures reached { IsReached node.now.pieces self.now.start self.now.len By.Bytes byte_idx
+            result.leaf.now result.before }
+    {
+        // Laws, and the node's facts, for the proof alone.
+        ropey_tree::laws::counts_of_a_cutting();
+        laws::breaks_of_parts();
+        let _ = node.height();
+        if byte_idx < self.len.bytes {
+            leaf_near(node, near, By::Bytes, self.start.bytes + byte_idx)
+        } else {
+            self.leaf(node, By::Bytes, byte_idx)
+        }
+    }
+
+    /// What lies in the slice of the leaf in which place `i` of a measure lies, or at which it ends.
+    fn clipped(&self, node: &'a Node, found: &Found<'a>, by: By, i: usize) -> Chunk<'a>
+        requires some { 0 < self.now.len.chars }
+        requires under { source_pieces self.now.source ≡ node.now.pieces }
+        requires reached { IsReached node.now.pieces self.now.start self.now.len by i
+            found.now.leaf.now found.now.before }
         ensures stands { StandsAt (slice_pieces self.now) by i (chars result.text.now) result.start }
         ensures cut { IsText (slice_pieces self.now) }
         ensures utf8 { IsUtf8 result.text.now }
@@ -276,13 +307,14 @@ impl<'a> RopeSlice<'a> {
         // A law, and the node's facts, for the proof alone.
         laws::breaks_of_parts();
         let _ = node.height();
-        let found = self.leaf(node, by, i);
         let text = found.leaf.as_str();
         let start = self.start.bytes.saturating_sub(found.before.bytes);
         let end = (self.start.bytes + self.len.bytes - found.before.bytes).min(text.len());
         Chunk {
             text: &text[start..end],
             start: found.before.saturating_sub(self.start),
+            // A slice of characters of one byte has no others in any chunk.
+            is_ascii: found.is_ascii | (self.len.chars == self.len.bytes),
         }
     }
 
@@ -300,6 +332,7 @@ impl<'a> RopeSlice<'a> {
         Chunk {
             text: &text[self.start.bytes..self.start.bytes + self.len.bytes],
             start: Counts::zero(),
+            is_ascii: self.len.chars == self.len.bytes,
         }
     }
 
@@ -315,7 +348,26 @@ impl<'a> RopeSlice<'a> {
         }
         match self.source {
             Source::Light(text) => self.only(text),
-            Source::Full(node) => self.clipped(node, by, i),
+            Source::Full(node) => self.clipped(node, &self.leaf(node, by, i), by, i),
         }
+    }
+
+    /// `chunk` of a byte, for callers that go from chunk to chunk: where the next one lies under
+    /// the node that they have in hand, that is as far as it goes. Mostly `O(1)`.
+    pub(crate) fn chunk_near(&self, near: &mut Option<OnTheWay<'a>>, byte_idx: usize) -> Chunk<'a>
+        requires { IsNear self.now near.old }
+        ensures near { IsNear self.now near.new }
+        ensures stands { StandsAt (slice_pieces self.now) By.Bytes byte_idx (chars result.text.now)
+            result.start }
+        ensures cut { IsText (slice_pieces self.now) }
+        ensures utf8 { IsUtf8 result.text.now }
+    {
+        if self.len.chars > 0 {
+            if let Source::Full(node) = self.source {
+                let found = self.leaf_near(node, near, byte_idx);
+                return self.clipped(node, &found, By::Bytes, byte_idx);
+            }
+        }
+        self.chunk(By::Bytes, byte_idx)
     }
 }

@@ -6,12 +6,12 @@ ghost use Rattle.ropey_walk.specs.TwoWay.{turned, before_item, GivesPrev};
 ghost use Rattle.ropey_walk.specs.Iter.{GivesItem, IsCharPlace};
 ghost use Rattle.ropey_walk.specs.Slices.{slice_text};
 
+use crate::ascii::byte_of_char;
 use crate::slice::RopeSlice;
 use ropey_tree::counts::By;
 use std::alloc::AllocError;
 use std::iter::{ExactSizeIterator, FusedIterator};
 use std::marker::Model;
-use str_indices::chars;
 
 /// A place between the characters of a chunk, at its start or at its end.
 #[derive(Clone, Copy)]
@@ -29,7 +29,8 @@ struct Read {
 }
 
 /// The place before character `char_idx` in the chunk in which character `in_char` lies, which is
-/// that one or the one before it.
+/// that one or the one before it. Loops come here once a chunk, and keep it out of their way.
+#[inline(never)]
 fn place_in_chunk_of<'a>(slice: &RopeSlice<'a>, in_char: usize, char_idx: usize) -> CharPlace<'a>
     requires low { in_char ≤ char_idx }
     requires high { char_idx ≤ in_char + 1 }
@@ -47,7 +48,7 @@ fn place_in_chunk_of<'a>(slice: &RopeSlice<'a>, in_char: usize, char_idx: usize)
     let chunk = slice.chunk(By::Chars, in_char);
     CharPlace {
         chunk: chunk.text,
-        at: chars::to_byte_idx(chunk.text, char_idx - chunk.start.chars),
+        at: byte_of_char(chunk.text, chunk.is_ascii, char_idx - chunk.start.chars),
     }
 }
 
@@ -103,6 +104,17 @@ fn read_on(chunk: &str, at: usize) -> Read
             at: at + 1,
         };
     }
+    read_wide_on(chunk, at)
+}
+
+/// `read_on` of a character of several bytes, out of the way of loops over characters of one.
+#[inline(never)]
+fn read_wide_on(chunk: &str, at: usize) -> Read
+    requires boundary { IsCharBoundary chunk.now at }
+    requires more { at < length chunk.now }
+    ensures reads { drop at chunk.now ≡ encode_utf8 result.character ++ drop result.at chunk.now }
+    ensures boundary { IsCharBoundary chunk.now result.at }
+{
     let mut rest = chunk[at..].chars();
     match rest.next() {
         Some(character) => Read {
@@ -128,6 +140,17 @@ fn read_back(chunk: &str, at: usize) -> Read
             at: at - 1,
         };
     }
+    read_wide_back(chunk, at)
+}
+
+/// `read_back` of a character of several bytes, out of the way of loops over characters of one.
+#[inline(never)]
+fn read_wide_back(chunk: &str, at: usize) -> Read
+    requires boundary { IsCharBoundary chunk.now at }
+    requires more { 0 < at }
+    ensures reads { drop result.at chunk.now ≡ encode_utf8 result.character ++ drop at chunk.now }
+    ensures boundary { IsCharBoundary chunk.now result.at }
+{
     let mut rest = chunk[..at].chars();
     match rest.next_back() {
         Some(character) => Read {
@@ -201,7 +224,7 @@ impl<'a> Chars<'a> {
 
     /// The character behind the place, which moves before it; none where none is, and the iterator
     /// stays.
-    #[inline]
+    #[inline(always)]
     pub fn prev(&mut self) -> Option<char>
         ensures { GivesPrev GivesItem self.old result self.new }
     {
@@ -221,7 +244,7 @@ impl<'a> Iterator for Chars<'a> {
 
     ghost remaining = { item_count (λ chars. chars.ahead) };
 
-    #[inline]
+    #[inline(always)]
     fn next(&mut self) -> Option<char> {
         if self.is_reversed {
             if self.char_idx == 0 {

@@ -7,7 +7,7 @@ ghost use Rattle.ropey_walk.specs.Iter.{GivesChunk, IsBetweenPieces, pieces_befo
 ghost use Rattle.ropey_walk.specs.Slices.{slice_pieces};
 
 use crate::slice::RopeSlice;
-use ropey_tree::counts::By;
+use ropey_tree::node::OnTheWay;
 use std::alloc::AllocError;
 use std::iter::FusedIterator;
 use std::marker::Model;
@@ -15,7 +15,8 @@ use std::marker::Model;
 /// The chunks of a text, both ways. Contracts see those ahead and those behind, as texts.
 ///
 /// No chunk is empty, each has 984 bytes at most, and together they are the text; a text of no
-/// characters has none. A step goes down from the root to a leaf, in `O(log n)`.
+/// characters has none. A step goes down from the node above the last chunk, and from the root, in
+/// `O(log n)`, where no chunk is left under that node.
 #[derive(Drop)]
 pub struct Chunks<'a> {
     slice: RopeSlice<'a>,
@@ -23,6 +24,8 @@ pub struct Chunks<'a> {
     byte_idx: usize,
     // The length of the text in bytes.
     len: usize,
+    // The node above the leaf of the last step, from which the next one goes on.
+    near: Option<OnTheWay<'a>>,
     is_reversed: bool,
 }
 
@@ -32,7 +35,7 @@ impl<'a> Model for Chunks<'a> {
     ghost use Rattle.ropey_walk.specs.Chunks.{text_of, IsText};
     ghost use Rattle.ropey_walk.specs.TwoWay.{TwoWay, facing};
     ghost use Rattle.ropey_walk.specs.Iter.{IsBetweenPieces, pieces_before};
-    ghost use Rattle.ropey_walk.specs.Slices.{slice_pieces};
+    ghost use Rattle.ropey_walk.specs.Slices.{slice_pieces, IsNear};
 
     ghost Value = { TwoWay (List ℕ) };
 
@@ -41,7 +44,7 @@ impl<'a> Model for Chunks<'a> {
 
     ghost invariant = { λ chunks. IsBetweenPieces (slice_pieces chunks.slice) chunks.byte_idx ×
         (chunks.len ≡ byte_len (text_of (slice_pieces chunks.slice))) ×
-        IsText (slice_pieces chunks.slice) };
+        IsText (slice_pieces chunks.slice) × IsNear chunks.slice chunks.near };
 }
 
 impl<'a> Chunks<'a> {
@@ -56,6 +59,7 @@ impl<'a> Chunks<'a> {
             slice,
             byte_idx,
             len: slice.len_bytes(),
+            near: None,
             is_reversed: false,
         }
     }
@@ -101,14 +105,18 @@ impl<'a> Iterator for Chunks<'a> {
             if self.byte_idx == 0 {
                 return None;
             }
-            let chunk = self.slice.chunk(By::Bytes, self.byte_idx - 1);
+            let mut near = self.near;
+            let chunk = self.slice.chunk_near(&mut near, self.byte_idx - 1);
+            self.near = near;
             self.byte_idx = chunk.start.bytes;
             Some(chunk.text)
         } else {
             if self.byte_idx == self.len {
                 return None;
             }
-            let chunk = self.slice.chunk(By::Bytes, self.byte_idx);
+            let mut near = self.near;
+            let chunk = self.slice.chunk_near(&mut near, self.byte_idx);
+            self.near = near;
             self.byte_idx += chunk.text.len();
             Some(chunk.text)
         }
@@ -127,6 +135,7 @@ impl<'a> Clone for Chunks<'a> {
             slice: self.slice,
             byte_idx: self.byte_idx,
             len: self.len,
+            near: self.near,
             is_reversed: self.is_reversed,
         })
     }

@@ -1,8 +1,7 @@
 //! The lines of a text, both ways.
 
-ghost use Rattle.std.specs.Prelude.{◌≡◌, ◌+◌, ◌<◌, ◌≤◌, length, true, ⊤};
+ghost use Rattle.std.specs.Prelude.{◌≡◌, ◌+◌, ◌<◌, ◌≤◌, ⊤};
 ghost use Rattle.std.specs.Str.{chars};
-ghost use Rattle.str_indices.specs.Text.{units};
 ghost use Rattle.ropey_walk.specs.Chunks.{line_breaks};
 ghost use Rattle.ropey_walk.specs.Lines.{line_pieces, lines_of};
 ghost use Rattle.ropey_walk.specs.TwoWay.{turned, before_item, GivesPrev};
@@ -10,6 +9,7 @@ ghost use Rattle.ropey_walk.specs.Iter.{GivesLine, IsLinePlace};
 ghost use Rattle.ropey_walk.specs.Slices.{slice_pieces, slice_text};
 ghost use Rattle.ropey_walk.specs.Standing.{IsChunkOf};
 
+use crate::ascii::chars_and_units;
 use crate::laws;
 use crate::places::Place;
 use crate::slice::RopeSlice;
@@ -18,7 +18,6 @@ use ropey_tree::counts::Counts;
 use std::alloc::AllocError;
 use std::iter::{ExactSizeIterator, FusedIterator};
 use std::marker::Model;
-use str_indices::{chars, utf16};
 
 /// The place where a line of a text starts, or its end.
 #[derive(Clone, Copy)]
@@ -27,28 +26,8 @@ pub(crate) struct LinePlace<'a> {
     line_idx: usize,
     // Where it is in a chunk.
     place: Place<'a>,
-    // Whether each character of the chunk is one byte, so that nothing in it needs counting.
-    is_ascii: bool,
     // What the text before it counts.
     before: Counts,
-}
-
-/// What a part of a text counts in characters and in code units, where each of its characters may
-/// be known to be one byte.
-#[inline]
-fn chars_and_units(part: &str, is_ascii: bool) -> (usize, usize)
-    requires { is_ascii ≡ true → length (chars part.now) ≡ length part.now }
-    ensures chars { result.0 ≡ length (chars part.now) }
-    ensures units { result.1 ≡ units (chars part.now) }
-{
-    // Laws, for the proof alone.
-    str_indices::laws::units_are_chars_and_pairs();
-    str_indices::laws::counts_are_at_most_bytes();
-    if is_ascii {
-        (part.len(), part.len())
-    } else {
-        (chars::count(part), utf16::count(part))
-    }
 }
 
 impl<'a> LinePlace<'a> {
@@ -63,7 +42,6 @@ impl<'a> LinePlace<'a> {
         LinePlace {
             line_idx,
             place,
-            is_ascii: chars::count(place.text) == place.text.len(),
             before: slice.counted_to(&place),
         }
     }
@@ -82,21 +60,27 @@ impl<'a> LinePlace<'a> {
     {
         // A law, for the proof alone.
         laws::line_starts();
-        let Place { text, start, at } = self.place;
+        let Place {
+            text,
+            start,
+            at,
+            is_ascii,
+            ..
+        } = self.place;
         let rest = &text[at..];
         let line_idx = self.line_idx + 1;
         match breaks::first_break(rest) {
             None => LinePlace::look_up(slice, line_idx),
             Some(found) => {
-                let (chars, units) = chars_and_units(&rest[..found.end], self.is_ascii);
+                let (chars, units) = chars_and_units(&rest[..found.end], is_ascii);
                 LinePlace {
                     line_idx,
                     place: Place {
                         text,
                         start,
                         at: at + found.end,
+                        is_ascii,
                     },
-                    is_ascii: self.is_ascii,
                     before: Counts {
                         bytes: self.before.bytes + found.end,
                         chars: self.before.chars + chars,
@@ -123,21 +107,27 @@ impl<'a> LinePlace<'a> {
     {
         // A law, for the proof alone.
         laws::line_starts();
-        let Place { text, start, at } = self.place;
+        let Place {
+            text,
+            start,
+            at,
+            is_ascii,
+            ..
+        } = self.place;
         let line_idx = self.line_idx - 1;
         if line_idx <= start.breaks {
             return LinePlace::look_up(slice, line_idx);
         }
         let line_start = breaks::to_byte_idx(text, line_idx - start.breaks);
-        let (chars, units) = chars_and_units(&text[line_start..at], self.is_ascii);
+        let (chars, units) = chars_and_units(&text[line_start..at], is_ascii);
         LinePlace {
             line_idx,
             place: Place {
                 text,
                 start,
                 at: line_start,
+                is_ascii,
             },
-            is_ascii: self.is_ascii,
             before: Counts {
                 bytes: self.before.bytes - (at - line_start),
                 chars: self.before.chars - chars,

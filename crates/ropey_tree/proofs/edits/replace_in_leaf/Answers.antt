@@ -39,7 +39,7 @@ over-requires c =
     let by = rw (c.in-Some-Two.is, c.in-Some-Two.field-0-is) at c.in_ok-replaced.ensures in
     let made = c.replaced.new.made.nodes - c.args.made.now.nodes in
     let is_text = rw c.deref.ensures at c.height-height.ensures.tree.text in
-    rw (c.push-in-Some-Two.ensures, c.push.ensures, c.new-children.ensures, c.height-height.ensures.value, c.deref.ensures) (two_nodes v first second c.args.from c.args.to (chars c.args.text.now) made by.edited is_text c.requires.fits)
+    rw (c.in_ok-children-in-Some-Two.ensures.ok, c.push-in-Some-Two.ensures, c.push.ensures, c.new-children.ensures, c.height-height.ensures.value, c.deref.ensures) (two_nodes v first second c.args.from c.args.to (chars c.args.text.now) made by.edited is_text c.requires.fits)
 
 pub returns-in_ok-root-in-Some-Two-clause-edited : goal.returns-in_ok-root-in-Some-Two-clause-edited
 returns-in_ok-root-in-Some-Two-clause-edited c =
@@ -48,5 +48,5 @@ returns-in_ok-root-in-Some-Two-clause-edited c =
     let second = c.in-Some-Two.second.value in
     let by = rw (c.in-Some-Two.is, c.in-Some-Two.field-0-is) at c.in_ok-replaced.ensures in
     let made = c.replaced.new.made.nodes - c.args.made.now.nodes in
-    let w_is = rw (c.push-in-Some-Two.ensures, c.push.ensures, c.new-children.ensures, c.height-height.ensures.value, c.deref.ensures) at c.in_ok-root-in-Some-Two.ensures.node in
+    let w_is = rw (c.in_ok-children-in-Some-Two.ensures.ok, c.push-in-Some-Two.ensures, c.push.ensures, c.new-children.ensures, c.height-height.ensures.value, c.deref.ensures) at c.in_ok-root-in-Some-Two.ensures.node in
     two_tree v first second c.in_ok-root-in-Some-Two.root.value c.args.from c.args.to (chars c.args.text.now) made by.edited w_is

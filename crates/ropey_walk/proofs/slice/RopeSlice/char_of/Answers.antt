@@ -8,10 +8,16 @@ pub overflow_add-result : goal.overflow_add-result
 overflow_add-result c =
     let place = c.args.place.now in
     let told = tells_chars c.ends_of_a_part.ensures.chars c.from_byte_idx_is_monotone.ensures.chars c.counts_are_at_most_bytes.ensures.chars (slice_text c.args.self.now) (chars place.text.now) place.start place.at c.requires in
-    omega (arith, told.fits, c.from_byte_idx.ensures)
+    omega (arith, told.fits, c.char_of_byte.ensures)
 
 pub returns : goal.returns
 returns c =
     let place = c.args.place.now in
     let told = tells_chars c.ends_of_a_part.ensures.chars c.from_byte_idx_is_monotone.ensures.chars c.counts_are_at_most_bytes.ensures.chars (slice_text c.args.self.now) (chars place.text.now) place.start place.at c.requires in
-    rw c.from_byte_idx.ensures told.is
+    rw c.char_of_byte.ensures told.is
+
+pub char_of_byte-requires-clause-one_byte : goal.char_of_byte-requires-clause-one_byte
+char_of_byte-requires-clause-one_byte c = c.args.place.now.ascii
+
+pub char_of_byte-requires-clause-within : goal.char_of_byte-requires-clause-within
+char_of_byte-requires-clause-within c = c.requires.within

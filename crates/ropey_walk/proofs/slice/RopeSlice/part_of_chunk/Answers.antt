@@ -1,9 +1,8 @@
-use Rattle.std.proofs.Common.{◌≡◌, ◌+◌, ◌<◌, ◌≤◌, List, ℕ, length, ap, sym, ◌∙◌, subst, arith}
+use Rattle.std.proofs.Common.{◌+◌, ◌≤◌, length, ap, sym, ◌∙◌, subst, arith}
 use Rattle.std.specs.Str.{chars}
 use Rattle.std.proofs.lemmas.Str.{encodes-chars, is_utf8-from_IsUtf8}
 use Rattle.str_indices.specs.Text.{byte_len}
 use Rattle.ropey_tree.specs.declared.counts.By.TheVariants.{Bytes}
-use Rattle.ropey_tree.specs.Counts.{minus}
 use Rattle.ropey_walk.specs.Chunks.{text_of, piece_of}
 use Rattle.ropey_walk.specs.Clips.{clip}
 use Rattle.ropey_walk.specs.Slices.{slice_pieces, slice_text}

@@ -9,9 +9,9 @@ use Rattle.ropey_walk.specs.Standing.{StandsAt}
 use Rattle.ropey_walk.proofs.Placing.{char_placed, IsPlaced}
 use Rattle.ropey_walk.proofs.Edges.{end_is_boundary}
 use Rattle.ropey_walk.proofs.slice.RopeSlice.place_of_char.Goals as goal
-use Rattle.ropey_walk.proofs.slice.RopeSlice.place_of_char.Goals.{After-to_byte_idx}
+use Rattle.ropey_walk.proofs.slice.RopeSlice.place_of_char.Goals.{After-byte_of_char}
 
-placed : (c : After-to_byte_idx) → let r = c.chunk-chunk.result in
+placed : (c : After-byte_of_char) → let r = c.chunk-chunk.result in
     IsPlaced (slice_text c.args.self.now) (chars r.text.now) r.start (end_place (char_ends (chars r.text.now)) (c.args.char_idx - r.start.chars) (length r.text.now)) (byte_of_char (slice_text c.args.self.now) c.args.char_idx)
 placed c =
     let r = c.chunk-chunk.result in
@@ -21,12 +21,15 @@ placed c =
     char_placed (slice_pieces c.args.self.now) r.text.now r.start e.utf8 e.cut c.places_of_a_part.ensures.chars c.to_byte_idx_is_a_boundary.ensures.chars c.args.char_idx stands
 
 pub returns-clause-stands : goal.returns-clause-stands
-returns-clause-stands c = rw c.to_byte_idx.ensures (placed (goal.at.returns-clause-stands c).After-to_byte_idx).stands
+returns-clause-stands c = rw c.byte_of_char.ensures (placed (goal.at.returns-clause-stands c).After-byte_of_char).stands
 
 pub returns-clause-place : goal.returns-clause-place
-returns-clause-place c = rw c.to_byte_idx.ensures (placed (goal.at.returns-clause-place c).After-to_byte_idx).place_is
+returns-clause-place c = rw c.byte_of_char.ensures (placed (goal.at.returns-clause-place c).After-byte_of_char).place_is
 
 pub returns-clause-boundary : goal.returns-clause-boundary
 returns-clause-boundary c =
     let r = c.chunk-chunk.result in
-    rw c.to_byte_idx.ensures (end_is_boundary char_ends c.to_byte_idx_is_a_boundary.ensures.chars r.text.now c.chunk-chunk.ensures.utf8 (c.args.char_idx - r.start.chars))
+    rw c.byte_of_char.ensures (end_is_boundary char_ends c.to_byte_idx_is_a_boundary.ensures.chars r.text.now c.chunk-chunk.ensures.utf8 (c.args.char_idx - r.start.chars))
+
+pub byte_of_char-requires : goal.byte_of_char-requires
+byte_of_char-requires c = c.chunk-chunk.result.ascii

@@ -6,10 +6,13 @@ pub returns-clause-stands : goal.returns-clause-stands
 returns-clause-stands c =
     let r = c.chunk-chunk.result in
     let e = c.chunk-chunk.ensures in
-    rw c.to_byte_idx.ensures (unit_placed (slice_pieces c.args.self.now) r.text.now r.start e.utf8 e.cut c.places_of_a_part.ensures.units c.to_byte_idx_is_a_boundary.ensures.units c.args.utf16_cu_idx e.stands).stands
+    rw c.byte_of_unit.ensures (unit_placed (slice_pieces c.args.self.now) r.text.now r.start e.utf8 e.cut c.places_of_a_part.ensures.units c.to_byte_idx_is_a_boundary.ensures.units c.args.utf16_cu_idx e.stands).stands
 
 pub returns-clause-place : goal.returns-clause-place
 returns-clause-place c =
     let r = c.chunk-chunk.result in
     let e = c.chunk-chunk.ensures in
-    rw c.to_byte_idx.ensures (unit_placed (slice_pieces c.args.self.now) r.text.now r.start e.utf8 e.cut c.places_of_a_part.ensures.units c.to_byte_idx_is_a_boundary.ensures.units c.args.utf16_cu_idx e.stands).place_is
+    rw c.byte_of_unit.ensures (unit_placed (slice_pieces c.args.self.now) r.text.now r.start e.utf8 e.cut c.places_of_a_part.ensures.units c.to_byte_idx_is_a_boundary.ensures.units c.args.utf16_cu_idx e.stands).place_is
+
+pub byte_of_unit-requires : goal.byte_of_unit-requires
+byte_of_unit-requires c = c.chunk-chunk.result.ascii

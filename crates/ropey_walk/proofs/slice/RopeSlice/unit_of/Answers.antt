@@ -8,10 +8,16 @@ pub overflow_add-result : goal.overflow_add-result
 overflow_add-result c =
     let place = c.args.place.now in
     let told = tells_units c.ends_of_a_part.ensures.units c.from_byte_idx_is_monotone.ensures.units c.counts_are_at_most_bytes.ensures.units (slice_text c.args.self.now) (chars place.text.now) place.start place.at c.requires in
-    omega (arith, told.fits, c.from_byte_idx.ensures)
+    omega (arith, told.fits, c.unit_of_byte.ensures)
 
 pub returns : goal.returns
 returns c =
     let place = c.args.place.now in
     let told = tells_units c.ends_of_a_part.ensures.units c.from_byte_idx_is_monotone.ensures.units c.counts_are_at_most_bytes.ensures.units (slice_text c.args.self.now) (chars place.text.now) place.start place.at c.requires in
-    rw c.from_byte_idx.ensures told.is
+    rw c.unit_of_byte.ensures told.is
+
+pub unit_of_byte-requires-clause-one_byte : goal.unit_of_byte-requires-clause-one_byte
+unit_of_byte-requires-clause-one_byte c = c.args.place.now.ascii
+
+pub unit_of_byte-requires-clause-within : goal.unit_of_byte-requires-clause-within
+unit_of_byte-requires-clause-within c = c.requires.within

@@ -67,4 +67,4 @@ returns-in-Some-clause-place c =
     let at = (goal.at.returns-in-Some-clause-place c).After-range in
     let told = c.chars_and_units-chars in
     line_passed c.line_starts.ensures (slice_text c.args.slice.now) c.args.self c.requires.here c.in-Some.found.start c.in-Some.found.end (first at) c.requires.some
-    told.result.0 told.result.1 (chars_are at told.result.0 told.ensures.chars) (units_are at told.result.1 told.ensures.units)
+    told.result.0 told.result.1 (chars_are at told.result.0 told.ensures.chars) (units_are at told.result.1 told.ensures.units) _

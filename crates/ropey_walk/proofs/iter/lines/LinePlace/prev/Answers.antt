@@ -59,4 +59,4 @@ returns-clause-place c =
     let at = (goal.at.returns-clause-place c).After-to_byte_idx-line_start in
     let told = c.chars_and_units-chars in
     line_unpassed c.line_starts.ensures (slice_text c.args.slice.now) c.args.self c.requires.here (c.args.self.line_idx - 1) c.to_byte_idx-line_start.result (next at) c.requires.within (behind at) c.to_byte_idx-line_start.ensures
-    c.range.result.now c.range.ensures.value told.result.0 told.result.1 told.ensures.chars told.ensures.units
+    c.range.result.now c.range.ensures.value told.result.0 told.result.1 told.ensures.chars told.ensures.units _

@@ -1,7 +1,7 @@
 use Rattle.std.proofs.Common.{◌≡◌, ◌++◌, take, ap, sym, ◌∙◌, arith}
 use Rattle.std.specs.Prelude.{encode_utf8}
 use Rattle.ropey_walk.proofs.CharWalks.{boundary_before}
-use Rattle.ropey_walk.proofs.iter.chars.read_back.Goals as goal
+use Rattle.ropey_walk.proofs.iter.chars.read_wide_back.Goals as goal
 
 pub returns-clause-boundary : goal.returns-clause-boundary
 returns-clause-boundary c =

@@ -1,15 +1,15 @@
 use Rattle.std.proofs.Common.{length, ap, arith}
 use Rattle.std.specs.Str.{chars}
 use Rattle.std.proofs.lemmas.Str.{encodes-chars}
-use Rattle.ropey_walk.proofs.iter.lines.chars_and_units.Goals as goal
+use Rattle.ropey_walk.proofs.ascii.chars_and_units.Goals as goal
 
 pub returns-then-is_ascii-clause-units : goal.returns-then-is_ascii-clause-units
 returns-then-is_ascii-clause-units c =
-    let text = chars c.args.part.now in
+    let text = chars c.args.text.now in
     omega (
       arith,
       c.requires c.if-is_ascii.true,
-      ap length (encodes-chars c.args.part.now c.utf8.part),
+      ap length (encodes-chars c.args.text.now c.utf8.text),
       c.units_are_chars_and_pairs.ensures text,
       c.counts_are_at_most_bytes.ensures.units text,
     )

@@ -1,12 +1,13 @@
 use Rattle.std.proofs.Common.{arith}
+use Rattle.std.proofs.lemmas.Bool.{false≢true}
 use Rattle.ropey_tree.specs.Counts.{plus}
 use Rattle.ropey_tree.specs.Nodes.{LiesIn}
-use Rattle.ropey_tree.proofs.Descents.{whole_lies, deeper, Fits, lies_fits}
-use Rattle.ropey_tree.proofs.node.descend.Goals as goal
-use Rattle.ropey_tree.proofs.node.descend.Goals.{After-enter-entered}
+use Rattle.ropey_tree.proofs.Descents.{whole_lies, deeper, Fits, lies_fits, known_bytes}
+use Rattle.ropey_tree.proofs.node.descend_to.Goals as goal
+use Rattle.ropey_tree.proofs.node.descend_to.Goals.{After-enter-entered}
 
 pub loop-init : goal.loop-init
-loop-init c = rw c.zero-before.ensures (whole_lies c.args.node.now.pieces c.args.by c.args.i, omega arith, omega arith, omega arith)
+loop-init c = rw c.zero-before.ensures (whole_lies c.args.node.now.pieces c.args.by c.args.i, omega arith, omega arith, omega arith, omega arith, λ e. absurd (false≢true e))
 
 lies : (c : After-enter-entered) → LiesIn c.args.node.now.pieces c.enter-entered.result.node.now.pieces c.args.by c.args.i (plus c.loop.before c.enter-entered.result.before)
 lies c =
@@ -31,4 +32,4 @@ plus-before-requires-clause-breaks c = (fits (goal.at.plus-before-requires-claus
 pub loop-preserved : goal.loop-preserved
 loop-preserved c =
     let step = lies (goal.at.loop-preserved c).After-enter-entered in
-    (rw c.plus-before.ensures step, omega (arith, c.enter-entered.ensures.visited, c.loop.invariant.1), omega (arith, c.enter-entered.ensures.level, c.loop.invariant.2), omega (arith, c.enter-entered.ensures.compared, c.loop.invariant.3))
+    (rw c.plus-before.ensures step, omega (arith, c.enter-entered.ensures.visited, c.loop.invariant.1), omega (arith, c.enter-entered.ensures.level, c.loop.invariant.2), omega (arith, c.enter-entered.ensures.compared, c.loop.invariant.3, c.loop.invariant.4), omega (arith, c.loop.invariant.4), λ e. known_bytes c.enter-entered.result.len c.enter-entered.result.node.now.pieces e c.enter-entered.ensures.counted)

@@ -1,7 +1,7 @@
 use Rattle.std.proofs.Common.{◌≡◌, get_or, ap, sym, ◌∙◌, arith, rules}
 use Rattle.ropey_tree.specs.Siblings.{siblings_of}
 use Rattle.ropey_tree.proofs.InRow.{part_fits}
-use Rattle.ropey_tree.proofs.siblings.Siblings.gather.Goals as goal
+use Rattle.ropey_tree.proofs.siblings.Siblings.copy_into.Goals as goal
 
 pub push-requires-clause-fits : goal.push-requires-clause-fits
 push-requires-clause-fits c =
