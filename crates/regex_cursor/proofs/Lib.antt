@@ -3,3 +3,5 @@ pub mod OrderLaws
 pub mod ShowingLaws
 pub mod PatternLemmas
 pub mod PlaceLaws
+pub mod StrategyLaws
+pub mod SetLaws

@@ -1,5 +1,5 @@
--- What iterators over matches give, in order, and that parts are the gaps between them.
-use Rattle.std.proofs.Common.{◌≡◌, ◌⊎◌, inl, inr, ℕ, true, false, List, [], ◌∷◌, ◌++◌, map, Option, Some, None, Result, Ok, Err, append_assoc, refl, sym, ap, ap₂, subst, ◌∙◌}
+-- What iterators over matches give, in order, and that parts are the gaps between them, or the first of these.
+use Rattle.std.proofs.Common.{◌≡◌, ◌⊎◌, inl, inr, ℕ, zero, suc, ◌+◌, ◌<◌, true, false, List, [], ◌∷◌, ◌++◌, map, take, Option, Some, None, Result, Ok, Err, append_assoc, refl, sym, ap, ap₂, subst, ◌∙◌, arith}
 use Rattle.std.specs.List.{last_or}
 use Rattle.std.specs.Iterator.{Yields}
 use Rattle.std.proofs.Props.{props}
@@ -25,12 +25,15 @@ use Rattle.rx_chunk.specs.Iterating.{GivesNext, captured_of}
 use Rattle.regex_cursor.specs.declared.engines.meta.captures_matches.CapturesMatches.{CapturesMatches}
 use Rattle.regex_cursor.specs.declared.engines.meta.find_matches.FindMatches.{FindMatches}
 use Rattle.regex_cursor.specs.declared.engines.meta.split.Split.{Split}
+use Rattle.regex_cursor.specs.declared.engines.meta.split.SplitN.{SplitN}
 use Rattle.regex_cursor.specs.Patterns.{FoundMatch, start_of, end_of}
-use Rattle.regex_cursor.specs.Regexes.{CacheView, Engine, HasRoom, IsCacheOf}
+use Rattle.regex_cursor.specs.Regexes.{Engine, HasRoom}
 use Rattle.regex_cursor.specs.Iterating as iterating
 use Rattle.regex_cursor.specs.Capturing as capturing
 use Rattle.regex_cursor.specs.Splitting as splitting
 use Rattle.regex_cursor.specs.Splitting.{PartsLeft, parts_of, EndsWith, part, none, SplitsOff, over, at_match, at_end, no_end, refused, between, end_of_search, gaps, last_part, GivesGaps}
+use Rattle.regex_cursor.specs.SplittingFew as few
+use Rattle.regex_cursor.specs.SplittingFew.{SplitsFew, enough, some, last_one, few_gaps, GivesFewGaps}
 
 same-some : {A : Type 0} (a b : A) → Some a ≡ Some b → a ≡ b
 same-some a b e = cc
@@ -256,6 +259,67 @@ none-refused : (xs : List Span) → not_refused {E = MatchError} xs ≡ [] → x
 none-refused [] e = refl
 none-refused (x ∷ xs) e = absurd (cc e)
 
+-- ---- steps where so many parts may still come
+
+abbrev part-in : Span → Option (Result Span MatchError) → Span
+part-in x (Some (Ok y)) = y
+part-in x (Some (Err error)) = x
+part-in x None = x
+
+-- one that gives a part: it is the next one of all parts, or the last of so many
+record NextOfAll (p : ByteProgram) (a b : PartsLeft) (limit left : ℕ) (item : Option (Result Span MatchError)) : Type 0 where
+  more : 0 < left
+  limit_is : limit ≡ suc left
+  step : SplitsOff p a b item
+
+record LastOfFew (a : PartsLeft) (limit left : ℕ) (last : Option Span) : Type 0 where
+  limit_is : limit ≡ 1
+  left_is : left ≡ 0
+  rest : EndsWith a.last (end_of_search a.matches.search) last
+
+next-of-all : (p : ByteProgram) (a b : PartsLeft) (limit : ℕ) (item : Option (Result Span MatchError)) → 0 < limit → SplitsOff p a b item → NextOfAll p a b (limit + 1) limit item
+next-of-all p a b limit item more step = record { more = more; limit_is = let is : limit + 1 ≡ suc limit = omega arith in is; step = step }
+
+few-part : (p : ByteProgram) (a b : PartsLeft) (limit left : ℕ) (item : Option (Result Span MatchError)) (x : Span) → item ≡ Some (Ok x) → SplitsFew p a b limit left item
+    → NextOfAll p a b limit left (Some (Ok x)) ⊎ LastOfFew a limit left (Some x)
+few-part p a b limit left item x is (enough same) = absurd (cc is)
+few-part p a b limit left item x is (some more step) = inl (next-of-all p a b left (Some (Ok x)) more (subst (SplitsOff p a b) is step))
+few-part p a b limit left item x is (few.over done same) = absurd (cc is)
+few-part p a b limit left item x is (last_one {part = Some y} going rest left_is) =
+    inr (record { limit_is = refl; left_is = refl; rest = subst (λ z. EndsWith a.last (end_of_search a.matches.search) (Some z)) (ap (part-in x) is) rest })
+few-part p a b limit left item x is (last_one {part = None} going rest left_is) = absurd (cc is)
+
+-- one that gives none, where none was refused and the last part didn't come yet
+few-none : (p : ByteProgram) (a b : PartsLeft) (limit left : ℕ) (item : Option (Result Span MatchError)) → item ≡ None → a.is_over ≡ false → SplitsFew p a b limit left item
+    → (limit ≡ 0) ⊎ NextOfAll p a b limit left None ⊎ LastOfFew a limit left None
+few-none p a b limit left item is going (enough same) = inl refl
+few-none p a b limit left item is going (some more step) = inr (inl (next-of-all p a b left None more (subst (SplitsOff p a b) is step)))
+few-none p a b limit left item is going (few.over done same) = absurd (let no : true ≡ false = sym done ∙ going in absurd (cc no))
+few-none p a b limit left item is going (last_one {part = Some y} going' rest left_is) = absurd (cc is)
+few-none p a b limit left item is going (last_one {part = None} going' rest left_is) = inr (inr (record { limit_is = refl; left_is = refl; rest = rest }))
+
+-- one that is refused
+few-refused : (p : ByteProgram) (a b : PartsLeft) (limit left : ℕ) (item : Option (Result Span MatchError)) (error : MatchError) → item ≡ Some (Err error) → SplitsFew p a b limit left item → b.is_over ≡ true
+few-refused p a b limit left item error is (enough same) = absurd (cc is)
+few-refused p a b limit left item error is (some more step) = is-refused p a b error (subst (SplitsOff p a b) is step)
+few-refused p a b limit left item error is (few.over done same) = absurd (cc is)
+few-refused p a b limit left item error is (last_one {part = Some y} going rest left_is) = absurd (cc is)
+few-refused p a b limit left item error is (last_one {part = None} going rest left_is) = absurd (cc is)
+
+-- none gives anything where no more may come
+few-over : (p : ByteProgram) (a b : PartsLeft) (limit left : ℕ) (item : Option (Result Span MatchError)) (x : Result Span MatchError) → item ≡ Some x → (limit ≡ 0) ⊎ (a.is_over ≡ true)
+    → SplitsFew p a b limit left item → ⊥
+few-over p a b limit left item x is done (enough same) = absurd (cc is)
+few-over p a b limit left item x is (inl zero_left) (some more step) = let no : ⊥ = omega (arith, zero_left) in no
+few-over p a b limit left item x is (inr done) (some more step) = over-gives p a b x done (subst (SplitsOff p a b) is step)
+few-over p a b limit left item x is done (few.over done' same) = absurd (cc is)
+few-over p a b limit left item x is (inl zero_left) (last_one going rest left_is) = let no : ⊥ = omega (arith, zero_left) in no
+few-over p a b limit left item x is (inr done) (last_one going rest left_is) = let no : true ≡ false = sym done ∙ going in absurd (cc no)
+
+take-none : (n : ℕ) → take {A = FoundMatch} n [] ≡ []
+take-none zero = refl
+take-none (suc n) = refl
+
 module _ (C : Type 0) (cursor : Ghosts C) (re : Engine) (grow : MatchesGrow re) (s : Search) where
   abbrev Splits : Split C cursor → Type 0
   Splits m = splitting.regex_of m ≡ re
@@ -404,10 +468,133 @@ module _ (C : Type 0) (cursor : Ghosts C) (re : Engine) (grow : MatchesGrow re) 
     refused = λ n xs error others run. none-behind-refusal m n xs error others of run;
   }
 
--- that a cache serves a regex is told in one way
-pub same-serves : (re : Engine) (cache : CacheView) (one other : IsCacheOf re cache) → one ≡ other
-same-serves re cache = hlevel props
+  -- ---- at most so many parts
 
--- and so is that captures have room
+  abbrev SplitsToo : SplitN C cursor → Type 0
+  SplitsToo m = few.regex_of m ≡ re
+
+  abbrev PartsOf : SplitN C cursor → PartsLeft
+  PartsOf m = splitting.left_of m.splits
+
+  few-step : (m n : SplitN C cursor) (item : Option (Result Span MatchError)) → SplitsToo m → few.Gives m item n → SplitsToo n × SplitsFew re.program (PartsOf m) (PartsOf n) m.limit n.limit item
+  few-step m n item of step = (step.same_regex ∙ of, subst (λ r. SplitsFew r.program (PartsOf m) (PartsOf n) m.limit n.limit item) of step.next)
+
+  few-give-none : (m n : SplitN C cursor) (items : List (Result Span MatchError)) → SplitsToo m → (m.limit ≡ 0) ⊎ ((PartsOf m).is_over ≡ true) → Yields few.Gives m items n → items ≡ []
+  few-give-none m n [] of done run = refl
+  few-give-none m n (item ∷ items) of done run =
+      absurd (few-over re.program (PartsOf m) (PartsOf run.0) m.limit run.0.limit (Some item) item refl done (few-step m run.0 (Some item) of run.1).1)
+
+  few-give-no-part : (m n : SplitN C cursor) (xs : List Span) → SplitsToo m → (m.limit ≡ 0) ⊎ ((PartsOf m).is_over ≡ true) → Yields few.Gives m (not_refused xs) n → xs ≡ []
+  few-give-no-part m n xs of done run = none-refused xs (few-give-none m n (not_refused xs) of done run)
+
+  abbrev FewGaps : ℕ → List FoundMatch → List FoundMatch → List Span
+  FewGaps limit ms more = few_gaps limit (part_start (last_or None ms)) (end_of_search s) more
+
+  few-gaps-more : (limit : ℕ) (ms : List FoundMatch) (b : PartsLeft) (x : Span) (one : OneMore ms b x) (more : List FoundMatch) → 0 < limit
+      → FewGaps (suc limit) ms (one.t ∷ more) ≡ x ∷ FewGaps limit (ms ++ one.t ∷ []) more
+  few-gaps-more zero ms b x one more low = absurd (let no : ⊥ = omega (arith, low) in no)
+  few-gaps-more (suc others) ms b x one more low = gaps-more ms b x one (take others more)
+
+  few-gaps-last : (limit : ℕ) (ms : List FoundMatch) → FewGaps (suc limit) ms [] ≡ Gaps ms []
+  few-gaps-last limit ms = ap (Gaps ms) (take-none limit)
+
+  -- the last part of all, and the last of so many
+  last-of-all : (limit left : ℕ) (ms : List FoundMatch) (a : PartsLeft) (x : Span) → Stands ms a → limit ≡ suc left → EndsWith a.last (end_of_search a.matches.search) (Some x) → FewGaps limit ms [] ≡ x ∷ []
+  last-of-all limit left ms a x stands limit_is rest = ap (λ k. FewGaps k ms []) limit_is ∙ few-gaps-last left ms ∙ last-gap ms a x stands rest
+
+  last-of-few : (limit : ℕ) (ms more : List FoundMatch) (a : PartsLeft) (x : Span) → Stands ms a → limit ≡ 1 → EndsWith a.last (end_of_search a.matches.search) (Some x) → FewGaps limit ms more ≡ x ∷ []
+  last-of-few limit ms more a x stands limit_is rest = ap (λ k. FewGaps k ms more) limit_is ∙ last-gap ms a x stands rest
+
+  few-first : (ms : List FoundMatch) (m n : SplitN C cursor) (xs : List Span) → SplitsToo m → First ms → Stands ms (PartsOf m) → Yields few.Gives m (not_refused xs) n
+      → (more : List FoundMatch) × All (ms ++ more) × (others : List Span) × (FewGaps m.limit ms more ≡ xs ++ others)
+  few-first ms m n [] of are stands run = (are.0, are.1, FewGaps m.limit ms are.0, refl)
+  few-first ms m n (x ∷ xs) of are stands run =
+      let j = run.0 in
+      let step = few-step m j (Some (Ok x)) of run.1 in
+      elim (few-part re.program (PartsOf m) (PartsOf j) m.limit j.limit (Some (Ok x)) x refl step.1) [
+        | inl next ↦ elim (gives-part re.program (PartsOf m) (PartsOf j) x next.step) [
+          | inl at ↦
+              let one = one-more ms (PartsOf m) (PartsOf j) x are stands at in
+              let on = few-first (ms ++ one.t ∷ []) j n xs step.0 one.first one.stands run.2 in (
+                one.t ∷ on.0,
+                subst All (append_assoc ms (one.t ∷ []) on.0) on.1,
+                on.2,
+                ap (λ k. FewGaps k ms (one.t ∷ on.0)) next.limit_is ∙ few-gaps-more j.limit ms (PartsOf j) x one on.0 next.more ∙ ap (λ ys. x ∷ ys) on.3,
+              )
+          | inr at ↦
+              let nothing_more : xs ≡ [] = few-give-no-part j n xs step.0 (inr at.is_over) run.2 in (
+                [],
+                subst All (sym (append-nil ms)) (all-matches ms (PartsOf m) (PartsOf j) are stands at.next),
+                [],
+                last-of-all m.limit j.limit ms (PartsOf m) x stands next.limit_is at.rest ∙ ap (λ ys. x ∷ ys ++ []) (sym nothing_more),
+              )
+        ]
+        | inr limited ↦
+            let nothing_more : xs ≡ [] = few-give-no-part j n xs step.0 (inl limited.left_is) run.2 in (
+              are.0,
+              are.1,
+              [],
+              last-of-few m.limit ms are.0 (PartsOf m) x stands limited.limit_is limited.rest ∙ ap (λ ys. x ∷ ys ++ []) (sym nothing_more),
+            )
+      ]
+
+  few-all : (ms : List FoundMatch) (m t u : SplitN C cursor) (xs : List Span) → SplitsToo m → First ms → Stands ms (PartsOf m) → Yields few.Gives m (not_refused xs) t → few.Gives t None u
+      → (more : List FoundMatch) × All (ms ++ more) × (xs ≡ FewGaps m.limit ms more)
+  few-all ms m t u [] of are stands run last =
+      let step = few-step m u None of (subst (λ k. few.Gives k None u) (sym run) last) in
+      let going = ap (λ a. a.is_over) stands ∙ parts_go_on s (last_or None ms) in
+      elim (few-none re.program (PartsOf m) (PartsOf u) m.limit u.limit None refl going step.1) [
+        | inl zero_left ↦ (are.0, are.1, ap (λ k. FewGaps k ms are.0) (sym zero_left))
+        | inr (inl next) ↦
+            let no = gives-none re.program (PartsOf m) (PartsOf u) going next.step in (
+              [],
+              subst All (sym (append-nil ms)) (all-matches ms (PartsOf m) (PartsOf u) are stands no.next),
+              sym (ap (λ k. FewGaps k ms []) next.limit_is ∙ few-gaps-last u.limit ms ∙ no-gap ms (PartsOf m) stands no.rest),
+            )
+        | inr (inr limited) ↦ (are.0, are.1, sym (ap (λ k. FewGaps k ms are.0) limited.limit_is ∙ no-gap ms (PartsOf m) stands limited.rest))
+      ]
+  few-all ms m t u (x ∷ xs) of are stands run last =
+      let j = run.0 in
+      let step = few-step m j (Some (Ok x)) of run.1 in
+      elim (few-part re.program (PartsOf m) (PartsOf j) m.limit j.limit (Some (Ok x)) x refl step.1) [
+        | inl next ↦ elim (gives-part re.program (PartsOf m) (PartsOf j) x next.step) [
+          | inl at ↦
+              let one = one-more ms (PartsOf m) (PartsOf j) x are stands at in
+              let on = few-all (ms ++ one.t ∷ []) j t u xs step.0 one.first one.stands run.2 last in (
+                one.t ∷ on.0,
+                subst All (append_assoc ms (one.t ∷ []) on.0) on.1,
+                ap (λ ys. x ∷ ys) on.2 ∙ sym (ap (λ k. FewGaps k ms (one.t ∷ on.0)) next.limit_is ∙ few-gaps-more j.limit ms (PartsOf j) x one on.0 next.more),
+              )
+          | inr at ↦
+              let nothing_more : xs ≡ [] = few-give-no-part j t xs step.0 (inr at.is_over) run.2 in (
+                [],
+                subst All (sym (append-nil ms)) (all-matches ms (PartsOf m) (PartsOf j) are stands at.next),
+                ap (λ ys. x ∷ ys) nothing_more ∙ sym (last-of-all m.limit j.limit ms (PartsOf m) x stands next.limit_is at.rest),
+              )
+        ]
+        | inr limited ↦
+            let nothing_more : xs ≡ [] = few-give-no-part j t xs step.0 (inl limited.left_is) run.2 in (
+              are.0,
+              are.1,
+              ap (λ ys. x ∷ ys) nothing_more ∙ sym (last-of-few m.limit ms are.0 (PartsOf m) x stands limited.limit_is limited.rest),
+            )
+      ]
+
+  few-none-behind-refusal : (m n : SplitN C cursor) (xs : List Span) (error : MatchError) (others : List (Result Span MatchError)) → SplitsToo m
+      → Yields few.Gives m (not_refused xs ++ Err error ∷ others) n → others ≡ []
+  few-none-behind-refusal m n [] error others of run =
+      let step = few-step m run.0 (Some (Err error)) of run.1 in
+      few-give-none run.0 n others step.0 (inr (few-refused re.program (PartsOf m) (PartsOf run.0) m.limit run.0.limit (Some (Err error)) error refl step.1)) run.2
+  few-none-behind-refusal m n (x ∷ xs) error others of run =
+      few-none-behind-refusal run.0 n xs error others (few-step m run.0 (Some (Ok x)) of run.1).0 run.2
+
+  pub gives_few_gaps : (m : SplitN C cursor) → few.regex_of m ≡ re → PartsOf m ≡ parts_of (matches_from s) → GivesFewGaps re s m.limit m
+  gives_few_gaps m of stands = record {
+    first = λ n xs run. few-first [] m n xs of (grow s).none stands run;
+    all = λ xs run. few-all [] m run.1.0 run.0 xs of (grow s).none stands run.1.1 run.1.2;
+    refused = λ n xs error others run. few-none-behind-refusal m n xs error others of run;
+  }
+
+-- that captures have room is told in one way
 pub same-room : (re : Engine) (caps : Captured) (one other : HasRoom re caps) → one ≡ other
 same-room re caps = hlevel props

@@ -4,6 +4,7 @@ pub mod Lending
 pub mod PatternLaws
 pub mod Patterns
 pub mod Regexes
+pub mod Strategies
 pub mod Showing
 pub mod Splitting
 pub mod SplittingFew

@@ -15,8 +15,6 @@ use Rattle.rx_walks.specs.Programs.{Notes}
 use Rattle.rx_walks.specs.ProgramFinds.{ProgramMatches}
 use Rattle.rx_program.specs.Programs.{characters_of}
 use Rattle.rx_program.specs.declared.error.BuildError.{BuildError}
-use Rattle.rx_steps.specs.Caches as cache
-pub use Rattle.rx_steps.specs.Caches.{CacheView}
 use Rattle.rx_steps.specs.Searching.{search_of, IsAnswer}
 -- a regex is seen as an engine is
 pub use Rattle.rx_chunk.specs.Engines.{Engine, Wanted, IsFound, TellsWhether}
@@ -41,9 +39,13 @@ IsRegexOf text re = IsBuiltOf text regex_settings re
 abbrev pub IsRefusedAsRegex : List ℕ → BuildError → Type 0
 IsRefusedAsRegex text error = IsRefused text regex_settings error
 
+-- a cache is seen as the regex that it was made for
+abbrev pub CacheView : Type 0
+CacheView = Engine
+
 -- a cache made for a regex
 abbrev pub IsCacheOf : Engine → CacheView → Type 0
-IsCacheOf re c = cache.IsCacheOf re.program c
+IsCacheOf re c = c ≡ re
 
 -- the search that an input asks a regex for
 abbrev pub search_by : Engine → InputState → Search

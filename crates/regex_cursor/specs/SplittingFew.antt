@@ -1,14 +1,17 @@
 -- What the iterator over at most so many parts gives.
-use Rattle.std.specs.Prelude.{◌≡◌, ℕ, ◌+◌, ◌<◌, true, false, Option, Some, None, Result, Ok}
-use Rattle.std.specs.Iterator.{Count, at_most}
+use Rattle.std.specs.Prelude.{◌≡◌, ℕ, zero, suc, ◌+◌, ◌<◌, true, false, List, [], ◌∷◌, ◌++◌, take, Option, Some, None, Result, Ok, Err}
+use Rattle.std.specs.Iterator.{Count, Drains, Yields, at_most}
 use Rattle.rx_util.specs.declared.search.MatchError.{MatchError}
 use Rattle.rx_util.specs.declared.search.Span.{Span}
 use Rattle.rx_input.specs.declared.cursor.Cursor.{Ghosts}
+use Rattle.rx_walks.specs.Finds.{Search}
 use Rattle.rx_program.specs.Programs.{ByteProgram}
 use Rattle.regex_cursor.specs.declared.engines.meta.split.SplitN.{SplitN}
 use Rattle.regex_cursor.specs.Splitting as splitting
-use Rattle.regex_cursor.specs.Splitting.{PartsLeft, EndsWith, SplitsOff, end_of_search}
-use Rattle.regex_cursor.specs.Regexes.{Engine}
+use Rattle.regex_cursor.specs.Splitting.{PartsLeft, EndsWith, SplitsOff, end_of_search, gaps}
+use Rattle.regex_cursor.specs.Iterating.{not_refused}
+use Rattle.regex_cursor.specs.Patterns.{FoundMatch}
+use Rattle.regex_cursor.specs.Regexes.{Engine, RegexMatches}
 
 -- an item that is a part, or none
 abbrev pub told_part : Option Span → Option (Result Span MatchError)
@@ -44,6 +47,31 @@ pub record Gives {C : Type 0} {cursor : Ghosts C} (m : SplitN C cursor)
   pub next : SplitsFew (regex_of m).program (left_of m).parts (left_of n).parts (left_of m).limit
       (left_of n).limit item
   pub same_regex : regex_of n ≡ regex_of m
+
+-- ---- all parts
+
+-- at most so many gaps from a place on: those between the first matches, one fewer than so many, so
+-- that the last of them goes on to the end of all
+abbrev pub few_gaps : ℕ → ℕ → ℕ → List FoundMatch → List Span
+few_gaps zero start end matches = []
+few_gaps (suc others) start end matches = gaps start end (take others matches)
+
+-- What the iterator gives of a search: at most so many gaps between the matches that the regex has
+-- there, from 0 on; before a refusal and before it is drained the first of them, and nothing after a
+-- refusal.
+pub record GivesFewGaps {C : Type 0} {cursor : Ghosts C} (re : Engine) (s : Search) (limit : ℕ)
+    (m : SplitN C cursor) : Type 0 where
+  pub first : (n : SplitN C cursor) (parts : List Span) → Yields Gives m (not_refused parts) n
+      → (ms : List FoundMatch) × RegexMatches re s ms × (others : List Span)
+      × (few_gaps limit 0 (end_of_search s) ms ≡ parts ++ others)
+  pub all : (parts : List Span) → Drains Gives m (not_refused parts)
+      → (ms : List FoundMatch) × RegexMatches re s ms
+      × (parts ≡ few_gaps limit 0 (end_of_search s) ms)
+  pub refused : (n : SplitN C cursor) (parts : List Span) (error : MatchError)
+      (others : List (Result Span MatchError))
+      → Yields Gives m (not_refused parts ++ Err error ∷ others) n → others ≡ []
+
+-- ---- how many
 
 abbrev pub few_left : FewLeft → Count
 few_left m = at_most m.limit

@@ -395,6 +395,13 @@ impl PikeVM {
     {
         &self.groups
     }
+
+    /// The program that it searches for, for the engines that search by it too. `O(1)`.
+    pub fn program(&self) -> &Program
+        ensures { result.now ≡ self.now.program }
+    {
+        &self.program
+    }
 }
 
 /// What searches with an engine keep from one to the next, so that they ask for memory once. It

@@ -1,6 +1,7 @@
 -- What stands next to where an input stands.
 use Rattle.std.proofs.Common.{inl, inr, ◌≡◌, ℕ, zero, suc, ◌+◌, ◌-◌, ◌<◌, ◌≤◌, Bool, true, false, min, max, List, [], ◌∷◌, ◌++◌, length, take, drop, reverse, Option, Some, None, slice_get, refl, sym, ap, subst, ◌∙◌, arith}
 use Rattle.std.proofs.lemmas.List.{length-take, length-drop, reverse-append}
+use Rattle.std.proofs.lemmas.Option.{slice_get_within}
 use Rattle.rx_input.specs.Cursors.{CursorState, piece_of}
 use Rattle.rx_input.specs.Inputs.{InputState, HoldsPlace}
 use Rattle.rx_walks.specs.Finds.{Search, IsInside}
@@ -117,6 +118,35 @@ before_there s i b le within e = elim (below_or_not s.slice_start i) [
       let empty : length whole ≡ 0 = omega (arith, ge, length-drop s.slice_start (take i s.content), length-take i s.content) in
       absurd (cc (sym (nothing_in whole 0 empty ∙ nothing_at whole 0 empty) ∙ e))
 ]
+
+-- where the slice starts before a place, the byte before it is the content's
+pub before_is : (s : Search) (i b : ℕ) → s.slice_start < i → slice_get s.content (i - 1) ≡ Some b → byte_before s i ≡ Some b
+before_is s i b lt is =
+    let low = s.slice_start in
+    let whole = drop low (take i s.content) in
+    let n = i - low - 1 in
+    let within = slice_get_within s.content (i - 1) b is in
+    let len : length whole ≡ suc n = omega (arith, lt, length-drop low (take i s.content), length-take i s.content, within) in
+    let there : low + n ≡ i - 1 = omega (arith, lt) in
+    back_first whole n len ∙ get_dropped (take i s.content) low n ∙ ap (λ j. slice_get (take i s.content) j) there ∙ get_one s.content i (i - 1) (omega (arith, lt)) ∙ is
+
+-- and where it doesn't, there is none
+pub before_none : (s : Search) (i : ℕ) → i ≤ s.slice_start → byte_before s i ≡ None
+before_none s i ge =
+    let whole = drop s.slice_start (take i s.content) in
+    let empty : length whole ≡ 0 = omega (arith, ge, length-drop s.slice_start (take i s.content), length-take i s.content) in
+    nothing_in whole 0 empty ∙ nothing_at whole 0 empty
+
+-- a byte of the piece that is shown stands in the content
+pub shown_is : (c : CursorState) (piece : List ℕ) (k b : ℕ) → piece ≡ piece_of c → slice_get piece k ≡ Some b → slice_get c.content (c.start + k) ≡ Some b
+shown_is c piece k b is e = sym (get_dropped c.content c.start k) ∙ get_taken (drop c.start c.content) (c.end - c.start) k b (subst (λ xs. slice_get xs k ≡ Some b) is e)
+
+pub shown_before : (utf8_empty : Bool) (input : InputState) (piece : List ℕ) (pos b : ℕ) → piece ≡ piece_of input.cursor → input.cursor.start + pos ≡ input.position → input.asked.slice.start < input.position → 0 < pos → slice_get piece (pos - 1) ≡ Some b
+    → byte_before (search_of utf8_empty input) input.position ≡ Some b
+shown_before utf8_empty input piece pos b is at lt some e =
+    let c = input.cursor in
+    let far : c.start + (pos - 1) ≡ input.position - 1 = omega (arith, at, some) in
+    before_is (search_of utf8_empty input) input.position b lt (ap (λ k. slice_get c.content k) (sym far) ∙ shown_is c piece (pos - 1) b is e)
 
 pub known_behind : (asks : Bool) (s : Search) (i b : ℕ) (o : Option ℕ) → (asks ≡ true → o ≡ byte_before s i) → (asks ≡ false → o ≡ None) → o ≡ Some b → byte_before s i ≡ Some b
 known_behind true s i b o known unknown e = sym (known refl) ∙ e

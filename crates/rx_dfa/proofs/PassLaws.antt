@@ -1,5 +1,5 @@
 -- Bytes that are passed.
-use Rattle.std.proofs.Common.{◌≡◌, ℕ, zero, suc, ◌+◌, ◌*◌, ◌/◌, ◌<◌, true, false, not, ◌&&◌, List, [], ◌∷◌, ◌++◌, length, take, Option, Some, slice_get, refl, sym, ap, subst, ◌∙◌, arith}
+use Rattle.std.proofs.Common.{◌≡◌, ℕ, zero, suc, ◌+◌, ◌*◌, ◌/◌, ◌<◌, true, false, not, ◌&&◌, ◌≤◌, List, [], ◌∷◌, ◌++◌, length, take, Option, Some, None, IsSome, slice_get, refl, sym, ap, subst, ◌∙◌, arith}
 use Rattle.std.proofs.Math.Nat.{mul-div_cancel}
 use Rattle.std.proofs.lemmas.List.{length-take}
 use Rattle.std.proofs.lemmas.Option.{slice_get-get_or, get_or_from_slice_get, slice_get_within}
@@ -7,13 +7,14 @@ use Rattle.rx_util.specs.Search.{HalfFound}
 use Rattle.rx_program.specs.Programs.{ByteProgram}
 use Rattle.rx_steps.specs.declared.asked.AskedLooks.{AskedLooks}
 use Rattle.rx_steps.specs.Alike.{AreBare, StepsAreAlike}
+use Rattle.rx_dfa.specs.declared.scan.PassedEnd.{PassedEnd}
 use Rattle.rx_dfa.specs.declared.states.AutomatonState.{AutomatonState}
 use Rattle.rx_dfa.specs.Classes.{class_of, byte_of, AreAlikeBytes}
 use Rattle.rx_dfa.specs.Behind.{quits}
 use Rattle.rx_dfa.specs.States.{ahead_of, IsStateOf, IsStep}
 use Rattle.rx_dfa.specs.Dfas.{DfaView, IsDfaOf, ahead_in}
-use Rattle.rx_dfa.specs.Caches.{CacheView, IsCacheOf, LeadsTo, IsEntry, unknown, quit, plain, special}
-use Rattle.rx_dfa.specs.Passing.{Passes, none, more, IsRunning, HasPassed}
+use Rattle.rx_dfa.specs.Caches.{CacheView, IsCacheOf, LeadsTo, IsEntry, unknown, quit, plain, ends, over}
+use Rattle.rx_dfa.specs.Passing.{Passes, none, more, IsMetAt, IsNoted, IsRunning, HasPassed}
 use Rattle.rx_dfa.specs.Searching.{met_after}
 use Rattle.rx_dfa.proofs.StepLaws.{step_alike}
 use Rattle.rx_dfa.proofs.TableLaws.{row_room}
@@ -92,48 +93,99 @@ take_one bytes n b e =
 
 -- ---- a run through the table
 
-pub run_begun : (p : ByteProgram) (dfa : DfaView) (w : ℕ) (states : List AutomatonState) (x : AutomatonState) (first : ℕ) (bytes : List ℕ) → slice_get states first ≡ Some x → IsRunning p dfa w states x (take 0 bytes) (first * w)
-run_begun p dfa w states x first bytes stands = record { number = first; next = x; row_is = refl; stands = stands; passes = λ i met. none }
+pub run_begun : (p : ByteProgram) (dfa : DfaView) (w : ℕ) (states : List AutomatonState) (x : AutomatonState) (first : ℕ) (bytes : List ℕ) (i : ℕ) (met : Option HalfFound) → slice_get states first ≡ Some x → IsRunning p dfa w states x (take 0 bytes) i met (first * w) None
+run_begun p dfa w states x first bytes i met stands = record { number = first; next = x; last = met; row_is = refl; stands = stands; noted = refl; passes = none }
 
 -- where an entry lies in the table
-pub entry_inside : (p : ByteProgram) (dfa : DfaView) (cache : CacheView) (x : AutomatonState) (bytes : List ℕ) (row b : ℕ) → IsDfaOf p dfa → IsCacheOf p dfa cache → b < 256 → IsRunning p dfa cache.width cache.states x bytes row
+pub entry_inside : (p : ByteProgram) (dfa : DfaView) (cache : CacheView) (x : AutomatonState) (bytes : List ℕ) (i row b : ℕ) (met : Option HalfFound) (end : Option PassedEnd) → IsDfaOf p dfa → IsCacheOf p dfa cache → b < 256 → IsRunning p dfa cache.width cache.states x bytes i met row end
     → row + class_of dfa.classes b < length cache.table
-entry_inside p dfa cache x bytes row b made is low run =
+entry_inside p dfa cache x bytes i row b met end made is low run =
     let inside = slice_get_within cache.states run.number run.next run.stands in
     omega (arith, run.row_is, row_room run.number cache.width (length cache.states) inside, column_inside p dfa cache b made is low, is.rows)
 
-pub run_on : ((p : ByteProgram) → StepsAreAlike p) → (p : ByteProgram) (dfa : DfaView) (cache : CacheView) (x : AutomatonState) (bytes : List ℕ) (n row b entry : ℕ) → IsDfaOf p dfa → IsCacheOf p dfa cache
-    → b < 256 → slice_get bytes n ≡ Some b → slice_get cache.table (row + class_of dfa.classes b) ≡ Some entry → entry < 2147483648 → IsRunning p dfa cache.width cache.states x (take n bytes) row
-    → IsRunning p dfa cache.width cache.states x (take (n + 1) bytes) entry
+run_leads : ((p : ByteProgram) → StepsAreAlike p) → (p : ByteProgram) (dfa : DfaView) (cache : CacheView) (x : AutomatonState) (bytes : List ℕ) (n i row b number : ℕ) (met : Option HalfFound) (end : Option PassedEnd) → IsDfaOf p dfa → IsCacheOf p dfa cache
+    → b < 256 → slice_get bytes n ≡ Some b → (run : IsRunning p dfa cache.width cache.states x (take n bytes) i met row end) → (to : LeadsTo p dfa cache.states run.next (ahead_in dfa (class_of dfa.classes b)) number)
+    → Passes p dfa (take (n + 1) bytes) i x met to.next (met_after (i + n) to.next.ended run.last)
 unfolding leads_by
-run_on law p dfa cache x bytes n row b entry made is low at stands below run = by (is.entries run.number (class_of dfa.classes b) entry run.next run.stands (column_inside p dfa cache b made is low) here)
+run_leads law p dfa cache x bytes n i row b number met end made is low at run to =
+    let state : IsStateOf p run.next = subst (λ y. IsStateOf p y) (get_or_from_slice_get cache.states run.number run.next run.next run.stands) (is.states run.number run.next (slice_get_within cache.states run.number run.next run.stands)) in
+    let len : length (take n bytes) ≡ n = omega (arith, length-take n bytes, slice_get_within bytes n b at) in
+    let itself = leads_by law p dfa cache.states run.next b number made state.bare low to in
+    subst (λ xs. Passes p dfa xs i x met to.next (met_after (i + n) to.next.ended run.last)) (sym (take_one bytes n b at))
+    (subst (λ k. Passes p dfa (take n bytes ++ b ∷ []) i x met to.next (met_after (i + k) to.next.ended run.last)) len
+    (passes_more p dfa (take n bytes) i b x run.next to.next met run.last state.bare run.passes itself.step itself.told))
+
+run_entry : (p : ByteProgram) (dfa : DfaView) (cache : CacheView) (x : AutomatonState) (bytes : List ℕ) (n i row b entry : ℕ) (met : Option HalfFound) (end : Option PassedEnd) → IsDfaOf p dfa → IsCacheOf p dfa cache
+    → b < 256 → slice_get cache.table (row + class_of dfa.classes b) ≡ Some entry → (run : IsRunning p dfa cache.width cache.states x (take n bytes) i met row end) → IsEntry p dfa cache.width cache.states run.next (ahead_in dfa (class_of dfa.classes b)) entry
+run_entry p dfa cache x bytes n i row b entry met end made is low stands run =
+    is.entries run.number (class_of dfa.classes b) entry run.next run.stands (column_inside p dfa cache b made is low) (ap (λ r. slice_get cache.table (r + class_of dfa.classes b)) (sym run.row_is) ∙ stands)
+
+-- no end is met
+pub run_on : ((p : ByteProgram) → StepsAreAlike p) → (p : ByteProgram) (dfa : DfaView) (cache : CacheView) (x : AutomatonState) (bytes : List ℕ) (n i row b entry : ℕ) (met : Option HalfFound) (end : Option PassedEnd) → IsDfaOf p dfa → IsCacheOf p dfa cache
+    → b < 256 → slice_get bytes n ≡ Some b → slice_get cache.table (row + class_of dfa.classes b) ≡ Some entry → entry < 2147483648 → IsRunning p dfa cache.width cache.states x (take n bytes) i met row end
+    → IsRunning p dfa cache.width cache.states x (take (n + 1) bytes) i met entry end
+run_on law p dfa cache x bytes n i row b entry met end made is low at stands below run = by (run_entry p dfa cache x bytes n i row b entry met end made is low stands run)
   where
-    here : slice_get cache.table (run.number * cache.width + class_of dfa.classes b) ≡ Some entry
-    here = ap (λ r. slice_get cache.table (r + class_of dfa.classes b)) (sym run.row_is) ∙ stands
-
-    state : IsStateOf p run.next
-    state = subst (λ y. IsStateOf p y) (get_or_from_slice_get cache.states run.number run.next run.next run.stands) (is.states run.number run.next (slice_get_within cache.states run.number run.next run.stands))
-
-    len : length (take n bytes) ≡ n
-    len = omega (arith, length-take n bytes, slice_get_within bytes n b at)
-
-    by : IsEntry p dfa cache.width cache.states run.next (ahead_in dfa (class_of dfa.classes b)) entry → IsRunning p dfa cache.width cache.states x (take (n + 1) bytes) entry
+    by : IsEntry p dfa cache.width cache.states run.next (ahead_in dfa (class_of dfa.classes b)) entry → IsRunning p dfa cache.width cache.states x (take (n + 1) bytes) i met entry end
     by (unknown e) = absurd (omega (arith, below, e))
     by (quit e why) = absurd (omega (arith, below, e))
-    by (special to e high) = absurd (omega (arith, below, e))
-    by (plain {number} to e small unmet) =
-        let itself = leads_by law p dfa cache.states run.next b number made state.bare low to in
+    by (ends to e high some) = absurd (omega (arith, below, e))
+    by (over to e high) = absurd (omega (arith, below, e))
+    by (plain {number} to e small unmet) = record {
+      number = number;
+      next = to.next;
+      last = run.last;
+      row_is = e;
+      stands = to.stands;
+      noted = run.noted;
+      passes = subst (λ o. Passes p dfa (take (n + 1) bytes) i x met to.next (met_after (i + n) o run.last)) unmet (run_leads law p dfa cache x bytes n i row b number met end made is low at run to);
+    }
+
+some_met : (i : ℕ) (ended : Option ℕ) (met met' : Option HalfFound) → IsSome ended → met_after i ended met ≡ met_after i ended met'
+some_met i None met met' some = absurd (cc some)
+some_met i (Some k) met met' some = refl
+
+-- an end is met
+pub run_notes : ((p : ByteProgram) → StepsAreAlike p) → (p : ByteProgram) (dfa : DfaView) (cache : CacheView) (x : AutomatonState) (bytes : List ℕ) (n i row b entry row' : ℕ) (met : Option HalfFound) (end : Option PassedEnd) → IsDfaOf p dfa → IsCacheOf p dfa cache
+    → b < 256 → slice_get bytes n ≡ Some b → slice_get cache.table (row + class_of dfa.classes b) ≡ Some entry → 2147483648 ≤ entry → entry < 3221225472 → entry ≡ 2147483648 + row' → IsRunning p dfa cache.width cache.states x (take n bytes) i met row end
+    → IsRunning p dfa cache.width cache.states x (take (n + 1) bytes) i met row' (Some (record { row = row'; at = i + n }))
+run_notes law p dfa cache x bytes n i row b entry row' met end made is low at stands above below row_is run = by (run_entry p dfa cache x bytes n i row b entry met end made is low stands run)
+  where
+    by : IsEntry p dfa cache.width cache.states run.next (ahead_in dfa (class_of dfa.classes b)) entry → IsRunning p dfa cache.width cache.states x (take (n + 1) bytes) i met row' (Some (record { row = row'; at = i + n }))
+    by (unknown e) = absurd (omega (arith, below, e))
+    by (quit e why) = absurd (omega (arith, below, e))
+    by (plain to e small unmet) = absurd (omega (arith, above, small))
+    by (over to e high) = absurd (omega (arith, below, e))
+    by (ends {number} to e high some) =
+        let here : row' ≡ number * cache.width = omega (arith, e, row_is) in
         record {
           number = number;
           next = to.next;
-          row_is = e;
+          last = met_after (i + n) to.next.ended run.last;
+          row_is = here;
           stands = to.stands;
-          passes = λ i met. subst (λ xs. Passes p dfa xs i x met to.next met) (sym (take_one bytes n b at))
-              (subst (λ o. Passes p dfa (take n bytes ++ b ∷ []) i x met to.next (met_after (i + length (take n bytes)) o met)) unmet
-              (passes_more p dfa (take n bytes) i b x run.next to.next met met state.bare (run.passes i met) itself.step itself.told));
+          noted = record { number = number; state = to.next; row_is = here; stands = to.stands; last_is = λ o. some_met (i + n) to.next.ended run.last o some };
+          passes = run_leads law p dfa cache x bytes n i row b number met end made is low at run to;
         }
 
-pub run_ends : (p : ByteProgram) (dfa : DfaView) (w : ℕ) (states : List AutomatonState) (x : AutomatonState) (bytes : List ℕ) (row at : ℕ) → 0 < w → at ≡ row / w → IsRunning p dfa w states x bytes row → (i : ℕ) (met : Option HalfFound) → HasPassed p dfa states x bytes i met at met
-run_ends p dfa w states x bytes row at some e run i met =
+pub run_ends : (p : ByteProgram) (dfa : DfaView) (w : ℕ) (states : List AutomatonState) (x : AutomatonState) (bytes : List ℕ) (i row at : ℕ) (met met' : Option HalfFound) (end : Option PassedEnd) → 0 < w → at ≡ row / w → ((last : Option HalfFound) → IsNoted w states met end last → met' ≡ last)
+    → IsRunning p dfa w states x bytes i met row end → HasPassed p dfa states x bytes i met at met'
+run_ends p dfa w states x bytes i row at met met' end some e told run =
     let here : at ≡ run.number = e ∙ ap (λ r. r / w) run.row_is ∙ mul-div_cancel run.number some in
-    record { next = run.next; stands = ap (λ k. slice_get states k) here ∙ run.stands; passes = run.passes i met }
+    record {
+      next = run.next;
+      stands = ap (λ k. slice_get states k) here ∙ run.stands;
+      passes = subst (λ o. Passes p dfa bytes i x met run.next o) (sym (told run.last run.noted)) run.passes;
+    }
+
+-- what was noted of the end that was met last
+pub noted_last : (w : ℕ) (states : List AutomatonState) (row place number : ℕ) (ended : Option ℕ) (last met : Option HalfFound) → 0 < w → number ≡ row / w → ((y : AutomatonState) → slice_get states number ≡ Some y → ended ≡ y.ended) → IsMetAt w states row place last → met_after place ended met ≡ last
+noted_last w states row place number ended last met some e told at =
+    let here : number ≡ at.number = e ∙ ap (λ r. r / w) at.row_is ∙ mul-div_cancel at.number some in
+    ap (λ o. met_after place o met) (told at.state (ap (λ k. slice_get states k) here ∙ at.stands)) ∙ sym (at.last_is met)
+
+pub noted_inside : (w : ℕ) (states : List AutomatonState) (met last : Option HalfFound) (end : Option PassedEnd) → 0 < w → IsNoted w states met end last → (passed : PassedEnd) → end ≡ Some passed → passed.row / w < length states
+noted_inside w states met last end some noted passed e =
+    let at : IsMetAt w states passed.row passed.at last = subst (λ o. IsNoted w states met o last) e noted in
+    let here : passed.row / w ≡ at.number = ap (λ r. r / w) at.row_is ∙ mul-div_cancel at.number some in
+    omega (arith, here, slice_get_within states at.number at.state at.stands)

@@ -62,11 +62,13 @@ pub passed_none : (p : ByteProgram) (dfa : DfaView) (states : List AutomatonStat
 passed_none p dfa states x bytes at number met stands = record { next = x; stands = stands; passes = passing.none }
 
 -- a run through the table after the bytes so far
-pub run_after : (p : ByteProgram) (dfa : DfaView) (states : List AutomatonState) (x : AutomatonState) (bytes : List ℕ) (n m few at number number' : ℕ) (met met' : Option HalfFound) → m ≤ length (take few (drop n bytes)) → HasPassed p dfa states x (take n bytes) at met number met'
-    → ((y : AutomatonState) → slice_get states number ≡ Some y → (i : ℕ) → (o : Option HalfFound) → HasPassed p dfa states y (take m (take few (drop n bytes))) i o number' o) → HasPassed p dfa states x (take (n + m) bytes) at met number' met'
-run_after p dfa states x bytes n m few at number number' met met' within so_far run =
-    passed_on p dfa states states x (take n bytes) (take m (take few (drop n bytes))) (take (n + m) bytes) at met met' met' number number' (take_both bytes n m few (omega (arith, within, length-take few (drop n bytes)))) so_far
-    (λ y stands. run y stands (at + length (take n bytes)) met')
+pub run_after : (p : ByteProgram) (dfa : DfaView) (states : List AutomatonState) (x : AutomatonState) (bytes : List ℕ) (n m few at number number' : ℕ) (met met' met'' : Option HalfFound) → n ≤ length bytes → m ≤ length (take few (drop n bytes))
+    → HasPassed p dfa states x (take n bytes) at met number met' → ((y : AutomatonState) → slice_get states number ≡ Some y → HasPassed p dfa states y (take m (take few (drop n bytes))) (at + n) met' number' met'')
+    → HasPassed p dfa states x (take (n + m) bytes) at met number' met''
+run_after p dfa states x bytes n m few at number number' met met' met'' inside within so_far run =
+    let far : at + n ≡ at + length (take n bytes) = omega (arith, length-take n bytes, inside) in
+    passed_on p dfa states states x (take n bytes) (take m (take few (drop n bytes))) (take (n + m) bytes) at met met' met'' number number' (take_both bytes n m few (omega (arith, within, length-take few (drop n bytes)))) so_far
+    (λ y stands. subst (λ i. HasPassed p dfa states y (take m (take few (drop n bytes))) i met' number' met'') far (run y stands))
 
 -- and a byte after them
 pub byte_after_them : (p : ByteProgram) (dfa : DfaView) (states states' : List AutomatonState) (x : AutomatonState) (bytes : List ℕ) (n b at number number' : ℕ) (met met' met'' : Option HalfFound) → slice_get bytes n ≡ Some b → HasPassed p dfa states x (take n bytes) at met number met'

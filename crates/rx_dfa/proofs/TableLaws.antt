@@ -9,10 +9,12 @@ use Rattle.rx_steps.specs.Lists.{IsNextList}
 use Rattle.rx_dfa.specs.declared.states.Ahead.{Ahead}
 use Rattle.rx_dfa.specs.declared.states.AutomatonState.{AutomatonState}
 use Rattle.rx_dfa.specs.Behind.{quits}
-use Rattle.rx_dfa.specs.States.{place_of_step, started, start_at, starting_after, IsStateOf, IsStep}
+use Rattle.rx_dfa.specs.declared.behind.Behind.{Behind}
+use Rattle.rx_dfa.specs.declared.states.Starting.{Starting}
+use Rattle.rx_dfa.specs.States.{place_of_step, started, start_at, starting_after, IsFirstState, IsStateOf, IsStep}
 use Rattle.rx_steps.specs.Nodes.{widths_of}
 use Rattle.rx_dfa.specs.Dfas.{DfaView, column_count, ahead_in}
-use Rattle.rx_dfa.specs.Caches.{CacheView, LeadsTo, IsEntry, unknown, quit, plain, special, IsEntryTo, unknown_to, plain_to, special_to, AreEntries, IsCacheOf, IsBare, IsSameState, KeepNumbers}
+use Rattle.rx_dfa.specs.Caches.{CacheView, LeadsTo, IsEntry, unknown, quit, plain, ends, over, IsEntryTo, unknown_to, plain_to, ends_to, over_to, AreEntries, HasFirst, IsCacheOf, IsBare, IsSameState, KeepNumbers}
 use Rattle.rx_dfa.proofs.ClassLaws.{below_or_not, same_or_not}
 
 -- ---- lists
@@ -100,7 +102,8 @@ unfolding leads_still
 entry_still p dfa w states states' x ahead entry keep (unknown e) = unknown e
 entry_still p dfa w states states' x ahead entry keep (quit e is) = quit e is
 entry_still p dfa w states states' x ahead entry keep (plain {number} to e below none) = plain (leads_still p dfa states states' x ahead number keep to) e below none
-entry_still p dfa w states states' x ahead entry keep (special {number} to e below) = special (leads_still p dfa states states' x ahead number keep to) e below
+entry_still p dfa w states states' x ahead entry keep (ends {number} to e below some) = ends (leads_still p dfa states states' x ahead number keep to) e below some
+entry_still p dfa w states states' x ahead entry keep (over {number} to e below) = over (leads_still p dfa states states' x ahead number keep to) e below
 
 -- ---- a state is added
 
@@ -205,21 +208,31 @@ step_same p dfa x y z ahead step same = record {
 pub entry_right : (p : ByteProgram) (dfa : DfaView) (w : ℕ) (states : List AutomatonState) (x : AutomatonState) (ahead : Ahead) (number entry : ℕ) (to : LeadsTo p dfa states x ahead number) → IsEntryTo w to.next number entry → IsEntry p dfa w states x ahead entry
 entry_right p dfa w states x ahead number entry to (unknown_to e) = unknown e
 entry_right p dfa w states x ahead number entry to (plain_to e below none) = plain to e below none
-entry_right p dfa w states x ahead number entry to (special_to e below) = special to e below
+entry_right p dfa w states x ahead number entry to (ends_to e below some) = ends to e below some
+entry_right p dfa w states x ahead number entry to (over_to e below) = over to e below
 
 -- what an entry leads to
 pub entry_steps : (p : ByteProgram) (dfa : DfaView) (w : ℕ) (states : List AutomatonState) (x : AutomatonState) (ahead : Ahead) (entry at : ℕ) → (entry ≡ 4294967295 → ⊥) → (entry ≡ 4294967294 → ⊥) → ((number : ℕ) → entry ≡ number * w → entry < 2147483648 → at ≡ number)
-    → ((number : ℕ) → entry ≡ 2147483648 + number * w → at ≡ number) → IsEntry p dfa w states x ahead entry → LeadsTo p dfa states x ahead at
-entry_steps p dfa w states x ahead entry at known goes plain_at special_at (unknown e) = absurd (known e)
-entry_steps p dfa w states x ahead entry at known goes plain_at special_at (quit e is) = absurd (goes e)
-entry_steps p dfa w states x ahead entry at known goes plain_at special_at (plain {number} to e below none) = subst (λ k. LeadsTo p dfa states x ahead k) (sym (plain_at number e below)) to
-entry_steps p dfa w states x ahead entry at known goes plain_at special_at (special {number} to e below) = subst (λ k. LeadsTo p dfa states x ahead k) (sym (special_at number e)) to
+    → ((number : ℕ) → entry ≡ 2147483648 + number * w → entry < 3221225472 → at ≡ number) → ((number : ℕ) → entry ≡ 3221225472 + number * w → at ≡ number) → IsEntry p dfa w states x ahead entry → LeadsTo p dfa states x ahead at
+entry_steps p dfa w states x ahead entry at known goes plain_at ends_at over_at (unknown e) = absurd (known e)
+entry_steps p dfa w states x ahead entry at known goes plain_at ends_at over_at (quit e is) = absurd (goes e)
+entry_steps p dfa w states x ahead entry at known goes plain_at ends_at over_at (plain {number} to e below none) = subst (λ k. LeadsTo p dfa states x ahead k) (sym (plain_at number e below)) to
+entry_steps p dfa w states x ahead entry at known goes plain_at ends_at over_at (ends {number} to e below some) = subst (λ k. LeadsTo p dfa states x ahead k) (sym (ends_at number e below)) to
+entry_steps p dfa w states x ahead entry at known goes plain_at ends_at over_at (over {number} to e below) = subst (λ k. LeadsTo p dfa states x ahead k) (sym (over_at number e)) to
 
 pub all_bare : (p : ByteProgram) (states : List AutomatonState) → All (IsStateOf p) states → All IsBare states
 all_bare p states all = λ k d lt. (all k d lt).bare
 
 pub found_new : (states : List AutomatonState) (z : AutomatonState) (number : ℕ) → slice_get states number ≡ Some z → (x : AutomatonState) × (slice_get states number ≡ Some x) × IsSameState z x
 found_new states z number e = (z, e, record { threads = refl; starting = refl; behind = refl; ended = refl })
+
+-- the state that is found for a first state is one
+pub found_first : (states : List AutomatonState) (starting : Starting) (behind : Behind) (x : AutomatonState) (number : ℕ) → IsFirstState starting behind x → (y : AutomatonState) × (slice_get states number ≡ Some y) × IsSameState x y → HasFirst states starting behind number
+found_first states starting behind x number first (y, stands, same) = record {
+  state = y;
+  stands = stands;
+  first = record { threads = same.threads ∙ first.threads; starting_is = same.starting ∙ first.starting_is; behind_is = same.behind ∙ first.behind_is };
+}
 
 pub keep_all : (states : List AutomatonState) → KeepNumbers states states
 keep_all states number x e = e
@@ -253,4 +266,5 @@ pub entry_quits : (p : ByteProgram) (dfa : DfaView) (w : ℕ) (states : List Aut
 entry_quits p dfa w states x ahead entry is (unknown e) = absurd (omega (arith, is, e))
 entry_quits p dfa w states x ahead entry is (quit e told) = told
 entry_quits p dfa w states x ahead entry is (plain to e below none) = absurd (omega (arith, is, below))
-entry_quits p dfa w states x ahead entry is (special to e below) = absurd (omega (arith, is, below))
+entry_quits p dfa w states x ahead entry is (ends to e below some) = absurd (omega (arith, is, below))
+entry_quits p dfa w states x ahead entry is (over to e below) = absurd (omega (arith, is, below))

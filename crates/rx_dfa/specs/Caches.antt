@@ -1,12 +1,14 @@
 -- The table of an automaton, and the states that its rows are of.
-use Rattle.std.specs.Prelude.{◌≡◌, ℕ, ◌+◌, ◌*◌, ◌<◌, true, false, List, All, length, Option, Some, None, slice_get}
+use Rattle.std.specs.Prelude.{◌≡◌, ℕ, ◌+◌, ◌*◌, ◌<◌, true, false, List, All, length, Option, Some, None, IsSome, slice_get}
 use Rattle.rx_program.specs.Programs.{ByteProgram}
 use Rattle.rx_steps.specs.Nodes.{widths_of}
 use Rattle.rx_steps.specs.Alike.{AreBare}
 use Rattle.rx_dfa.specs.declared.states.Ahead.{Ahead}
 use Rattle.rx_dfa.specs.declared.states.AutomatonState.{AutomatonState}
+use Rattle.rx_dfa.specs.declared.behind.Behind.{Behind}
+use Rattle.rx_dfa.specs.declared.states.Starting.{Starting}
 use Rattle.rx_dfa.specs.Behind.{quits}
-use Rattle.rx_dfa.specs.States.{IsStateOf, IsStep}
+use Rattle.rx_dfa.specs.States.{IsFirstState, IsStateOf, IsStep}
 use Rattle.rx_dfa.specs.Dfas.{DfaView, column_count, ahead_in}
 
 -- how many nodes each state is of the program that a cache was made for; how many entries a row
@@ -26,7 +28,8 @@ pub record LeadsTo (p : ByteProgram) (dfa : DfaView) (states : List AutomatonSta
   pub told : quits dfa.asked ahead.seen ≡ false
 
 -- what an entry says of a state and what stands ahead: nothing; that a search can't go on; or where
--- the row of the next state begins, with the highest bit set if a search has to look at that state
+-- the row of the next state begins, with the highest bit set where an end is met, and with the two
+-- highest ones where a search has to look at that state
 pub data IsEntry (p : ByteProgram) (dfa : DfaView) (width : ℕ) (states : List AutomatonState)
     (x : AutomatonState) (ahead : Ahead) (entry : ℕ) : Type 0 where
   unknown : entry ≡ 4294967295 → IsEntry p dfa width states x ahead entry
@@ -34,8 +37,11 @@ pub data IsEntry (p : ByteProgram) (dfa : DfaView) (width : ℕ) (states : List 
       → IsEntry p dfa width states x ahead entry
   plain : {number : ℕ} (to : LeadsTo p dfa states x ahead number) → entry ≡ number * width
       → entry < 2147483648 → to.next.ended ≡ None → IsEntry p dfa width states x ahead entry
-  special : {number : ℕ} → LeadsTo p dfa states x ahead number
-      → entry ≡ 2147483648 + number * width → entry < 4294967294
+  ends : {number : ℕ} (to : LeadsTo p dfa states x ahead number)
+      → entry ≡ 2147483648 + number * width → entry < 3221225472 → IsSome to.next.ended
+      → IsEntry p dfa width states x ahead entry
+  over : {number : ℕ} → LeadsTo p dfa states x ahead number
+      → entry ≡ 3221225472 + number * width → entry < 4294967294
       → IsEntry p dfa width states x ahead entry
 
 -- an entry leads to this state, or tells nothing
@@ -43,7 +49,9 @@ pub data IsEntryTo (width : ℕ) (y : AutomatonState) (number entry : ℕ) : Typ
   unknown_to : entry ≡ 4294967295 → IsEntryTo width y number entry
   plain_to : entry ≡ number * width → entry < 2147483648 → y.ended ≡ None
       → IsEntryTo width y number entry
-  special_to : entry ≡ 2147483648 + number * width → entry < 4294967294
+  ends_to : entry ≡ 2147483648 + number * width → entry < 3221225472 → IsSome y.ended
+      → IsEntryTo width y number entry
+  over_to : entry ≡ 3221225472 + number * width → entry < 4294967294
       → IsEntryTo width y number entry
 
 -- a step came to a state, or can't be made
@@ -66,6 +74,13 @@ pub record IsCacheOf (p : ByteProgram) (dfa : DfaView) (cache : CacheView) : Typ
   pub states : All (IsStateOf p) cache.states
   pub rows : length cache.table ≡ length cache.states * cache.width
   pub entries : AreEntries p dfa cache.width cache.states cache.table
+
+-- the state with this number is one in which a search stands at its first place
+pub record HasFirst (states : List AutomatonState) (starting : Starting) (behind : Behind)
+    (number : ℕ) : Type 0 where
+  pub state : AutomatonState
+  pub stands : slice_get states number ≡ Some state
+  pub first : IsFirstState starting behind state
 
 -- its threads have no slots
 abbrev pub IsBare : AutomatonState → Type 0

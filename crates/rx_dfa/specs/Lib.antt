@@ -5,3 +5,4 @@ pub mod Searching
 pub mod Dfas
 pub mod Caches
 pub mod Passing
+pub mod Hybrid

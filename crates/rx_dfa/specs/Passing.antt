@@ -1,5 +1,5 @@
 -- What searches by an automaton come to, byte after byte.
-use Rattle.std.specs.Prelude.{◌≡◌, ℕ, ◌+◌, ◌-◌, ◌*◌, ◌<◌, ◌≤◌, true, false, List, [], ◌∷◌, length, min, Option, Some, slice_get}
+use Rattle.std.specs.Prelude.{◌≡◌, ℕ, ◌+◌, ◌-◌, ◌*◌, ◌<◌, ◌≤◌, true, false, List, [], ◌∷◌, length, min, Option, Some, None, slice_get}
 use Rattle.rx_util.specs.Search.{HalfFound}
 use Rattle.rx_util.specs.declared.search.MatchError.{MatchError}
 use Rattle.rx_util.specs.declared.search.MatchError.TheVariants as error
@@ -8,6 +8,7 @@ use Rattle.rx_walks.specs.ProgramFinds.{lowest}
 use Rattle.rx_program.specs.Programs.{ByteProgram}
 use Rattle.rx_steps.specs.declared.asked.AskedLooks.{AskedLooks}
 use Rattle.rx_steps.specs.Alike.{AreBare}
+use Rattle.rx_dfa.specs.declared.scan.PassedEnd.{PassedEnd}
 use Rattle.rx_dfa.specs.declared.scan.Refusal.{Refusal}
 use Rattle.rx_dfa.specs.declared.scan.Refusal.TheVariants.{Memory, Quit, GaveUp}
 use Rattle.rx_dfa.specs.declared.states.AutomatonState.{AutomatonState}
@@ -27,14 +28,33 @@ pub data Passes (p : ByteProgram) (dfa : DfaView) : List ℕ → ℕ → Automat
       → Passes p dfa bytes (i + 1) y (met_after i y.ended met) z met'
       → Passes p dfa (b ∷ bytes) i x met z met'
 
--- these bytes lead from a state to the one whose row begins there, and meet no end
+-- the match that is met last, where an end was met at a place before the state of this row,
+-- whatever was met before
+pub record IsMetAt (width : ℕ) (states : List AutomatonState) (row place : ℕ)
+    (last : Option HalfFound) : Type 0 where
+  pub number : ℕ
+  pub state : AutomatonState
+  pub row_is : row ≡ number * width
+  pub stands : slice_get states number ≡ Some state
+  pub last_is : (met : Option HalfFound) → last ≡ met_after place state.ended met
+
+-- the match that is met last: that of the end which is noted, and else the one before
+abbrev pub IsNoted : ℕ → List AutomatonState → Option HalfFound → Option PassedEnd
+    → Option HalfFound → Type 0
+IsNoted width states met None last = last ≡ met
+IsNoted width states met (Some end) last = IsMetAt width states end.row end.at last
+
+-- these bytes lead from a state to the one whose row begins there, and this end is noted on the way
 pub record IsRunning (p : ByteProgram) (dfa : DfaView) (width : ℕ) (states : List AutomatonState)
-    (x : AutomatonState) (bytes : List ℕ) (row : ℕ) : Type 0 where
+    (x : AutomatonState) (bytes : List ℕ) (i : ℕ) (met : Option HalfFound) (row : ℕ)
+    (end : Option PassedEnd) : Type 0 where
   pub number : ℕ
   pub next : AutomatonState
+  pub last : Option HalfFound
   pub row_is : row ≡ number * width
   pub stands : slice_get states number ≡ Some next
-  pub passes : (i : ℕ) (met : Option HalfFound) → Passes p dfa bytes i x met next met
+  pub noted : IsNoted width states met end last
+  pub passes : Passes p dfa bytes i x met next last
 
 -- these bytes lead from a state to the one with this number
 pub record HasPassed (p : ByteProgram) (dfa : DfaView) (states : List AutomatonState)

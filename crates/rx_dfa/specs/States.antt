@@ -11,6 +11,7 @@ use Rattle.rx_dfa.specs.declared.states.Starting.{Starting}
 use Rattle.rx_dfa.specs.declared.states.Starting.TheVariants.{Never, Once, Always}
 use Rattle.rx_dfa.specs.declared.states.Ahead.{Ahead}
 use Rattle.rx_dfa.specs.declared.states.AutomatonState.{AutomatonState}
+use Rattle.rx_dfa.specs.declared.behind.Behind.{Behind}
 use Rattle.rx_dfa.specs.Classes.{continues}
 use Rattle.rx_dfa.specs.Behind.{behind_of, looks_of}
 
@@ -49,6 +50,12 @@ pub record IsStateOf (p : ByteProgram) (x : AutomatonState) : Type 0 where
   pub bare : AreBare x.threads.threads
   pub threads : All (IsThreadOf p.states) x.threads.threads
 
+-- the state in which a search stands at its first place, where walks start so and this stands before
+pub record IsFirstState (starting : Starting) (behind : Behind) (x : AutomatonState) : Type 0 where
+  pub threads : x.threads.threads ≡ []
+  pub starting_is : x.starting ≡ starting
+  pub behind_is : x.behind ≡ behind
+
 -- A state leads to another one: the step of its threads, and of a walk that starts after them,
 -- gives the other's threads, of which some were left out, and the end that is met there.
 pub record IsStep (p : ByteProgram) (asked : AskedLooks) (x : AutomatonState) (ahead : Ahead)
@@ -60,3 +67,10 @@ pub record IsStep (p : ByteProgram) (asked : AskedLooks) (x : AutomatonState) (a
   pub thins : Thins [] next y.threads.threads
   pub starting : y.starting ≡ starting_after x.starting y.ended
   pub behind : y.behind ≡ behind_of asked p.line_terminator ahead.read
+
+-- before what stands ahead the end of this pattern is met, or none
+pub record EndsSo (p : ByteProgram) (asked : AskedLooks) (x : AutomatonState) (ahead : Ahead)
+    (ended : Option ℕ) : Type 0 where
+  pub next : AutomatonState
+  pub step : IsStep p asked x ahead next
+  pub ended_is : ended ≡ next.ended

@@ -5,13 +5,13 @@ ghost use Rattle.rx_util.specs.declared.search.MatchError.{MatchError};
 ghost use Rattle.rx_dfa.specs.declared.states.AutomatonState.{AutomatonState};
 ghost use Rattle.rx_dfa.specs.Behind.{quits};
 ghost use Rattle.rx_dfa.specs.Dfas.{IsDfaOf, ahead_in, column_count};
-ghost use Rattle.rx_dfa.specs.Caches.{IsCacheOf, IsEntryTo, HasStepped, IsBare, IsSameState, KeepNumbers};
+ghost use Rattle.rx_dfa.specs.Caches.{IsCacheOf, IsEntryTo, HasFirst, HasStepped, IsBare, IsSameState, KeepNumbers};
 ghost use Rattle.rx_dfa.specs.States.{IsStateOf, IsStep};
 
-use crate::behind::quits_at;
+use crate::behind::{Behind, quits_at};
 use crate::dfa::Dfa;
 use crate::maker::Maker;
-use crate::states::{Ahead, AutomatonState};
+use crate::states::{Ahead, AutomatonState, Starting};
 use rx_program::Program;
 use rx_steps::Node;
 use rx_util::MatchError;
@@ -20,8 +20,10 @@ use std::collections::HashMap;
 use std::marker::Model;
 use std::mem::size_of;
 
-/// Entries below this lead to states at which a search needn't look.
-pub(crate) const SPECIAL: u32 = 0x8000_0000;
+/// Entries from this on lead to states behind a place at which an end was met.
+pub(crate) const ENDS: u32 = 0x8000_0000;
+/// Entries from this on lead to states at which a search is over, or lead nowhere.
+pub(crate) const STOPS: u32 = 0xC000_0000;
 /// An entry with which a search can't go on.
 const QUIT: u32 = 0xFFFF_FFFE;
 /// An entry that isn't known.
@@ -46,6 +48,8 @@ pub struct Cache {
     used: usize,
     // How often it was cleared in this search.
     pub(crate) cleared: usize,
+    // The numbers that first states had, by how walks start and what stands before.
+    firsts: [usize; 15],
 }
 
 impl Model for Cache {
@@ -59,6 +63,19 @@ impl Model for Cache {
       table = c.table.items;
       states = c.states.items;
     } };
+}
+
+/// Where the number of a first state is kept.
+fn kept_at(starting: &Starting, behind: &Behind) -> usize {
+    let side = match behind {
+        Behind::Edge => 4,
+        Behind::Byte(ends_line, is_word) => usize::from(*ends_line) + 2 * usize::from(*is_word),
+    };
+    match starting {
+        Starting::Never => side,
+        Starting::Once(_) => side + 5,
+        Starting::Always(_) => side + 10,
+    }
 }
 
 /// Adds a row of which nothing is known.
@@ -85,6 +102,7 @@ impl Cache {
             numbers: HashMap::new(alloc),
             used: 0,
             cleared: 0,
+            firsts: [0; 15],
         })
     }
 
@@ -236,6 +254,31 @@ impl Cache {
 }
 
 impl Cache {
+    /// The number of a first state, if it has the one that is kept.
+    pub(crate) fn kept_first(&self, starting: &Starting, behind: &Behind) -> Option<usize>
+        ensures { IfSome result
+            (HasFirst self.now.states starting.now behind.now) }
+    {
+        let number = *self.firsts.get(kept_at(starting, behind))?;
+        let state = self.states.get(number)?;
+        if state.is_first(starting, behind) {
+            Some(number)
+        } else {
+            None
+        }
+    }
+
+    /// Keeps the number of a first state.
+    pub(crate) fn keep_first(&mut self, starting: &Starting, behind: &Behind, number: usize)
+        ensures { self.new ≡ self.old }
+    {
+        if let Some(kept) = self.firsts.get_mut(kept_at(starting, behind)) {
+            *kept = number;
+        }
+    }
+}
+
+impl Cache {
     /// The entry of a state in a column.
     fn entry(&self, number: usize, column: usize) -> u32
         requires rows { length self.now.table ≡ length self.now.states * self.now.width }
@@ -270,11 +313,13 @@ impl Cache {
     {
         let state = &self.states[next];
         let row = next * self.width;
-        if row >= (QUIT - SPECIAL) as usize {
+        if row >= (QUIT - STOPS) as usize {
             return UNKNOWN;
         }
-        if state.ended.is_some() || state.is_over() {
-            SPECIAL + row as u32
+        if state.is_over() {
+            STOPS + row as u32
+        } else if state.ended.is_some() {
+            ENDS + row as u32
         } else {
             row as u32
         }
@@ -285,11 +330,15 @@ impl Cache {
         requires { 0 < self.now.width }
         ensures plain { (number : ℕ) → entry ≡ number * self.now.width → entry < 2147483648
             → result ≡ number }
-        ensures special { (number : ℕ) → entry ≡ 2147483648 + number * self.now.width
+        ensures ends { (number : ℕ) → entry ≡ 2147483648 + number * self.now.width
+            → entry < 3221225472 → result ≡ number }
+        ensures over { (number : ℕ) → entry ≡ 3221225472 + number * self.now.width
             → result ≡ number }
     {
-        let row = if entry >= SPECIAL {
-            entry - SPECIAL
+        let row = if entry >= STOPS {
+            entry - STOPS
+        } else if entry >= ENDS {
+            entry - ENDS
         } else {
             entry
         };

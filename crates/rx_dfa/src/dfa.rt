@@ -1,6 +1,7 @@
 //! Automata of programs.
 
-ghost use Rattle.std.specs.Prelude.{◌≡◌, length, IfOk};
+ghost use Rattle.std.specs.Prelude.{◌≡◌, ◌<◌, None, length, IfOk};
+ghost use Rattle.rx_dfa.specs.States.{ahead_of};
 ghost use Rattle.rx_dfa.specs.Dfas.{IsDfaOf, column_count, ahead_in};
 
 use crate::classes::ByteClasses;
@@ -62,6 +63,14 @@ impl Dfa {
         ensures { result ≡ column_count self.now }
     {
         self.classes.column_count()
+    }
+
+    /// The column for the end of the slice.
+    pub(crate) fn end_column(&self) -> usize
+        ensures inside { result < column_count self.now }
+        ensures end { ahead_in self.now result ≡ ahead_of self.now.utf8_empty None }
+    {
+        self.classes.column_count() - 1
     }
 
     /// What stands ahead in a column.

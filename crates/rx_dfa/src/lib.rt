@@ -5,6 +5,7 @@ mod behind;
 mod cache;
 mod classes;
 mod dfa;
+pub mod hybrid;
 mod maker;
 mod scan;
 mod search;

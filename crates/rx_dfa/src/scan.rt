@@ -1,17 +1,19 @@
 //! Bytes that lie in one piece.
 
-ghost use Rattle.std.specs.Prelude.{◌≡◌, ◌+◌, ◌<◌, ◌≤◌, ◌⊎◌, ◌^◌, ◌∷◌, [], ℕ, true, Option, Some, length, take, slice_get, IfOk, IfErr};
+ghost use Rattle.std.specs.Prelude.{◌≡◌, ◌+◌, ◌/◌, ◌<◌, ◌≤◌, ◌⊎◌, ◌^◌, ◌∷◌, [], ℕ, true, Option, Some, length, take, slice_get, IfOk, IfErr};
 ghost use Rattle.rx_util.specs.Search.{HalfFound};
+ghost use Rattle.rx_dfa.specs.declared.scan.PassedEnd.{PassedEnd};
 ghost use Rattle.rx_dfa.specs.declared.states.AutomatonState.{AutomatonState};
 ghost use Rattle.rx_dfa.specs.Dfas.{IsDfaOf};
 ghost use Rattle.rx_dfa.specs.Caches.{IsCacheOf};
-ghost use Rattle.rx_dfa.specs.Passing.{HasPassed, IsOverAt, IsRefusalAmong, error_of};
+ghost use Rattle.rx_dfa.specs.Passing.{HasPassed, IsNoted, IsOverAt, IsRefusalAmong, error_of};
 
-use crate::cache::{Cache, SPECIAL};
+use crate::cache::{Cache, ENDS, STOPS};
 use crate::dfa::Dfa;
+use crate::states::last_met;
 use rx_program::Program;
 use rx_steps::laws::steps_are_alike;
-use rx_util::{HalfMatch, MatchError};
+use rx_util::{HalfMatch, MatchError, PatternID};
 
 /// Why a search answers nothing.
 #[derive(Clone, Copy, Debug)]
@@ -40,30 +42,79 @@ impl Refusal {
     }
 }
 
+/// An end that was met on the way.
+#[derive(Clone, Copy)]
+struct PassedEnd {
+    // Where the row of the state behind it begins.
+    row: usize,
+    at: usize,
+}
+
 impl Cache {
-    /// Follows bytes from a state as far as entries lead to states at which a search needn't look:
-    /// the last of these states, and how many bytes were followed.
-    fn run(&self, program: &Program, dfa: &Dfa, first: usize, bytes: &[u8]) -> (usize, usize)
+    /// The pattern whose end was met before a state.
+    fn end_before(&self, number: usize) -> Option<PatternID>
+        requires { number < length self.now.states }
+        ensures { (y : AutomatonState) → slice_get self.now.states number ≡ Some y
+            → result ≡ y.ended }
+    {
+        self.states[number].ended
+    }
+
+    /// The match whose end was met last: this end on the way, or the one before, if there is none.
+    fn met_last(&self, end: Option<PassedEnd>, met: Option<HalfMatch>) -> Option<HalfMatch>
+        requires width { 0 < self.now.width }
+        requires inside { (passed : PassedEnd) → end ≡ Some passed
+            → passed.row / self.now.width < length self.now.states }
+        ensures { (last : Option HalfFound)
+            → IsNoted self.now.width self.now.states met end last → result ≡ last }
+    {
+        match end {
+            Some(end) => last_met(end.at, &self.end_before(end.row / self.width), met),
+            None => met,
+        }
+    }
+
+    /// Follows bytes that stand from a place on as far as entries are known and the search isn't
+    /// over, and notes the last end that is met: the state behind them, and how many bytes were
+    /// followed.
+    fn run(
+        &self,
+        program: &Program,
+        dfa: &Dfa,
+        first: usize,
+        bytes: &[u8],
+        at: usize,
+        met: &mut Option<HalfMatch>,
+    ) -> (usize, usize)
         requires dfa { IsDfaOf program.now dfa.now }
         requires made { IsCacheOf program.now dfa.now self.now }
         requires first { first < length self.now.states }
+        requires fits { at + length bytes.now < 2 ^ 64 }
         ensures within { result.1 ≤ length bytes.now }
         ensures passed { (x : AutomatonState) → slice_get self.now.states first ≡ Some x
-            → (i : ℕ) → (met : Option HalfFound) → HasPassed program.now dfa.now self.now.states x
-            (take result.1 bytes.now) i met result.0 met }
+            → HasPassed program.now dfa.now self.now.states x
+            (take result.1 bytes.now) at met.old result.0 met.new }
     {
         // A law, for the proof alone.
         steps_are_alike();
         let mut row = first * self.width;
         let mut len = 0_usize;
+        let mut end = None;
         for byte in bytes {
             let next = self.table[row + dfa.classes.class(*byte)];
-            if next >= SPECIAL {
-                return (row / self.width, len);
+            if next < ENDS {
+                row = next as usize;
+                len += 1;
+                continue;
             }
-            row = next as usize;
+            if next >= STOPS {
+                break;
+            }
+            row = (next - ENDS) as usize;
+            end = Some(PassedEnd { row, at: at + len });
             len += 1;
         }
+        *met = self.met_last(end, *met);
         (row / self.width, len)
     }
 
@@ -136,7 +187,7 @@ impl Cache {
         let mut number = first;
         let mut len = 0_usize;
         while len < bytes.len() {
-            let (there, passed) = self.run(program, dfa, number, &bytes[len..]);
+            let (there, passed) = self.run(program, dfa, number, &bytes[len..], at + len, met);
             number = there;
             len += passed;
             if len >= bytes.len() {

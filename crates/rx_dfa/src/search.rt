@@ -1,6 +1,7 @@
 //! Searches by an automaton.
 
-ghost use Rattle.std.specs.Prelude.{◌≡◌, ◌+◌, ◌<◌, ℕ, Bool, true, false, [], Option, Some, None, length, slice_get, IfOk, IfErr, OnOk};
+ghost use Rattle.std.specs.Prelude.{◌≡◌, ◌⊎◌, ◌+◌, ◌<◌, ℕ, Bool, true, false, [], Option, Some, None, length, slice_get, IfSome, IfOk, IfErr, OnOk};
+ghost use Rattle.rx_util.specs.declared.search.MatchError.{MatchError};
 ghost use Rattle.rx_walks.specs.Finds.{IsInside};
 ghost use Rattle.rx_walks.specs.ProgramFinds.{start_node, lowest, highest};
 ghost use Rattle.rx_input.specs.Cursors.{IsSameContent};
@@ -9,9 +10,11 @@ ghost use Rattle.rx_program.specs.Programs.{ByteProgram, characters_of};
 ghost use Rattle.rx_steps.specs.declared.asked.AskedLooks.{AskedLooks};
 ghost use Rattle.rx_steps.specs.Searching.{search_of, anchoring_of};
 ghost use Rattle.rx_dfa.specs.Behind.{behind_of, quits};
-ghost use Rattle.rx_dfa.specs.States.{IsStateOf};
+ghost use Rattle.rx_dfa.specs.declared.scan.Refusal.{Refusal};
+ghost use Rattle.rx_dfa.specs.declared.states.AutomatonState.{AutomatonState};
+ghost use Rattle.rx_dfa.specs.States.{EndsSo};
 ghost use Rattle.rx_dfa.specs.Dfas.{IsDfaOf};
-ghost use Rattle.rx_dfa.specs.Caches.{IsCacheOf};
+ghost use Rattle.rx_dfa.specs.Caches.{HasFirst, IsCacheOf};
 ghost use Rattle.rx_dfa.specs.Passing.{StandThere, StandsAt, IsRefusal, error_of};
 ghost use Rattle.rx_dfa.specs.Searching.{StartsSo, IsAhead, IsHalfAnswer, byte_before, byte_after};
 
@@ -19,13 +22,13 @@ use crate::behind::{Behind, byte_that_quits};
 use crate::cache::Cache;
 use crate::dfa::Dfa;
 use crate::scan::Refusal;
-use crate::states::{Ahead, AutomatonState, Starting};
+use crate::states::{Ahead, AutomatonState, Starting, last_met};
 use rx_input::{Cursor, Input};
 use rx_program::Program;
 use rx_sets::CharacterSet;
 use rx_steps::laws::{steps_are_alike, steps_end};
-use rx_steps::{ThreadList, enter, last_place, start_state};
-use rx_util::{HalfMatch, MatchError, NonMaxUsize, StateID};
+use rx_steps::{enter, last_place, start_state};
+use rx_util::{HalfMatch, MatchError, NonMaxUsize, PatternID, StateID};
 use rx_walks::laws::{
     first_character_stands, last_character_stands, one_byte_tells, program_is_searched_keeping,
 };
@@ -100,6 +103,31 @@ fn first_starting<C: Cursor>(input: &Input<C>, start: StateID) -> Starting
     }
 }
 
+/// The byte of the slice before the place at which an input stands, where the slice starts before it
+/// and the piece that is shown has it.
+fn byte_shown_behind<C: Cursor>(input: &Input<C>) -> Option<u8>
+    requires { input.now.asked.slice.start < input.now.position }
+    ensures { IfSome result (λ byte. (utf8_empty : Bool)
+        → byte_before (search_of utf8_empty input.now) input.now.position ≡ Some byte) }
+{
+    let index = input.chunk_pos();
+    if index == 0 {
+        return None;
+    }
+    input.chunk().get(index - 1).copied()
+}
+
+/// The byte of the slice before the place at which an input stands, if there is one. The piece that
+/// is shown may be another afterwards.
+fn byte_looked_behind<C: Cursor>(input: &mut Input<C>) -> Option<u8>
+    ensures byte { (utf8_empty : Bool)
+        → IsInside (search_of utf8_empty input.old) input.old.position
+        → result ≡ byte_before (search_of utf8_empty input.old) input.old.position }
+    ensures same { IsMoved input.old input.new input.old.position input.old.asked }
+{
+    input.look_around().before().last().copied()
+}
+
 /// The byte of the slice before the place at which an input stands, if looks are asked for. The
 /// piece that is shown may be another afterwards.
 fn byte_behind<C: Cursor>(input: &mut Input<C>, asks_looks: bool) -> Option<u8>
@@ -109,34 +137,20 @@ fn byte_behind<C: Cursor>(input: &mut Input<C>, asks_looks: bool) -> Option<u8>
     ensures unasked { asks_looks ≡ false → result ≡ None }
     ensures same { IsMoved input.old input.new input.old.position input.old.asked }
 {
-    if asks_looks {
-        input.look_around().before().last().copied()
-    } else {
-        None
+    if !asks_looks || input.position() <= input.get_slice().start {
+        return None;
     }
+    if let Some(byte) = byte_shown_behind(input) {
+        return Some(byte);
+    }
+    byte_looked_behind(input)
 }
 
-/// The state in which a search stands at its first place.
-fn first_state<C: Cursor>(
-    program: &Program,
-    dfa: &Dfa,
-    input: &Input<C>,
-    start: StateID,
-    behind: Option<u8>,
-) -> AutomatonState
-    ensures state { IsStateOf program.now result }
-    ensures threads { result.threads.threads ≡ [] }
-    ensures starting { input.now.position ≡ lowest (search_of dfa.now.utf8_empty input.now)
-        → StartsSo (search_of dfa.now.utf8_empty input.now) start input.now.position
-        result.starting None }
-    ensures behind { result.behind ≡ behind_of dfa.now.asked program.now.line_terminator behind }
+/// The side on which this byte of the slice stands, or none, as far as the program's looks tell it.
+fn side_of(program: &Program, dfa: &Dfa, behind: Option<u8>) -> Behind
+    ensures { result ≡ behind_of dfa.now.asked program.now.line_terminator behind }
 {
-    AutomatonState {
-        threads: ThreadList::new(program.allocator(), 0),
-        starting: first_starting(input, start),
-        behind: Behind::of(dfa.asked, program.line_terminator(), behind),
-        ended: None,
-    }
+    Behind::of(dfa.asked, program.line_terminator(), behind)
 }
 
 impl Cache {
@@ -182,6 +196,34 @@ impl Cache {
         Ok(next)
     }
 
+    /// The pattern whose end a state meets at the last place, ahead of which this stands.
+    fn last_end(
+        &mut self,
+        program: &Program,
+        dfa: &Dfa,
+        number: usize,
+        ahead: &Ahead,
+        at: usize,
+    ) -> Result<Option<PatternID>, MatchError>
+        requires dfa { IsDfaOf program.now dfa.now }
+        requires made { IsCacheOf program.now dfa.now self.old }
+        requires number { number < length self.old.states }
+        ensures step { IfOk result (λ ended. (x : AutomatonState)
+            → slice_get self.old.states number ≡ Some x
+            → EndsSo program.now dfa.now.asked x ahead.now ended) }
+        ensures made { IsCacheOf program.now dfa.now self.new }
+        ensures refused { IfErr result (λ error.
+            (error ≡ MatchError.Memory) ⊎ (error ≡ MatchError.GaveUp at)) }
+    {
+        if !ahead.is_end() {
+            return Ok(self.next_state(program, dfa, number, ahead)?.ended);
+        }
+        match self.step(program, dfa, number, dfa.end_column(), at)? {
+            Some(next) => Ok(self.states[next].ended),
+            None => unreachable!(),
+        }
+    }
+
     /// The step at the last place, where an input has to stand: the match whose end was met last.
     fn finish<C: Cursor>(
         &mut self,
@@ -219,10 +261,11 @@ impl Cache {
         if let Some(byte) = byte_that_quits(dfa.asked, ahead.seen) {
             return Err(Refusal::Quit(byte, at));
         }
-        let Ok(last) = self.next_state(program, dfa, number, &ahead) else {
-            return Err(Refusal::Memory);
-        };
-        Ok(last.met_after(at, met))
+        match self.last_end(program, dfa, number, &ahead, at) {
+            Ok(ended) => Ok(last_met(at, &ended, met)),
+            Err(MatchError::Memory) => Err(Refusal::Memory),
+            Err(_) => Err(Refusal::GaveUp(at)),
+        }
     }
 
     /// Searches from a state, from where an input stands.
@@ -265,6 +308,34 @@ impl Cache {
         }
     }
 
+    /// The number of the state in which a search stands at its first place.
+    fn first(
+        &mut self,
+        program: &Program,
+        dfa: &Dfa,
+        starting: Starting,
+        side: Behind,
+        at: usize,
+    ) -> Result<usize, Refusal>
+        requires made { IsCacheOf program.now dfa.now self.old }
+        ensures made { IsCacheOf program.now dfa.now self.new }
+        ensures first { IfOk result (HasFirst self.new.states starting side) }
+        ensures refused { IfErr result (λ refusal.
+            (refusal ≡ Refusal.Memory) ⊎ (refusal ≡ Refusal.GaveUp at)) }
+    {
+        if let Some(number) = self.kept_first(&starting, &side) {
+            return Ok(number);
+        }
+        let state = AutomatonState::first(program.allocator(), starting, side);
+        let number = match self.number_of(program, dfa, state, at) {
+            Ok((number, _)) => number,
+            Err(MatchError::Memory) => return Err(Refusal::Memory),
+            Err(_) => return Err(Refusal::GaveUp(at)),
+        };
+        self.keep_first(&starting, &side, number);
+        Ok(number)
+    }
+
     /// Searches from the first place, at which an input has to stand.
     fn start<C: Cursor>(
         &mut self,
@@ -292,12 +363,12 @@ impl Cache {
         if let Some(byte) = byte_that_quits(dfa.asked, behind) {
             return Err(Refusal::Quit(byte, at - 1));
         }
-        let state = first_state(program, dfa, input, start, behind);
+        let starting = first_starting(input, start);
+        let side = side_of(program, dfa, behind);
         self.cleared = 0;
-        let first = match self.number_of(program, dfa, state, at) {
-            Ok((first, _)) => first,
-            Err(MatchError::Memory) => return Err(Refusal::Memory),
-            Err(_) => return Err(Refusal::GaveUp(at)),
+        let first = match self.first(program, dfa, starting, side, at) {
+            Ok(first) => first,
+            Err(refusal) => return Err(refusal),
         };
         self.follow(program, dfa, input, first)
     }

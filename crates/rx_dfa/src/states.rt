@@ -1,16 +1,17 @@
 //! The states of an automaton.
 
-ghost use Rattle.std.specs.Prelude.{◌≡◌, true, []};
+ghost use Rattle.std.specs.Prelude.{◌≡◌, Bool, None, true, []};
 ghost use Rattle.rx_dfa.specs.declared.states.Starting.TheVariants.{Never};
 ghost use Rattle.rx_steps.specs.Alike.{AreBare};
 ghost use Rattle.rx_dfa.specs.Classes.{continues};
 ghost use Rattle.rx_dfa.specs.Caches.{IsSameState};
 ghost use Rattle.rx_dfa.specs.Searching.{met_after};
-ghost use Rattle.rx_dfa.specs.States.{start_at, starting_after, ahead_of};
+ghost use Rattle.rx_dfa.specs.States.{start_at, starting_after, ahead_of, IsFirstState};
 
 use crate::behind::Behind;
 use rx_steps::ThreadList;
 use rx_util::{HalfMatch, PatternID, StateID};
+use std::alloc::Global;
 
 /// Whether walks start at a place and at those behind it, and from which state of the program.
 #[derive(Clone, Copy, Debug, PartialEq, Eq)]
@@ -72,6 +73,27 @@ impl Ahead {
             },
         }
     }
+
+    /// Whether it is the end of the slice, at which no character is cut.
+    pub(crate) fn is_end(&self) -> bool
+        ensures { result ≡ true → (utf8_empty : Bool) → self.now ≡ ahead_of utf8_empty None }
+    {
+        self.read.is_none() && self.seen.is_none() && self.may_begin
+    }
+}
+
+/// The match whose end was met last, once a place is passed at which this pattern's was met, or none.
+pub(crate) fn last_met(
+    at: usize,
+    ended: &Option<PatternID>,
+    met: Option<HalfMatch>,
+) -> Option<HalfMatch>
+    ensures { result ≡ met_after at ended.now met }
+{
+    match ended {
+        None => met,
+        Some(pattern) => Some(HalfMatch::new(*pattern, at)),
+    }
 }
 
 /// Whether both have the same nodes.
@@ -113,14 +135,33 @@ pub(crate) struct AutomatonState {
 }
 
 impl AutomatonState {
+    /// The state in which a search stands at its first place.
+    pub(crate) fn first(alloc: Global, starting: Starting, behind: Behind) -> AutomatonState
+        ensures { IsFirstState starting behind result }
+    {
+        AutomatonState {
+            threads: ThreadList::new(alloc, 0),
+            starting,
+            behind,
+            ended: None,
+        }
+    }
+
+    /// Whether it is the state in which a search stands at its first place.
+    pub(crate) fn is_first(&self, starting: &Starting, behind: &Behind) -> bool
+        ensures { result ≡ true → IsFirstState starting.now behind.now self.now }
+    {
+        self.threads.len() == 0
+            && self.starting == *starting
+            && self.behind == *behind
+            && self.ended.is_none()
+    }
+
     /// The match whose end was met last, once the place before is passed.
     pub(crate) fn met_after(&self, at: usize, met: Option<HalfMatch>) -> Option<HalfMatch>
         ensures { result ≡ met_after at self.now.ended met }
     {
-        match self.ended {
-            None => met,
-            Some(pattern) => Some(HalfMatch::new(pattern, at)),
-        }
+        last_met(at, &self.ended, met)
     }
 
     /// Whether no walk lives, and none will start.

@@ -2,7 +2,7 @@
 
 ghost use Rattle.std.specs.Prelude.{◌≡◌};
 
-use regex_cursor::engines::meta::{Builder, Cache, CapturesMatches, FindMatches, Regex};
+use regex_cursor::engines::meta::{Builder, Cache, CapturesMatches, FindMatches, Regex, Split};
 use regex_cursor::engines::pikevm::{self, PikeVM};
 use regex_cursor::util::syntax;
 use regex_cursor::{BuildError, ChunkCursor, Cursor, Input, Match, MatchError, RopeyCursor, Span};
@@ -47,6 +47,34 @@ fn span_of(item: Option<Result<Match, MatchError>>) -> Result<Option<Span>, Matc
         Some(Err(error)) => Err(error),
         None => Ok(None),
     }
+}
+
+/// The input of an iterator over matches is moved on, and back. Where the last match didn't end, an
+/// empty one is found.
+#[test]
+fn lent_input(rt: HostRuntime) -> Result<(), Fail> {
+    let re = Regex::new(rt.alloc(), "x*")?;
+    let mut found = re.find_iter(Input::new("-xx"))?;
+    found.input().set_span(1..3);
+    assert!(rt; span_of(found.next())? == Some(Span { start: 1, end: 3 }));
+    found.input().set_span(0..3);
+    assert!(rt; span_of(found.next())? == Some(Span { start: 0, end: 0 }));
+    Ok(())
+}
+
+/// The input of an iterator over parts is moved on, and back, past the first match. The part starts
+/// at 0 all the same.
+#[test]
+fn lent_input_of_parts(rt: HostRuntime) -> Result<(), Fail> {
+    let re = Regex::new(rt.alloc(), ",")?;
+    let mut parts: Split<&str> = re.split(Input::new("a,b,c"))?;
+    parts.input().set_span(4..5);
+    parts.input().set_span(2..5);
+    match parts.next() {
+        Some(part) => assert!(rt; part? == Span { start: 0, end: 3 }),
+        None => assert!(rt; false),
+    }
+    Ok(())
 }
 
 /// Matches with their groups. What is over gives no more.
@@ -94,15 +122,23 @@ fn cache(rt: HostRuntime) -> Result<(), Fail> {
     Ok(())
 }
 
-/// Clones of a regex, a cache and captures answer as their sources.
+/// Clones of a regex and of captures answer as their sources.
 #[test]
 fn clones(rt: HostRuntime) -> Result<(), Fail> {
     let re = Regex::new(rt.alloc(), "a")?;
-    let cache = re.create_cache()?;
-    let copy = re.clone()?;
     let mut caps = re.create_captures()?.clone()?;
-    copy.search_captures_with(&mut cache.clone()?, &mut Input::new("ba"), &mut caps)?;
+    re.clone()?.captures(Input::new("ba"), &mut caps)?;
     assert!(rt; caps.get_group(0) == Some(Span { start: 1, end: 2 }));
+    Ok(())
+}
+
+/// A clone of a cache serves as its source does.
+#[test]
+fn clone_of_a_cache(rt: HostRuntime) -> Result<(), Fail> {
+    let re = Regex::new(rt.alloc(), "a")?;
+    let cache = re.create_cache()?;
+    let found = re.search_with(&mut cache.clone()?, &mut Input::new("ba"))?;
+    assert!(rt; found.map_or(0, |found| found.start()) == 1);
     Ok(())
 }
 

@@ -31,6 +31,10 @@ pub record Search : Type 0 where
 abbrev pub from_place_on : Search → ℕ → Search
 from_place_on s i = record s { start = i }
 
+-- the search of the span that is cut at a place; looks see what stands behind it as before
+abbrev pub up_to_place : Search → ℕ → Search
+up_to_place s i = record s { end = i }
+
 -- the place lies inside slice, span and content
 abbrev pub IsInside : Search → ℕ → Type 0
 IsInside s i =

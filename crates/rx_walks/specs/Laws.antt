@@ -6,7 +6,7 @@ use Rattle.rx_walks.specs.Walks.{Walk, IsLeast, Reaches}
 use Rattle.rx_walks.specs.Paths.{Path, PathThrough, HasNoRepeat}
 use Rattle.rx_walks.specs.Characters.{first_character, last_character, StandsFirst, StandsLast}
 use Rattle.rx_walks.specs.Looks.{Look, asks_characters, IsEdgeOrAscii, holds_between}
-use Rattle.rx_walks.specs.Finds.{Search, IsInside, IsPossible, MayEnd, IsFind, IsFindAll, PatternMatch}
+use Rattle.rx_walks.specs.Finds.{Search, up_to_place, IsInside, IsPossible, MayEnd, IsFind, IsFindAll, PatternMatch}
 use Rattle.rx_walks.specs.Programs.{Node, set, Program, Haystack, Notes, fresh_notes, put_note, slot_of, over_characters}
 use Rattle.rx_walks.specs.ProgramFinds.{ProgramFinds, ProgramFindsAll, ProgramMatches, ProgramMatchesAll, first_by, haystack_of, holds_in, machine_of, start_node, start_of, end_of}
 use Rattle.rx_walks.specs.Bytes.{Automaton, run, over_bytes}
@@ -111,6 +111,12 @@ FindsLieInside member is_word p = (s : Search) (t : Outcome Notes)
 abbrev pub FindsAllLieInside : {S : Type 0} → (S → ℕ → Bool) → (ℕ → Bool) → Program Look S → Type 0
 FindsAllLieInside member is_word p = (s : Search) (a : PatternMatch)
     → ProgramFindsAll member is_word p s (Some a) → MayBeFound s a.start a.end
+
+-- in the span that is cut at its end the same is found, with the same notes
+abbrev pub FindsStayInCutSpans : {S : Type 0} → (S → ℕ → Bool) → (ℕ → Bool) → Program Look S → Type 0
+FindsStayInCutSpans member is_word p = (s : Search) (t : Outcome Notes)
+    → ProgramFinds member is_word p s (Some t)
+    → ProgramFinds member is_word p (up_to_place s (end_of t)) (Some t)
 
 -- it starts and ends at boundaries of the content's characters; the places in its slots are such too
 pub record StandsAtBoundaries (content : List ℕ) (t : Outcome Notes) : Type 0 where

@@ -1,6 +1,6 @@
 //! Laws of walks and of what is found by them. Each function does nothing: its contract is the law.
 
-ghost use Rattle.rx_walks.specs.Laws.{BytesRefine, FindsAllStandAtBoundaries, FindsAllAtMostOne, FindsAllExist, FindsAllLieInside, FindsStandAtBoundaries, FindsAtMostOne, FindsExist, FindsLieInside, FirstCharacterStands, FourBytesTell, LastCharacterStands, MatchesAllAreOneList, MatchesAreOneList, OneByteTells, PathsAgree, PathsHaveWalks, ProgramIsSearched, ProgramIsSearchedForAll, ProgramIsSearchedKeeping, ProgramWalksAgree, ProgramsFind, ProgramsFindAll, ProgramsReadForward, SearchesFind, SearchesFindAll, StepsKeepBest, WalksAgree, WalksTakeNoPairTwice};
+ghost use Rattle.rx_walks.specs.Laws.{BytesRefine, FindsAllStandAtBoundaries, FindsAllAtMostOne, FindsAllExist, FindsAllLieInside, FindsStandAtBoundaries, FindsAtMostOne, FindsExist, FindsLieInside, FindsStayInCutSpans, FirstCharacterStands, FourBytesTell, LastCharacterStands, MatchesAllAreOneList, MatchesAreOneList, OneByteTells, PathsAgree, PathsHaveWalks, ProgramIsSearched, ProgramIsSearchedForAll, ProgramIsSearchedKeeping, ProgramWalksAgree, ProgramsFind, ProgramsFindAll, ProgramsReadForward, SearchesFind, SearchesFindAll, StepsKeepBest, WalksAgree, WalksTakeNoPairTwice};
 ghost use Rattle.rx_walks.specs.Iterating.{IteratorsGiveInOrder, MatchesLeft};
 ghost use Rattle.rx_walks.specs.MatchLaws.{FirstMatchesGrow, MatchesAllExist, MatchesAllRise, MatchesAreFound, MatchesStandAtBoundaries, MatchesExist, MatchesRise};
 ghost use Rattle.rx_walks.specs.Machines.{Machine, Outcome};
@@ -123,6 +123,12 @@ pub fn one_byte_tells()
 pub fn finds_lie_inside<S>()
     ensures { (member : S → ℕ → Bool) (is_word : ℕ → Bool) (p : Program Look S)
         → FindsLieInside member is_word p }
+{}
+
+/// In the span that is cut at its end the same is found, with the same notes.
+pub fn finds_stay_in_cut_spans<S>()
+    ensures { (member : S → ℕ → Bool) (is_word : ℕ → Bool) (p : Program Look S)
+        → FindsStayInCutSpans member is_word p }
 {}
 
 /// And so does what is found where all matches are wanted.

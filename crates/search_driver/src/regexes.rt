@@ -137,10 +137,24 @@ fn find_often<C: Cursor>(
             return Err(Fault::Differs);
         }
     }
+    find_with_clones(out, re, &mut cache, &mut caps, input, first)
+}
+
+/// Finds it with clones of a cache and of captures, and with the cache once it is reset.
+fn find_with_clones<C: Cursor>(
+    out: &mut String,
+    re: &Regex,
+    cache: &mut Cache,
+    caps: &mut Captures,
+    input: &mut Input<C>,
+    first: Option<Span>,
+) -> Result<(), Fault>
+    requires { IsCacheOf re.now cache.old }
+{
     let mut copy = cache.clone()?;
     cache.reset(re)?;
     if found_or_again(out, re, &mut copy, &mut caps.clone()?, input)? != first
-        || found_or_again(out, re, &mut cache, &mut caps, input)? != first
+        || found_or_again(out, re, cache, caps, input)? != first
     {
         return Err(Fault::Differs);
     }

@@ -6,6 +6,7 @@ mod captures_matches;
 mod find_matches;
 mod regex;
 mod split;
+mod strategy;
 
 pub use builder::Builder;
 pub use cache::Cache;

@@ -4,6 +4,7 @@ ghost use Rattle.std.specs.Prelude.{IfErr, IfOk};
 ghost use Rattle.regex_cursor.specs.Regexes.{IsRefusedAsRegex, IsRegexOf};
 
 use super::regex::Regex;
+use super::strategy::Strategy;
 use rx_chunk::pikevm;
 use rx_program::BuildError;
 use std::alloc::Global;
@@ -31,8 +32,11 @@ impl Builder {
         ensures built { IfOk result (λ re. IsRegexOf pattern.now re) }
         ensures refused { IfErr result (λ error. IsRefusedAsRegex pattern.now error) }
     {
+        let config = pikevm::Config::new().nfa_size_limit(Some(NFA_SIZE_LIMIT));
         let mut builder = pikevm::Builder::new();
-        builder.configure(pikevm::Config::new().nfa_size_limit(Some(NFA_SIZE_LIMIT)));
-        Ok(Regex::over(builder.build(alloc, pattern)?))
+        builder.configure(config);
+        let vm = builder.build(alloc, pattern)?;
+        let strategy = Strategy::new(alloc, vm, config.get_utf8_empty())?;
+        Ok(Regex::over(alloc, strategy)?)
     }
 }

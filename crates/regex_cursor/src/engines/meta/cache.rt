@@ -1,28 +1,45 @@
 //! What searches keep from one to the next.
 
 ghost use Rattle.std.specs.Prelude.{◌≡◌, IfErr, IfOk, OnErr, OnOk};
-ghost use Rattle.regex_cursor.specs.Regexes.{IsCacheOf};
 ghost use Rattle.rx_util.specs.declared.search.MatchError.{MatchError};
+ghost use Rattle.rx_input.specs.Cursors.{IsSameContent};
+ghost use Rattle.regex_cursor.specs.Regexes.{IsCacheOf, search_by};
+ghost use Rattle.regex_cursor.specs.Strategies.{IsLeft};
 
 use super::regex::Regex;
+use super::strategy::{Left, Strategy};
 use rx_chunk::pikevm;
+use rx_dfa::try_search_fwd;
+use rx_input::{Cursor, Input};
 use rx_util::MatchError;
 use std::alloc::Global;
 use std::marker::Model;
+use std::rc::Rc;
+
+/// After so many searches in which the automaton gave up it isn't asked any more.
+const GIVES_UP: usize = 4;
 
 /// What searches with a regex keep from one to the next, so that they ask for memory once. It
 /// serves the regex that it was made for or reset for, after each search again, refused or not.
+/// Contracts see that regex.
 #[derive(Debug, Drop)]
 pub struct Cache {
+    strategy: Rc<Strategy>,
     pub(super) vm: pikevm::Cache,
+    automaton: rx_dfa::Cache,
+    // In how many searches the automaton gave up.
+    gave_up: usize,
 }
 
 impl Model for Cache {
-    ghost use Rattle.rx_steps.specs.Caches.{CacheView};
+    ghost use Rattle.regex_cursor.specs.Regexes.{CacheView};
+    ghost use Rattle.regex_cursor.specs.Strategies.{AreCachesOf};
 
     ghost Value = { CacheView };
 
-    ghost view = { λ c. c.vm };
+    ghost view = { λ c. c.strategy.value.vm };
+
+    ghost invariant = { λ c. AreCachesOf c.strategy.value c.vm c.automaton };
 }
 
 impl Cache {
@@ -32,19 +49,31 @@ impl Cache {
         ensures made { IfOk result (λ cache. IsCacheOf re.now cache) }
         ensures refused { IfErr result (λ error. error ≡ MatchError.Memory) }
     {
+        Cache::over(alloc, re.strategy().clone()?)
+    }
+
+    /// A cache for searches by these engines.
+    fn over(alloc: Global, strategy: Rc<Strategy>) -> Result<Cache, MatchError>
+        ensures made { IfOk result (λ cache. cache ≡ strategy.value.vm) }
+        ensures refused { IfErr result (λ error. error ≡ MatchError.Memory) }
+    {
+        let vm = pikevm::Cache::new(alloc, strategy.vm())?;
+        let automaton = rx_dfa::Cache::new(alloc, strategy.program(), strategy.dfa())?;
         Ok(Cache {
-            vm: pikevm::Cache::new(alloc, re.vm())?,
+            strategy,
+            vm,
+            automaton,
+            gave_up: 0,
         })
     }
 
-    /// A cache for the same regex, which knows what this one knows. The one refusal is `Memory`.
+    /// A cache for the same regex. The one refusal is `Memory`.
     pub fn clone(&self) -> Result<Cache, MatchError>
-        ensures same { IfOk result (λ cache. cache ≡ record self.now { followed = 0 }) }
+        ensures same { IfOk result (λ cache. cache ≡ self.now) }
         ensures refused { IfErr result (λ error. error ≡ MatchError.Memory) }
     {
-        Ok(Cache {
-            vm: self.vm.clone()?,
-        })
+        let strategy = self.strategy.clone()?;
+        Cache::over(strategy.program().allocator(), strategy)
     }
 
     /// Makes the cache one for searches with this regex. The one refusal is `Memory`; the cache is
@@ -54,11 +83,48 @@ impl Cache {
         ensures kept { OnErr result (self.new ≡ self.old) }
         ensures refused { IfErr result (λ error. error ≡ MatchError.Memory) }
     {
-        self.vm.reset(re.vm())
+        let alloc = self.strategy.program().allocator();
+        *self = Cache::new(alloc, re)?;
+        Ok(())
     }
 
     /// About how many bytes its lists take: a count that no contract fixes.
     pub fn memory_usage(&self) -> usize {
-        self.vm.memory_usage()
+        self.vm
+            .memory_usage()
+            .saturating_add(self.automaton.memory_usage())
+    }
+
+    /// Asks the automaton what is left of a search: nothing, where there is no match; else what
+    /// comes before the end of the match; or all, where it can't tell, or where it would come to
+    /// more than the search needs. The one refusal is `Memory`.
+    pub(super) fn ask<C: Cursor>(&mut self, input: &mut Input<C>) -> Result<Left, MatchError>
+        ensures left { IfOk result
+            (IsLeft self.old.program (search_by self.old input.old)) }
+        ensures same_regex { self.new ≡ self.old }
+        ensures asked { input.new.asked ≡ input.old.asked }
+        ensures same { IsSameContent input.old.cursor input.new.cursor }
+        ensures refused { IfErr result (λ error. error ≡ MatchError.Memory) }
+    {
+        let wants_less = input.get_earliest() || input.get_anchored().is_anchored();
+        if wants_less || self.gave_up >= GIVES_UP {
+            return Ok(Left::All);
+        }
+        let strategy = &self.strategy;
+        match try_search_fwd(
+            strategy.program(),
+            strategy.dfa(),
+            &mut self.automaton,
+            input,
+        ) {
+            Ok(Some(half)) => Ok(Left::UpTo(half.offset())),
+            Ok(None) => Ok(Left::Nothing),
+            Err(MatchError::Memory) => Err(MatchError::Memory),
+            Err(MatchError::GaveUp { offset: _ }) => {
+                self.gave_up += 1;
+                Ok(Left::All)
+            }
+            Err(_) => Ok(Left::All),
+        }
     }
 }

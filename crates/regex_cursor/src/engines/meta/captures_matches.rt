@@ -4,8 +4,8 @@ ghost use Rattle.regex_cursor.specs.Regexes.{HasRoom, IsCacheOf};
 
 use super::cache::Cache;
 use super::regex::Regex;
+use super::strategy::search_next;
 use rx_chunk::laws::fewer_are_left;
-use rx_chunk::pikevm;
 use rx_input::{Cursor, Input};
 use rx_sets::CharacterSet;
 use rx_util::{Captures, MatchError};
@@ -99,8 +99,8 @@ impl<'r, C: Cursor + Drop> Iterator for CapturesMatches<'r, C> {
         fewer_are_left();
         let vm = self.re.vm();
         let last = self.last_match_end;
-        let cache = &mut self.cache.vm;
-        if let Err(error) = pikevm::search_next(vm, cache, &mut self.input, &mut self.caps, last) {
+        let cache = &mut self.cache;
+        if let Err(error) = search_next(vm, cache, &mut self.input, &mut self.caps, last) {
             self.is_over = true;
             return Some(Err(error));
         }

@@ -4,8 +4,8 @@ ghost use Rattle.regex_cursor.specs.Regexes.{IsCacheOf};
 
 use super::cache::Cache;
 use super::regex::Regex;
+use super::strategy::find_next;
 use rx_chunk::laws::fewer_are_left;
-use rx_chunk::pikevm;
 use rx_input::{Cursor, Input};
 use rx_sets::CharacterSet;
 use rx_util::{Match, MatchError};
@@ -99,7 +99,7 @@ impl<'r, C: Cursor + Drop> Iterator for FindMatches<'r, C> {
         // A law, for the proof alone.
         fewer_are_left();
         let vm = self.re.vm();
-        match pikevm::find_next(vm, &mut self.cache.vm, &mut self.input, self.last_match_end) {
+        match find_next(vm, &mut self.cache, &mut self.input, self.last_match_end) {
             Ok(Some(found)) => {
                 let end = found.end();
                 self.input.set_start(end);

@@ -17,12 +17,14 @@ use super::cache::Cache;
 use super::captures_matches::CapturesMatches;
 use super::find_matches::FindMatches;
 use super::split::{Split, SplitN};
-use rx_chunk::pikevm::{self, PikeVM};
+use super::strategy::{self, Strategy};
+use rx_chunk::pikevm::PikeVM;
 use rx_input::{Cursor, Input};
 use rx_program::BuildError;
 use rx_util::{Captures, GroupInfo, Match, MatchError, NonMaxUsize, PatternID};
-use std::alloc::Global;
+use std::alloc::{AllocError, Global};
 use std::marker::Model;
+use std::rc::Rc;
 
 /// A regular expression that is searched for in contents that lie in pieces. Contracts see its
 /// program, its groups, and that it passes over empty matches inside a character.
@@ -31,7 +33,7 @@ use std::marker::Model;
 /// program; those named `_with` are handed one, and take none of either for it.
 #[derive(Debug, Drop)]
 pub struct Regex {
-    vm: PikeVM,
+    strategy: Rc<Strategy>,
 }
 
 impl Model for Regex {
@@ -39,7 +41,7 @@ impl Model for Regex {
 
     ghost Value = { Engine };
 
-    ghost view = { λ re. re.vm };
+    ghost view = { λ re. re.strategy.value.vm };
 }
 
 impl Regex {
@@ -56,18 +58,27 @@ impl Regex {
         Builder::new()
     }
 
-    /// A regex that searches by an engine.
-    pub(super) fn over(vm: PikeVM) -> Regex
-        ensures { result ≡ vm }
+    /// A regex that searches by these engines. The one refusal is want of memory.
+    pub(super) fn over(alloc: Global, strategy: Strategy) -> Result<Regex, AllocError>
+        ensures { IfOk result (λ re. re ≡ strategy.vm) }
     {
-        Regex { vm }
+        Ok(Regex {
+            strategy: Rc::new(alloc, strategy)?,
+        })
     }
 
-    /// The engine.
+    /// The engines.
+    pub(super) fn strategy(&self) -> &Rc<Strategy>
+        ensures { result.now.value.vm ≡ self.now }
+    {
+        &self.strategy
+    }
+
+    /// The engine that serves any search.
     pub(super) fn vm(&self) -> &PikeVM
         ensures { result.now ≡ self.now }
     {
-        &self.vm
+        self.strategy.vm()
     }
 
     /// The same regex, which shares what it was compiled to. The one refusal is `Memory`. `O(1)`.
@@ -76,7 +87,7 @@ impl Regex {
         ensures refused { IfErr result (λ error. error ≡ MatchError.Memory) }
     {
         Ok(Regex {
-            vm: self.vm.clone()?,
+            strategy: self.strategy.clone()?,
         })
     }
 
@@ -87,7 +98,7 @@ impl Regex {
         ensures refused { IfErr result (λ error. error ≡ MatchError.Memory) }
     {
         let mut cache = self.create_cache()?;
-        pikevm::is_match(&self.vm, &mut cache.vm, &mut input)
+        strategy::is_match(self.vm(), &mut cache, &mut input)
     }
 
     /// The match that is found, as by `search`.
@@ -180,6 +191,8 @@ impl Regex {
           limit = limit;
         }) }
         ensures regex { IfOk result (λ m. few.regex_of m ≡ self.now) }
+        ensures gaps { IfOk result
+            (λ m. few.GivesFewGaps self.now (search_by self.now input) limit m) }
         ensures refused { IfErr result (λ error. error ≡ MatchError.Memory) }
     {
         Ok(SplitN::new(self.split(input)?, limit))
@@ -243,7 +256,7 @@ impl Regex {
         ensures same { IsSameContent input.old.cursor input.new.cursor }
         ensures refused { IfErr result (λ error. error ≡ MatchError.Memory) }
     {
-        pikevm::find(&self.vm, &mut cache.vm, input)
+        strategy::find(self.vm(), cache, input)
     }
 
     /// Notes what is found in captures: its pattern, and the places in as many slots as they have.
@@ -270,7 +283,7 @@ impl Regex {
         ensures same { IsSameContent input.old.cursor input.new.cursor }
         ensures refused { IfErr result (λ error. error ≡ MatchError.Memory) }
     {
-        pikevm::search(&self.vm, &mut cache.vm, input, caps)
+        strategy::search(self.vm(), cache, input, caps)
     }
 
     /// The pattern of the match that is found; its places are put into the slots, as many as there
@@ -292,7 +305,7 @@ impl Regex {
         ensures same { IsSameContent input.old.cursor input.new.cursor }
         ensures refused { IfErr result (λ error. error ≡ MatchError.Memory) }
     {
-        pikevm::search_slots(&self.vm, &mut cache.vm, input, slots)
+        strategy::search_slots(self.vm(), cache, input, slots)
     }
 
     /// Captures with slots for all groups, in which nothing is noted. The one refusal is `Memory`.
@@ -304,7 +317,7 @@ impl Regex {
         ensures room { IfOk result (λ caps. HasRoom self.now caps) }
         ensures refused { IfErr result (λ error. error ≡ MatchError.Memory) }
     {
-        self.vm.create_captures()
+        self.vm().create_captures()
     }
 
     /// A cache for searches with it. The one refusal is `Memory`. It takes memory in proportion to
@@ -313,9 +326,7 @@ impl Regex {
         ensures made { IfOk result (λ cache. IsCacheOf self.now cache) }
         ensures refused { IfErr result (λ error. error ≡ MatchError.Memory) }
     {
-        Ok(Cache {
-            vm: self.vm.create_cache()?,
-        })
+        Cache::new(self.strategy.program().allocator(), self)
     }
 
     /// How many patterns it has: one.
@@ -337,6 +348,6 @@ impl Regex {
         ensures groups { result.now ≡ self.now.groups }
         ensures regex { IsRegex self.now }
     {
-        self.vm.group_info()
+        self.vm().group_info()
     }
 }

@@ -46,7 +46,8 @@ impl<'r, C: Cursor> Split<'r, C> {
     /// The input in which the next match is searched, which may be changed, as that of
     /// `FindMatches`. The next part starts at the end of the last match all the same.
     pub fn input(&mut self) -> &mut Input<C>
-        ensures { search_by (regex_of self.old) result.now ≡ (left_of self.old).matches.search }
+        ensures search { search_by (regex_of self.old) result.now
+            ≡ (left_of self.old).matches.search }
     {
         self.finder.input()
     }
@@ -124,21 +125,28 @@ pub struct SplitN<'r, C: Cursor> {
 impl<'r, C: Cursor> SplitN<'r, C> {
     ghost use Rattle.std.specs.Prelude.{◌≡◌};
     ghost use Rattle.regex_cursor.specs.Splitting as splitting;
+    ghost use Rattle.rx_walks.specs.Finds.{Search};
+    ghost use Rattle.regex_cursor.specs.Iterating.{matches_from};
     ghost use Rattle.regex_cursor.specs.Regexes.{search_by};
-    ghost use Rattle.regex_cursor.specs.SplittingFew.{left_of, regex_of};
+    ghost use Rattle.regex_cursor.specs.SplittingFew.{GivesFewGaps, left_of, regex_of};
 
     /// At most so many of these parts.
     pub(super) fn new(splits: Split<'r, C>, limit: usize) -> SplitN<'r, C>
         ensures left { left_of result
             ≡ record { parts = splitting.left_of splits.entry; limit = limit } }
         ensures regex { regex_of result ≡ splitting.regex_of splits.entry }
+        ensures gaps { (s : Search)
+            → splitting.left_of splits.entry ≡ splitting.parts_of (matches_from s)
+            → GivesFewGaps (splitting.regex_of splits.entry) s limit result }
     {
+        // A law, for the proof alone.
+        first_matches_grow::<CharacterSet>();
         SplitN { splits, limit }
     }
 
     /// The input in which the next match is searched, as that of `Split`.
     pub fn input(&mut self) -> &mut Input<C>
-        ensures { search_by (regex_of self.old) result.now
+        ensures search { search_by (regex_of self.old) result.now
             ≡ (left_of self.old).parts.matches.search }
     {
         self.splits.input()

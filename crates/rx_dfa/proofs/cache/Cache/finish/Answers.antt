@@ -1,4 +1,4 @@
-use Rattle.std.proofs.Common.{◌≡◌, false, Some, slice_get, arith, sym, ap, subst, ◌∙◌}
+use Rattle.std.proofs.Common.{◌≡◌, false, Some, slice_get, arith, sym, ap, ap₂, subst, ◌∙◌}
 use Rattle.rx_steps.specs.Searching.{search_of}
 use Rattle.rx_dfa.specs.Behind.{quits}
 use Rattle.rx_dfa.specs.Dfas.{DfaView}
@@ -20,8 +20,8 @@ returns-in-Some-clause-refused g c =
       ap (λ (v : DfaView). quits v.asked (Some c.in-Some.byte)) (sym c.dfa.view_is) ∙ told.1,
     )
 
-pub returns-clause-answer : goal.returns-clause-answer
-returns-clause-answer g c = λ q starts at.
+pub returns-in-Ok-clause-answer : goal.returns-in-Ok-clause-answer
+returns-in-Ok-clause-answer g c = λ q starts at.
     let p = c.args.program.now in
     let dfa = c.args.dfa.now in
     let s = search_of dfa.utf8_empty c.args.input.now in
@@ -32,7 +32,7 @@ returns-clause-answer g c = λ q starts at.
     let told : quits dfa.asked ahead.seen ≡ false = ap (λ a. quits a ahead.seen) (sym asked) ∙ c.byte_that_quits.ensures.none c.in_default.is in
     let here : IsAhead p dfa.asked s i ahead = subst (λ u. IsAhead p dfa.asked (search_of u c.args.input.now) i ahead) empty (c.ahead_at_last-ahead.ensures.ahead p dfa.asked c.requires.last told) in
     let laws : Laws = record { alike = c.steps_are_alike.ensures; end = c.steps_end.ensures; one_byte = c.one_byte_tells.ensures; first = c.first_character_stands.ensures; last = c.last_character_stands.ensures } in
-    let step = c.in-Ok.ensures.step at.state at.stands in
-    let whole = end_answers laws p dfa.asked s q i at.state c.in-Ok.last ahead c.args.met c.walks_are_those_of_characters.ensures.reads c.program_is_searched_keeping.ensures starts c.requires.dfa.asked
-    (state_at p dfa c.args.self.now c.args.number at.state c.requires.made at.stands).bare c.requires.inside c.requires.last c.ahead_at_last-ahead.ensures.read at.behind here step at.reached in
-    subst (λ o. IsHalfAnswer p s o) (ap (λ k. met_after k c.in-Ok.last.ended c.args.met) (sym c.position-at.ensures.position) ∙ sym c.met_after.ensures) whole
+    let ends = c.in-Ok.ensures.step at.state at.stands in
+    let whole = end_answers laws p dfa.asked s q i at.state ends.next ahead c.args.met c.walks_are_those_of_characters.ensures.reads c.program_is_searched_keeping.ensures starts c.requires.dfa.asked
+    (state_at p dfa c.args.self.now c.args.number at.state c.requires.made at.stands).bare c.requires.inside c.requires.last c.ahead_at_last-ahead.ensures.read at.behind here ends.step at.reached in
+    subst (λ o. IsHalfAnswer p s o) (ap₂ (λ k o. met_after k o c.args.met) (sym c.position-at.ensures.position) (sym ends.ended_is) ∙ sym c.last_met.ensures) whole

@@ -1,4 +1,4 @@
-use Rattle.std.proofs.Common.{◌≡◌, ◌+◌, ◌-◌, ◌<◌, None, Some, length, get_or, slice_get, arith}
+use Rattle.std.proofs.Common.{◌≡◌, ◌+◌, ◌-◌, ◌<◌, Some, length, get_or, slice_get, arith}
 use Rattle.std.proofs.lemmas.Option.{slice_get-get_or, slice_get_within}
 use Rattle.std.proofs.lemmas.Result.{err_from_is_err_and}
 use Rattle.rx_dfa.proofs.TableLaws.{there_is}
@@ -17,7 +17,7 @@ pub pass-requires-clause-number : goal.pass-requires-clause-number
 pass-requires-clause-number c =
     let states = c.loop-len.self.states in
     let here = there_is states c.loop-len.number c.loop-len.invariant.number in
-    let on = c.run-there.ensures.passed here.0 here.1 0 None in
+    let on = c.run-there.ensures.passed here.0 here.1 in
     slice_get_within states c.run-there.result.0 on.next on.stands
 
 pub returns-in_err-number-clause-refused : goal.returns-in_err-number-clause-refused
@@ -38,8 +38,8 @@ loop-len-preserved c =
       made = c.pass.ensures.made;
       number = c.in_ok-number.ensures.number;
       len = omega (arith, lt);
-      passed = λ x stands. byte_after_them c.args.program.now c.args.dfa.now c.loop-len.self.states c.pass.new.self.states x bytes n (get_or bytes n 0) c.args.at c.run-there.result.0 c.in_ok-number.number c.args.met.now c.loop-len.met c.pass.new.met is
-          (run_after c.args.program.now c.args.dfa.now c.loop-len.self.states x bytes c.loop-len.len c.run-there.result.1 (length bytes - c.loop-len.len) c.args.at c.loop-len.number c.run-there.result.0 c.args.met.now c.loop-len.met c.run-there.ensures.within
+      passed = λ x stands. byte_after_them c.args.program.now c.args.dfa.now c.loop-len.self.states c.pass.new.self.states x bytes n (get_or bytes n 0) c.args.at c.run-there.result.0 c.in_ok-number.number c.args.met.now c.run-there.new.met c.pass.new.met is
+          (run_after c.args.program.now c.args.dfa.now c.loop-len.self.states x bytes c.loop-len.len c.run-there.result.1 (length bytes - c.loop-len.len) c.args.at c.loop-len.number c.run-there.result.0 c.args.met.now c.loop-len.met c.run-there.new.met c.loop-len.invariant.len c.run-there.ensures.within
           (c.loop-len.invariant.passed x stands) c.run-there.ensures.passed)
           c.in_ok-number.ensures.passed;
     }
@@ -47,7 +47,7 @@ loop-len-preserved c =
 pub returns-then-len-bytes-clause-passed : goal.returns-then-len-bytes-clause-passed
 returns-then-len-bytes-clause-passed c = λ x stands.
     let bytes = c.args.bytes.now in
-    run_after c.args.program.now c.args.dfa.now c.loop-len.self.states x bytes c.loop-len.len c.run-there.result.1 (length bytes - c.loop-len.len) c.args.at c.loop-len.number c.run-there.result.0 c.args.met.now c.loop-len.met c.run-there.ensures.within
+    run_after c.args.program.now c.args.dfa.now c.loop-len.self.states x bytes c.loop-len.len c.run-there.result.1 (length bytes - c.loop-len.len) c.args.at c.loop-len.number c.run-there.result.0 c.args.met.now c.loop-len.met c.run-there.new.met c.loop-len.invariant.len c.run-there.ensures.within
     (c.loop-len.invariant.passed x stands) c.run-there.ensures.passed
 
 pub returns-then-is_over-clause-passed : goal.returns-then-is_over-clause-passed
@@ -55,7 +55,7 @@ returns-then-is_over-clause-passed c = λ x stands.
     let bytes = c.args.bytes.now in
     let n = c.loop-len.len + c.run-there.result.1 in
     let is : slice_get bytes n ≡ Some (get_or bytes n 0) = slice_get-get_or bytes n 0 (omega (arith, c.if-len-bytes.false)) in
-    byte_after_them c.args.program.now c.args.dfa.now c.loop-len.self.states c.pass.new.self.states x bytes n (get_or bytes n 0) c.args.at c.run-there.result.0 c.in_ok-number.number c.args.met.now c.loop-len.met c.pass.new.met is
-    (run_after c.args.program.now c.args.dfa.now c.loop-len.self.states x bytes c.loop-len.len c.run-there.result.1 (length bytes - c.loop-len.len) c.args.at c.loop-len.number c.run-there.result.0 c.args.met.now c.loop-len.met c.run-there.ensures.within
+    byte_after_them c.args.program.now c.args.dfa.now c.loop-len.self.states c.pass.new.self.states x bytes n (get_or bytes n 0) c.args.at c.run-there.result.0 c.in_ok-number.number c.args.met.now c.run-there.new.met c.pass.new.met is
+    (run_after c.args.program.now c.args.dfa.now c.loop-len.self.states x bytes c.loop-len.len c.run-there.result.1 (length bytes - c.loop-len.len) c.args.at c.loop-len.number c.run-there.result.0 c.args.met.now c.loop-len.met c.run-there.new.met c.loop-len.invariant.len c.run-there.ensures.within
     (c.loop-len.invariant.passed x stands) c.run-there.ensures.passed)
     c.in_ok-number.ensures.passed

@@ -39,8 +39,8 @@ returns-in-Some-clause-refused g c =
 
 pub follow-requires-clause-first : goal.follow-requires-clause-first
 follow-requires-clause-first g c =
-    let found = c.in-Ok.ensures.number in
-    slice_get_within c.number_of.new.self.states c.in-Ok.first found.0 found.1
+    let found = c.in-Ok.ensures.first in
+    slice_get_within c.first.new.self.states c.in-Ok.first found.state found.stands
 
 pub returns-clause-answer : goal.returns-clause-answer
 returns-clause-answer g c =
@@ -61,15 +61,15 @@ returns-clause-answer g c =
     let asked = ap (λ (v : DfaView). v.asked) c.dfa.view_is in
     let any = ap (λ (v : DfaView). v.asked.any) c.dfa.view_is in
     let told : quits dfa.asked byte ≡ false = ap (λ a. quits a byte) (sym asked) ∙ c.byte_that_quits.ensures.none c.in_default.is in
-    let found = c.in-Ok.ensures.number in
-    let x = found.0 in
-    let stands : StandsAt p dfa s q i c.number_of.new.self.states c.in-Ok.first None = record {
+    let found = c.in-Ok.ensures.first in
+    let x = found.state in
+    let stands : StandsAt p dfa s q i c.first.new.self.states c.in-Ok.first None = record {
       state = x;
-      stands = found.1;
-      reached = reached_first p s q i x first (found.2.threads ∙ c.first_state-state.ensures.threads) (subst (λ z. StartsSo s q i z None) (sym found.2.starting) (c.first_state-state.ensures.starting first));
+      stands = found.stands;
+      reached = reached_first p s q i x first found.first.threads (subst (λ z. StartsSo s q i z None) (sym found.first.starting_is) (c.first_starting-starting.ensures b first));
       behind = behind_is p dfa.asked s i x byte c.requires.dfa.asked
           (λ e. c.byte_behind-behind.ensures.asked (any ∙ e) b c.requires.inside ∙ ap₂ (λ z k. byte_before z k) (sym same) (sym moved.position_is))
           (λ e. c.byte_behind-behind.ensures.unasked (any ∙ e))
-          (found.2.behind ∙ c.first_state-state.ensures.behind) told;
+          (found.first.behind_is ∙ c.side_of-side.ensures) told;
     } in
     if_ok c.follow.result (λ found' answer. subst (λ z. IsHalfAnswer p z found') same (answer q starts stands)) c.follow.ensures.answer

@@ -1,6 +1,7 @@
 use Rattle.std.proofs.Common.{ap₂, refl}
 use Rattle.regex_cursor.specs.Regexes.{HasRoom, IsCacheOf}
-use Rattle.regex_cursor.proofs.OrderLaws.{same-room, same-serves}
+use Rattle.regex_cursor.proofs.OrderLaws.{same-room}
+use Rattle.regex_cursor.proofs.SetLaws.{same-serves}
 use Rattle.regex_cursor.proofs.engines.meta.captures_matches.CapturesMatches.input.Goals as goal
 
 pub returns : goal.returns

@@ -1,5 +1,5 @@
 use Rattle.std.proofs.Common.{ap, refl}
-use Rattle.regex_cursor.proofs.OrderLaws.{same-serves}
+use Rattle.regex_cursor.proofs.SetLaws.{same-serves}
 use Rattle.regex_cursor.proofs.engines.meta.find_matches.FindMatches.input.Goals as goal
 
 pub returns : goal.returns

@@ -1,0 +1,84 @@
+use Rattle.std.proofs.Common.{◌≡◌, ◌≤◌, length, ap, subst, ◌∙◌, arith}
+use Rattle.rx_util.specs.declared.search.Span.{Span}
+use Rattle.rx_util.specs.Captured.{Captured, match_found}
+use Rattle.rx_input.specs.Inputs.{Asked}
+use Rattle.rx_walks.specs.Finds.{up_to_place}
+use Rattle.rx_steps.specs.Searching.{search_of, IsAnswer}
+use Rattle.rx_chunk.specs.Engines.{IsFound}
+use Rattle.rx_chunk.proofs.EngineLaws.{on_ok}
+use Rattle.regex_cursor.specs.Strategies.{FindsUpTo, IsLeft}
+use Rattle.regex_cursor.specs.declared.engines.meta.strategy.Left.TheVariants.{UpTo}
+use Rattle.regex_cursor.proofs.StrategyLaws.{told_of, cut_search, up_to_inside, whole_answer, whole_found, whole_inside, cut_asked}
+use Rattle.regex_cursor.proofs.engines.meta.strategy.search.Goals as goal
+
+pub set_end-requires : goal.set_end-requires
+set_end-requires g c =
+    let i = c.args.input.now in
+    let p = c.args.vm.now.program in
+    let s = search_of c.args.vm.now.utf8_empty i in
+    let end = c.in-UpTo.end in
+    let up : FindsUpTo p s end = told_of c.args.vm.now c.args.cache.now i (UpTo end) c.requires.made (subst (λ left. IsLeft c.args.cache.now.program (search_of c.args.cache.now.utf8_empty i) left) c.in-UpTo.is c.in_ok-ask.ensures.left) in
+    let start : c.ask.new.input.asked.span.start ≡ i.asked.span.start = ap (λ (a : Asked). a.span.start) c.in_ok-ask.ensures.asked in
+    omega (arith, start, (up_to_inside p s end c.finds_lie_inside.ensures up).2)
+
+pub put_back-requires : goal.put_back-requires
+put_back-requires g c =
+    let i = c.args.input.now in
+    let p = c.args.vm.now.program in
+    let s = search_of c.args.vm.now.utf8_empty i in
+    let end = c.in-UpTo.end in
+    let up : FindsUpTo p s end = told_of c.args.vm.now c.args.cache.now i (UpTo end) c.requires.made (subst (λ left. IsLeft c.args.cache.now.program (search_of c.args.cache.now.utf8_empty i) left) c.in-UpTo.is c.in_ok-ask.ensures.left) in
+    let span : c.get_span-span.result ≡ i.asked.span = c.get_span-span.ensures ∙ ap (λ (a : Asked). a.span) c.in_ok-ask.ensures.asked in
+    let within = up_to_inside p s end c.finds_lie_inside.ensures up in
+    omega (arith, ap (λ (x : Span). x.start) span, ap (λ (x : Span). x.end) span, within.2, within.3)
+
+pub returns-in-UpTo-clause-answer : goal.returns-in-UpTo-clause-answer
+returns-in-UpTo-clause-answer g c =
+    let i = c.args.input.now in
+    let p = c.args.vm.now.program in
+    let s = search_of c.args.vm.now.utf8_empty i in
+    let end = c.in-UpTo.end in
+    let up : FindsUpTo p s end = told_of c.args.vm.now c.args.cache.now i (UpTo end) c.requires.made (subst (λ left. IsLeft c.args.cache.now.program (search_of c.args.cache.now.utf8_empty i) left) c.in-UpTo.is c.in_ok-ask.ensures.left) in
+    let search : search_of c.args.vm.now.utf8_empty c.set_end.new.self ≡ up_to_place s end = cut_search c.args.vm.now.utf8_empty i c.ask.new.input c.set_end.new.self end c.in_ok-ask.ensures.same c.in_ok-ask.ensures.asked c.set_end.ensures in
+    let caps = c.search-told.new.caps in
+    on_ok c.search-told.result
+    (λ is. whole_answer p s end c.finds_stay_in_cut_spans.ensures c.finds_at_most_one.ensures up caps.pattern caps.slots (subst (λ x. IsAnswer p x caps.pattern caps.slots) search is))
+    c.search-told.ensures.answer
+
+pub returns-in-UpTo-clause-found : goal.returns-in-UpTo-clause-found
+returns-in-UpTo-clause-found g c =
+    let i = c.args.input.now in
+    let p = c.args.vm.now.program in
+    let s = search_of c.args.vm.now.utf8_empty i in
+    let end = c.in-UpTo.end in
+    let up : FindsUpTo p s end = told_of c.args.vm.now c.args.cache.now i (UpTo end) c.requires.made (subst (λ left. IsLeft c.args.cache.now.program (search_of c.args.cache.now.utf8_empty i) left) c.in-UpTo.is c.in_ok-ask.ensures.left) in
+    let search : search_of c.args.vm.now.utf8_empty c.set_end.new.self ≡ up_to_place s end = cut_search c.args.vm.now.utf8_empty i c.ask.new.input c.set_end.new.self end c.in_ok-ask.ensures.same c.in_ok-ask.ensures.asked c.set_end.ensures in
+    let found = match_found c.search-told.new.caps in
+    let groups = ap (λ (x : Captured). x.groups) c.set_pattern.ensures in
+    let slots = ap (λ (x : Captured). length x.slots) c.set_pattern.ensures in
+    on_ok c.search-told.result
+    (λ if_room. λ same room. whole_found p s end c.finds_stay_in_cut_spans.ensures c.finds_at_most_one.ensures up found (subst (λ x. IsFound p x found) search (if_room (groups ∙ same) (omega (arith, slots, room)))))
+    c.search-told.ensures.found
+
+pub returns-in-UpTo-clause-ordered : goal.returns-in-UpTo-clause-ordered
+returns-in-UpTo-clause-ordered g c =
+    let groups = ap (λ (x : Captured). x.groups) c.set_pattern.ensures in
+    let slots = ap (λ (x : Captured). length x.slots) c.set_pattern.ensures in
+    on_ok c.search-told.result
+    (λ if_room. λ same room. if_room (groups ∙ same) (omega (arith, slots, room)))
+    c.search-told.ensures.ordered
+
+pub returns-in-UpTo-clause-inside : goal.returns-in-UpTo-clause-inside
+returns-in-UpTo-clause-inside g c =
+    let i = c.args.input.now in
+    let p = c.args.vm.now.program in
+    let s = search_of c.args.vm.now.utf8_empty i in
+    let end = c.in-UpTo.end in
+    let up : FindsUpTo p s end = told_of c.args.vm.now c.args.cache.now i (UpTo end) c.requires.made (subst (λ left. IsLeft c.args.cache.now.program (search_of c.args.cache.now.utf8_empty i) left) c.in-UpTo.is c.in_ok-ask.ensures.left) in
+    let asked = cut_asked i c.ask.new.input c.set_end.new.self end c.in_ok-ask.ensures.asked c.set_end.ensures in
+    let near : end ≤ i.asked.span.end = (up_to_inside p s end c.finds_lie_inside.ensures up).3 in
+    let groups = ap (λ (x : Captured). x.groups) c.set_pattern.ensures in
+    let slots = ap (λ (x : Captured). length x.slots) c.set_pattern.ensures in
+    on_ok c.search-told.result
+    (λ if_room. λ same room. λ a some. whole_inside i c.set_end.new.self end a.span.end asked near (if_room (groups ∙ same) (omega (arith, slots, room)) a some))
+    c.search-told.ensures.inside

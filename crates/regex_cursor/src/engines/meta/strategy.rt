@@ -1,0 +1,350 @@
+//! The engines of a regex, and how it chooses among them: the automaton is asked first, and what it
+//! leaves is searched by the PikeVM.
+
+ghost use Rattle.std.specs.Prelude.{◌≡◌, ℕ, ◌≤◌, IfOk, IfErr, OnOk, OnErr, None, Some, length, replicate};
+ghost use Rattle.std.specs.Option.{ForSome};
+ghost use Rattle.rx_util.specs.declared.search.MatchError.{MatchError};
+ghost use Rattle.rx_util.specs.Captured.{group_span, match_found, nothing_noted};
+ghost use Rattle.rx_input.specs.Cursors.{IsSameContent};
+ghost use Rattle.rx_input.specs.Inputs.{IsSpan};
+ghost use Rattle.rx_input.specs.Searchers.{EndsInside};
+ghost use Rattle.rx_steps.specs.Searching.{search_of, IsAnswer};
+ghost use Rattle.rx_walks.specs.Finds.{Search};
+ghost use Rattle.rx_program.specs.Programs.{ByteProgram};
+ghost use Rattle.rx_chunk.specs.Engines.{TellsWhether, IsFound};
+ghost use Rattle.rx_chunk.specs.Iterating.{EndsAhead, HasNotedNext, IsFoundNext, StartsFrom};
+ghost use Rattle.regex_cursor.specs.Regexes.{IsCacheOf};
+ghost use Rattle.regex_cursor.specs.Strategies.{AreEngines, IsLeft};
+
+use super::cache::Cache;
+use rx_chunk::pikevm::{self, PikeVM};
+use rx_dfa::Dfa;
+use rx_input::{Cursor, Input};
+use rx_program::Program;
+use rx_sets::CharacterSet;
+use rx_util::{Captures, Match, MatchError, NonMaxUsize, PatternID, Span};
+use rx_walks::laws::{finds_at_most_one, finds_lie_inside, finds_stay_in_cut_spans};
+use std::alloc::{AllocError, Global};
+use std::marker::Model;
+
+/// How many bytes the states of an automaton may take in a cache, about.
+const CACHE_CAPACITY: usize = 2_097_152;
+
+/// What is left of a search for the PikeVM once the automaton was asked.
+#[derive(Clone, Copy, Debug)]
+pub(super) enum Left {
+    /// Nothing: there is no match.
+    Nothing,
+    /// The span up to this place, at which the match ends.
+    UpTo(usize),
+    /// All of the span: the automaton told nothing.
+    All,
+}
+
+impl Left {
+    /// What is left where a match may be passed over that ends at `last_match_end`: then all is.
+    fn behind(self, last_match_end: Option<usize>) -> Left
+        ensures left { (p : ByteProgram) (s : Search) → IsLeft p s self → IsLeft p s result }
+        ensures behind { (end : ℕ) → result ≡ Left.UpTo end → last_match_end ≡ Some end → ⊥ }
+    {
+        match self {
+            Left::UpTo(end) if last_match_end == Some(end) => Left::All,
+            left => left,
+        }
+    }
+}
+
+/// The engines of a regex, which it shares with its clones and its caches.
+#[derive(Debug, Drop)]
+pub(super) struct Strategy {
+    vm: PikeVM,
+    dfa: Dfa,
+}
+
+impl Model for Strategy {
+    ghost use Rattle.regex_cursor.specs.Strategies.{Engines, AreEngines};
+
+    ghost Value = { Engines };
+
+    ghost view = { λ s. record { vm = s.vm; dfa = s.dfa } };
+
+    ghost invariant = { λ s. AreEngines (record { vm = s.vm; dfa = s.dfa }) };
+}
+
+impl Strategy {
+    /// A PikeVM, and the automaton of its program. `utf8_empty` is as the PikeVM has it. It takes
+    /// time in proportion to the program's states and the ranges of their automata.
+    pub(super) fn new(alloc: Global, vm: PikeVM, utf8_empty: bool) -> Result<Strategy, AllocError>
+        requires { utf8_empty ≡ vm.utf8_empty }
+        ensures { IfOk result (λ strategy. strategy.vm ≡ vm) }
+    {
+        let dfa = Dfa::new(alloc, vm.program(), utf8_empty, CACHE_CAPACITY)?;
+        Ok(Strategy { vm, dfa })
+    }
+
+    /// The engine that serves any search.
+    pub(super) fn vm(&self) -> &PikeVM
+        ensures { result.now ≡ self.now.vm }
+    {
+        &self.vm
+    }
+
+    /// The automaton.
+    pub(super) fn dfa(&self) -> &Dfa
+        ensures dfa { result.now ≡ self.now.dfa }
+        ensures engines { AreEngines self.now }
+    {
+        &self.dfa
+    }
+
+    /// The program that both search for.
+    pub(super) fn program(&self) -> &Program
+        ensures { result.now ≡ self.now.vm.program }
+    {
+        self.vm.program()
+    }
+}
+
+/// Gives an input back the span that was cut.
+fn put_back<C: Cursor>(input: &mut Input<C>, span: Span)
+    requires { IsSpan span }
+    ensures same { IsSameContent input.old.cursor input.new.cursor }
+    ensures asked { input.new.asked ≡ record input.old.asked { span = span } }
+{
+    input.set_span(span);
+}
+
+/// Puts none into each slot.
+fn clear_slots(slots: &mut [Option<NonMaxUsize>])
+    ensures { slots.new ≡ replicate (length slots.old) None }
+{
+    slots.fill(None);
+}
+
+/// Notes that nothing is found.
+fn note_nothing(caps: &mut Captures)
+    ensures { caps.new ≡ nothing_noted caps.old.groups (length caps.old.slots) }
+{
+    caps.set_pattern(None);
+    clear_slots(caps.slots_mut());
+}
+
+/// Whether there is a match. The cache must be one for the engine, and still is one afterwards. The
+/// one refusal is `Memory`.
+pub(super) fn is_match<C: Cursor>(
+    vm: &PikeVM,
+    cache: &mut Cache,
+    input: &mut Input<C>,
+) -> Result<bool, MatchError>
+    requires made { IsCacheOf vm.now cache.old }
+    ensures answer { IfOk result (λ yes. TellsWhether vm.now.program
+        (search_of vm.now.utf8_empty input.old) yes) }
+    ensures made { IsCacheOf vm.now cache.new }
+    ensures asked { input.new.asked ≡ input.old.asked }
+    ensures same { IsSameContent input.old.cursor input.new.cursor }
+    ensures refused { IfErr result (λ error. error ≡ MatchError.Memory) }
+{
+    match cache.ask(input)? {
+        Left::Nothing => Ok(false),
+        Left::UpTo(_) => Ok(true),
+        Left::All => pikevm::is_match(vm, &mut cache.vm, input),
+    }
+}
+
+/// The match that is found. The cache must be one for the engine, and still is one afterwards. The
+/// one refusal is `Memory`.
+pub(super) fn find<C: Cursor>(
+    vm: &PikeVM,
+    cache: &mut Cache,
+    input: &mut Input<C>,
+) -> Result<Option<Match>, MatchError>
+    requires made { IsCacheOf vm.now cache.old }
+    ensures answer { IfOk result (λ found. IsFound vm.now.program
+        (search_of vm.now.utf8_empty input.old) found) }
+    ensures made { IsCacheOf vm.now cache.new }
+    ensures asked { input.new.asked ≡ input.old.asked }
+    ensures same { IsSameContent input.old.cursor input.new.cursor }
+    ensures refused { IfErr result (λ error. error ≡ MatchError.Memory) }
+{
+    // Laws, for the proof alone.
+    finds_at_most_one::<CharacterSet>();
+    finds_lie_inside::<CharacterSet>();
+    finds_stay_in_cut_spans::<CharacterSet>();
+    match cache.ask(input)? {
+        Left::Nothing => Ok(None),
+        Left::All => pikevm::find(vm, &mut cache.vm, input),
+        Left::UpTo(end) => {
+            let span = input.get_span();
+            input.set_end(end);
+            let found = pikevm::find(vm, &mut cache.vm, input);
+            put_back(input, span);
+            found
+        }
+    }
+}
+
+/// The pattern of the match that is found; its places are put into the slots, as many as there are,
+/// and all others hold none. The cache must be one for the engine, and still is one afterwards. The
+/// one refusal is `Memory`: what the slots then hold has no meaning.
+pub(super) fn search_slots<C: Cursor>(
+    vm: &PikeVM,
+    cache: &mut Cache,
+    input: &mut Input<C>,
+    slots: &mut [Option<NonMaxUsize>],
+) -> Result<Option<PatternID>, MatchError>
+    requires made { IsCacheOf vm.now cache.old }
+    ensures answer { IfOk result (λ pattern. IsAnswer vm.now.program
+        (search_of vm.now.utf8_empty input.old) pattern slots.new) }
+    ensures made { IsCacheOf vm.now cache.new }
+    ensures asked { input.new.asked ≡ input.old.asked }
+    ensures same { IsSameContent input.old.cursor input.new.cursor }
+    ensures refused { IfErr result (λ error. error ≡ MatchError.Memory) }
+{
+    // Laws, for the proof alone.
+    finds_at_most_one::<CharacterSet>();
+    finds_lie_inside::<CharacterSet>();
+    finds_stay_in_cut_spans::<CharacterSet>();
+    match cache.ask(input)? {
+        Left::Nothing => {
+            clear_slots(slots);
+            Ok(None)
+        }
+        Left::All => pikevm::search_slots(vm, &mut cache.vm, input, slots),
+        Left::UpTo(end) => {
+            let span = input.get_span();
+            input.set_end(end);
+            let found = pikevm::search_slots(vm, &mut cache.vm, input, slots);
+            put_back(input, span);
+            found
+        }
+    }
+}
+
+/// Notes what is found, as `search_slots` does. In captures of the engine's groups with two slots
+/// and more group 0 is then the whole match. The cache must be one for the engine, and still is one
+/// afterwards. The one refusal is `Memory`: then no pattern is noted.
+pub(super) fn search<C: Cursor>(
+    vm: &PikeVM,
+    cache: &mut Cache,
+    input: &mut Input<C>,
+    caps: &mut Captures,
+) -> Result<(), MatchError>
+    requires made { IsCacheOf vm.now cache.old }
+    ensures answer { OnOk result (IsAnswer vm.now.program
+        (search_of vm.now.utf8_empty input.old) caps.new.pattern caps.new.slots) }
+    ensures found { OnOk result (caps.old.groups ≡ vm.now.groups → 2 ≤ length caps.old.slots
+        → IsFound vm.now.program (search_of vm.now.utf8_empty input.old) (match_found caps.new)) }
+    ensures ordered { OnOk result (caps.old.groups ≡ vm.now.groups → 2 ≤ length caps.old.slots
+        → ForSome (group_span caps.new 0) (λ span. span.start ≤ span.end)) }
+    ensures inside { OnOk result (caps.old.groups ≡ vm.now.groups → 2 ≤ length caps.old.slots
+        → ForSome (match_found caps.new) (λ found. EndsInside input.old found.span.end)) }
+    ensures groups { caps.new.groups ≡ caps.old.groups }
+    ensures slot_len { length caps.new.slots ≡ length caps.old.slots }
+    ensures no_answer { OnErr result (caps.new.pattern ≡ None) }
+    ensures made { IsCacheOf vm.now cache.new }
+    ensures asked { input.new.asked ≡ input.old.asked }
+    ensures same { IsSameContent input.old.cursor input.new.cursor }
+    ensures refused { IfErr result (λ error. error ≡ MatchError.Memory) }
+{
+    // Laws, for the proof alone.
+    finds_at_most_one::<CharacterSet>();
+    finds_lie_inside::<CharacterSet>();
+    finds_stay_in_cut_spans::<CharacterSet>();
+    caps.set_pattern(None);
+    match cache.ask(input)? {
+        Left::Nothing => {
+            note_nothing(caps);
+            Ok(())
+        }
+        Left::All => pikevm::search(vm, &mut cache.vm, input, caps),
+        Left::UpTo(end) => {
+            let span = input.get_span();
+            input.set_end(end);
+            let told = pikevm::search(vm, &mut cache.vm, input, caps);
+            put_back(input, span);
+            told
+        }
+    }
+}
+
+/// The match that comes next where the last one, if there was one, ended at `last_match_end`: an
+/// empty match there is passed over, and the search goes on one byte further than the span starts.
+/// The cache must be one for the engine, and still is one afterwards. The one refusal is `Memory`.
+pub(super) fn find_next<C: Cursor>(
+    vm: &PikeVM,
+    cache: &mut Cache,
+    input: &mut Input<C>,
+    last_match_end: Option<usize>,
+) -> Result<Option<Match>, MatchError>
+    requires made { IsCacheOf vm.now cache.old }
+    ensures answer { IfOk result (λ found. IsFoundNext vm.now.program
+        (search_of vm.now.utf8_empty input.old) last_match_end found) }
+    ensures ahead { IfOk result (λ found. ForSome found (λ m. EndsAhead last_match_end
+        (search_of vm.now.utf8_empty input.old) m.span.end)) }
+    ensures made { IsCacheOf vm.now cache.new }
+    ensures same { (start : ℕ) × StartsFrom input.old input.new start }
+    ensures refused { IfErr result (λ error. error ≡ MatchError.Memory) }
+{
+    // Laws, for the proof alone.
+    finds_at_most_one::<CharacterSet>();
+    finds_lie_inside::<CharacterSet>();
+    finds_stay_in_cut_spans::<CharacterSet>();
+    match cache.ask(input)?.behind(last_match_end) {
+        Left::Nothing => Ok(None),
+        Left::All => pikevm::find_next(vm, &mut cache.vm, input, last_match_end),
+        Left::UpTo(end) => {
+            let span = input.get_span();
+            input.set_end(end);
+            let found = pikevm::find_next(vm, &mut cache.vm, input, last_match_end);
+            put_back(input, span);
+            found
+        }
+    }
+}
+
+/// Notes the match that comes next, as `find_next` finds it, with all its groups, in captures of
+/// the engine's groups with two slots or more. The cache must be one for the engine, and still is
+/// one afterwards. The one refusal is `Memory`: then no pattern is noted.
+pub(super) fn search_next<C: Cursor>(
+    vm: &PikeVM,
+    cache: &mut Cache,
+    input: &mut Input<C>,
+    caps: &mut Captures,
+    last_match_end: Option<usize>,
+) -> Result<(), MatchError>
+    requires made { IsCacheOf vm.now cache.old }
+    requires groups { caps.old.groups ≡ vm.now.groups }
+    requires slots { 2 ≤ length caps.old.slots }
+    ensures answer { OnOk result (HasNotedNext vm.now.program
+        (search_of vm.now.utf8_empty input.old) last_match_end caps.new) }
+    ensures ordered { OnOk result (ForSome (group_span caps.new 0)
+        (λ span. span.start ≤ span.end)) }
+    ensures ahead { OnOk result (ForSome (match_found caps.new) (λ m. EndsAhead last_match_end
+        (search_of vm.now.utf8_empty input.old) m.span.end)) }
+    ensures groups { caps.new.groups ≡ caps.old.groups }
+    ensures slot_len { length caps.new.slots ≡ length caps.old.slots }
+    ensures no_answer { OnErr result (caps.new.pattern ≡ None) }
+    ensures made { IsCacheOf vm.now cache.new }
+    ensures same { (start : ℕ) × StartsFrom input.old input.new start }
+    ensures refused { IfErr result (λ error. error ≡ MatchError.Memory) }
+{
+    // Laws, for the proof alone.
+    finds_at_most_one::<CharacterSet>();
+    finds_lie_inside::<CharacterSet>();
+    finds_stay_in_cut_spans::<CharacterSet>();
+    caps.set_pattern(None);
+    match cache.ask(input)?.behind(last_match_end) {
+        Left::Nothing => {
+            note_nothing(caps);
+            Ok(())
+        }
+        Left::All => pikevm::search_next(vm, &mut cache.vm, input, caps, last_match_end),
+        Left::UpTo(end) => {
+            let span = input.get_span();
+            input.set_end(end);
+            let told = pikevm::search_next(vm, &mut cache.vm, input, caps, last_match_end);
+            put_back(input, span);
+            told
+        }
+    }
+}
