@@ -4,6 +4,8 @@ pub mod ReplaceLemmas
 pub mod HeaderLemmas
 pub mod ListingLemmas
 pub mod HistoryLaws
+pub mod HistoryLemmas
+pub mod KeepLemmas
 pub mod LineLaws
 pub mod MatchLemmas
 pub mod NoneLaws
@@ -22,6 +24,7 @@ pub mod NextLaws
 pub mod NextLemmas
 pub mod StandLaws
 pub mod HoldLaws
+pub mod HoldLemmas
 pub mod StepLaws
 pub mod ExistLaws
 pub mod TakesLemmas

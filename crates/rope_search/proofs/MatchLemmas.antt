@@ -9,6 +9,7 @@ use Rattle.rope_search_reports.specs.declared.changes.Change.{Change}
 use Rattle.rope_search_reports.specs.Replacement.{Groups, FollowEachOther, ReplacementsAreChanges, changes_of, replaced, searched}
 use Rattle.rope_search_reports.specs.Text.{IsText, bytes_of}
 use Rattle.rope_search.specs.Session.{BufferState, current_text, with_edit}
+use Rattle.rope_search.specs.Histories.{AreReplacements}
 use Rattle.rope_search.specs.Replacing.{AreAllMatches, IsReplacement, GetsTooLongWith, RowsOfReplacement, IsReplacementIn, GetsTooLongIn, RowsOfReplacementIn}
 
 -- ---- of these matches all is known
@@ -49,10 +50,19 @@ changed_by law text template told new matches shown changes is_text follow same 
     subst (λ cs. AreChanges cs 0 0 text new (searched content template matches)) (sym made)
     (subst (λ t. AreChanges (changes_of content template 0 0 matches) 0 0 text t (searched content template matches)) (sym left) (law text template matches is_text follow))
 
+-- and they are told
+pub replacements_in : (text pattern template told : List ℕ) (matches shown : List Groups) (changes : List Change) → AreGroups pattern (bytes_of text) matches
+    → shown ≡ matches → told ≡ template → changes ≡ changes_of (bytes_of text) told 0 0 shown → AreReplacements text pattern template changes
+replacements_in text pattern template told matches shown changes are same same' changes_are = record {
+  matches = matches;
+  are = are;
+  told = changes_are ∙ ap (λ t. changes_of (bytes_of text) t 0 0 shown) same' ∙ ap (changes_of (bytes_of text) template 0 0) same;
+}
+
 -- ---- the buffer's text, and its pattern
 
 -- they are the matches of the buffer's pattern
-in_buffer : (b : BufferState) (pattern text : List ℕ) (matches : List Groups) → b.pattern ≡ Some pattern → text ≡ current_text b
+pub in_buffer : (b : BufferState) (pattern text : List ℕ) (matches : List Groups) → b.pattern ≡ Some pattern → text ≡ current_text b
     → AreGroups pattern (bytes_of text) matches → AreAllMatches b matches
 in_buffer b pattern text matches is here are = record {
   pattern = pattern;

@@ -10,11 +10,13 @@ use Rattle.rope_search.specs.declared.commands.Reply.{Reply}
 use Rattle.rope_search.specs.declared.commands.Reply.TheVariants.{Done, Number, Found, NoMatch, List as Listing, Print}
 use Rattle.rope_search_reports.specs.Text.{IsText}
 use Rattle.rope_search_reports.specs.Pattern.{IsPattern, IsTooHeavy, SpellsNone, pattern_limit}
+use Rattle.rope_search_reports.specs.declared.positions.Position.{Position}
 use Rattle.rope_search_reports.specs.Position.{StandsAtBoundaries}
 use Rattle.rope_search_reports.specs.Report.{IsReport}
-use Rattle.rope_search_reports.specs.Laws.{HasOneReport, MatchesStandAtBoundaries}
+use Rattle.rope_search_reports.specs.Laws.{HasOneReport, MatchesStandAtBoundaries, ReplacedIsText}
 use Rattle.rope_search.specs.Order.{Order, SetText, EditText, UndoEdit, RedoEdit, PrintText, ForkBuffer, SetPattern, DropPattern, ListMatches, FindNext, ReplaceAll, UseBuffer}
-use Rattle.rope_search.specs.Replacing.{text_with}
+use Rattle.rope_search.specs.Places.{IsEdit}
+use Rattle.rope_search.specs.Replacing.{IsReplacement, text_with}
 use Rattle.rope_search.specs.Session.{BufferState, State, first, fresh, current_text, chosen_buffer, with_pattern, with_chosen}
 use Rattle.rope_search.specs.Step.{Answer, Accepts, Does, Step}
 use Rattle.rope_search.specs.Answers.{Run}
@@ -38,6 +40,26 @@ scalars_parted (c ∷ cs) t h =
     let later = scalars_parted cs t both.1 in
     (and_from _ _ both.0 later.0, later.1)
 
+-- ---- a buffer whose text was changed holds texts
+
+pub holds_edit : (old new : BufferState) (from to : Position) (inserted : List ℕ) → HoldsTexts old → IsText inserted
+    → IsEdit old from to inserted new → HoldsTexts new
+holds_edit old new from to inserted h is edit =
+    let whole = subst IsText edit.between.parts (text_holds old h) in
+    let parted = scalars_parted (edit.before ++ edit.part) edit.behind whole in
+    let front = scalars_joined edit.before inserted (scalars_parted edit.before edit.part parted.0).0 is in
+    let text = scalars_joined (edit.before ++ inserted) edit.behind front parted.1 in
+    let texts = All-append IsText (take (old.current + 1) old.texts) ((edit.before ++ inserted ++ edit.behind) ∷ []) (All-take IsText (old.current + 1) old.texts h.texts) (one_text _ text) in
+    subst HoldsTexts (sym edit.changed) (record { texts = texts; pattern = h.pattern })
+
+pub holds_replaced : ReplacedIsText → (old new : BufferState) (template : List ℕ) (count : ℕ) → HoldsTexts old → IsText template
+    → IsReplacement old template count new → HoldsTexts new
+holds_replaced known old new template count h is change =
+    let text = known (current_text old) change.are.pattern template change.matches (text_holds old h) is change.are.are in
+    let whole = text_with old template change.matches in
+    let texts = All-append IsText (take (old.current + 1) old.texts) (whole ∷ []) (All-take IsText (old.current + 1) old.texts h.texts) (one_text whole text) in
+    subst HoldsTexts (sym change.changed) (record { texts = texts; pattern = h.pattern })
+
 -- ---- commands keep it one
 
 set_chosen : (s t : State) (b : BufferState) → AllHoldTexts s → HoldsTexts b → t ≡ with_chosen s b → AllHoldTexts t
@@ -50,15 +72,7 @@ does_hold : Known → (limit : ℕ) (s t : State) (o : Order) (r : Reply) → Ac
 does_hold known limit s t (SetText payload) Done accepts does all =
     set_chosen s t _ all (record { texts = one_text does.0 does.1.scalars; pattern = (chosen_holds s all).pattern }) does.2
 does_hold known limit s t (EditText from to payload) Done accepts does all =
-    let old = chosen_buffer s in
-    let h = chosen_holds s all in
-    let edit = does.3 in
-    let whole = subst IsText edit.between.parts (text_holds old h) in
-    let parted = scalars_parted (edit.before ++ edit.part) edit.behind whole in
-    let front = scalars_joined edit.before does.0 (scalars_parted edit.before edit.part parted.0).0 does.2.scalars in
-    let text = scalars_joined (edit.before ++ does.0) edit.behind front parted.1 in
-    let texts = All-append IsText (take (old.current + 1) old.texts) ((edit.before ++ does.0 ++ edit.behind) ∷ []) (All-take IsText (old.current + 1) old.texts h.texts) (one_text _ text) in
-    set_chosen s t does.1 all (subst HoldsTexts (sym edit.changed) (record { texts = texts; pattern = h.pattern })) does.4
+    set_chosen s t does.1 all (holds_edit (chosen_buffer s) does.1 from to does.0 (chosen_holds s all) does.2.scalars does.3) does.4
 does_hold known limit s t UndoEdit Done accepts does all = let h = chosen_holds s all in set_chosen s t _ all (record { texts = h.texts; pattern = h.pattern }) does
 does_hold known limit s t RedoEdit Done accepts does all = let h = chosen_holds s all in set_chosen s t _ all (record { texts = h.texts; pattern = h.pattern }) does
 does_hold known limit s t PrintText Print accepts does all = unchanged s t all does
@@ -85,13 +99,7 @@ does_hold known limit s t ListMatches Listing accepts does all = unchanged s t a
 does_hold known limit s t (FindNext from) (Found start end) accepts does all = unchanged s t all does.1
 does_hold known limit s t (FindNext from) NoMatch accepts does all = unchanged s t all does.1
 does_hold known limit s t (ReplaceAll payload) (Number k) accepts does all =
-    let old = chosen_buffer s in
-    let h = chosen_holds s all in
-    let change = does.3 in
-    let text = known.replaced (current_text old) change.are.pattern does.0 change.matches (text_holds old h) does.2.scalars change.are.are in
-    let whole = text_with old does.0 change.matches in
-    let texts = All-append IsText (take (old.current + 1) old.texts) (whole ∷ []) (All-take IsText (old.current + 1) old.texts h.texts) (one_text whole text) in
-    set_chosen s t does.1 all (subst HoldsTexts (sym change.changed) (record { texts = texts; pattern = h.pattern })) does.4
+    set_chosen s t does.1 all (holds_replaced known.replaced (chosen_buffer s) does.1 does.0 k (chosen_holds s all) does.2.scalars does.3) does.4
 does_hold known limit s t (UseBuffer k) Done accepts does all = subst AllHoldTexts (sym does) all
 does_hold known limit s t o r accepts does all = absurd does
 

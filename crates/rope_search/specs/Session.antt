@@ -1,15 +1,7 @@
 -- What a session is: a list of buffers, of which one is chosen.
 use Rattle.std.specs.Prelude.{◌≡◌, MatchOption, ℕ, ◌+◌, ◌-◌, List, [], ◌∷◌, ◌++◌, take, Option, None, slice_index_or, slice_set}
 use Rattle.rope_search_reports.specs.Report.{IsReport}
-
--- texts, from the oldest on, and the number of the current one
-pub record Texts : Type 0 where
-  pub texts : List (List ℕ)
-  pub current : ℕ
-
--- one of the texts
-abbrev pub text_at : Texts → ℕ → List ℕ
-text_at history number = slice_index_or history.texts number []
+use Rattle.rope_search_reports.specs.declared.changes.Change.{Change}
 
 -- a history of texts with a current one, and perhaps a pattern. Texts and patterns are lists of
 -- scalar values
@@ -70,10 +62,12 @@ abbrev pub with_chosen : State → BufferState → State
 with_chosen session buffer =
     record session { buffers = slice_set session.buffers session.chosen buffer }
 
--- a buffer, and the most bytes that a text of it has
+-- a buffer, the most bytes that a text of it has, and what it keeps of its history: the changes that
+-- led to each of its texts from the one before, none to the first
 pub record LimitedBuffer : Type 0 where
   pub limit : ℕ
   pub state : BufferState
+  pub changes : List (List Change)
 
 -- a session, and the most bytes that a text in it has
 pub record LimitedSession : Type 0 where
@@ -83,4 +77,4 @@ pub record LimitedSession : Type 0 where
 -- the limit of the chosen one of these buffers
 abbrev pub limit_in : List LimitedBuffer → ℕ → ℕ
 limit_in buffers chosen =
-    (slice_index_or buffers chosen (record { limit = 0; state = fresh [] })).limit
+    (slice_index_or buffers chosen (record { limit = 0; state = fresh []; changes = [] })).limit

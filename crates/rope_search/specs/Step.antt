@@ -82,7 +82,7 @@ Accepts limit session order = (fault : Fault) → Refuses limit session order fa
 abbrev pub TakesMemory : State → Order → Type 0
 TakesMemory session (SetText payload) = Unit {0}
 TakesMemory session (EditText from to payload) = Unit {0}
--- only where a report is made anew
+-- only where there is a report, of which rows are made anew
 TakesMemory session UndoEdit = (chosen_buffer session).pattern ≡ None → ⊥
 TakesMemory session RedoEdit = (chosen_buffer session).pattern ≡ None → ⊥
 TakesMemory session PrintText = ⊥

@@ -1,5 +1,5 @@
 //! A buffer: a text with its history, and perhaps a pattern.
-ghost use Rattle.std.specs.Prelude.{◌≡◌, ℕ, ◌+◌, ◌^◌, ◌<◌, ◌≤◌, ◌↔◌, ◌⊎◌, [], length, chars, None, Some, Err, OnOk, OnErr, IfOk, IfErr, IfSome, MatchOption};
+ghost use Rattle.std.specs.Prelude.{◌≡◌, ℕ, ◌+◌, ◌^◌, ◌<◌, ◌≤◌, ◌↔◌, ◌⊎◌, [], ◌∷◌, length, chars, None, Some, Err, OnOk, OnErr, IfOk, IfErr, IfSome, MatchOption};
 ghost use Rattle.ropey.specs.Chunks.{text_of};
 ghost use Rattle.rope_search_reports.specs.Text.{line_count};
 ghost use Rattle.rope_search_reports.specs.Report.{match_count};
@@ -11,13 +11,14 @@ ghost use Rattle.rope_search_reports.specs.Position.{IsNowhere};
 ghost use Rattle.rope_search.specs.Finding.{TellsNext};
 ghost use Rattle.rope_search.specs.Replacing.{IsReplacement, GetsTooLongWith, RowsOfReplacement};
 ghost use Rattle.rope_search.specs.Cost.{rows_anew};
+ghost use Rattle.rope_search.specs.Histories.{LeadOn, KeepsEdit, KeepsReplacement, rows_back, rows_on};
 
 use crate::history::History;
 use crate::limits::Limits;
 use crate::parts::Part;
 use crate::search::Search;
 use rope_search_io::Fault;
-use rope_search_reports::{Finder, Lines, Position, Row, report_of};
+use rope_search_reports::{Changes, Finder, Lines, Position, Row, report_of};
 use ropey::Rope;
 use std::alloc::Global;
 use std::marker::Model;
@@ -34,7 +35,8 @@ pub struct Buffer {
 
 impl Model for Buffer {
     ghost use Rattle.std.specs.Prelude.{◌+◌, ◌^◌, ◌<◌, option_map, IfSome};
-    ghost use Rattle.rope_search.specs.Session.{LimitedBuffer, text_at};
+    ghost use Rattle.rope_search.specs.Session.{LimitedBuffer};
+    ghost use Rattle.rope_search.specs.Histories.{text_at};
     ghost use Rattle.rope_search_reports.specs.Report.{IsReport, match_count};
 
     ghost Value = { LimitedBuffer };
@@ -46,18 +48,19 @@ impl Model for Buffer {
         current = b.history.current;
         pattern = option_map (λ s. s.finder) b.search;
       };
+      changes = b.history.changes;
     } };
 
     ghost invariant = { λ b. IfSome b.search (λ s.
-        IsReport (text_at b.history b.history.current) s.finder s.rows.items
+        IsReport (text_at b.history.texts b.history.current) s.finder s.rows.items
         × (match_count s.rows.items < 2 ^ 64)) };
 }
 
 impl Buffer {
     /// A buffer with the empty text and no pattern. It may be refused with `Fault::Memory` alone.
     pub fn new(alloc: Global, limits: Limits) -> Result<Buffer, Fault>
-        ensures ok { IfOk result (λ buffer.
-            buffer ≡ record { limit = limits.text; state = fresh [] }) }
+        ensures ok { IfOk result (λ buffer. buffer ≡
+            record { limit = limits.text; state = fresh []; changes = [] ∷ [] }) }
         ensures err { IfErr result (λ fault. fault ≡ Fault.Memory) }
     {
         let history = History::new(alloc, Rope::new(alloc))?;
@@ -85,6 +88,9 @@ impl Buffer {
     pub fn text(&self) -> &Rope
         ensures text { text_of result.now ≡ current_text self.now.state }
         ensures current { self.now.state.current < length self.now.state.texts }
+
+        // What is kept of changes leads from each text of the history to the next.
+        ensures led { LeadOn self.now.state.texts self.now.changes }
     {
         self.history.current()
     }
@@ -94,6 +100,7 @@ impl Buffer {
     /// `Fault::Memory`; the buffer is then as before.
     pub fn set_text(&mut self, tick: &mut Lines, text: &str) -> Result<(), Fault>
         ensures ok { OnOk result (self.new.state ≡ with_text self.old.state (chars text.now)) }
+        ensures changes { OnOk result (self.new.changes ≡ [] ∷ []) }
         ensures limit { self.new.limit ≡ self.old.limit }
         ensures size { (result ≡ Err Fault.Size) ↔ (self.old.limit < length text.now) }
         ensures fault { IfErr result (λ fault. (fault ≡ Fault.Size) ⊎ (fault ≡ Fault.Memory)) }
@@ -136,6 +143,7 @@ impl Buffer {
     ) -> Result<(), Fault>
         ensures ok { OnOk result
             (IsEdit self.old.state from to (chars inserted.now) self.new.state) }
+        ensures kept { OnOk result (KeepsEdit self.old from to (chars inserted.now) self.new) }
         ensures limit { self.new.limit ≡ self.old.limit }
         ensures range { (result ≡ Err Fault.Range)
             ↔ HasNoneBetween (current_text self.old.state) from to }
@@ -156,14 +164,14 @@ impl Buffer {
         let part = self.part_to_replace(from, to, inserted)?;
         let old = self.history.current();
         let new = part.replaced(old, inserted)?;
+        let change = part.change(inserted);
         let Some(search) = &mut self.search else {
-            self.history.add(new)?;
+            self.history.add(new, Changes::One(change))?;
             return Ok(());
         };
         // All that may be refused comes before the first change.
-        let changes = [part.change(inserted)];
-        let patches = search.patches(tick, self.alloc, old, &new, &changes)?;
-        self.history.add(new)?;
+        let patches = search.patches(tick, self.alloc, old, &new, &[change])?;
+        self.history.add(new, Changes::One(change))?;
         search.apply(patches);
         Ok(())
     }
@@ -206,21 +214,26 @@ impl Buffer {
         }
     }
 
-    /// Goes back to the text from before the last edit; the pattern stays, and its report is made
-    /// anew. It is refused with `Fault::Nothing` where there is no such text, and, where there is a
-    /// pattern, perhaps with `Fault::Memory`; the buffer is then as before. Without a pattern it
-    /// takes no memory, and `O(1)` time.
+    /// Goes back to the text from before the last edit or replacement; the pattern stays, and of
+    /// the report only the rows of the lines that come back are made anew. It is refused with
+    /// `Fault::Nothing` where there is no such text, and, where there is a pattern, perhaps with
+    /// `Fault::Memory`; the buffer is then as before. Without a pattern it takes no memory, and
+    /// `O(1)` time. With one it takes what the edit took: `O(log n)` for each change, and time in
+    /// the lines that come back; where the number of lines changes, the rows behind are moved.
     pub fn undo(&mut self, tick: &mut Lines) -> Result<(), Fault>
         ensures ok { OnOk result (self.new.state ≡ undone self.old.state) }
         ensures limit { self.new.limit ≡ self.old.limit }
+        ensures changes { self.new.changes ≡ self.old.changes }
         ensures nothing { (result ≡ Err Fault.Nothing) ↔ (self.old.state.current ≡ 0) }
         ensures memory { result ≡ Err Fault.Memory → self.old.state.pattern ≡ None → ⊥ }
         ensures fault { IfErr result (λ fault.
             (fault ≡ Fault.Nothing) ⊎ (fault ≡ Fault.Memory)) }
         ensures err { OnErr result (self.new ≡ self.old) }
 
-        // A report that is made anew has a row for each line.
+        // It makes at most as many rows as what comes back has lines, and never more than the text
+        // has.
         ensures refused { result ≡ Err Fault.Nothing → tick.new ≡ tick.old }
+        ensures back { tick.new.count ≤ tick.old.count + rows_back self.old }
         ensures rows { tick.new.count ≤ tick.old.count
             + rows_anew self.old.state (current_text (undone self.old.state)) }
         ensures wholes { tick.new.wholes ≡ tick.old.wholes }
@@ -229,7 +242,11 @@ impl Buffer {
             return Err(Fault::Nothing);
         };
         if let Some(search) = &mut self.search {
-            search.rows = report_of(tick, self.alloc, &mut search.finder, text)?;
+            // A law, for the proof alone.
+            rope_search_reports::laws::changes_lead_back();
+            let current = self.history.current();
+            let changes = self.history.last_changes().turned(self.alloc)?;
+            search.follow(tick, self.alloc, current, text, changes.as_slice())?;
         }
         self.history.step_back();
         Ok(())
@@ -239,6 +256,7 @@ impl Buffer {
     pub fn redo(&mut self, tick: &mut Lines) -> Result<(), Fault>
         ensures ok { OnOk result (self.new.state ≡ redone self.old.state) }
         ensures limit { self.new.limit ≡ self.old.limit }
+        ensures changes { self.new.changes ≡ self.old.changes }
         ensures nothing { (result ≡ Err Fault.Nothing)
             ↔ (length self.old.state.texts ≤ self.old.state.current + 1) }
         ensures memory { result ≡ Err Fault.Memory → self.old.state.pattern ≡ None → ⊥ }
@@ -246,17 +264,21 @@ impl Buffer {
             (fault ≡ Fault.Nothing) ⊎ (fault ≡ Fault.Memory)) }
         ensures err { OnErr result (self.new ≡ self.old) }
 
-        // A report that is made anew has a row for each line.
+        // It makes at most as many rows as what comes back has lines, and never more than the text
+        // has.
         ensures refused { result ≡ Err Fault.Nothing → tick.new ≡ tick.old }
+        ensures on { tick.new.count ≤ tick.old.count + rows_on self.old }
         ensures rows { tick.new.count ≤ tick.old.count
             + rows_anew self.old.state (current_text (redone self.old.state)) }
         ensures wholes { tick.new.wholes ≡ tick.old.wholes }
     {
-        let Some(text) = self.history.next() else {
+        let Some(version) = self.history.next() else {
             return Err(Fault::Nothing);
         };
         if let Some(search) = &mut self.search {
-            search.rows = report_of(tick, self.alloc, &mut search.finder, text)?;
+            let current = self.history.current();
+            let changes = version.changes.as_slice();
+            search.follow(tick, self.alloc, current, &version.text, changes)?;
         }
         self.history.step_forward();
         Ok(())
@@ -271,6 +293,7 @@ impl Buffer {
         ensures ok { OnOk result
             (self.new.state ≡ with_pattern self.old.state (Some (chars pattern.now))) }
         ensures limit { self.new.limit ≡ self.old.limit }
+        ensures changes { self.new.changes ≡ self.old.changes }
         ensures too_long { pattern_limit < length pattern.now → result ≡ Err Fault.Limit }
         ensures is_pattern { OnOk result (IsPattern (chars pattern.now)) }
         ensures too_much { result ≡ Err Fault.Limit
@@ -297,6 +320,7 @@ impl Buffer {
     pub fn off(&mut self)
         ensures off { self.new.state ≡ with_pattern self.old.state None }
         ensures limit { self.new.limit ≡ self.old.limit }
+        ensures changes { self.new.changes ≡ self.old.changes }
     {
         self.search = None;
     }
@@ -361,6 +385,7 @@ impl Buffer {
     pub fn replace(&mut self, tick: &mut Lines, template: &str) -> Result<usize, Fault>
         ensures ok { IfOk result (λ count.
             IsReplacement self.old.state (chars template.now) count self.new.state) }
+        ensures kept { OnOk result (KeepsReplacement self.old (chars template.now) self.new) }
         ensures limit { self.new.limit ≡ self.old.limit }
         ensures nothing { (result ≡ Err Fault.Nothing) ↔ (self.old.state.pattern ≡ None) }
         ensures too_long { (self.old.state.pattern ≡ None → ⊥) → self.old.limit < length template.now
@@ -392,7 +417,7 @@ impl Buffer {
         let old = self.history.current();
         // All that may be refused comes before the first change.
         let replaced = search.replaced(tick, self.alloc, self.limits, old, template)?;
-        self.history.add(replaced.text)?;
+        self.history.add(replaced.text, replaced.changes)?;
         search.apply(replaced.patches);
         Ok(replaced.count)
     }
@@ -416,6 +441,7 @@ impl Buffer {
             buffer ≡ record {
               limit = self.now.limit;
               state = fresh (current_text self.now.state);
+              changes = [] ∷ [];
             }) }
         ensures err { IfErr result (λ fault. fault ≡ Fault.Memory) }
     {

@@ -76,7 +76,12 @@ impl Part {
     /// The change that puts another text in this part's place.
     pub fn change(self, inserted: &str) -> Change
         requires { self.start.byte_idx + length inserted.now < 2 ^ 64 }
-        ensures { (text : List ℕ) → IsMarked text self
+        ensures places { result ≡ record {
+          old_end = self.end.byte_idx;
+          new_start = self.start.byte_idx;
+          new_end = self.start.byte_idx + length inserted.now;
+        } }
+        ensures changes { (text : List ℕ) → IsMarked text self
             → AreChanges (result ∷ []) 0 0 text (with_replaced text self (chars inserted.now))
             (line_count (chars inserted.now)) }
     {

@@ -1,7 +1,6 @@
 //! A whole run, from the bytes read to the bytes written.
 ghost use Rattle.std.specs.Prelude.{◌≡◌, ◌+◌, ◌^◌, ◌<◌, ◌≤◌, ◌↔◌, [], Err, OnOk};
 ghost use Rattle.rope_search.specs.Shows.{closing};
-ghost use Rattle.rope_search.specs.Laws.{AllHoldTexts};
 ghost use Rattle.rope_search.specs.Runs.{AnswersWhole, Ran, TakesTurn, Closes};
 
 use crate::endings::Ended;
@@ -116,7 +115,6 @@ fn turn<R: Source, W: Sink>(
     writer: &mut W,
 ) -> Result<Option<Ended>, Broken>
     requires empty { write_buffer.old ≡ [] }
-    requires texts { AllHoldTexts session.old.state }
     ensures limit { session.new.limit ≡ session.old.limit }
     ensures empty { OnOk result (write_buffer.new ≡ []) }
     ensures taken { TakesTurn session.old.limit result
@@ -135,8 +133,9 @@ fn turn<R: Source, W: Sink>(
           ticks = tick.new;
         }) }
 {
-    // A law, for the proof alone: each command has a cost.
+    // A law, and the session's facts, for the proof alone: each command has a cost.
     laws::known();
+    let _ = session.buffer();
     let alloc = session.alloc();
     let limits = session.limits();
     match read_request(read_buffer, reader, alloc, limits)? {

@@ -1,7 +1,7 @@
 //! A pattern that is set, and its report, which edits and replacements patch.
-ghost use Rattle.std.specs.Prelude.{◌≡◌, ℕ, ◌+◌, ◌^◌, ◌<◌, ◌≤◌, ◌↔◌, ◌⊎◌, length, chars, Err, OnOk, IfOk, IfErr};
+ghost use Rattle.std.specs.Prelude.{◌≡◌, ℕ, ◌+◌, ◌^◌, ◌<◌, ◌≤◌, ◌↔◌, ◌⊎◌, length, chars, Err, OnOk, OnErr, IfOk, IfErr};
 ghost use Rattle.ropey.specs.Chunks.{text_of};
-ghost use Rattle.rope_search_reports.specs.Text.{line_count};
+ghost use Rattle.rope_search_reports.specs.Text.{bytes_of, line_count};
 ghost use Rattle.rope_search_reports.specs.Report.{IsReport, match_count};
 ghost use Rattle.rope_search_reports.specs.Changes.{AreChanges};
 ghost use Rattle.rope_search_reports.specs.Patches.{patched, made_by};
@@ -9,12 +9,14 @@ ghost use Rattle.rope_search_reports.specs.Position.{IsNowhere};
 ghost use Rattle.rope_search.specs.Finding.{TellsIn};
 ghost use Rattle.rope_search.specs.Replacing.{IsReplacementIn, GetsTooLongIn, RowsOfReplacementIn};
 ghost use Rattle.rope_search.specs.Searched.{FitIn, HasRoom};
+ghost use Rattle.rope_search_reports.specs.Turned.{Lead, listed, lines_put};
+ghost use Rattle.rope_search.specs.Histories.{AreReplacements};
 
 use crate::limits::Limits;
 use rope_search_io::Fault;
 use rope_search_reports::{
-    Change, Finder, Lines, Patch, Position, Row, find_all, find_from, patches_of, place_of,
-    position_of, put_in_place, put_patches, rows_made, shift_once,
+    Change, Changes, Finder, Lines, Patch, Position, Row, find_all, find_from, patches_of,
+    place_of, position_of, put_in_place, put_patches, rows_made, shift_once,
 };
 use rope_search_templates::{Replacement, Template, is_over, replace_all};
 use ropey::Rope;
@@ -45,6 +47,8 @@ pub struct Replaced {
     pub count: usize,
     /// The new text.
     pub text: Rope,
+    /// The changes that make it of the old one.
+    pub changes: Changes,
     /// The patches that make the report that of the new text.
     pub patches: Patches,
 }
@@ -74,8 +78,8 @@ fn room_for(
 
 impl Search {
     /// The patches that make the report that of the text after some changes, and room for them. For
-    /// each change they make at most as many rows as what it puts in has lines. It may be refused
-    /// with `Fault::Memory` alone. The report is as before.
+    /// each change they make at most as many rows as what it puts in has lines, and never more than
+    /// the new text has. It may be refused with `Fault::Memory` alone. The report is as before.
     pub fn patches(
         &mut self,
         tick: &mut Lines,
@@ -97,6 +101,7 @@ impl Search {
         ensures rows { self.new.rows.items ≡ self.old.rows.items }
         ensures count { (n : ℕ) → AreChanges changes.now 0 0 (text_of old.now) (text_of new.now) n
             → tick.new.count ≤ tick.old.count + n }
+        ensures once { tick.new.count ≤ tick.old.count + line_count (text_of new.now) }
         ensures wholes { tick.new.wholes ≡ tick.old.wholes }
     {
         // Laws, and the texts' facts, for the proof alone.
@@ -110,10 +115,10 @@ impl Search {
         Ok(Patches { patches, room })
     }
 
-    /// A text with all its matches replaced by what the template stands for at each, and the patches
-    /// that make the report that of this text. It is refused with `Fault::Size` where the new text
-    /// would have more bytes than the limit, and perhaps with `Fault::Memory`. The report is as
-    /// before.
+    /// A text with all its matches replaced by what the template stands for at each, the changes
+    /// that make it of the old one, and the patches that make the report that of this text. It is
+    /// refused with `Fault::Size` where the new text would have more bytes than the limit, and
+    /// perhaps with `Fault::Memory`. The report is as before.
     pub fn replaced(
         &mut self,
         tick: &mut Lines,
@@ -125,6 +130,10 @@ impl Search {
         requires report { IsReport (text_of old.now) self.old.finder self.old.rows.items }
         ensures replaced { IfOk result (λ new. IsReplacementIn (text_of old.now) self.old.finder
             (chars template.now) new.count (text_of new.text)) }
+        ensures changes { IfOk result (λ new. AreReplacements (text_of old.now) self.old.finder
+            (chars template.now) (listed new.changes)) }
+        ensures led { IfOk result (λ new.
+            Lead (listed new.changes) (text_of old.now) (text_of new.text)) }
         ensures fit { IfOk result (λ new. FitIn self.new new.patches) }
         ensures report { IfOk result (λ new.
             IsReport (text_of new.text) self.old.finder
@@ -159,6 +168,7 @@ impl Search {
         Ok(Replaced {
             count: matches.len(),
             text,
+            changes: Changes::Many(changes),
             patches,
         })
     }
@@ -175,6 +185,37 @@ impl Search {
             None => put_in_place(&mut self.rows, patches),
             Some(room) => put_patches(&mut self.rows, patches, room),
         }
+    }
+
+    /// Makes the report that of the text after some changes, as `patches` and `apply` do. It may be
+    /// refused with `Fault::Memory` alone; the report is then as before.
+    pub fn follow(
+        &mut self,
+        tick: &mut Lines,
+        alloc: Global,
+        old: &Rope,
+        new: &Rope,
+        changes: &[Change],
+    ) -> Result<(), Fault>
+        requires report { IsReport (text_of old.now) self.old.finder self.old.rows.items }
+        requires led { Lead changes.now (text_of old.now) (text_of new.now) }
+        ensures report { OnOk result
+            (IsReport (text_of new.now) self.old.finder self.new.rows.items) }
+        ensures few { OnOk result (match_count self.new.rows.items < 2 ^ 64) }
+        ensures fault { IfErr result (λ fault. fault ≡ Fault.Memory) }
+        ensures err { OnErr result (self.new.rows.items ≡ self.old.rows.items) }
+        ensures finder { self.new.finder ≡ self.old.finder }
+        ensures put { tick.new.count ≤
+            tick.old.count + lines_put (bytes_of (text_of new.now)) changes.now }
+        ensures once { tick.new.count ≤ tick.old.count + line_count (text_of new.now) }
+        ensures wholes { tick.new.wholes ≡ tick.old.wholes }
+    {
+        // A law, and the text's facts, for the proof alone.
+        rope_search_reports::laws::changes_put_lines();
+        let _ = new.len_bytes();
+        let patches = self.patches(tick, alloc, old, new, changes)?;
+        self.apply(patches);
+        Ok(())
     }
 
     /// The first match in a whole text that starts at a position or behind it: the positions where

@@ -3,7 +3,7 @@ ghost use Rattle.std.specs.Prelude.{◌≡◌, ◌+◌, ◌<◌, ◌≤◌, ◌�
 ghost use Rattle.rope_search.specs.Order.{Order, SetText, EditText, UndoEdit, RedoEdit, SetPattern, ListMatches, FindNext, ReplaceAll};
 ghost use Rattle.rope_search.specs.Session.{first, fresh, current_text, chosen_buffer, with_pattern, with_chosen};
 ghost use Rattle.rope_search_reports.specs.Pattern.{pattern_limit};
-ghost use Rattle.rope_search.specs.Laws.{HasCurrent};
+ghost use Rattle.rope_search.specs.Laws.{HasCurrent, AllHoldTexts};
 ghost use Rattle.rope_search.specs.Step.{Step};
 ghost use Rattle.rope_search.specs.Stands.{Stands, StandsFor, kept_of};
 ghost use Rattle.rope_search.specs.Cost.{Costs, whole_searches};
@@ -27,6 +27,7 @@ pub struct Session {
 impl Model for Session {
     ghost use Rattle.std.specs.Prelude.{◌≡◌, ◌<◌, All, map, vec_len};
     ghost use Rattle.rope_search.specs.Session.{LimitedSession, LimitedBuffer, limit_in};
+    ghost use Rattle.rope_search.specs.Laws.{HoldsTexts};
 
     ghost Value = { LimitedSession };
 
@@ -39,8 +40,9 @@ impl Model for Session {
     } };
 
     ghost invariant = { λ s. (s.chosen < vec_len s.buffers)
-        × All (λ (b : LimitedBuffer). b.limit ≡ limit_in s.buffers.items s.chosen)
-        s.buffers.items };
+        × (All (λ (b : LimitedBuffer). b.limit ≡ limit_in s.buffers.items s.chosen)
+        s.buffers.items
+        × All (λ (b : LimitedBuffer). HoldsTexts b.state) s.buffers.items) };
 }
 
 impl Session {
@@ -59,11 +61,10 @@ impl Session {
 
     /// The chosen buffer. `O(1)`.
     pub fn buffer(&self) -> &Buffer
-        ensures buffer { result.now ≡ record {
-          limit = self.now.limit;
-          state = chosen_buffer self.now.state;
-        } }
+        ensures state { result.now.state ≡ chosen_buffer self.now.state }
+        ensures limit { result.now.limit ≡ self.now.limit }
         ensures current { HasCurrent self.now.state }
+        ensures texts { AllHoldTexts self.now.state }
     {
         let buffer = &self.buffers[self.chosen];
         // For its facts alone.
@@ -128,12 +129,13 @@ impl Session {
     /// before.
     ///
     /// `Text` and `Pattern` take time in the bytes of the payload, and where there is a pattern
-    /// then also in those of the text, each line of which is searched anew and counted by `tick`;
-    /// so do `Undo` and `Redo` where there is a pattern. `Edit` takes time in the bytes of the
-    /// payload and `O(log n)`, and where there is a pattern searches the lines that it touches,
-    /// which are at most as many as the payload has; where the number of lines changes, it moves
-    /// the rows behind them. `Replace` searches the whole text once, and takes time in the matches
-    /// and what takes their places, of which it searches the lines.
+    /// then also in those of the text, each line of which is searched anew and counted by `tick`.
+    /// `Edit` takes time in the bytes of the payload and `O(log n)`, and where there is a pattern
+    /// searches the lines that it touches, which are at most as many as the payload has; where the
+    /// number of lines changes, it moves the rows behind them. `Replace` searches the whole text
+    /// once, and takes time in the matches and what takes their places, of which it searches the
+    /// lines. `Undo` and `Redo` search the lines of what comes back, as the edit or replacement did
+    /// of what it put there; without a pattern they are `O(1)`.
     /// `Off` lets go of the report, a row a line. All others are `O(1)`, but for what `fork` says.
     pub fn apply(&mut self, tick: &mut Lines, command: Command<'_>) -> Result<Reply, Fault>
         // What it answers and leaves is a step, for each command that this one stands for.
@@ -335,6 +337,8 @@ impl Session {
             → tick.new.count ≤ tick.old.count + cost }
         ensures wholes { tick.new.wholes ≤ tick.old.wholes + 1 }
     {
+        // A law, for the proof alone.
+        rope_search_reports::laws::replaced_is_text();
         match payload {
             Payload::Kept(bytes) => match str::from_utf8(bytes) {
                 Ok(template) => {

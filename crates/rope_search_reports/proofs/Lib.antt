@@ -15,6 +15,7 @@ pub mod GroupLemmas
 pub mod SpliceLemmas
 pub mod ChangeLemmas
 pub mod WeaveLemmas
+pub mod TurnLemmas
 pub mod PutLemmas
 pub mod ReplacementLemmas
 pub mod ReportLaws

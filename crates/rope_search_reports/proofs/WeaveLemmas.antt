@@ -239,7 +239,7 @@ Woven-report pattern old new n kept done patches changes none w all are =
 
 -- ---- the change at an index
 
-drop-cons : {A : Type 0} (i : ℕ) (xs : List A) (d : A) → i < length xs → drop i xs ≡ slice_index_or xs i d ∷ drop (i + 1) xs
+pub drop-cons : {A : Type 0} (i : ℕ) (xs : List A) (d : A) → i < length xs → drop i xs ≡ slice_index_or xs i d ∷ drop (i + 1) xs
 drop-cons zero [] d l = absurd (omega (arith, l))
 drop-cons zero (x ∷ xs) d l = refl
 drop-cons (suc i) [] d l = absurd (omega (arith, l))

@@ -8,6 +8,7 @@ pub mod Splice
 pub mod Changes
 pub mod Patches
 pub mod Replacement
+pub mod Turned
 pub mod Laws
 pub mod Drafts
 pub mod Finders

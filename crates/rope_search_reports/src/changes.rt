@@ -1,10 +1,11 @@
-//! The rows that several changes of a text make anew.
+//! Changes of a text, the way back from them, and the rows that they make anew.
 ghost use Rattle.std.specs.Prelude.{◌≡◌, ℕ, ◌+◌, ◌-◌, ◌^◌, ◌<◌, ◌≤◌, List, [], take, drop, IfOk, IfErr};
 ghost use Rattle.rope_search_reports.specs.Report.{IsReport};
 ghost use Rattle.rope_search_reports.specs.Text.{line_count};
 ghost use Rattle.ropey.specs.Chunks.{text_of};
 ghost use Rattle.rope_search_reports.specs.Changes.{AreChanges};
 ghost use Rattle.rope_search_reports.specs.Patches.{patched, AreInTurn};
+ghost use Rattle.rope_search_reports.specs.Turned.{Lead, listed, turned, turned_from};
 
 use crate::patches::Patch;
 use crate::reports::rows_of_lines;
@@ -12,6 +13,7 @@ use crate::rows::{Finder, Lines};
 use rope_search_io::Fault;
 use ropey::Rope;
 use std::alloc::Global;
+use std::slice;
 
 /// A change of a text, in bytes: where the part ends that it takes out of the old text, and where
 /// the part starts and ends that it puts into the new one.
@@ -23,6 +25,73 @@ pub struct Change {
     pub new_start: usize,
     /// Where the new part ends, in the new text.
     pub new_end: usize,
+}
+
+/// Changes of a text, one after the other. One alone takes no memory beside its own.
+#[derive(Debug, Drop)]
+pub enum Changes {
+    /// One change.
+    One(Change),
+    /// Any number of changes, from the first on.
+    Many(Vec<Change>),
+}
+
+impl Change {
+    /// The change that takes out of the new text what this one puts in, and puts back what it takes
+    /// out. The one before it ends at these places of the old text and the new one.
+    fn turned_from(self, at_old: usize, at_new: usize) -> Change
+        requires behind { at_new ≤ self.new_start }
+        requires ordered { at_old + (self.new_start - at_new) ≤ self.old_end }
+        ensures { result ≡ turned_from at_old at_new self }
+    {
+        Change {
+            old_end: self.new_end,
+            new_start: at_old + (self.new_start - at_new),
+            new_end: self.old_end,
+        }
+    }
+}
+
+/// Changes turned about, in a list of their own.
+fn turned(alloc: Global, changes: &[Change]) -> Result<Vec<Change>, Fault>
+    requires { (old : List ℕ) × (new : List ℕ) × Lead changes.now old new }
+    ensures changes { IfOk result (λ back. back.items ≡ turned 0 0 changes.now) }
+    ensures fault { IfErr result (λ fault. fault ≡ Fault.Memory) }
+{
+    let mut back = Vec::with_capacity(alloc, changes.len())?;
+    // Where the last change ends, in the old text and in the new one.
+    let (mut at_old, mut at_new) = (0, 0);
+    for change in changes {
+        back.push_reserved(change.turned_from(at_old, at_new));
+        at_old = change.old_end;
+        at_new = change.new_end;
+    }
+    Ok(back)
+}
+
+impl Changes {
+    /// The changes, from the first on.
+    pub fn as_slice(&self) -> &[Change]
+        ensures { result.now ≡ listed self.now }
+    {
+        match self {
+            Changes::One(change) => slice::from_ref(change),
+            Changes::Many(changes) => changes.as_slice(),
+        }
+    }
+
+    /// The changes that lead from the new text back to the old one. It may be refused with
+    /// `Fault::Memory` alone; for one change it takes no memory. `O(k)` for k changes.
+    pub fn turned(&self, alloc: Global) -> Result<Changes, Fault>
+        requires { (old : List ℕ) × (new : List ℕ) × Lead (listed self.now) old new }
+        ensures changes { IfOk result (λ back. listed back ≡ turned 0 0 (listed self.now)) }
+        ensures fault { IfErr result (λ fault. fault ≡ Fault.Memory) }
+    {
+        match self {
+            Changes::One(change) => Ok(Changes::One(change.turned_from(0, 0))),
+            Changes::Many(changes) => Ok(Changes::Many(turned(alloc, changes.as_slice())?)),
+        }
+    }
 }
 
 /// The patches that make a report that of the text after some changes. They search each line of the

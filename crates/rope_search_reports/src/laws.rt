@@ -5,6 +5,7 @@ ghost use Rattle.rope_search_reports.specs.Laws.{IsPatternOrNot, IsOneOfThree, F
 ghost use Rattle.rope_search_reports.specs.Splice.{EditsSpliceLines, KeepsRows};
 ghost use Rattle.rope_search_reports.specs.Changes.{ChangesKeepLines, TailsKeepLines};
 ghost use Rattle.rope_search_reports.specs.Replacement.{ReplacementsAreChanges};
+ghost use Rattle.rope_search_reports.specs.Turned.{ChangesLeadBack, ChangesTurnTwice, ChangesPutLines};
 
 /// Each text is a pattern, or it is one but for its weight, or it spells nothing. So it is settled
 /// for each text how `Finder::new` answers, but for want of memory.
@@ -174,6 +175,21 @@ pub fn tails_keep_lines()
 /// changes may have as many lines searched as what takes the matches' places has.
 pub fn replacements_are_changes()
     ensures { ReplacementsAreChanges }
+{}
+
+/// Changes turned about lead from the new text back to the old one.
+pub fn changes_lead_back()
+    ensures { ChangesLeadBack }
+{}
+
+/// Turned about again they are the changes that they were.
+pub fn changes_turn_twice()
+    ensures { ChangesTurnTwice }
+{}
+
+/// The lines that changes may have searched are those of what they put into the new text.
+pub fn changes_put_lines()
+    ensures { ChangesPutLines }
 {}
 
 /// Places in a text by characters, by code units and by lines agree with one another.

@@ -13,7 +13,7 @@ mod reports;
 mod rows;
 mod searching;
 
-pub use changes::{Change, patches_of};
+pub use changes::{Change, Changes, patches_of};
 pub use patches::{Patch, put_in_place, put_patches, rows_made, shift_once};
 pub use positions::{Place, Position, byte_of, place_of, position_of};
 pub use replacing::replace_rows;

@@ -5,13 +5,25 @@ use rope_search::{
 };
 use std::test::Fail;
 
+// Nothing is said of what it answers: so what follows is proved without the contract of a command, and
+// shows what that does.
+fn session_of(
+    rt: &HostRuntime,
+    tick: &mut Lines,
+    text: &[u8],
+    pattern: &[u8],
+) -> Result<Session, Fault> {
+    let mut session = Session::new(rt.alloc(), Limits::default())?;
+    session.apply(tick, Command::Text(Payload::Kept(text)))?;
+    session.apply(tick, Command::Pattern(Payload::Kept(pattern)))?;
+    Ok(session)
+}
+
 /// `Session`, `Command` and `Payload`: a text and a pattern, and where the matches are.
 #[test]
 fn a_pattern_in_a_text(rt: HostRuntime) -> Result<(), Fail> {
     let mut tick = Lines::new(&rt);
-    let mut session = Session::new(rt.alloc(), Limits::default())?;
-    session.apply(&mut tick, Command::Text(Payload::Kept(b"a frog\na toad\n")))?;
-    session.apply(&mut tick, Command::Pattern(Payload::Kept(b"o")))?;
+    let session = session_of(&rt, &mut tick, b"a frog\na toad\n", b"o")?;
     let report = session.buffer().report().unwrap_or(&[]);
     // A row for each line, the last of them empty. Columns are UTF-16 code units.
     let expected: [&[(usize, usize)]; 3] = [&[(4, 5)], &[(3, 4)], &[]];
@@ -35,10 +47,22 @@ fn a_run_over_memory(rt: HostRuntime) -> Result<(), Fail> {
     Ok(())
 }
 
-// Nothing is said of what it answers: so what follows is proved without the contract of a command, and
-// shows what that does.
+// So it is with this.
 fn apply(session: &mut Session, tick: &mut Lines, command: Command<'_>) -> Result<Reply, Fault> {
     session.apply(tick, command)
+}
+
+// So it is with a buffer that has a text and a pattern.
+fn buffer_of(
+    rt: &HostRuntime,
+    tick: &mut Lines,
+    text: &str,
+    pattern: &str,
+) -> Result<Buffer, Fault> {
+    let mut buffer = Buffer::new(rt.alloc(), Limits::default())?;
+    buffer.set_text(tick, text)?;
+    buffer.set_pattern(tick, pattern)?;
+    Ok(buffer)
 }
 
 /// `Reply`: what an accepted command is answered. A fork is a buffer of its own.
@@ -46,79 +70,76 @@ fn apply(session: &mut Session, tick: &mut Lines, command: Command<'_>) -> Resul
 fn replies(rt: HostRuntime) -> Result<(), Fail> {
     let mut tick = Lines::new(&rt);
     let mut session = Session::new(rt.alloc(), Limits::default())?;
-    let cases = [
-        (Command::Text(Payload::Kept(b"a frog")), Ok(Reply::Done)),
-        (Command::Print, Ok(Reply::Print)),
-        (Command::Fork, Ok(Reply::Number(1))),
-        (Command::Use(1), Ok(Reply::Done)),
-        (Command::List, Err(Fault::Nothing)),
-        (Command::Pattern(Payload::Kept(b"frog")), Ok(Reply::Done)),
-        (Command::List, Ok(Reply::List)),
-        (
-            Command::Next(Position { line: 0, column: 1 }),
-            Ok(Reply::Found(
-                Position { line: 0, column: 2 },
-                Position { line: 0, column: 6 },
-            )),
-        ),
-        (
-            Command::Next(Position { line: 0, column: 3 }),
-            Ok(Reply::NoMatch),
-        ),
-        (Command::Off, Ok(Reply::Done)),
-    ];
-    for (command, answer) in cases {
-        assert!(rt;
-            apply(&mut session, &mut tick, command) == answer,
-            "{command:?}"
-        );
-    }
+    let text = Command::Text(Payload::Kept(b"a frog"));
+    assert!(rt; apply(&mut session, &mut tick, text) == Ok(Reply::Done));
+    assert!(rt; apply(&mut session, &mut tick, Command::Print) == Ok(Reply::Print));
+    assert!(rt; apply(&mut session, &mut tick, Command::Fork) == Ok(Reply::Number(1)));
+    assert!(rt; apply(&mut session, &mut tick, Command::Use(1)) == Ok(Reply::Done));
+    assert!(rt; apply(&mut session, &mut tick, Command::List) == Err(Fault::Nothing));
+    let pattern = Command::Pattern(Payload::Kept(b"frog"));
+    assert!(rt; apply(&mut session, &mut tick, pattern) == Ok(Reply::Done));
+    assert!(rt; apply(&mut session, &mut tick, Command::List) == Ok(Reply::List));
+    assert!(rt; apply(&mut session, &mut tick, Command::Off) == Ok(Reply::Done));
     assert!(rt; session.fork() == Ok(2));
     assert!(rt; session.choose(2) == Ok(()));
     assert!(rt; session.choose(3) == Err(Fault::Nothing));
     Ok(())
 }
 
-/// `Payload`: one that was kept, one that is too long to keep, and one for which there was no memory.
-/// `Limits`: one on the bytes of a text, and not of a pattern. A refusal leaves the text.
+/// `Reply`: the next match of the whole text, or that there is none.
 #[test]
-fn payloads(rt: HostRuntime) -> Result<(), Fail> {
+fn replies_to_next(rt: HostRuntime) -> Result<(), Fail> {
+    let mut tick = Lines::new(&rt);
+    let mut session = Session::new(rt.alloc(), Limits::default())?;
+    let text = Command::Text(Payload::Kept(b"a frog"));
+    assert!(rt; apply(&mut session, &mut tick, text) == Ok(Reply::Done));
+    let pattern = Command::Pattern(Payload::Kept(b"frog"));
+    assert!(rt; apply(&mut session, &mut tick, pattern) == Ok(Reply::Done));
+    let start = Position { line: 0, column: 2 };
+    let end = Position { line: 0, column: 6 };
+    let found = apply(&mut session, &mut tick, Command::Next(start));
+    assert!(rt; found == Ok(Reply::Found(start, end)));
+    assert!(rt; apply(&mut session, &mut tick, Command::Next(end)) == Ok(Reply::NoMatch));
+    Ok(())
+}
+
+/// `Payload`: one that was kept, one that is too long to keep, and one for which there was no memory.
+/// `Limits`: one on the bytes of a text. A refusal leaves the text.
+#[test]
+fn payloads_of_text(rt: HostRuntime) -> Result<(), Fail> {
     let mut tick = Lines::new(&rt);
     let mut session = Session::new(rt.alloc(), Limits { text: 4 })?;
-    let cases = [
-        (Command::Text(Payload::Kept(b"frog")), Ok(Reply::Done)),
-        (Command::Text(Payload::Kept(b"\xff")), Err(Fault::Utf8)),
-        (Command::Text(Payload::Kept(b"frogs")), Err(Fault::Size)),
-        (Command::Text(Payload::Kept(b"frog\xff")), Err(Fault::Utf8)),
-        (
-            Command::Text(Payload::Long { utf8: true }),
-            Err(Fault::Size),
-        ),
-        (
-            Command::Text(Payload::Long { utf8: false }),
-            Err(Fault::Utf8),
-        ),
-        (Command::Text(Payload::Lost), Err(Fault::Memory)),
-        (
-            Command::Pattern(Payload::Long { utf8: true }),
-            Err(Fault::Limit),
-        ),
-        (
-            Command::Pattern(Payload::Long { utf8: false }),
-            Err(Fault::Utf8),
-        ),
-        (Command::Pattern(Payload::Lost), Err(Fault::Memory)),
-        (Command::List, Err(Fault::Nothing)),
-        (Command::Pattern(Payload::Kept(b"frogs")), Ok(Reply::Done)),
-        (Command::List, Ok(Reply::List)),
-    ];
-    for (command, answer) in cases {
-        assert!(rt;
-            apply(&mut session, &mut tick, command) == answer,
-            "{command:?}"
-        );
-        assert!(rt; session.buffer().text().eq_str("frog"));
-    }
+    let text = Command::Text(Payload::Kept(b"frog"));
+    assert!(rt; apply(&mut session, &mut tick, text) == Ok(Reply::Done));
+    let bad = Command::Text(Payload::Kept(b"frog\xff"));
+    assert!(rt; apply(&mut session, &mut tick, bad) == Err(Fault::Utf8));
+    let long = Command::Text(Payload::Kept(b"frogs"));
+    assert!(rt; apply(&mut session, &mut tick, long) == Err(Fault::Size));
+    let long = Command::Text(Payload::Long { utf8: true });
+    assert!(rt; apply(&mut session, &mut tick, long) == Err(Fault::Size));
+    let bad = Command::Text(Payload::Long { utf8: false });
+    assert!(rt; apply(&mut session, &mut tick, bad) == Err(Fault::Utf8));
+    let lost = Command::Text(Payload::Lost);
+    assert!(rt; apply(&mut session, &mut tick, lost) == Err(Fault::Memory));
+    assert!(rt; session.buffer().text().eq_str("frog"));
+    Ok(())
+}
+
+/// `Payload`: that of a pattern, to which the limit on texts doesn't apply.
+#[test]
+fn payloads_of_patterns(rt: HostRuntime) -> Result<(), Fail> {
+    let mut tick = Lines::new(&rt);
+    let mut session = Session::new(rt.alloc(), Limits { text: 4 })?;
+    let long = Command::Pattern(Payload::Long { utf8: true });
+    assert!(rt; apply(&mut session, &mut tick, long) == Err(Fault::Limit));
+    let bad = Command::Pattern(Payload::Long { utf8: false });
+    assert!(rt; apply(&mut session, &mut tick, bad) == Err(Fault::Utf8));
+    let lost = Command::Pattern(Payload::Lost);
+    assert!(rt; apply(&mut session, &mut tick, lost) == Err(Fault::Memory));
+    assert!(rt; apply(&mut session, &mut tick, Command::List) == Err(Fault::Nothing));
+    let pattern = Command::Pattern(Payload::Kept(b"frogs"));
+    assert!(rt; apply(&mut session, &mut tick, pattern) == Ok(Reply::Done));
+    assert!(rt; apply(&mut session, &mut tick, Command::List) == Ok(Reply::List));
     Ok(())
 }
 
@@ -127,9 +148,7 @@ fn payloads(rt: HostRuntime) -> Result<(), Fail> {
 #[test]
 fn an_edit_of_a_line(rt: HostRuntime) -> Result<(), Fail> {
     let mut tick = Lines::new(&rt);
-    let mut buffer = Buffer::new(rt.alloc(), Limits::default())?;
-    buffer.set_text(&mut tick, "a frog\na toad")?;
-    buffer.set_pattern(&mut tick, "toad")?;
+    let mut buffer = buffer_of(&rt, &mut tick, "a frog\na toad", "toad")?;
     assert!(rt; tick.count() == 2);
     let start = Position { line: 0, column: 2 };
     let end = Position { line: 0, column: 6 };
@@ -149,8 +168,12 @@ fn an_edit_of_a_line(rt: HostRuntime) -> Result<(), Fail> {
 fn all_matches_replaced(rt: HostRuntime) -> Result<(), Fail> {
     let mut tick = Lines::new(&rt);
     let mut session = Session::new(rt.alloc(), Limits::default())?;
-    session.apply(&mut tick, Command::Text(Payload::Kept(b"ab")))?;
-    session.apply(&mut tick, Command::Pattern(Payload::Kept(b"(b)")))?;
+    apply(&mut session, &mut tick, Command::Text(Payload::Kept(b"ab")))?;
+    apply(
+        &mut session,
+        &mut tick,
+        Command::Pattern(Payload::Kept(b"(b)")),
+    )?;
     let replace = Command::Replace(Payload::Kept(b"x$1"));
     assert!(rt; apply(&mut session, &mut tick, replace) == Ok(Reply::Number(1)));
     assert!(rt; session.buffer().text().eq_str("axb"));
@@ -162,14 +185,10 @@ fn all_matches_replaced(rt: HostRuntime) -> Result<(), Fail> {
 #[test]
 fn a_pattern_that_has_no_memory(rt: HostRuntime) -> Result<(), Fail> {
     let mut tick = Lines::new(&rt);
-    let mut session = Session::new(rt.alloc(), Limits::default())?;
-    let text = Command::Text(Payload::Kept(b"ab"));
-    assert!(rt; session.apply(&mut tick, text) == Ok(Reply::Done));
-    let pattern = Command::Pattern(Payload::Kept(b"b"));
-    assert!(rt; session.apply(&mut tick, pattern) == Ok(Reply::Done));
+    let mut session = session_of(&rt, &mut tick, b"ab", b"b")?;
     let lost = Command::Pattern(Payload::Lost);
-    assert!(rt; session.apply(&mut tick, lost) == Err(Fault::Memory));
-    assert!(rt; session.apply(&mut tick, Command::List) == Ok(Reply::List));
+    assert!(rt; apply(&mut session, &mut tick, lost) == Err(Fault::Memory));
+    assert!(rt; apply(&mut session, &mut tick, Command::List) == Ok(Reply::List));
     let rows = session.buffer().report().unwrap_or(&[]);
     assert!(rt; rows.len() == 1);
     for row in rows {
@@ -182,10 +201,7 @@ fn a_pattern_that_has_no_memory(rt: HostRuntime) -> Result<(), Fail> {
 #[test]
 fn the_next_match(rt: HostRuntime) -> Result<(), Fail> {
     let mut tick = Lines::new(&rt);
-    let mut buffer = Buffer::new(rt.alloc(), Limits::default())?;
-    buffer.set_text(&mut tick, "a frog\na toad")?;
-    buffer.set_pattern(&mut tick, r"\w+d\b")?;
-    assert!(rt; buffer.set_pattern(&mut tick, "(toad") == Err(Fault::Pattern));
+    let mut buffer = buffer_of(&rt, &mut tick, "a frog\na toad", r"\w+d\b")?;
     let start = Position { line: 0, column: 2 };
     let found = buffer.next_from(&mut tick, start)?;
     let from = Position { line: 1, column: 2 };
@@ -193,5 +209,14 @@ fn the_next_match(rt: HostRuntime) -> Result<(), Fail> {
     assert!(rt; found == Some((from, to)));
     assert!(rt; buffer.next_from(&mut tick, to)? == None);
     assert!(rt; (tick.count(), tick.wholes()) == (2, 2));
+    Ok(())
+}
+
+/// `Fault`: a pattern outside the grammar is refused.
+#[test]
+fn no_pattern(rt: HostRuntime) -> Result<(), Fail> {
+    let mut tick = Lines::new(&rt);
+    let refused = buffer_of(&rt, &mut tick, "a toad", "(toad");
+    assert!(rt; refused.err() == Some(Fault::Pattern));
     Ok(())
 }

@@ -45,29 +45,27 @@ fn matches_in_a_whole_text(rt: HostRuntime) -> Result<(), Fail> {
     Ok(())
 }
 
+// Nothing is said of what it answers: so what follows is proved without the contracts of positions, and
+// shows what they do.
+fn are_of_each_other(text: &Rope, line: usize, column: usize, byte_idx: usize) -> bool {
+    let position = Position { line, column };
+    match byte_of(text, position) {
+        None => false,
+        Some(place) => place == byte_idx && position_of(text, place) == position,
+    }
+}
+
 /// `Position`: one in the text of a line, or at that text's end, is at one place, whose position it
 /// is. The frog has four bytes and two code units, and its line ends before CR LF.
 #[test]
 fn positions_and_their_places(rt: HostRuntime) -> Result<(), Fail> {
     let text = Rope::from_str(rt.alloc(), "a🐸b\r\nc\r")?;
-    let cases = [
-        (0, 0, 0),
-        (0, 1, 1),
-        (0, 3, 5),
-        (0, 4, 6),
-        (1, 0, 8),
-        (1, 1, 9),
-        (2, 0, 10),
-    ];
-    for (line, column, byte_idx) in cases {
-        let position = Position { line, column };
-        match byte_of(&text, position) {
-            None => assert!(rt; false, "{position:?}"),
-            Some(place) => {
-                assert!(rt; place == byte_idx, "{position:?}");
-                assert!(rt; position_of(&text, place) == position, "{position:?}");
-            }
-        }
-    }
+    assert!(rt; are_of_each_other(&text, 0, 0, 0));
+    assert!(rt; are_of_each_other(&text, 0, 1, 1));
+    assert!(rt; are_of_each_other(&text, 0, 3, 5));
+    assert!(rt; are_of_each_other(&text, 0, 4, 6));
+    assert!(rt; are_of_each_other(&text, 1, 0, 8));
+    assert!(rt; are_of_each_other(&text, 1, 1, 9));
+    assert!(rt; are_of_each_other(&text, 2, 0, 10));
     Ok(())
 }

@@ -42,30 +42,56 @@ fn run_once(rt: &HostRuntime, input: &[u8], limits: Limits, calls: Calls) -> Res
     })
 }
 
+/// Whether a run ends well, makes so many rows and searches whole texts so often.
+fn makes_rows(rt: &HostRuntime, input: &[u8], rows: u64, wholes: u64) -> Result<bool, Fail> {
+    let outcome = run_once(rt, input, Limits::default(), AMPLE)?;
+    let made = outcome.rows == rows && outcome.wholes == wholes;
+    Ok(made && outcome.result == Ok(Ended::Input))
+}
+
 /// Each row that a report is made of is counted.
 #[test]
 fn rows_that_runs_make(rt: HostRuntime) -> Result<(), Fail> {
-    let cases: [(&[u8], u64); 6] = [
-        ("text 7\na🐸b\npattern 1\nblist\n".as_bytes(), 2),
-        // Without a pattern nothing is searched, and for what is no pattern neither.
-        (b"text 2\nabfork\nuse 1\nprint\nfork\nlist\n", 0),
-        (b"pattern 2\na(pattern 1\n\xffpattern 1\nalist\n", 1),
-        // A text that is set later is searched too, as is that to which one goes back.
-        (
-            "text 9\nab\r\nba\u{2028}pattern 1\natext 1\naoff\noff\n".as_bytes(),
-            3,
-        ),
-        (b"pattern 5\nabcdetext 3\na\nalist\nundo\n", 3),
-        (
-            b"text 3\na\nbpattern 1\nbedit 1 0 1 1 3\nb\nbundo\nredo\n",
-            9,
-        ),
-    ];
-    for (input, rows) in cases {
-        let outcome = run_once(&rt, input, Limits::default(), AMPLE)?;
-        assert!(rt; outcome.result == Ok(Ended::Input));
-        assert!(rt; (outcome.rows, outcome.wholes) == (rows, 0));
-    }
+    assert!(rt; makes_rows(&rt, "text 7\na🐸b\npattern 1\nblist\n".as_bytes(), 2, 0)?);
+    // Without a pattern nothing is searched, and for what is no pattern neither.
+    assert!(rt; makes_rows(&rt, b"text 2\nabfork\nuse 1\nprint\nfork\nlist\n", 0, 0)?);
+    assert!(rt; makes_rows(&rt, b"pattern 2\na(pattern 1\n\xffpattern 1\nalist\n", 1, 0)?);
+    // A text that is set later is searched too.
+    let input = "text 9\nab\r\nba\u{2028}pattern 1\natext 1\naoff\noff\n".as_bytes();
+    assert!(rt; makes_rows(&rt, input, 3, 0)?);
+    assert!(rt; makes_rows(&rt, b"pattern 5\nabcdetext 3\na\nalist\nundo\n", 3, 0)?);
+    assert!(rt; makes_rows(&rt, b"text 3\na\nbpattern 1\nbedit 1 0 1 1 3\nb\nb", 4, 0)?);
+    Ok(())
+}
+
+/// Of a text to which one goes back or forward the lines that come back are searched, and no others.
+#[test]
+fn rows_of_undos_and_redos(rt: HostRuntime) -> Result<(), Fail> {
+    let input = b"text 7\na\nb\na\nbpattern 1\nbedit 2 0 2 1 1\nbundo\nredo\n";
+    assert!(rt; makes_rows(&rt, input, 7, 0)?);
+    // Three lines that one took the place of.
+    let input = b"text 7\na\nb\na\nbpattern 1\nbedit 0 1 2 0 0\nundo\nredo\n";
+    assert!(rt; makes_rows(&rt, input, 9, 0)?);
+    // A CR and an LF meet, and part again.
+    let input = b"text 5\nx\rb\nypattern 1\nyedit 1 0 1 1 0\nundo\nredo\n";
+    assert!(rt; makes_rows(&rt, input, 6, 0)?);
+    // Without a pattern too it is kept what an edit changed.
+    let input = b"text 3\na\nbedit 1 0 1 1 1\ncpattern 1\nbundo\noff\nredo\npattern 1\nbundo\n";
+    assert!(rt; makes_rows(&rt, input, 6, 0)?);
+    Ok(())
+}
+
+/// The same of replacements.
+#[test]
+fn rows_of_undone_replacements(rt: HostRuntime) -> Result<(), Fail> {
+    // A line for each match, and a line of many matches once.
+    let input = b"text 7\na\nb\na\nbpattern 1\nbreplace 1\ncundo\nredo\n";
+    assert!(rt; makes_rows(&rt, input, 10, 1)?);
+    let input = b"text 4\nbbbbpattern 1\nbreplace 2\nccundo\nredo\n";
+    assert!(rt; makes_rows(&rt, input, 4, 1)?);
+    // No match was replaced.
+    let input = b"text 3\na\nbpattern 1\ncreplace 1\ndundo\nredo\n";
+    assert!(rt; makes_rows(&rt, input, 2, 1)?);
     Ok(())
 }
 
@@ -74,9 +100,7 @@ fn rows_that_runs_make(rt: HostRuntime) -> Result<(), Fail> {
 #[test]
 fn whole_searches_that_runs_make(rt: HostRuntime) -> Result<(), Fail> {
     let input = b"text 3\nabapattern 3\n\\b.next 0 1\nnext 0 3\nnext 0 4\nlist\n";
-    let outcome = run_once(&rt, input, Limits::default(), AMPLE)?;
-    assert!(rt; outcome.result == Ok(Ended::Input));
-    assert!(rt; (outcome.rows, outcome.wholes) == (1, 2));
+    assert!(rt; makes_rows(&rt, input, 1, 2)?);
     Ok(())
 }
 
@@ -100,23 +124,45 @@ fn rows_of_last(
     Ok(Some((both.rows - first.rows, first.rows)))
 }
 
+/// Whether the last command makes at most so many rows, and searches the whole text so often.
+fn makes_within(
+    rt: &HostRuntime,
+    before: &[u8],
+    last: &[u8],
+    most: u64,
+    wholes: u64,
+) -> Result<bool, Fail> {
+    match rows_of_last(rt, before, last, wholes)? {
+        None => Ok(false),
+        Some((rows, _)) => Ok(rows <= most),
+    }
+}
+
 /// A CR and an LF meet at the front of an edit, at its back, at both, and where it leaves nothing
 /// between them.
 #[test]
 fn most_rows_of_edits_at_seams(rt: HostRuntime) -> Result<(), Fail> {
-    let cases: [(&[u8], &[u8], u64); 4] = [
-        (b"text 5\nx\rb\nypattern 1\ny", b"edit 1 0 1 1 0\n", 1),
-        (b"text 3\nx\rypattern 1\ny", b"edit 1 0 1 0 1\n\n", 2),
-        (b"text 3\nb\nypattern 1\ny", b"edit 0 1 0 1 1\n\r", 2),
-        (b"text 5\nx\rb\nypattern 1\ny", b"edit 1 0 1 1 2\n\n\r", 3),
-    ];
-    for (before, edit, most) in cases {
-        let rows = rows_of_last(&rt, before, edit, 0)?;
-        match rows {
-            None => assert!(rt; false),
-            Some((rows, _)) => assert!(rt; rows <= most),
-        }
-    }
+    let before = b"text 5\nx\rb\nypattern 1\ny";
+    assert!(rt; makes_within(&rt, before, b"edit 1 0 1 1 0\n", 1, 0)?);
+    assert!(rt; makes_within(&rt, before, b"edit 1 0 1 1 2\n\n\r", 3, 0)?);
+    assert!(rt;
+        makes_within(
+            &rt,
+            b"text 3\nx\rypattern 1\ny",
+            b"edit 1 0 1 0 1\n\n",
+            2,
+            0
+        )?
+    );
+    assert!(rt;
+        makes_within(
+            &rt,
+            b"text 3\nb\nypattern 1\ny",
+            b"edit 0 1 0 1 1\n\r",
+            2,
+            0
+        )?
+    );
     Ok(())
 }
 
@@ -137,22 +183,29 @@ fn a_letter_in_ten_thousand_lines(rt: HostRuntime) -> Result<(), Fail> {
 /// and none where there is no match.
 #[test]
 fn most_rows_of_replacements(rt: HostRuntime) -> Result<(), Fail> {
-    let cases: [(&[u8], &[u8], u64); 7] = [
-        (b"text 4\na\r\nbpattern 1\n\n", b"replace 0\n", 1),
-        (b"text 5\na\rx\nypattern 1\nx", b"replace 0\n", 1),
-        (b"text 4\na\r\nbpattern 2\n\r\n", b"replace 2\n\n\r", 3),
-        (b"text 1\napattern 1\nb", b"replace 1\nc", 0),
-        (b"text 2\nabpattern 2\nx*", b"replace 1\n-", 3),
-        (b"text 5\na\nb\napattern 1\na", b"replace 3\n$0\n", 4),
-        (b"text 5\na\nb\napattern 1\n\n", b"replace 1\n\r", 4),
-    ];
-    for (before, replace, most) in cases {
-        let rows = rows_of_last(&rt, before, replace, 1)?;
-        match rows {
-            None => assert!(rt; false),
-            Some((rows, _)) => assert!(rt; rows <= most),
-        }
-    }
+    assert!(rt; makes_within(&rt, b"text 4\na\r\nbpattern 1\n\n", b"replace 0\n", 1, 1)?);
+    assert!(rt; makes_within(&rt, b"text 5\na\rx\nypattern 1\nx", b"replace 0\n", 1, 1)?);
+    assert!(rt;
+        makes_within(
+            &rt,
+            b"text 4\na\r\nbpattern 2\n\r\n",
+            b"replace 2\n\n\r",
+            3,
+            1
+        )?
+    );
+    assert!(rt; makes_within(&rt, b"text 1\napattern 1\nb", b"replace 1\nc", 0, 1)?);
+    assert!(rt; makes_within(&rt, b"text 2\nabpattern 2\nx*", b"replace 1\n-", 3, 1)?);
+    assert!(rt;
+        makes_within(
+            &rt,
+            b"text 5\na\nb\napattern 1\na",
+            b"replace 3\n$0\n",
+            4,
+            1
+        )?
+    );
+    assert!(rt; makes_within(&rt, b"text 5\na\nb\napattern 1\n\n", b"replace 1\n\r", 4, 1)?);
     Ok(())
 }
 
@@ -173,59 +226,71 @@ fn one_match_in_ten_thousand_lines(rt: HostRuntime) -> Result<(), Fail> {
     Ok(())
 }
 
-#[test]
-fn limits_on_texts(rt: HostRuntime) -> Result<(), Fail> {
-    let cases: [(usize, &[u8], &[u8]); 13] = [
-        (4, b"text 5\nabcdeprint\n", b"error size\ntext 0\n\n"),
-        (4, b"text 4\nabcdprint\n", b"ok\ntext 4\nabcd\n"),
-        (
-            4,
-            b"text 2\nabtext 5\nabcdeprint\n",
-            b"ok\nerror size\ntext 2\nab\n",
-        ),
-        (
-            4,
-            b"text 3\nabcedit 0 1 0 2 3\nxyzedit 0 1 0 2 2\nxyprint\n",
-            b"ok\nerror size\nok\ntext 4\naxyc\n",
-        ),
-        (
-            4,
-            b"text 5\n\xff\xff\xff\xff\xfftext 5\nabcde",
-            b"error utf8\nerror size\n",
-        ),
-        (
-            4,
-            b"text 3\nabcpattern 0\nreplace 1\n-print\n",
-            b"ok\nok\nerror size\ntext 3\nabc\n",
-        ),
-        (
-            4,
-            b"text 3\nabcpattern 1\nbreplace 4\n$0$0print\nundo\nreplace 6\n$0$0$0",
-            b"ok\nok\nok 1\ntext 4\nabbc\nok\nerror size\n",
-        ),
-        (
-            4,
-            b"text 2\nabreplace 5\n$0$0$pattern 1\nxreplace 5\n$0$0$replace 1\n$",
-            b"ok\nerror none\nok\nerror size\nok 0\n",
-        ),
-        // A pattern may have more bytes than a text.
-        (4, b"pattern 5\nabcde", b"ok\n"),
-        // Nothing of these is kept. Each character is cut at each place.
-        (2, "text 10\naé🐸せ".as_bytes(), b"error size\n"),
-        (2, b"text 4\n\xf0\x9f\x90\xc3", b"error utf8\n"),
-        (2, b"text 3\nab\xc3", b"error utf8\n"),
-        (2, b"text 4\nab\xc3\xa9", b"error size\n"),
-    ];
-    for (text, input, output) in cases {
-        for step in [1, 2, 3, 4, 5, 4096] {
-            let mut calls = AMPLE;
-            calls.read = step;
-            calls.write = step;
-            let outcome = run_once(&rt, input, Limits { text }, calls)?;
-            assert!(rt; outcome.result == Ok(Ended::Input));
-            assert!(rt; outcome.sink.written() == output);
+const TWO: Limits = Limits { text: 2 };
+
+const FOUR: Limits = Limits { text: 4 };
+
+/// Whether an input is answered so under limits on texts, however it is cut into reads.
+fn is_answered(
+    rt: &HostRuntime,
+    limits: Limits,
+    input: &[u8],
+    output: &[u8],
+) -> Result<bool, Fail> {
+    for step in [1, 2, 3, 4, 5, 4096] {
+        let mut calls = AMPLE;
+        calls.read = step;
+        calls.write = step;
+        let outcome = run_once(rt, input, limits, calls)?;
+        if outcome.result != Ok(Ended::Input) || outcome.sink.written() != output {
+            return Ok(false);
         }
     }
+    Ok(true)
+}
+
+#[test]
+fn limits_on_texts(rt: HostRuntime) -> Result<(), Fail> {
+    assert!(rt;
+        is_answered(
+            &rt,
+            FOUR,
+            b"text 5\nabcdeprint\n",
+            b"error size\ntext 0\n\n"
+        )?
+    );
+    assert!(rt; is_answered(&rt, FOUR, b"text 4\nabcdprint\n", b"ok\ntext 4\nabcd\n")?);
+    let input = b"text 2\nabtext 5\nabcdeprint\n";
+    assert!(rt; is_answered(&rt, FOUR, input, b"ok\nerror size\ntext 2\nab\n")?);
+    let input = b"text 3\nabcedit 0 1 0 2 3\nxyzedit 0 1 0 2 2\nxyprint\n";
+    assert!(rt; is_answered(&rt, FOUR, input, b"ok\nerror size\nok\ntext 4\naxyc\n")?);
+    let input = b"text 5\n\xff\xff\xff\xff\xfftext 5\nabcde";
+    assert!(rt; is_answered(&rt, FOUR, input, b"error utf8\nerror size\n")?);
+    // A pattern may have more bytes than a text.
+    assert!(rt; is_answered(&rt, FOUR, b"pattern 5\nabcde", b"ok\n")?);
+    Ok(())
+}
+
+/// The limit holds for templates, and for the text that replacing makes.
+#[test]
+fn limits_on_replacements(rt: HostRuntime) -> Result<(), Fail> {
+    let input = b"text 3\nabcpattern 0\nreplace 1\n-print\n";
+    assert!(rt; is_answered(&rt, FOUR, input, b"ok\nok\nerror size\ntext 3\nabc\n")?);
+    let input = b"text 3\nabcpattern 1\nbreplace 4\n$0$0print\nundo\nreplace 6\n$0$0$0";
+    let output = b"ok\nok\nok 1\ntext 4\nabbc\nok\nerror size\n";
+    assert!(rt; is_answered(&rt, FOUR, input, output)?);
+    let input = b"text 2\nabreplace 5\n$0$0$pattern 1\nxreplace 5\n$0$0$replace 1\n$";
+    assert!(rt; is_answered(&rt, FOUR, input, b"ok\nerror none\nok\nerror size\nok 0\n")?);
+    Ok(())
+}
+
+/// Nothing of these texts is kept. Each character is cut at each place.
+#[test]
+fn texts_that_are_not_kept(rt: HostRuntime) -> Result<(), Fail> {
+    assert!(rt; is_answered(&rt, TWO, "text 10\naé🐸せ".as_bytes(), b"error size\n")?);
+    assert!(rt; is_answered(&rt, TWO, b"text 4\n\xf0\x9f\x90\xc3", b"error utf8\n")?);
+    assert!(rt; is_answered(&rt, TWO, b"text 3\nab\xc3", b"error utf8\n")?);
+    assert!(rt; is_answered(&rt, TWO, b"text 4\nab\xc3\xa9", b"error size\n")?);
     Ok(())
 }
 

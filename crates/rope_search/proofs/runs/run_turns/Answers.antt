@@ -1,7 +1,6 @@
 use Rattle.std.proofs.Common.{◌∙◌, ap}
 use Rattle.std.proofs.lemmas.Result.{err_from_is_err_and}
 use Rattle.rope_search.specs.Session.{LimitedSession}
-use Rattle.rope_search.proofs.TextLaws.{holds_always}
 use Rattle.rope_search.proofs.TurnLemmas.{SoFar-none, SoFar-push}
 use Rattle.rope_search.proofs.RunEndings.{Ran-broken, Ran-unclosed, Ran-answered, TakesTurn-at, Turned-at}
 use Rattle.rope_search.proofs.runs.run_turns.Goals as goal
@@ -37,8 +36,3 @@ loop-session-preserved g c =
     let so = c.loop-session.invariant in
     let turned = Turned-at _ _ _ _ so.1 (rw c.in-None.is at c.in_ok-turn.ensures.taken) in
     (c.in_ok-turn.ensures.empty, c.in_ok-turn.ensures.limit ∙ so.1, SoFar-push _ _ _ _ so.2 turned)
-
-pub turn-requires-clause-texts : goal.turn-requires-clause-texts
-turn-requires-clause-texts g c =
-    let so = c.loop-session.invariant.2 in
-    holds_always c.known.ensures _ _ so.orders so.out so.cost so.run

@@ -1,6 +1,8 @@
-use Rattle.std.proofs.Common.{◌≡◌, if◌then◌else◌, [], ◌∷◌, sym, ap, ◌∙◌, subst, arith}
+use Rattle.std.proofs.Common.{◌≡◌, if◌then◌else◌, [], ◌∷◌, length, refl, sym, ap, ◌∙◌, subst, arith}
 use Rattle.std.specs.Prelude.{Option, Some, option_map, is_some}
 use Rattle.std.specs.Str.{chars}
+use Rattle.std.proofs.lemmas.Str.{encodes-chars}
+use Rattle.str_indices.specs.Text.{byte_len}
 use Rattle.ropey.specs.Chunks.{text_of}
 use Rattle.rope_search.specs.declared.search.Search.{Search}
 use Rattle.rope_search.specs.Session.{BufferState, LimitedBuffer, current_text}
@@ -8,7 +10,28 @@ use Rattle.rope_search_reports.specs.Changes.{AreChanges}
 use Rattle.rope_search_reports.specs.Text.{line_count}
 use Rattle.rope_search.specs.Cost.{rows_anew}
 use Rattle.rope_search.specs.Places.{IsMarked}
+use Rattle.rope_search.specs.Histories.{Texts, with_changes}
+use Rattle.rope_search.proofs.KeepLemmas.{keeps_edit}
 use Rattle.rope_search.proofs.buffer.Buffer.edit.Goals as goal
+
+pub returns-in_err-patches-clause-rows : goal.returns-in_err-patches-clause-rows
+returns-in_err-patches-clause-rows c =
+    let history = c.self.inside.history in
+    let finder = c.in-Some.search.finder in
+    let state : BufferState = record { texts = history.texts; current = history.current; pattern = Some finder } in
+    let one : c.self.inside.search ≡ Some c.in-Some.search = c.in-Some.is in
+    let same : state ≡ c.args.self.now.state =
+    ap (λ (o : Option Search). record { texts = history.texts; current = history.current; pattern = option_map (λ (s : Search). s.finder) o }) (sym one)
+    ∙ ap (λ (v : LimitedBuffer). v.state) c.self.view_is in
+    let is : c.args.self.now.state.pattern ≡ Some finder = ap (λ (b : BufferState). b.pattern) (sym same) in
+    let here : text_of c.current-old.result.now ≡ current_text c.args.self.now.state = c.current-old.ensures.text ∙ ap current_text same in
+    let old = text_of c.current-old.result.now in
+    let inserted = chars c.args.inserted.now in
+    let marked : IsMarked old c.in_ok-part.part = subst (λ t. IsMarked t c.in_ok-part.part) (sym here) c.in_ok-part.ensures.part.marked in
+    let changed : AreChanges (c.change-change.result ∷ []) 0 0 old (text_of c.in_ok-new.new) (line_count inserted) =
+    subst (λ t. AreChanges (c.change-change.result ∷ []) 0 0 old t (line_count inserted)) (sym c.in_ok-new.ensures.text) (c.change-change.ensures.changes old marked) in
+    let rows : rows_anew c.args.self.now.state inserted ≡ line_count inserted = ap (λ p. if is_some p then line_count inserted else 0) is in
+    omega (arith, c.patches.ensures.count (line_count inserted) changed, rows)
 
 pub returns-in_err-add-2-clause-rows : goal.returns-in_err-add-2-clause-rows
 returns-in_err-add-2-clause-rows c =
@@ -24,7 +47,40 @@ returns-in_err-add-2-clause-rows c =
     let old = text_of c.current-old.result.now in
     let inserted = chars c.args.inserted.now in
     let marked : IsMarked old c.in_ok-part.part = subst (λ t. IsMarked t c.in_ok-part.part) (sym here) c.in_ok-part.ensures.part.marked in
-    let changed : AreChanges (c.change.result ∷ []) 0 0 old (text_of c.in_ok-new.new) (line_count inserted) =
-    subst (λ t. AreChanges (c.change.result ∷ []) 0 0 old t (line_count inserted)) (sym c.in_ok-new.ensures.text) (c.change.ensures old marked) in
+    let changed : AreChanges (c.change-change.result ∷ []) 0 0 old (text_of c.in_ok-new.new) (line_count inserted) =
+    subst (λ t. AreChanges (c.change-change.result ∷ []) 0 0 old t (line_count inserted)) (sym c.in_ok-new.ensures.text) (c.change-change.ensures.changes old marked) in
     let rows : rows_anew c.args.self.now.state inserted ≡ line_count inserted = ap (λ p. if is_some p then line_count inserted else 0) is in
     omega (arith, c.patches.ensures.count (line_count inserted) changed, rows)
+
+pub returns-clause-rows : goal.returns-clause-rows
+returns-clause-rows c =
+    let history = c.self.inside.history in
+    let finder = c.in-Some.search.finder in
+    let state : BufferState = record { texts = history.texts; current = history.current; pattern = Some finder } in
+    let one : c.self.inside.search ≡ Some c.in-Some.search = c.in-Some.is in
+    let same : state ≡ c.args.self.now.state =
+    ap (λ (o : Option Search). record { texts = history.texts; current = history.current; pattern = option_map (λ (s : Search). s.finder) o }) (sym one)
+    ∙ ap (λ (v : LimitedBuffer). v.state) c.self.view_is in
+    let is : c.args.self.now.state.pattern ≡ Some finder = ap (λ (b : BufferState). b.pattern) (sym same) in
+    let here : text_of c.current-old.result.now ≡ current_text c.args.self.now.state = c.current-old.ensures.text ∙ ap current_text same in
+    let old = text_of c.current-old.result.now in
+    let inserted = chars c.args.inserted.now in
+    let marked : IsMarked old c.in_ok-part.part = subst (λ t. IsMarked t c.in_ok-part.part) (sym here) c.in_ok-part.ensures.part.marked in
+    let changed : AreChanges (c.change-change.result ∷ []) 0 0 old (text_of c.in_ok-new.new) (line_count inserted) =
+    subst (λ t. AreChanges (c.change-change.result ∷ []) 0 0 old t (line_count inserted)) (sym c.in_ok-new.ensures.text) (c.change-change.ensures.changes old marked) in
+    let rows : rows_anew c.args.self.now.state inserted ≡ line_count inserted = ap (λ p. if is_some p then line_count inserted else 0) is in
+    omega (arith, c.patches.ensures.count (line_count inserted) changed, rows)
+
+pub returns-in_default-clause-kept : goal.returns-in_default-clause-kept
+returns-in_default-clause-kept c =
+    let len = length c.args.inserted.now in
+    let bytes : byte_len (chars c.args.inserted.now) ≡ len = ap length (encodes-chars c.args.inserted.now c.utf8.inserted) in
+    keeps_edit c.args.self.now _ c.args.from c.args.to (current_text c.args.self.now.state) (chars c.args.inserted.now) c.in_ok-part.part c.change-change.result len refl
+    c.in_ok-part.ensures.part c.change-change.ensures.places bytes (ap (λ (t : Texts). t.changes) c.in_ok-add.ensures.ok ∙ ap (λ (b : LimitedBuffer). with_changes b (c.change-change.result ∷ [])) c.self.view_is)
+
+pub returns-clause-kept : goal.returns-clause-kept
+returns-clause-kept c =
+    let len = length c.args.inserted.now in
+    let bytes : byte_len (chars c.args.inserted.now) ≡ len = ap length (encodes-chars c.args.inserted.now c.utf8.inserted) in
+    keeps_edit c.args.self.now _ c.args.from c.args.to (current_text c.args.self.now.state) (chars c.args.inserted.now) c.in_ok-part.part c.change-change.result len refl
+    c.in_ok-part.ensures.part c.change-change.ensures.places bytes (ap (λ (t : Texts). t.changes) c.in_ok-add-2.ensures.ok ∙ ap (λ (b : LimitedBuffer). with_changes b (c.change-change.result ∷ [])) c.self.view_is)

@@ -6,7 +6,7 @@ use Rattle.rope_search_reports.specs.Changes.{AreChanges}
 use Rattle.rope_search_reports.specs.Replacement.{searched}
 use Rattle.rope_search_reports.specs.Text.{IsText, bytes_of}
 use Rattle.rope_search.proofs.PartLaws.{cutting_scalars}
-use Rattle.rope_search.proofs.MatchLemmas.{changed_by, not_over, rows_in}
+use Rattle.rope_search.proofs.MatchLemmas.{changed_by, not_over, replacements_in, rows_in}
 use Rattle.rope_search.proofs.search.Search.replaced.Goals as goal
 
 pub patches-requires-clause-changed : goal.patches-requires-clause-changed
@@ -70,3 +70,20 @@ returns-clause-count c = λ n rows.
     is_text c.in_ok-matches.ensures.stand.follow c.deref-2.ensures.value c.new-template.ensures (cc) c.in_ok-text.ensures.text in
     let same = rows_in c.one_list_of_groups.ensures old c.args.self.now.finder template matches n c.in_ok-matches.ensures.found rows in
     omega (arith, c.patches.ensures.count (searched (bytes_of old) template matches) changed, c.find_all.ensures.count, same)
+
+pub returns-clause-changes : goal.returns-clause-changes
+returns-clause-changes c =
+    replacements_in (text_of c.args.old.now) c.args.self.now.finder (chars c.args.template.now) c.new-template.result c.in_ok-matches.matches.items c.deref-2.result.now
+    c.in_ok-text.field-0.changes.items c.in_ok-matches.ensures.found c.deref-2.ensures.value c.new-template.ensures c.in_ok-text.ensures.changes
+
+pub returns-clause-led : goal.returns-clause-led
+returns-clause-led c =
+    let old = text_of c.args.old.now in
+    let template = chars c.args.template.now in
+    let matches = c.in_ok-matches.matches.items in
+    let is_text : IsText old = cutting_scalars c.args.old.now c.len_bytes.ensures.cut.cut in (
+      searched (bytes_of old) template matches,
+      changed_by c.replacements_are_changes.ensures old template c.new-template.result (text_of c.in_ok-text.field-0.text) matches c.deref-2.result.now
+          c.in_ok-text.field-0.changes.items is_text c.in_ok-matches.ensures.stand.follow c.deref-2.ensures.value c.new-template.ensures c.in_ok-text.ensures.changes
+          c.in_ok-text.ensures.text,
+    )

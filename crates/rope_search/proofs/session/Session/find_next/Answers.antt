@@ -11,7 +11,7 @@ returns-in_err-found-clause-step c =
     let old = c.index_mut.result.now in
     let limit = limit_in inside.buffers.items inside.chosen in
     let chosen : Chosen inside.buffers.items inside.chosen limit old c.args.self.now =
-    record { inside = omega (arith, inside.buffers.ok.0); is = c.index_mut.ensures.value; all = c.self.invariant.1; seen = c.self.view_is } in
+    record { inside = omega (arith, inside.buffers.ok.0); is = c.index_mut.ensures.value; all = c.self.invariant.1.0; seen = c.self.view_is } in
     let p = err_from_is_err_and c.from_residual.result c.from_residual.ensures.1 in
     let told = c.in_err-found.ensures in
     rw (p.1, p.2) (Step-next_err inside.buffers.items inside.chosen limit old c.next_from.new.self c.args.self.now c.args.from c.in_err-found.field-0.0 chosen told.same told.fault
@@ -23,6 +23,6 @@ returns-clause-step c =
     let old = c.index_mut.result.now in
     let limit = limit_in inside.buffers.items inside.chosen in
     let chosen : Chosen inside.buffers.items inside.chosen limit old c.args.self.now =
-    record { inside = omega (arith, inside.buffers.ok.0); is = c.index_mut.ensures.value; all = c.self.invariant.1; seen = c.self.view_is } in
+    record { inside = omega (arith, inside.buffers.ok.0); is = c.index_mut.ensures.value; all = c.self.invariant.1.0; seen = c.self.view_is } in
     let told = c.in_ok-found.ensures in
     rw c.reply_for.ensures (Step-next inside.buffers.items inside.chosen limit old c.next_from.new.self c.args.self.now c.args.from c.in_ok-found.found chosen told.same told.found)

@@ -1,8 +1,9 @@
-use Rattle.std.proofs.Common.{◌+◌, ◌<◌, ◌≤◌, length, inl, inr, arith}
+use Rattle.std.proofs.Common.{ap, ◌+◌, ◌<◌, ◌≤◌, length, inl, inr, arith}
 use Rattle.std.proofs.lemmas.Bool.{cases_lt}
+use Rattle.rope_search_reports.specs.Ticks.{Ticks}
 use Rattle.rope_search.specs.Session.{limit_in}
 use Rattle.rope_search.proofs.SessionLemmas.{Chosen}
-use Rattle.rope_search.proofs.EditLemmas.{Step-redone}
+use Rattle.rope_search.proofs.EditLemmas.{Step-redone, rows_redone}
 use Rattle.rope_search.proofs.session.Session.redo.Goals as goal
 
 pub returns-clause-step : goal.returns-clause-step
@@ -11,8 +12,28 @@ returns-clause-step c =
     let old = c.index_mut.result.now in
     let told = c.in_ok-redo.ensures in
     let chosen : Chosen inside.buffers.items inside.chosen (limit_in inside.buffers.items inside.chosen) old c.args.self.now =
-    record { inside = omega (arith, inside.buffers.ok.0); is = c.index_mut.ensures.value; all = c.self.invariant.1; seen = c.self.view_is } in
+    record { inside = omega (arith, inside.buffers.ok.0); is = c.index_mut.ensures.value; all = c.self.invariant.1.0; seen = c.self.view_is } in
     let more : length old.state.texts ≤ old.state.current + 1 → ⊥ = λ none. absurd (let e = told.nothing.1 none in cc) in
     let some : old.state.current + 1 < length old.state.texts =
     elim (cases_lt (old.state.current + 1) (length old.state.texts)) [ inl below ↦ below | inr above ↦ absurd (more (omega arith)) ] in
     Step-redone inside.buffers.items inside.chosen (limit_in inside.buffers.items inside.chosen) old c.redo.new.self c.args.self.now chosen some told.ok
+
+pub returns-in_err-redo-clause-rows : goal.returns-in_err-redo-clause-rows
+returns-in_err-redo-clause-rows c = λ cost costs.
+    let inside = c.self.inside in
+    let old = c.index_mut.result.now in
+    let told = c.redo.ensures in
+    let chosen : Chosen inside.buffers.items inside.chosen (limit_in inside.buffers.items inside.chosen) old c.args.self.now =
+    record { inside = omega (arith, inside.buffers.ok.0); is = c.index_mut.ensures.value; all = c.self.invariant.1.0; seen = c.self.view_is } in
+    rows_redone inside.buffers.items inside.chosen (limit_in inside.buffers.items inside.chosen) old c.args.self.now c.redo.new.tick.count c.args.tick.now.count chosen
+    (λ none. omega (arith, ap (λ (t : Ticks). t.count) (told.refused (told.nothing.1 none)))) told.rows cost costs
+
+pub returns-clause-rows : goal.returns-clause-rows
+returns-clause-rows c = λ cost costs.
+    let inside = c.self.inside in
+    let old = c.index_mut.result.now in
+    let told = c.redo.ensures in
+    let chosen : Chosen inside.buffers.items inside.chosen (limit_in inside.buffers.items inside.chosen) old c.args.self.now =
+    record { inside = omega (arith, inside.buffers.ok.0); is = c.index_mut.ensures.value; all = c.self.invariant.1.0; seen = c.self.view_is } in
+    rows_redone inside.buffers.items inside.chosen (limit_in inside.buffers.items inside.chosen) old c.args.self.now c.redo.new.tick.count c.args.tick.now.count chosen
+    (λ none. omega (arith, ap (λ (t : Ticks). t.count) (told.refused (told.nothing.1 none)))) told.rows cost costs

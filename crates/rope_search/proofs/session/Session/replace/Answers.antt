@@ -5,10 +5,14 @@ use Rattle.std.specs.Str.{chars}
 use Rattle.std.proofs.lemmas.Result.{err_from_is_err_and}
 use Rattle.rope_search_io.specs.declared.faults.Fault.TheVariants.{Size}
 use Rattle.rope_search_reports.specs.Ticks.{Ticks}
-use Rattle.rope_search.specs.Session.{LimitedBuffer, limit_in}
+use Rattle.rope_search.specs.Session.{limit_in}
 use Rattle.rope_search.specs.Replacing.{IsReplacement, GetsTooLongWith, RowsOfReplacement}
 use Rattle.rope_search.proofs.SessionLemmas.{Chosen}
 use Rattle.rope_search.proofs.ReplaceLemmas.{Step-replaced, Step-replace_err, Step-replace_utf8, Step-replace_long, rows_replaced}
+use Rattle.rope_search_reports.specs.Text.{IsText}
+use Rattle.rope_search.proofs.TextLemmas.{Encodes-chars}
+use Rattle.rope_search.proofs.TextLaws.{holds_replaced}
+use Rattle.rope_search.proofs.HoldLemmas.{AllKept, kept_set, kept_limit, kept_holds}
 use Rattle.rope_search.proofs.session.Session.replace.Goals as goal
 
 pub returns-in_err-number-in-Ok-clause-step : goal.returns-in_err-number-in-Ok-clause-step
@@ -20,7 +24,7 @@ returns-in_err-number-in-Ok-clause-step c = λ bytes stands.
     let same : c.in-Ok.template.now ≡ bytes = c.in-Ok.ensures.cases.0 ∙ sym given in
     let utf8 : IsUtf8 bytes = subst IsUtf8 (sym given) c.in-Ok.ensures.cases.1 in
     let chosen : Chosen inside.buffers.items inside.chosen limit old c.args.self.now =
-    record { inside = omega (arith, inside.buffers.ok.0); is = c.index_mut.ensures.value; all = c.self.invariant.1; seen = c.self.view_is } in
+    record { inside = omega (arith, inside.buffers.ok.0); is = c.index_mut.ensures.value; all = c.self.invariant.1.0; seen = c.self.view_is } in
     let p = err_from_is_err_and c.from_residual.result c.from_residual.ensures.1 in
     let told = c.in_err-number-in-Ok.ensures in
     let fault = c.in_err-number-in-Ok.field-0.0 in
@@ -39,7 +43,7 @@ returns-in_err-number-in-Ok-clause-rows c = λ bytes cost stands costs.
     let same : c.in-Ok.template.now ≡ bytes = c.in-Ok.ensures.cases.0 ∙ sym given in
     let utf8 : IsUtf8 bytes = subst IsUtf8 (sym given) c.in-Ok.ensures.cases.1 in
     rows_replaced inside.buffers.items inside.chosen limit old bytes c.args.self.now c.replace.new.tick.count c.args.tick.now.count
-    (record { inside = omega (arith, inside.buffers.ok.0); is = c.index_mut.ensures.value; all = c.self.invariant.1; seen = c.self.view_is })
+    (record { inside = omega (arith, inside.buffers.ok.0); is = c.index_mut.ensures.value; all = c.self.invariant.1.0; seen = c.self.view_is })
     utf8
     (λ none. omega (arith, ap (λ (t : Ticks). t.count) (told.astray (told.nothing.1 none))))
     (λ long. omega (arith, ap (λ (t : Ticks). t.count) (told.refused (omega (arith, long, ap length same)))))
@@ -56,7 +60,7 @@ returns-in_ok-number-in-Ok-clause-step c = λ bytes stands.
     let same : c.in-Ok.template.now ≡ bytes = c.in-Ok.ensures.cases.0 ∙ sym given in
     let utf8 : IsUtf8 bytes = subst IsUtf8 (sym given) c.in-Ok.ensures.cases.1 in
     let chosen : Chosen inside.buffers.items inside.chosen limit old c.args.self.now =
-    record { inside = omega (arith, inside.buffers.ok.0); is = c.index_mut.ensures.value; all = c.self.invariant.1; seen = c.self.view_is } in
+    record { inside = omega (arith, inside.buffers.ok.0); is = c.index_mut.ensures.value; all = c.self.invariant.1.0; seen = c.self.view_is } in
     let told = c.in_ok-number-in-Ok.ensures in
     let some : old.state.pattern ≢ None = λ none. let other = told.nothing.1 none in cc in
     let short : length bytes ≤ old.limit = elim (cases_lt old.limit (length bytes)) [
@@ -78,7 +82,7 @@ returns-in_ok-number-in-Ok-clause-rows c = λ bytes cost stands costs.
     let same : c.in-Ok.template.now ≡ bytes = c.in-Ok.ensures.cases.0 ∙ sym given in
     let utf8 : IsUtf8 bytes = subst IsUtf8 (sym given) c.in-Ok.ensures.cases.1 in
     rows_replaced inside.buffers.items inside.chosen limit old bytes c.args.self.now c.replace.new.tick.count c.args.tick.now.count
-    (record { inside = omega (arith, inside.buffers.ok.0); is = c.index_mut.ensures.value; all = c.self.invariant.1; seen = c.self.view_is })
+    (record { inside = omega (arith, inside.buffers.ok.0); is = c.index_mut.ensures.value; all = c.self.invariant.1.0; seen = c.self.view_is })
     utf8
     (λ none. omega (arith, ap (λ (t : Ticks). t.count) (told.astray (told.nothing.1 none))))
     (λ long. omega (arith, ap (λ (t : Ticks). t.count) (told.refused (omega (arith, long, ap length same)))))
@@ -90,17 +94,31 @@ pub returns-in-Err-clause-step : goal.returns-in-Err-clause-step
 returns-in-Err-clause-step c = λ bytes stands.
     let given : bytes ≡ c.in-Kept.bytes.now = rw c.in-Kept.is at stands in
     let broken : ¬ (IsUtf8 bytes) = subst (λ bs. ¬ (IsUtf8 bs)) (sym given) c.in-Err.ensures.cases.0 in
-    Step-replace_utf8 c.buffer.result.now bytes c.args.self.now c.nothing_or.result (ap (λ (b : LimitedBuffer). b.state) c.buffer.ensures.buffer) c.nothing_or.ensures broken
+    Step-replace_utf8 c.buffer.result.now bytes c.args.self.now c.nothing_or.result c.buffer.ensures.state c.nothing_or.ensures broken
 
 pub returns-in-Long-true-clause-step : goal.returns-in-Long-true-clause-step
 returns-in-Long-true-clause-step c = λ bytes stands.
     let long = rw c.in-Long-true.is at stands in
     let told : c.in-Long-true.utf8 ≡ true = cc in
     Step-replace_long c.buffer-in-Long-true.result.now bytes c.args.self.now c.nothing_or-in-Long-true.result
-    (ap (λ (b : LimitedBuffer). b.state) c.buffer-in-Long-true.ensures.buffer) c.nothing_or-in-Long-true.ensures (long.1.0 told) long.0
+    c.buffer-in-Long-true.ensures.state c.nothing_or-in-Long-true.ensures (long.1.0 told) long.0
 
 pub returns-in-Long-false-clause-step : goal.returns-in-Long-false-clause-step
 returns-in-Long-false-clause-step c = λ bytes stands.
     let long = rw c.in-Long-false.is at stands in
     Step-replace_utf8 c.buffer-in-Long-false.result.now bytes c.args.self.now c.nothing_or-in-Long-false.result
-    (ap (λ (b : LimitedBuffer). b.state) c.buffer-in-Long-false.ensures.buffer) c.nothing_or-in-Long-false.ensures (λ text. absurd (let e = long.1.1 text in cc))
+    c.buffer-in-Long-false.ensures.state c.nothing_or-in-Long-false.ensures (λ text. absurd (let e = long.1.1 text in cc))
+
+pub invariant_of-self-in-Ok : goal.invariant_of-self-in-Ok
+invariant_of-self-in-Ok c =
+    let items = c.self.inside.buffers.items in
+    let k = c.self.inside.chosen in
+    let new = c.replace.new.self in
+    let inside : k < length items = omega (arith, c.self.inside.buffers.ok.0) in
+    let kept : AllKept items (limit_in items k) = record { limits = c.self.invariant.1.0; texts = c.self.invariant.1.1 } in
+    let told = c.in_ok-number-in-Ok.ensures in
+    let held = kept_holds items k c.index_mut.result.now inside c.index_mut.ensures.value kept in
+    let is = subst (λ t. IsText (chars t)) (sym c.in-Ok.ensures.cases.0) (Encodes-chars c.in-Kept.bytes.now c.in-Ok.ensures.cases.1).scalars in
+    let holds = holds_replaced c.replaced_is_text.ensures c.index_mut.result.now.state new.state (chars c.in-Ok.template.now) c.in_ok-number-in-Ok.number held is told.ok in
+    let all = kept_set items k new inside (told.limit ∙ kept_limit items k c.index_mut.result.now inside c.index_mut.ensures.value kept) holds kept in
+    (c.self.invariant.0, (all.limits, all.texts))

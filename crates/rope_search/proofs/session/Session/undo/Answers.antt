@@ -1,7 +1,8 @@
-use Rattle.std.proofs.Common.{arith}
+use Rattle.std.proofs.Common.{ap, arith}
+use Rattle.rope_search_reports.specs.Ticks.{Ticks}
 use Rattle.rope_search.specs.Session.{limit_in}
 use Rattle.rope_search.proofs.SessionLemmas.{Chosen}
-use Rattle.rope_search.proofs.EditLemmas.{Step-undone}
+use Rattle.rope_search.proofs.EditLemmas.{Step-undone, rows_undone}
 use Rattle.rope_search.proofs.session.Session.undo.Goals as goal
 
 pub returns-clause-step : goal.returns-clause-step
@@ -10,5 +11,25 @@ returns-clause-step c =
     let old = c.index_mut.result.now in
     let told = c.in_ok-undo.ensures in
     let chosen : Chosen inside.buffers.items inside.chosen (limit_in inside.buffers.items inside.chosen) old c.args.self.now =
-    record { inside = omega (arith, inside.buffers.ok.0); is = c.index_mut.ensures.value; all = c.self.invariant.1; seen = c.self.view_is } in
+    record { inside = omega (arith, inside.buffers.ok.0); is = c.index_mut.ensures.value; all = c.self.invariant.1.0; seen = c.self.view_is } in
     Step-undone inside.buffers.items inside.chosen (limit_in inside.buffers.items inside.chosen) old c.undo.new.self c.args.self.now chosen (λ none. absurd (let e = told.nothing.1 none in cc)) told.ok
+
+pub returns-in_err-undo-clause-rows : goal.returns-in_err-undo-clause-rows
+returns-in_err-undo-clause-rows c = λ cost costs.
+    let inside = c.self.inside in
+    let old = c.index_mut.result.now in
+    let told = c.undo.ensures in
+    let chosen : Chosen inside.buffers.items inside.chosen (limit_in inside.buffers.items inside.chosen) old c.args.self.now =
+    record { inside = omega (arith, inside.buffers.ok.0); is = c.index_mut.ensures.value; all = c.self.invariant.1.0; seen = c.self.view_is } in
+    rows_undone inside.buffers.items inside.chosen (limit_in inside.buffers.items inside.chosen) old c.args.self.now c.undo.new.tick.count c.args.tick.now.count chosen
+    (λ none. omega (arith, ap (λ (t : Ticks). t.count) (told.refused (told.nothing.1 none)))) told.rows cost costs
+
+pub returns-clause-rows : goal.returns-clause-rows
+returns-clause-rows c = λ cost costs.
+    let inside = c.self.inside in
+    let old = c.index_mut.result.now in
+    let told = c.undo.ensures in
+    let chosen : Chosen inside.buffers.items inside.chosen (limit_in inside.buffers.items inside.chosen) old c.args.self.now =
+    record { inside = omega (arith, inside.buffers.ok.0); is = c.index_mut.ensures.value; all = c.self.invariant.1.0; seen = c.self.view_is } in
+    rows_undone inside.buffers.items inside.chosen (limit_in inside.buffers.items inside.chosen) old c.args.self.now c.undo.new.tick.count c.args.tick.now.count chosen
+    (λ none. omega (arith, ap (λ (t : Ticks). t.count) (told.refused (told.nothing.1 none)))) told.rows cost costs

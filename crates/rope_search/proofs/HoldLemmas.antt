@@ -1,0 +1,62 @@
+-- The buffers of a session hold texts and patterns, and have one limit, also where one of them is
+-- changed or comes to them.
+use Rattle.std.proofs.Common.{◌≡◌, ℕ, ◌<◌, List, [], ◌∷◌, ◌++◌, length, ap, sym, subst, ◌∙◌, All, arith, slice_index_or, slice_set}
+use Rattle.std.specs.Prelude.{Some}
+use Rattle.std.proofs.lemmas.List.{get_or-set_same, get_or_append_left}
+use Rattle.std.proofs.lemmas.List.Elements.{All-set, All-push, All-get_or}
+use Rattle.rope_search_reports.specs.Text.{IsText}
+use Rattle.rope_search_reports.specs.Pattern.{IsPattern}
+use Rattle.rope_search.specs.Session.{BufferState, LimitedBuffer, fresh, current_text, limit_in, with_text, with_pattern}
+use Rattle.rope_search.specs.Laws.{HoldsTexts}
+use Rattle.rope_search.proofs.HoldLaws.{one_text, holds_fresh, text_holds}
+
+-- what each buffer of a session has
+pub record AllKept (items : List LimitedBuffer) (limit : ℕ) : Type 0 where
+  pub limits : All (λ (b : LimitedBuffer). b.limit ≡ limit) items
+  pub texts : All (λ (b : LimitedBuffer). HoldsTexts b.state) items
+
+abbrev none : LimitedBuffer
+none = record { limit = 0; state = fresh []; changes = [] }
+
+-- another one in the chosen one's place
+pub kept_set : (items : List LimitedBuffer) (k : ℕ) (new : LimitedBuffer) → k < length items → new.limit ≡ limit_in items k
+    → HoldsTexts new.state → AllKept items (limit_in items k) → AllKept (slice_set items k new) (limit_in (slice_set items k new) k)
+kept_set items k new inside same holds kept =
+    let at : limit_in (slice_set items k new) k ≡ limit_in items k = ap (λ (b : LimitedBuffer). b.limit) (get_or-set_same items k new none inside) ∙ same in
+    record {
+      limits = subst (λ l. All (λ (b : LimitedBuffer). b.limit ≡ l) (slice_set items k new)) (sym at)
+          (All-set (λ (b : LimitedBuffer). b.limit ≡ limit_in items k) items k new same kept.limits);
+      texts = All-set (λ (b : LimitedBuffer). HoldsTexts b.state) items k new holds kept.texts;
+    }
+
+-- one more, behind them
+pub kept_push : (items : List LimitedBuffer) (k : ℕ) (new : LimitedBuffer) → k < length items → new.limit ≡ limit_in items k
+    → HoldsTexts new.state → AllKept items (limit_in items k) → AllKept (items ++ new ∷ []) (limit_in (items ++ new ∷ []) k)
+kept_push items k new inside same holds kept =
+    let at : limit_in (items ++ new ∷ []) k ≡ limit_in items k = ap (λ (b : LimitedBuffer). b.limit) (get_or_append_left items (new ∷ []) none k inside) in
+    record {
+      limits = subst (λ l. All (λ (b : LimitedBuffer). b.limit ≡ l) (items ++ new ∷ [])) (sym at)
+          (All-push (λ (b : LimitedBuffer). b.limit ≡ limit_in items k) items new kept.limits same);
+      texts = All-push (λ (b : LimitedBuffer). HoldsTexts b.state) items new kept.texts holds;
+    }
+
+-- the chosen one's limit is that of all, and it holds texts
+pub kept_limit : (items : List LimitedBuffer) (k : ℕ) (old : LimitedBuffer) → k < length items → old ≡ slice_index_or items k old
+    → AllKept items (limit_in items k) → old.limit ≡ limit_in items k
+kept_limit items k old inside is kept = ap (λ (b : LimitedBuffer). b.limit) is ∙ kept.limits k old inside
+
+pub kept_holds : (items : List LimitedBuffer) (k : ℕ) (old : LimitedBuffer) → k < length items → old ≡ slice_index_or items k old
+    → AllKept items (limit_in items k) → HoldsTexts old.state
+kept_holds items k old inside is kept = subst (λ (b : LimitedBuffer). HoldsTexts b.state) (sym is) (kept.texts k old inside)
+
+-- a text, or a pattern, that is put in it
+pub holds_text : (old new : BufferState) (text : List ℕ) → HoldsTexts old → IsText text → new ≡ with_text old text → HoldsTexts new
+holds_text old new text holds is told = subst HoldsTexts (sym told) (record { texts = one_text text is; pattern = holds.pattern })
+
+pub holds_pattern : (old new : BufferState) (pattern : List ℕ) → HoldsTexts old → IsText pattern → IsPattern pattern
+    → new ≡ with_pattern old (Some pattern) → HoldsTexts new
+holds_pattern old new pattern holds is one told = subst HoldsTexts (sym told) (record { texts = holds.texts; pattern = (is, one) })
+
+-- its current text alone
+pub holds_forked : (old new : BufferState) → HoldsTexts old → new ≡ fresh (current_text old) → HoldsTexts new
+holds_forked old new holds told = subst HoldsTexts (sym told) (holds_fresh (current_text old) (text_holds old holds))

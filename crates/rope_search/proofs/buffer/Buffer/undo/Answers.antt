@@ -1,0 +1,34 @@
+use Rattle.std.proofs.Common.{◌≡◌, ◌-◌, ℕ, List, sym, subst, ◌∙◌}
+use Rattle.ropey.specs.Chunks.{text_of}
+use Rattle.rope_search_reports.specs.Turned.{Lead, listed, turned}
+use Rattle.rope_search_reports.specs.declared.changes.Change.{Change}
+use Rattle.rope_search.specs.Histories.{text_at}
+use Rattle.rope_search.proofs.HistoryLemmas.{led-to}
+use Rattle.rope_search.proofs.buffer.Buffer.undo.Goals as goal
+
+pub turned-requires : goal.turned-requires
+turned-requires c =
+    let history = c.self.inside.history in
+    let last = listed c.last_changes.result.now in
+    let later : history.current ≡ 0 → ⊥ = λ none. absurd (let e = c.previous.ensures.none.1 none in let is = c.in-Some.is in cc) in
+    let lead = led-to history.texts history.changes history.current c.current-current.ensures.led later c.current-current.ensures.inside in (
+      text_at history.texts (history.current - 1),
+      text_at history.texts history.current,
+      subst (λ (cs : List Change). Lead cs (text_at history.texts (history.current - 1)) (text_at history.texts history.current)) (sym c.last_changes.ensures) lead,
+    )
+
+pub follow-requires-clause-led : goal.follow-requires-clause-led
+follow-requires-clause-led c =
+    let history = c.self.inside.history in
+    let last = listed c.last_changes.result.now in
+    let before = text_at history.texts (history.current - 1) in
+    let here = text_at history.texts history.current in
+    let later : history.current ≡ 0 → ⊥ = λ none. absurd (let e = c.previous.ensures.none.1 none in let is = c.in-Some.is in cc) in
+    let lead : Lead last before here =
+    subst (λ (cs : List Change). Lead cs before here) (sym c.last_changes.ensures)
+    (led-to history.texts history.changes history.current c.current-current.ensures.led later c.current-current.ensures.inside) in
+    let back : Lead (turned 0 0 last) here before = c.changes_lead_back.ensures last before here lead in
+    let told : c.as_slice.result.now ≡ turned 0 0 last = c.as_slice.ensures ∙ c.in_ok-changes.ensures.changes in
+    subst (λ (cs : List Change). Lead cs (text_of c.current-current.result.now) (text_of c.in-Some.text.now)) (sym told)
+    (subst (λ (t : List ℕ). Lead (turned 0 0 last) t (text_of c.in-Some.text.now)) (sym c.current-current.ensures.text)
+    (subst (λ (t : List ℕ). Lead (turned 0 0 last) here t) (sym c.in-Some.ensures.text) back))

@@ -1,0 +1,75 @@
+-- The texts of a buffer, and what changed from each one to the next.
+use Rattle.std.specs.Prelude.{◌≡◌, ℕ, ◌+◌, ◌<◌, List, [], ◌∷◌, ◌++◌, length, take, slice_index_or}
+use Rattle.str_indices.specs.Text.{byte_len}
+use Rattle.rope_search_reports.specs.Text.{bytes_of}
+use Rattle.rope_search_reports.specs.Matches.{AreGroups}
+use Rattle.rope_search_reports.specs.Replacement.{Groups, changes_of}
+use Rattle.rope_search_reports.specs.Turned.{Lead, turned, lines_put}
+use Rattle.rope_search_reports.specs.declared.changes.Change.{Change}
+use Rattle.rope_search_reports.specs.declared.positions.Position.{Position}
+use Rattle.rope_search.specs.Session.{LimitedBuffer, current_text, undone, redone}
+use Rattle.rope_search.specs.Places.{IsBetween}
+use Rattle.rope_search.specs.Replacing.{AreAllMatches}
+
+-- texts, from the oldest on, with the changes that led to each from the one before it, none to the
+-- first; and the number of the current text
+pub record Texts : Type 0 where
+  pub texts : List (List ℕ)
+  pub changes : List (List Change)
+  pub current : ℕ
+
+-- one of the texts, and the changes that led to it
+abbrev pub text_at : List (List ℕ) → ℕ → List ℕ
+text_at texts number = slice_index_or texts number []
+
+abbrev pub changes_at : List (List Change) → ℕ → List Change
+changes_at changes number = slice_index_or changes number []
+
+-- the changes lead from each text to the next
+abbrev pub LeadOn : List (List ℕ) → List (List Change) → Type 0
+LeadOn texts changes = (number : ℕ) → number + 1 < length texts
+    → Lead (changes_at changes (number + 1)) (text_at texts number) (text_at texts (number + 1))
+
+-- ---- what is kept of what a buffer went through
+
+-- the changes up to the current text, and further ones in place of those behind it
+abbrev pub with_changes : LimitedBuffer → List Change → List (List Change)
+with_changes buffer changes = take (buffer.state.current + 1) buffer.changes ++ changes ∷ []
+
+-- an edit is one change: of the part between the positions, to the text that took its place
+pub record KeepsEdit (old : LimitedBuffer) (from to : Position) (inserted : List ℕ)
+    (new : LimitedBuffer) : Type 0 where
+  pub before : List ℕ
+  pub part : List ℕ
+  pub behind : List ℕ
+  pub between : IsBetween (current_text old.state) from to before part behind
+  pub kept : new.changes ≡ with_changes old (record {
+    old_end = byte_len before + byte_len part;
+    new_start = byte_len before;
+    new_end = byte_len before + byte_len inserted;
+  } ∷ [])
+
+-- a replacement is a change for each match
+pub record KeepsReplacement (old : LimitedBuffer) (template : List ℕ)
+    (new : LimitedBuffer) : Type 0 where
+  pub matches : List Groups
+  pub are : AreAllMatches old.state matches
+  pub kept : new.changes ≡ with_changes old
+      (changes_of (bytes_of (current_text old.state)) template 0 0 matches)
+
+-- in a text, for a pattern: these are the changes
+pub record AreReplacements (text pattern template : List ℕ) (changes : List Change) : Type 0 where
+  pub matches : List Groups
+  pub are : AreGroups pattern (bytes_of text) matches
+  pub told : changes ≡ changes_of (bytes_of text) template 0 0 matches
+
+-- ---- how many rows going back and forward may make
+
+-- as many as what comes back has lines: for each change its breaks plus one
+abbrev pub rows_back : LimitedBuffer → ℕ
+rows_back buffer = lines_put (bytes_of (current_text (undone buffer.state)))
+    (turned 0 0 (changes_at buffer.changes buffer.state.current))
+
+abbrev pub rows_on : LimitedBuffer → ℕ
+rows_on buffer = lines_put (bytes_of (current_text (redone buffer.state)))
+    (changes_at buffer.changes (buffer.state.current + 1))

@@ -1,0 +1,54 @@
+-- Changes that lead from one text to another, and back.
+use Rattle.std.specs.Prelude.{◌≡◌, ℕ, ◌+◌, ◌-◌, List, [], ◌∷◌, sum_by}
+use Rattle.rope_search_reports.specs.Text.{IsText, bytes_of, line_count}
+use Rattle.rope_search_reports.specs.Changes.{AreChanges}
+use Rattle.rope_search_reports.specs.Replacement.{between}
+use Rattle.rope_search_reports.specs.declared.changes.Change.{Change}
+use Rattle.rope_search_reports.specs.declared.changes.Changes.{Changes}
+use Rattle.rope_search_reports.specs.declared.changes.Changes.TheVariants.{One, Many}
+
+-- the changes make the new text of the old one
+abbrev pub Lead : List Change → List ℕ → List ℕ → Type 0
+Lead changes old new = (n : ℕ) × AreChanges changes 0 0 old new n
+
+-- the changes that are kept
+abbrev pub listed : Changes → List Change
+listed (One change) = change ∷ []
+listed (Many changes) = changes.items
+
+-- A change turned about: what it put into the new text goes, and what it took out of the old one
+-- comes back. What is left of both texts starts at these places.
+abbrev pub turned_from : ℕ → ℕ → Change → Change
+turned_from at_old at_new change = record {
+  old_end = change.new_end;
+  new_start = at_old + (change.new_start - at_new);
+  new_end = change.old_end;
+}
+
+-- the changes turned about, from two places on
+abbrev pub turned : ℕ → ℕ → List Change → List Change
+turned at_old at_new [] = []
+turned at_old at_new (change ∷ changes) =
+    turned_from at_old at_new change ∷ turned change.old_end change.new_end changes
+
+-- how many lines the changes may have searched in the new text, of this content: for each the lines
+-- of what it puts there, which are its breaks plus one
+abbrev pub lines_put : List ℕ → List Change → ℕ
+lines_put content changes =
+    sum_by (λ (change : Change). line_count (between content change.new_start change.new_end))
+    changes
+
+-- changes turned about lead from the new text to the old one
+abbrev pub ChangesLeadBack : Type 0
+ChangesLeadBack = (changes : List Change) (old new : List ℕ)
+    → Lead changes old new → Lead (turned 0 0 changes) new old
+
+-- and turned about again they are the changes that they were
+abbrev pub ChangesTurnTwice : Type 0
+ChangesTurnTwice = (changes : List Change) (old new : List ℕ)
+    → Lead changes old new → turned 0 0 (turned 0 0 changes) ≡ changes
+
+-- the lines that changes may have searched are those of what they put
+abbrev pub ChangesPutLines : Type 0
+ChangesPutLines = (changes : List Change) (old new : List ℕ) (n : ℕ) → IsText new
+    → AreChanges changes 0 0 old new n → n ≡ lines_put (bytes_of new) changes
