@@ -8,7 +8,8 @@
 # make edits    tries each edit of code that the prover must refuse: those of crates/NAME/must-fail,
 #               which the gate tries too, and those of crates/NAME/must-fail-more. CRATES='NAME ..'
 #               names some crates, JOBS=N tries N of them at a time
-# make bench    times large texts, their reports, edits, ropes, patterns and searches
+# make bench    measures texts, reports, edits, ropes, patterns and searches. TOPICS='NAME ..' names some
+#               of the topics in bench/topics.py; TOPICS=--write puts the figures into bench/RESULTS.md
 # make clean    removes what these made
 
 # The command of the Rattle kit; make RT=PROGRAM names another.
@@ -65,20 +66,13 @@ edits:
 	@:$(need_rt)
 	@RT='$(RT)' JOBS='$(or $(JOBS),1)' tests/edits $(CRATES)
 
-bench: $(program)
-	@bench/load_print
-	@bench/list_matches
-	@bench/replace_matches
-	@RT='$(RT)' sh bench/indices.sh
-	@RT='$(RT)' sh bench/ropes.sh
-	@RT='$(RT)' sh bench/slices.sh
-	@RT='$(RT)' sh bench/iterators.sh
-	@RT='$(RT)' sh bench/edits.sh
-	@RT='$(RT)' sh bench/live.sh
-	@RT='$(RT)' sh bench/patterns.sh
-	@RT='$(RT)' sh bench/programs.sh
-	@RT='$(RT)' sh bench/searches.sh
-	@RT='$(RT)' sh bench/regexes.sh
+bin/bench: $(program) bench/build $(shell find bench/program -type f)
+	@:$(need_rt)
+	@echo '$@ is built once it is proved: some minutes'
+	@mkdir -p bench/out && { RT='$(RT)' bench/build > bench/out/rt.log 2>&1 || { tail -n 40 bench/out/rt.log; false; }; }
+
+bench: $(program) bin/bench
+	@bench/run $(TOPICS)
 
 clean:
-	rm -rf bin $(wildcard crates/*/out)
+	rm -rf bin bench/out $(wildcard crates/*/out)

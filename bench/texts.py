@@ -1,0 +1,50 @@
+"""The texts that are measured over."""
+import glob
+import os
+import random
+
+TOP = os.path.dirname(os.path.dirname(os.path.abspath(__file__)))
+WORDS = """let count lines iter filter line len value self match Some None Ok Err return fn pub use struct impl for in while
+if else mut ref => todo Error 0x1f 42""".split()
+
+
+def lines_of(lines):
+    """Lines of words, 49 bytes and LF each, the same in each run."""
+    chosen = random.Random(5)
+    out = []
+    for _ in range(lines):
+        line = ""
+        while len(line) < 49:
+            line += chosen.choice(WORDS) + " "
+        out.append(line[:49] + "\n")
+    return "".join(out).encode()
+
+
+def source_text():
+    """Lines of the sources here, of which 250,000 bytes of ASCII are taken."""
+    out = []
+    for path in sorted(glob.glob(os.path.join(TOP, "crates", "*", "src", "*.rt"))):
+        with open(path, encoding="utf-8") as file:
+            out.append("".join(letter for letter in file.read() if letter in "\t\n" or " " <= letter <= "~"))
+    return "".join(out)[:250_000]
+
+
+def part_of(kind):
+    """What a text of a kind repeats."""
+    if kind == "ascii":
+        return source_text()
+    if kind == "mixed":
+        return "".join(line + " // こんにちは世界、これは文章です。\n" for line in source_text().split("\n"))
+    if kind == "japanese":
+        return "こんにちは世界、これは文章です。\nテキストの行と文字を数えます。\n" * 2500
+    return "🐸🐹🐻🐼🐽🐾👀👁\n" * 7500
+
+
+def text_of(kind, size):
+    """A text of a kind: so many lines, or at least so many bytes."""
+    if kind == "lines":
+        return lines_of(size)
+    if kind == "short":
+        return b"a short line\n" * size
+    part = part_of(kind).encode()
+    return part * -(-size // len(part))
