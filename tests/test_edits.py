@@ -11,6 +11,10 @@ from walks import spelled as spelled_tree
 
 CHARACTERS = "aab\r\r\n\n\u2028🐸éA "
 SESSIONS, SESSIONS_IN_RUN = 20_000, 500
+# How often a session at random has each command: one of all kinds, and one that goes back and forward.
+WORDS = ("edit", "undo", "redo", "list", "print", "pattern", "text", "fork", "use", "off", "next", "replace")
+OF_ALL_KINDS = (34, 14, 5, 20, 4, 7, 2, 3, 4, 1, 8, 8)
+BACK_AND_FORWARD = (14, 28, 16, 24, 2, 5, 1, 1, 1, 2, 0, 16)
 SMALL = "\r\na\v"
 PATTERNS = r"""
     a b ab aa é 🐸 x* a* a+? a?? (a|b)+ (?:a|ab)b? [^a] [ab]{2,3}? a|🐸 (?U)a+ (a*)*b (?:a|\b)+ \d*b
@@ -24,6 +28,7 @@ PIECES = ("$0", "$0", "$1", "$2", "$9", "$$", "$", "$a", "\r", "\n", "\n\r", "a"
 # position by some more.
 SMALL_PATTERNS = ("a", "x*", "a$", "^", r"\b", "(a|b)+")
 REPLACED_PATTERNS = ("\r", "\n", "\r\n", "a", "x*")
+TURNED_PATTERNS = ("a", "x*", "(?m)a$")
 NEXT_PATTERNS = (*SMALL_PATTERNS, r"\r", r"\n", r"\r\n", "(?m)^a", "(?m)a$", "[^a]", r"\B", "(?s)a.*?$")
 
 # The heaviest that a pattern may be; and the lines of a text, and the edits of it, under that.
@@ -101,11 +106,8 @@ def some_pattern(chosen):
     return chosen.choice(PATTERNS if roll < 0.93 else REFUSED_PATTERNS)
 
 
-def some_command(chosen, writer):
-    word = chosen.choices(
-        ("edit", "undo", "redo", "list", "print", "pattern", "text", "fork", "use", "off", "next", "replace"),
-        (34, 14, 5, 20, 4, 7, 2, 3, 4, 1, 8, 8),
-    )[0]
+def some_command(chosen, writer, weights):
+    word = chosen.choices(WORDS, weights)[0]
     if writer.commands[-1][0] in ("undo", "redo") and chosen.random() < 0.4:
         word = "redo"
     if word == "edit":
@@ -126,7 +128,7 @@ def some_command(chosen, writer):
         writer.write(word)
 
 
-def some_sessions(seed, count):
+def some_sessions(seed, count, weights):
     """Sessions one after the other. Each begins in a buffer without a pattern and with a new text."""
     chosen, writer = random.Random(seed), Writer()
     for _ in range(count):
@@ -136,7 +138,7 @@ def some_sessions(seed, count):
         if chosen.random() < 0.8:
             writer.write("pattern", text=some_pattern(chosen))
         for _ in range(chosen.randint(8, 20)):
-            some_command(chosen, writer)
+            some_command(chosen, writer, weights)
         for word in ("list", "print"):
             writer.write(word)
     return writer
@@ -149,8 +151,8 @@ def texts_of(most, characters=SMALL):
 
 
 def edits_of(text, pattern):
-    """The text under a pattern with each edit of it: what is listed is what the pattern, set anew, lists, and what was
-    listed before is listed after `undo`."""
+    """The text under a pattern with each edit of it: what is listed is what the pattern, set anew, lists, also after
+    `undo` and `redo`, and what was listed before is listed after `undo`."""
     writer = Writer()
     writer.write("text", text=text)
     writer.write("pattern", text=pattern)
@@ -158,27 +160,48 @@ def edits_of(text, pattern):
         for payload in texts_of(2):
             assert writer.write("edit", *first, *last, text=payload) == b"ok\n"
             assert writer.write("list") == listed(writer.session.buffer.text, pattern)
+            for word in ("undo", "list", "redo", "list"):
+                writer.write(word)
             writer.write("pattern", text=pattern)
-            writer.write("list")
-            writer.write("undo")
-            writer.write("list")
+            for word in ("list", "undo", "list"):
+                writer.write(word)
+    return writer
+
+
+def turned_under(text, patterns):
+    """The text with each edit of it, undone and done again under one pattern after the other, each set while another
+    text was current, and under none."""
+    writer = Writer()
+    writer.write("text", text=text)
+    for first, last in itertools.combinations_with_replacement(positions_of(text), 2):
+        for payload in texts_of(2):
+            writer.write("edit", *first, *last, text=payload)
+            for pattern in patterns:
+                writer.write("pattern", text=pattern)
+                for word in ("undo", "list", "off", "redo"):
+                    writer.write(word)
+                writer.write("pattern", text=pattern)
+                for word in ("undo", "list", "redo", "list"):
+                    writer.write(word)
+            for word in ("off", "undo"):
+                writer.write(word)
     return writer
 
 
 def replacements_in(text, pattern):
     """The text with all matches of a pattern replaced, by each of some templates: what is listed is what the pattern,
-    set anew, lists, and what was listed before is listed after `undo`."""
+    set anew, lists, also after `undo` and `redo`, and what was listed before is listed after `undo`."""
     writer = Writer()
     writer.write("text", text=text)
     writer.write("pattern", text=pattern)
     for template in (*texts_of(2, "\r\na"), "$0$0", "\n$0\r"):
         assert writer.write("replace", text=template).startswith(b"ok ")
         assert writer.write("list") == listed(writer.session.buffer.text, pattern)
-        writer.write("print")
+        for word in ("print", "undo", "list", "redo", "list"):
+            writer.write(word)
         writer.write("pattern", text=pattern)
-        writer.write("list")
-        writer.write("undo")
-        writer.write("list")
+        for word in ("list", "undo", "list"):
+            writer.write(word)
     return writer
 
 
@@ -245,8 +268,9 @@ def test_all():
     test(f"a match replaced in {LINES} lines", replaced_in_lines(LINES, "(e) 5000\n").problems())
     test("a match replaced in each line", replaced_in_lines(LINES // 10, r"\n", r"e", r"(?m)e(.*)$").problems())
     for seed in range(SESSIONS // SESSIONS_IN_RUN):
-        name = f"{SESSIONS_IN_RUN} sessions at random, by seed {seed}"
-        test(name, some_sessions(seed, SESSIONS_IN_RUN).problems())
+        for kind, weights in (("of all kinds", OF_ALL_KINDS), ("back and forward", BACK_AND_FORWARD)):
+            name = f"{SESSIONS_IN_RUN} sessions at random {kind}, by seed {seed}"
+            test(name, some_sessions(seed, SESSIONS_IN_RUN, weights).problems())
     for length in range(5):
         texts = [text for text in texts_of(length) if len(text) == length]
         name = f"the {len(texts)} texts of {length} characters over CR, LF, VT and a"
@@ -256,5 +280,7 @@ def test_all():
         for pattern in REPLACED_PATTERNS:
             wrong = (wrong for text in texts for wrong in replacements_in(text, pattern).problems())
             test(f"{name}, each replacement under {pattern!r}", wrong)
+        wrong = (wrong for text in texts for wrong in turned_under(text, TURNED_PATTERNS).problems())
+        test(f"{name}, each edit undone under other patterns", wrong)
         test(f"{name}, next from each position", (wrong for text in texts for wrong in nexts_of(text).problems()))
         test(f"{name}, all positions", (wrong for text in texts for wrong in positions_around(text).problems()))

@@ -40,12 +40,19 @@ REPLACED_IN_LONG = (
     + b"list\nundo\n" + given("pattern", b"-") + given("replace", b"+") + given("pattern", rb"\++\n?") + b"list\n"
     + given("replace", b"x") + b"list\nundo\nundo\nprint\n"
 )
-SENT_AGAIN = (HISTORY, UNDER_PATTERN, UNDER_REGEX, REPLACED)
+# Edits and replacements without a pattern, under one, and under another one, undone and done again.
+BACK_AND_FORWARD = (
+    given("text", b"ab\r\nab\n\nab\n") + b"edit 0 1 1 1 1\nb" + given("pattern", b"b|\n") + given("replace", b"\n$0")
+    + b"undo\nlist\nundo\nlist\nredo\nredo\nlist\n" + given("pattern", b"a") + given("replace", b"") + b"undo\nundo\nlist\n"
+    + b"edit 0 0 1 0 2\n\r\nlist\nredo\noff\nundo\nredo\n" + given("pattern", b"(?m)b$") + b"undo\nundo\nundo\nlist\nprint\n"
+)
+SENT_AGAIN = (HISTORY, UNDER_PATTERN, UNDER_REGEX, REPLACED, BACK_AND_FORWARD)
 
 # A text of a megabyte, and how many of its lines are edited, each in a fork of its own and all in one buffer.
 LINES, LINE, EDITED = 20_000, b"a line of fifty bytes, which holds one mark: here\n", 50
 # What a fork with an edit may take, or an edit with its rows, whatever the text: a path of nodes and a few lists.
 MOST_FOR_AN_EDIT = 8_192
+MOST_FOR_A_FORK = 12_288  # one with an edit: beside that it is a buffer of its own
 
 # Inputs on which memory is refused. The payload of the second is as long as several reads and
 # spells commands, which must not be carried out where it is lost.
@@ -62,6 +69,7 @@ MEMORY_INPUTS = [
     UNDER_REGEX,
     REPLACED,
     REPLACED_IN_LONG,
+    BACK_AND_FORWARD,
     b"pattern 2\nabtext 3063\n" + b"ab" * 1500 + b"\n" + b"ab\n" * 20 + b"abedit 0 1500 10 1 47\n" + b"\nab" * 15 + b"\r\n"
     + b"list\nundo\nlist\nredo\nprint\nedit 0 0 5 2 0\nlist\n",
     b"text 3\na\nbfork\nedit 0 1 1 0 1\n\ruse 1\nedit 0 0 0 1 2\n\xc3\xa9undo\nprint\nuse 0\nundo\nundo\nredo\nprint\n"
@@ -180,7 +188,7 @@ def test_all():
         step = LINES // EDITED
         return b"".join(before(k) + spelled("edit", (k * step, 0, k * step, 0, 1), b"x") for k in range(EDITED))
 
-    def taken_for_edits(first, edits):
+    def taken_for_edits(first, edits, most=MOST_FOR_AN_EDIT):
         """What an edit takes after these first commands, where there is too much of it, in bytes."""
         text = given("text", LINE * LINES) + first
         _, _, _, alone = tallied(lambda environment: run(text, environment=environment))
@@ -189,11 +197,11 @@ def test_all():
         if b"error" in ended.out:
             yield "a command is refused"
         each = (total - alone) // EDITED
-        if not 0 < each <= MOST_FOR_AN_EDIT:
+        if not 0 < each <= most:
             yield f"it takes {each} bytes"
 
     forks = edited_lines(lambda k: b"fork\nuse %d\n" % (k + 1))
-    test("a fork with an edit takes memory for the edit, not for the text", taken_for_edits(b"", forks))
+    test("a fork with an edit takes memory for the edit, not for the text", taken_for_edits(b"", forks, MOST_FOR_A_FORK))
     one = edited_lines(lambda k: b"")
     test("an edit takes memory for what it changes, not for the text", taken_for_edits(b"", one))
     for pattern in (b"mark", rb"(?i)\bM\w+k\b|^$"):
