@@ -69,6 +69,11 @@ TOPICS = {
         "Python's `re` line by line; the aim for literals is at most 4 times grep",
         [sessions.list_matches],
     ),
+    "typing": (
+        "the command `edit` that inserts a letter in a line, and `undo`, with the report of a pattern in 400,000 lines, "
+        "beside a search of all lines by Python's `re`",
+        [sessions.edit_lines],
+    ),
     "replace": (
         "`replace` of all matches in the same lines, beside Python's `re.sub` and `str.replace`",
         [sessions.replace_matches],
