@@ -26,7 +26,7 @@ use Rattle.rx_steps.specs.declared.place.Place.{Place}
 use Rattle.rx_steps.specs.Threads.{Slots, Thread, ThreadListView, IsThreadOf, first_node, no_slots}
 use Rattle.rx_steps.specs.Lists.{Asks, is_among, IsPlace, IsNextList, MakesMoves, met_at, move_at, read_next, slot_machine}
 use Rattle.rx_steps.specs.Searching.{haystack_in}
-use Rattle.rx_steps.specs.Coming.{machine_in, IsUnderWay}
+use Rattle.rx_steps.specs.Coming.{machine_in, HasStarted, IsUnderWay}
 use Rattle.rx_steps.specs.Idle.{Knows, IsPassed, IsPassedAt, IsIdle, AreIdle}
 use Rattle.rx_steps.proofs.PlaceLaws.{moves_at_place}
 use Rattle.rx_steps.proofs.MadeLaws.{step_is_made}
@@ -295,17 +295,19 @@ idle_step p h i b slots idle inside left =
     no_end None e = refl
     no_end (Some t) e = absurd (cc e)
 
--- one place
-one_skipped : (p : ByteProgram) (s : Search) (idle : List Bool) (i : ℕ) (slots : Slots) → s.anchoring ≡ unanchored → IsInside s i → i < highest s → AreIdle p idle → IsPassedAt idle s.utf8_empty s.content i
-    → IsUnderWay p s p.start i [] None slots → IsUnderWay p s p.start (i + 1) [] None slots
-one_skipped p s idle i slots free inside lt are (b, is, one) way = elim (begins_or_not s i free inside) [
-  | inl begins ↦ way_passed p s p.start i live ((fresh, (p.start, 0)) ∷ []) [] None slots None slots inside refl (inl (refl, begins, refl)) (steps begins one) (All-nil (IsThreadOf p.states)) way
-  | inr never ↦ way_passed p s p.start i live [] [] None slots None slots inside refl (inr (λ none. never, refl)) done (All-nil (IsThreadOf p.states)) way
+-- the step at a place that is passed over, with a walk that starts there or without one
+pub record SkippedStep (p : ByteProgram) (s : Search) (i : ℕ) (slots : Slots) : Type 0 where
+  pub threads : List Thread
+  pub started : HasStarted s p.start i None (record { slot_len = length slots; threads = [] }) threads
+  pub steps : Steps (machine_in p s) i [] threads [] None
+
+pub skipped_step : (p : ByteProgram) (s : Search) (idle : List Bool) (i : ℕ) (slots : Slots) → s.anchoring ≡ unanchored → IsInside s i → i < highest s → AreIdle p idle → IsPassedAt idle s.utf8_empty s.content i
+    → SkippedStep p s i slots
+skipped_step p s idle i slots free inside lt are (b, is, one) = elim (begins_or_not s i free inside) [
+  | inl begins ↦ record { threads = (fresh, (p.start, 0)) ∷ []; started = inl (refl, begins, refl); steps = steps begins one }
+  | inr never ↦ record { threads = []; started = inr (λ none. never, refl); steps = done }
 ]
   where
-    live : ThreadListView
-    live = record { slot_len = length slots; threads = [] }
-
     fresh : Slots
     fresh = no_slots (length slots)
 
@@ -323,6 +325,13 @@ one_skipped p s idle i slots free inside lt are (b, is, one) way = elim (begins_
         let byte : slice_index s.content i ≡ b = get_or_from_slice_get s.content i b 0 is in
         let lead = cut.1 before (omega (arith, byte, high)) in
         absurd (omega (arith, byte, low, lead))
+
+-- one place
+one_skipped : (p : ByteProgram) (s : Search) (idle : List Bool) (i : ℕ) (slots : Slots) → s.anchoring ≡ unanchored → IsInside s i → i < highest s → AreIdle p idle → IsPassedAt idle s.utf8_empty s.content i
+    → IsUnderWay p s p.start i [] None slots → IsUnderWay p s p.start (i + 1) [] None slots
+one_skipped p s idle i slots free inside lt are passed_over way =
+    let one = skipped_step p s idle i slots free inside lt are passed_over in
+    way_passed p s p.start i (record { slot_len = length slots; threads = [] }) one.threads [] None slots None slots inside refl one.started one.steps (All-nil (IsThreadOf p.states)) way
 
 -- so many places
 many_skipped : (p : ByteProgram) (s : Search) (idle : List Bool) (n i : ℕ) (slots : Slots) → s.anchoring ≡ unanchored → AreIdle p idle → lowest s ≤ i → i + n ≤ highest s

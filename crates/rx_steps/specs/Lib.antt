@@ -6,6 +6,7 @@ pub mod Alike
 pub mod Asked
 pub mod Sides
 pub mod Searching
+pub mod Standing
 pub mod Idle
 pub mod Caches
 pub mod Coming
