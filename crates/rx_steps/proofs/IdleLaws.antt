@@ -21,16 +21,17 @@ use Rattle.rx_walks.specs.ProgramFinds.{start_node, lowest, highest}
 use Rattle.rx_walks.specs.Laws.{Begins}
 use Rattle.rx_walks.specs.Steps.{Steps, done, passed, met, opened, read}
 use Rattle.rx_input.specs.Cursors.{CursorState, piece_of}
+use Rattle.rx_input.specs.Inputs.{HoldsPlace}
 use Rattle.rx_steps.specs.declared.place.Looks.{Looks}
 use Rattle.rx_steps.specs.declared.place.Place.{Place}
-use Rattle.rx_steps.specs.Threads.{Slots, Thread, ThreadListView, IsThreadOf, first_node, no_slots}
+use Rattle.rx_steps.specs.Threads.{Slots, Thread, IsThreadOf, first_node, no_slots}
 use Rattle.rx_steps.specs.Lists.{Asks, is_among, IsPlace, IsNextList, MakesMoves, met_at, move_at, read_next, slot_machine}
 use Rattle.rx_steps.specs.Searching.{haystack_in}
 use Rattle.rx_steps.specs.Coming.{machine_in, HasStarted, IsUnderWay}
 use Rattle.rx_steps.specs.Idle.{Knows, IsPassed, IsPassedAt, IsIdle, AreIdle}
 use Rattle.rx_steps.proofs.PlaceLaws.{moves_at_place}
 use Rattle.rx_steps.proofs.MadeLaws.{step_is_made}
-use Rattle.rx_steps.proofs.ByteLaws.{below_or_not, within_is, next_byte_is}
+use Rattle.rx_steps.proofs.ByteLaws.{below_or_not, within_is, next_byte_is, piece_byte}
 use Rattle.rx_steps.proofs.WayLaws.{way_passed}
 
 -- ---- the set
@@ -47,6 +48,18 @@ one_more_passed idle utf8_empty bytes n b so_far is one k lt = elim (below_or_no
   | inl less ↦ so_far k less
   | inr le ↦ (b, ap (λ j. slice_get bytes j) (omega (arith, le, lt)) ∙ is, one)
 ]
+
+-- none more is, where this byte isn't, and behind the last one
+pub no_more_passed : (idle : List Bool) (utf8_empty : Bool) (bytes : List ℕ) (n b : ℕ) → slice_get bytes n ≡ Some b → (IsPassed idle utf8_empty b → ⊥) → IsPassedAt idle utf8_empty bytes n → ⊥
+no_more_passed idle utf8_empty bytes n b is never (c, there, one) =
+    let same : c ≡ b = the_byte (sym there ∙ is) in
+    never (subst (λ x. IsPassed idle utf8_empty x) same one)
+  where
+    the_byte : {x y : ℕ} → Some x ≡ Some y → x ≡ y
+    the_byte e = cc e
+
+pub none_behind : (idle : List Bool) (utf8_empty : Bool) (bytes : List ℕ) (n : ℕ) → length bytes ≤ n → IsPassedAt idle utf8_empty bytes n → ⊥
+none_behind idle utf8_empty bytes n le (b, is, one) = let inside = slice_get_within bytes n b is in absurd (omega (arith, inside, le))
 
 -- what is said of the bytes of a part is so in the whole
 passed_in_part : (idle : List Bool) (utf8_empty : Bool) (bytes : List ℕ) (pos few k : ℕ) → IsPassedAt idle utf8_empty (take few (drop pos bytes)) k → IsPassedAt idle utf8_empty bytes (pos + k)
@@ -68,6 +81,29 @@ passed_in_piece idle utf8_empty c i pos piece few n k is at from to each =
     let there : IsPassedAt idle utf8_empty piece (pos + j) = passed_in_part idle utf8_empty piece pos (length piece - pos) j here in
     let far : IsPassedAt idle utf8_empty c.content (c.start + (pos + j)) = passed_in_part idle utf8_empty c.content c.start (c.end - c.start) (pos + j) (subst (λ xs. IsPassedAt idle utf8_empty xs (pos + j)) is there) in
     subst (λ x. IsPassedAt idle utf8_empty c.content x) (omega (arith, at, from)) far
+
+first_left : (piece : List ℕ) (pos few b : ℕ) → 0 < few → slice_get piece pos ≡ Some b → slice_get (take few (take (length piece - pos) (drop pos piece))) 0 ≡ Some b
+first_left [] pos few b some e = absurd (cc e)
+first_left (x ∷ piece) zero zero b some e = absurd (omega (arith, some))
+first_left (x ∷ piece) zero (suc few) b some e =
+    let all : length (x ∷ piece) - 0 ≡ suc (length piece) = omega arith in
+    ap (λ n. slice_get (take (suc few) (take n (x ∷ piece))) 0) all ∙ e
+first_left (x ∷ piece) (suc pos) few b some e =
+    let less : length (x ∷ piece) - suc pos ≡ length piece - pos = omega arith in
+    ap (λ n. slice_get (take few (take n (drop pos piece))) 0) less ∙ first_left piece pos few b some e
+
+-- and it is there
+pub some_left : (idle : List Bool) (utf8_empty : Bool) (c : CursorState) (i pos : ℕ) (piece : List ℕ) → piece ≡ piece_of c → c.start + pos ≡ i → HoldsPlace c i → IsPassedAt idle utf8_empty c.content i
+    → 0 < length (take (length piece - pos) (drop pos piece))
+some_left idle utf8_empty c i pos piece is at holds (b, here, one) =
+    let inside = slice_get_within piece pos b (ap (λ xs. slice_get xs pos) is ∙ piece_byte c i pos holds at ∙ here) in
+    omega (arith, inside, length-take (length piece - pos) (drop pos piece), length-drop pos piece)
+
+-- a byte of the content that is passed over stands first in what is left of the piece
+pub passed_first : (idle : List Bool) (utf8_empty : Bool) (c : CursorState) (i pos : ℕ) (piece : List ℕ) (few : ℕ) → piece ≡ piece_of c → c.start + pos ≡ i → HoldsPlace c i → 0 < few → IsPassedAt idle utf8_empty c.content i
+    → IsPassedAt idle utf8_empty (take few (take (length piece - pos) (drop pos piece))) 0
+passed_first idle utf8_empty c i pos piece few is at holds some (b, here, one) =
+    (b, first_left piece pos few b some (ap (λ xs. slice_get xs pos) is ∙ piece_byte c i pos holds at ∙ here), one)
 
 pub passed_joined : (idle : List Bool) (utf8_empty : Bool) (content : List ℕ) (first i j : ℕ) → ((k : ℕ) → first ≤ k → k < i → IsPassedAt idle utf8_empty content k)
     → ((k : ℕ) → i ≤ k → k < j → IsPassedAt idle utf8_empty content k) → (k : ℕ) → first ≤ k → k < j → IsPassedAt idle utf8_empty content k

@@ -1,5 +1,5 @@
 -- What a search has come to in the parts of its span.
-use Rattle.std.proofs.Common.{inl, inr, ◌≡◌, ◌⊎◌, ℕ, ◌+◌, ◌<◌, ◌≤◌, Bool, true, false, All, List, [], ◌∷◌, length, take, drop, min, Option, Some, None, slice_get, refl, sym, ap, subst, ◌∙◌, arith}
+use Rattle.std.proofs.Common.{inl, inr, ◌≡◌, ℕ, ◌+◌, ◌<◌, ◌≤◌, Bool, true, false, All, List, [], ◌∷◌, length, take, drop, min, Option, Some, None, slice_get, refl, sym, ap, subst, ◌∙◌, arith}
 use Rattle.std.proofs.lemmas.List.Elements.{All-nil}
 use Rattle.rx_walks.specs.Looks as walks
 use Rattle.rx_walks.specs.Machines.{Move, ends, goes, reads, Outcome}
@@ -13,7 +13,7 @@ use Rattle.rx_program.specs.Programs.{ByteProgram, automata_of, characters_of}
 use Rattle.rx_steps.specs.Threads.{Slots, Thread, ThreadListView, IsThreadOf, no_slots}
 use Rattle.rx_steps.specs.Lists.{read_next, met_at}
 use Rattle.rx_steps.specs.Searching.{haystack_in}
-use Rattle.rx_steps.specs.Idle.{AreIdle, IsPassedAt}
+use Rattle.rx_steps.specs.Idle.{AreIdle}
 use Rattle.rx_steps.specs.Coming.{machine_in, HasStarted, IsUnderWay, IsUnderWayInParts, IsOver, IsOverAt, HasMetNone}
 use Rattle.rx_steps.proofs.ByteLaws.{below_or_not, next_byte_is, within_is}
 use Rattle.rx_steps.proofs.PlaceLaws.{reads_first}
@@ -173,9 +173,11 @@ module _ (p : ByteProgram) (s : Search) where
       (λ l from' to'. skipped l from' (omega (arith, to, to'))) (parts k from (omega (arith, to, high))) in
       let alone : IsUnderWay p (up_to_place s k) p.start k [] None slots =
       subst (λ r. IsUnderWay p (up_to_place s k) r k [] None slots) tied.1 (subst (λ o. IsUnderWay p (up_to_place s k) q k [] o slots) here.1 (subst (λ xs. IsUnderWay p (up_to_place s k) q k xs pattern slots) here.0 way)) in
-      let one : SkippedStep p s k slots = skipped_step p s idle k slots tied.0 inside (omega (arith, high, to)) are here.2 in
-      (slots, subst (λ r. IsOver p (up_to_place s k) r None slots) (sym tied.1)
-      (part_over p.start k (record { slot_len = length slots; threads = [] }) one.threads [] None slots None slots inside refl one.started one.steps alone))
+      let one : SkippedStep p s k slots = skipped_step p s idle k slots tied.0 inside (omega (arith, high, to)) are here.2 in (
+        slots,
+        subst (λ r. IsOver p (up_to_place s k) r None slots) (sym tied.1)
+            (part_over p.start k (record { slot_len = length slots; threads = [] }) one.threads [] None slots None slots inside refl one.started one.steps alone),
+      )
 
   -- ---- where a search is over
 

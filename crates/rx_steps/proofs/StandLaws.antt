@@ -1,5 +1,5 @@
 -- Where walks stand that a step goes on with.
-use Rattle.std.proofs.Common.{inl, inr, ◌≡◌, ◌⊎◌, ℕ, suc, ◌+◌, All, List, [], ◌∷◌, ◌++◌, map, Option, Some, None, slice_get, refl, sym, subst, arith}
+use Rattle.std.proofs.Common.{inl, inr, ◌≡◌, ◌⊎◌, ℕ, suc, ◌+◌, All, List, [], ◌∷◌, map, Option, Some, None, slice_get, refl, sym, subst, arith}
 use Rattle.std.proofs.lemmas.List.Elements.{All-append, All-cons, All-nil}
 use Rattle.rx_walks.specs.Machines.{Machine, Outcome}
 use Rattle.rx_walks.specs.Finds.{Search}
@@ -8,7 +8,7 @@ use Rattle.rx_walks.specs.Steps.{Steps, done, passed, met, opened, read}
 use Rattle.rx_program.specs.Programs.{ByteProgram, characters_of}
 use Rattle.rx_steps.specs.Threads.{Slots, Thread, ThreadListView, no_slots}
 use Rattle.rx_steps.specs.Lists.{met_at}
-use Rattle.rx_steps.specs.Standing.{Leads, at_once, by_edge, by_read, IsReached, WalkStands}
+use Rattle.rx_steps.specs.Standing.{at_once, by_edge, by_read, IsReached, WalkStands}
 use Rattle.rx_steps.specs.Coming.{machine_in, HasStarted}
 
 pub first_of : (P : Thread → Type 0) (x : Thread) (xs : List Thread) → All P (x ∷ xs) → P x

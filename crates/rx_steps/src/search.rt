@@ -269,6 +269,10 @@ impl Walks {
         ensures skipped { result ≡ true → (k : ℕ) → input.old.position + 1 ≤ k
             → k < input.new.position → (self.now.live.threads ≡ []) × (self.now.met ≡ None)
             × IsPassedAt self.now.idle utf8_empty input.old.cursor.content k }
+        ensures no_more { result ≡ true → self.now.live.threads ≡ [] → self.now.met ≡ None
+            → input.new.position < min input.old.asked.slice.end input.old.asked.span.end
+            → IsPassedAt self.now.idle utf8_empty input.old.cursor.content input.new.position
+            → ⊥ }
         ensures last { result ≡ false
             → highest (search_of utf8_empty input.old) < input.old.position + 1 }
         ensures stays { result ≡ false → input.new.position ≡ input.old.position }

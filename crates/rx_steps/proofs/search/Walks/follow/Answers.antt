@@ -1,4 +1,4 @@
-use Rattle.std.proofs.Common.{inl, inr, ◌≡◌, ◌⊎◌, ℕ, ◌+◌, ◌-◌, length, ◌<◌, ◌≤◌, [], Option, Some, None, false, true, IsTrue, refl, sym, ap, subst, ◌∙◌, arith}
+use Rattle.std.proofs.Common.{inl, ◌≡◌, ◌⊎◌, ℕ, ◌+◌, ◌-◌, length, ◌<◌, ◌≤◌, [], Option, Some, None, false, true, IsTrue, refl, sym, ap, subst, ◌∙◌, arith}
 use Rattle.std.specs.Option.{is_some}
 use Rattle.rx_input.specs.Inputs.{Asked}
 use Rattle.rx_program.specs.Programs.{ByteProgram, characters_of}

@@ -1,7 +1,6 @@
 use Rattle.std.proofs.Common.{◌≡◌, ◌⊎◌, ℕ, ◌+◌, [], List, length, Option, None, sym, ap, subst, ◌∙◌, arith}
-use Rattle.rx_walks.specs.Finds.{Search, up_to_place}
+use Rattle.rx_walks.specs.Finds.{up_to_place}
 use Rattle.rx_walks.specs.Steps.{Steps}
-use Rattle.rx_program.specs.Programs.{ByteProgram}
 use Rattle.rx_steps.specs.Threads.{Slots, Thread}
 use Rattle.rx_steps.specs.Lists.{met_at}
 use Rattle.rx_steps.specs.Searching.{search_of}
