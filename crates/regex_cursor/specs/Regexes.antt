@@ -44,8 +44,8 @@ abbrev pub CacheView : Type 0
 CacheView = Engine
 
 -- a cache made for a regex
-abbrev pub IsCacheOf : Engine → CacheView → Type 0
-IsCacheOf re c = c ≡ re
+pub record IsCacheOf (re : Engine) (c : CacheView) : Type 0 where
+  pub same : c ≡ re
 
 -- the search that an input asks a regex for
 abbrev pub search_by : Engine → InputState → Search
