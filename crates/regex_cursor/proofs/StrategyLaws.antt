@@ -1,5 +1,5 @@
 -- What is found in a span that is cut at the end of the match is what is found in the whole one.
-use Rattle.std.proofs.Common.{◌≡◌, ℕ, ◌≤◌, Bool, List, Option, Some, None, refl, sym, ap, ap₂, subst, ◌∙◌, arith}
+use Rattle.std.proofs.Common.{◌≡◌, ℕ, ◌≤◌, Bool, false, List, length, replicate, Option, Some, None, is_some, refl, sym, ap, ap₂, subst, ◌∙◌, arith}
 use Rattle.std.proofs.lemmas.Option.{same_Some}
 use Rattle.std.proofs.lemmas.List.{length-replicate}
 use Rattle.unicode.specs.Perl.{is_word_char}
@@ -21,7 +21,7 @@ use Rattle.rx_walks.specs.Laws.{FindsAtMostOne, FindsLieInside, FindsStayInCutSp
 use Rattle.rx_program.specs.Programs.{ByteProgram, characters_of}
 use Rattle.rx_steps.specs.Threads.{Slots}
 use Rattle.rx_steps.specs.Searching.{IsAnswer, anchoring_of, search_of}
-use Rattle.rx_chunk.specs.Engines.{Engine, Finds, IsFound}
+use Rattle.rx_chunk.specs.Engines.{Engine, Finds, IsFound, TellsMatch, TellsSlots, TellsWhether}
 use Rattle.rx_chunk.specs.Iterating.{ComesNext, EndsAhead, HasNotedNext, IsFoundNext}
 use Rattle.regex_cursor.specs.declared.engines.meta.strategy.Left.{Left}
 use Rattle.regex_cursor.specs.Strategies.{FindsUpTo, IsLeft}
@@ -90,6 +90,22 @@ module _ (p : ByteProgram) (s : Search) (end : ℕ) (cut : CutLaw) (one : OneLaw
   pub whole_found : (found : Option Found) → IsFound p (up_to_place s end) found → IsFound p s found
   whole_found found is = (is.0, whole_find is.0 is.1, is.2)
 
+  -- of an input whose span is cut there it is told what is told of the whole one
+  whole_whether : (is_there : Bool) → TellsWhether p (up_to_place s end) is_there → TellsWhether p s is_there
+  whole_whether is_there told = (told.0, whole_find told.0 told.1, told.2)
+
+  pub whole_match : (utf8_empty : Bool) (i k : InputState) (found : Option Found) → k.asked ≡ record i.asked { span = record i.asked.span { end = end } }
+      → search_of utf8_empty k ≡ up_to_place s end → TellsMatch k.asked.earliest p (search_of utf8_empty k) found → TellsMatch i.asked.earliest p s found
+  whole_match utf8_empty i k found asked search tells =
+      let told : TellsMatch i.asked.earliest p (up_to_place s end) found = subst (λ x. TellsMatch i.asked.earliest p x found) search (subst (λ (a : Asked). TellsMatch a.earliest p (search_of utf8_empty k) found) asked tells) in
+      record { whether = whole_whether (is_some found) told.whether; exact = λ e. whole_found found (told.exact e) }
+
+  pub whole_slots : (utf8_empty : Bool) (i k : InputState) (pattern : Option ℕ) (slots : Slots) → k.asked ≡ record i.asked { span = record i.asked.span { end = end } }
+      → search_of utf8_empty k ≡ up_to_place s end → TellsSlots k.asked.earliest p (search_of utf8_empty k) pattern slots → TellsSlots i.asked.earliest p s pattern slots
+  whole_slots utf8_empty i k pattern slots asked search tells =
+      let told : TellsSlots i.asked.earliest p (up_to_place s end) pattern slots = subst (λ x. TellsSlots i.asked.earliest p x pattern slots) search (subst (λ (a : Asked). TellsSlots a.earliest p (search_of utf8_empty k) pattern slots) asked tells) in
+      record { whether = whole_whether (is_some pattern) told.whether; exact = λ e. whole_answer pattern slots (told.exact e) }
+
   -- what comes next, where the last match didn't end there
   module _ (last : Option ℕ) (apart : last ≡ Some end → ⊥) where
     whole_next : {out : Option (Outcome Notes)} → ComesNext p (up_to_place s end) last out → ComesNext p s last out
@@ -129,3 +145,15 @@ whole_ahead p s end last at inside up ahead = record {
 -- of a cache that was made for a regex the automaton told what is left of a search for that
 pub told_of : (re made_for : Engine) (i : InputState) (left : Left) → made_for ≡ re → IsLeft made_for.program (search_of made_for.utf8_empty i) left → IsLeft re.program (search_of re.utf8_empty i) left
 told_of re made_for i left made told = subst (λ (e : Engine). IsLeft e.program (search_of e.utf8_empty i) left) made told
+
+-- nothing is found
+none_there : (p : ByteProgram) (s : Search) → Finds p s None → TellsWhether p s false
+none_there p s finds = (None, finds, (λ e. e, λ e. e))
+
+pub no_match_told : (p : ByteProgram) (s : Search) (earliest : Bool) → Finds p s None → TellsMatch earliest p s None
+no_match_told p s earliest finds = record { whether = none_there p s finds; exact = λ e. (None, finds, refl) }
+
+pub no_slots_told : (p : ByteProgram) (s : Search) (earliest : Bool) (slots : Slots) (n : ℕ) → Finds p s None → slots ≡ replicate n None → TellsSlots earliest p s None slots
+no_slots_told p s earliest slots n finds is =
+    let len : length slots ≡ n = ap (λ xs. length xs) is ∙ length-replicate n None in
+    record { whether = none_there p s finds; exact = λ e. record { found = None; finds = finds; pattern_is = refl; slots_are = is ∙ ap (λ k. replicate k None) (sym len) } }

@@ -1,5 +1,5 @@
 -- A regex: of what it was built, and what its searches tell.
-use Rattle.std.specs.Prelude.{◌≡◌, ℕ, ◌≤◌, false, List, length, Option, Some, is_some}
+use Rattle.std.specs.Prelude.{◌≡◌, ℕ, ◌≤◌, List, length, Option, Some}
 use Rattle.std.specs.Option.{ForSome}
 use Rattle.rx_util.specs.Search.{Found}
 use Rattle.rx_util.specs.Captured.{Captured, group_span, match_found}
@@ -15,9 +15,10 @@ use Rattle.rx_walks.specs.Programs.{Notes}
 use Rattle.rx_walks.specs.ProgramFinds.{ProgramMatches}
 use Rattle.rx_program.specs.Programs.{characters_of}
 use Rattle.rx_program.specs.declared.error.BuildError.{BuildError}
-use Rattle.rx_steps.specs.Searching.{search_of, IsAnswer}
+use Rattle.rx_steps.specs.Searching.{search_of}
 -- a regex is seen as an engine is
 pub use Rattle.rx_chunk.specs.Engines.{Engine, Wanted, IsFound, TellsWhether}
+use Rattle.rx_chunk.specs.Engines as engines
 use Rattle.rx_chunk.specs.Engines.{IsBuiltOf, IsEngine, IsRefused, nothing_set}
 
 -- its program and its groups are those of one tree
@@ -44,8 +45,8 @@ abbrev pub CacheView : Type 0
 CacheView = Engine
 
 -- a cache made for a regex
-abbrev pub IsCacheOf : Engine → CacheView → Type 0
-IsCacheOf re c = c ≡ re
+pub record IsCacheOf (re : Engine) (c : CacheView) : Type 0 where
+  pub same : c ≡ re
 
 -- the search that an input asks a regex for
 abbrev pub search_by : Engine → InputState → Search
@@ -56,15 +57,13 @@ abbrev pub RegexMatches : Engine → Search → List (Outcome Notes) → Type 0
 RegexMatches re s ms = ProgramMatches is_in is_word_char (characters_of re.program) s ms
 
 -- a search tells whether there is a match; and which one it is, unless any will do
-pub record TellsMatch (re : Engine) (i : InputState) (found : Option Found) : Type 0 where
-  pub whether : TellsWhether re.program (search_by re i) (is_some found)
-  pub exact : i.asked.earliest ≡ false → IsFound re.program (search_by re i) found
+abbrev pub TellsMatch : Engine → InputState → Option Found → Type 0
+TellsMatch re i found = engines.TellsMatch i.asked.earliest re.program (search_by re i) found
 
 -- the same of the pattern and of the places that are noted in slots
-pub record TellsSlots (re : Engine) (i : InputState) (pattern : Option ℕ) (slots : List (Option ℕ))
-    : Type 0 where
-  pub whether : TellsWhether re.program (search_by re i) (is_some pattern)
-  pub exact : i.asked.earliest ≡ false → IsAnswer re.program (search_by re i) pattern slots
+abbrev pub TellsSlots : Engine → InputState → Option ℕ → List (Option ℕ) → Type 0
+TellsSlots re i pattern slots =
+    engines.TellsSlots i.asked.earliest re.program (search_by re i) pattern slots
 
 -- captures of the regex's groups with slots for the whole match
 abbrev pub HoldsMatches : Engine → Captured → Type 0

@@ -9,7 +9,6 @@ use Rattle.rx_util.specs.Captured.{Captured, nothing_noted}
 use Rattle.rx_util.specs.Lending.{with_slots}
 use Rattle.rx_grammar.specs.declared.error.SyntaxError.{SyntaxError}
 use Rattle.rx_grammar.specs.declared.error.SyntaxError.TheVariants as syntax
-use Rattle.rx_grammar.specs.Settings.{Settings}
 use Rattle.rx_grammar.specs.Trees.{Tree}
 use Rattle.rx_grammar.specs.Subtrees.{IsWellFormed}
 use Rattle.rx_grammar.specs.Grammar.{Spells, IsTooDeep, NeverSpells}
@@ -24,7 +23,7 @@ use Rattle.rx_program.specs.Programs.{ByteProgram, characters_of}
 use Rattle.rx_program.specs.Sizes.{IsTooLarge, told_limit, weight_of_all}
 use Rattle.rx_steps.specs.Threads.{Slots}
 use Rattle.rx_steps.specs.Searching.{IsAnswer}
-use Rattle.rx_chunk.specs.Engines.{Engine, EngineSettings, Wanted, size_limit_of, AreGroupsOf, IsOfTree, IsEngine, IsBuiltOf, IsRefused, too_long, nesting, outside, too_large, memory, refusal_of, match_of, TellsWhether, IsFound}
+use Rattle.rx_chunk.specs.Engines.{Engine, Wanted, size_limit_of, AreGroupsOf, IsOfTree, IsEngine, IsBuiltOf, IsRefused, too_long, nesting, outside, too_large, memory, refusal_of, match_of, TellsWhether, IsFound}
 
 -- ---- what is built
 
@@ -61,6 +60,14 @@ refused_tree text wanted tree error limit set spells large (inr is) = subst (λ 
 pub if_ok : {A E : Type 0} {P Q : A → Type 0} (r : Result A E) → ((x : A) → P x → Q x) → IfOk r P → IfOk r Q
 if_ok (Ok x) f h = f x h
 if_ok (Err e) f h = h
+
+pub if_both : {A E : Type 0} {P Q R : A → Type 0} (r : Result A E) → ((x : A) → P x → Q x → R x) → IfOk r P → IfOk r Q → IfOk r R
+if_both (Ok x) f h k = f x h k
+if_both (Err e) f h k = h
+
+pub on_both : {A E : Type 0} {P Q R : Type 0} (r : Result A E) → (P → Q → R) → OnOk r P → OnOk r Q → OnOk r R
+on_both (Ok x) f h k = f h k
+on_both (Err e) f h k = h
 
 pub on_ok : {A E : Type 0} {P Q : Type 0} (r : Result A E) → (P → Q) → OnOk r P → OnOk r Q
 on_ok (Ok x) f h = f h

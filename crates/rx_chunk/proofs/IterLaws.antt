@@ -7,7 +7,6 @@ use Rattle.std.specs.Iterator.{size}
 use Rattle.unicode.specs.Perl.{is_word_char}
 use Rattle.rx_sets.specs.Sets.{Range}
 use Rattle.rx_utf8.specs.Automata.{is_in}
-use Rattle.rx_util.specs.declared.search.MatchError.{MatchError}
 use Rattle.rx_util.specs.Search.{Found}
 use Rattle.rx_input.specs.Cursors.{IsSameContent}
 use Rattle.rx_input.specs.Inputs.{InputState, Asked, HasSpan}
@@ -15,8 +14,8 @@ use Rattle.rx_walks.specs.Looks as walks
 use Rattle.rx_walks.specs.Machines.{Outcome}
 use Rattle.rx_walks.specs.Programs.{Program, Notes}
 use Rattle.rx_walks.specs.Finds.{Search, from_place_on}
-use Rattle.rx_walks.specs.ProgramFinds.{start_of, end_of}
-use Rattle.rx_walks.specs.Iterating.{FindsNext, nothing, at_once, passed, GivesFound, GivesMatch}
+use Rattle.rx_walks.specs.ProgramFinds.{end_of}
+use Rattle.rx_walks.specs.Iterating.{FindsNext, nothing, at_once, passed, GivesFound}
 use Rattle.rx_walks.specs.Laws.{FindsLieInside, LiesInside}
 use Rattle.rx_program.specs.Programs.{ByteProgram, characters_of}
 use Rattle.std.specs.Option.{ForSome}

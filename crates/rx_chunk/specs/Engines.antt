@@ -1,5 +1,5 @@
 -- What a PikeVM is, and of what it was built.
-use Rattle.std.specs.Prelude.{◌≡◌, ◌↔◌, ◌<◌, ◌≤◌, ℕ, ◌+◌, Bool, true, IsTrue, IsSome, List, [], ◌∷◌, length, Option, Some, None, option_map, slice_get, unwrap_or}
+use Rattle.std.specs.Prelude.{◌≡◌, ◌↔◌, ◌<◌, ◌≤◌, ℕ, ◌+◌, Bool, true, false, is_some, IsTrue, IsSome, List, [], ◌∷◌, length, Option, Some, None, option_map, slice_get, unwrap_or}
 use Rattle.std.specs.Option.{option_or}
 use Rattle.std.specs.Str.{chars}
 use Rattle.unicode.specs.Perl.{is_word_char}
@@ -14,7 +14,7 @@ use Rattle.rx_grammar.specs.Settings.{Settings, default_settings}
 use Rattle.rx_grammar.specs.Grammar.{Spells, IsTooDeep, NeverSpells}
 use Rattle.rx_walks.specs.Machines.{Outcome}
 use Rattle.rx_walks.specs.Programs.{Notes}
-use Rattle.rx_walks.specs.Finds.{Search}
+use Rattle.rx_walks.specs.Finds.{Search, up_to_place}
 use Rattle.rx_walks.specs.ProgramFinds.{ProgramFinds, start_of, end_of}
 use Rattle.rx_utf8.specs.Automata.{is_in}
 use Rattle.rx_program.specs.declared.error.BuildError.{BuildError}
@@ -22,6 +22,8 @@ use Rattle.rx_program.specs.declared.error.BuildError.TheVariants as build
 use Rattle.rx_program.specs.Code.{program_of}
 use Rattle.rx_program.specs.Programs.{ByteProgram, characters_of}
 use Rattle.rx_program.specs.Sizes.{IsTooLarge, told_limit, weight_of_all}
+use Rattle.rx_steps.specs.Searching.{IsAnswer, IsFirstEnd}
+use Rattle.rx_steps.specs.Standing.{WalkStands}
 
 -- a program, the groups that it notes, and whether it passes over empty matches inside a character
 pub record Engine : Type 0 where
@@ -134,3 +136,28 @@ TellsWhether p s is_there =
 abbrev pub IsFound : ByteProgram → Search → Option Found → Type 0
 IsFound p s found =
     (out : Option (Outcome Notes)) × Finds p s out × (found ≡ option_map match_of out)
+
+-- a search tells whether there is a match; and which one it is, unless any will do
+pub record TellsMatch (earliest : Bool) (p : ByteProgram) (s : Search) (found : Option Found)
+    : Type 0 where
+  pub whether : TellsWhether p s (is_some found)
+  pub exact : earliest ≡ false → IsFound p s found
+
+-- the same of the pattern and of the places that are noted in slots
+pub record TellsSlots (earliest : Bool) (p : ByteProgram) (s : Search) (pattern : Option ℕ)
+    (slots : List (Option ℕ)) : Type 0 where
+  pub whether : TellsWhether p s (is_some pattern)
+  pub exact : earliest ≡ false → IsAnswer p s pattern slots
+
+-- a search that found a match goes no further than this place: a walk stands there; and if any
+-- match will do, it is the first end of one
+pub record StopsAt (earliest : Bool) (p : ByteProgram) (s : Search) (i : ℕ) : Type 0 where
+  pub stands : WalkStands p s i
+  pub first_end : earliest ≡ true → IsFirstEnd p s i
+
+-- what is found by a search that stands at a place then: the match; or, if any match will do and
+-- there is one, the match that is found up to this place, which is the first end of one
+abbrev pub IsFoundAt : Bool → ByteProgram → Search → ℕ → Option Found → Type 0
+IsFoundAt false p s i found = IsFound p s found
+IsFoundAt true p s i None = IsFound p s None
+IsFoundAt true p s i (Some m) = IsFirstEnd p s i × IsFound p (up_to_place s i) (Some m)

@@ -1,5 +1,5 @@
 -- What comes next in an input, and what an iterator over the matches of a program gives.
-use Rattle.std.specs.Prelude.{◌≡◌, ℕ, ◌-◌, ◌<◌, ◌≤◌, ◌==◌, Bool, false, true, List, length, Option, Some, None, option_map, Result, IfSome, IfErr}
+use Rattle.std.specs.Prelude.{◌≡◌, ℕ, ◌-◌, ◌<◌, ◌≤◌, ◌==◌, Bool, false, true, length, Option, Some, None, option_map, Result, IfSome, IfErr}
 use Rattle.std.specs.Iterator.{Count, at_most, size}
 use Rattle.unicode.specs.Perl.{is_word_char}
 use Rattle.rx_util.specs.declared.search.MatchError.{MatchError}

@@ -1,6 +1,6 @@
 //! The engine that follows all walks through a program side by side.
 
-ghost use Rattle.std.specs.Prelude.{◌≡◌, ℕ, ◌+◌, ◌*◌, ◌<◌, ◌≤◌, IfOk, IfErr, OnOk, OnErr, None, Some, MatchOption, [], length, option_map, replicate, set, vec_len, unwrap_or, true, false};
+ghost use Rattle.std.specs.Prelude.{◌≡◌, ℕ, ◌+◌, ◌*◌, ◌<◌, ◌≤◌, IfOk, IfErr, IsTrue, OnOk, OnErr, None, Some, MatchOption, [], length, option_map, replicate, set, vec_len, unwrap_or, true, false};
 ghost use Rattle.std.specs.Option.{ForSome};
 ghost use Rattle.std.specs.Str.{chars};
 ghost use Rattle.rx_util.specs.declared.search.MatchError.{MatchError};
@@ -14,9 +14,11 @@ ghost use Rattle.rx_grammar.specs.Nodes.{kind_of};
 ghost use Rattle.rx_grammar.specs.Postorder.{own_names, tree_of};
 ghost use Rattle.rx_input.specs.Cursors.{IsSameContent};
 ghost use Rattle.rx_steps.specs.Nodes.{node_count};
-ghost use Rattle.rx_steps.specs.Searching.{search_of, IsAnswer};
+ghost use Rattle.rx_steps.specs.Searching.{search_of, IsAnswerAt, IsFirstEnd};
+ghost use Rattle.rx_steps.specs.Standing.{WalkStands};
+ghost use Rattle.rx_steps.specs.Threads.{no_slots};
 ghost use Rattle.rx_steps.specs.Caches.{place_count, IsCacheOf};
-ghost use Rattle.rx_chunk.specs.Engines.{EngineSettings, nothing_set, settings_over, size_limit_of, AreNamesOf, IsEngine, IsBuiltOf, IsRefused, TellsWhether, IsFound, refusal_of, by_default, AreGroupsOf};
+ghost use Rattle.rx_chunk.specs.Engines.{EngineSettings, nothing_set, settings_over, size_limit_of, AreNamesOf, IsEngine, IsBuiltOf, IsRefused, TellsMatch, TellsSlots, TellsWhether, IsFoundAt, StopsAt, refusal_of, by_default, AreGroupsOf};
 ghost use Rattle.rx_chunk.specs.Iterating.{EndsAhead, HasNotedNext, IsFoundNext, StartsFrom, matches_from};
 ghost use Rattle.rx_input.specs.Searchers.{EndsInside};
 ghost use Rattle.rx_chunk.specs.FindMatches.{cache_of, left_of, program_of};
@@ -28,7 +30,7 @@ use rx_program::{BuildError, Program, compile};
 use rx_sets::CharacterSet;
 use rx_steps as search;
 use rx_util::{Captures, GroupInfo, Match, MatchError, MatchKind, NonMaxUsize, PatternID, Span};
-use rx_walks::laws::finds_lie_inside;
+use rx_walks::laws::{cut_spans_tell, finds_lie_inside};
 use std::alloc::{AllocError, Global};
 use std::marker::Model;
 use std::rc::Rc;
@@ -457,10 +459,14 @@ impl Cache {
 }
 
 /// Searches: answers the pattern of the match that is found, and puts its places into the slots, as
-/// many as there are; all others hold none. Those of group k are 2k and 2k + 1. The cache must be
-/// one for the engine. The one refusal is `Memory`: what the slots then hold has no meaning. It
-/// follows each node of the program once at most at each place (`work`), which takes time in
-/// proportion to the program times the content times the slots.
+/// many as there are; all others hold none. Those of group k are 2k and 2k + 1. Where `earliest` of
+/// the input is set, it stops at the first end of a match, and tells whether there is one: what is
+/// in the slots is what is found up to there. The cache must be one for the engine. The one refusal
+/// is `Memory`: then no slot holds a place.
+///
+/// It stops where a match is found and no walk is left to follow. It follows each node of the
+/// program once at most at each place (`work`), which takes time in proportion to the program times
+/// the content times the slots.
 pub fn search_slots<C: Cursor>(
     vm: &PikeVM,
     cache: &mut Cache,
@@ -468,8 +474,14 @@ pub fn search_slots<C: Cursor>(
     slots: &mut [Option<NonMaxUsize>],
 ) -> Result<Option<PatternID>, MatchError>
     requires made { IsCacheOf vm.now.program cache.old }
-    ensures answer { IfOk result (λ pattern. IsAnswer vm.now.program
+    ensures answer { IfOk result (λ pattern. TellsSlots input.old.asked.earliest vm.now.program
         (search_of vm.now.utf8_empty input.old) pattern slots.new) }
+    ensures answer_at { IfOk result (λ pattern. IsAnswerAt input.old.asked.earliest vm.now.program
+        (search_of vm.now.utf8_empty input.old) input.new.position pattern slots.new) }
+    ensures stops { IfOk result (λ pattern. ForSome pattern (λ _. StopsAt
+        input.old.asked.earliest vm.now.program (search_of vm.now.utf8_empty input.old)
+        input.new.position)) }
+    ensures none { OnErr result (slots.new ≡ no_slots (length slots.new)) }
     ensures made { IsCacheOf vm.now.program cache.new }
     ensures work { cache.new.followed ≤ cache.old.followed
         + node_count vm.now.program * place_count (search_of vm.now.utf8_empty input.old) }
@@ -477,12 +489,40 @@ pub fn search_slots<C: Cursor>(
     ensures same { IsSameContent input.old.cursor input.new.cursor }
     ensures refused { IfErr result (λ error. error ≡ MatchError.Memory) }
 {
-    search::search_slots(&vm.program, &mut cache.room, input, vm.utf8_empty, slots)
+    // A law, for the proof alone.
+    cut_spans_tell::<CharacterSet>();
+    let earliest = input.get_earliest();
+    seek(vm, cache, input, earliest, slots)
+}
+
+/// Searches as `search_slots` does, with `earliest` as it is said here.
+fn seek<C: Cursor>(
+    vm: &PikeVM,
+    cache: &mut Cache,
+    input: &mut Input<C>,
+    earliest: bool,
+    slots: &mut [Option<NonMaxUsize>],
+) -> Result<Option<PatternID>, MatchError>
+    requires made { IsCacheOf vm.now.program cache.old }
+    ensures answer { IfOk result (λ pattern. IsAnswerAt earliest vm.now.program
+        (search_of vm.now.utf8_empty input.old) input.new.position pattern slots.new) }
+    ensures stands { IfOk result (λ pattern. ForSome pattern (λ _. WalkStands vm.now.program
+        (search_of vm.now.utf8_empty input.old) input.new.position)) }
+    ensures none { OnErr result (slots.new ≡ no_slots (length slots.new)) }
+    ensures made { IsCacheOf vm.now.program cache.new }
+    ensures work { cache.new.followed ≤ cache.old.followed
+        + node_count vm.now.program * place_count (search_of vm.now.utf8_empty input.old) }
+    ensures asked { input.new.asked ≡ input.old.asked }
+    ensures same { IsSameContent input.old.cursor input.new.cursor }
+    ensures refused { IfErr result (λ error. error ≡ MatchError.Memory) }
+{
+    let room = &mut cache.room;
+    search::search_slots(&vm.program, room, input, vm.utf8_empty, earliest, slots)
 }
 
 /// Searches, and notes what is found, as `search_slots` does. In captures that the engine made, or
 /// others of its groups with two slots and more, group 0 is then the whole match. The one refusal
-/// is `Memory`: then no pattern is noted.
+/// is `Memory`: then no pattern is noted, and no slot holds a place.
 pub fn search<C: Cursor>(
     vm: &PikeVM,
     cache: &mut Cache,
@@ -490,17 +530,22 @@ pub fn search<C: Cursor>(
     caps: &mut Captures,
 ) -> Result<(), MatchError>
     requires made { IsCacheOf vm.now.program cache.old }
-    ensures answer { OnOk result (IsAnswer vm.now.program
+    ensures answer { OnOk result (TellsSlots input.old.asked.earliest vm.now.program
         (search_of vm.now.utf8_empty input.old) caps.new.pattern caps.new.slots) }
     ensures found { OnOk result (caps.old.groups ≡ vm.now.groups → 2 ≤ length caps.old.slots
-        → IsFound vm.now.program (search_of vm.now.utf8_empty input.old) (match_found caps.new)) }
+        → TellsMatch input.old.asked.earliest vm.now.program
+        (search_of vm.now.utf8_empty input.old) (match_found caps.new)) }
     ensures ordered { OnOk result (caps.old.groups ≡ vm.now.groups → 2 ≤ length caps.old.slots
         → ForSome (group_span caps.new 0) (λ span. span.start ≤ span.end)) }
     ensures inside { OnOk result (caps.old.groups ≡ vm.now.groups → 2 ≤ length caps.old.slots
         → ForSome (match_found caps.new) (λ found. EndsInside input.old found.span.end)) }
+    ensures stops { OnOk result (ForSome caps.new.pattern (λ _. StopsAt
+        input.old.asked.earliest vm.now.program (search_of vm.now.utf8_empty input.old)
+        input.new.position)) }
     ensures groups { caps.new.groups ≡ caps.old.groups }
     ensures slot_len { length caps.new.slots ≡ length caps.old.slots }
     ensures no_answer { OnErr result (caps.new.pattern ≡ None) }
+    ensures none { OnErr result (caps.new.slots ≡ no_slots (length caps.new.slots)) }
     ensures made { IsCacheOf vm.now.program cache.new }
     ensures work { cache.new.followed ≤ cache.old.followed
         + node_count vm.now.program * place_count (search_of vm.now.utf8_empty input.old) }
@@ -511,16 +556,47 @@ pub fn search<C: Cursor>(
     // Laws, for the proof alone.
     matches_note_their_places();
     finds_lie_inside::<CharacterSet>();
+    cut_spans_tell::<CharacterSet>();
     let _groups = vm.group_info(); // tells that the program is that of a tree
     let _at = input.position(); // tells how long the content may be
+    let earliest = input.get_earliest();
+    note(vm, cache, input, earliest, caps)
+}
+
+/// Notes what is found, as `search` does, with `earliest` as it is said here.
+fn note<C: Cursor>(
+    vm: &PikeVM,
+    cache: &mut Cache,
+    input: &mut Input<C>,
+    earliest: bool,
+    caps: &mut Captures,
+) -> Result<(), MatchError>
+    requires made { IsCacheOf vm.now.program cache.old }
+    ensures answer { OnOk result (IsAnswerAt earliest vm.now.program
+        (search_of vm.now.utf8_empty input.old) input.new.position caps.new.pattern
+        caps.new.slots) }
+    ensures stands { OnOk result (ForSome caps.new.pattern (λ _. WalkStands vm.now.program
+        (search_of vm.now.utf8_empty input.old) input.new.position)) }
+    ensures groups { caps.new.groups ≡ caps.old.groups }
+    ensures slot_len { length caps.new.slots ≡ length caps.old.slots }
+    ensures no_answer { OnErr result (caps.new.pattern ≡ None) }
+    ensures none { OnErr result (caps.new.slots ≡ no_slots (length caps.new.slots)) }
+    ensures made { IsCacheOf vm.now.program cache.new }
+    ensures work { cache.new.followed ≤ cache.old.followed
+        + node_count vm.now.program * place_count (search_of vm.now.utf8_empty input.old) }
+    ensures asked { input.new.asked ≡ input.old.asked }
+    ensures same { IsSameContent input.old.cursor input.new.cursor }
+    ensures refused { IfErr result (λ error. error ≡ MatchError.Memory) }
+{
     caps.set_pattern(None);
-    let pattern = search_slots(vm, cache, input, caps.slots_mut())?;
+    let pattern = seek(vm, cache, input, earliest, caps.slots_mut())?;
     caps.set_pattern(pattern);
     Ok(())
 }
 
-/// Whether there is a match. The cache must be one for the engine. The one refusal is `Memory`. It
-/// takes time in proportion to the program times the content at most.
+/// Whether there is a match. It stops at the first end of one. The cache must be one for the
+/// engine. The one refusal is `Memory`. It takes time in proportion to the program times the
+/// content at most.
 pub fn is_match<C: Cursor>(
     vm: &PikeVM,
     cache: &mut Cache,
@@ -529,6 +605,8 @@ pub fn is_match<C: Cursor>(
     requires made { IsCacheOf vm.now.program cache.old }
     ensures answer { IfOk result (λ yes. TellsWhether vm.now.program
         (search_of vm.now.utf8_empty input.old) yes) }
+    ensures stops { IfOk result (λ yes. IsTrue yes → IsFirstEnd vm.now.program
+        (search_of vm.now.utf8_empty input.old) input.new.position) }
     ensures made { IsCacheOf vm.now.program cache.new }
     ensures work { cache.new.followed ≤ cache.old.followed
         + node_count vm.now.program * place_count (search_of vm.now.utf8_empty input.old) }
@@ -536,7 +614,9 @@ pub fn is_match<C: Cursor>(
     ensures same { IsSameContent input.old.cursor input.new.cursor }
     ensures refused { IfErr result (λ error. error ≡ MatchError.Memory) }
 {
-    let pattern = search_slots(vm, cache, input, &mut [])?;
+    // A law, for the proof alone.
+    cut_spans_tell::<CharacterSet>();
+    let pattern = seek(vm, cache, input, true, &mut [])?;
     Ok(pattern.is_some())
 }
 
@@ -570,8 +650,33 @@ pub fn find<C: Cursor>(
     input: &mut Input<C>,
 ) -> Result<Option<Match>, MatchError>
     requires made { IsCacheOf vm.now.program cache.old }
-    ensures answer { IfOk result (λ found. IsFound vm.now.program
+    ensures answer { IfOk result (λ found. TellsMatch input.old.asked.earliest vm.now.program
         (search_of vm.now.utf8_empty input.old) found) }
+    ensures stops { IfOk result (λ found. ForSome found (λ _. StopsAt input.old.asked.earliest
+        vm.now.program (search_of vm.now.utf8_empty input.old) input.new.position)) }
+    ensures made { IsCacheOf vm.now.program cache.new }
+    ensures asked { input.new.asked ≡ input.old.asked }
+    ensures same { IsSameContent input.old.cursor input.new.cursor }
+    ensures refused { IfErr result (λ error. error ≡ MatchError.Memory) }
+{
+    // A law, for the proof alone.
+    cut_spans_tell::<CharacterSet>();
+    let earliest = input.get_earliest();
+    look_for(vm, cache, input, earliest)
+}
+
+/// The match that is found, as `find` answers it, with `earliest` as it is said here.
+fn look_for<C: Cursor>(
+    vm: &PikeVM,
+    cache: &mut Cache,
+    input: &mut Input<C>,
+    earliest: bool,
+) -> Result<Option<Match>, MatchError>
+    requires made { IsCacheOf vm.now.program cache.old }
+    ensures answer { IfOk result (λ found. IsFoundAt earliest vm.now.program
+        (search_of vm.now.utf8_empty input.old) input.new.position found) }
+    ensures stands { IfOk result (λ found. ForSome found (λ _. WalkStands vm.now.program
+        (search_of vm.now.utf8_empty input.old) input.new.position)) }
     ensures made { IsCacheOf vm.now.program cache.new }
     ensures asked { input.new.asked ≡ input.old.asked }
     ensures same { IsSameContent input.old.cursor input.new.cursor }
@@ -582,7 +687,7 @@ pub fn find<C: Cursor>(
     finds_lie_inside::<CharacterSet>();
     let _groups = vm.group_info(); // tells that the program is that of a tree
     let mut slots = [None; 2];
-    let found = search_slots(vm, cache, input, &mut slots)?;
+    let found = seek(vm, cache, input, earliest, &mut slots)?;
     let Some(pattern) = found else {
         return Ok(None);
     };
@@ -601,7 +706,7 @@ fn is_empty_at_last(found: &Match, last_match_end: Option<usize>) -> bool
 
 /// The match that comes next where the last one, if there was one, ended at `last_match_end`: an
 /// empty match there is passed over, and the search goes on one byte further than the span starts.
-/// The one refusal is `Memory`.
+/// It is a whole match, also where `earliest` is set. The one refusal is `Memory`.
 pub fn find_next<C: Cursor>(
     vm: &PikeVM,
     cache: &mut Cache,
@@ -620,7 +725,7 @@ pub fn find_next<C: Cursor>(
     // A law, for the proof alone.
     finds_lie_inside::<CharacterSet>();
     let _at = input.position(); // tells how long the content may be
-    let Some(found) = find(vm, cache, input)? else {
+    let Some(found) = look_for(vm, cache, input, false)? else {
         return Ok(None);
     };
     if !is_empty_at_last(&found, last_match_end) {
@@ -628,7 +733,7 @@ pub fn find_next<C: Cursor>(
     }
     let start = input.start();
     input.set_start(start + 1);
-    find(vm, cache, input)
+    look_for(vm, cache, input, false)
 }
 
 /// Notes the match that comes next, as `find_next` finds it, with all its groups, in captures of
@@ -662,7 +767,7 @@ pub fn search_next<C: Cursor>(
     finds_lie_inside::<CharacterSet>();
     let _groups = vm.group_info(); // tells that the program is that of a tree
     let _at = input.position(); // tells how long the content may be
-    search(vm, cache, input, caps)?;
+    note(vm, cache, input, false, caps)?;
     let Some(found) = caps.get_match() else {
         return Ok(());
     };
@@ -671,7 +776,7 @@ pub fn search_next<C: Cursor>(
     }
     let from = input.start();
     input.set_start(from + 1);
-    search(vm, cache, input, caps)
+    note(vm, cache, input, false, caps)
 }
 
 /// The matches in an input, one after the other. An empty match where the one before ended is

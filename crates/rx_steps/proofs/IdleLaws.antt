@@ -21,16 +21,17 @@ use Rattle.rx_walks.specs.ProgramFinds.{start_node, lowest, highest}
 use Rattle.rx_walks.specs.Laws.{Begins}
 use Rattle.rx_walks.specs.Steps.{Steps, done, passed, met, opened, read}
 use Rattle.rx_input.specs.Cursors.{CursorState, piece_of}
+use Rattle.rx_input.specs.Inputs.{HoldsPlace}
 use Rattle.rx_steps.specs.declared.place.Looks.{Looks}
 use Rattle.rx_steps.specs.declared.place.Place.{Place}
-use Rattle.rx_steps.specs.Threads.{Slots, Thread, ThreadListView, IsThreadOf, first_node, no_slots}
+use Rattle.rx_steps.specs.Threads.{Slots, Thread, IsThreadOf, first_node, no_slots}
 use Rattle.rx_steps.specs.Lists.{Asks, is_among, IsPlace, IsNextList, MakesMoves, met_at, move_at, read_next, slot_machine}
 use Rattle.rx_steps.specs.Searching.{haystack_in}
-use Rattle.rx_steps.specs.Coming.{machine_in, IsUnderWay}
+use Rattle.rx_steps.specs.Coming.{machine_in, HasStarted, IsUnderWay}
 use Rattle.rx_steps.specs.Idle.{Knows, IsPassed, IsPassedAt, IsIdle, AreIdle}
 use Rattle.rx_steps.proofs.PlaceLaws.{moves_at_place}
 use Rattle.rx_steps.proofs.MadeLaws.{step_is_made}
-use Rattle.rx_steps.proofs.ByteLaws.{below_or_not, within_is, next_byte_is}
+use Rattle.rx_steps.proofs.ByteLaws.{below_or_not, within_is, next_byte_is, piece_byte}
 use Rattle.rx_steps.proofs.WayLaws.{way_passed}
 
 -- ---- the set
@@ -47,6 +48,18 @@ one_more_passed idle utf8_empty bytes n b so_far is one k lt = elim (below_or_no
   | inl less ↦ so_far k less
   | inr le ↦ (b, ap (λ j. slice_get bytes j) (omega (arith, le, lt)) ∙ is, one)
 ]
+
+-- none more is, where this byte isn't, and behind the last one
+pub no_more_passed : (idle : List Bool) (utf8_empty : Bool) (bytes : List ℕ) (n b : ℕ) → slice_get bytes n ≡ Some b → (IsPassed idle utf8_empty b → ⊥) → IsPassedAt idle utf8_empty bytes n → ⊥
+no_more_passed idle utf8_empty bytes n b is never (c, there, one) =
+    let same : c ≡ b = the_byte (sym there ∙ is) in
+    never (subst (λ x. IsPassed idle utf8_empty x) same one)
+  where
+    the_byte : {x y : ℕ} → Some x ≡ Some y → x ≡ y
+    the_byte e = cc e
+
+pub none_behind : (idle : List Bool) (utf8_empty : Bool) (bytes : List ℕ) (n : ℕ) → length bytes ≤ n → IsPassedAt idle utf8_empty bytes n → ⊥
+none_behind idle utf8_empty bytes n le (b, is, one) = let inside = slice_get_within bytes n b is in absurd (omega (arith, inside, le))
 
 -- what is said of the bytes of a part is so in the whole
 passed_in_part : (idle : List Bool) (utf8_empty : Bool) (bytes : List ℕ) (pos few k : ℕ) → IsPassedAt idle utf8_empty (take few (drop pos bytes)) k → IsPassedAt idle utf8_empty bytes (pos + k)
@@ -68,6 +81,29 @@ passed_in_piece idle utf8_empty c i pos piece few n k is at from to each =
     let there : IsPassedAt idle utf8_empty piece (pos + j) = passed_in_part idle utf8_empty piece pos (length piece - pos) j here in
     let far : IsPassedAt idle utf8_empty c.content (c.start + (pos + j)) = passed_in_part idle utf8_empty c.content c.start (c.end - c.start) (pos + j) (subst (λ xs. IsPassedAt idle utf8_empty xs (pos + j)) is there) in
     subst (λ x. IsPassedAt idle utf8_empty c.content x) (omega (arith, at, from)) far
+
+first_left : (piece : List ℕ) (pos few b : ℕ) → 0 < few → slice_get piece pos ≡ Some b → slice_get (take few (take (length piece - pos) (drop pos piece))) 0 ≡ Some b
+first_left [] pos few b some e = absurd (cc e)
+first_left (x ∷ piece) zero zero b some e = absurd (omega (arith, some))
+first_left (x ∷ piece) zero (suc few) b some e =
+    let all : length (x ∷ piece) - 0 ≡ suc (length piece) = omega arith in
+    ap (λ n. slice_get (take (suc few) (take n (x ∷ piece))) 0) all ∙ e
+first_left (x ∷ piece) (suc pos) few b some e =
+    let less : length (x ∷ piece) - suc pos ≡ length piece - pos = omega arith in
+    ap (λ n. slice_get (take few (take n (drop pos piece))) 0) less ∙ first_left piece pos few b some e
+
+-- and it is there
+pub some_left : (idle : List Bool) (utf8_empty : Bool) (c : CursorState) (i pos : ℕ) (piece : List ℕ) → piece ≡ piece_of c → c.start + pos ≡ i → HoldsPlace c i → IsPassedAt idle utf8_empty c.content i
+    → 0 < length (take (length piece - pos) (drop pos piece))
+some_left idle utf8_empty c i pos piece is at holds (b, here, one) =
+    let inside = slice_get_within piece pos b (ap (λ xs. slice_get xs pos) is ∙ piece_byte c i pos holds at ∙ here) in
+    omega (arith, inside, length-take (length piece - pos) (drop pos piece), length-drop pos piece)
+
+-- a byte of the content that is passed over stands first in what is left of the piece
+pub passed_first : (idle : List Bool) (utf8_empty : Bool) (c : CursorState) (i pos : ℕ) (piece : List ℕ) (few : ℕ) → piece ≡ piece_of c → c.start + pos ≡ i → HoldsPlace c i → 0 < few → IsPassedAt idle utf8_empty c.content i
+    → IsPassedAt idle utf8_empty (take few (take (length piece - pos) (drop pos piece))) 0
+passed_first idle utf8_empty c i pos piece few is at holds some (b, here, one) =
+    (b, first_left piece pos few b some (ap (λ xs. slice_get xs pos) is ∙ piece_byte c i pos holds at ∙ here), one)
 
 pub passed_joined : (idle : List Bool) (utf8_empty : Bool) (content : List ℕ) (first i j : ℕ) → ((k : ℕ) → first ≤ k → k < i → IsPassedAt idle utf8_empty content k)
     → ((k : ℕ) → i ≤ k → k < j → IsPassedAt idle utf8_empty content k) → (k : ℕ) → first ≤ k → k < j → IsPassedAt idle utf8_empty content k
@@ -295,17 +331,19 @@ idle_step p h i b slots idle inside left =
     no_end None e = refl
     no_end (Some t) e = absurd (cc e)
 
--- one place
-one_skipped : (p : ByteProgram) (s : Search) (idle : List Bool) (i : ℕ) (slots : Slots) → s.anchoring ≡ unanchored → IsInside s i → i < highest s → AreIdle p idle → IsPassedAt idle s.utf8_empty s.content i
-    → IsUnderWay p s p.start i [] None slots → IsUnderWay p s p.start (i + 1) [] None slots
-one_skipped p s idle i slots free inside lt are (b, is, one) way = elim (begins_or_not s i free inside) [
-  | inl begins ↦ way_passed p s p.start i live ((fresh, (p.start, 0)) ∷ []) [] None slots None slots inside refl (inl (refl, begins, refl)) (steps begins one) (All-nil (IsThreadOf p.states)) way
-  | inr never ↦ way_passed p s p.start i live [] [] None slots None slots inside refl (inr (λ none. never, refl)) done (All-nil (IsThreadOf p.states)) way
+-- the step at a place that is passed over, with a walk that starts there or without one
+pub record SkippedStep (p : ByteProgram) (s : Search) (i : ℕ) (slots : Slots) : Type 0 where
+  pub threads : List Thread
+  pub started : HasStarted s p.start i None (record { slot_len = length slots; threads = [] }) threads
+  pub steps : Steps (machine_in p s) i [] threads [] None
+
+pub skipped_step : (p : ByteProgram) (s : Search) (idle : List Bool) (i : ℕ) (slots : Slots) → s.anchoring ≡ unanchored → IsInside s i → i < highest s → AreIdle p idle → IsPassedAt idle s.utf8_empty s.content i
+    → SkippedStep p s i slots
+skipped_step p s idle i slots free inside lt are (b, is, one) = elim (begins_or_not s i free inside) [
+  | inl begins ↦ record { threads = (fresh, (p.start, 0)) ∷ []; started = inl (refl, begins, refl); steps = steps begins one }
+  | inr never ↦ record { threads = []; started = inr (λ none. never, refl); steps = done }
 ]
   where
-    live : ThreadListView
-    live = record { slot_len = length slots; threads = [] }
-
     fresh : Slots
     fresh = no_slots (length slots)
 
@@ -323,6 +361,13 @@ one_skipped p s idle i slots free inside lt are (b, is, one) way = elim (begins_
         let byte : slice_index s.content i ≡ b = get_or_from_slice_get s.content i b 0 is in
         let lead = cut.1 before (omega (arith, byte, high)) in
         absurd (omega (arith, byte, low, lead))
+
+-- one place
+one_skipped : (p : ByteProgram) (s : Search) (idle : List Bool) (i : ℕ) (slots : Slots) → s.anchoring ≡ unanchored → IsInside s i → i < highest s → AreIdle p idle → IsPassedAt idle s.utf8_empty s.content i
+    → IsUnderWay p s p.start i [] None slots → IsUnderWay p s p.start (i + 1) [] None slots
+one_skipped p s idle i slots free inside lt are passed_over way =
+    let one = skipped_step p s idle i slots free inside lt are passed_over in
+    way_passed p s p.start i (record { slot_len = length slots; threads = [] }) one.threads [] None slots None slots inside refl one.started one.steps (All-nil (IsThreadOf p.states)) way
 
 -- so many places
 many_skipped : (p : ByteProgram) (s : Search) (idle : List Bool) (n i : ℕ) (slots : Slots) → s.anchoring ≡ unanchored → AreIdle p idle → lowest s ≤ i → i + n ≤ highest s

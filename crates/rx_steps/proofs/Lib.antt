@@ -9,6 +9,7 @@ pub mod SeenLaws
 pub mod ByteLaws
 pub mod SlotLaws
 pub mod ComeLaws
+pub mod StandLaws
 pub mod WayLaws
 pub mod AnswerLaws
 pub mod OverLaws
@@ -16,5 +17,7 @@ pub mod WorkLaws
 pub mod IdleLaws
 pub mod MadeLaws
 pub mod AlikeLaws
+pub mod UnreadLaws
 pub mod ThinLaws
 pub mod AskedLaws
+pub mod PartLaws

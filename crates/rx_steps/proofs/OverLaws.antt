@@ -1,18 +1,25 @@
 -- Where a search begins, and where it is over.
-use Rattle.std.proofs.Common.{◌≡◌, ℕ, ◌+◌, ◌-◌, ◌≤◌, ◌<◌, Bool, All, IsTrue, List, [], length, max, Option, Some, None, sym, ap₂, subst, arith}
+use Rattle.std.proofs.Common.{inl, inr, ◌≡◌, ◌⊎◌, ℕ, ◌+◌, ◌-◌, ◌≤◌, ◌<◌, Bool, true, false, All, IsTrue, List, [], length, max, Option, Some, None, option_map, refl, sym, ap₂, subst, arith}
+use Rattle.std.specs.Option.{ForSome}
+use Rattle.unicode.specs.Perl.{is_word_char}
+use Rattle.rx_utf8.specs.Automata.{is_in}
+use Rattle.rx_walks.specs.Machines.{Outcome}
+use Rattle.rx_walks.specs.Programs.{Notes}
 use Rattle.std.proofs.lemmas.List.Elements.{All-nil}
-use Rattle.rx_walks.specs.Finds.{Search, IsInside, is_anchored}
-use Rattle.rx_walks.specs.ProgramFinds.{start_node, highest}
+use Rattle.rx_walks.specs.Finds.{Search, up_to_place, IsInside, is_anchored}
+use Rattle.rx_walks.specs.ProgramFinds.{ProgramFinds, start_node, lowest, highest}
 use Rattle.rx_walks.specs.Laws.{Begins}
 use Rattle.rx_input.specs.Inputs.{InputState, Asked}
 use Rattle.rx_program.specs.Programs.{ByteProgram, IsByteProgram, characters_of}
 use Rattle.rx_steps.specs.Threads.{Slots, Thread, IsThreadOf, no_slots}
 use Rattle.rx_steps.specs.Lists.{met_at}
-use Rattle.rx_steps.specs.Searching.{search_of, anchoring_of, IsAnswer}
-use Rattle.rx_steps.specs.Coming.{HasSlots, machine_in, HasCome, IsUnderWay, IsOver}
+use Rattle.rx_steps.specs.Searching.{search_of, anchoring_of, IsAnswer, IsAnswerAt}
+use Rattle.rx_steps.specs.Standing.{IsReached, WalkStands}
+use Rattle.rx_steps.specs.Coming.{HasSlots, machine_in, HasCome, IsUnderWay, IsOver, IsOverAt, HasMetNone}
 use Rattle.rx_steps.proofs.ComeLaws.{begun, skipped_all, is_over}
 use Rattle.rx_steps.proofs.WayLaws.{no_pattern}
-use Rattle.rx_steps.proofs.AnswerLaws.{KeepingLaw, over_is_answer}
+use Rattle.rx_steps.proofs.AnswerLaws.{KeepingLaw, none_inside, over_is_answer}
+use Rattle.rx_steps.proofs.ByteLaws.{below_or_not}
 
 abbrev search_by : Bool → List ℕ → Asked → Search
 search_by utf8_empty content asked = record {
@@ -45,6 +52,7 @@ way_begun p s q i live slots first none empty =
       nodes = subst (λ xs. All (IsThreadOf p.states) xs) (sym none) (All-nil (IsThreadOf p.states));
       slot_lens = subst (λ xs. All (HasSlots (length slots)) xs) (sym none) (All-nil (HasSlots (length slots)));
       past_end = λ past. none;
+      reached = subst (λ xs. All (IsReached m s q i) xs) (sym none) (All-nil (IsReached m s q i));
     }
 
 over_by : (p : ByteProgram) (s : Search) (q i : ℕ) (live : List Thread) (pattern : Option ℕ) (slots : Slots) → live ≡ [] → (pattern ≡ None → (j : ℕ) → i ≤ j → Begins s j → ⊥)
@@ -77,3 +85,51 @@ pub over_answers : (p : ByteProgram) (s other : Search) (q : ℕ) (pattern : Opt
 over_answers p s other q pattern slots same reads law starts way =
     let is : IsOver p s q pattern slots = subst (λ x. IsOver p x q pattern slots) same way in
     over_is_answer p s q is.end pattern slots reads law starts is.searches is.none_met
+
+-- ---- at the first end of a match
+
+-- where no pattern is answered nothing is found
+nothing_found : (p : ByteProgram) (s : Search) (slots : Slots) → IsAnswer p s None slots → ProgramFinds is_in is_word_char (characters_of p) s None
+nothing_found p s slots answer = by answer.found answer.finds answer.pattern_is
+  where
+    by : (found : Option (Outcome Notes)) → ProgramFinds is_in is_word_char (characters_of p) s found → None ≡ option_map (λ t. t.pattern) found → ProgramFinds is_in is_word_char (characters_of p) s None
+    by None finds e = finds
+    by (Some t) finds e = absurd (cc e)
+
+-- and where one is something is
+something_found : (p : ByteProgram) (s : Search) (k : ℕ) (slots : Slots) → IsAnswer p s (Some k) slots → (t : Outcome Notes) × ProgramFinds is_in is_word_char (characters_of p) s (Some t)
+something_found p s k slots answer = by answer.found answer.finds answer.pattern_is
+  where
+    by : (found : Option (Outcome Notes)) → ProgramFinds is_in is_word_char (characters_of p) s found → Some k ≡ option_map (λ t. t.pattern) found → (t : Outcome Notes) × ProgramFinds is_in is_word_char (characters_of p) s (Some t)
+    by None finds e = absurd (cc e)
+    by (Some t) finds e = (t, finds)
+
+-- nothing is answered, whether any match will do or not
+pub none_at : (earliest : Bool) (p : ByteProgram) (s : Search) (end : ℕ) (slots : Slots) → IsAnswer p s None slots → IsAnswerAt earliest p s end None slots
+none_at false p s end slots answer = answer
+none_at true p s end slots answer = answer
+
+module _ (p : ByteProgram) (s : Search) (q : ℕ) (reads : IsByteProgram p) (law : KeepingLaw) (starts : start_node (characters_of p) s.anchoring ≡ Some q) where
+  part_answers : (i : ℕ) (pattern : Option ℕ) (slots : Slots) → IsOver p (up_to_place s i) q pattern slots → IsAnswer p (up_to_place s i) pattern slots
+  part_answers i pattern slots way = over_answers p (up_to_place s i) (up_to_place s i) q pattern slots refl reads law starts way
+
+  nothing_before : (first i : ℕ) → first ≡ lowest s → HasMetNone p s q first i → (j : ℕ) → j < i → ProgramFinds is_in is_word_char (characters_of p) (up_to_place s j) None
+  nothing_before first i is before j to = elim (below_or_not j first) [
+    | inl outside ↦ nothing_found p (up_to_place s j) [] (none_inside p (up_to_place s j) q [] reads law starts (λ k inside. omega (arith, is, outside, inside.0, inside.2, inside.3)) refl)
+    | inr from ↦ let there = before j from to in nothing_found p (up_to_place s j) there.0 (part_answers j None there.0 there.1)
+  ]
+
+  -- what a search that is over at a place answers
+  pub over_at_answers : (earliest : Bool) (first i : ℕ) (pattern : Option ℕ) (slots : Slots) → first ≡ lowest s → IsOverAt earliest p s q first i pattern slots → IsAnswerAt earliest p s i pattern slots
+  over_at_answers false first i pattern slots is way = over_answers p s s q pattern slots refl reads law starts way
+  over_at_answers true first i None slots is way = over_answers p s s q None slots refl reads law starts way
+  over_at_answers true first i (Some k) slots is (le, way, before) =
+      let answer = part_answers i (Some k) slots way in
+      let some = something_found p (up_to_place s i) k slots answer in
+      (record { in_span = omega (arith, le); found = some.0; finds = some.1; none_before = nothing_before first i is before }, answer)
+
+-- a walk stands there, if a pattern is answered
+pub stands_there : (p : ByteProgram) (s : Search) (i : ℕ) (pattern : Option ℕ) → (pattern ≡ None) ⊎ WalkStands p s i → ForSome pattern (λ _. WalkStands p s i)
+stands_there p s i None one = λ k e. absurd (cc e)
+stands_there p s i (Some k) (inl none) = absurd (cc none)
+stands_there p s i (Some k) (inr stands) = λ j e. stands

@@ -29,7 +29,7 @@ no_node [] q e = refl
 no_node (y ∷ states) zero e = absurd (cc e)
 no_node (y ∷ states) (suc q) e = no_node states q e
 
-reads_first : (step : Automaton) (q r s i : ℕ) (bytes : List ℕ) → read_byte step q r s i bytes ≡ read_next step q r s i (slice_get bytes 0)
+pub reads_first : (step : Automaton) (q r s i : ℕ) (bytes : List ℕ) → read_byte step q r s i bytes ≡ read_next step q r s i (slice_get bytes 0)
 reads_first step q r s i [] = refl
 reads_first step q r s i (b ∷ bytes) = refl
 

@@ -1,5 +1,5 @@
 -- One place of a search: all slots stay as many, and no thread lives past the last place.
-use Rattle.std.proofs.Common.{inl, inr, ◌≡◌, ℕ, suc, ◌+◌, ◌≤◌, ◌<◌, Bool, true, false, All, List, [], ◌∷◌, ◌++◌, length, map, take, drop, Option, Some, None, slice_get, refl, sym, ap, subst, ◌∙◌, arith}
+use Rattle.std.proofs.Common.{inl, inr, ◌≡◌, ℕ, ◌+◌, ◌≤◌, ◌<◌, Bool, true, false, All, List, [], ◌∷◌, ◌++◌, length, map, take, drop, Option, Some, None, slice_get, refl, sym, ap, subst, ◌∙◌, arith}
 use Rattle.std.proofs.lemmas.List.{length-set, length-take, length-replicate}
 use Rattle.std.proofs.lemmas.List.Elements.{All-append, All-cons, All-nil}
 use Rattle.std.proofs.Math.ListN.{drop_of_length-le}
@@ -16,12 +16,7 @@ use Rattle.rx_steps.specs.Lists.{slot_machine, met_at}
 use Rattle.rx_steps.specs.Searching.{haystack_in}
 use Rattle.rx_steps.specs.Coming.{HasSlots, machine_in, HasCome, HasStarted, IsUnderWay}
 use Rattle.rx_steps.proofs.ComeLaws.{passed_with_start, passed_on, none_read}
-
-first_of : (P : Thread → Type 0) (x : Thread) (xs : List Thread) → All P (x ∷ xs) → P x
-first_of P x xs all = all 0 x (omega arith)
-
-rest_of : (P : Thread → Type 0) (x : Thread) (xs : List Thread) → All P (x ∷ xs) → All P xs
-rest_of P x xs all = λ i d lt. all (suc i) d (omega (arith, lt))
+use Rattle.rx_steps.proofs.StandLaws.{first_of, rest_of, pattern_after, reached_on, started_reached}
 
 -- ---- slots stay as many
 
@@ -76,7 +71,7 @@ none_within : {L S : Type 0} (b : Bool) (step : ℕ → Automaton) (h : Haystack
 none_within true step h i j q r o none e = no_read step h i j q r o none e
 none_within false step h i j q r o none e = absurd (cc e)
 
-nothing_left : (content : List ℕ) (high i : ℕ) → high ≤ i → drop i (take high content) ≡ []
+pub nothing_left : (content : List ℕ) (high i : ℕ) → high ≤ i → drop i (take high content) ≡ []
 nothing_left content high i le =
     let short : length (take high content) ≤ i = omega (arith, le, length-take high content) in
     drop_of_length-le (take high content) short
@@ -93,10 +88,6 @@ ends_there p s i inside steps past =
 abbrev pub slots_after : Option ℕ → Slots → Slots → Slots
 slots_after None noted slots = slots
 slots_after (Some k) noted slots = noted
-
-abbrev pub pattern_after : Option ℕ → Option ℕ → Option ℕ
-pattern_after None pattern = pattern
-pattern_after (Some k) pattern = Some k
 
 no_end : (end : ℕ) (pattern : Option ℕ) (slots : Slots) → pattern ≡ None → met_at end pattern slots ≡ None
 no_end end None slots e = refl
@@ -150,6 +141,7 @@ way_passed p s q i live threads next pattern slots None noted inside e started s
       nodes = nodes;
       slot_lens = stay.0;
       past_end = ends_there p s i inside steps;
+      reached = reached_on (machine_in p s) s q i steps (started_reached (machine_in p s) s q i pattern live threads started way.reached);
     }
 way_passed p s q i live threads next pattern slots (Some k) noted inside e started steps nodes way =
     let h = haystack_in p.line_terminator s in
@@ -163,6 +155,7 @@ way_passed p s q i live threads next pattern slots (Some k) noted inside e start
       nodes = nodes;
       slot_lens = subst (λ n. All (HasSlots n) next) (sym stay.1) stay.0;
       past_end = ends_there p s i inside steps;
+      reached = reached_on (machine_in p s) s q i steps (started_reached (machine_in p s) s q i pattern live threads started way.reached);
     }
 
 -- the slots of an end are as many

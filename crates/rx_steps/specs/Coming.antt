@@ -1,6 +1,6 @@
 -- How far a search through a program has come.
-use Rattle.std.specs.Prelude.{◌≡◌, ℕ, ◌<◌, ◌⊎◌, All, List, [], ◌∷◌, ◌++◌, length, Option, None}
-use Rattle.rx_walks.specs.Finds.{Search}
+use Rattle.std.specs.Prelude.{◌≡◌, ℕ, ◌<◌, ◌≤◌, ◌⊎◌, Bool, true, false, All, List, [], ◌∷◌, ◌++◌, length, Option, Some, None}
+use Rattle.rx_walks.specs.Finds.{Search, up_to_place}
 use Rattle.rx_walks.specs.Laws.{Begins}
 use Rattle.rx_walks.specs.Machines.{Machine, Outcome}
 use Rattle.rx_walks.specs.ProgramFinds.{highest}
@@ -9,6 +9,7 @@ use Rattle.rx_program.specs.Programs.{ByteProgram}
 use Rattle.rx_steps.specs.Threads.{Slots, Thread, ThreadListView, IsThreadOf, no_slots}
 use Rattle.rx_steps.specs.Lists.{slot_machine, met_at}
 use Rattle.rx_steps.specs.Searching.{haystack_in}
+use Rattle.rx_steps.specs.Standing.{IsReached}
 
 abbrev pub HasSlots : ℕ → Thread → Type 0
 HasSlots len thread = length thread.0 ≡ len
@@ -36,6 +37,12 @@ pub record IsUnderWay (p : ByteProgram) (s : Search) (q i : ℕ) (live : List Th
   pub nodes : All (IsThreadOf p.states) live
   pub slot_lens : All (HasSlots (length slots)) live
   pub past_end : highest s < i → live ≡ []
+  pub reached : All (IsReached (machine_in p s) s q i) live
+
+-- so it has in each part of the span that is cut at this place or a further one
+abbrev pub IsUnderWayInParts : ByteProgram → Search → ℕ → ℕ → List Thread → Option ℕ → Slots → Type 0
+IsUnderWayInParts p s q i live pattern slots =
+    (k : ℕ) → i ≤ k → k ≤ highest s → IsUnderWay p (up_to_place s k) q i live pattern slots
 
 -- at a place a walk starts after the threads that live, if no end was met and a match may begin
 -- there
@@ -51,3 +58,16 @@ pub record IsOver (p : ByteProgram) (s : Search) (q : ℕ) (pattern : Option ℕ
   pub searches : Searches (machine_in p s) (Begins s) (λ j. no_slots (length slots)) (q, 0)
       s.start [] None (met_at end pattern slots)
   pub none_met : pattern ≡ None → slots ≡ no_slots (length slots)
+
+-- no end is met in the parts of the span that are cut at a place from the first one on, before this
+abbrev pub HasMetNone : ByteProgram → Search → ℕ → ℕ → ℕ → Type 0
+HasMetNone p s q first i =
+    (k : ℕ) → first ≤ k → k < i → (slots : Slots) × IsOver p (up_to_place s k) q None slots
+
+-- a search is over at a place: of all of the span; or, if any match will do and an end was met, of
+-- the part up to this place, before which none was met
+abbrev pub IsOverAt : Bool → ByteProgram → Search → ℕ → ℕ → ℕ → Option ℕ → Slots → Type 0
+IsOverAt false p s q first i pattern slots = IsOver p s q pattern slots
+IsOverAt true p s q first i None slots = IsOver p s q None slots
+IsOverAt true p s q first i (Some k) slots =
+    (i ≤ highest s) × IsOver p (up_to_place s i) q (Some k) slots × HasMetNone p s q first i

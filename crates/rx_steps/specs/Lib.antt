@@ -3,9 +3,11 @@ pub mod Threads
 pub mod Frames
 pub mod Lists
 pub mod Alike
+pub mod Unread
 pub mod Asked
 pub mod Sides
 pub mod Searching
+pub mod Standing
 pub mod Idle
 pub mod Caches
 pub mod Coming

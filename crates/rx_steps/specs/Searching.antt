@@ -1,11 +1,11 @@
 -- The search that an input asks for.
-use Rattle.std.specs.Prelude.{◌≡◌, ℕ, zero, suc, Bool, [], ◌∷◌, length, Option, Some, None, option_map}
+use Rattle.std.specs.Prelude.{◌≡◌, ℕ, ◌<◌, ◌≤◌, zero, suc, Bool, true, false, [], ◌∷◌, length, Option, Some, None, option_map}
 use Rattle.unicode.specs.Perl.{is_word_char}
 use Rattle.rx_util.specs.declared.search.Anchored.{Anchored}
 use Rattle.rx_util.specs.declared.search.Anchored.TheVariants.{No, Yes, Pattern}
 use Rattle.rx_input.specs.Inputs.{InputState}
 use Rattle.rx_walks.specs.Looks as walks
-use Rattle.rx_walks.specs.Finds.{Search, Anchoring, unanchored, anchored, anchored_pattern}
+use Rattle.rx_walks.specs.Finds.{Search, up_to_place, Anchoring, unanchored, anchored, anchored_pattern}
 use Rattle.rx_walks.specs.Machines.{Outcome}
 use Rattle.rx_walks.specs.Programs.{Haystack, Notes, slot_of}
 use Rattle.rx_walks.specs.ProgramFinds.{haystack_of, holds_in, ProgramFinds}
@@ -51,3 +51,20 @@ pub record IsAnswer (p : ByteProgram) (s : Search) (pattern : Option ℕ) (slots
   pub finds : ProgramFinds is_in is_word_char (characters_of p) s found
   pub pattern_is : pattern ≡ option_map (λ t. t.pattern) found
   pub slots_are : slots ≡ answer_slots (length slots) found
+
+-- the first end of a match in a search: something is found up to this place, and nothing up to one
+-- before it
+pub record IsFirstEnd (p : ByteProgram) (s : Search) (end : ℕ) : Type 0 where
+  pub in_span : end ≤ s.end
+  pub found : Outcome Notes
+  pub finds : ProgramFinds is_in is_word_char (characters_of p) (up_to_place s end) (Some found)
+  pub none_before : (i : ℕ) → i < end
+      → ProgramFinds is_in is_word_char (characters_of p) (up_to_place s i) None
+
+-- what a search answers that stands at a place then: what the program finds; or, if any match will
+-- do and there is one, what it finds up to this place, which is the first end of a match
+abbrev pub IsAnswerAt : Bool → ByteProgram → Search → ℕ → Option ℕ → Slots → Type 0
+IsAnswerAt false p s end pattern slots = IsAnswer p s pattern slots
+IsAnswerAt true p s end None slots = IsAnswer p s None slots
+IsAnswerAt true p s end (Some k) slots =
+    IsFirstEnd p s end × IsAnswer p (up_to_place s end) (Some k) slots

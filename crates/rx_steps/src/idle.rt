@@ -1,6 +1,6 @@
 //! Bytes before which no match begins.
 
-ghost use Rattle.std.specs.Prelude.{ℕ, ◌≡◌, ◌+◌, ◌<◌, ◌≤◌, ◌⊎◌, Some, true, length, min};
+ghost use Rattle.std.specs.Prelude.{ℕ, ◌≡◌, ◌+◌, ◌<◌, ◌≤◌, ◌⊎◌, ◌↔◌, IsTrue, Some, length, min};
 ghost use Rattle.rx_walks.specs.Finds.{IsInside};
 ghost use Rattle.rx_input.specs.Inputs.{IsMoved};
 ghost use Rattle.rx_steps.specs.Idle.{Knows, IsPassed, IsPassedAt};
@@ -53,7 +53,7 @@ impl IdleBytes {
     /// Whether a byte is passed over: it is a member, or it continues a character and no match may
     /// begin inside one.
     fn passes(&self, byte: u8, utf8_empty: bool) -> bool
-        ensures { result ≡ true → IsPassed self.now utf8_empty byte }
+        ensures { IsTrue result ↔ IsPassed self.now utf8_empty byte }
     {
         if utf8_empty && 128 <= byte && byte < 192 {
             return true;
@@ -65,6 +65,7 @@ impl IdleBytes {
     fn len_of(&self, bytes: &[u8], utf8_empty: bool) -> usize
         ensures within { result ≤ length bytes.now }
         ensures passed { (k : ℕ) → k < result → IsPassedAt self.now utf8_empty bytes.now k }
+        ensures no_more { IsPassedAt self.now utf8_empty bytes.now result → ⊥ }
     {
         let mut len = 0_usize;
         for byte in bytes {
@@ -92,6 +93,9 @@ fn passed_ahead<C: Cursor>(idle: &IdleBytes, input: &Input<C>, utf8_empty: bool)
         → IsInside (search_of utf8_empty input.now) (input.now.position + result) }
     ensures passed { (k : ℕ) → input.now.position ≤ k → k < input.now.position + result
         → IsPassedAt idle.now utf8_empty input.now.cursor.content k }
+    ensures no_more { result ≡ 0
+        → input.now.position < min input.now.asked.slice.end input.now.asked.span.end
+        → IsPassedAt idle.now utf8_empty input.now.cursor.content input.now.position → ⊥ }
 {
     let left = last_place(input).saturating_sub(input.position());
     let ahead = &input.chunk()[input.chunk_pos()..];
@@ -105,6 +109,9 @@ pub(crate) fn skip<C: Cursor>(idle: &IdleBytes, input: &mut Input<C>, utf8_empty
         → IsInside (search_of utf8_empty input.old) input.new.position }
     ensures passed { (k : ℕ) → input.old.position ≤ k → k < input.new.position
         → IsPassedAt idle.now utf8_empty input.old.cursor.content k }
+    ensures no_more { input.new.position
+        < min input.old.asked.slice.end input.old.asked.span.end
+        → IsPassedAt idle.now utf8_empty input.old.cursor.content input.new.position → ⊥ }
     ensures same { IsMoved input.old input.new input.new.position input.old.asked }
 {
     loop {

@@ -1,8 +1,8 @@
 //! The loop over the places of a content.
 
-ghost use Rattle.std.specs.Prelude.{ℕ, Bool, List, ◌≡◌, ◌+◌, ◌*◌, ◌<◌, ◌≤◌, ◌↔◌, [], ◌∷◌, Some, None, true, false, All, IsTrue, IfOk, IfErr, OnOk, OnErr, length, min, max};
+ghost use Rattle.std.specs.Prelude.{ℕ, Bool, List, ◌≡◌, ◌+◌, ◌*◌, ◌<◌, ◌≤◌, ◌⊎◌, ◌↔◌, [], ◌∷◌, Some, None, true, false, All, IsTrue, IfOk, IfErr, OnOk, OnErr, length, min, max};
 ghost use Rattle.rx_util.specs.declared.search.MatchError.{MatchError};
-ghost use Rattle.rx_walks.specs.Finds.{IsInside, is_anchored};
+ghost use Rattle.rx_walks.specs.Finds.{IsInside, is_anchored, up_to_place};
 ghost use Rattle.rx_walks.specs.Laws.{Begins};
 ghost use Rattle.rx_walks.specs.Looks as walks;
 ghost use Rattle.rx_walks.specs.ProgramFinds.{start_node, highest};
@@ -15,9 +15,11 @@ ghost use Rattle.rx_steps.specs.Lists.{Asks, met_at};
 ghost use Rattle.rx_steps.specs.Nodes.{node_count};
 ghost use Rattle.rx_steps.specs.Idle.{IsPassedAt};
 ghost use Rattle.rx_steps.specs.Threads.{Slots, IsThreadOf, no_slots, first_node};
-ghost use Rattle.rx_steps.specs.Searching.{search_of, anchoring_of, IsAnswer};
+ghost use Rattle.std.specs.Option.{ForSome};
+ghost use Rattle.rx_steps.specs.Searching.{search_of, anchoring_of, IsAnswerAt};
+ghost use Rattle.rx_steps.specs.Standing.{WalkStands};
 ghost use Rattle.rx_steps.specs.Caches.{AreOfProgram, IsCacheOf, place_count};
-ghost use Rattle.rx_steps.specs.Coming.{machine_in, HasStarted, IsUnderWay, IsOver};
+ghost use Rattle.rx_steps.specs.Coming.{machine_in, HasStarted, IsUnderWay, IsUnderWayInParts, IsOver, IsOverAt};
 
 use crate::asked::AskedLooks;
 use crate::idle::{IdleBytes, last_place, skip};
@@ -69,6 +71,7 @@ fn advance<C: Cursor>(input: &mut Input<C>) -> bool
         → IsInside (search_of utf8_empty input.old) input.new.position }
     ensures last { result ≡ false → (utf8_empty : Bool)
         → highest (search_of utf8_empty input.old) < input.old.position + 1 }
+    ensures stays { result ≡ false → input.new.position ≡ input.old.position }
     ensures same { IsMoved input.old input.new input.new.position input.old.asked }
 {
     let at = input.position();
@@ -212,8 +215,21 @@ impl Walks {
         requires slot_len { self.old.live.slot_len ≡ length slots.old }
         requires way { IsUnderWay program.now (search_of utf8_empty input.old) start
             input.old.position self.old.live.threads self.old.met slots.old }
+        requires parts { IsUnderWayInParts program.now (search_of utf8_empty input.old) start
+            input.old.position self.old.live.threads self.old.met slots.old }
         ensures way { OnOk result (IsUnderWay program.now (search_of utf8_empty input.old) start
             (input.old.position + 1) self.new.live.threads self.new.met slots.new) }
+        ensures parts { OnOk result (IsUnderWayInParts program.now
+            (search_of utf8_empty input.old) start (input.old.position + 1)
+            self.new.live.threads self.new.met slots.new) }
+        ensures so_far { OnOk result (IsOver program.now
+            (up_to_place (search_of utf8_empty input.old) input.old.position) start
+            self.new.met slots.new) }
+        ensures stands { OnOk result (start_node (characters_of program.now)
+            (anchoring_of input.old.asked.anchored) ≡ Some start
+            → (self.old.met ≡ None) ⊎ (self.old.live.threads ≡ [] → ⊥)
+            → (self.new.met ≡ None)
+            ⊎ WalkStands program.now (search_of utf8_empty input.old) input.old.position) }
         ensures made { AreOfProgram program.now self.new.stepper.widths self.new.asks_looks
             self.new.idle }
         ensures slot_len { OnOk result (self.new.live.slot_len ≡ length slots.new) }
@@ -237,6 +253,8 @@ impl Walks {
             → IsTrue (is_anchored (anchoring_of anchored)) }
         ensures goes_on { result ≡ false → self.now.live.threads ≡ [] → self.now.met ≡ None
             → is_anchored (anchoring_of anchored) ≡ false }
+        ensures lives { result ≡ false
+            → (self.now.met ≡ None) ⊎ (self.now.live.threads ≡ [] → ⊥) }
     {
         self.live.len() == 0 && (self.met.is_some() || anchored.is_anchored())
     }
@@ -251,8 +269,13 @@ impl Walks {
         ensures skipped { result ≡ true → (k : ℕ) → input.old.position + 1 ≤ k
             → k < input.new.position → (self.now.live.threads ≡ []) × (self.now.met ≡ None)
             × IsPassedAt self.now.idle utf8_empty input.old.cursor.content k }
+        ensures no_more { result ≡ true → self.now.live.threads ≡ [] → self.now.met ≡ None
+            → input.new.position < min input.old.asked.slice.end input.old.asked.span.end
+            → IsPassedAt self.now.idle utf8_empty input.old.cursor.content input.new.position
+            → ⊥ }
         ensures last { result ≡ false
             → highest (search_of utf8_empty input.old) < input.old.position + 1 }
+        ensures stays { result ≡ false → input.new.position ≡ input.old.position }
         ensures same { IsMoved input.old input.new input.new.position input.old.asked }
     {
         if !advance(input) {
@@ -266,13 +289,14 @@ impl Walks {
 
     /// Follows the walks from a state, from the place at which an input stands on, which is the
     /// first one inside: answers the pattern of the match that is found, and puts its places into
-    /// the slots.
+    /// the slots. With `earliest` it stops at the first end of a match.
     fn follow<C: Cursor>(
         &mut self,
         program: &Program,
         input: &mut Input<C>,
         start: StateID,
         utf8_empty: bool,
+        earliest: bool,
         slots: &mut [Option<NonMaxUsize>],
     ) -> Result<Option<PatternID>, MatchError>
         requires made { AreOfProgram program.now self.old.stepper.widths self.old.asks_looks
@@ -283,8 +307,11 @@ impl Walks {
         requires first { input.old.position
             ≡ max input.old.asked.slice.start input.old.asked.span.start }
         requires empty { slots.old ≡ no_slots (length slots.old) }
-        ensures over { IfOk result (λ pattern. IsOver program.now
-            (search_of utf8_empty input.old) start pattern slots.new) }
+        ensures over { IfOk result (λ pattern. IsOverAt earliest program.now
+            (search_of utf8_empty input.old) start input.old.position input.new.position
+            pattern slots.new) }
+        ensures stands { IfOk result (λ pattern. (pattern ≡ None)
+            ⊎ WalkStands program.now (search_of utf8_empty input.old) input.new.position) }
         ensures made { AreOfProgram program.now self.new.stepper.widths self.new.asks_looks
             self.new.idle }
         ensures work { self.new.stepper.followed ≤ self.old.stepper.followed
@@ -297,6 +324,9 @@ impl Walks {
         self.met = None;
         loop {
             self.visit(program, input, start, utf8_empty, slots)?;
+            if earliest && self.met.is_some() {
+                return Ok(self.met);
+            }
             if self.are_over(input.get_anchored()) || !self.go_on(input, utf8_empty) {
                 return Ok(self.met);
             }
@@ -398,20 +428,26 @@ fn clear_slots(slots: &mut [Option<NonMaxUsize>])
 /// Searches: answers the pattern of the match that the program finds, and puts its places into the
 /// slots, as many as there are; all others hold none. `utf8_empty` passes over empty matches inside
 /// a character. The cache must be one for searches with the program, and still is one afterwards.
-/// The one refusal is `Memory`: what the slots then hold has no meaning.
+/// The one refusal is `Memory`: then no slot holds a place.
 ///
-/// It follows each node of the program once at most at each place, which takes time in proportion
-/// to the edges of that node.
+/// With `earliest` it stops at the first end of a match: the answer tells whether there is one, and
+/// is what is found up to that place. Without it a search that finds a match stops where no walk
+/// is left to follow. It follows each node of the program once at most at each place, which takes
+/// time in proportion to the edges of that node.
 pub fn search_slots<C: Cursor>(
     program: &Program,
     cache: &mut Cache,
     input: &mut Input<C>,
     utf8_empty: bool,
+    earliest: bool,
     slots: &mut [Option<NonMaxUsize>],
 ) -> Result<Option<PatternID>, MatchError>
     requires made { IsCacheOf program.now cache.old }
-    ensures answer { IfOk result (λ pattern. IsAnswer program.now
-        (search_of utf8_empty input.old) pattern slots.new) }
+    ensures answer { IfOk result (λ pattern. IsAnswerAt earliest program.now
+        (search_of utf8_empty input.old) input.new.position pattern slots.new) }
+    ensures stands { IfOk result (λ pattern. ForSome pattern
+        (λ _. WalkStands program.now (search_of utf8_empty input.old) input.new.position)) }
+    ensures none { OnErr result (slots.new ≡ no_slots (length slots.new)) }
     ensures made { IsCacheOf program.now cache.new }
     ensures work { cache.new.followed ≤ cache.old.followed
         + node_count program.now * place_count (search_of utf8_empty input.old) }
@@ -429,5 +465,13 @@ pub fn search_slots<C: Cursor>(
     if !enter(input) {
         return Ok(None);
     }
-    cache.walks.follow(program, input, start, utf8_empty, slots)
+    let walks = &mut cache.walks;
+    let pattern = match walks.follow(program, input, start, utf8_empty, earliest, slots) {
+        Ok(pattern) => pattern,
+        Err(error) => {
+            clear_slots(slots);
+            return Err(error);
+        }
+    };
+    Ok(pattern)
 }

@@ -155,7 +155,7 @@ fn found_with(program: &Program, cache: &mut Cache, alloc: Global) -> Result<Str
     let content: [&[u8]; 3] = [b"bab", b"", b"ax"];
     let mut slots = [None; 2];
     let mut input = Input::new(ChunkCursor::new(&content));
-    search_slots(program, cache, &mut input, true, &mut slots)?;
+    search_slots(program, cache, &mut input, true, false, &mut slots)?;
     spelled(alloc, &slots)
 }
 

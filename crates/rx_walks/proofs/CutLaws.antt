@@ -11,7 +11,7 @@ use Rattle.rx_walks.specs.Machines.{Move, ends, goes, reads, Machine, Outcome, I
 use Rattle.rx_walks.specs.Walks.{Walk, ended, went, took, IsLeast}
 use Rattle.rx_walks.specs.Characters.{len_if, member_len, StandsFirst}
 use Rattle.rx_walks.specs.Looks.{Look}
-use Rattle.rx_walks.specs.Finds.{Search, up_to_place, IsInside, MayEnd, Counts, IsFind, is_found}
+use Rattle.rx_walks.specs.Finds.{Search, up_to_place, IsInside, MayEnd, Counts, IsFind, not_found, is_found}
 use Rattle.rx_walks.specs.Programs.{Node, match, pass, note, look, set, Program, Haystack, Notes, fresh_notes, put_note, only_if, is_within, read_up_to, by_character, over_characters}
 use Rattle.rx_walks.specs.ProgramFinds.{first_by, haystack_of, holds_in, machine_of, highest, start_node, IfStarts, ProgramFinds, end_of}
 use Rattle.rx_walks.proofs.WalkLaws.{ends_not_goes, goes_not_reads, same_read}
@@ -19,7 +19,7 @@ use Rattle.rx_walks.proofs.CharacterLaws.{member_stands, stands_first}
 use Rattle.rx_walks.proofs.FindLaws.{least_same}
 use Rattle.rx_walks.proofs.ForwardLaws.{characters_forward}
 use Rattle.rx_walks.proofs.InsideLaws.{none_there, same_goes, within_high, finds_lie_inside}
-use Rattle.rx_walks.proofs.ExistLaws.{LeastOrNone, characters_least}
+use Rattle.rx_walks.proofs.ExistLaws.{LeastOrNone, characters_least, program_find_exists}
 
 -- ---- characters in bytes that are cut
 
@@ -198,3 +198,26 @@ module _ {S : Type 0} (member : S → ℕ → Bool) (is_word : ℕ → Bool) (p 
           → IfStarts o (IsFind (machine_of member is_word p (up_to_place s t.end)) fresh_notes (up_to_place s t.end)) (Some t)
       by_start None e = absurd (cc e)
       by_start (Some q) is = find_cut member is_word p s t.end inside q t refl is
+
+module _ {S : Type 0} (member : S → ℕ → Bool) (is_word : ℕ → Bool) (p : Program Look S) (s : Search) where
+  pub cut_spans_tell : (i : ℕ) (t : Outcome Notes) → i ≤ s.end → ProgramFinds member is_word p (up_to_place s i) (Some t) → (whole : Outcome Notes) × ProgramFinds member is_word p s (Some whole)
+  cut_spans_tell i t within finds = there (program_find_exists member is_word p s)
+    where
+      lies : IsInside (up_to_place s i) t.end
+      lies = (finds_lie_inside member is_word p (up_to_place s i) t finds).found.inside
+
+      inside : IsInside s t.end
+      inside = (lies.0, lies.1, lies.2, omega (arith, lies.3, within), lies.4)
+
+      -- in the span that is cut at its end it is found too
+      shorter : ProgramFinds member is_word p (up_to_place s t.end) (Some t)
+      shorter = finds_stay_in_cut_spans member is_word p (up_to_place s i) t finds
+
+      never : (o : Option ℕ) → IfStarts o (IsFind (machine_of member is_word p (up_to_place s t.end)) fresh_notes (up_to_place s t.end)) (Some t)
+          → IfStarts o (IsFind (machine_of member is_word p s) fresh_notes s) None → ⊥
+      never None e none = absurd (cc e)
+      never (Some q) (is_found {i = j} counts before) (not_found none) = let one = count_whole member is_word p s t.end inside counts in none j one.0 one.1
+
+      there : (found : (out : Option (Outcome Notes)) × ProgramFinds member is_word p s out) → (whole : Outcome Notes) × ProgramFinds member is_word p s (Some whole)
+      there (Some whole, is) = (whole, is)
+      there (None, none) = absurd (never (start_node p s.anchoring) shorter none)

@@ -118,6 +118,12 @@ FindsStayInCutSpans member is_word p = (s : Search) (t : Outcome Notes)
     → ProgramFinds member is_word p s (Some t)
     → ProgramFinds member is_word p (up_to_place s (end_of t)) (Some t)
 
+-- and what is found in a span that is cut tells that something is found in the whole one
+abbrev pub CutSpansTell : {S : Type 0} → (S → ℕ → Bool) → (ℕ → Bool) → Program Look S → Type 0
+CutSpansTell member is_word p = (s : Search) (i : ℕ) (t : Outcome Notes) → i ≤ s.end
+    → ProgramFinds member is_word p (up_to_place s i) (Some t)
+    → (whole : Outcome Notes) × ProgramFinds member is_word p s (Some whole)
+
 -- it starts and ends at boundaries of the content's characters; the places in its slots are such too
 pub record StandsAtBoundaries (content : List ℕ) (t : Outcome Notes) : Type 0 where
   pub start : IsCharBoundary content (start_of t)

@@ -8,12 +8,12 @@ ghost use Rattle.rx_util.specs.Captured.{group_span, match_found, nothing_noted}
 ghost use Rattle.rx_input.specs.Cursors.{IsSameContent};
 ghost use Rattle.rx_input.specs.Inputs.{IsSpan};
 ghost use Rattle.rx_input.specs.Searchers.{EndsInside};
-ghost use Rattle.rx_steps.specs.Searching.{search_of, IsAnswer};
+ghost use Rattle.rx_steps.specs.Searching.{search_of};
 ghost use Rattle.rx_walks.specs.Finds.{Search};
 ghost use Rattle.rx_program.specs.Programs.{ByteProgram};
-ghost use Rattle.rx_chunk.specs.Engines.{TellsWhether, IsFound};
+ghost use Rattle.rx_chunk.specs.Engines.{TellsWhether};
 ghost use Rattle.rx_chunk.specs.Iterating.{EndsAhead, HasNotedNext, IsFoundNext, StartsFrom};
-ghost use Rattle.regex_cursor.specs.Regexes.{IsCacheOf};
+ghost use Rattle.regex_cursor.specs.Regexes.{IsCacheOf, TellsMatch, TellsSlots};
 ghost use Rattle.regex_cursor.specs.Strategies.{AreEngines, IsLeft};
 
 use super::cache::Cache;
@@ -159,8 +159,7 @@ pub(super) fn find<C: Cursor>(
     input: &mut Input<C>,
 ) -> Result<Option<Match>, MatchError>
     requires made { IsCacheOf vm.now cache.old }
-    ensures answer { IfOk result (λ found. IsFound vm.now.program
-        (search_of vm.now.utf8_empty input.old) found) }
+    ensures answer { IfOk result (λ found. TellsMatch vm.now input.old found) }
     ensures made { IsCacheOf vm.now cache.new }
     ensures asked { input.new.asked ≡ input.old.asked }
     ensures same { IsSameContent input.old.cursor input.new.cursor }
@@ -193,8 +192,7 @@ pub(super) fn search_slots<C: Cursor>(
     slots: &mut [Option<NonMaxUsize>],
 ) -> Result<Option<PatternID>, MatchError>
     requires made { IsCacheOf vm.now cache.old }
-    ensures answer { IfOk result (λ pattern. IsAnswer vm.now.program
-        (search_of vm.now.utf8_empty input.old) pattern slots.new) }
+    ensures answer { IfOk result (λ pattern. TellsSlots vm.now input.old pattern slots.new) }
     ensures made { IsCacheOf vm.now cache.new }
     ensures asked { input.new.asked ≡ input.old.asked }
     ensures same { IsSameContent input.old.cursor input.new.cursor }
@@ -230,10 +228,10 @@ pub(super) fn search<C: Cursor>(
     caps: &mut Captures,
 ) -> Result<(), MatchError>
     requires made { IsCacheOf vm.now cache.old }
-    ensures answer { OnOk result (IsAnswer vm.now.program
-        (search_of vm.now.utf8_empty input.old) caps.new.pattern caps.new.slots) }
+    ensures answer { OnOk result
+        (TellsSlots vm.now input.old caps.new.pattern caps.new.slots) }
     ensures found { OnOk result (caps.old.groups ≡ vm.now.groups → 2 ≤ length caps.old.slots
-        → IsFound vm.now.program (search_of vm.now.utf8_empty input.old) (match_found caps.new)) }
+        → TellsMatch vm.now input.old (match_found caps.new)) }
     ensures ordered { OnOk result (caps.old.groups ≡ vm.now.groups → 2 ≤ length caps.old.slots
         → ForSome (group_span caps.new 0) (λ span. span.start ≤ span.end)) }
     ensures inside { OnOk result (caps.old.groups ≡ vm.now.groups → 2 ≤ length caps.old.slots

@@ -1,28 +1,21 @@
-use Rattle.std.proofs.Common.{◌≤◌, length, arith}
+use Rattle.std.proofs.Common.{subst}
 use Rattle.rx_steps.specs.Searching.{search_of}
-use Rattle.rx_chunk.proofs.EngineLaws.{none_found}
-use Rattle.rx_chunk.proofs.FoundLaws.{IsNoted, is_noted, noted_in_order, noted_found}
+use Rattle.rx_chunk.specs.Engines.{IsFoundAt}
+use Rattle.rx_chunk.proofs.EngineLaws.{if_ok, if_both}
+use Rattle.rx_chunk.proofs.EarlyLaws.{tells_match, stops_found}
 use Rattle.rx_chunk.proofs.pikevm.find.Goals as goal
-
-pub returns-in_default-clause-answer : goal.returns-in_default-clause-answer
-returns-in_default-clause-answer g c = none_found c.in_ok-found.ensures.answer c.in_default.is
-
-pub match_in-requires : goal.match_in-requires
-match_in-requires g c =
-    let vm = c.args.vm.now in
-    let s = search_of vm.utf8_empty c.args.input.now in
-    let slots = c.search_slots.new.slots in
-    let two : 2 ≤ length slots = omega arith in
-    let noted : IsNoted vm.program s c.in-Some.pattern slots =
-    is_noted vm s c.in_ok-found.found slots c.in-Some.pattern c.group_info-groups.ensures.engine c.matches_note_their_places.ensures two c.in_ok-found.ensures.answer c.in-Some.is in
-    record { ordered = noted_in_order vm.program s c.in-Some.pattern slots c.finds_lie_inside.ensures noted }
 
 pub returns-clause-answer : goal.returns-clause-answer
 returns-clause-answer g c =
-    let vm = c.args.vm.now in
-    let s = search_of vm.utf8_empty c.args.input.now in
-    let slots = c.search_slots.new.slots in
-    let two : 2 ≤ length slots = omega arith in
-    let noted : IsNoted vm.program s c.in-Some.pattern slots =
-    is_noted vm s c.in_ok-found.found slots c.in-Some.pattern c.group_info-groups.ensures.engine c.matches_note_their_places.ensures two c.in_ok-found.ensures.answer c.in-Some.is in
-    noted_found vm.program s c.in-Some.pattern slots c.match_in.result noted c.match_in.ensures
+    let p = c.args.vm.now.program in
+    let s = search_of c.args.vm.now.utf8_empty c.args.input.now in
+    let i = c.look_for.new.input.position in
+    if_ok c.look_for.result (λ found is. tells_match c.args.input.now.asked.earliest p s i found c.cut_spans_tell.ensures (subst (λ b. IsFoundAt b p s i found) c.get_earliest-earliest.ensures is)) c.look_for.ensures.answer
+
+pub returns-clause-stops : goal.returns-clause-stops
+returns-clause-stops g c =
+    let p = c.args.vm.now.program in
+    let s = search_of c.args.vm.now.utf8_empty c.args.input.now in
+    let i = c.look_for.new.input.position in
+    if_both c.look_for.result (λ found is stands. stops_found c.args.input.now.asked.earliest p s i found (subst (λ b. IsFoundAt b p s i found) c.get_earliest-earliest.ensures is) stands)
+    c.look_for.ensures.answer c.look_for.ensures.stands

@@ -1,4 +1,4 @@
-use Rattle.std.proofs.Common.{◌≡◌, ◌+◌, ◌<◌, ◌^◌, length, Some, arith, sym, ap, subst, ◌∙◌}
+use Rattle.std.proofs.Common.{◌≡◌, ◌+◌, ◌<◌, ◌^◌, length, Some, arith, ap, subst, ◌∙◌}
 use Rattle.rx_walks.specs.Finds.{from_place_on}
 use Rattle.rx_chunk.specs.Engines.{IsFound}
 use Rattle.rx_steps.specs.Searching.{search_of}
@@ -30,7 +30,7 @@ set_start-requires g c =
     let i = c.args.input.now in
     let at = may_start c.args.vm.now.program (search_of c.args.vm.now.utf8_empty i) c.in_ok-found.field-0 c.in-Some.found c.finds_lie_inside.ensures c.in-Some.is c.in_ok-found.ensures.answer in
     let start : c.start-start.result ≡ i.asked.span.start = c.start-start.ensures ∙ ap (λ a. a.span.start) c.in_ok-found.ensures.asked in
-    let end : c.find.new.input.asked.span.end ≡ i.asked.span.end = ap (λ a. a.span.end) c.in_ok-found.ensures.asked in
+    let end : c.look_for.new.input.asked.span.end ≡ i.asked.span.end = ap (λ a. a.span.end) c.in_ok-found.ensures.asked in
     omega (arith, at.in_span, start, end)
 
 pub returns-clause-answer : goal.returns-clause-answer
@@ -39,15 +39,15 @@ returns-clause-answer g c =
     let b = c.args.vm.now.utf8_empty in
     let old = c.args.input.now in
     let s = search_of b old in
-    let same = same_start old c.find.new.input c.in_ok-found.ensures.same c.in_ok-found.ensures.asked in
+    let same = same_start old c.look_for.new.input c.in_ok-found.ensures.same c.in_ok-found.ensures.asked in
     let start = c.start-start.result + 1 in
     let starts : StartsFrom old c.set_start.new.self start =
-    moved_on old c.find.new.input c.set_start.new.self same.0 start same.1 (set_to c.find.new.input c.set_start.new.self start c.set_start.ensures) in
+    moved_on old c.look_for.new.input c.set_start.new.self same.0 start same.1 (set_to c.look_for.new.input c.set_start.new.self start c.set_start.ensures) in
     let search : search_of b c.set_start.new.self ≡ from_place_on s (s.start + 1) =
     moved_search b old c.set_start.new.self start starts ∙ ap (λ k. from_place_on s (k + 1)) (c.start-start.ensures ∙ ap (λ a. a.span.start) c.in_ok-found.ensures.asked) in
-    if_ok c.find-2.result
+    if_ok c.look_for-2.result
     (λ next is. passed_next p s c.args.last_match_end c.in_ok-found.field-0 c.in-Some.found next c.in-Some.is (c.is_empty_at_last.ensures.here c.if-not-is_empty_at_last.false) c.in_ok-found.ensures.answer (subst (λ x. IsFound p x next) search is))
-    c.find-2.ensures.answer
+    c.look_for-2.ensures.answer
 
 pub returns-then-not-is_empty_at_last-clause-ahead : goal.returns-then-not-is_empty_at_last-clause-ahead
 returns-then-not-is_empty_at_last-clause-ahead g c =
@@ -55,4 +55,4 @@ returns-then-not-is_empty_at_last-clause-ahead g c =
 
 pub returns-clause-ahead : goal.returns-clause-ahead
 returns-clause-ahead g c =
-    ends_ahead c.args.vm.now.program c.args.last_match_end (search_of c.args.vm.now.utf8_empty c.args.input.now) c.find-2.result c.finds_lie_inside.ensures (returns-clause-answer g c)
+    ends_ahead c.args.vm.now.program c.args.last_match_end (search_of c.args.vm.now.utf8_empty c.args.input.now) c.look_for-2.result c.finds_lie_inside.ensures (returns-clause-answer g c)

@@ -1,53 +1,49 @@
-use Rattle.std.proofs.Common.{◌≡◌, ◌≤◌, ◌<◌, ◌^◌, None, Some, length, sym, ap, subst, ◌∙◌, arith}
-use Rattle.rx_util.specs.Captured.{Captured}
-use Rattle.rx_steps.specs.Searching.{search_of, IsAnswer}
-use Rattle.rx_chunk.specs.Engines.{IsFound}
-use Rattle.rx_chunk.specs.Iterating.{IsFoundNext}
-use Rattle.rx_chunk.proofs.EngineLaws.{lent_slots}
-use Rattle.rx_chunk.proofs.FoundLaws.{AreFound, captured_found}
-use Rattle.rx_chunk.proofs.IterLaws.{found_ends, found_first}
+use Rattle.std.proofs.Common.{◌≡◌, ◌≤◌, ◌<◌, ◌^◌, length, subst, ◌∙◌, arith}
+use Rattle.std.specs.Prelude.{OnOk}
+use Rattle.rx_steps.specs.Searching.{search_of, IsAnswerAt}
+use Rattle.rx_chunk.proofs.EngineLaws.{on_ok, on_both}
+use Rattle.rx_chunk.proofs.EarlyLaws.{AreFoundAt, captured_at, tells_slots, stops_at}
 use Rattle.rx_chunk.proofs.pikevm.search.Goals as goal
 
--- the answer in the captures as they are left
-answered : (g : _) (c : goal.After-set_pattern-2 g) → IsAnswer c.args.vm.now.program (search_of c.args.vm.now.utf8_empty c.args.input.now) c.set_pattern-2.new.self.pattern c.set_pattern-2.new.self.slots
+-- the answer, with what the input asks for
+answered : (g : _) (c : goal.After-note g) → OnOk c.note.result (IsAnswerAt c.args.input.now.asked.earliest c.args.vm.now.program (search_of c.args.vm.now.utf8_empty c.args.input.now) c.note.new.input.position c.note.new.caps.pattern c.note.new.caps.slots)
 answered g c =
     let p = c.args.vm.now.program in
     let s = search_of c.args.vm.now.utf8_empty c.args.input.now in
-    let slots = c.search_slots.new.slots in
-    let before = c.set_pattern.new.self in
-    let len : length slots ≡ length before.slots = grind (arith, c.slots_mut.ensures.slots) in
-    subst (λ (x : Captured). IsAnswer p s x.pattern x.slots) (sym c.set_pattern-2.ensures)
-    (subst (λ xs. IsAnswer p s c.in_ok-pattern.pattern xs) (sym (lent_slots before slots len)) c.in_ok-pattern.ensures.answer)
+    on_ok c.note.result (λ is. subst (λ b. IsAnswerAt b p s c.note.new.input.position c.note.new.caps.pattern c.note.new.caps.slots) c.get_earliest-earliest.ensures is) c.note.ensures.answer
 
 -- what they tell, where they were those of the engine
-told : (g : _) (c : goal.After-set_pattern-2 g) → c.args.caps.now.groups ≡ c.args.vm.now.groups → 2 ≤ length c.args.caps.now.slots
-    → AreFound c.args.vm.now.program (search_of c.args.vm.now.utf8_empty c.args.input.now) c.set_pattern-2.new.self
-told g c same two =
-    let before = c.set_pattern.new.self in
-    let caps = c.set_pattern-2.new.self in
-    let slots = c.search_slots.new.slots in
-    let len : length slots ≡ length before.slots = grind (arith, c.slots_mut.ensures.slots) in
-    let kept : length before.slots ≡ length c.args.caps.now.slots = ap (λ x. length x.slots) c.set_pattern.ensures in
-    let slots_are : caps.slots ≡ slots = ap (λ x. x.slots) c.set_pattern-2.ensures ∙ lent_slots before slots len in
-    let few : 2 ≤ length caps.slots = omega (arith, two, kept, len, ap length slots_are) in
-    captured_found c.args.vm.now (search_of c.args.vm.now.utf8_empty c.args.input.now) caps c.group_info-groups.ensures.engine c.matches_note_their_places.ensures c.finds_lie_inside.ensures
-    (ap (λ x. x.groups) c.set_pattern-2.ensures ∙ ap (λ x. x.groups) c.set_pattern.ensures ∙ same) few (answered g c)
+told : (g : _) (c : goal.After-note g) → c.args.caps.now.groups ≡ c.args.vm.now.groups → 2 ≤ length c.args.caps.now.slots
+    → IsAnswerAt c.args.input.now.asked.earliest c.args.vm.now.program (search_of c.args.vm.now.utf8_empty c.args.input.now) c.note.new.input.position c.note.new.caps.pattern c.note.new.caps.slots
+    → AreFoundAt c.args.input.now.asked.earliest c.args.vm.now.program (search_of c.args.vm.now.utf8_empty c.args.input.now) c.note.new.caps
+told g c same two is =
+    let s = search_of c.args.vm.now.utf8_empty c.args.input.now in
+    let caps = c.note.new.caps in
+    let few : 2 ≤ length caps.slots = omega (arith, two, c.note.ensures.slot_len) in
+    captured_at c.args.input.now.asked.earliest c.args.vm.now s c.note.new.input.position caps c.group_info-groups.ensures.engine c.matches_note_their_places.ensures c.finds_lie_inside.ensures c.cut_spans_tell.ensures
+    (c.note.ensures.groups ∙ same) few is
 
 pub returns-clause-answer : goal.returns-clause-answer
-returns-clause-answer g c = answered g c
+returns-clause-answer g c =
+    let s = search_of c.args.vm.now.utf8_empty c.args.input.now in
+    let caps = c.note.new.caps in
+    on_ok c.note.result (λ is. tells_slots c.args.input.now.asked.earliest c.args.vm.now.program s c.note.new.input.position caps.pattern caps.slots c.cut_spans_tell.ensures is) (answered g c)
+
+pub returns-clause-stops : goal.returns-clause-stops
+returns-clause-stops g c =
+    let s = search_of c.args.vm.now.utf8_empty c.args.input.now in
+    let caps = c.note.new.caps in
+    on_both c.note.result (λ is stands. stops_at c.args.input.now.asked.earliest c.args.vm.now.program s c.note.new.input.position caps.pattern caps.slots is stands) (answered g c) c.note.ensures.stands
 
 pub returns-clause-found : goal.returns-clause-found
-returns-clause-found g c = λ same two. (told g c same two).found
+returns-clause-found g c = on_ok c.note.result (λ is same two. (told g c same two is).tells) (answered g c)
 
 pub returns-clause-inside : goal.returns-clause-inside
-returns-clause-inside g c = λ same two a is.
-    let i = c.args.input.now in
-    let p = c.args.vm.now.program in
-    let s = search_of c.args.vm.now.utf8_empty i in
-    let found : IsFoundNext p s None (Some a) = found_first p s (Some a) (subst (λ o. IsFound p s o) is (told g c same two).found) in
-    let ends = found_ends p None s a c.finds_lie_inside.ensures found in
-    let content : length i.cursor.content < 2 ^ 63 = c.position-at.ensures.holds.lawful.bound in
-    record { behind_start = ends.on; before_end = ends.in_span; fits = omega (arith, ends.in_content, content) }
+returns-clause-inside g c =
+    let content : length c.args.input.now.cursor.content < 2 ^ 63 = c.position-at.ensures.holds.lawful.bound in
+    on_ok c.note.result
+    (λ is same two a some. (let ends = (told g c same two is).inside a some in record { behind_start = ends.on; before_end = ends.in_span; fits = omega (arith, ends.in_content, content) }))
+    (answered g c)
 
 pub returns-clause-ordered : goal.returns-clause-ordered
-returns-clause-ordered g c = λ same two. (told g c same two).ordered
+returns-clause-ordered g c = on_ok c.note.result (λ is same two. (told g c same two is).ordered) (answered g c)

@@ -1,4 +1,4 @@
-use Rattle.std.proofs.Common.{◌≡◌, ◌+◌, ◌-◌, ◌<◌, length, ◌∙◌, sym, ap, subst, arith}
+use Rattle.std.proofs.Common.{◌≡◌, ◌+◌, ◌-◌, ◌<◌, length, min, ◌∙◌, sym, ap, subst, arith}
 use Rattle.std.proofs.lemmas.Option.{slice_get_within}
 use Rattle.rx_walks.specs.Finds.{IsInside}
 use Rattle.rx_steps.specs.Idle.{IsPassedAt}
@@ -43,3 +43,12 @@ loop-utf8_empty-smaller g c =
     let smaller : length content - there.position < length content - here.position =
     omega (arith, some, lt, c.move_to.ensures.position_is, c.position.ensures.position, ap (λ xs. length xs) c.loop-utf8_empty.invariant.same.content) in
     smaller
+
+pub returns-then-len-eq0-clause-no_more : goal.returns-then-len-eq0-clause-no_more
+returns-then-len-eq0-clause-no_more g c = λ below here.
+    let b = c.args.utf8_empty in
+    let there = c.loop-utf8_empty.input in
+    let same = c.loop-utf8_empty.invariant in
+    c.passed_ahead-len.ensures.no_more c.if-len-eq0.true
+    (subst (λ a. there.position < min a.slice.end a.span.end) (sym same.asked) below)
+    (subst (λ xs. IsPassedAt c.args.idle.now b xs there.position) (sym same.same.content) here)

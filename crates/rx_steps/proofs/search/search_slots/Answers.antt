@@ -1,11 +1,12 @@
-use Rattle.std.proofs.Common.{◌≡◌, Some, None, sym, ap, subst, ◌∙◌}
+use Rattle.std.proofs.Common.{◌≡◌, ◌⊎◌, Some, None, sym, ap, subst, ◌∙◌}
 use Rattle.rx_walks.specs.Finds.{IsInside}
 use Rattle.rx_walks.specs.ProgramFinds.{start_node}
 use Rattle.rx_program.specs.Programs.{characters_of}
 use Rattle.rx_steps.specs.Searching.{search_of, anchoring_of}
+use Rattle.rx_steps.specs.Standing.{WalkStands}
+use Rattle.rx_steps.specs.Coming.{IsOverAt}
 use Rattle.rx_steps.proofs.AnswerLaws.{none_known, none_inside}
-use Rattle.rx_steps.proofs.FollowLaws.{if_ok}
-use Rattle.rx_steps.proofs.OverLaws.{same_search, over_answers}
+use Rattle.rx_steps.proofs.OverLaws.{same_search, none_at, over_at_answers, stands_there}
 use Rattle.rx_steps.proofs.search.search_slots.Goals as goal
 
 pub returns-in_default-clause-answer : goal.returns-in_default-clause-answer
@@ -13,7 +14,8 @@ returns-in_default-clause-answer g c =
     let p = c.args.program.now in
     let starts : start_node (characters_of p) (anchoring_of c.args.input.now.asked.anchored) ≡ None =
     subst (λ a. start_node (characters_of p) (anchoring_of a) ≡ None) c.get_anchored.ensures (sym c.start_state.ensures ∙ c.in_default.is) in
-    none_known p (search_of c.args.utf8_empty c.args.input.now) c.clear_slots.new.slots starts c.clear_slots.ensures
+    let s = search_of c.args.utf8_empty c.args.input.now in
+    none_at c.args.earliest p s c.args.input.now.position c.clear_slots.new.slots (none_known p s c.clear_slots.new.slots starts c.clear_slots.ensures)
 
 pub returns-then-not-enter-clause-answer : goal.returns-then-not-enter-clause-answer
 returns-then-not-enter-clause-answer g c =
@@ -21,8 +23,10 @@ returns-then-not-enter-clause-answer g c =
     let b = c.args.utf8_empty in
     let starts : start_node (characters_of p) (anchoring_of c.args.input.now.asked.anchored) ≡ Some c.in-Some.start =
     subst (λ a. start_node (characters_of p) (anchoring_of a) ≡ Some c.in-Some.start) c.get_anchored.ensures (sym c.start_state.ensures ∙ c.in-Some.is) in
-    none_inside p (search_of b c.args.input.now) c.in-Some.start c.clear_slots.new.slots c.walks_are_those_of_characters.ensures.reads c.program_is_searched_keeping.ensures starts
-    (λ j inside. c.enter.ensures.none c.if-not-enter.true b j inside) c.clear_slots.ensures
+    let s = search_of b c.args.input.now in
+    none_at c.args.earliest p s c.enter.new.input.position c.clear_slots.new.slots
+    (none_inside p s c.in-Some.start c.clear_slots.new.slots c.walks_are_those_of_characters.ensures.reads c.program_is_searched_keeping.ensures starts
+    (λ j inside. c.enter.ensures.none c.if-not-enter.true b j inside) c.clear_slots.ensures)
 
 pub follow-requires-clause-inside : goal.follow-requires-clause-inside
 follow-requires-clause-inside g c =
@@ -45,8 +49,23 @@ returns-clause-answer g c =
     let b = c.args.utf8_empty in
     let old = c.args.input.now in
     let new = c.enter.new.input in
+    let s = search_of b old in
+    let q = c.in-Some.start in
+    let at = c.follow.new.input.position in
+    let slots = c.follow.new.slots in
+    let same : search_of b new ≡ s = same_search b new old c.enter.ensures.same.same.content c.enter.ensures.same.asked_is in
+    let starts : start_node (characters_of p) (anchoring_of old.asked.anchored) ≡ Some q =
+    subst (λ a. start_node (characters_of p) (anchoring_of a) ≡ Some q) c.get_anchored.ensures (sym c.start_state.ensures ∙ c.in-Some.is) in
+    over_at_answers p s q c.walks_are_those_of_characters.ensures.reads c.program_is_searched_keeping.ensures starts c.args.earliest new.position at c.in-Ok.pattern slots
+    (c.enter.ensures.first c.if-not-enter.false)
+    (subst (λ x. IsOverAt c.args.earliest p x q new.position at c.in-Ok.pattern slots) same c.in-Ok.ensures.over)
+
+pub returns-clause-stands : goal.returns-clause-stands
+returns-clause-stands g c =
+    let p = c.args.program.now in
+    let b = c.args.utf8_empty in
+    let old = c.args.input.now in
+    let new = c.enter.new.input in
+    let at = c.follow.new.input.position in
     let same : search_of b new ≡ search_of b old = same_search b new old c.enter.ensures.same.same.content c.enter.ensures.same.asked_is in
-    let starts : start_node (characters_of p) (anchoring_of old.asked.anchored) ≡ Some c.in-Some.start =
-    subst (λ a. start_node (characters_of p) (anchoring_of a) ≡ Some c.in-Some.start) c.get_anchored.ensures (sym c.start_state.ensures ∙ c.in-Some.is) in
-    if_ok c.follow.result (λ pattern. over_answers p (search_of b old) (search_of b new) c.in-Some.start pattern c.follow.new.slots same c.walks_are_those_of_characters.ensures.reads
-    c.program_is_searched_keeping.ensures starts) c.follow.ensures.over
+    stands_there p (search_of b old) at c.in-Ok.pattern (subst (λ x. (c.in-Ok.pattern ≡ None) ⊎ WalkStands p x at) same c.in-Ok.ensures.stands)

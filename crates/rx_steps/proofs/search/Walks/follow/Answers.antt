@@ -1,15 +1,20 @@
-use Rattle.std.proofs.Common.{◌≡◌, ◌+◌, ◌-◌, length, ◌<◌, ◌≤◌, [], None, false, IsTrue, refl, sym, ap, subst, ◌∙◌, arith}
-use Rattle.rx_walks.specs.Finds.{IsInside, unanchored, is_anchored}
-use Rattle.rx_walks.specs.ProgramFinds.{highest}
+use Rattle.std.proofs.Common.{inl, ◌≡◌, ◌⊎◌, ℕ, ◌+◌, ◌-◌, length, ◌<◌, ◌≤◌, [], Option, Some, None, false, true, IsTrue, refl, sym, ap, subst, ◌∙◌, arith}
+use Rattle.std.specs.Option.{is_some}
+use Rattle.rx_input.specs.Inputs.{Asked}
+use Rattle.rx_program.specs.Programs.{ByteProgram, characters_of}
+use Rattle.rx_walks.specs.Finds.{Search, IsInside, up_to_place, unanchored, is_anchored}
+use Rattle.rx_walks.specs.ProgramFinds.{start_node, lowest, highest}
 use Rattle.rx_steps.specs.Searching.{search_of, anchoring_of}
 use Rattle.rx_steps.specs.Caches.{place_count}
-use Rattle.rx_steps.specs.Coming.{IsUnderWay}
+use Rattle.rx_steps.specs.Standing.{WalkStands}
+use Rattle.rx_steps.specs.Coming.{IsUnderWay, IsUnderWayInParts, IsOver, IsOverAt}
 use Rattle.rx_steps.specs.Nodes.{node_count}
 use Rattle.rx_steps.proofs.WorkLaws.{none_done, one_more, is_among_places, next_done, come_so_far}
-use Rattle.rx_steps.proofs.IdleLaws.{AreSkipped, unanchored_start, way_skipped}
+use Rattle.rx_steps.proofs.IdleLaws.{AreSkipped, no_value, unanchored_start, way_skipped}
 use Rattle.rx_steps.proofs.OverLaws.{same_search, way_begun, way_over, way_ended}
+use Rattle.rx_steps.proofs.PartLaws.{parts_begun, parts_skipped, none_skipped, none_more, over_whole, over_early}
 use Rattle.rx_steps.proofs.search.Walks.follow.Goals as goal
-use Rattle.rx_steps.proofs.search.Walks.follow.Goals.{then-are_over-via-then-are_over, then-are_over-via-else-are_over+then-not-go_on}
+use Rattle.rx_steps.proofs.search.Walks.follow.Goals.{else-earliest-via-then-earliest+else-is_some, else-earliest-via-else-earliest, then-are_over-via-then-are_over, then-are_over-via-else-are_over+then-not-go_on}
 
 pub loop-self-init : goal.loop-self-init
 loop-self-init g c = record {
@@ -18,6 +23,11 @@ loop-self-init g c = record {
   slot_len = ap (λ t. t.slot_len) c.clear.ensures;
   way = way_begun c.args.program.now (search_of c.args.utf8_empty c.args.input.now) c.args.start c.args.input.now.position c.clear.new.self.threads c.args.slots.now
       c.requires.first (ap (λ t. t.threads) c.clear.ensures) c.requires.empty;
+  parts = parts_begun c.args.program.now (search_of c.args.utf8_empty c.args.input.now) c.args.start c.args.input.now.position c.clear.new.self.threads c.args.slots.now
+      c.requires.first (ap (λ t. t.threads) c.clear.ensures) c.requires.empty;
+  unmet = λ early. refl;
+  none_before = λ early k from to. absurd (omega (arith, from, to));
+  lives = inl refl;
   same = record { content = refl; is_sized = refl };
   asked = refl;
   work = none_done (node_count c.args.program.now) c.args.self.now.stepper.followed c.args.input.now.position;
@@ -53,14 +63,80 @@ returns-then-are_over-clause-over g c =
     let asked : after.asked ≡ c.args.input.now.asked = c.in_ok-visit.ensures.same.asked_is ∙ c.loop-self.invariant.asked in
     let same' : search_of b after ≡ s = same_search b after c.args.input.now (c.in_ok-visit.ensures.same.same.content ∙ c.loop-self.invariant.same.content) asked in
     let way : IsUnderWay p s q (i + 1) self.live.threads self.met c.visit.new.slots = subst (λ x. IsUnderWay p x q (i + 1) self.live.threads self.met c.visit.new.slots) same c.in_ok-visit.ensures.way in
-    elim c.then-are_over.branch [
+    let unmet : c.args.earliest ≡ true → self.met ≡ None = λ early. elim c.else-earliest.branch [
+      | else-earliest-via-then-earliest+else-is_some w ↦ no_value self.met (sym w.is_some.ensures ∙ w.if-is_some.false)
+      | else-earliest-via-else-earliest w ↦ absurd (cc (sym early ∙ w.if-earliest.false))
+    ] in
+    over_whole p s c.args.earliest q c.args.input.now.position c.then-are_over.input.position self.met c.visit.new.slots unmet
+    (elim c.then-are_over.branch [
       | then-are_over-via-then-are_over w ↦ way_over p s q i self.live.threads self.met c.visit.new.slots c.loop-self.invariant.inside (c.are_over.ensures.live w.if-are_over.true)
           (λ unmet. subst (λ x. IsTrue (is_anchored (anchoring_of x))) (c.get_anchored.ensures ∙ ap (λ x. x.anchored) asked) (c.are_over.ensures.starts w.if-are_over.true unmet)) way
       | then-are_over-via-else-are_over+then-not-go_on w ↦
           let past : highest (search_of b after) < after.position + 1 = w.go_on.ensures.last w.if-not-go_on.true in
           way_ended p s q i self.live.threads self.met c.visit.new.slots
           (subst (λ j. highest s < j + 1) c.in_ok-visit.ensures.same.position_is (subst (λ x. highest x < after.position + 1) same' past)) way
-    ]
+    ])
+
+-- what is asked for stays
+started_so : (p : ByteProgram) (q : ℕ) (a b : Asked) → start_node (characters_of p) (anchoring_of a.anchored) ≡ Some q → b ≡ a → start_node (characters_of p) (anchoring_of b.anchored) ≡ Some q
+started_so p q a b starts same = subst (λ x. start_node (characters_of p) (anchoring_of x.anchored) ≡ Some q) (sym same) starts
+
+-- a walk stands at the place that was visited, if an end was met
+visit_stands : (p : ByteProgram) (s t : Search) (i j : ℕ) (met : Option ℕ) → t ≡ s → j ≡ i → (met ≡ None) ⊎ WalkStands p t i → (met ≡ None) ⊎ WalkStands p s j
+visit_stands p s t i j met same at is = subst (λ k. (met ≡ None) ⊎ WalkStands p s k) (sym at) (subst (λ x. (met ≡ None) ⊎ WalkStands p x i) same is)
+
+pub returns-then-are_over-clause-stands : goal.returns-then-are_over-clause-stands
+returns-then-are_over-clause-stands g c =
+    let p = c.args.program.now in
+    let b = c.args.utf8_empty in
+    let s = search_of b c.args.input.now in
+    let i = c.loop-self.input.position in
+    let before = c.loop-self.input in
+    let same : search_of b before ≡ s = same_search b before c.args.input.now c.loop-self.invariant.same.content c.loop-self.invariant.asked in
+    let at : c.then-are_over.input.position ≡ i = elim c.then-are_over.branch [
+      | then-are_over-via-then-are_over w ↦ ap (λ x. x.position) w.input-is ∙ c.in_ok-visit.ensures.same.position_is
+      | then-are_over-via-else-are_over+then-not-go_on w ↦ ap (λ x. x.position) w.input-is ∙ w.go_on.ensures.stays w.if-not-go_on.true ∙ c.in_ok-visit.ensures.same.position_is
+    ] in
+    visit_stands p s (search_of b before) i c.then-are_over.input.position c.visit.new.self.met same at
+    (c.in_ok-visit.ensures.stands (started_so p c.args.start c.args.input.now.asked before.asked c.requires.start c.loop-self.invariant.asked) c.loop-self.invariant.lives)
+
+pub returns-then-is_some-clause-stands : goal.returns-then-is_some-clause-stands
+returns-then-is_some-clause-stands g c =
+    let p = c.args.program.now in
+    let b = c.args.utf8_empty in
+    let s = search_of b c.args.input.now in
+    let i = c.loop-self.input.position in
+    let before = c.loop-self.input in
+    let same : search_of b before ≡ s = same_search b before c.args.input.now c.loop-self.invariant.same.content c.loop-self.invariant.asked in
+    visit_stands p s (search_of b before) i c.visit.new.input.position c.visit.new.self.met same c.in_ok-visit.ensures.same.position_is
+    (c.in_ok-visit.ensures.stands (started_so p c.args.start c.args.input.now.asked before.asked c.requires.start c.loop-self.invariant.asked) c.loop-self.invariant.lives)
+
+pub returns-then-is_some-clause-over : goal.returns-then-is_some-clause-over
+returns-then-is_some-clause-over g c =
+    let p = c.args.program.now in
+    let b = c.args.utf8_empty in
+    let s = search_of b c.args.input.now in
+    let q = c.args.start in
+    let first = c.args.input.now.position in
+    let i = c.loop-self.input.position in
+    let before = c.loop-self.input in
+    let met = c.visit.new.self.met in
+    let slots = c.visit.new.slots in
+    let same : search_of b before ≡ s = same_search b before c.args.input.now c.loop-self.invariant.same.content c.loop-self.invariant.asked in
+    let so_far : IsOver p (up_to_place s i) q met slots = subst (λ x. IsOver p (up_to_place x i) q met slots) same c.in_ok-visit.ensures.so_far in
+    let inside = c.loop-self.invariant.inside in
+    let early : IsOverAt true p s q first i met slots =
+    over_early p s q first i met slots (λ none. absurd (cc (sym c.if-is_some.true ∙ c.is_some.ensures ∙ ap (λ o. is_some o) none))) (omega (arith, inside.1, inside.3, inside.4)) so_far
+    (c.loop-self.invariant.none_before c.if-earliest.true) in
+    subst (λ e. IsOverAt e p s q first c.visit.new.input.position met slots) (sym c.if-earliest.true) (subst (λ j. IsOverAt true p s q first j met slots) (sym c.in_ok-visit.ensures.same.position_is) early)
+
+pub returns-then-is_some-clause-work : goal.returns-then-is_some-clause-work
+returns-then-is_some-clause-work g c =
+    let s = search_of c.args.utf8_empty c.args.input.now in
+    let first = c.args.input.now.position in
+    let i = c.loop-self.input.position in
+    one_more (node_count c.args.program.now) c.args.self.now.stepper.followed c.loop-self.self.stepper.followed c.visit.new.self.stepper.followed (i - first) (place_count s)
+    c.loop-self.invariant.work c.in_ok-visit.ensures.work (is_among_places s first i c.requires.first c.loop-self.invariant.inside)
 
 pub loop-self-smaller : goal.loop-self-smaller
 loop-self-smaller g c =
@@ -105,12 +181,26 @@ loop-self-preserved g c =
     let free : self.live.threads ≡ [] → self.met ≡ None → (s.anchoring ≡ unanchored) × (q ≡ p.start) =
     λ none unmet. unanchored_start p s.anchoring q
     (subst (λ x. is_anchored (anchoring_of x) ≡ false) (c.get_anchored.ensures ∙ ap (λ x. x.anchored) asked) (c.are_over.ensures.goes_on c.if-are_over.false none unmet)) c.requires.start in
+    let parts : IsUnderWayInParts p s q (i + 1) self.live.threads self.met c.visit.new.slots =
+    subst (λ x. IsUnderWayInParts p x q (i + 1) self.live.threads self.met c.visit.new.slots) same c.in_ok-visit.ensures.parts in
+    let so_far : IsOver p (up_to_place s i) q self.met c.visit.new.slots = subst (λ x. IsOver p (up_to_place x i) q self.met c.visit.new.slots) same c.in_ok-visit.ensures.so_far in
+    let unmet : c.args.earliest ≡ true → self.met ≡ None = λ early. elim c.else-earliest.branch [
+      | else-earliest-via-then-earliest+else-is_some w ↦ no_value self.met (sym w.is_some.ensures ∙ w.if-is_some.false)
+      | else-earliest-via-else-earliest w ↦ absurd (cc (sym early ∙ w.if-earliest.false))
+    ] in
+    let low : lowest s ≤ i + 1 = omega (arith, inside.0, inside.2) in
+    let high : last.position ≤ highest s = omega (arith, there.1, there.3, there.4) in
     record {
       made = c.in_ok-visit.ensures.made;
       inside = there;
       slot_len = c.in_ok-visit.ensures.slot_len;
-      way = way_skipped p s q (i + 1) last.position self.idle self.live.threads self.met c.visit.new.slots next (omega (arith, inside.0, inside.2)) (omega (arith, there.1, there.3, there.4))
+      way = way_skipped p s q (i + 1) last.position self.idle self.live.threads self.met c.visit.new.slots next low high
           c.in_ok-visit.ensures.made.are_idle free skipped way;
+      parts = parts_skipped p s q (i + 1) last.position self.idle self.live.threads self.met c.visit.new.slots next low high c.in_ok-visit.ensures.made.are_idle free skipped parts;
+      unmet = unmet;
+      none_before = λ early. none_more p s q c.args.input.now.position i last.position self.met c.visit.new.slots (c.loop-self.invariant.none_before early) so_far (unmet early)
+          (none_skipped p s q (i + 1) last.position self.idle self.live.threads self.met c.visit.new.slots low high c.in_ok-visit.ensures.made.are_idle free skipped parts);
+      lives = c.are_over.ensures.lives c.if-are_over.false;
       same = record {
         content = c.go_on.ensures.same.same.content ∙ content;
         is_sized = c.go_on.ensures.same.same.is_sized ∙ c.in_ok-visit.ensures.same.same.is_sized ∙ c.loop-self.invariant.same.is_sized;

@@ -1,10 +1,10 @@
-use Rattle.std.proofs.Common.{◌≡◌, ◌+◌, ◌-◌, ◌*◌, ◌≤◌, length}
+use Rattle.std.proofs.Common.{◌≡◌, ◌⊎◌, ◌+◌, ◌-◌, ◌*◌, ◌≤◌, true, [], None, length}
 use Rattle.rx_walks.specs.Finds.{IsInside}
 use Rattle.rx_input.specs.Cursors.{IsSameContent}
 use Rattle.rx_steps.specs.Nodes.{node_count}
 use Rattle.rx_steps.specs.Searching.{search_of}
 use Rattle.rx_steps.specs.Caches.{AreOfProgram}
-use Rattle.rx_steps.specs.Coming.{IsUnderWay}
+use Rattle.rx_steps.specs.Coming.{IsUnderWay, IsUnderWayInParts, HasMetNone}
 use Rattle.rx_steps.proofs.search.Walks.follow.Given as goal
 
 -- the search has come to the place at which the input stands
@@ -14,6 +14,10 @@ invariant-loop-self g l = record {
   inside : IsInside (search_of l.utf8_empty l.fn.input) l.input.position;
   slot_len : l.self.live.slot_len ≡ length l.slots;
   way : IsUnderWay l.program (search_of l.utf8_empty l.fn.input) l.start l.input.position l.self.live.threads l.self.met l.slots;
+  parts : IsUnderWayInParts l.program (search_of l.utf8_empty l.fn.input) l.start l.input.position l.self.live.threads l.self.met l.slots;
+  unmet : l.earliest ≡ true → l.self.met ≡ None;
+  none_before : l.earliest ≡ true → HasMetNone l.program (search_of l.utf8_empty l.fn.input) l.start l.fn.input.position l.input.position;
+  lives : (l.self.met ≡ None) ⊎ (l.self.live.threads ≡ [] → ⊥);
   same : IsSameContent l.fn.input.cursor l.input.cursor;
   asked : l.input.asked ≡ l.fn.input.asked;
   work : l.self.stepper.followed ≤ l.fn.self.stepper.followed + node_count l.program * (l.input.position - l.fn.input.position);

@@ -1,4 +1,4 @@
-use Rattle.std.proofs.Common.{◌≡◌, sym, subst, arith}
+use Rattle.std.proofs.Common.{◌≡◌, ◌<◌, min, sym, subst, arith}
 use Rattle.rx_walks.specs.Finds.{IsInside}
 use Rattle.rx_steps.specs.Idle.{IsPassedAt}
 use Rattle.rx_steps.specs.Searching.{search_of}
@@ -27,3 +27,9 @@ returns-then-not-advance-clause-last g c = λ told. c.advance.ensures.last c.if-
 
 pub returns-else-len-eq0-clause-inside : goal.returns-else-len-eq0-clause-inside
 returns-else-len-eq0-clause-inside g c = λ told inside. c.advance.ensures.inside c.if-not-advance.false c.args.utf8_empty inside
+
+pub returns-then-is_none-clause-no_more : goal.returns-then-is_none-clause-no_more
+returns-then-is_none-clause-no_more g c = λ told none unmet below here.
+    let i = c.skip.new.input.position in
+    c.skip.ensures.no_more (subst (λ a. i < min a.slice.end a.span.end) (sym c.advance.ensures.same.asked_is) below)
+    (subst (λ xs. IsPassedAt c.args.self.now.idle c.args.utf8_empty xs i) (sym c.advance.ensures.same.same.content) here)

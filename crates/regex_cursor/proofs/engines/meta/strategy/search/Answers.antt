@@ -1,14 +1,14 @@
-use Rattle.std.proofs.Common.{◌≡◌, ◌≤◌, length, ap, subst, ◌∙◌, arith}
+use Rattle.std.proofs.Common.{◌≡◌, ◌≤◌, length, replicate, None, refl, sym, ap, subst, ◌∙◌, arith}
+use Rattle.rx_chunk.specs.Engines.{TellsMatch, TellsSlots}
 use Rattle.rx_util.specs.declared.search.Span.{Span}
 use Rattle.rx_util.specs.Captured.{Captured, match_found}
 use Rattle.rx_input.specs.Inputs.{Asked}
 use Rattle.rx_walks.specs.Finds.{up_to_place}
-use Rattle.rx_steps.specs.Searching.{search_of, IsAnswer}
-use Rattle.rx_chunk.specs.Engines.{IsFound}
+use Rattle.rx_steps.specs.Searching.{search_of}
 use Rattle.rx_chunk.proofs.EngineLaws.{on_ok}
 use Rattle.regex_cursor.specs.Strategies.{FindsUpTo, IsLeft}
-use Rattle.regex_cursor.specs.declared.engines.meta.strategy.Left.TheVariants.{UpTo}
-use Rattle.regex_cursor.proofs.StrategyLaws.{told_of, cut_search, up_to_inside, whole_answer, whole_found, whole_inside, cut_asked}
+use Rattle.regex_cursor.specs.declared.engines.meta.strategy.Left.TheVariants.{Nothing, UpTo}
+use Rattle.regex_cursor.proofs.StrategyLaws.{told_of, no_match_told, no_slots_told, cut_search, up_to_inside, whole_match, whole_slots, whole_inside, cut_asked}
 use Rattle.regex_cursor.proofs.engines.meta.strategy.search.Goals as goal
 
 pub set_end-requires : goal.set_end-requires
@@ -17,7 +17,7 @@ set_end-requires g c =
     let p = c.args.vm.now.program in
     let s = search_of c.args.vm.now.utf8_empty i in
     let end = c.in-UpTo.end in
-    let up : FindsUpTo p s end = told_of c.args.vm.now c.args.cache.now i (UpTo end) c.requires.made (subst (λ left. IsLeft c.args.cache.now.program (search_of c.args.cache.now.utf8_empty i) left) c.in-UpTo.is c.in_ok-ask.ensures.left) in
+    let up : FindsUpTo p s end = told_of c.args.vm.now c.args.cache.now i (UpTo end) c.requires.made.same (subst (λ left. IsLeft c.args.cache.now.program (search_of c.args.cache.now.utf8_empty i) left) c.in-UpTo.is c.in_ok-ask.ensures.left) in
     let start : c.ask.new.input.asked.span.start ≡ i.asked.span.start = ap (λ (a : Asked). a.span.start) c.in_ok-ask.ensures.asked in
     omega (arith, start, (up_to_inside p s end c.finds_lie_inside.ensures up).2)
 
@@ -27,7 +27,7 @@ put_back-requires g c =
     let p = c.args.vm.now.program in
     let s = search_of c.args.vm.now.utf8_empty i in
     let end = c.in-UpTo.end in
-    let up : FindsUpTo p s end = told_of c.args.vm.now c.args.cache.now i (UpTo end) c.requires.made (subst (λ left. IsLeft c.args.cache.now.program (search_of c.args.cache.now.utf8_empty i) left) c.in-UpTo.is c.in_ok-ask.ensures.left) in
+    let up : FindsUpTo p s end = told_of c.args.vm.now c.args.cache.now i (UpTo end) c.requires.made.same (subst (λ left. IsLeft c.args.cache.now.program (search_of c.args.cache.now.utf8_empty i) left) c.in-UpTo.is c.in_ok-ask.ensures.left) in
     let span : c.get_span-span.result ≡ i.asked.span = c.get_span-span.ensures ∙ ap (λ (a : Asked). a.span) c.in_ok-ask.ensures.asked in
     let within = up_to_inside p s end c.finds_lie_inside.ensures up in
     omega (arith, ap (λ (x : Span). x.start) span, ap (λ (x : Span). x.end) span, within.2, within.3)
@@ -38,11 +38,12 @@ returns-in-UpTo-clause-answer g c =
     let p = c.args.vm.now.program in
     let s = search_of c.args.vm.now.utf8_empty i in
     let end = c.in-UpTo.end in
-    let up : FindsUpTo p s end = told_of c.args.vm.now c.args.cache.now i (UpTo end) c.requires.made (subst (λ left. IsLeft c.args.cache.now.program (search_of c.args.cache.now.utf8_empty i) left) c.in-UpTo.is c.in_ok-ask.ensures.left) in
+    let up : FindsUpTo p s end = told_of c.args.vm.now c.args.cache.now i (UpTo end) c.requires.made.same (subst (λ left. IsLeft c.args.cache.now.program (search_of c.args.cache.now.utf8_empty i) left) c.in-UpTo.is c.in_ok-ask.ensures.left) in
     let search : search_of c.args.vm.now.utf8_empty c.set_end.new.self ≡ up_to_place s end = cut_search c.args.vm.now.utf8_empty i c.ask.new.input c.set_end.new.self end c.in_ok-ask.ensures.same c.in_ok-ask.ensures.asked c.set_end.ensures in
+    let asked = cut_asked i c.ask.new.input c.set_end.new.self end c.in_ok-ask.ensures.asked c.set_end.ensures in
     let caps = c.search-told.new.caps in
     on_ok c.search-told.result
-    (λ is. whole_answer p s end c.finds_stay_in_cut_spans.ensures c.finds_at_most_one.ensures up caps.pattern caps.slots (subst (λ x. IsAnswer p x caps.pattern caps.slots) search is))
+    (λ is. whole_slots p s end c.finds_stay_in_cut_spans.ensures c.finds_at_most_one.ensures up c.args.vm.now.utf8_empty i c.set_end.new.self caps.pattern caps.slots asked search is)
     c.search-told.ensures.answer
 
 pub returns-in-UpTo-clause-found : goal.returns-in-UpTo-clause-found
@@ -51,13 +52,14 @@ returns-in-UpTo-clause-found g c =
     let p = c.args.vm.now.program in
     let s = search_of c.args.vm.now.utf8_empty i in
     let end = c.in-UpTo.end in
-    let up : FindsUpTo p s end = told_of c.args.vm.now c.args.cache.now i (UpTo end) c.requires.made (subst (λ left. IsLeft c.args.cache.now.program (search_of c.args.cache.now.utf8_empty i) left) c.in-UpTo.is c.in_ok-ask.ensures.left) in
+    let up : FindsUpTo p s end = told_of c.args.vm.now c.args.cache.now i (UpTo end) c.requires.made.same (subst (λ left. IsLeft c.args.cache.now.program (search_of c.args.cache.now.utf8_empty i) left) c.in-UpTo.is c.in_ok-ask.ensures.left) in
     let search : search_of c.args.vm.now.utf8_empty c.set_end.new.self ≡ up_to_place s end = cut_search c.args.vm.now.utf8_empty i c.ask.new.input c.set_end.new.self end c.in_ok-ask.ensures.same c.in_ok-ask.ensures.asked c.set_end.ensures in
+    let asked = cut_asked i c.ask.new.input c.set_end.new.self end c.in_ok-ask.ensures.asked c.set_end.ensures in
     let found = match_found c.search-told.new.caps in
     let groups = ap (λ (x : Captured). x.groups) c.set_pattern.ensures in
     let slots = ap (λ (x : Captured). length x.slots) c.set_pattern.ensures in
     on_ok c.search-told.result
-    (λ if_room. λ same room. whole_found p s end c.finds_stay_in_cut_spans.ensures c.finds_at_most_one.ensures up found (subst (λ x. IsFound p x found) search (if_room (groups ∙ same) (omega (arith, slots, room)))))
+    (λ if_room. λ same room. whole_match p s end c.finds_stay_in_cut_spans.ensures c.finds_at_most_one.ensures up c.args.vm.now.utf8_empty i c.set_end.new.self found asked search (if_room (groups ∙ same) (omega (arith, slots, room))))
     c.search-told.ensures.found
 
 pub returns-in-UpTo-clause-ordered : goal.returns-in-UpTo-clause-ordered
@@ -74,7 +76,7 @@ returns-in-UpTo-clause-inside g c =
     let p = c.args.vm.now.program in
     let s = search_of c.args.vm.now.utf8_empty i in
     let end = c.in-UpTo.end in
-    let up : FindsUpTo p s end = told_of c.args.vm.now c.args.cache.now i (UpTo end) c.requires.made (subst (λ left. IsLeft c.args.cache.now.program (search_of c.args.cache.now.utf8_empty i) left) c.in-UpTo.is c.in_ok-ask.ensures.left) in
+    let up : FindsUpTo p s end = told_of c.args.vm.now c.args.cache.now i (UpTo end) c.requires.made.same (subst (λ left. IsLeft c.args.cache.now.program (search_of c.args.cache.now.utf8_empty i) left) c.in-UpTo.is c.in_ok-ask.ensures.left) in
     let asked = cut_asked i c.ask.new.input c.set_end.new.self end c.in_ok-ask.ensures.asked c.set_end.ensures in
     let near : end ≤ i.asked.span.end = (up_to_inside p s end c.finds_lie_inside.ensures up).3 in
     let groups = ap (λ (x : Captured). x.groups) c.set_pattern.ensures in
@@ -82,3 +84,20 @@ returns-in-UpTo-clause-inside g c =
     on_ok c.search-told.result
     (λ if_room. λ same room. λ a some. whole_inside i c.set_end.new.self end a.span.end asked near (if_room (groups ∙ same) (omega (arith, slots, room)) a some))
     c.search-told.ensures.inside
+
+pub returns-in-Nothing-clause-answer : goal.returns-in-Nothing-clause-answer
+returns-in-Nothing-clause-answer g c =
+    let i = c.args.input.now in
+    let none = told_of c.args.vm.now c.args.cache.now i Nothing c.requires.made.same (subst (λ left. IsLeft c.args.cache.now.program (search_of c.args.cache.now.utf8_empty i) left) c.in-Nothing.is c.in_ok-ask.ensures.left) in
+    let p = c.args.vm.now.program in
+    let s = search_of c.args.vm.now.utf8_empty i in
+    let n = length c.set_pattern.new.self.slots in
+    subst (λ (x : Captured). TellsSlots i.asked.earliest p s x.pattern x.slots) (sym c.note_nothing.ensures) (no_slots_told p s i.asked.earliest (replicate n None) n none refl)
+
+pub returns-in-Nothing-clause-found : goal.returns-in-Nothing-clause-found
+returns-in-Nothing-clause-found g c = λ same room.
+    let i = c.args.input.now in
+    let none = told_of c.args.vm.now c.args.cache.now i Nothing c.requires.made.same (subst (λ left. IsLeft c.args.cache.now.program (search_of c.args.cache.now.utf8_empty i) left) c.in-Nothing.is c.in_ok-ask.ensures.left) in
+    let p = c.args.vm.now.program in
+    let s = search_of c.args.vm.now.utf8_empty i in
+    subst (λ (x : Captured). TellsMatch i.asked.earliest p s (match_found x)) (sym c.note_nothing.ensures) (no_match_told p s i.asked.earliest none)

@@ -14,7 +14,7 @@ pub returns-in-Nothing-clause-answer : goal.returns-in-Nothing-clause-answer
 returns-in-Nothing-clause-answer g c =
     let before = c.set_pattern.new.self in
     nothing_comes c.args.vm.now.program (search_of c.args.vm.now.utf8_empty c.args.input.now) c.args.last_match_end c.note_nothing.new.caps before.groups (length before.slots)
-    (told_of c.args.vm.now c.args.cache.now c.args.input.now Nothing c.requires.made
+    (told_of c.args.vm.now c.args.cache.now c.args.input.now Nothing c.requires.made.same
     (c.in-Nothing.ensures.left c.args.cache.now.program (search_of c.args.cache.now.utf8_empty c.args.input.now) c.in_ok-ask.ensures.left))
     c.note_nothing.ensures
 
@@ -24,7 +24,7 @@ set_end-requires g c =
     let p = c.args.vm.now.program in
     let s = search_of c.args.vm.now.utf8_empty i in
     let end = c.in-UpTo.end in
-    let up : FindsUpTo p s end = told_of c.args.vm.now c.args.cache.now i (UpTo end) c.requires.made (c.in-UpTo.ensures.left c.args.cache.now.program (search_of c.args.cache.now.utf8_empty i) c.in_ok-ask.ensures.left) in
+    let up : FindsUpTo p s end = told_of c.args.vm.now c.args.cache.now i (UpTo end) c.requires.made.same (c.in-UpTo.ensures.left c.args.cache.now.program (search_of c.args.cache.now.utf8_empty i) c.in_ok-ask.ensures.left) in
     let start : c.ask.new.input.asked.span.start ≡ i.asked.span.start = ap (λ (a : Asked). a.span.start) c.in_ok-ask.ensures.asked in
     omega (arith, start, (up_to_inside p s end c.finds_lie_inside.ensures up).2)
 
@@ -34,7 +34,7 @@ put_back-requires g c =
     let p = c.args.vm.now.program in
     let s = search_of c.args.vm.now.utf8_empty i in
     let end = c.in-UpTo.end in
-    let up : FindsUpTo p s end = told_of c.args.vm.now c.args.cache.now i (UpTo end) c.requires.made (c.in-UpTo.ensures.left c.args.cache.now.program (search_of c.args.cache.now.utf8_empty i) c.in_ok-ask.ensures.left) in
+    let up : FindsUpTo p s end = told_of c.args.vm.now c.args.cache.now i (UpTo end) c.requires.made.same (c.in-UpTo.ensures.left c.args.cache.now.program (search_of c.args.cache.now.utf8_empty i) c.in_ok-ask.ensures.left) in
     let span : c.get_span-span.result ≡ i.asked.span = c.get_span-span.ensures ∙ ap (λ (a : Asked). a.span) c.in_ok-ask.ensures.asked in
     let within = up_to_inside p s end c.finds_lie_inside.ensures up in
     omega (arith, ap (λ (x : Span). x.start) span, ap (λ (x : Span). x.end) span, within.2, within.3)
@@ -45,7 +45,7 @@ returns-in-UpTo-clause-answer g c =
     let p = c.args.vm.now.program in
     let s = search_of c.args.vm.now.utf8_empty i in
     let end = c.in-UpTo.end in
-    let up : FindsUpTo p s end = told_of c.args.vm.now c.args.cache.now i (UpTo end) c.requires.made (c.in-UpTo.ensures.left c.args.cache.now.program (search_of c.args.cache.now.utf8_empty i) c.in_ok-ask.ensures.left) in
+    let up : FindsUpTo p s end = told_of c.args.vm.now c.args.cache.now i (UpTo end) c.requires.made.same (c.in-UpTo.ensures.left c.args.cache.now.program (search_of c.args.cache.now.utf8_empty i) c.in_ok-ask.ensures.left) in
     let search : search_of c.args.vm.now.utf8_empty c.set_end.new.self ≡ up_to_place s end = cut_search c.args.vm.now.utf8_empty i c.ask.new.input c.set_end.new.self end c.in_ok-ask.ensures.same c.in_ok-ask.ensures.asked c.set_end.ensures in
     let last = c.args.last_match_end in
     let apart = c.in-UpTo.ensures.behind end refl in
@@ -60,7 +60,7 @@ returns-in-UpTo-clause-ahead g c =
     let p = c.args.vm.now.program in
     let s = search_of c.args.vm.now.utf8_empty i in
     let end = c.in-UpTo.end in
-    let up : FindsUpTo p s end = told_of c.args.vm.now c.args.cache.now i (UpTo end) c.requires.made (c.in-UpTo.ensures.left c.args.cache.now.program (search_of c.args.cache.now.utf8_empty i) c.in_ok-ask.ensures.left) in
+    let up : FindsUpTo p s end = told_of c.args.vm.now c.args.cache.now i (UpTo end) c.requires.made.same (c.in-UpTo.ensures.left c.args.cache.now.program (search_of c.args.cache.now.utf8_empty i) c.in_ok-ask.ensures.left) in
     let search : search_of c.args.vm.now.utf8_empty c.set_end.new.self ≡ up_to_place s end = cut_search c.args.vm.now.utf8_empty i c.ask.new.input c.set_end.new.self end c.in_ok-ask.ensures.same c.in_ok-ask.ensures.asked c.set_end.ensures in
     let last = c.args.last_match_end in
     on_ok c.search_next-told.result

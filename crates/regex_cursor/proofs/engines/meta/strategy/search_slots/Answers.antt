@@ -1,12 +1,12 @@
-use Rattle.std.proofs.Common.{◌≡◌, ap, subst, ◌∙◌, arith}
+use Rattle.std.proofs.Common.{◌≡◌, length, ap, subst, ◌∙◌, arith}
 use Rattle.rx_util.specs.declared.search.Span.{Span}
 use Rattle.rx_input.specs.Inputs.{Asked}
 use Rattle.rx_walks.specs.Finds.{up_to_place}
-use Rattle.rx_steps.specs.Searching.{search_of, IsAnswer}
+use Rattle.rx_steps.specs.Searching.{search_of}
 use Rattle.rx_chunk.proofs.EngineLaws.{if_ok}
 use Rattle.regex_cursor.specs.Strategies.{FindsUpTo, IsLeft}
-use Rattle.regex_cursor.specs.declared.engines.meta.strategy.Left.TheVariants.{UpTo}
-use Rattle.regex_cursor.proofs.StrategyLaws.{told_of, cut_search, up_to_inside, whole_answer}
+use Rattle.regex_cursor.specs.declared.engines.meta.strategy.Left.TheVariants.{Nothing, UpTo}
+use Rattle.regex_cursor.proofs.StrategyLaws.{told_of, cut_asked, cut_search, up_to_inside, no_slots_told, whole_slots}
 use Rattle.regex_cursor.proofs.engines.meta.strategy.search_slots.Goals as goal
 
 pub set_end-requires : goal.set_end-requires
@@ -15,7 +15,7 @@ set_end-requires g c =
     let p = c.args.vm.now.program in
     let s = search_of c.args.vm.now.utf8_empty i in
     let end = c.in-UpTo.end in
-    let up : FindsUpTo p s end = told_of c.args.vm.now c.args.cache.now i (UpTo end) c.requires.made (subst (λ left. IsLeft c.args.cache.now.program (search_of c.args.cache.now.utf8_empty i) left) c.in-UpTo.is c.in_ok-ask.ensures.left) in
+    let up : FindsUpTo p s end = told_of c.args.vm.now c.args.cache.now i (UpTo end) c.requires.made.same (subst (λ left. IsLeft c.args.cache.now.program (search_of c.args.cache.now.utf8_empty i) left) c.in-UpTo.is c.in_ok-ask.ensures.left) in
     let start : c.ask.new.input.asked.span.start ≡ i.asked.span.start = ap (λ (a : Asked). a.span.start) c.in_ok-ask.ensures.asked in
     omega (arith, start, (up_to_inside p s end c.finds_lie_inside.ensures up).2)
 
@@ -25,7 +25,7 @@ put_back-requires g c =
     let p = c.args.vm.now.program in
     let s = search_of c.args.vm.now.utf8_empty i in
     let end = c.in-UpTo.end in
-    let up : FindsUpTo p s end = told_of c.args.vm.now c.args.cache.now i (UpTo end) c.requires.made (subst (λ left. IsLeft c.args.cache.now.program (search_of c.args.cache.now.utf8_empty i) left) c.in-UpTo.is c.in_ok-ask.ensures.left) in
+    let up : FindsUpTo p s end = told_of c.args.vm.now c.args.cache.now i (UpTo end) c.requires.made.same (subst (λ left. IsLeft c.args.cache.now.program (search_of c.args.cache.now.utf8_empty i) left) c.in-UpTo.is c.in_ok-ask.ensures.left) in
     let span : c.get_span-span.result ≡ i.asked.span = c.get_span-span.ensures ∙ ap (λ (a : Asked). a.span) c.in_ok-ask.ensures.asked in
     let within = up_to_inside p s end c.finds_lie_inside.ensures up in
     omega (arith, ap (λ (x : Span). x.start) span, ap (λ (x : Span). x.end) span, within.2, within.3)
@@ -36,9 +36,18 @@ returns-in-UpTo-clause-answer g c =
     let p = c.args.vm.now.program in
     let s = search_of c.args.vm.now.utf8_empty i in
     let end = c.in-UpTo.end in
-    let up : FindsUpTo p s end = told_of c.args.vm.now c.args.cache.now i (UpTo end) c.requires.made (subst (λ left. IsLeft c.args.cache.now.program (search_of c.args.cache.now.utf8_empty i) left) c.in-UpTo.is c.in_ok-ask.ensures.left) in
+    let up : FindsUpTo p s end = told_of c.args.vm.now c.args.cache.now i (UpTo end) c.requires.made.same (subst (λ left. IsLeft c.args.cache.now.program (search_of c.args.cache.now.utf8_empty i) left) c.in-UpTo.is c.in_ok-ask.ensures.left) in
     let search : search_of c.args.vm.now.utf8_empty c.set_end.new.self ≡ up_to_place s end = cut_search c.args.vm.now.utf8_empty i c.ask.new.input c.set_end.new.self end c.in_ok-ask.ensures.same c.in_ok-ask.ensures.asked c.set_end.ensures in
+    let asked = cut_asked i c.ask.new.input c.set_end.new.self end c.in_ok-ask.ensures.asked c.set_end.ensures in
     let slots = c.search_slots-found.new.slots in
     if_ok c.search_slots-found.result
-    (λ pattern is. whole_answer p s end c.finds_stay_in_cut_spans.ensures c.finds_at_most_one.ensures up pattern slots (subst (λ x. IsAnswer p x pattern slots) search is))
+    (λ pattern is. whole_slots p s end c.finds_stay_in_cut_spans.ensures c.finds_at_most_one.ensures up c.args.vm.now.utf8_empty i c.set_end.new.self pattern slots asked search is)
     c.search_slots-found.ensures.answer
+
+pub returns-in-Nothing-clause-answer : goal.returns-in-Nothing-clause-answer
+returns-in-Nothing-clause-answer g c =
+    let i = c.args.input.now in
+    let none = told_of c.args.vm.now c.args.cache.now i Nothing c.requires.made.same (subst (λ left. IsLeft c.args.cache.now.program (search_of c.args.cache.now.utf8_empty i) left) c.in-Nothing.is c.in_ok-ask.ensures.left) in
+    let p = c.args.vm.now.program in
+    let s = search_of c.args.vm.now.utf8_empty i in
+    no_slots_told p s i.asked.earliest c.clear_slots.new.slots (length c.args.slots.now) none c.clear_slots.ensures

@@ -1,0 +1,29 @@
+use Rattle.std.proofs.Common.{subst}
+use Rattle.rx_steps.specs.Searching.{search_of, IsAnswerAt}
+use Rattle.rx_chunk.proofs.EngineLaws.{if_ok, if_both}
+use Rattle.rx_chunk.proofs.EarlyLaws.{tells_slots, stops_at}
+use Rattle.rx_chunk.proofs.pikevm.search_slots.Goals as goal
+
+pub returns-clause-answer_at : goal.returns-clause-answer_at
+returns-clause-answer_at g c =
+    let p = c.args.vm.now.program in
+    let s = search_of c.args.vm.now.utf8_empty c.args.input.now in
+    let i = c.seek.new.input.position in
+    let slots = c.seek.new.slots in
+    if_ok c.seek.result (λ pattern is. subst (λ b. IsAnswerAt b p s i pattern slots) c.get_earliest-earliest.ensures is) c.seek.ensures.answer
+
+pub returns-clause-answer : goal.returns-clause-answer
+returns-clause-answer g c =
+    let p = c.args.vm.now.program in
+    let s = search_of c.args.vm.now.utf8_empty c.args.input.now in
+    let i = c.seek.new.input.position in
+    let slots = c.seek.new.slots in
+    if_ok c.seek.result (λ pattern is. tells_slots c.args.input.now.asked.earliest p s i pattern slots c.cut_spans_tell.ensures is) (returns-clause-answer_at g c)
+
+pub returns-clause-stops : goal.returns-clause-stops
+returns-clause-stops g c =
+    let p = c.args.vm.now.program in
+    let s = search_of c.args.vm.now.utf8_empty c.args.input.now in
+    let i = c.seek.new.input.position in
+    let slots = c.seek.new.slots in
+    if_both c.seek.result (λ pattern is stands. stops_at c.args.input.now.asked.earliest p s i pattern slots is stands) (returns-clause-answer_at g c) c.seek.ensures.stands

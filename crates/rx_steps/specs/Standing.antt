@@ -1,0 +1,29 @@
+-- Where walks stand.
+use Rattle.std.specs.Prelude.{◌≡◌, ℕ, List, Some, slice_get}
+use Rattle.rx_walks.specs.Machines.{Machine, goes, reads}
+use Rattle.rx_walks.specs.Finds.{Search}
+use Rattle.rx_walks.specs.Laws.{Begins}
+use Rattle.rx_walks.specs.ProgramFinds.{start_node}
+use Rattle.rx_program.specs.Programs.{ByteProgram, characters_of}
+use Rattle.rx_steps.specs.Threads.{Slots, Thread}
+use Rattle.rx_steps.specs.Lists.{slot_machine}
+use Rattle.rx_steps.specs.Searching.{haystack_in}
+
+-- empty edges and reads lead from a node at a place to a node at a place
+pub data Leads {Q N : Type 0} (m : Machine Q N) (q : Q) (i : ℕ) : Q → ℕ → Type 0 where
+  at_once : Leads m q i q i
+  by_edge : {r : Q} {j : ℕ} (rs : List Q) (t : Q) (k : ℕ) → Leads m q i r j → m.move j r ≡ goes rs
+      → slice_get rs k ≡ Some t → Leads m q i t j
+  by_read : {r : Q} {j : ℕ} (t : Q) (k : ℕ) → Leads m q i r j → m.move j r ≡ reads t k
+      → Leads m q i t k
+
+-- a thread stands where a walk does, from a start node at a place where a match may begin
+abbrev pub IsReached : Machine (ℕ × ℕ) Slots → Search → ℕ → ℕ → Thread → Type 0
+IsReached m s q i thread = (j : ℕ) × Begins s j × Leads m (q, 0) j thread.1 i
+
+-- a walk of the program, from a place where a match may begin, stands at this place
+pub record WalkStands (p : ByteProgram) (s : Search) (i : ℕ) : Type 0 where
+  pub start : ℕ
+  pub starts : start_node (characters_of p) s.anchoring ≡ Some start
+  pub thread : Thread
+  pub reached : IsReached (slot_machine p (haystack_in p.line_terminator s)) s start i thread
