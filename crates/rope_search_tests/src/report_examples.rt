@@ -1,6 +1,6 @@
 //! An example for each public type of `rope_search_reports`.
 use rope_search::{
-    Finder, Groups, Lines, Position, Rope, byte_of, find_all, position_of, search_line,
+    Fault, Finder, Groups, Lines, Position, Rope, Row, byte_of, find_all, position_of, search_line,
 };
 use std::test::Fail;
 
@@ -14,11 +14,23 @@ fn one_finder_for_many_lines(rt: HostRuntime) -> Result<(), Fail> {
     let row = search_line(&mut tick, &mut finder, text.slice(..))?;
     assert!(rt; row.matches() == [(0, 2), (4, 7)].as_slice());
     assert!(rt; tick.count() == 1);
-    // Each search of a line is counted, whatever it finds.
-    if let Some(front) = text.get_slice(..1) {
-        let row = search_line(&mut tick, &mut finder, front)?;
-        assert!(rt; row.matches().is_empty());
-    }
+    Ok(())
+}
+
+// Nothing is said of what it answers: so what follows is proved without the contract of a search, and
+// shows what that does.
+fn row_of(finder: &mut Finder, tick: &mut Lines, text: &Rope) -> Result<Row, Fault> {
+    search_line(tick, finder, text.slice(..))
+}
+
+/// Each search of a line is counted, whatever it finds.
+#[test]
+fn lines_without_a_match(rt: HostRuntime) -> Result<(), Fail> {
+    let text = Rope::from_str(rt.alloc(), "a")?;
+    let mut tick = Lines::new(&rt);
+    let mut finder = Finder::new(rt.alloc(), "a+b")?;
+    assert!(rt; row_of(&mut finder, &mut tick, &text)?.matches().is_empty());
+    assert!(rt; row_of(&mut finder, &mut tick, &text)?.matches().is_empty());
     assert!(rt; (tick.count(), tick.wholes()) == (2, 0));
     Ok(())
 }
