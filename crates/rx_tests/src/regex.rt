@@ -116,29 +116,33 @@ fn builder(rt: HostRuntime) -> Result<(), Fail> {
     Ok(())
 }
 
-/// Where a match starts that is found with a cache which is lent.
-fn start_with(re: &Regex, cache: &mut Cache) -> Result<usize, MatchError>
+/// The match that is found with a cache which is lent.
+fn found_with(re: &Regex, cache: &mut Cache) -> Result<Option<Span>, MatchError>
     requires { IsCacheOf re.now cache.old }
     ensures { IsCacheOf re.now cache.new }
 {
     let found = re.search_with(cache, &mut Input::new("bax"))?;
-    Ok(found.map_or(0, |found| found.start()))
+    Ok(found.map(|found| found.span()))
 }
 
 /// One search each by two regexes, for the second of which the cache is reset.
-fn in_turn(first: &Regex, second: &Regex, cache: &mut Cache) -> Result<(usize, usize), MatchError>
+fn in_turn(
+    first: &Regex,
+    second: &Regex,
+    cache: &mut Cache,
+) -> Result<(Option<Span>, Option<Span>), MatchError>
     requires { IsCacheOf first.now cache.old }
 {
-    let start = start_with(first, cache)?;
+    let found = found_with(first, cache)?;
     cache.reset(second)?;
-    Ok((start, start_with(second, cache)?))
+    Ok((found, found_with(second, cache)?))
 }
 
 fn with_one_cache(
     alloc: Global,
     first: &Regex,
     second: &Regex,
-) -> Result<(usize, usize), MatchError> {
+) -> Result<(Option<Span>, Option<Span>), MatchError> {
     let mut cache = Cache::new(alloc, first)?;
     in_turn(first, second, &mut cache)
 }
@@ -148,7 +152,9 @@ fn with_one_cache(
 fn cache(rt: HostRuntime) -> Result<(), Fail> {
     let first = Regex::new(rt.alloc(), "x")?;
     let second = Regex::new(rt.alloc(), "a")?;
-    assert!(rt; with_one_cache(rt.alloc(), &first, &second)? == (2, 1));
+    let found = with_one_cache(rt.alloc(), &first, &second)?;
+    assert!(rt; found.0 == Some(Span { start: 2, end: 3 }));
+    assert!(rt; found.1 == Some(Span { start: 1, end: 2 }));
     assert!(rt; first.create_cache()?.memory_usage() > 0);
     Ok(())
 }
@@ -163,14 +169,14 @@ fn clones(rt: HostRuntime) -> Result<(), Fail> {
     Ok(())
 }
 
-fn with_clone(re: &Regex, cache: &Cache) -> Result<usize, MatchError>
+fn with_clone(re: &Regex, cache: &Cache) -> Result<Option<Span>, MatchError>
     requires { IsCacheOf re.now cache.now }
 {
     let mut copy = cache.clone()?;
-    start_with(re, &mut copy)
+    found_with(re, &mut copy)
 }
 
-fn with_cloned_cache(re: &Regex) -> Result<usize, MatchError> {
+fn with_cloned_cache(re: &Regex) -> Result<Option<Span>, MatchError> {
     let cache = re.create_cache()?;
     with_clone(re, &cache)
 }
@@ -179,7 +185,7 @@ fn with_cloned_cache(re: &Regex) -> Result<usize, MatchError> {
 #[test]
 fn clone_of_a_cache(rt: HostRuntime) -> Result<(), Fail> {
     let re = Regex::new(rt.alloc(), "a")?;
-    assert!(rt; with_cloned_cache(&re)? == 1);
+    assert!(rt; with_cloned_cache(&re)? == Some(Span { start: 1, end: 2 }));
     Ok(())
 }
 
