@@ -2,6 +2,7 @@
 a run of a topic: it gives each figure with what it is of, what it is, and its unit, which is `failed` where an answer
 is wrong. A figure is the median of some runs."""
 import os
+import random
 import re
 import statistics
 import subprocess
@@ -98,6 +99,32 @@ def list_matches(folder, tiny):
         yield of, "grep", nanos([run[0] for run in theirs]), "ns"
         yield of, "Python's re", f"{by_re}", "ns"
         yield of, "matches", f"{matches}", ""
+
+
+def letters_in(lines, count):
+    """Commands that insert a letter in so many lines drawn by lot."""
+    chance = random.Random(11)
+    places = [(chance.randrange(lines), chance.randrange(40)) for _ in range(count)]
+    return b"".join(b"edit %d %d %d %d 1\ne" % (*place, *place) for place in places)
+
+
+def edit_lines(folder, tiny):
+    lines, edits = (4_000, 1_000) if tiny else (400_000, 50_000)
+    text = lines_of(lines)
+    split = text.decode().split("\n")
+    letters = letters_in(lines, edits)
+    for pattern in ["let", *EXPRESSIONS]:
+        of = f"`{pattern}`"
+        setting = command("text", text) + command("pattern", pattern.encode())
+        ways = [setting, setting + letters, setting + letters + b"undo\n" * edits]
+        given = [written(folder, name, session) for name, session in zip(("alone", "edited", "undone"), ways)]
+        runs = [[timed([PROGRAM], path) for path in given] for _ in range(RUNS)]
+        is_right = all(run[1] == b"ok\n" * (2 + k * edits) for row in runs for k, run in enumerate(row))
+        alone, edited, undone = (statistics.median(row[k][0] for row in runs) for k in range(3))
+        yield of, "a letter in a random line", f"{(edited - alone) / edits:.1f}", "ns" if is_right else "failed"
+        yield of, "undo", f"{(undone - edited) / edits:.1f}", "ns"
+        again = seconds_of(lambda: listed(split, re.compile(pattern, re.ASCII)))[0]
+        yield of, "all lines searched again by Python's re", f"{again}", "ns"
 
 
 def marked(lines, gap):

@@ -45,6 +45,9 @@ EDITS = [
       "Err(ByteRangeNotCharBoundary(Some(5), Some(8)))", hexed("axy\n🐸"), "Ok(())", hexed("a\r\n🐸"), "7 4 5 2", "Ok(())",
       hexed("a\r\né"), "Ok(())", hexed("\r\né"), "Ok(())", hexed("🐸\n"), "Err(ByteRangeNotCharBoundary(Some(1), Some(4)))",
       "Ok(())", "1 1 1 2"]),
+    # Of the characters that Unicode lets break lines LF and CR do, CR LF as one.
+    ("a\nb\vc\fd\re\x85f\u2028g\u2029h\r\ni", ["lengths", "same", "remove,1,2", "remove,6,7", "lengths", "same"],
+     ["23 18 18 4", "true true Equal", "Ok(())", "Ok(())", "21 16 16 2", "true true Equal"]),
     # What a builder is given by slices: the text up to one character, and that from another one on.
     ("aé\r\n🐸", ["build,3,3", "text", "build,2,3", "text", "cut", "build,4,0", "text", "same", "build,0,8", "lengths"],
      ["Ok(9)", hexed("aé\r\n🐸"), "Ok(8)", hexed("aé\n🐸"), "8 984", "Ok(16)", hexed("aé\n🐸aé\n🐸"), "true true Equal", "Ok(0)",
@@ -209,7 +212,7 @@ def random_edits(seed, count, most, units, every, sizes):
 
 def edits_at_random():
     few, many = (lambda chance: chance.randint(0, 8)), (lambda chance: chance.randint(0, 4_000))
-    units = ("a", "b", "\r", "\n", "\r\n", "é", "🐸", "words \u2028")
+    units = ("a", "b", "\r", "\n", "\r\n", "é", "🐸", "words \v\f\x85\u2028\u2029")
     yield random_edits(7, 60_000, 15_000, units, 600, [few] * 99 + [many]).row()
     yield random_edits(1, 600, 60_000, ("a", "\r", "\n", "b\r\nc"), 10, [few] * 7 + [lambda chance: chance.randint(0, 3_000)]).row()
     yield random_edits(2, 4_000, 80_000, ("\nc\r", "aé\r\nb"), 100, [lambda chance: chance.randint(0, 300)]).row()

@@ -25,7 +25,7 @@ use Rattle.rx_chunk.specs.Iterating.{GivesNext, captured_of}
 use Rattle.regex_cursor.specs.declared.engines.meta.captures_matches.CapturesMatches.{CapturesMatches}
 use Rattle.regex_cursor.specs.declared.engines.meta.find_matches.FindMatches.{FindMatches}
 use Rattle.regex_cursor.specs.declared.engines.meta.split.Split.{Split}
-use Rattle.regex_cursor.specs.declared.engines.meta.split.SplitN.{SplitN}
+use Rattle.regex_cursor.specs.declared.engines.meta.split_n.SplitN.{SplitN}
 use Rattle.regex_cursor.specs.Patterns.{FoundMatch, start_of, end_of}
 use Rattle.regex_cursor.specs.Regexes.{Engine, HasRoom}
 use Rattle.regex_cursor.specs.Iterating as iterating
@@ -160,11 +160,11 @@ module _ (p : ByteProgram) (grow : (s : Search) → HasFirstMatches is_in is_wor
 abbrev pub MatchesGrow : Engine → Type 0
 MatchesGrow re = (s : Search) → HasFirstMatches is_in is_word_char (characters_of re.program) s
 
-pub finds_in_order : {C : Type 0} {cursor : Ghosts C} (re : Engine) (s : Search) (m : FindMatches C cursor) → MatchesGrow re → iterating.regex_of m ≡ re → iterating.left_of m ≡ matches_from s
+pub finds_in_order : {C : Type 0} (re : Engine) (s : Search) (m : FindMatches C) → MatchesGrow re → iterating.regex_of m ≡ re → iterating.left_of m ≡ matches_from s
     → iterating.GivesAll re s m
-finds_in_order {C} {cursor} re s m grow is stands =
+finds_in_order {C} re s m grow is stands =
     in_order re.program grow s match_of iterating.left_of iterating.Gives (λ n. iterating.regex_of n ≡ re)
-    (λ (a b : FindMatches C cursor) (item : Option (Result Found MatchError)) (of : iterating.regex_of a ≡ re) (step : iterating.Gives a item b). (
+    (λ (a b : FindMatches C) (item : Option (Result Found MatchError)) (of : iterating.regex_of a ≡ re) (step : iterating.Gives a item b). (
       step.same_regex ∙ of,
       subst (λ r. GivesMatch (Finds r.program) match_of (iterating.left_of a) item (iterating.left_of b)) of step.next.gives,
     ))
@@ -320,8 +320,8 @@ take-none : (n : ℕ) → take {A = FoundMatch} n [] ≡ []
 take-none zero = refl
 take-none (suc n) = refl
 
-module _ (C : Type 0) (cursor : Ghosts C) (re : Engine) (grow : MatchesGrow re) (s : Search) where
-  abbrev Splits : Split C cursor → Type 0
+module _ (C : Type 0) (re : Engine) (grow : MatchesGrow re) (s : Search) where
+  abbrev Splits : Split C → Type 0
   Splits m = splitting.regex_of m ≡ re
 
   abbrev First : List FoundMatch → Type 0
@@ -333,11 +333,11 @@ module _ (C : Type 0) (cursor : Ghosts C) (re : Engine) (grow : MatchesGrow re) 
   abbrev Stands : List FoundMatch → PartsLeft → Type 0
   Stands ms a = a ≡ parts_behind s (last_or None ms)
 
-  step-of : (m n : Split C cursor) (item : Option (Result Span MatchError)) → Splits m → splitting.Gives m item n
+  step-of : (m n : Split C) (item : Option (Result Span MatchError)) → Splits m → splitting.Gives m item n
       → Splits n × SplitsOff re.program (splitting.left_of m) (splitting.left_of n) item
   step-of m n item of step = (step.same_regex ∙ of, subst (λ r. SplitsOff r.program (splitting.left_of m) (splitting.left_of n) item) of step.next)
 
-  over-none : (m n : Split C cursor) (items : List (Result Span MatchError)) → Splits m → (splitting.left_of m).is_over ≡ true → Yields splitting.Gives m items n → items ≡ []
+  over-none : (m n : Split C) (items : List (Result Span MatchError)) → Splits m → (splitting.left_of m).is_over ≡ true → Yields splitting.Gives m items n → items ≡ []
   over-none m n [] of done run = refl
   over-none m n (item ∷ items) of done run =
       absurd (over-gives re.program (splitting.left_of m) (splitting.left_of run.0) item done (step-of m run.0 (Some item) of run.1).1)
@@ -400,7 +400,7 @@ module _ (C : Type 0) (cursor : Ghosts C) (re : Engine) (grow : MatchesGrow re) 
       (subst (λ e. EndsWith (part_start (last_or None ms)) e None) (end-is ms a stands)
       (subst (λ b. EndsWith b (end_of_search a.matches.search) None) (starts-at ms a stands) ends))
 
-  first-parts : (ms : List FoundMatch) (m n : Split C cursor) (xs : List Span) → Splits m → First ms → Stands ms (splitting.left_of m) → Yields splitting.Gives m (not_refused xs) n
+  first-parts : (ms : List FoundMatch) (m n : Split C) (xs : List Span) → Splits m → First ms → Stands ms (splitting.left_of m) → Yields splitting.Gives m (not_refused xs) n
       → (more : List FoundMatch) × All (ms ++ more) × (others : List Span) × (Gaps ms more ≡ xs ++ others)
   first-parts ms m n [] of are stands run = (are.0, are.1, Gaps ms are.0, refl)
   first-parts ms m n (x ∷ xs) of are stands run =
@@ -424,7 +424,7 @@ module _ (C : Type 0) (cursor : Ghosts C) (re : Engine) (grow : MatchesGrow re) 
             )
       ]
 
-  all-parts : (ms : List FoundMatch) (m t u : Split C cursor) (xs : List Span) → Splits m → First ms → Stands ms (splitting.left_of m) → Yields splitting.Gives m (not_refused xs) t
+  all-parts : (ms : List FoundMatch) (m t u : Split C) (xs : List Span) → Splits m → First ms → Stands ms (splitting.left_of m) → Yields splitting.Gives m (not_refused xs) t
       → splitting.Gives t None u → (more : List FoundMatch) × All (ms ++ more) × (xs ≡ Gaps ms more)
   all-parts ms m t u [] of are stands run last =
       let step = step-of m u None of (subst (λ k. splitting.Gives k None u) (sym run) last) in
@@ -453,7 +453,7 @@ module _ (C : Type 0) (cursor : Ghosts C) (re : Engine) (grow : MatchesGrow re) 
             )
       ]
 
-  none-behind-refusal : (m n : Split C cursor) (xs : List Span) (error : MatchError) (others : List (Result Span MatchError)) → Splits m
+  none-behind-refusal : (m n : Split C) (xs : List Span) (error : MatchError) (others : List (Result Span MatchError)) → Splits m
       → Yields splitting.Gives m (not_refused xs ++ Err error ∷ others) n → others ≡ []
   none-behind-refusal m n [] error others of run =
       let step = step-of m run.0 (Some (Err error)) of run.1 in
@@ -461,7 +461,7 @@ module _ (C : Type 0) (cursor : Ghosts C) (re : Engine) (grow : MatchesGrow re) 
   none-behind-refusal m n (x ∷ xs) error others of run =
       none-behind-refusal run.0 n xs error others (step-of m run.0 (Some (Ok x)) of run.1).0 run.2
 
-  pub gives_gaps : (m : Split C cursor) → splitting.regex_of m ≡ re → splitting.left_of m ≡ parts_of (matches_from s) → GivesGaps re s m
+  pub gives_gaps : (m : Split C) → splitting.regex_of m ≡ re → splitting.left_of m ≡ parts_of (matches_from s) → GivesGaps re s m
   gives_gaps m of stands = record {
     first = λ n xs run. first-parts [] m n xs of (grow s).none stands run;
     all = λ xs run. all-parts [] m run.1.0 run.0 xs of (grow s).none stands run.1.1 run.1.2;
@@ -470,21 +470,21 @@ module _ (C : Type 0) (cursor : Ghosts C) (re : Engine) (grow : MatchesGrow re) 
 
   -- ---- at most so many parts
 
-  abbrev SplitsToo : SplitN C cursor → Type 0
+  abbrev SplitsToo : SplitN C → Type 0
   SplitsToo m = few.regex_of m ≡ re
 
-  abbrev PartsOf : SplitN C cursor → PartsLeft
-  PartsOf m = splitting.left_of m.splits
+  abbrev PartsOf : SplitN C → PartsLeft
+  PartsOf m = (few.left_of m).parts
 
-  few-step : (m n : SplitN C cursor) (item : Option (Result Span MatchError)) → SplitsToo m → few.Gives m item n → SplitsToo n × SplitsFew re.program (PartsOf m) (PartsOf n) m.limit n.limit item
+  few-step : (m n : SplitN C) (item : Option (Result Span MatchError)) → SplitsToo m → few.Gives m item n → SplitsToo n × SplitsFew re.program (PartsOf m) (PartsOf n) m.limit n.limit item
   few-step m n item of step = (step.same_regex ∙ of, subst (λ r. SplitsFew r.program (PartsOf m) (PartsOf n) m.limit n.limit item) of step.next)
 
-  few-give-none : (m n : SplitN C cursor) (items : List (Result Span MatchError)) → SplitsToo m → (m.limit ≡ 0) ⊎ ((PartsOf m).is_over ≡ true) → Yields few.Gives m items n → items ≡ []
+  few-give-none : (m n : SplitN C) (items : List (Result Span MatchError)) → SplitsToo m → (m.limit ≡ 0) ⊎ ((PartsOf m).is_over ≡ true) → Yields few.Gives m items n → items ≡ []
   few-give-none m n [] of done run = refl
   few-give-none m n (item ∷ items) of done run =
       absurd (few-over re.program (PartsOf m) (PartsOf run.0) m.limit run.0.limit (Some item) item refl done (few-step m run.0 (Some item) of run.1).1)
 
-  few-give-no-part : (m n : SplitN C cursor) (xs : List Span) → SplitsToo m → (m.limit ≡ 0) ⊎ ((PartsOf m).is_over ≡ true) → Yields few.Gives m (not_refused xs) n → xs ≡ []
+  few-give-no-part : (m n : SplitN C) (xs : List Span) → SplitsToo m → (m.limit ≡ 0) ⊎ ((PartsOf m).is_over ≡ true) → Yields few.Gives m (not_refused xs) n → xs ≡ []
   few-give-no-part m n xs of done run = none-refused xs (few-give-none m n (not_refused xs) of done run)
 
   abbrev FewGaps : ℕ → List FoundMatch → List FoundMatch → List Span
@@ -505,7 +505,7 @@ module _ (C : Type 0) (cursor : Ghosts C) (re : Engine) (grow : MatchesGrow re) 
   last-of-few : (limit : ℕ) (ms more : List FoundMatch) (a : PartsLeft) (x : Span) → Stands ms a → limit ≡ 1 → EndsWith a.last (end_of_search a.matches.search) (Some x) → FewGaps limit ms more ≡ x ∷ []
   last-of-few limit ms more a x stands limit_is rest = ap (λ k. FewGaps k ms more) limit_is ∙ last-gap ms a x stands rest
 
-  few-first : (ms : List FoundMatch) (m n : SplitN C cursor) (xs : List Span) → SplitsToo m → First ms → Stands ms (PartsOf m) → Yields few.Gives m (not_refused xs) n
+  few-first : (ms : List FoundMatch) (m n : SplitN C) (xs : List Span) → SplitsToo m → First ms → Stands ms (PartsOf m) → Yields few.Gives m (not_refused xs) n
       → (more : List FoundMatch) × All (ms ++ more) × (others : List Span) × (FewGaps m.limit ms more ≡ xs ++ others)
   few-first ms m n [] of are stands run = (are.0, are.1, FewGaps m.limit ms are.0, refl)
   few-first ms m n (x ∷ xs) of are stands run =
@@ -538,7 +538,7 @@ module _ (C : Type 0) (cursor : Ghosts C) (re : Engine) (grow : MatchesGrow re) 
             )
       ]
 
-  few-all : (ms : List FoundMatch) (m t u : SplitN C cursor) (xs : List Span) → SplitsToo m → First ms → Stands ms (PartsOf m) → Yields few.Gives m (not_refused xs) t → few.Gives t None u
+  few-all : (ms : List FoundMatch) (m t u : SplitN C) (xs : List Span) → SplitsToo m → First ms → Stands ms (PartsOf m) → Yields few.Gives m (not_refused xs) t → few.Gives t None u
       → (more : List FoundMatch) × All (ms ++ more) × (xs ≡ FewGaps m.limit ms more)
   few-all ms m t u [] of are stands run last =
       let step = few-step m u None of (subst (λ k. few.Gives k None u) (sym run) last) in
@@ -580,7 +580,7 @@ module _ (C : Type 0) (cursor : Ghosts C) (re : Engine) (grow : MatchesGrow re) 
             )
       ]
 
-  few-none-behind-refusal : (m n : SplitN C cursor) (xs : List Span) (error : MatchError) (others : List (Result Span MatchError)) → SplitsToo m
+  few-none-behind-refusal : (m n : SplitN C) (xs : List Span) (error : MatchError) (others : List (Result Span MatchError)) → SplitsToo m
       → Yields few.Gives m (not_refused xs ++ Err error ∷ others) n → others ≡ []
   few-none-behind-refusal m n [] error others of run =
       let step = few-step m run.0 (Some (Err error)) of run.1 in
@@ -588,7 +588,7 @@ module _ (C : Type 0) (cursor : Ghosts C) (re : Engine) (grow : MatchesGrow re) 
   few-none-behind-refusal m n (x ∷ xs) error others of run =
       few-none-behind-refusal run.0 n xs error others (few-step m run.0 (Some (Ok x)) of run.1).0 run.2
 
-  pub gives_few_gaps : (m : SplitN C cursor) → few.regex_of m ≡ re → PartsOf m ≡ parts_of (matches_from s) → GivesFewGaps re s m.limit m
+  pub gives_few_gaps : (m : SplitN C) → few.regex_of m ≡ re → PartsOf m ≡ parts_of (matches_from s) → GivesFewGaps re s m.limit m
   gives_few_gaps m of stands = record {
     first = λ n xs run. few-first [] m n xs of (grow s).none stands run;
     all = λ xs run. few-all [] m run.1.0 run.0 xs of (grow s).none stands run.1.1 run.1.2;

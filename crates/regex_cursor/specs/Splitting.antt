@@ -5,12 +5,13 @@ use Rattle.rx_util.specs.declared.search.MatchError.{MatchError}
 use Rattle.rx_util.specs.declared.search.MatchError.TheVariants.{Memory}
 use Rattle.rx_util.specs.declared.search.Span.{Span}
 use Rattle.rx_util.specs.Search.{Found}
-use Rattle.rx_input.specs.declared.cursor.Cursor.{Ghosts}
+use Rattle.rx_input.specs.Inputs.{InputState}
 use Rattle.rx_walks.specs.Finds.{Search}
 use Rattle.rx_program.specs.Programs.{ByteProgram}
 use Rattle.rx_chunk.specs.Engines.{match_of}
 use Rattle.rx_chunk.specs.Iterating.{MatchesLeft, GivesNext, matches_left}
 use Rattle.regex_cursor.specs.declared.engines.meta.split.Split.{Split}
+use Rattle.regex_cursor.specs.declared.engines.meta.splitter.Splitter.{Splitter}
 use Rattle.regex_cursor.specs.Iterating as iterating
 use Rattle.regex_cursor.specs.Iterating.{not_refused}
 use Rattle.regex_cursor.specs.Patterns.{FoundMatch, start_of, end_of}
@@ -57,15 +58,27 @@ pub data SplitsOff (p : ByteProgram) (m n : PartsLeft) : Option (Result Span Mat
         → SplitsOff p m n None
     refused : m.is_over ≡ false → n.is_over ≡ true → SplitsOff p m n (Some (Err Memory))
 
-abbrev pub left_of : {C : Type 0} {cursor : Ghosts C} → Split C cursor → PartsLeft
-left_of m = record { matches = iterating.left_of m.finder; last = m.last; is_over = m.is_over }
+-- the regex that a splitter searches for, and what it has left in an input
+abbrev pub engine_of : Splitter → Engine
+engine_of m = iterating.engine_of m.finder
 
-abbrev pub regex_of : {C : Type 0} {cursor : Ghosts C} → Split C cursor → Engine
-regex_of m = iterating.regex_of m.finder
+abbrev pub left_in : Splitter → InputState → PartsLeft
+left_in m i = record {
+  matches = iterating.left_in m.finder i;
+  last = m.last;
+  is_over = m.is_over;
+}
+
+-- the regex that an iterator searches for, and what it has left
+abbrev pub regex_of : {C : Type 0} → Split C → Engine
+regex_of m = engine_of m.splitter
+
+abbrev pub left_of : {C : Type 0} → Split C → PartsLeft
+left_of m = left_in m.splitter m.input
 
 -- a step of the iterator, which searches for the same regex on
-pub record Gives {C : Type 0} {cursor : Ghosts C} (m : Split C cursor)
-    (item : Option (Result Span MatchError)) (n : Split C cursor) : Type 0 where
+pub record Gives {C : Type 0} (m : Split C)
+    (item : Option (Result Span MatchError)) (n : Split C) : Type 0 where
   pub next : SplitsOff (regex_of m).program (left_of m) (left_of n) item
   pub same_regex : regex_of n ≡ regex_of m
 
@@ -83,14 +96,14 @@ gaps start end (t ∷ others) = between start (start_of t) ∷ gaps (end_of t) e
 
 -- What the iterator gives of a search: the gaps between all matches that the regex has there, from 0
 -- on; before a refusal and before it is drained the first of them, and nothing after a refusal.
-pub record GivesGaps {C : Type 0} {cursor : Ghosts C} (re : Engine) (s : Search) (m : Split C cursor)
+pub record GivesGaps {C : Type 0} (re : Engine) (s : Search) (m : Split C)
     : Type 0 where
-  pub first : (n : Split C cursor) (parts : List Span) → Yields Gives m (not_refused parts) n
+  pub first : (n : Split C) (parts : List Span) → Yields Gives m (not_refused parts) n
       → (ms : List FoundMatch) × RegexMatches re s ms
       × (others : List Span) × (gaps 0 (end_of_search s) ms ≡ parts ++ others)
   pub all : (parts : List Span) → Drains Gives m (not_refused parts)
       → (ms : List FoundMatch) × RegexMatches re s ms × (parts ≡ gaps 0 (end_of_search s) ms)
-  pub refused : (n : Split C cursor) (parts : List Span) (error : MatchError)
+  pub refused : (n : Split C) (parts : List Span) (error : MatchError)
       (others : List (Result Span MatchError))
       → Yields Gives m (not_refused parts ++ Err error ∷ others) n → others ≡ []
 

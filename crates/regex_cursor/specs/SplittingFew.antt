@@ -3,10 +3,9 @@ use Rattle.std.specs.Prelude.{◌≡◌, ℕ, zero, suc, ◌+◌, ◌<◌, true,
 use Rattle.std.specs.Iterator.{Count, Drains, Yields, at_most}
 use Rattle.rx_util.specs.declared.search.MatchError.{MatchError}
 use Rattle.rx_util.specs.declared.search.Span.{Span}
-use Rattle.rx_input.specs.declared.cursor.Cursor.{Ghosts}
 use Rattle.rx_walks.specs.Finds.{Search}
 use Rattle.rx_program.specs.Programs.{ByteProgram}
-use Rattle.regex_cursor.specs.declared.engines.meta.split.SplitN.{SplitN}
+use Rattle.regex_cursor.specs.declared.engines.meta.split_n.SplitN.{SplitN}
 use Rattle.regex_cursor.specs.Splitting as splitting
 use Rattle.regex_cursor.specs.Splitting.{PartsLeft, EndsWith, SplitsOff, end_of_search, gaps}
 use Rattle.regex_cursor.specs.Iterating.{not_refused}
@@ -35,15 +34,15 @@ pub record FewLeft : Type 0 where
   pub parts : PartsLeft
   pub limit : ℕ
 
-abbrev pub left_of : {C : Type 0} {cursor : Ghosts C} → SplitN C cursor → FewLeft
-left_of m = record { parts = splitting.left_of m.splits; limit = m.limit }
+abbrev pub left_of : {C : Type 0} → SplitN C → FewLeft
+left_of m = record { parts = splitting.left_in m.splitter m.input; limit = m.limit }
 
-abbrev pub regex_of : {C : Type 0} {cursor : Ghosts C} → SplitN C cursor → Engine
-regex_of m = splitting.regex_of m.splits
+abbrev pub regex_of : {C : Type 0} → SplitN C → Engine
+regex_of m = splitting.engine_of m.splitter
 
 -- a step of the iterator, which searches for the same regex on
-pub record Gives {C : Type 0} {cursor : Ghosts C} (m : SplitN C cursor)
-    (item : Option (Result Span MatchError)) (n : SplitN C cursor) : Type 0 where
+pub record Gives {C : Type 0} (m : SplitN C)
+    (item : Option (Result Span MatchError)) (n : SplitN C) : Type 0 where
   pub next : SplitsFew (regex_of m).program (left_of m).parts (left_of n).parts (left_of m).limit
       (left_of n).limit item
   pub same_regex : regex_of n ≡ regex_of m
@@ -59,15 +58,15 @@ few_gaps (suc others) start end matches = gaps start end (take others matches)
 -- What the iterator gives of a search: at most so many gaps between the matches that the regex has
 -- there, from 0 on; before a refusal and before it is drained the first of them, and nothing after a
 -- refusal.
-pub record GivesFewGaps {C : Type 0} {cursor : Ghosts C} (re : Engine) (s : Search) (limit : ℕ)
-    (m : SplitN C cursor) : Type 0 where
-  pub first : (n : SplitN C cursor) (parts : List Span) → Yields Gives m (not_refused parts) n
+pub record GivesFewGaps {C : Type 0} (re : Engine) (s : Search) (limit : ℕ)
+    (m : SplitN C) : Type 0 where
+  pub first : (n : SplitN C) (parts : List Span) → Yields Gives m (not_refused parts) n
       → (ms : List FoundMatch) × RegexMatches re s ms × (others : List Span)
       × (few_gaps limit 0 (end_of_search s) ms ≡ parts ++ others)
   pub all : (parts : List Span) → Drains Gives m (not_refused parts)
       → (ms : List FoundMatch) × RegexMatches re s ms
       × (parts ≡ few_gaps limit 0 (end_of_search s) ms)
-  pub refused : (n : SplitN C cursor) (parts : List Span) (error : MatchError)
+  pub refused : (n : SplitN C) (parts : List Span) (error : MatchError)
       (others : List (Result Span MatchError))
       → Yields Gives m (not_refused parts ++ Err error ∷ others) n → others ≡ []
 

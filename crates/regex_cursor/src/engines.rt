@@ -3,3 +3,5 @@
 pub mod meta;
 
 pub use rx_chunk::pikevm;
+pub use rx_dfa::dense as dfa;
+pub use rx_dfa::hybrid;

@@ -23,17 +23,27 @@ fn one_finder_for_many_lines(rt: HostRuntime) -> Result<(), Fail> {
     Ok(())
 }
 
+// Nothing is said of what it answers: so what follows is proved without the contract of a search, and
+// shows what that does.
+fn all_in(
+    rt: &HostRuntime,
+    tick: &mut Lines,
+    text: &str,
+    pattern: &str,
+) -> Result<Vec<Groups>, Fail> {
+    let text = Rope::from_str(rt.alloc(), text)?;
+    let mut finder = Finder::new(rt.alloc(), pattern)?;
+    Ok(find_all(tick, &mut finder, &text)?)
+}
+
 /// `find_all` and `Groups`: all matches in a whole text, over the ends of its lines, each with the
 /// spans of its groups. One that the pattern doesn't have has none.
 #[test]
 fn matches_in_a_whole_text(rt: HostRuntime) -> Result<(), Fail> {
-    let text = Rope::from_str(rt.alloc(), "a=1\nb c=\nd")?;
     let mut tick = Lines::new(&rt);
-    let mut finder = Finder::new(rt.alloc(), r"(\w)(?:=(\s*)(\w))?")?;
-    let found = find_all(&mut tick, &mut finder, &text)?;
+    let found = all_in(&rt, &mut tick, "a=1\nb c=\nd", r"(\w)(?:=(\s*)(\w))?")?;
     assert!(rt; found.len() == 3);
-    let first: Option<&Groups> = found.first();
-    match first {
+    match found.first() {
         Some(groups) => {
             assert!(rt; (groups[0], groups[1]) == (Some((0, 3)), Some((0, 1))));
             assert!(rt; (groups[2], groups[3]) == (Some((2, 2)), Some((2, 3))));

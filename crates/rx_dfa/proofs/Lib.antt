@@ -8,3 +8,5 @@ pub mod PassLaws
 pub mod SearchLaws
 pub mod InputLaws
 pub mod ScanLaws
+pub mod EndLaws
+pub mod ClosedLaws

@@ -5,6 +5,7 @@ use Rattle.std.proofs.lemmas.List.{length-take}
 use Rattle.std.proofs.lemmas.Option.{slice_get-get_or, get_or_from_slice_get, slice_get_within}
 use Rattle.rx_util.specs.Search.{HalfFound}
 use Rattle.rx_program.specs.Programs.{ByteProgram}
+use Rattle.std.specs.Prelude.{◌==◌}
 use Rattle.rx_steps.specs.declared.asked.AskedLooks.{AskedLooks}
 use Rattle.rx_steps.specs.Alike.{AreBare, StepsAreAlike}
 use Rattle.rx_dfa.specs.declared.scan.PassedEnd.{PassedEnd}
@@ -12,7 +13,7 @@ use Rattle.rx_dfa.specs.declared.states.AutomatonState.{AutomatonState}
 use Rattle.rx_dfa.specs.Classes.{class_of, byte_of, AreAlikeBytes}
 use Rattle.rx_dfa.specs.Behind.{quits}
 use Rattle.rx_dfa.specs.States.{ahead_of, IsStateOf, IsStep}
-use Rattle.rx_dfa.specs.Dfas.{DfaView, IsDfaOf, ahead_in}
+use Rattle.rx_dfa.specs.Dfas.{DfaView, IsDfaOf, ahead_at, ahead_in}
 use Rattle.rx_dfa.specs.Caches.{CacheView, IsCacheOf, LeadsTo, IsEntry, unknown, quit, plain, ends, over}
 use Rattle.rx_dfa.specs.Passing.{Passes, none, more, IsMetAt, IsNoted, IsRunning, HasPassed}
 use Rattle.rx_dfa.specs.Searching.{met_after}
@@ -21,18 +22,18 @@ use Rattle.rx_dfa.proofs.TableLaws.{row_room}
 
 -- ---- a step over a byte of a class
 
-byte_in_class : (p : ByteProgram) (dfa : DfaView) (b : ℕ) → IsDfaOf p dfa → b < 256 → slice_get dfa.classes.bytes (class_of dfa.classes b) ≡ Some (byte_of dfa.classes b)
+pub byte_in_class : (p : ByteProgram) (dfa : DfaView) (b : ℕ) → IsDfaOf p dfa → b < 256 → slice_get dfa.classes.bytes (class_of dfa.classes b) ≡ Some (byte_of dfa.classes b)
 byte_in_class p dfa b made low = slice_get-get_or dfa.classes.bytes (class_of dfa.classes b) 0 (made.classes b low).has_class
 
 pub column_inside : (p : ByteProgram) (dfa : DfaView) (cache : CacheView) (b : ℕ) → IsDfaOf p dfa → IsCacheOf p dfa cache → b < 256 → class_of dfa.classes b < cache.width
 column_inside p dfa cache b made is low = omega (arith, (made.classes b low).has_class, is.width)
 
-quits_alike : (p : ByteProgram) (asked : AskedLooks) (b c : ℕ) → AreAlikeBytes p asked b c → quits asked (Some b) ≡ quits asked (Some c)
+pub quits_alike : (p : ByteProgram) (asked : AskedLooks) (b c : ℕ) → AreAlikeBytes p asked b c → quits asked (Some b) ≡ quits asked (Some c)
 quits_alike p asked b c alike = ap (λ l. asked.words && not l) alike.ascii
 
 -- it is a step over the byte itself
 leads_by : ((p : ByteProgram) → StepsAreAlike p) → (p : ByteProgram) (dfa : DfaView) (states : List AutomatonState) (x : AutomatonState) (b number : ℕ) → IsDfaOf p dfa → AreBare x.threads.threads → b < 256
-    → LeadsTo p dfa states x (ahead_in dfa (class_of dfa.classes b)) number → LeadsTo p dfa states x (ahead_of dfa.utf8_empty (Some b)) number
+    → LeadsTo p dfa states x (ahead_in dfa (class_of dfa.classes b)) number → LeadsTo p dfa states x (ahead_of dfa.utf8_empty b) number
 leads_by law p dfa states x b number made bare low to =
     let r = byte_of dfa.classes b in
     let alike = (made.classes b low).alike in
@@ -40,14 +41,14 @@ leads_by law p dfa states x b number made bare low to =
     record {
       next = to.next;
       stands = to.stands;
-      step = step_alike law p dfa.asked dfa.utf8_empty x to.next r b made.asked bare alike (subst (λ o. IsStep p dfa.asked x (ahead_of dfa.utf8_empty o) to.next) at to.step);
-      told = sym (quits_alike p dfa.asked r b alike) ∙ subst (λ o. quits dfa.asked (ahead_of dfa.utf8_empty o).seen ≡ false) at to.told;
+      step = step_alike law p dfa.asked dfa.utf8_empty x to.next r b made.asked bare alike (subst (λ o. IsStep p dfa.asked x (ahead_at dfa.utf8_empty (class_of dfa.classes b == length dfa.classes.bytes) o) to.next) at to.step);
+      told = sym (quits_alike p dfa.asked r b alike) ∙ subst (λ o. quits dfa.asked (ahead_at dfa.utf8_empty (class_of dfa.classes b == length dfa.classes.bytes) o).seen ≡ false) at to.told;
     }
 
 -- before it a search can't go on
 pub quits_by : (p : ByteProgram) (dfa : DfaView) (b : ℕ) → IsDfaOf p dfa → b < 256 → quits dfa.asked (ahead_in dfa (class_of dfa.classes b)).seen ≡ true → quits dfa.asked (Some b) ≡ true
 quits_by p dfa b made low told =
-    sym (quits_alike p dfa.asked (byte_of dfa.classes b) b (made.classes b low).alike) ∙ subst (λ o. quits dfa.asked (ahead_of dfa.utf8_empty o).seen ≡ true) (byte_in_class p dfa b made low) told
+    sym (quits_alike p dfa.asked (byte_of dfa.classes b) b (made.classes b low).alike) ∙ subst (λ o. quits dfa.asked (ahead_at dfa.utf8_empty (class_of dfa.classes b == length dfa.classes.bytes) o).seen ≡ true) (byte_in_class p dfa b made low) told
 
 pub one_passed : ((p : ByteProgram) → StepsAreAlike p) → (p : ByteProgram) (dfa : DfaView) (states : List AutomatonState) (x : AutomatonState) (b at number : ℕ) (met met' : Option HalfFound) → IsDfaOf p dfa → AreBare x.threads.threads → b < 256
     → LeadsTo p dfa states x (ahead_in dfa (class_of dfa.classes b)) number → ((y : AutomatonState) → slice_get states number ≡ Some y → met' ≡ met_after at y.ended met) → HasPassed p dfa states x (b ∷ []) at met number met'
@@ -62,7 +63,7 @@ one_passed law p dfa states x b at number met met' made bare low to noted =
 
 -- ---- one byte more
 
-pub passes_more : (p : ByteProgram) (dfa : DfaView) (bytes : List ℕ) (i b : ℕ) (x y z : AutomatonState) (met met' : Option HalfFound) → AreBare y.threads.threads → Passes p dfa bytes i x met y met' → IsStep p dfa.asked y (ahead_of dfa.utf8_empty (Some b)) z → quits dfa.asked (Some b) ≡ false
+pub passes_more : (p : ByteProgram) (dfa : DfaView) (bytes : List ℕ) (i b : ℕ) (x y z : AutomatonState) (met met' : Option HalfFound) → AreBare y.threads.threads → Passes p dfa bytes i x met y met' → IsStep p dfa.asked y (ahead_of dfa.utf8_empty b) z → quits dfa.asked (Some b) ≡ false
     → Passes p dfa (bytes ++ b ∷ []) i x met z (met_after (i + length bytes) z.ended met')
 passes_more p dfa [] i b x y z met met' bare none step told =
     let here : i ≡ i + 0 = omega arith in

@@ -107,7 +107,7 @@ boundary_is content i b e = elim (below_or_not b 192) [
     yes : continues b ≡ false → IsCharBoundary content i → IsTrue (not (continues b)) ↔ IsCharBoundary content i
     yes not_one cut = ((λ is. cut), (λ cut'. ap not not_one))
 
-may_begin_is : (s : Search) (i b : ℕ) → slice_get s.content i ≡ Some b → IsTrue (not s.utf8_empty || not (continues b)) ↔ May s i
+pub may_begin_is : (s : Search) (i b : ℕ) → slice_get s.content i ≡ Some b → IsTrue (not s.utf8_empty || not (continues b)) ↔ May s i
 may_begin_is s i b e = by s.utf8_empty
   where
     by : (u : Bool) → IsTrue (not u || not (continues b)) ↔ (IsTrue u → IsCharBoundary s.content i)
@@ -116,7 +116,7 @@ may_begin_is s i b e = by s.utf8_empty
 
 -- ---- one byte is passed
 
-pub is_ahead : (p : ByteProgram) (asked : AskedLooks) (s : Search) (i b : ℕ) → slice_get s.content i ≡ Some b → i < min s.slice_end s.end → quits asked (Some b) ≡ false → IsAhead p asked s i (ahead_of s.utf8_empty (Some b))
+pub is_ahead : (p : ByteProgram) (asked : AskedLooks) (s : Search) (i b : ℕ) → slice_get s.content i ≡ Some b → i < min s.slice_end s.end → quits asked (Some b) ≡ false → IsAhead p asked s i (ahead_of s.utf8_empty b)
 is_ahead p asked s i b e lt told = record {
   read = read_is p s i lt ∙ e;
   seen = seen_is s i (omega (arith, lt)) ∙ e;
@@ -143,8 +143,8 @@ bytes_passed laws p dfa s q (b ∷ bytes) i x z met met' are same there (more {y
     let within = slice_get_within s.content i b byte in
     let inside : IsInside s i = (omega (arith, there.low), omega (arith, there.end), omega (arith, there.low), omega (arith, there.end), omega (arith, within)) in
     let ahead = is_ahead p dfa.asked s i b byte (omega (arith, there.end)) told in
-    let itself : IsStep p dfa.asked x (ahead_of s.utf8_empty (Some b)) y = subst (λ u. IsStep p dfa.asked x (ahead_of u (Some b)) y) same step in
-    let on = place_passed laws p dfa.asked s q i x y (ahead_of s.utf8_empty (Some b)) met are bare inside behind ahead itself reached in
+    let itself : IsStep p dfa.asked x (ahead_of s.utf8_empty b) y = subst (λ u. IsStep p dfa.asked x (ahead_of u b) y) same step in
+    let on = place_passed laws p dfa.asked s q i x y (ahead_of s.utf8_empty b) met are bare inside behind ahead itself reached in
     let before : byte_before s (i + 1) ≡ Some b = before_is s i b (omega (arith, there.low)) byte in
     let behind' : IsBehind p dfa.asked s (i + 1) y = record {
       is = step.behind ∙ ap (λ o. behind_of dfa.asked p.line_terminator o) (sym before);

@@ -28,7 +28,7 @@ if_asked : (asked x y : Bool) → (asked ≡ true → x ≡ y) → (asked && x) 
 if_asked true x y same = same refl
 if_asked false x y same = refl
 
-behind_alike : (p : ByteProgram) (asked : AskedLooks) (b c : ℕ) → AreAlikeBytes p asked b c → behind_of asked p.line_terminator (Some b) ≡ behind_of asked p.line_terminator (Some c)
+pub behind_alike : (p : ByteProgram) (asked : AskedLooks) (b c : ℕ) → AreAlikeBytes p asked b c → behind_of asked p.line_terminator (Some b) ≡ behind_of asked p.line_terminator (Some c)
 behind_alike p asked b c alike =
     ap₂ (λ x y. Byte x y) (if_asked asked.lines (b == p.line_terminator) (c == p.line_terminator) alike.ends_line)
     (if_asked asked.words (is_word_ascii b) (is_word_ascii c) (λ words. word_alike p asked b c words alike))
@@ -46,10 +46,10 @@ pub bare_started : (x : AutomatonState) (o : Option ℕ) → AreBare x.threads.t
 bare_started x o bare = bare_append x.threads.threads (started o) bare (started_bare o)
 
 pub step_alike : ((p : ByteProgram) → StepsAreAlike p) → (p : ByteProgram) (asked : AskedLooks) (utf8_empty : Bool) (x y : AutomatonState) (b c : ℕ) → AreAskedBy p.states asked → AreBare x.threads.threads → AreAlikeBytes p asked b c
-    → IsStep p asked x (ahead_of utf8_empty (Some b)) y → IsStep p asked x (ahead_of utf8_empty (Some c)) y
+    → IsStep p asked x (ahead_of utf8_empty b) y → IsStep p asked x (ahead_of utf8_empty c) y
 step_alike law p asked utf8_empty x y b c are bare alike step =
-    let here = place_of_step p.line_terminator x (ahead_of utf8_empty (Some b)) in
-    let there = place_of_step p.line_terminator x (ahead_of utf8_empty (Some c)) in
+    let here = place_of_step p.line_terminator x (ahead_of utf8_empty b) in
+    let there = place_of_step p.line_terminator x (ahead_of utf8_empty c) in
     let may : (not utf8_empty || not (continues b)) ≡ (not utf8_empty || not (continues c)) = ap (λ k. not utf8_empty || not k) alike.continue in
     let from = x.threads.threads ++ started (start_at x.starting (not utf8_empty || not (continues b))) in
     let places : AreAlike p here there = record { reads = alike.reads; looks = λ l asks. looks_alike p asked x b c l are alike asks } in

@@ -57,7 +57,7 @@ get_set [] k v x e = absurd (cc e)
 get_set (y ∷ xs) zero v x e = let same : Some v ≡ Some x = e in cc same
 get_set (y ∷ xs) (suc k) v x e = get_set xs k v x e
 
-get_other : (xs : List ℕ) (k j v : ℕ) → (j ≡ k → ⊥) → slice_get (set xs k v) j ≡ slice_get xs j
+pub get_other : (xs : List ℕ) (k j v : ℕ) → (j ≡ k → ⊥) → slice_get (set xs k v) j ≡ slice_get xs j
 get_other [] k j v other = refl
 get_other (y ∷ xs) zero zero v other = absurd (other refl)
 get_other (y ∷ xs) zero (suc j) v other = refl
@@ -231,7 +231,7 @@ pub found_first : (states : List AutomatonState) (starting : Starting) (behind :
 found_first states starting behind x number first (y, stands, same) = record {
   state = y;
   stands = stands;
-  first = record { threads = same.threads ∙ first.threads; starting_is = same.starting ∙ first.starting_is; behind_is = same.behind ∙ first.behind_is };
+  first = record { threads = same.threads ∙ first.threads; starting_is = same.starting ∙ first.starting_is; behind_is = same.behind ∙ first.behind_is; ended_is = same.ended ∙ first.ended_is };
 }
 
 pub keep_all : (states : List AutomatonState) → KeepNumbers states states

@@ -1,10 +1,10 @@
 -- The automaton of a program.
-use Rattle.std.specs.Prelude.{ℕ, ◌+◌, Bool, length, slice_get}
+use Rattle.std.specs.Prelude.{ℕ, ◌+◌, ◌==◌, Bool, Option, None, Some, length, slice_get}
 use Rattle.rx_program.specs.Programs.{ByteProgram}
 use Rattle.rx_steps.specs.declared.asked.AskedLooks.{AskedLooks}
 use Rattle.rx_dfa.specs.declared.states.Ahead.{Ahead}
 use Rattle.rx_dfa.specs.Classes.{ByteClassesView, AreClassesOf}
-use Rattle.rx_dfa.specs.States.{ahead_of}
+use Rattle.rx_dfa.specs.States.{ahead_of, ahead_of_end}
 use Rattle.rx_dfa.specs.Searching.{AreAskedBy}
 
 -- what an automaton has to know of a program: which looks it asks for, its classes of bytes, and
@@ -19,9 +19,16 @@ pub record IsDfaOf (p : ByteProgram) (dfa : DfaView) : Type 0 where
   pub asked : AreAskedBy p.states dfa.asked
   pub classes : AreClassesOf p dfa.asked dfa.classes
 
--- the columns of a table are the classes, and the end of the slice behind them
+-- the columns of a table are the classes, and behind them two for the end of the slice: where a
+-- match may begin, and where none may
 abbrev pub column_count : DfaView → ℕ
-column_count dfa = length dfa.classes.bytes + 1
+column_count dfa = length dfa.classes.bytes + 2
+
+-- what stands ahead of this byte, or at the end
+abbrev pub ahead_at : Bool → Bool → Option ℕ → Ahead
+ahead_at utf8_empty may_begin None = ahead_of_end may_begin
+ahead_at utf8_empty may_begin (Some b) = ahead_of utf8_empty b
 
 abbrev pub ahead_in : DfaView → ℕ → Ahead
-ahead_in dfa column = ahead_of dfa.utf8_empty (slice_get dfa.classes.bytes column)
+ahead_in dfa column = ahead_at dfa.utf8_empty (column == length dfa.classes.bytes)
+    (slice_get dfa.classes.bytes column)

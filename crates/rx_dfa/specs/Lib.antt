@@ -5,4 +5,6 @@ pub mod Searching
 pub mod Dfas
 pub mod Caches
 pub mod Passing
+pub mod Closed
 pub mod Hybrid
+pub mod Dense

@@ -14,16 +14,17 @@ use Rattle.rx_dfa.specs.declared.scan.Refusal.TheVariants.{Memory, Quit, GaveUp}
 use Rattle.rx_dfa.specs.declared.states.AutomatonState.{AutomatonState}
 use Rattle.rx_dfa.specs.declared.states.Starting.TheVariants.{Never}
 use Rattle.rx_dfa.specs.Behind.{quits}
-use Rattle.rx_dfa.specs.States.{ahead_of, IsStep}
-use Rattle.rx_dfa.specs.Dfas.{DfaView}
-use Rattle.rx_dfa.specs.Searching.{met_after, HasReached, IsBehind}
+use Rattle.rx_dfa.specs.declared.states.Ahead.{Ahead}
+use Rattle.rx_dfa.specs.States.{ahead_of, EndsSo, IsStep}
+use Rattle.rx_dfa.specs.Dfas.{DfaView, ahead_in, column_count}
+use Rattle.rx_dfa.specs.Searching.{met_after, HasReached, IsAhead, IsBehind}
 
 -- from a place on these bytes lead from a state, with this end met last, to a state
 pub data Passes (p : ByteProgram) (dfa : DfaView) : List ℕ → ℕ → AutomatonState
     → Option HalfFound → AutomatonState → Option HalfFound → Type 0 where
   none : {i : ℕ} {x : AutomatonState} {met : Option HalfFound} → Passes p dfa [] i x met x met
   more : {b i : ℕ} {bytes : List ℕ} {x y z : AutomatonState} {met met' : Option HalfFound}
-      → AreBare x.threads.threads → IsStep p dfa.asked x (ahead_of dfa.utf8_empty (Some b)) y
+      → AreBare x.threads.threads → IsStep p dfa.asked x (ahead_of dfa.utf8_empty b) y
       → quits dfa.asked (Some b) ≡ false
       → Passes p dfa bytes (i + 1) y (met_after i y.ended met) z met'
       → Passes p dfa (b ∷ bytes) i x met z met'
@@ -84,6 +85,22 @@ pub record StandThere (s : Search) (i : ℕ) (bytes : List ℕ) : Type 0 where
   pub are : (k b : ℕ) → slice_get bytes k ≡ Some b → slice_get s.content (i + k) ≡ Some b
   pub end : i + length bytes ≤ min s.slice_end s.end
   pub low : lowest s ≤ i
+
+-- a state meets this end at the place, where no byte is read
+pub record MeetsEnd (p : ByteProgram) (asked : AskedLooks) (s : Search) (i : ℕ) (x : AutomatonState)
+    (ended : Option ℕ) : Type 0 where
+  pub ahead : Ahead
+  pub read : ahead.read ≡ None
+  pub here : IsAhead p asked s i ahead
+  pub ends : EndsSo p asked x ahead ended
+
+-- in this column a search can go on, and the step in it tells the end that is met at the place,
+-- where no byte is read
+pub record IsLastColumn (p : ByteProgram) (dfa : DfaView) (s : Search) (i column : ℕ) : Type 0 where
+  pub inside : column < column_count dfa
+  pub goes_on : quits dfa.asked (ahead_in dfa column).seen ≡ false
+  pub tells : (x y : AutomatonState) → AreBare x.threads.threads
+      → IsStep p dfa.asked x (ahead_in dfa column) y → MeetsEnd p dfa.asked s i x y.ended
 
 -- why bytes that stand from a place on weren't all passed
 abbrev pub IsRefusalAmong : AskedLooks → ℕ → List ℕ → Refusal → Type 0

@@ -34,11 +34,14 @@ abbrev pub started : Option ℕ → List Thread
 started None = []
 started (Some q) = ([], first_node q) ∷ []
 
--- what stands ahead of a byte that is read, and at the slice's end
-abbrev pub ahead_of : Bool → Option ℕ → Ahead
-ahead_of utf8_empty None = record { read = None; seen = None; may_begin = true }
-ahead_of utf8_empty (Some b) =
+-- what stands ahead of a byte that is read
+abbrev pub ahead_of : Bool → ℕ → Ahead
+ahead_of utf8_empty b =
     record { read = Some b; seen = Some b; may_begin = not utf8_empty || not (continues b) }
+
+-- what stands ahead at the slice's end, where a match may begin or not
+abbrev pub ahead_of_end : Bool → Ahead
+ahead_of_end may_begin = record { read = None; seen = None; may_begin = may_begin }
 
 -- where a state's threads make their step
 abbrev pub place_of_step : ℕ → AutomatonState → Ahead → Place
@@ -55,6 +58,7 @@ pub record IsFirstState (starting : Starting) (behind : Behind) (x : AutomatonSt
   pub threads : x.threads.threads ≡ []
   pub starting_is : x.starting ≡ starting
   pub behind_is : x.behind ≡ behind
+  pub ended_is : x.ended ≡ None
 
 -- A state leads to another one: the step of its threads, and of a walk that starts after them,
 -- gives the other's threads, of which some were left out, and the end that is met there.

@@ -1,6 +1,7 @@
 //! What looks have to know of a place: by one byte on each side, or none.
 
-ghost use Rattle.std.specs.Prelude.{◌≡◌, true, false, Some, None, IfSome};
+ghost use Rattle.std.specs.Prelude.{◌≡◌, ◌<◌, true, false, Some, None, IfSome};
+ghost use Rattle.rx_dfa.specs.Closed.{MayBeByte};
 ghost use Rattle.rx_dfa.specs.Behind.{is_word_ascii, behind_of, looks_of, quits, ends_line_at, is_word_at, starts_line, was_word, is_start, is_end};
 
 use rx_steps::{AskedLooks, Looks};
@@ -47,6 +48,20 @@ pub(crate) fn byte_that_quits(asked: AskedLooks, byte: Option<u8>) -> Option<u8>
             }
         }
         None => None,
+    }
+}
+
+/// A fact, for the proof alone: a byte is below 256.
+fn is_byte(byte: u8)
+    ensures { byte < 256 }
+{}
+
+/// A fact, for the proof alone: a byte that may be there is below 256.
+pub(crate) fn may_be_byte(byte: Option<u8>)
+    ensures { MayBeByte byte }
+{
+    if let Some(byte) = byte {
+        is_byte(byte);
     }
 }
 

@@ -6,7 +6,8 @@ ghost use Rattle.rx_dfa.specs.declared.states.AutomatonState.{AutomatonState};
 ghost use Rattle.rx_dfa.specs.Behind.{quits};
 ghost use Rattle.rx_dfa.specs.Dfas.{IsDfaOf, ahead_in, column_count};
 ghost use Rattle.rx_dfa.specs.Caches.{IsCacheOf, IsEntryTo, HasFirst, HasStepped, IsBare, IsSameState, KeepNumbers};
-ghost use Rattle.rx_dfa.specs.States.{IsStateOf, IsStep};
+ghost use Rattle.rx_dfa.specs.Closed.{HasOneFirst};
+ghost use Rattle.rx_dfa.specs.States.{IsFirstState, IsStateOf, IsStep};
 
 use crate::behind::{Behind, quits_at};
 use crate::dfa::Dfa;
@@ -25,9 +26,9 @@ pub(crate) const ENDS: u32 = 0x8000_0000;
 /// Entries from this on lead to states at which a search is over, or lead nowhere.
 pub(crate) const STOPS: u32 = 0xC000_0000;
 /// An entry with which a search can't go on.
-const QUIT: u32 = 0xFFFF_FFFE;
+pub(crate) const QUIT: u32 = 0xFFFF_FFFE;
 /// An entry that isn't known.
-const UNKNOWN: u32 = 0xFFFF_FFFF;
+pub(crate) const UNKNOWN: u32 = 0xFFFF_FFFF;
 
 /// How often a cache is cleared in one search before it gives up.
 const CLEARS: usize = 3;
@@ -45,7 +46,7 @@ pub struct Cache {
     // By its hash the number of a state.
     numbers: HashMap<u64, usize>,
     // About how much room the states take.
-    used: usize,
+    pub(crate) used: usize,
     // How often it was cleared in this search.
     pub(crate) cleared: usize,
     // The numbers that first states had, by how walks start and what stands before.
@@ -138,7 +139,7 @@ impl Cache {
     }
 
     /// The number of a state, if it is found.
-    fn find(&self, state: &AutomatonState) -> Option<usize>
+    pub(crate) fn find(&self, state: &AutomatonState) -> Option<usize>
         requires states { All IsBare self.now.states }
         requires state { IsBare state.now }
         ensures { IfSome result (λ number. (x : AutomatonState)
@@ -184,7 +185,7 @@ impl Cache {
     }
 
     /// Adds a state, and tells its number. Where it is refused, no state is left.
-    fn add(
+    pub(crate) fn add(
         &mut self,
         program: &Program,
         dfa: &Dfa,
@@ -196,6 +197,8 @@ impl Cache {
         ensures number { IfOk result (λ number.
             slice_get self.new.states number ≡ Some state) }
         ensures kept { OnOk result (KeepNumbers self.old.states self.new.states) }
+        ensures table { OnOk result
+            (self.new.table ≡ self.old.table ++ replicate self.old.width 4294967295) }
         ensures refused { IfErr result (λ error. error ≡ MatchError.Memory) }
     {
         let number = self.states.len();
@@ -268,6 +271,34 @@ impl Cache {
         }
     }
 
+    /// Whether the state with a number is one in which a search stands at its first place.
+    fn is_first_at(&self, number: usize, starting: &Starting, behind: &Behind) -> bool
+        requires { number < length self.now.states }
+        ensures yes { result ≡ true → (x : AutomatonState)
+            → slice_get self.now.states number ≡ Some x
+            → IsFirstState starting.now behind.now x }
+        ensures no { result ≡ false → (x : AutomatonState)
+            → slice_get self.now.states number ≡ Some x
+            → IsFirstState starting.now behind.now x → ⊥ }
+    {
+        self.states[number].is_first(starting, behind)
+    }
+
+    /// The number of a first state, looked for among all states, if there is one.
+    pub(crate) fn find_first(&self, starting: &Starting, behind: &Behind) -> Option<usize>
+        ensures some { IfSome result
+            (HasFirst self.now.states starting.now behind.now) }
+        ensures none { result ≡ None
+            → HasOneFirst self.now.states starting.now behind.now → ⊥ }
+    {
+        for number in 0..self.states.len() {
+            if self.is_first_at(number, starting, behind) {
+                return Some(number);
+            }
+        }
+        None
+    }
+
     /// Keeps the number of a first state.
     pub(crate) fn keep_first(&mut self, starting: &Starting, behind: &Behind, number: usize)
         ensures { self.new ≡ self.old }
@@ -280,7 +311,7 @@ impl Cache {
 
 impl Cache {
     /// The entry of a state in a column.
-    fn entry(&self, number: usize, column: usize) -> u32
+    pub(crate) fn entry(&self, number: usize, column: usize) -> u32
         requires rows { length self.now.table ≡ length self.now.states * self.now.width }
         requires number { number < length self.now.states }
         requires column { column < self.now.width }
@@ -290,7 +321,7 @@ impl Cache {
     }
 
     /// Sets the entry of a state in a column.
-    fn set_entry(&mut self, number: usize, column: usize, entry: u32)
+    pub(crate) fn set_entry(&mut self, number: usize, column: usize, entry: u32)
         requires rows { length self.old.table ≡ length self.old.states * self.old.width }
         requires number { number < length self.old.states }
         requires column { column < self.old.width }
@@ -305,7 +336,7 @@ impl Cache {
 
     /// The entry that leads to a state, or the one of which nothing is known, if it has no room for
     /// where that state's row begins.
-    fn entry_to(&self, next: usize) -> u32
+    pub(crate) fn entry_to(&self, next: usize) -> u32
         requires rows { length self.now.table ≡ length self.now.states * self.now.width }
         requires next { next < length self.now.states }
         ensures { (y : AutomatonState) → slice_get self.now.states next ≡ Some y
@@ -326,7 +357,7 @@ impl Cache {
     }
 
     /// The state from which a row begins that an entry leads to.
-    fn number_at(&self, entry: u32) -> usize
+    pub(crate) fn number_at(&self, entry: u32) -> usize
         requires { 0 < self.now.width }
         ensures plain { (number : ℕ) → entry ≡ number * self.now.width → entry < 2147483648
             → result ≡ number }
@@ -362,6 +393,7 @@ impl Cache {
         ensures state { IfOk result (λ next. IsStateOf program.now next) }
         ensures made { IsCacheOf program.now dfa.now self.new }
         ensures states { self.new.states ≡ self.old.states }
+        ensures table { self.new.table ≡ self.old.table }
         ensures refused { IfErr result (λ error. error ≡ MatchError.Memory) }
     {
         let state = &self.states[number];

@@ -165,11 +165,11 @@ impl ByteClasses {
         Ok(classes)
     }
 
-    /// How many there are, and the end of the slice.
+    /// How many there are, and two more for the end of the slice.
     pub(crate) fn column_count(&self) -> usize
-        ensures { result ≡ length self.now.bytes + 1 }
+        ensures { result ≡ length self.now.bytes + 2 }
     {
-        self.bytes.len() + 1
+        self.bytes.len() + 2
     }
 
     /// The class of a byte.

@@ -1,7 +1,7 @@
 //! Automata of programs.
 
-ghost use Rattle.std.specs.Prelude.{◌≡◌, ◌<◌, None, length, IfOk};
-ghost use Rattle.rx_dfa.specs.States.{ahead_of};
+ghost use Rattle.std.specs.Prelude.{◌≡◌, ◌<◌, length, IfOk};
+ghost use Rattle.rx_dfa.specs.States.{ahead_of_end};
 ghost use Rattle.rx_dfa.specs.Dfas.{IsDfaOf, column_count, ahead_in};
 
 use crate::classes::ByteClasses;
@@ -58,25 +58,32 @@ impl Dfa {
         })
     }
 
-    /// How many columns a table has: one for each class, and one for the end of the slice.
+    /// How many columns a table has: one for each class, and two for the end of the slice.
     pub(crate) fn column_count(&self) -> usize
         ensures { result ≡ column_count self.now }
     {
         self.classes.column_count()
     }
 
-    /// The column for the end of the slice.
-    pub(crate) fn end_column(&self) -> usize
+    /// The column for the end of the slice, where a match may begin or not.
+    pub(crate) fn end_column(&self, may_begin: bool) -> usize
         ensures inside { result < column_count self.now }
-        ensures end { ahead_in self.now result ≡ ahead_of self.now.utf8_empty None }
+        ensures end { ahead_in self.now result ≡ ahead_of_end may_begin }
     {
-        self.classes.column_count() - 1
+        if may_begin {
+            self.classes.column_count() - 2
+        } else {
+            self.classes.column_count() - 1
+        }
     }
 
     /// What stands ahead in a column.
     pub(crate) fn ahead(&self, column: usize) -> Ahead
         ensures { result ≡ ahead_in self.now column }
     {
-        Ahead::of(self.utf8_empty, self.classes.byte(column))
+        match self.classes.byte(column) {
+            Some(byte) => Ahead::of(self.utf8_empty, byte),
+            None => Ahead::of_end(column == self.classes.column_count() - 2),
+        }
     }
 }

@@ -4,6 +4,9 @@
 mod behind;
 mod cache;
 mod classes;
+mod closed;
+mod closing;
+pub mod dense;
 mod dfa;
 pub mod hybrid;
 mod maker;
@@ -12,5 +15,6 @@ mod search;
 mod states;
 
 pub use cache::Cache;
+pub use closed::Closed;
 pub use dfa::Dfa;
 pub use search::try_search_fwd;

@@ -6,6 +6,7 @@ ghost use Rattle.rx_dfa.specs.declared.scan.PassedEnd.{PassedEnd};
 ghost use Rattle.rx_dfa.specs.declared.states.AutomatonState.{AutomatonState};
 ghost use Rattle.rx_dfa.specs.Dfas.{IsDfaOf};
 ghost use Rattle.rx_dfa.specs.Caches.{IsCacheOf};
+ghost use Rattle.rx_dfa.specs.Searching.{met_after};
 ghost use Rattle.rx_dfa.specs.Passing.{HasPassed, IsNoted, IsOverAt, IsRefusalAmong, error_of};
 
 use crate::cache::{Cache, ENDS, STOPS};
@@ -52,12 +53,26 @@ struct PassedEnd {
 
 impl Cache {
     /// The pattern whose end was met before a state.
-    fn end_before(&self, number: usize) -> Option<PatternID>
+    pub(crate) fn end_before(&self, number: usize) -> Option<PatternID>
         requires { number < length self.now.states }
         ensures { (y : AutomatonState) → slice_get self.now.states number ≡ Some y
             → result ≡ y.ended }
     {
         self.states[number].ended
+    }
+
+    /// The match whose end was met last, once a place is passed by a step to a state.
+    pub(crate) fn met_behind(
+        &self,
+        number: usize,
+        at: usize,
+        met: Option<HalfMatch>,
+    ) -> Option<HalfMatch>
+        requires { number < length self.now.states }
+        ensures { (y : AutomatonState) → slice_get self.now.states number ≡ Some y
+            → result ≡ met_after at y.ended met }
+    {
+        last_met(at, &self.end_before(number), met)
     }
 
     /// The match whose end was met last: this end on the way, or the one before, if there is none.
@@ -77,7 +92,7 @@ impl Cache {
     /// Follows bytes that stand from a place on as far as entries are known and the search isn't
     /// over, and notes the last end that is met: the state behind them, and how many bytes were
     /// followed.
-    fn run(
+    pub(crate) fn run(
         &self,
         program: &Program,
         dfa: &Dfa,

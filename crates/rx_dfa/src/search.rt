@@ -1,32 +1,33 @@
 //! Searches by an automaton.
 
-ghost use Rattle.std.specs.Prelude.{◌≡◌, ◌⊎◌, ◌+◌, ◌<◌, ℕ, Bool, true, false, [], Option, Some, None, length, slice_get, IfSome, IfOk, IfErr, OnOk};
+ghost use Rattle.std.specs.Prelude.{◌≡◌, ◌⊎◌, ◌↔◌, ◌+◌, ◌<◌, ℕ, Bool, IsTrue, true, false, [], Option, Some, None, length, slice_get, IfSome, IfOk, IfErr, OnOk};
+ghost use Rattle.std.specs.Str.{IsCharBoundary};
 ghost use Rattle.rx_util.specs.declared.search.MatchError.{MatchError};
 ghost use Rattle.rx_walks.specs.Finds.{IsInside};
 ghost use Rattle.rx_walks.specs.ProgramFinds.{start_node, lowest, highest};
 ghost use Rattle.rx_input.specs.Cursors.{IsSameContent};
 ghost use Rattle.rx_input.specs.Inputs.{IsMoved};
 ghost use Rattle.rx_program.specs.Programs.{ByteProgram, characters_of};
-ghost use Rattle.rx_steps.specs.declared.asked.AskedLooks.{AskedLooks};
 ghost use Rattle.rx_steps.specs.Searching.{search_of, anchoring_of};
 ghost use Rattle.rx_dfa.specs.Behind.{behind_of, quits};
 ghost use Rattle.rx_dfa.specs.declared.scan.Refusal.{Refusal};
 ghost use Rattle.rx_dfa.specs.declared.states.AutomatonState.{AutomatonState};
 ghost use Rattle.rx_dfa.specs.States.{EndsSo};
-ghost use Rattle.rx_dfa.specs.Dfas.{IsDfaOf};
+ghost use Rattle.rx_dfa.specs.Classes.{class_of};
+ghost use Rattle.rx_dfa.specs.Dfas.{IsDfaOf, ahead_in, column_count};
 ghost use Rattle.rx_dfa.specs.Caches.{HasFirst, IsCacheOf};
-ghost use Rattle.rx_dfa.specs.Passing.{StandThere, StandsAt, IsRefusal, error_of};
-ghost use Rattle.rx_dfa.specs.Searching.{StartsSo, IsAhead, IsHalfAnswer, byte_before, byte_after};
+ghost use Rattle.rx_dfa.specs.Passing.{IsLastColumn, StandThere, StandsAt, IsRefusal, error_of};
+ghost use Rattle.rx_dfa.specs.Searching.{StartsSo, IsHalfAnswer, byte_before, byte_after};
 
 use crate::behind::{Behind, byte_that_quits};
 use crate::cache::Cache;
 use crate::dfa::Dfa;
 use crate::scan::Refusal;
-use crate::states::{Ahead, AutomatonState, Starting, last_met};
+use crate::states::{AutomatonState, Starting, last_met};
 use rx_input::{Cursor, Input};
 use rx_program::Program;
 use rx_sets::CharacterSet;
-use rx_steps::laws::{steps_are_alike, steps_end};
+use rx_steps::laws::{ends_are_met_unread, steps_are_alike, steps_end};
 use rx_steps::{enter, last_place, start_state};
 use rx_util::{HalfMatch, MatchError, NonMaxUsize, PatternID, StateID};
 use rx_walks::laws::{
@@ -34,7 +35,7 @@ use rx_walks::laws::{
 };
 
 /// The bytes that stand where an input stands, in the piece that is shown and up to the last place.
-fn bytes_ahead<C: Cursor>(input: &Input<C>) -> &[u8]
+pub(crate) fn bytes_ahead<C: Cursor>(input: &Input<C>) -> &[u8]
     ensures stand { (utf8_empty : Bool)
         → IsInside (search_of utf8_empty input.now) input.now.position
         → StandThere (search_of utf8_empty input.now) input.now.position result.now }
@@ -49,7 +50,7 @@ fn bytes_ahead<C: Cursor>(input: &Input<C>) -> &[u8]
 }
 
 /// Whether an input stands at the last place.
-fn is_at_last<C: Cursor>(input: &Input<C>) -> bool
+pub(crate) fn is_at_last<C: Cursor>(input: &Input<C>) -> bool
     ensures last { result ≡ true → (utf8_empty : Bool)
         → IsInside (search_of utf8_empty input.now) input.now.position
         → input.now.position ≡ highest (search_of utf8_empty input.now) }
@@ -61,7 +62,7 @@ fn is_at_last<C: Cursor>(input: &Input<C>) -> bool
 }
 
 /// The byte of the slice that stands where an input stands, if there is one.
-fn byte_seen<C: Cursor>(input: &Input<C>) -> Option<u8>
+pub(crate) fn byte_seen<C: Cursor>(input: &Input<C>) -> Option<u8>
     ensures { (utf8_empty : Bool)
         → result ≡ byte_after (search_of utf8_empty input.now) input.now.position }
 {
@@ -72,24 +73,44 @@ fn byte_seen<C: Cursor>(input: &Input<C>) -> Option<u8>
     }
 }
 
-/// What stands ahead of the last place, at which no byte is read.
-fn ahead_at_last<C: Cursor>(input: &Input<C>, utf8_empty: bool) -> Ahead
-    ensures read { result.read ≡ None }
-    ensures seen { result.seen ≡ byte_after (search_of utf8_empty input.now) input.now.position }
-    ensures ahead { (p : ByteProgram) → (asked : AskedLooks)
-        → input.now.position ≡ highest (search_of utf8_empty input.now)
-        → quits asked result.seen ≡ false
-        → IsAhead p asked (search_of utf8_empty input.now) input.now.position result }
+/// Whether a match may begin where an input stands, if empty ones inside a character are passed
+/// over or not.
+fn may_begin<C: Cursor>(input: &Input<C>, utf8_empty: bool) -> bool
+    ensures { IsTrue result
+        ↔ (IsTrue utf8_empty → IsCharBoundary input.now.cursor.content input.now.position) }
 {
-    Ahead {
-        read: None,
-        seen: byte_seen(input),
-        may_begin: !utf8_empty || input.is_char_boundary(),
+    !utf8_empty || input.is_char_boundary()
+}
+
+/// The class of a byte that is seen.
+fn seen_class(dfa: &Dfa, byte: u8) -> usize
+    ensures class { result ≡ class_of dfa.now.classes byte }
+    ensures byte { byte < 256 }
+{
+    dfa.classes.class(byte)
+}
+
+/// The column in which a state is told the end that it meets where an input stands, at the last
+/// place, ahead of which this byte of the slice stands, or none.
+pub(crate) fn last_column<C: Cursor>(dfa: &Dfa, input: &Input<C>, seen: Option<u8>) -> usize
+    ensures { (p : ByteProgram) → IsDfaOf p dfa.now
+        → input.now.position ≡ highest (search_of dfa.now.utf8_empty input.now)
+        → seen ≡ byte_after (search_of dfa.now.utf8_empty input.now) input.now.position
+        → quits dfa.now.asked seen ≡ false
+        → IsLastColumn p dfa.now (search_of dfa.now.utf8_empty input.now) input.now.position
+        result }
+{
+    // Laws, for the proof alone.
+    steps_are_alike();
+    ends_are_met_unread();
+    match seen {
+        Some(byte) => seen_class(dfa, byte),
+        None => dfa.end_column(may_begin(input, dfa.utf8_empty)),
     }
 }
 
 /// Where walks of a search start from the first place on.
-fn first_starting<C: Cursor>(input: &Input<C>, start: StateID) -> Starting
+pub(crate) fn first_starting<C: Cursor>(input: &Input<C>, start: StateID) -> Starting
     ensures { (utf8_empty : Bool)
         → input.now.position ≡ lowest (search_of utf8_empty input.now)
         → StartsSo (search_of utf8_empty input.now) start input.now.position result None }
@@ -130,7 +151,7 @@ fn byte_looked_behind<C: Cursor>(input: &mut Input<C>) -> Option<u8>
 
 /// The byte of the slice before the place at which an input stands, if looks are asked for. The
 /// piece that is shown may be another afterwards.
-fn byte_behind<C: Cursor>(input: &mut Input<C>, asks_looks: bool) -> Option<u8>
+pub(crate) fn byte_behind<C: Cursor>(input: &mut Input<C>, asks_looks: bool) -> Option<u8>
     ensures asked { asks_looks ≡ true → (utf8_empty : Bool)
         → IsInside (search_of utf8_empty input.old) input.old.position
         → result ≡ byte_before (search_of utf8_empty input.old) input.old.position }
@@ -147,7 +168,7 @@ fn byte_behind<C: Cursor>(input: &mut Input<C>, asks_looks: bool) -> Option<u8>
 }
 
 /// The side on which this byte of the slice stands, or none, as far as the program's looks tell it.
-fn side_of(program: &Program, dfa: &Dfa, behind: Option<u8>) -> Behind
+pub(crate) fn side_of(program: &Program, dfa: &Dfa, behind: Option<u8>) -> Behind
     ensures { result ≡ behind_of dfa.now.asked program.now.line_terminator behind }
 {
     Behind::of(dfa.asked, program.line_terminator(), behind)
@@ -196,32 +217,34 @@ impl Cache {
         Ok(next)
     }
 
-    /// The pattern whose end a state meets at the last place, ahead of which this stands.
+    /// The pattern whose end a state meets before what stands in a column, in which a search can
+    /// go on.
     fn last_end(
         &mut self,
         program: &Program,
         dfa: &Dfa,
         number: usize,
-        ahead: &Ahead,
+        column: usize,
         at: usize,
     ) -> Result<Option<PatternID>, MatchError>
         requires dfa { IsDfaOf program.now dfa.now }
         requires made { IsCacheOf program.now dfa.now self.old }
         requires number { number < length self.old.states }
+        requires column { column < column_count dfa.now }
+        requires goes_on { quits dfa.now.asked (ahead_in dfa.now column).seen ≡ false }
         ensures step { IfOk result (λ ended. (x : AutomatonState)
             → slice_get self.old.states number ≡ Some x
-            → EndsSo program.now dfa.now.asked x ahead.now ended) }
+            → EndsSo program.now dfa.now.asked x (ahead_in dfa.now column) ended) }
         ensures made { IsCacheOf program.now dfa.now self.new }
         ensures refused { IfErr result (λ error.
             (error ≡ MatchError.Memory) ⊎ (error ≡ MatchError.GaveUp at)) }
     {
-        if !ahead.is_end() {
-            return Ok(self.next_state(program, dfa, number, ahead)?.ended);
-        }
-        match self.step(program, dfa, number, dfa.end_column(), at)? {
-            Some(next) => Ok(self.states[next].ended),
-            None => unreachable!(),
-        }
+        let next = match self.step(program, dfa, number, column, at) {
+            Ok(Some(next)) => next,
+            Ok(None) => unreachable!(),
+            Err(error) => return Err(error),
+        };
+        Ok(self.end_before(next))
     }
 
     /// The step at the last place, where an input has to stand: the match whose end was met last.
@@ -257,11 +280,12 @@ impl Cache {
         program.walks_are_those_of_characters();
         program_is_searched_keeping::<CharacterSet, Option<NonMaxUsize>>();
         let at = input.position();
-        let ahead = ahead_at_last(input, dfa.utf8_empty);
-        if let Some(byte) = byte_that_quits(dfa.asked, ahead.seen) {
+        let seen = byte_seen(input);
+        if let Some(byte) = byte_that_quits(dfa.asked, seen) {
             return Err(Refusal::Quit(byte, at));
         }
-        match self.last_end(program, dfa, number, &ahead, at) {
+        let column = last_column(dfa, input, seen);
+        match self.last_end(program, dfa, number, column, at) {
             Ok(ended) => Ok(last_met(at, &ended, met)),
             Err(MatchError::Memory) => Err(Refusal::Memory),
             Err(_) => Err(Refusal::GaveUp(at)),

@@ -1,12 +1,12 @@
 //! The states of an automaton.
 
-ghost use Rattle.std.specs.Prelude.{◌≡◌, Bool, None, true, []};
+ghost use Rattle.std.specs.Prelude.{◌≡◌, false, true, []};
 ghost use Rattle.rx_dfa.specs.declared.states.Starting.TheVariants.{Never};
 ghost use Rattle.rx_steps.specs.Alike.{AreBare};
 ghost use Rattle.rx_dfa.specs.Classes.{continues};
 ghost use Rattle.rx_dfa.specs.Caches.{IsSameState};
 ghost use Rattle.rx_dfa.specs.Searching.{met_after};
-ghost use Rattle.rx_dfa.specs.States.{start_at, starting_after, ahead_of, IsFirstState};
+ghost use Rattle.rx_dfa.specs.States.{start_at, starting_after, ahead_of, ahead_of_end, IsFirstState};
 
 use crate::behind::Behind;
 use rx_steps::ThreadList;
@@ -60,25 +60,26 @@ pub(crate) struct Ahead {
 }
 
 impl Ahead {
-    /// A byte that is read, or the end of the slice, at which no character is cut.
-    pub(crate) fn of(utf8_empty: bool, byte: Option<u8>) -> Ahead
+    /// A byte that is read.
+    pub(crate) fn of(utf8_empty: bool, byte: u8) -> Ahead
         ensures { result ≡ ahead_of utf8_empty byte }
     {
         Ahead {
-            read: byte,
-            seen: byte,
-            may_begin: match byte {
-                None => true,
-                Some(byte) => !utf8_empty || !(128 <= byte && byte < 192),
-            },
+            read: Some(byte),
+            seen: Some(byte),
+            may_begin: !utf8_empty || !(128 <= byte && byte < 192),
         }
     }
 
-    /// Whether it is the end of the slice, at which no character is cut.
-    pub(crate) fn is_end(&self) -> bool
-        ensures { result ≡ true → (utf8_empty : Bool) → self.now ≡ ahead_of utf8_empty None }
+    /// The end of the slice, where a match may begin or not.
+    pub(crate) fn of_end(may_begin: bool) -> Ahead
+        ensures { result ≡ ahead_of_end may_begin }
     {
-        self.read.is_none() && self.seen.is_none() && self.may_begin
+        Ahead {
+            read: None,
+            seen: None,
+            may_begin,
+        }
     }
 }
 
@@ -149,7 +150,8 @@ impl AutomatonState {
 
     /// Whether it is the state in which a search stands at its first place.
     pub(crate) fn is_first(&self, starting: &Starting, behind: &Behind) -> bool
-        ensures { result ≡ true → IsFirstState starting.now behind.now self.now }
+        ensures yes { result ≡ true → IsFirstState starting.now behind.now self.now }
+        ensures no { result ≡ false → IsFirstState starting.now behind.now self.now → ⊥ }
     {
         self.threads.len() == 0
             && self.starting == *starting

@@ -20,7 +20,7 @@ use Rattle.rx_steps.proofs.ComeLaws.{none_read}
 use Rattle.rx_steps.proofs.PlaceLaws.{moves_at_place}
 use Rattle.rx_steps.proofs.IdleLaws.{with_byte, last_of}
 
-abbrev SlotMachine : Type 0
+abbrev pub SlotMachine : Type 0
 SlotMachine = Machine (ℕ × ℕ) Slots
 
 -- ---- moves at places that are alike
@@ -61,7 +61,7 @@ move_carried p first second i j q (state.Capture slot r) alike is = refl
 move_carried p first second i j q (state.Match k) alike is = refl
 
 -- where there is no slot nothing is noted
-none_noted : {L S : Type 0} (i : ℕ) (o : Option (Node L S)) → note_at note_slot i o [] ≡ []
+pub none_noted : {L S : Type 0} (i : ℕ) (o : Option (Node L S)) → note_at note_slot i o [] ≡ []
 none_noted i None = refl
 none_noted i (Some (match k)) = refl
 none_noted i (Some (pass rs)) = refl
@@ -90,10 +90,10 @@ go_alike p h h' i j first second here there alike = record {
 
 -- ---- the step
 
-abbrev bare_end : ℕ → Option (Outcome Slots) → Option (Outcome Slots)
+abbrev pub bare_end : ℕ → Option (Outcome Slots) → Option (Outcome Slots)
 bare_end j ended = option_map (λ t. record { pattern = t.pattern; end = j; notes = [] }) ended
 
-bare_map : (rs : List (ℕ × ℕ)) (n : Slots) (others : List Thread) → n ≡ [] → AreBare others → AreBare (map (λ r. (n, r)) rs ++ others)
+pub bare_map : (rs : List (ℕ × ℕ)) (n : Slots) (others : List Thread) → n ≡ [] → AreBare others → AreBare (map (λ r. (n, r)) rs ++ others)
 bare_map [] n others e bare = bare
 bare_map (r ∷ rs) n others e bare = (e, bare_map rs n others e bare)
 
@@ -120,7 +120,7 @@ abbrev no_bytes : List ℕ
 no_bytes = []
 
 -- its byte stands there, and its looks hold everywhere
-abbrev sample : Place → Option ℕ → Haystack walks.Look
+abbrev pub sample : Place → Option ℕ → Haystack walks.Look
 sample place None = record { content = no_bytes; low = 0; high = place.at; holds = λ l j. is_among place.looks l }
 sample place (Some b) = record (with_byte place.at b) { holds = λ l j. is_among place.looks l }
 
@@ -128,7 +128,7 @@ nothing_there : (i : ℕ) → slice_get (drop i (take i no_bytes)) 0 ≡ None
 nothing_there zero = refl
 nothing_there (suc i) = refl
 
-is_sample : (states : List State) (place : Place) (o : Option ℕ) → place.byte ≡ o → IsPlace states (sample place o) place.at place
+pub is_sample : (states : List State) (place : Place) (o : Option ℕ) → place.byte ≡ o → IsPlace states (sample place o) place.at place
 is_sample states place None byte = record {
   at = refl;
   inside = within_is 0 place.at place.at (omega arith) (omega arith);
@@ -142,7 +142,7 @@ is_sample states place (Some b) byte = record {
   looks = λ l asks. refl;
 }
 
-end_is : (i j : ℕ) (o : Option ℕ) (slots : Slots) → bare_end i (met_at j o slots) ≡ met_at i o []
+pub end_is : (i j : ℕ) (o : Option ℕ) (slots : Slots) → bare_end i (met_at j o slots) ≡ met_at i o []
 end_is i j None slots = refl
 end_is i j (Some k) slots = refl
 

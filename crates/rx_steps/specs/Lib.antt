@@ -3,6 +3,7 @@ pub mod Threads
 pub mod Frames
 pub mod Lists
 pub mod Alike
+pub mod Unread
 pub mod Asked
 pub mod Sides
 pub mod Searching

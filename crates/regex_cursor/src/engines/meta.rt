@@ -4,8 +4,11 @@ mod builder;
 mod cache;
 mod captures_matches;
 mod find_matches;
+mod finder;
 mod regex;
 mod split;
+mod split_n;
+mod splitter;
 mod strategy;
 
 pub use builder::Builder;
@@ -14,4 +17,5 @@ pub use captures_matches::CapturesMatches;
 pub use find_matches::FindMatches;
 pub use regex::Regex;
 pub use rx_program::BuildError;
-pub use split::{Split, SplitN};
+pub use split::Split;
+pub use split_n::SplitN;

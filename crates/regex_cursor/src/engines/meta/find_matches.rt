@@ -3,9 +3,8 @@
 ghost use Rattle.regex_cursor.specs.Regexes.{IsCacheOf};
 
 use super::cache::Cache;
+use super::finder::Finder;
 use super::regex::Regex;
-use super::strategy::find_next;
-use rx_chunk::laws::fewer_are_left;
 use rx_input::{Cursor, Input};
 use rx_sets::CharacterSet;
 use rx_util::{Match, MatchError};
@@ -16,23 +15,17 @@ use std::iter::FusedIterator;
 /// where the one before ended is passed over. `Regex::find_iter` makes it.
 #[derive(Drop)]
 pub struct FindMatches<'r, C: Cursor> {
-    re: &'r Regex,
-    cache: Cache,
+    finder: Finder<'r>,
     input: Input<C>,
-    last_match_end: Option<usize>,
-    // No more come.
-    is_over: bool,
-    ghost serves: { IsCacheOf re.now cache },
 }
 
 impl<'r, C: Cursor> FindMatches<'r, C> {
     ghost use Rattle.std.specs.Prelude.{◌≡◌, ◌<◌, ◌^◌};
     ghost use Rattle.std.specs.Iterator.{size};
-    ghost use Rattle.regex_cursor.specs.Iterating.{GivesAll, left_of, matches_from, matches_left, regex_of};
     ghost use Rattle.std.specs.Borrow.{sem};
+    ghost use Rattle.regex_cursor.specs.Iterating.{GivesAll, left_of, matches_from, matches_left, regex_of};
     ghost use Rattle.regex_cursor.specs.Lending.{LendsInput};
     ghost use Rattle.regex_cursor.specs.Regexes.{search_by};
-    ghost use Rattle.regex_cursor.specs.Splitting.{end_of_search};
 
     /// None of the matches in an input has come yet.
     #[tactic(auto, using(crate::proofs::FewLaws::few_items))]
@@ -47,30 +40,16 @@ impl<'r, C: Cursor> FindMatches<'r, C> {
         first_matches_grow::<CharacterSet>();
         let _ = input.position();
         FindMatches {
-            re,
-            cache,
+            finder: Finder::new(re, cache),
             input,
-            last_match_end: None,
-            is_over: false,
         }
-    }
-
-    /// Where the input's span ends, but at most where its content does.
-    pub(super) fn end(&mut self) -> usize
-        ensures end { result ≡ end_of_search (left_of self.old).search }
-        ensures left { left_of self.new ≡ left_of self.old }
-        ensures regex { regex_of self.new ≡ regex_of self.old }
-    {
-        let end = self.input.end();
-        self.input.move_to(end);
-        end.min(self.input.position())
     }
 
     /// The regex that it searches for.
     pub fn regex(&self) -> &'r Regex
         ensures { result.now ≡ regex_of self.now }
     {
-        self.re
+        self.finder.regex()
     }
 
     /// The input in which the next match is searched, which may be changed. The end of the last
@@ -93,28 +72,7 @@ impl<'r, C: Cursor + Drop> Iterator for FindMatches<'r, C> {
     ghost remaining = { λ m. matches_left (left_of m) };
 
     fn next(&mut self) -> Option<Result<Match, MatchError>> {
-        if self.is_over {
-            return None;
-        }
-        // A law, for the proof alone.
-        fewer_are_left();
-        let vm = self.re.vm();
-        match find_next(vm, &mut self.cache, &mut self.input, self.last_match_end) {
-            Ok(Some(found)) => {
-                let end = found.end();
-                self.input.set_start(end);
-                self.last_match_end = Some(end);
-                Some(Ok(found))
-            }
-            Ok(None) => {
-                self.is_over = true;
-                None
-            }
-            Err(error) => {
-                self.is_over = true;
-                Some(Err(error))
-            }
-        }
+        self.finder.next(&mut self.input)
     }
 }
 

@@ -16,7 +16,8 @@ use super::builder::Builder;
 use super::cache::Cache;
 use super::captures_matches::CapturesMatches;
 use super::find_matches::FindMatches;
-use super::split::{Split, SplitN};
+use super::split::Split;
+use super::split_n::SplitN;
 use super::strategy::{self, Strategy};
 use rx_chunk::pikevm::PikeVM;
 use rx_input::{Cursor, Input};
@@ -176,7 +177,8 @@ impl Regex {
             (λ m. splitting.GivesGaps self.now (search_by self.now input) m) }
         ensures refused { IfErr result (λ error. error ≡ MatchError.Memory) }
     {
-        Ok(Split::new(self.find_iter(input)?))
+        let cache = self.create_cache()?;
+        Ok(Split::new(self, cache, input))
     }
 
     /// The same parts, at most as many as the limit: the last of so many goes to the end. The one
@@ -195,7 +197,8 @@ impl Regex {
             (λ m. few.GivesFewGaps self.now (search_by self.now input) limit m) }
         ensures refused { IfErr result (λ error. error ≡ MatchError.Memory) }
     {
-        Ok(SplitN::new(self.split(input)?, limit))
+        let cache = self.create_cache()?;
+        Ok(SplitN::new(self, cache, input, limit))
     }
 
     /// The match that is found: of those that start first the one that the pattern prefers. Where

@@ -1,4 +1,3 @@
-use Rattle.std.proofs.Common.{refl}
 use Rattle.unicode.specs.Perl.{is_word_char}
 use Rattle.rx_utf8.specs.Automata.{is_in}
 use Rattle.rx_program.specs.Programs.{characters_of}
@@ -8,4 +7,4 @@ use Rattle.regex_cursor.proofs.engines.meta.find_matches.FindMatches.new.Goals a
 
 pub returns-clause-all : goal.returns-clause-all
 returns-clause-all g c =
-    finds_in_order c.args.re.now (search_by c.args.re.now c.args.input) _ (c.first_matches_grow.ensures is_in is_word_char (characters_of c.args.re.now.program)) refl refl
+    finds_in_order c.args.re.now (search_by c.args.re.now c.args.input) _ (c.first_matches_grow.ensures is_in is_word_char (characters_of c.args.re.now.program)) c.new.ensures.regex (c.new.ensures.left c.args.input)

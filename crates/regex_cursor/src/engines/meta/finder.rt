@@ -1,0 +1,90 @@
+//! What steps from match to match.
+
+ghost use Rattle.regex_cursor.specs.Regexes.{IsCacheOf};
+
+use super::cache::Cache;
+use super::regex::Regex;
+use super::strategy::find_next;
+use rx_chunk::laws::fewer_are_left;
+use rx_input::{Cursor, Input};
+use rx_util::{Match, MatchError};
+
+/// Steps from match to match in the input that each step is handed. An empty match where the one
+/// before ended is passed over.
+#[derive(Drop)]
+pub(super) struct Finder<'r> {
+    re: &'r Regex,
+    cache: Cache,
+    last_match_end: Option<usize>,
+    // No more come.
+    is_over: bool,
+    ghost serves: { IsCacheOf re.now cache },
+}
+
+impl<'r> Finder<'r> {
+    ghost use Rattle.std.specs.Prelude.{◌≡◌, ◌<◌, OnSome};
+    ghost use Rattle.std.specs.Iterator.{size};
+    ghost use Rattle.rx_input.specs.Inputs.{InputState};
+    ghost use Rattle.rx_chunk.specs.Engines.{match_of};
+    ghost use Rattle.regex_cursor.specs.Iterating.{GivesNext, GoesOn, engine_of, left_in, matches_from, matches_left};
+    ghost use Rattle.regex_cursor.specs.Regexes.{search_by};
+
+    /// No match has come yet.
+    pub(super) fn new(re: &'r Regex, cache: Cache) -> Finder<'r>
+        requires made { IsCacheOf re.now cache }
+        ensures left { (i : InputState) → left_in result i ≡ matches_from (search_by re.now i) }
+        ensures regex { engine_of result ≡ re.now }
+    {
+        Finder {
+            re,
+            cache,
+            last_match_end: None,
+            is_over: false,
+        }
+    }
+
+    /// The regex that it searches for.
+    pub(super) fn regex(&self) -> &'r Regex
+        ensures { result.now ≡ engine_of self.now }
+    {
+        self.re
+    }
+
+    /// The match that comes next in an input, whose span then starts at its end; or a refusal, which
+    /// is `Memory`. None comes after a refusal.
+    pub(super) fn next<C: Cursor>(
+        &mut self,
+        input: &mut Input<C>,
+    ) -> Option<Result<Match, MatchError>>
+        ensures next { GivesNext (engine_of self.old).program match_of
+            (left_in self.old input.old) result (left_in self.new input.new) }
+        ensures same_regex { engine_of self.new ≡ engine_of self.old }
+        ensures goes_on { GoesOn (left_in self.old input.old).search
+            (left_in self.new input.new).search }
+        ensures fewer { OnSome result (size (matches_left (left_in self.new input.new))
+            < size (matches_left (left_in self.old input.old))) }
+    {
+        if self.is_over {
+            return None;
+        }
+        // A law, for the proof alone.
+        fewer_are_left();
+        let vm = self.re.vm();
+        match find_next(vm, &mut self.cache, input, self.last_match_end) {
+            Ok(Some(found)) => {
+                let end = found.end();
+                input.set_start(end);
+                self.last_match_end = Some(end);
+                Some(Ok(found))
+            }
+            Ok(None) => {
+                self.is_over = true;
+                None
+            }
+            Err(error) => {
+                self.is_over = true;
+                Some(Err(error))
+            }
+        }
+    }
+}

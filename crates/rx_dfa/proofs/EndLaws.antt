@@ -1,0 +1,94 @@
+-- The last place of a search, at which no byte is read.
+use Rattle.std.proofs.Common.{◌≡◌, ℕ, ◌<◌, ◌≤◌, Bool, false, not, ◌||◌, IsTrue, [], ◌++◌, length, Option, Some, None, refl, sym, ap, subst, ◌∙◌, arith}
+use Rattle.std.specs.Prelude.{◌↔◌, ◌==◌}
+use Rattle.rx_util.specs.Search.{HalfFound}
+use Rattle.rx_walks.specs.Finds.{Search, IsInside}
+use Rattle.rx_walks.specs.ProgramFinds.{start_node, highest}
+use Rattle.rx_walks.specs.Steps.{thin_end}
+use Rattle.rx_program.specs.Programs.{ByteProgram, IsByteProgram, characters_of}
+use Rattle.rx_steps.specs.declared.asked.AskedLooks.{AskedLooks}
+use Rattle.rx_steps.specs.Alike.{AreBare, StepsAreAlike}
+use Rattle.rx_steps.specs.Unread.{EndsAreMetUnread}
+use Rattle.rx_steps.proofs.AnswerLaws.{KeepingLaw}
+use Rattle.rx_dfa.specs.declared.states.Ahead.{Ahead}
+use Rattle.rx_dfa.specs.declared.states.AutomatonState.{AutomatonState}
+use Rattle.rx_dfa.specs.Behind.{behind_of, quits}
+use Rattle.rx_dfa.specs.Classes.{byte_of, class_of, continues}
+use Rattle.rx_dfa.specs.States.{ahead_of, ahead_of_end, place_of_step, started, start_at, IsStep, EndsSo}
+use Rattle.rx_dfa.specs.Dfas.{DfaView, IsDfaOf, ahead_at, ahead_in, column_count}
+use Rattle.rx_dfa.specs.Searching.{AreAskedBy, HasReached, IsBehind, IsHalfAnswer, byte_after, met_after}
+use Rattle.rx_dfa.specs.Passing.{IsLastColumn}
+use Rattle.rx_dfa.proofs.LoopLaws.{Laws, May, end_answers}
+use Rattle.rx_dfa.proofs.PassLaws.{byte_in_class, quits_alike}
+use Rattle.rx_dfa.proofs.SearchLaws.{byte_there, may_begin_is, none_read}
+use Rattle.rx_dfa.proofs.StepLaws.{bare_started, step_alike}
+
+-- what stands ahead of a byte that is seen and not read
+abbrev ahead_unread : Bool → ℕ → Ahead
+ahead_unread utf8_empty b = record (ahead_of utf8_empty b) { read = None }
+
+-- the step over a byte tells the end that is met where it isn't read
+ends_unread : ((p : ByteProgram) → EndsAreMetUnread p) → (p : ByteProgram) (asked : AskedLooks) (utf8_empty : Bool) (x y : AutomatonState) (b : ℕ) → AreBare x.threads.threads → IsStep p asked x (ahead_of utf8_empty b) y → EndsSo p asked x (ahead_unread utf8_empty b) y.ended
+ends_unread law p asked utf8_empty x y b bare step =
+    let may = not utf8_empty || not (continues b) in
+    let from = x.threads.threads ++ started (start_at x.starting may) in
+    record {
+      next = record { threads = record y.threads { threads = [] }; starting = y.starting; behind = behind_of asked p.line_terminator None; ended = y.ended };
+      step = record {
+        next = [];
+        slots = [];
+        list = law p (place_of_step p.line_terminator x (ahead_of utf8_empty b)) from step.next y.ended step.slots (bare_started x (start_at x.starting may) bare) step.list;
+        thins = thin_end;
+        starting = step.starting;
+        behind = refl;
+      };
+      ended_is = refl;
+    }
+
+-- a byte is seen, in whose class the end is told
+pub byte_tells : ((p : ByteProgram) → StepsAreAlike p) → ((p : ByteProgram) → EndsAreMetUnread p) → (p : ByteProgram) (dfa : DfaView) (s : Search) (i b : ℕ) → IsDfaOf p dfa → dfa.utf8_empty ≡ s.utf8_empty → b < 256 → highest s ≤ i → byte_after s i ≡ Some b → quits dfa.asked (Some b) ≡ false
+    → IsLastColumn p dfa s i (class_of dfa.classes b)
+byte_tells alike unread p dfa s i b made same low last seen told =
+    let r = byte_of dfa.classes b in
+    let class = made.classes b low in
+    let at = byte_in_class p dfa b made low in
+    let is_last = class_of dfa.classes b == length dfa.classes.bytes in
+    record {
+      inside = omega (arith, class.has_class);
+      goes_on = subst (λ o. quits dfa.asked (ahead_at dfa.utf8_empty is_last o).seen ≡ false) (sym at) (quits_alike p dfa.asked r b class.alike ∙ told);
+      tells = λ x y bare step.
+          let by_class : IsStep p dfa.asked x (ahead_of dfa.utf8_empty r) y = subst (λ o. IsStep p dfa.asked x (ahead_at dfa.utf8_empty is_last o) y) at step in
+          let itself = step_alike alike p dfa.asked dfa.utf8_empty x y r b made.asked bare class.alike by_class in
+          record {
+            ahead = ahead_unread dfa.utf8_empty b;
+            read = refl;
+            here = record {
+              read = none_read p s i last;
+              seen = seen;
+              told = told;
+              may_begin = subst (λ u. IsTrue (not u || not (continues b)) ↔ May s i) (sym same) (may_begin_is s i b (byte_there s i b seen).0);
+            };
+            ends = ends_unread unread p dfa.asked dfa.utf8_empty x y b bare itself;
+          };
+    }
+
+-- the slice ends there
+pub end_tells : (p : ByteProgram) (dfa : DfaView) (s : Search) (i column : ℕ) (may_begin : Bool) → column < column_count dfa → ahead_in dfa column ≡ ahead_of_end may_begin → (IsTrue may_begin ↔ May s i) → highest s ≤ i → byte_after s i ≡ None → IsLastColumn p dfa s i column
+end_tells p dfa s i column may_begin inside is may last seen = record {
+  inside = inside;
+  goes_on = ap (λ (a : Ahead). quits dfa.asked a.seen) is;
+  tells = λ x y bare step. record {
+    ahead = ahead_of_end may_begin;
+    read = refl;
+    here = record { read = none_read p s i last; seen = seen; told = refl; may_begin = may };
+    ends = record { next = y; step = subst (λ a. IsStep p dfa.asked x a y) is step; ended_is = refl };
+  };
+}
+
+-- the answer by the end that is told in the last column
+pub last_answers : Laws → (p : ByteProgram) (dfa : DfaView) (s : Search) (q i column : ℕ) (x : AutomatonState) (ended : Option ℕ) (met : Option HalfFound) → IsByteProgram p → KeepingLaw → start_node (characters_of p) s.anchoring ≡ Some q → AreAskedBy p.states dfa.asked
+    → AreBare x.threads.threads → IsInside s i → i ≡ highest s → IsLastColumn p dfa s i column → IsBehind p dfa.asked s i x → EndsSo p dfa.asked x (ahead_in dfa column) ended → HasReached p s q i x met → IsHalfAnswer p s (met_after i ended met)
+last_answers laws p dfa s q i column x ended met reads law starts are bare inside last is behind told reached =
+    let meets = is.tells x told.next bare told.step in
+    let whole = end_answers laws p dfa.asked s q i x meets.ends.next meets.ahead met reads law starts are bare inside last meets.read behind meets.here meets.ends.step reached in
+    subst (λ o. IsHalfAnswer p s (met_after i o met)) (sym meets.ends.ended_is ∙ sym told.ended_is) whole

@@ -1,0 +1,24 @@
+use Rattle.std.proofs.Common.{◌≡◌, ◌≤◌, length, ap, arith, vec_len}
+use Rattle.std.proofs.lemmas.Grind.{common_steps}
+use Rattle.rx_dfa.specs.Caches.{CacheView}
+use Rattle.rx_dfa.proofs.TableLaws.{keep_all}
+use Rattle.rx_dfa.proofs.ClosedLaws.{known_all}
+use Rattle.rx_dfa.proofs.cache.Cache.close.Goals as goal
+
+pub loop-number-init : goal.loop-number-init
+loop-number-init c = record { made = c.requires.made; kept = keep_all c.args.self.now.states; known = λ number column lt in_row. absurd (omega (arith, lt)) }
+
+pub loop-number-preserved : goal.loop-number-preserved
+loop-number-preserved c = record {
+  made = c.fill_row.ensures.made;
+  kept = λ number x e. c.in_ok-fill_row.ensures.kept number x (c.loop-number.invariant.kept number x e);
+  known = c.in_ok-fill_row.ensures.known;
+}
+
+pub returns-clause-known : goal.returns-clause-known
+returns-clause-known c = λ e.
+    let cache = c.loop-number.self in
+    let states = c.self.inside.states in
+    let long : vec_len states ≡ length states.items = grind (arith, common_steps) in
+    let all : length cache.states ≤ c.loop-number.number = omega (arith, c.loop-number-test.false, c.len.ensures, long, ap (λ (v : CacheView). length v.states) c.self.view_is) in
+    known_all cache c.loop-number.number (length cache.states) all c.loop-number.invariant.known

@@ -1,0 +1,14 @@
+use Rattle.std.proofs.Common.{ℕ, ◌+◌, ◌*◌, ◌<◌, length}
+use Rattle.rx_dfa.specs.Caches.{IsCacheOf, KeepNumbers}
+use Rattle.rx_dfa.specs.Closed.{AreKnown, IsKnownAt}
+use Rattle.rx_dfa.proofs.cache.Cache.fill_row.Given as goal
+
+-- the entries of the row so far are known
+abbrev pub invariant-loop-column : goal.invariant-loop-column
+invariant-loop-column l = record {
+  made : IsCacheOf l.program l.dfa l.self;
+  number : l.number < length l.self.states;
+  kept : KeepNumbers l.fn.self.states l.self.states;
+  before : AreKnown l.self l.number;
+  row : (column : ℕ) → column < l.column → IsKnownAt l.self.table (l.number * l.self.width + column);
+}

@@ -1,0 +1,22 @@
+-- Engines that search by closed automata.
+use Rattle.std.specs.Prelude.{◌≡◌}
+use Rattle.rx_chunk.specs.Engines.{Engine}
+use Rattle.rx_dfa.specs.Dfas.{DfaView, IsDfaOf}
+use Rattle.rx_dfa.specs.Caches.{CacheView}
+use Rattle.rx_dfa.specs.Closed.{IsClosedOf}
+
+-- an automaton, and all its states and steps
+pub record AutomatonView : Type 0 where
+  pub dfa : DfaView
+  pub closed : CacheView
+
+-- an engine, and the automaton of its program
+pub record DenseView : Type 0 where
+  pub engine : Engine
+  pub automaton : AutomatonView
+
+-- they pass over the same empty matches, and the automaton is closed
+pub record IsDense (re : DenseView) : Type 0 where
+  pub dfa : IsDfaOf re.engine.program re.automaton.dfa
+  pub utf8_empty : re.automaton.dfa.utf8_empty ≡ re.engine.utf8_empty
+  pub closed : IsClosedOf re.engine.program re.automaton.dfa re.automaton.closed
