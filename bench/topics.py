@@ -107,7 +107,7 @@ TOPICS = {
     ),
     "files": ("reading and writing a rope, beside a String", over(sized("ascii"), "copy")),
     "live": (
-        "edits of a buffer with its report, undo, redo, beside a String of which all matches are found again; the aims, in "
+        "edits of a buffer with its report, undo, redo, beside a String of which all rows are made again; the aims, in "
         "400,000 lines under a literal, are 8 us for a letter in a random line, 5 us for a typist's, 2 ms for a break",
         over([("lines", 10_000), ("lines", 400_000)], "", "let", *EXPRESSIONS),
     ),

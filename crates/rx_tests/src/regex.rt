@@ -1,6 +1,7 @@
 //! An example for each public type of `regex_cursor`.
 
 ghost use Rattle.std.specs.Prelude.{◌≡◌};
+ghost use Rattle.regex_cursor.specs.Regexes.{IsCacheOf};
 
 use regex_cursor::engines::meta::{Builder, Cache, CapturesMatches, FindMatches, Regex, Split};
 use regex_cursor::engines::pikevm::{self, PikeVM};
@@ -27,7 +28,7 @@ fn regex(rt: HostRuntime) -> Result<(), Fail> {
     Ok(())
 }
 
-/// Matches one after the other; `count` tells how many are left.
+/// Matches one after the other. What is over gives no more.
 #[test]
 fn find_matches(rt: HostRuntime) -> Result<(), Fail> {
     let rope = Rope::from_str(rt.alloc(), "a frog@pond, toad@road")?;
@@ -36,7 +37,17 @@ fn find_matches(rt: HostRuntime) -> Result<(), Fail> {
     let mut found: FindMatches<RopeyCursor> = re.find_iter(input)?;
     assert!(rt; found.regex().captures_len() == 1);
     assert!(rt; span_of(found.next())? == Some(Span { start: 2, end: 11 }));
-    assert!(rt; found.count() == 1);
+    assert!(rt; span_of(found.next())? == Some(Span { start: 13, end: 22 }));
+    assert!(rt; found.next().is_none());
+    Ok(())
+}
+
+/// `count` tells how many matches there are, alone and with their groups.
+#[test]
+fn counts(rt: HostRuntime) -> Result<(), Fail> {
+    let re = Regex::new(rt.alloc(), r"\w+@(\w+)")?;
+    assert!(rt; re.find_iter(Input::new("a frog@pond, toad@road"))?.count() == 2);
+    assert!(rt; re.captures_iter(Input::new("a frog@pond"))?.count() == 1);
     Ok(())
 }
 
@@ -90,7 +101,6 @@ fn captures_matches(rt: HostRuntime) -> Result<(), Fail> {
         None => assert!(rt; false),
     }
     assert!(rt; found.next().is_none());
-    assert!(rt; found.count() == 0);
     Ok(())
 }
 
@@ -106,19 +116,40 @@ fn builder(rt: HostRuntime) -> Result<(), Fail> {
     Ok(())
 }
 
+/// Where a match starts that is found with a cache which is lent.
+fn start_with(re: &Regex, cache: &mut Cache) -> Result<usize, MatchError>
+    requires { IsCacheOf re.now cache.old }
+    ensures { IsCacheOf re.now cache.new }
+{
+    let found = re.search_with(cache, &mut Input::new("bax"))?;
+    Ok(found.map_or(0, |found| found.start()))
+}
+
+/// One search each by two regexes, for the second of which the cache is reset.
+fn in_turn(first: &Regex, second: &Regex, cache: &mut Cache) -> Result<(usize, usize), MatchError>
+    requires { IsCacheOf first.now cache.old }
+{
+    let start = start_with(first, cache)?;
+    cache.reset(second)?;
+    Ok((start, start_with(second, cache)?))
+}
+
+fn with_one_cache(
+    alloc: Global,
+    first: &Regex,
+    second: &Regex,
+) -> Result<(usize, usize), MatchError> {
+    let mut cache = Cache::new(alloc, first)?;
+    in_turn(first, second, &mut cache)
+}
+
 /// A cache that was made for one regex and is reset for another one.
 #[test]
 fn cache(rt: HostRuntime) -> Result<(), Fail> {
     let first = Regex::new(rt.alloc(), "x")?;
     let second = Regex::new(rt.alloc(), "a")?;
-    let mut cache = Cache::new(rt.alloc(), &first)?;
-    let mut input = Input::new("bax");
-    let found = first.search_with(&mut cache, &mut input)?;
-    assert!(rt; found.map_or(0, |found| found.start()) == 2);
-    cache.reset(&second)?;
-    let found = second.search_with(&mut cache, &mut input)?;
-    assert!(rt; found.map_or(0, |found| found.start()) == 1);
-    assert!(rt; cache.memory_usage() > 0);
+    assert!(rt; with_one_cache(rt.alloc(), &first, &second)? == (2, 1));
+    assert!(rt; first.create_cache()?.memory_usage() > 0);
     Ok(())
 }
 
@@ -132,13 +163,23 @@ fn clones(rt: HostRuntime) -> Result<(), Fail> {
     Ok(())
 }
 
+fn with_clone(re: &Regex, cache: &Cache) -> Result<usize, MatchError>
+    requires { IsCacheOf re.now cache.now }
+{
+    let mut copy = cache.clone()?;
+    start_with(re, &mut copy)
+}
+
+fn with_cloned_cache(re: &Regex) -> Result<usize, MatchError> {
+    let cache = re.create_cache()?;
+    with_clone(re, &cache)
+}
+
 /// A clone of a cache serves as its source does.
 #[test]
 fn clone_of_a_cache(rt: HostRuntime) -> Result<(), Fail> {
     let re = Regex::new(rt.alloc(), "a")?;
-    let cache = re.create_cache()?;
-    let found = re.search_with(&mut cache.clone()?, &mut Input::new("ba"))?;
-    assert!(rt; found.map_or(0, |found| found.start()) == 1);
+    assert!(rt; with_cloned_cache(&re)? == 1);
     Ok(())
 }
 
