@@ -17,8 +17,7 @@ use Rattle.rx_program.specs.Laws.{MatchesNoteTheirPlaces}
 use Rattle.rx_program.specs.Programs.{ByteProgram, characters_of}
 use Rattle.rx_steps.specs.Threads.{Slots}
 use Rattle.rx_steps.specs.Searching.{IsAnswer, IsAnswerAt, IsFirstEnd}
-use Rattle.rx_steps.specs.Standing.{WalkStands}
-use Rattle.rx_chunk.specs.Engines.{Engine, IsEngine, Finds, match_of, TellsWhether, IsFound, TellsMatch, TellsSlots, StopsAt, IsFoundAt}
+use Rattle.rx_chunk.specs.Engines.{Engine, IsEngine, Finds, match_of, TellsWhether, IsFound, TellsMatch, TellsSlots, IsFoundAt}
 use Rattle.rx_chunk.specs.Iterating.{EndsAhead, captured_by}
 use Rattle.rx_chunk.proofs.EngineLaws.{tells_whether, none_found}
 use Rattle.rx_chunk.proofs.FoundLaws.{InsideLaw, is_noted, noted_in_order, match_with, noted_found, AreNoted, are_noted}
@@ -52,20 +51,9 @@ tells_slots false p s i pattern slots law is = record { whether = tells_whether 
 tells_slots true p s i None slots law is = record { whether = tells_whether false refl is; exact = λ e. absurd (cc e) }
 tells_slots true p s i (Some k) slots law is = record { whether = whether_in_part p s i is.0.found true law is.0.in_span is.0.finds refl; exact = λ e. absurd (cc e) }
 
-pub stops_at : (earliest : Bool) (p : ByteProgram) (s : Search) (i : ℕ) (pattern : Option ℕ) (slots : Slots) → IsAnswerAt earliest p s i pattern slots → ForSome pattern (λ _. WalkStands p s i)
-    → ForSome pattern (λ _. StopsAt earliest p s i)
-stops_at earliest p s i None slots is stands = λ k e. absurd (cc e)
-stops_at false p s i (Some k) slots is stands = λ j e. record { stands = stands k refl; first_end = λ f. absurd (cc f) }
-stops_at true p s i (Some k) slots is stands = λ j e. record { stands = stands k refl; first_end = λ f. is.0 }
-
 pub first_end : (p : ByteProgram) (s : Search) (i : ℕ) (pattern : Option ℕ) (slots : Slots) → is_some pattern ≡ true → IsAnswerAt true p s i pattern slots → IsFirstEnd p s i
 first_end p s i None slots some is = absurd (cc some)
 first_end p s i (Some k) slots some is = is.0
-
-pub stops_found : (earliest : Bool) (p : ByteProgram) (s : Search) (i : ℕ) (found : Option Found) → IsFoundAt earliest p s i found → ForSome found (λ _. WalkStands p s i) → ForSome found (λ _. StopsAt earliest p s i)
-stops_found earliest p s i None is stands = λ m e. absurd (cc e)
-stops_found false p s i (Some m) is stands = λ n e. record { stands = stands m refl; first_end = λ f. absurd (cc f) }
-stops_found true p s i (Some m) is stands = λ n e. record { stands = stands m refl; first_end = λ f. is.0 }
 
 -- ---- an answer is one of all of the span or of a part of it
 

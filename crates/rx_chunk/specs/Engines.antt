@@ -23,7 +23,6 @@ use Rattle.rx_program.specs.Code.{program_of}
 use Rattle.rx_program.specs.Programs.{ByteProgram, characters_of}
 use Rattle.rx_program.specs.Sizes.{IsTooLarge, told_limit, weight_of_all}
 use Rattle.rx_steps.specs.Searching.{IsAnswer, IsFirstEnd}
-use Rattle.rx_steps.specs.Standing.{WalkStands}
 
 -- a program, the groups that it notes, and whether it passes over empty matches inside a character
 pub record Engine : Type 0 where
@@ -148,12 +147,6 @@ pub record TellsSlots (earliest : Bool) (p : ByteProgram) (s : Search) (pattern 
     (slots : List (Option ℕ)) : Type 0 where
   pub whether : TellsWhether p s (is_some pattern)
   pub exact : earliest ≡ false → IsAnswer p s pattern slots
-
--- a search that found a match goes no further than this place: a walk stands there; and if any
--- match will do, it is the first end of one
-pub record StopsAt (earliest : Bool) (p : ByteProgram) (s : Search) (i : ℕ) : Type 0 where
-  pub stands : WalkStands p s i
-  pub first_end : earliest ≡ true → IsFirstEnd p s i
 
 -- what is found by a search that stands at a place then: the match; or, if any match will do and
 -- there is one, the match that is found up to this place, which is the first end of one

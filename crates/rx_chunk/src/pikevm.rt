@@ -15,10 +15,10 @@ ghost use Rattle.rx_grammar.specs.Postorder.{own_names, tree_of};
 ghost use Rattle.rx_input.specs.Cursors.{IsSameContent};
 ghost use Rattle.rx_steps.specs.Nodes.{node_count};
 ghost use Rattle.rx_steps.specs.Searching.{search_of, IsAnswerAt, IsFirstEnd};
-ghost use Rattle.rx_steps.specs.Standing.{WalkStands};
+ghost use Rattle.rx_steps.specs.Standing.{StopsAt};
 ghost use Rattle.rx_steps.specs.Threads.{no_slots};
 ghost use Rattle.rx_steps.specs.Caches.{place_count, IsCacheOf};
-ghost use Rattle.rx_chunk.specs.Engines.{EngineSettings, nothing_set, settings_over, size_limit_of, AreNamesOf, IsEngine, IsBuiltOf, IsRefused, TellsMatch, TellsSlots, TellsWhether, IsFoundAt, StopsAt, refusal_of, by_default, AreGroupsOf};
+ghost use Rattle.rx_chunk.specs.Engines.{EngineSettings, nothing_set, settings_over, size_limit_of, AreNamesOf, IsEngine, IsBuiltOf, IsRefused, TellsMatch, TellsSlots, TellsWhether, IsFoundAt, refusal_of, by_default, AreGroupsOf};
 ghost use Rattle.rx_chunk.specs.Iterating.{EndsAhead, HasNotedNext, IsFoundNext, StartsFrom, matches_from};
 ghost use Rattle.rx_input.specs.Searchers.{EndsInside};
 ghost use Rattle.rx_chunk.specs.FindMatches.{cache_of, left_of, program_of};
@@ -506,7 +506,7 @@ fn seek<C: Cursor>(
     requires made { IsCacheOf vm.now.program cache.old }
     ensures answer { IfOk result (λ pattern. IsAnswerAt earliest vm.now.program
         (search_of vm.now.utf8_empty input.old) input.new.position pattern slots.new) }
-    ensures stands { IfOk result (λ pattern. ForSome pattern (λ _. WalkStands vm.now.program
+    ensures stops { IfOk result (λ pattern. ForSome pattern (λ _. StopsAt earliest vm.now.program
         (search_of vm.now.utf8_empty input.old) input.new.position)) }
     ensures none { OnErr result (slots.new ≡ no_slots (length slots.new)) }
     ensures made { IsCacheOf vm.now.program cache.new }
@@ -575,7 +575,7 @@ fn note<C: Cursor>(
     ensures answer { OnOk result (IsAnswerAt earliest vm.now.program
         (search_of vm.now.utf8_empty input.old) input.new.position caps.new.pattern
         caps.new.slots) }
-    ensures stands { OnOk result (ForSome caps.new.pattern (λ _. WalkStands vm.now.program
+    ensures stops { OnOk result (ForSome caps.new.pattern (λ _. StopsAt earliest vm.now.program
         (search_of vm.now.utf8_empty input.old) input.new.position)) }
     ensures groups { caps.new.groups ≡ caps.old.groups }
     ensures slot_len { length caps.new.slots ≡ length caps.old.slots }
@@ -675,7 +675,7 @@ fn look_for<C: Cursor>(
     requires made { IsCacheOf vm.now.program cache.old }
     ensures answer { IfOk result (λ found. IsFoundAt earliest vm.now.program
         (search_of vm.now.utf8_empty input.old) input.new.position found) }
-    ensures stands { IfOk result (λ found. ForSome found (λ _. WalkStands vm.now.program
+    ensures stops { IfOk result (λ found. ForSome found (λ _. StopsAt earliest vm.now.program
         (search_of vm.now.utf8_empty input.old) input.new.position)) }
     ensures made { IsCacheOf vm.now.program cache.new }
     ensures asked { input.new.asked ≡ input.old.asked }

@@ -13,9 +13,9 @@ use Rattle.rx_input.specs.Inputs.{InputState, Asked}
 use Rattle.rx_program.specs.Programs.{ByteProgram, IsByteProgram, characters_of}
 use Rattle.rx_steps.specs.Threads.{Slots, Thread, IsThreadOf, no_slots}
 use Rattle.rx_steps.specs.Lists.{met_at}
-use Rattle.rx_steps.specs.Searching.{search_of, anchoring_of, IsAnswer, IsAnswerAt}
-use Rattle.rx_steps.specs.Standing.{IsReached, WalkStands}
-use Rattle.rx_steps.specs.Coming.{HasSlots, machine_in, HasCome, IsUnderWay, IsOver, IsOverAt, HasMetNone}
+use Rattle.rx_steps.specs.Searching.{search_of, anchoring_of, IsAnswer, IsAnswerAt, IsFirstEnd}
+use Rattle.rx_steps.specs.Standing.{IsReached, StopsAt}
+use Rattle.rx_steps.specs.Coming.{HasSlots, machine_in, HasCome, IsUnderWay, IsOver, IsOverAt, HasMetNone, IsFirstMet, IsStopped}
 use Rattle.rx_steps.proofs.ComeLaws.{begun, skipped_all, is_over}
 use Rattle.rx_steps.proofs.WayLaws.{no_pattern}
 use Rattle.rx_steps.proofs.AnswerLaws.{KeepingLaw, none_inside, over_is_answer}
@@ -52,7 +52,7 @@ way_begun p s q i live slots first none empty =
       nodes = subst (λ xs. All (IsThreadOf p.states) xs) (sym none) (All-nil (IsThreadOf p.states));
       slot_lens = subst (λ xs. All (HasSlots (length slots)) xs) (sym none) (All-nil (HasSlots (length slots)));
       past_end = λ past. none;
-      reached = subst (λ xs. All (IsReached m s q i) xs) (sym none) (All-nil (IsReached m s q i));
+      reached = subst (λ xs. All (IsReached m s q i i) xs) (sym none) (All-nil (IsReached m s q i i));
     }
 
 over_by : (p : ByteProgram) (s : Search) (q i : ℕ) (live : List Thread) (pattern : Option ℕ) (slots : Slots) → live ≡ [] → (pattern ≡ None → (j : ℕ) → i ≤ j → Begins s j → ⊥)
@@ -119,17 +119,20 @@ module _ (p : ByteProgram) (s : Search) (q : ℕ) (reads : IsByteProgram p) (law
     | inr from ↦ let there = before j from to in nothing_found p (up_to_place s j) there.0 (part_answers j None there.0 there.1)
   ]
 
+  first_end : (first end : ℕ) → first ≡ lowest s → IsFirstMet p s q first end → IsFirstEnd p s end
+  first_end first end is at =
+      let some = something_found p (up_to_place s end) at.pattern at.slots (part_answers end (Some at.pattern) at.slots at.met) in
+      record { in_span = omega (arith, at.inside); found = some.0; finds = some.1; none_before = nothing_before first end is at.none_before }
+
   -- what a search that is over at a place answers
   pub over_at_answers : (earliest : Bool) (first i : ℕ) (pattern : Option ℕ) (slots : Slots) → first ≡ lowest s → IsOverAt earliest p s q first i pattern slots → IsAnswerAt earliest p s i pattern slots
   over_at_answers false first i pattern slots is way = over_answers p s s q pattern slots refl reads law starts way
   over_at_answers true first i None slots is way = over_answers p s s q None slots refl reads law starts way
   over_at_answers true first i (Some k) slots is (le, way, before) =
-      let answer = part_answers i (Some k) slots way in
-      let some = something_found p (up_to_place s i) k slots answer in
-      (record { in_span = omega (arith, le); found = some.0; finds = some.1; none_before = nothing_before first i is before }, answer)
+      (first_end first i is (record { inside = le; pattern = k; slots = slots; met = way; none_before = before }), part_answers i (Some k) slots way)
 
--- a walk stands there, if a pattern is answered
-pub stands_there : (p : ByteProgram) (s : Search) (i : ℕ) (pattern : Option ℕ) → (pattern ≡ None) ⊎ WalkStands p s i → ForSome pattern (λ _. WalkStands p s i)
-stands_there p s i None one = λ k e. absurd (cc e)
-stands_there p s i (Some k) (inl none) = absurd (cc none)
-stands_there p s i (Some k) (inr stands) = λ j e. stands
+  -- and where it stops
+  pub stops_there : (earliest : Bool) (first i : ℕ) (pattern : Option ℕ) → first ≡ lowest s → (pattern ≡ None) ⊎ IsStopped earliest p s q first i → ForSome pattern (λ _. StopsAt earliest p s i)
+  stops_there earliest first i None is one = λ k e. absurd (cc e)
+  stops_there earliest first i (Some k) is (inl none) = absurd (cc none)
+  stops_there earliest first i (Some k) is (inr at) = λ j e. record { first = at.end; first_end = first_end first at.end is at.first_met; stands = at.stands; at_once = at.at_once }

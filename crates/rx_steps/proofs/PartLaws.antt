@@ -1,12 +1,12 @@
 -- What a search has come to in the parts of its span.
-use Rattle.std.proofs.Common.{inl, inr, ◌≡◌, ℕ, ◌+◌, ◌<◌, ◌≤◌, Bool, true, false, All, List, [], ◌∷◌, length, take, drop, min, Option, Some, None, slice_get, refl, sym, ap, subst, ◌∙◌, arith}
+use Rattle.std.proofs.Common.{inl, inr, ◌≡◌, ◌⊎◌, ℕ, ◌+◌, ◌<◌, ◌≤◌, Bool, true, false, All, List, [], ◌∷◌, length, take, drop, min, Option, Some, None, slice_get, refl, sym, ap, subst, ◌∙◌, arith}
 use Rattle.std.proofs.lemmas.List.Elements.{All-nil}
 use Rattle.rx_walks.specs.Looks as walks
 use Rattle.rx_walks.specs.Machines.{Move, ends, goes, reads, Outcome}
 use Rattle.rx_walks.specs.Programs.{Node, match, pass, note, look, set, only_if, is_within, left_from}
 use Rattle.rx_walks.specs.Bytes.{Automaton, read_on, read_byte, by_byte}
 use Rattle.rx_walks.specs.Finds.{Search, up_to_place, IsInside, unanchored}
-use Rattle.rx_walks.specs.ProgramFinds.{lowest, highest}
+use Rattle.rx_walks.specs.ProgramFinds.{start_node, lowest, highest}
 use Rattle.rx_walks.specs.Laws.{Begins}
 use Rattle.rx_walks.specs.Steps.{Steps, done, passed, met, opened, read}
 use Rattle.rx_program.specs.Programs.{ByteProgram, automata_of, characters_of}
@@ -14,10 +14,11 @@ use Rattle.rx_steps.specs.Threads.{Slots, Thread, ThreadListView, IsThreadOf, no
 use Rattle.rx_steps.specs.Lists.{read_next, met_at}
 use Rattle.rx_steps.specs.Searching.{haystack_in}
 use Rattle.rx_steps.specs.Idle.{AreIdle}
-use Rattle.rx_steps.specs.Coming.{machine_in, HasStarted, IsUnderWay, IsUnderWayInParts, IsOver, IsOverAt, HasMetNone}
+use Rattle.rx_steps.specs.Standing.{IsReached}
+use Rattle.rx_steps.specs.Coming.{machine_in, HasStarted, IsUnderWay, IsUnderWayInParts, IsOver, IsOverAt, IsStopped, HasMetNone, IsFirstMet, KeepsFirst, StandsSince}
 use Rattle.rx_steps.proofs.ByteLaws.{below_or_not, next_byte_is, within_is}
 use Rattle.rx_steps.proofs.PlaceLaws.{reads_first}
-use Rattle.rx_steps.proofs.StandLaws.{pattern_after}
+use Rattle.rx_steps.proofs.StandLaws.{pattern_after, reached_on, started_reached, one_stands, threads_met}
 use Rattle.rx_steps.proofs.WayLaws.{nothing_left, slots_after, way_passed}
 use Rattle.rx_steps.proofs.OverLaws.{way_begun, way_ended}
 use Rattle.rx_steps.proofs.IdleLaws.{AreSkipped, SkippedStep, skipped_step, way_skipped}
@@ -201,3 +202,57 @@ module _ (p : ByteProgram) (s : Search) where
   pub over_early : (q first i : ℕ) (pattern : Option ℕ) (slots : Slots) → (pattern ≡ None → ⊥) → i ≤ highest s → IsOver p (up_to_place s i) q pattern slots → HasMetNone p s q first i → IsOverAt true p s q first i pattern slots
   over_early q first i None slots some le over before = absurd (some refl)
   over_early q first i (Some k) slots some le over before = (le, over, before)
+
+  -- ---- the first end that is met
+
+  met_here : (q first i : ℕ) (k : ℕ) (noted : Slots) → IsInside s i → IsOver p (up_to_place s i) q (Some k) noted → HasMetNone p s q first i → IsFirstMet p s q first i
+  met_here q first i k noted inside over before = record { inside = omega (arith, inside.1, inside.3, inside.4); pattern = k; slots = noted; met = over; none_before = before }
+
+  -- once an end was met no walk starts
+  no_start : (q i : ℕ) (k : ℕ) (live : ThreadListView) (threads : List Thread) → HasStarted s q i (Some k) live threads → threads ≡ live.threads
+  no_start q i k live threads (inl begun) = absurd (cc begun.0)
+  no_start q i k live threads (inr waits) = waits.1
+
+  pub first_kept : (q first i : ℕ) (live : ThreadListView) (threads next : List Thread) (pattern : Option ℕ) (slots : Slots) (k : Option ℕ) (noted : Slots)
+      → IsInside s i → HasStarted s q i pattern live threads → Steps (machine_in p s) i [] threads next (met_at i k noted) → All (IsReached (machine_in p s) s q i i) live.threads
+      → IsOver p (up_to_place s i) q (pattern_after k pattern) (slots_after k noted slots) → KeepsFirst p s q first i pattern live.threads → KeepsFirst p s q first (i + 1) (pattern_after k pattern) next
+  first_kept q first i live threads next None slots None noted inside started steps reached over keeps =
+      none_more q first i (i + 1) None slots keeps over refl (λ k from to. absurd (omega (arith, from, to)))
+  first_kept q first i live threads next None slots (Some e) noted inside started steps reached over keeps =
+      (i, met_here q first i e noted inside over keeps, reached_on (machine_in p s) s q i i steps (started_reached (machine_in p s) s q i None live threads started reached))
+  first_kept q first i live threads next (Some o) slots None noted inside started steps reached over (end, at, all) =
+      (end, at, reached_on (machine_in p s) s q end i steps (subst (λ xs. All (IsReached (machine_in p s) s q end i) xs) (sym (no_start q i o live threads started)) all))
+  first_kept q first i live threads next (Some o) slots (Some e) noted inside started steps reached over (end, at, all) =
+      (end, at, reached_on (machine_in p s) s q end i steps (subst (λ xs. All (IsReached (machine_in p s) s q end i) xs) (sym (no_start q i o live threads started)) all))
+
+  pub stands_since : (q first i : ℕ) (live : ThreadListView) (threads next : List Thread) (pattern : Option ℕ) (slots : Slots) (k : Option ℕ) (noted : Slots)
+      → IsInside s i → HasStarted s q i pattern live threads → Steps (machine_in p s) i [] threads next (met_at i k noted) → All (IsReached (machine_in p s) s q i i) live.threads
+      → IsOver p (up_to_place s i) q (pattern_after k pattern) (slots_after k noted slots) → start_node (characters_of p) s.anchoring ≡ Some q → KeepsFirst p s q first i pattern live.threads
+      → (pattern ≡ None) ⊎ (live.threads ≡ [] → ⊥) → (pattern_after k pattern ≡ None) ⊎ StandsSince p s q first i pattern
+  stands_since q first i live threads next None slots None noted inside started steps reached over starts keeps lives = inl refl
+  stands_since q first i live threads next None slots (Some e) noted inside started steps reached over starts keeps lives = inr (record {
+    end = i;
+    first_met = met_here q first i e noted inside over keeps;
+    stands = one_stands p s q i i threads starts (threads_met (machine_in p s) i e noted threads next steps) (started_reached (machine_in p s) s q i None live threads started reached);
+    now = λ _. refl;
+  })
+  stands_since q first i live threads next (Some o) slots k noted inside started steps reached over starts keeps (inl none) = absurd (cc none)
+  stands_since q first i live threads next (Some o) slots k noted inside started steps reached over starts (end, at, all) (inr some) =
+      inr (record { end = end; first_met = at; stands = one_stands p s q end i live.threads starts some all; now = λ none. absurd (cc none) })
+
+  pub first_skipped : (q first i j : ℕ) (idle : List Bool) (live : List Thread) (pattern : Option ℕ) (slots : Slots) → i ≤ j → lowest s ≤ i → j ≤ highest s → AreIdle p idle
+      → (live ≡ [] → pattern ≡ None → (s.anchoring ≡ unanchored) × (q ≡ p.start)) → AreSkipped idle s.utf8_empty s.content i j live pattern
+      → IsUnderWayInParts p s q i live pattern slots → KeepsFirst p s q first i pattern live → KeepsFirst p s q first j pattern live
+  first_skipped q first i j idle live None slots le low high are free skipped parts keeps = λ k from to. elim (below_or_not k i) [
+    | inl less ↦ keeps k from less
+    | inr more ↦ none_skipped q i j idle live None slots low high are free skipped parts k more to
+  ]
+  first_skipped q first i j idle live (Some o) slots le low high are free skipped parts keeps = elim (below_or_not i j) [
+    | inl lt ↦ absurd (cc (skipped i (omega arith) lt).1)
+    | inr past ↦ subst (λ k. KeepsFirst p s q first k (Some o) live) (omega (arith, le, past)) keeps
+  ]
+
+  pub stops_since : (earliest : Bool) (q first i at : ℕ) (pattern after : Option ℕ) → (earliest ≡ true → pattern ≡ None) → at ≡ i → (after ≡ None) ⊎ StandsSince p s q first i pattern → (after ≡ None) ⊎ IsStopped earliest p s q first at
+  stops_since earliest q first i at pattern after unmet same (inl none) = inl none
+  stops_since earliest q first i at pattern after unmet same (inr since) =
+      inr (subst (λ k. IsStopped earliest p s q first k) (sym same) (record { end = since.end; first_met = since.first_met; stands = since.stands; at_once = λ early. since.now (unmet early) }))

@@ -1,5 +1,5 @@
 -- Where walks stand that a step goes on with.
-use Rattle.std.proofs.Common.{inl, inr, ◌≡◌, ◌⊎◌, ℕ, suc, ◌+◌, All, List, [], ◌∷◌, map, Option, Some, None, slice_get, refl, sym, subst, arith}
+use Rattle.std.proofs.Common.{inl, inr, ◌≡◌, ℕ, suc, ◌+◌, ◌≤◌, All, List, [], ◌∷◌, map, Option, Some, None, slice_get, refl, sym, subst, arith}
 use Rattle.std.proofs.lemmas.List.Elements.{All-append, All-cons, All-nil}
 use Rattle.rx_walks.specs.Machines.{Machine, Outcome}
 use Rattle.rx_walks.specs.Finds.{Search}
@@ -21,36 +21,42 @@ targets : (P : Thread → Type 0) (n : Slots) (rs : List (ℕ × ℕ)) → ((k :
 targets P n [] each = All-nil P
 targets P n (r ∷ rs) each = All-cons P (n, r) (map (λ r. (n, r)) rs) (each 0 r refl) (targets P n rs (λ k t at. each (suc k) t at))
 
+-- a walk that began at a place or before it did so before a further one
+pub reached_later : (m : Machine (ℕ × ℕ) Slots) (s : Search) (q last later i : ℕ) (threads : List Thread) → last ≤ later → All (IsReached m s q last i) threads → All (IsReached m s q later i) threads
+reached_later m s q last later i threads le all = λ k d lt. (let here = all k d lt in (here.0, omega (arith, here.1, le), here.2, here.3))
+
 -- a step goes on with walks that stand at the next place
-pub reached_on : (m : Machine (ℕ × ℕ) Slots) (s : Search) (q i : ℕ) {seen : List (ℕ × ℕ)} {threads next : List Thread} {ended : Option (Outcome Slots)} → Steps m i seen threads next ended
-    → All (IsReached m s q i) threads → All (IsReached m s q (i + 1)) next
-reached_on m s q i done all = All-nil (IsReached m s q (i + 1))
-reached_on m s q i (passed {n = n} {q = r} {others = others} c rest) all = reached_on m s q i rest (rest_of (IsReached m s q i) (n, r) others all)
-reached_on m s q i (met new is) all = All-nil (IsReached m s q (i + 1))
-reached_on m s q i (opened {n = n} {q = r} {others = others} rs new is rest) all =
-    let here = first_of (IsReached m s q i) (n, r) others all in
+pub reached_on : (m : Machine (ℕ × ℕ) Slots) (s : Search) (q last i : ℕ) {seen : List (ℕ × ℕ)} {threads next : List Thread} {ended : Option (Outcome Slots)} → Steps m i seen threads next ended
+    → All (IsReached m s q last i) threads → All (IsReached m s q last (i + 1)) next
+reached_on m s q last i done all = All-nil (IsReached m s q last (i + 1))
+reached_on m s q last i (passed {n = n} {q = r} {others = others} c rest) all = reached_on m s q last i rest (rest_of (IsReached m s q last i) (n, r) others all)
+reached_on m s q last i (met new is) all = All-nil (IsReached m s q last (i + 1))
+reached_on m s q last i (opened {n = n} {q = r} {others = others} rs new is rest) all =
+    let here = first_of (IsReached m s q last i) (n, r) others all in
     let noted = m.note i r n in
-    reached_on m s q i rest (All-append (IsReached m s q i) (map (λ t. (noted, t)) rs) others
-    (targets (IsReached m s q i) noted rs (λ k t at. (here.0, here.1, by_edge rs t k here.2 is at)))
-    (rest_of (IsReached m s q i) (n, r) others all))
-reached_on m s q i (read {n = n} {q = r} {others = others} {next = next} t new is rest) all =
-    let here = first_of (IsReached m s q i) (n, r) others all in
-    All-cons (IsReached m s q (i + 1)) (n, t) next (here.0, here.1, by_read t (i + 1) here.2 is)
-    (reached_on m s q i rest (rest_of (IsReached m s q i) (n, r) others all))
+    reached_on m s q last i rest (All-append (IsReached m s q last i) (map (λ t. (noted, t)) rs) others
+    (targets (IsReached m s q last i) noted rs (λ k t at. (here.0, here.1, here.2, by_edge rs t k here.3 is at)))
+    (rest_of (IsReached m s q last i) (n, r) others all))
+reached_on m s q last i (read {n = n} {q = r} {others = others} {next = next} t new is rest) all =
+    let here = first_of (IsReached m s q last i) (n, r) others all in
+    All-cons (IsReached m s q last (i + 1)) (n, t) next (here.0, here.1, here.2, by_read t (i + 1) here.3 is)
+    (reached_on m s q last i rest (rest_of (IsReached m s q last i) (n, r) others all))
 
 -- so does a walk that starts
 pub started_reached : (m : Machine (ℕ × ℕ) Slots) (s : Search) (q i : ℕ) (pattern : Option ℕ) (live : ThreadListView) (threads : List Thread) → HasStarted s q i pattern live threads
-    → All (IsReached m s q i) live.threads → All (IsReached m s q i) threads
+    → All (IsReached m s q i i) live.threads → All (IsReached m s q i i) threads
 started_reached m s q i pattern live threads (inl begun) all =
     let fresh : Thread = (no_slots live.slot_len, (q, 0)) in
-    subst (All (IsReached m s q i)) (sym begun.2)
-    (All-append (IsReached m s q i) live.threads (fresh ∷ []) all (All-cons (IsReached m s q i) fresh [] (i, begun.1, at_once) (All-nil (IsReached m s q i))))
-started_reached m s q i pattern live threads (inr waits) all = subst (All (IsReached m s q i)) (sym waits.1) all
+    subst (All (IsReached m s q i i)) (sym begun.2)
+    (All-append (IsReached m s q i i) live.threads (fresh ∷ []) all
+    (All-cons (IsReached m s q i i) fresh [] (i, omega arith, begun.1, at_once) (All-nil (IsReached m s q i i))))
+started_reached m s q i pattern live threads (inr waits) all = subst (All (IsReached m s q i i)) (sym waits.1) all
 
 -- where there is a thread a walk stands
-one_stands : (p : ByteProgram) (s : Search) (q i : ℕ) (threads : List Thread) → start_node (characters_of p) s.anchoring ≡ Some q → (threads ≡ [] → ⊥) → All (IsReached (machine_in p s) s q i) threads → WalkStands p s i
-one_stands p s q i [] starts some all = absurd (some refl)
-one_stands p s q i (x ∷ threads) starts some all = record { start = q; starts = starts; thread = x; reached = first_of (IsReached (machine_in p s) s q i) x threads all }
+pub one_stands : (p : ByteProgram) (s : Search) (q last i : ℕ) (threads : List Thread) → start_node (characters_of p) s.anchoring ≡ Some q → (threads ≡ [] → ⊥) → All (IsReached (machine_in p s) s q last i) threads
+    → WalkStands p s last i
+one_stands p s q last i [] starts some all = absurd (some refl)
+one_stands p s q last i (x ∷ threads) starts some all = record { start = q; starts = starts; thread = x; reached = first_of (IsReached (machine_in p s) s q last i) x threads all }
 
 -- where an end is met there is a thread
 some_threads : {m : Machine (ℕ × ℕ) Slots} {i : ℕ} {seen : List (ℕ × ℕ)} {threads next : List Thread} {ended : Option (Outcome Slots)} → Steps m i seen threads next ended → (ended ≡ None → ⊥) → threads ≡ [] → ⊥
@@ -63,15 +69,9 @@ some_threads (read r new is rest) some e = absurd (cc e)
 met_one : (i k : ℕ) (noted : Slots) → met_at i (Some k) noted ≡ None → ⊥
 met_one i k noted e = absurd (cc e)
 
+pub threads_met : (m : Machine (ℕ × ℕ) Slots) (i k : ℕ) (noted : Slots) (threads next : List Thread) → Steps m i [] threads next (met_at i (Some k) noted) → threads ≡ [] → ⊥
+threads_met m i k noted threads next steps = some_threads steps (met_one i k noted)
+
 abbrev pub pattern_after : Option ℕ → Option ℕ → Option ℕ
 pattern_after None pattern = pattern
 pattern_after (Some k) pattern = Some k
-
--- where an end was met at a place or before, and threads lived at it if it was before, a walk stands
-pub stands_on : (p : ByteProgram) (s : Search) (q i : ℕ) (live : ThreadListView) (threads next : List Thread) (pattern k : Option ℕ) (noted : Slots) → HasStarted s q i pattern live threads
-    → Steps (machine_in p s) i [] threads next (met_at i k noted) → All (IsReached (machine_in p s) s q i) live.threads → start_node (characters_of p) s.anchoring ≡ Some q
-    → (pattern ≡ None) ⊎ (live.threads ≡ [] → ⊥) → (pattern_after k pattern ≡ None) ⊎ WalkStands p s i
-stands_on p s q i live threads next pattern (Some k) noted started steps all starts lives =
-    inr (one_stands p s q i threads starts (some_threads steps (met_one i k noted)) (started_reached (machine_in p s) s q i pattern live threads started all))
-stands_on p s q i live threads next pattern None noted started steps all starts (inl unmet) = inl unmet
-stands_on p s q i live threads next pattern None noted started steps all starts (inr some) = inr (one_stands p s q i live.threads starts some all)

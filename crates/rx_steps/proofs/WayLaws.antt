@@ -16,7 +16,7 @@ use Rattle.rx_steps.specs.Lists.{slot_machine, met_at}
 use Rattle.rx_steps.specs.Searching.{haystack_in}
 use Rattle.rx_steps.specs.Coming.{HasSlots, machine_in, HasCome, HasStarted, IsUnderWay}
 use Rattle.rx_steps.proofs.ComeLaws.{passed_with_start, passed_on, none_read}
-use Rattle.rx_steps.proofs.StandLaws.{first_of, rest_of, pattern_after, reached_on, started_reached}
+use Rattle.rx_steps.proofs.StandLaws.{first_of, rest_of, pattern_after, reached_later, reached_on, started_reached}
 
 -- ---- slots stay as many
 
@@ -141,7 +141,7 @@ way_passed p s q i live threads next pattern slots None noted inside e started s
       nodes = nodes;
       slot_lens = stay.0;
       past_end = ends_there p s i inside steps;
-      reached = reached_on (machine_in p s) s q i steps (started_reached (machine_in p s) s q i pattern live threads started way.reached);
+      reached = reached_later (machine_in p s) s q i (i + 1) (i + 1) next (omega arith) (reached_on (machine_in p s) s q i i steps (started_reached (machine_in p s) s q i pattern live threads started way.reached));
     }
 way_passed p s q i live threads next pattern slots (Some k) noted inside e started steps nodes way =
     let h = haystack_in p.line_terminator s in
@@ -155,7 +155,7 @@ way_passed p s q i live threads next pattern slots (Some k) noted inside e start
       nodes = nodes;
       slot_lens = subst (λ n. All (HasSlots n) next) (sym stay.1) stay.0;
       past_end = ends_there p s i inside steps;
-      reached = reached_on (machine_in p s) s q i steps (started_reached (machine_in p s) s q i pattern live threads started way.reached);
+      reached = reached_later (machine_in p s) s q i (i + 1) (i + 1) next (omega arith) (reached_on (machine_in p s) s q i i steps (started_reached (machine_in p s) s q i pattern live threads started way.reached));
     }
 
 -- the slots of an end are as many

@@ -9,7 +9,7 @@ use Rattle.rx_program.specs.Programs.{ByteProgram}
 use Rattle.rx_steps.specs.Threads.{Slots, Thread, ThreadListView, IsThreadOf, no_slots}
 use Rattle.rx_steps.specs.Lists.{slot_machine, met_at}
 use Rattle.rx_steps.specs.Searching.{haystack_in}
-use Rattle.rx_steps.specs.Standing.{IsReached}
+use Rattle.rx_steps.specs.Standing.{IsReached, WalkStands}
 
 abbrev pub HasSlots : ℕ → Thread → Type 0
 HasSlots len thread = length thread.0 ≡ len
@@ -37,7 +37,7 @@ pub record IsUnderWay (p : ByteProgram) (s : Search) (q i : ℕ) (live : List Th
   pub nodes : All (IsThreadOf p.states) live
   pub slot_lens : All (HasSlots (length slots)) live
   pub past_end : highest s < i → live ≡ []
-  pub reached : All (IsReached (machine_in p s) s q i) live
+  pub reached : All (IsReached (machine_in p s) s q i i) live
 
 -- so it has in each part of the span that is cut at this place or a further one
 abbrev pub IsUnderWayInParts : ByteProgram → Search → ℕ → ℕ → List Thread → Option ℕ → Slots → Type 0
@@ -64,6 +64,30 @@ abbrev pub HasMetNone : ByteProgram → Search → ℕ → ℕ → ℕ → Type 
 HasMetNone p s q first i =
     (k : ℕ) → first ≤ k → k < i → (slots : Slots) × IsOver p (up_to_place s k) q None slots
 
+-- the first end that was met
+pub record IsFirstMet (p : ByteProgram) (s : Search) (q first end : ℕ) : Type 0 where
+  pub inside : end ≤ highest s
+  pub pattern : ℕ
+  pub slots : Slots
+  pub met : IsOver p (up_to_place s end) q (Some pattern) slots
+  pub none_before : HasMetNone p s q first end
+
+-- a search knows at a place of the first end: that none was met, or that the walks that live began
+-- at that end or before it
+abbrev pub KeepsFirst : ByteProgram → Search → ℕ → ℕ → ℕ → Option ℕ → List Thread → Type 0
+KeepsFirst p s q first i None live = HasMetNone p s q first i
+KeepsFirst p s q first i (Some k) live =
+    (end : ℕ) × IsFirstMet p s q first end × All (IsReached (machine_in p s) s q end i) live
+
+-- where an end was met, a walk stands at a place that began at the first one or before it, which is
+-- this place if none was met before
+pub record StandsSince (p : ByteProgram) (s : Search) (q first i : ℕ) (met : Option ℕ)
+    : Type 0 where
+  pub end : ℕ
+  pub first_met : IsFirstMet p s q first end
+  pub stands : WalkStands p s end i
+  pub now : met ≡ None → i ≡ end
+
 -- a search is over at a place: of all of the span; or, if any match will do and an end was met, of
 -- the part up to this place, before which none was met
 abbrev pub IsOverAt : Bool → ByteProgram → Search → ℕ → ℕ → ℕ → Option ℕ → Slots → Type 0
@@ -71,3 +95,12 @@ IsOverAt false p s q first i pattern slots = IsOver p s q pattern slots
 IsOverAt true p s q first i None slots = IsOver p s q None slots
 IsOverAt true p s q first i (Some k) slots =
     (i ≤ highest s) × IsOver p (up_to_place s i) q (Some k) slots × HasMetNone p s q first i
+
+-- a search that met an end is over at a place: a walk stands there that began at the first end or
+-- before it; and if any match will do, that end is the place
+pub record IsStopped (earliest : Bool) (p : ByteProgram) (s : Search) (q first i : ℕ)
+    : Type 0 where
+  pub end : ℕ
+  pub first_met : IsFirstMet p s q first end
+  pub stands : WalkStands p s end i
+  pub at_once : earliest ≡ true → i ≡ end

@@ -1,5 +1,5 @@
 -- Where walks stand.
-use Rattle.std.specs.Prelude.{◌≡◌, ℕ, List, Some, slice_get}
+use Rattle.std.specs.Prelude.{◌≡◌, ℕ, ◌≤◌, Bool, true, List, Some, slice_get}
 use Rattle.rx_walks.specs.Machines.{Machine, goes, reads}
 use Rattle.rx_walks.specs.Finds.{Search}
 use Rattle.rx_walks.specs.Laws.{Begins}
@@ -7,7 +7,7 @@ use Rattle.rx_walks.specs.ProgramFinds.{start_node}
 use Rattle.rx_program.specs.Programs.{ByteProgram, characters_of}
 use Rattle.rx_steps.specs.Threads.{Slots, Thread}
 use Rattle.rx_steps.specs.Lists.{slot_machine}
-use Rattle.rx_steps.specs.Searching.{haystack_in}
+use Rattle.rx_steps.specs.Searching.{haystack_in, IsFirstEnd}
 
 -- empty edges and reads lead from a node at a place to a node at a place
 pub data Leads {Q N : Type 0} (m : Machine Q N) (q : Q) (i : ℕ) : Q → ℕ → Type 0 where
@@ -17,13 +17,24 @@ pub data Leads {Q N : Type 0} (m : Machine Q N) (q : Q) (i : ℕ) : Q → ℕ �
   by_read : {r : Q} {j : ℕ} (t : Q) (k : ℕ) → Leads m q i r j → m.move j r ≡ reads t k
       → Leads m q i t k
 
--- a thread stands where a walk does, from a start node at a place where a match may begin
-abbrev pub IsReached : Machine (ℕ × ℕ) Slots → Search → ℕ → ℕ → Thread → Type 0
-IsReached m s q i thread = (j : ℕ) × Begins s j × Leads m (q, 0) j thread.1 i
+-- a thread stands where a walk does, from a start node at a place where a match may begin, not
+-- behind this one
+abbrev pub IsReached : Machine (ℕ × ℕ) Slots → Search → ℕ → ℕ → ℕ → Thread → Type 0
+IsReached m s q last i thread =
+    (j : ℕ) × (j ≤ last) × Begins s j × Leads m (q, 0) j thread.1 i
 
--- a walk of the program, from a place where a match may begin, stands at this place
-pub record WalkStands (p : ByteProgram) (s : Search) (i : ℕ) : Type 0 where
+-- a walk of the program that began where a match may begin, at a place or before it, stands at a
+-- place
+pub record WalkStands (p : ByteProgram) (s : Search) (last i : ℕ) : Type 0 where
   pub start : ℕ
   pub starts : start_node (characters_of p) s.anchoring ≡ Some start
   pub thread : Thread
-  pub reached : IsReached (slot_machine p (haystack_in p.line_terminator s)) s start i thread
+  pub reached : IsReached (slot_machine p (haystack_in p.line_terminator s)) s start last i thread
+
+-- a search that found a match goes no further than this place: a walk stands there that began at
+-- the first end of a match or before it; and if any match will do, it is that end
+pub record StopsAt (earliest : Bool) (p : ByteProgram) (s : Search) (i : ℕ) : Type 0 where
+  pub first : ℕ
+  pub first_end : IsFirstEnd p s first
+  pub stands : WalkStands p s first i
+  pub at_once : earliest ≡ true → i ≡ first

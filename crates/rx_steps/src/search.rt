@@ -17,9 +17,9 @@ ghost use Rattle.rx_steps.specs.Idle.{IsPassedAt};
 ghost use Rattle.rx_steps.specs.Threads.{Slots, IsThreadOf, no_slots, first_node};
 ghost use Rattle.std.specs.Option.{ForSome};
 ghost use Rattle.rx_steps.specs.Searching.{search_of, anchoring_of, IsAnswerAt};
-ghost use Rattle.rx_steps.specs.Standing.{WalkStands};
+ghost use Rattle.rx_steps.specs.Standing.{StopsAt};
 ghost use Rattle.rx_steps.specs.Caches.{AreOfProgram, IsCacheOf, place_count};
-ghost use Rattle.rx_steps.specs.Coming.{machine_in, HasStarted, IsUnderWay, IsUnderWayInParts, IsOver, IsOverAt};
+ghost use Rattle.rx_steps.specs.Coming.{machine_in, HasStarted, IsUnderWay, IsUnderWayInParts, IsOver, IsOverAt, IsStopped, KeepsFirst, StandsSince};
 
 use crate::asked::AskedLooks;
 use crate::idle::{IdleBytes, last_place, skip};
@@ -225,11 +225,17 @@ impl Walks {
         ensures so_far { OnOk result (IsOver program.now
             (up_to_place (search_of utf8_empty input.old) input.old.position) start
             self.new.met slots.new) }
-        ensures stands { OnOk result (start_node (characters_of program.now)
+        ensures first { OnOk result ((first : ℕ) → KeepsFirst program.now
+            (search_of utf8_empty input.old) start first input.old.position self.old.met
+            self.old.live.threads → KeepsFirst program.now (search_of utf8_empty input.old) start
+            first (input.old.position + 1) self.new.met self.new.live.threads) }
+        ensures stands { OnOk result ((first : ℕ) → start_node (characters_of program.now)
             (anchoring_of input.old.asked.anchored) ≡ Some start
+            → KeepsFirst program.now (search_of utf8_empty input.old) start first
+            input.old.position self.old.met self.old.live.threads
             → (self.old.met ≡ None) ⊎ (self.old.live.threads ≡ [] → ⊥)
-            → (self.new.met ≡ None)
-            ⊎ WalkStands program.now (search_of utf8_empty input.old) input.old.position) }
+            → (self.new.met ≡ None) ⊎ StandsSince program.now
+            (search_of utf8_empty input.old) start first input.old.position self.old.met) }
         ensures made { AreOfProgram program.now self.new.stepper.widths self.new.asks_looks
             self.new.idle }
         ensures slot_len { OnOk result (self.new.live.slot_len ≡ length slots.new) }
@@ -310,8 +316,8 @@ impl Walks {
         ensures over { IfOk result (λ pattern. IsOverAt earliest program.now
             (search_of utf8_empty input.old) start input.old.position input.new.position
             pattern slots.new) }
-        ensures stands { IfOk result (λ pattern. (pattern ≡ None)
-            ⊎ WalkStands program.now (search_of utf8_empty input.old) input.new.position) }
+        ensures stands { IfOk result (λ pattern. (pattern ≡ None) ⊎ IsStopped earliest program.now
+            (search_of utf8_empty input.old) start input.old.position input.new.position) }
         ensures made { AreOfProgram program.now self.new.stepper.widths self.new.asks_looks
             self.new.idle }
         ensures work { self.new.stepper.followed ≤ self.old.stepper.followed
@@ -445,8 +451,8 @@ pub fn search_slots<C: Cursor>(
     requires made { IsCacheOf program.now cache.old }
     ensures answer { IfOk result (λ pattern. IsAnswerAt earliest program.now
         (search_of utf8_empty input.old) input.new.position pattern slots.new) }
-    ensures stands { IfOk result (λ pattern. ForSome pattern
-        (λ _. WalkStands program.now (search_of utf8_empty input.old) input.new.position)) }
+    ensures stops { IfOk result (λ pattern. ForSome pattern (λ _. StopsAt earliest program.now
+        (search_of utf8_empty input.old) input.new.position)) }
     ensures none { OnErr result (slots.new ≡ no_slots (length slots.new)) }
     ensures made { IsCacheOf program.now cache.new }
     ensures work { cache.new.followed ≤ cache.old.followed

@@ -29,6 +29,25 @@ fn groups_and_matches(rt: HostRuntime) -> Result<(), Fail> {
     Ok(())
 }
 
+/// A search that any match will do for stops at the first end of one, and another where no walk is
+/// left.
+#[test]
+fn where_searches_stop(rt: HostRuntime) -> Result<(), Fail> {
+    let vm = PikeVM::new(rt.alloc(), "a+b?")?;
+    let mut cache = vm.create_cache()?;
+    let mut input = Input::new("xaaab, and so on");
+    assert!(rt; pikevm::is_match(&vm, &mut cache, &mut input)?);
+    assert_eq!(rt; input.position(), 2);
+    input.set_earliest(true);
+    let found = pikevm::find(&vm, &mut cache, &mut input)?;
+    assert_eq!(rt; found.map(|m| m.span()), Some(Span { start: 1, end: 2 }));
+    input.set_earliest(false);
+    let found = pikevm::find(&vm, &mut cache, &mut input)?;
+    assert_eq!(rt; found.map(|m| m.span()), Some(Span { start: 1, end: 5 }));
+    assert_eq!(rt; input.position(), 5);
+    Ok(())
+}
+
 /// A setting that isn't set is the default, and one that is set is told.
 #[test]
 fn settings(rt: HostRuntime) {

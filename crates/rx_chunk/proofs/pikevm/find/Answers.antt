@@ -1,8 +1,10 @@
 use Rattle.std.proofs.Common.{subst}
+use Rattle.std.specs.Option.{ForSome}
+use Rattle.rx_steps.specs.Standing.{StopsAt}
 use Rattle.rx_steps.specs.Searching.{search_of}
 use Rattle.rx_chunk.specs.Engines.{IsFoundAt}
-use Rattle.rx_chunk.proofs.EngineLaws.{if_ok, if_both}
-use Rattle.rx_chunk.proofs.EarlyLaws.{tells_match, stops_found}
+use Rattle.rx_chunk.proofs.EngineLaws.{if_ok}
+use Rattle.rx_chunk.proofs.EarlyLaws.{tells_match}
 use Rattle.rx_chunk.proofs.pikevm.find.Goals as goal
 
 pub returns-clause-answer : goal.returns-clause-answer
@@ -17,5 +19,4 @@ returns-clause-stops g c =
     let p = c.args.vm.now.program in
     let s = search_of c.args.vm.now.utf8_empty c.args.input.now in
     let i = c.look_for.new.input.position in
-    if_both c.look_for.result (λ found is stands. stops_found c.args.input.now.asked.earliest p s i found (subst (λ b. IsFoundAt b p s i found) c.get_earliest-earliest.ensures is) stands)
-    c.look_for.ensures.answer c.look_for.ensures.stands
+    if_ok c.look_for.result (λ found stops. subst (λ b. ForSome found (λ _. StopsAt b p s i)) c.get_earliest-earliest.ensures stops) c.look_for.ensures.stops

@@ -27,5 +27,5 @@ returns-clause-answer g c =
     match_at c.args.earliest vm s c.seek.new.input.position c.in_ok-found.found c.in-Some.pattern slots c.match_in.result c.group_info-groups.ensures.engine c.matches_note_their_places.ensures two c.in-Some.is
     c.match_in.ensures c.in_ok-found.ensures.answer
 
-pub returns-clause-stands : goal.returns-clause-stands
-returns-clause-stands g c = λ m is. c.in_ok-found.ensures.stands c.in-Some.pattern c.in-Some.is
+pub returns-clause-stops : goal.returns-clause-stops
+returns-clause-stops g c = λ m is. c.in_ok-found.ensures.stops c.in-Some.pattern c.in-Some.is

@@ -1,8 +1,10 @@
 use Rattle.std.proofs.Common.{◌≡◌, ◌≤◌, ◌<◌, ◌^◌, length, subst, ◌∙◌, arith}
 use Rattle.std.specs.Prelude.{OnOk}
+use Rattle.std.specs.Option.{ForSome}
+use Rattle.rx_steps.specs.Standing.{StopsAt}
 use Rattle.rx_steps.specs.Searching.{search_of, IsAnswerAt}
-use Rattle.rx_chunk.proofs.EngineLaws.{on_ok, on_both}
-use Rattle.rx_chunk.proofs.EarlyLaws.{AreFoundAt, captured_at, tells_slots, stops_at}
+use Rattle.rx_chunk.proofs.EngineLaws.{on_ok}
+use Rattle.rx_chunk.proofs.EarlyLaws.{AreFoundAt, captured_at, tells_slots}
 use Rattle.rx_chunk.proofs.pikevm.search.Goals as goal
 
 -- the answer, with what the input asks for
@@ -32,8 +34,7 @@ returns-clause-answer g c =
 pub returns-clause-stops : goal.returns-clause-stops
 returns-clause-stops g c =
     let s = search_of c.args.vm.now.utf8_empty c.args.input.now in
-    let caps = c.note.new.caps in
-    on_both c.note.result (λ is stands. stops_at c.args.input.now.asked.earliest c.args.vm.now.program s c.note.new.input.position caps.pattern caps.slots is stands) (answered g c) c.note.ensures.stands
+    on_ok c.note.result (λ stops. subst (λ b. ForSome c.note.new.caps.pattern (λ _. StopsAt b c.args.vm.now.program s c.note.new.input.position)) c.get_earliest-earliest.ensures stops) c.note.ensures.stops
 
 pub returns-clause-found : goal.returns-clause-found
 returns-clause-found g c = on_ok c.note.result (λ is same two. (told g c same two is).tells) (answered g c)

@@ -1,7 +1,9 @@
 use Rattle.std.proofs.Common.{subst}
+use Rattle.std.specs.Option.{ForSome}
+use Rattle.rx_steps.specs.Standing.{StopsAt}
 use Rattle.rx_steps.specs.Searching.{search_of, IsAnswerAt}
-use Rattle.rx_chunk.proofs.EngineLaws.{if_ok, if_both}
-use Rattle.rx_chunk.proofs.EarlyLaws.{tells_slots, stops_at}
+use Rattle.rx_chunk.proofs.EngineLaws.{if_ok}
+use Rattle.rx_chunk.proofs.EarlyLaws.{tells_slots}
 use Rattle.rx_chunk.proofs.pikevm.search_slots.Goals as goal
 
 pub returns-clause-answer_at : goal.returns-clause-answer_at
@@ -25,5 +27,4 @@ returns-clause-stops g c =
     let p = c.args.vm.now.program in
     let s = search_of c.args.vm.now.utf8_empty c.args.input.now in
     let i = c.seek.new.input.position in
-    let slots = c.seek.new.slots in
-    if_both c.seek.result (λ pattern is stands. stops_at c.args.input.now.asked.earliest p s i pattern slots is stands) (returns-clause-answer_at g c) c.seek.ensures.stands
+    if_ok c.seek.result (λ pattern stops. subst (λ b. ForSome pattern (λ _. StopsAt b p s i)) c.get_earliest-earliest.ensures stops) c.seek.ensures.stops

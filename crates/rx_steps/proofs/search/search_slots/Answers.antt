@@ -3,10 +3,9 @@ use Rattle.rx_walks.specs.Finds.{IsInside}
 use Rattle.rx_walks.specs.ProgramFinds.{start_node}
 use Rattle.rx_program.specs.Programs.{characters_of}
 use Rattle.rx_steps.specs.Searching.{search_of, anchoring_of}
-use Rattle.rx_steps.specs.Standing.{WalkStands}
-use Rattle.rx_steps.specs.Coming.{IsOverAt}
+use Rattle.rx_steps.specs.Coming.{IsOverAt, IsStopped}
 use Rattle.rx_steps.proofs.AnswerLaws.{none_known, none_inside}
-use Rattle.rx_steps.proofs.OverLaws.{same_search, none_at, over_at_answers, stands_there}
+use Rattle.rx_steps.proofs.OverLaws.{same_search, none_at, over_at_answers, stops_there}
 use Rattle.rx_steps.proofs.search.search_slots.Goals as goal
 
 pub returns-in_default-clause-answer : goal.returns-in_default-clause-answer
@@ -60,12 +59,18 @@ returns-clause-answer g c =
     (c.enter.ensures.first c.if-not-enter.false)
     (subst (λ x. IsOverAt c.args.earliest p x q new.position at c.in-Ok.pattern slots) same c.in-Ok.ensures.over)
 
-pub returns-clause-stands : goal.returns-clause-stands
-returns-clause-stands g c =
+pub returns-clause-stops : goal.returns-clause-stops
+returns-clause-stops g c =
     let p = c.args.program.now in
     let b = c.args.utf8_empty in
     let old = c.args.input.now in
     let new = c.enter.new.input in
+    let s = search_of b old in
+    let q = c.in-Some.start in
     let at = c.follow.new.input.position in
-    let same : search_of b new ≡ search_of b old = same_search b new old c.enter.ensures.same.same.content c.enter.ensures.same.asked_is in
-    stands_there p (search_of b old) at c.in-Ok.pattern (subst (λ x. (c.in-Ok.pattern ≡ None) ⊎ WalkStands p x at) same c.in-Ok.ensures.stands)
+    let same : search_of b new ≡ s = same_search b new old c.enter.ensures.same.same.content c.enter.ensures.same.asked_is in
+    let starts : start_node (characters_of p) (anchoring_of old.asked.anchored) ≡ Some q =
+    subst (λ a. start_node (characters_of p) (anchoring_of a) ≡ Some q) c.get_anchored.ensures (sym c.start_state.ensures ∙ c.in-Some.is) in
+    stops_there p s q c.walks_are_those_of_characters.ensures.reads c.program_is_searched_keeping.ensures starts c.args.earliest new.position at c.in-Ok.pattern
+    (c.enter.ensures.first c.if-not-enter.false)
+    (subst (λ x. (c.in-Ok.pattern ≡ None) ⊎ IsStopped c.args.earliest p x q new.position at) same c.in-Ok.ensures.stands)

@@ -1,18 +1,17 @@
-use Rattle.std.proofs.Common.{inl, ◌≡◌, ◌⊎◌, ℕ, ◌+◌, ◌-◌, length, ◌<◌, ◌≤◌, [], Option, Some, None, false, true, IsTrue, refl, sym, ap, subst, ◌∙◌, arith}
+use Rattle.std.proofs.Common.{List, inl, ◌≡◌, ◌⊎◌, ℕ, ◌+◌, ◌-◌, length, ◌<◌, ◌≤◌, [], Option, Some, None, false, true, IsTrue, refl, sym, ap, subst, ◌∙◌, arith}
 use Rattle.std.specs.Option.{is_some}
-use Rattle.rx_input.specs.Inputs.{Asked}
 use Rattle.rx_program.specs.Programs.{ByteProgram, characters_of}
 use Rattle.rx_walks.specs.Finds.{Search, IsInside, up_to_place, unanchored, is_anchored}
 use Rattle.rx_walks.specs.ProgramFinds.{start_node, lowest, highest}
+use Rattle.rx_steps.specs.Threads.{Thread}
 use Rattle.rx_steps.specs.Searching.{search_of, anchoring_of}
 use Rattle.rx_steps.specs.Caches.{place_count}
-use Rattle.rx_steps.specs.Standing.{WalkStands}
-use Rattle.rx_steps.specs.Coming.{IsUnderWay, IsUnderWayInParts, IsOver, IsOverAt}
+use Rattle.rx_steps.specs.Coming.{IsUnderWay, IsUnderWayInParts, IsOver, IsOverAt, KeepsFirst, StandsSince}
 use Rattle.rx_steps.specs.Nodes.{node_count}
 use Rattle.rx_steps.proofs.WorkLaws.{none_done, one_more, is_among_places, next_done, come_so_far}
 use Rattle.rx_steps.proofs.IdleLaws.{AreSkipped, no_value, unanchored_start, way_skipped}
 use Rattle.rx_steps.proofs.OverLaws.{same_search, way_begun, way_over, way_ended}
-use Rattle.rx_steps.proofs.PartLaws.{parts_begun, parts_skipped, none_skipped, none_more, over_whole, over_early}
+use Rattle.rx_steps.proofs.PartLaws.{parts_begun, parts_skipped, first_skipped, stops_since, over_whole, over_early}
 use Rattle.rx_steps.proofs.search.Walks.follow.Goals as goal
 use Rattle.rx_steps.proofs.search.Walks.follow.Goals.{else-earliest-via-then-earliest+else-is_some, else-earliest-via-else-earliest, then-are_over-via-then-are_over, then-are_over-via-else-are_over+then-not-go_on}
 
@@ -26,7 +25,7 @@ loop-self-init g c = record {
   parts = parts_begun c.args.program.now (search_of c.args.utf8_empty c.args.input.now) c.args.start c.args.input.now.position c.clear.new.self.threads c.args.slots.now
       c.requires.first (ap (λ t. t.threads) c.clear.ensures) c.requires.empty;
   unmet = λ early. refl;
-  none_before = λ early k from to. absurd (omega (arith, from, to));
+  first = λ k from to. absurd (omega (arith, from, to));
   lives = inl refl;
   same = record { content = refl; is_sized = refl };
   asked = refl;
@@ -77,13 +76,12 @@ returns-then-are_over-clause-over g c =
           (subst (λ j. highest s < j + 1) c.in_ok-visit.ensures.same.position_is (subst (λ x. highest x < after.position + 1) same' past)) way
     ])
 
--- what is asked for stays
-started_so : (p : ByteProgram) (q : ℕ) (a b : Asked) → start_node (characters_of p) (anchoring_of a.anchored) ≡ Some q → b ≡ a → start_node (characters_of p) (anchoring_of b.anchored) ≡ Some q
-started_so p q a b starts same = subst (λ x. start_node (characters_of p) (anchoring_of x.anchored) ≡ Some q) (sym same) starts
-
 -- a walk stands at the place that was visited, if an end was met
-visit_stands : (p : ByteProgram) (s t : Search) (i j : ℕ) (met : Option ℕ) → t ≡ s → j ≡ i → (met ≡ None) ⊎ WalkStands p t i → (met ≡ None) ⊎ WalkStands p s j
-visit_stands p s t i j met same at is = subst (λ k. (met ≡ None) ⊎ WalkStands p s k) (sym at) (subst (λ x. (met ≡ None) ⊎ WalkStands p x i) same is)
+visit_stands : (p : ByteProgram) (s t : Search) (q first i : ℕ) (before met : Option ℕ) (live : List Thread) → t ≡ s → start_node (characters_of p) s.anchoring ≡ Some q
+    → (start_node (characters_of p) t.anchoring ≡ Some q → KeepsFirst p t q first i before live → (met ≡ None) ⊎ StandsSince p t q first i before) → KeepsFirst p s q first i before live
+    → (met ≡ None) ⊎ StandsSince p s q first i before
+visit_stands p s t q first i before met live same starts is keeps =
+    subst (λ x. (met ≡ None) ⊎ StandsSince p x q first i before) same (is (subst (λ x. start_node (characters_of p) x.anchoring ≡ Some q) (sym same) starts) (subst (λ x. KeepsFirst p x q first i before live) (sym same) keeps))
 
 pub returns-then-are_over-clause-stands : goal.returns-then-are_over-clause-stands
 returns-then-are_over-clause-stands g c =
@@ -97,8 +95,10 @@ returns-then-are_over-clause-stands g c =
       | then-are_over-via-then-are_over w ↦ ap (λ x. x.position) w.input-is ∙ c.in_ok-visit.ensures.same.position_is
       | then-are_over-via-else-are_over+then-not-go_on w ↦ ap (λ x. x.position) w.input-is ∙ w.go_on.ensures.stays w.if-not-go_on.true ∙ c.in_ok-visit.ensures.same.position_is
     ] in
-    visit_stands p s (search_of b before) i c.then-are_over.input.position c.visit.new.self.met same at
-    (c.in_ok-visit.ensures.stands (started_so p c.args.start c.args.input.now.asked before.asked c.requires.start c.loop-self.invariant.asked) c.loop-self.invariant.lives)
+    let first = c.args.input.now.position in
+    stops_since p s c.args.earliest c.args.start first i c.then-are_over.input.position c.loop-self.self.met c.visit.new.self.met c.loop-self.invariant.unmet at
+    (visit_stands p s (search_of b before) c.args.start first i c.loop-self.self.met c.visit.new.self.met c.loop-self.self.live.threads same c.requires.start
+    (λ starts keeps. c.in_ok-visit.ensures.stands first starts keeps c.loop-self.invariant.lives) c.loop-self.invariant.first)
 
 pub returns-then-is_some-clause-stands : goal.returns-then-is_some-clause-stands
 returns-then-is_some-clause-stands g c =
@@ -108,8 +108,10 @@ returns-then-is_some-clause-stands g c =
     let i = c.loop-self.input.position in
     let before = c.loop-self.input in
     let same : search_of b before ≡ s = same_search b before c.args.input.now c.loop-self.invariant.same.content c.loop-self.invariant.asked in
-    visit_stands p s (search_of b before) i c.visit.new.input.position c.visit.new.self.met same c.in_ok-visit.ensures.same.position_is
-    (c.in_ok-visit.ensures.stands (started_so p c.args.start c.args.input.now.asked before.asked c.requires.start c.loop-self.invariant.asked) c.loop-self.invariant.lives)
+    let first = c.args.input.now.position in
+    stops_since p s c.args.earliest c.args.start first i c.visit.new.input.position c.loop-self.self.met c.visit.new.self.met c.loop-self.invariant.unmet c.in_ok-visit.ensures.same.position_is
+    (visit_stands p s (search_of b before) c.args.start first i c.loop-self.self.met c.visit.new.self.met c.loop-self.self.live.threads same c.requires.start
+    (λ starts keeps. c.in_ok-visit.ensures.stands first starts keeps c.loop-self.invariant.lives) c.loop-self.invariant.first)
 
 pub returns-then-is_some-clause-over : goal.returns-then-is_some-clause-over
 returns-then-is_some-clause-over g c =
@@ -127,7 +129,7 @@ returns-then-is_some-clause-over g c =
     let inside = c.loop-self.invariant.inside in
     let early : IsOverAt true p s q first i met slots =
     over_early p s q first i met slots (λ none. absurd (cc (sym c.if-is_some.true ∙ c.is_some.ensures ∙ ap (λ o. is_some o) none))) (omega (arith, inside.1, inside.3, inside.4)) so_far
-    (c.loop-self.invariant.none_before c.if-earliest.true) in
+    (subst (λ o. KeepsFirst p s q first i o c.loop-self.self.live.threads) (c.loop-self.invariant.unmet c.if-earliest.true) c.loop-self.invariant.first) in
     subst (λ e. IsOverAt e p s q first c.visit.new.input.position met slots) (sym c.if-earliest.true) (subst (λ j. IsOverAt true p s q first j met slots) (sym c.in_ok-visit.ensures.same.position_is) early)
 
 pub returns-then-is_some-clause-work : goal.returns-then-is_some-clause-work
@@ -183,7 +185,9 @@ loop-self-preserved g c =
     (subst (λ x. is_anchored (anchoring_of x) ≡ false) (c.get_anchored.ensures ∙ ap (λ x. x.anchored) asked) (c.are_over.ensures.goes_on c.if-are_over.false none unmet)) c.requires.start in
     let parts : IsUnderWayInParts p s q (i + 1) self.live.threads self.met c.visit.new.slots =
     subst (λ x. IsUnderWayInParts p x q (i + 1) self.live.threads self.met c.visit.new.slots) same c.in_ok-visit.ensures.parts in
-    let so_far : IsOver p (up_to_place s i) q self.met c.visit.new.slots = subst (λ x. IsOver p (up_to_place x i) q self.met c.visit.new.slots) same c.in_ok-visit.ensures.so_far in
+    let first : KeepsFirst p s q c.args.input.now.position (i + 1) self.met self.live.threads =
+        subst (λ x. KeepsFirst p x q c.args.input.now.position (i + 1) self.met self.live.threads) same
+        (c.in_ok-visit.ensures.first c.args.input.now.position (subst (λ x. KeepsFirst p x q c.args.input.now.position i c.loop-self.self.met c.loop-self.self.live.threads) (sym same) c.loop-self.invariant.first)) in
     let unmet : c.args.earliest ≡ true → self.met ≡ None = λ early. elim c.else-earliest.branch [
       | else-earliest-via-then-earliest+else-is_some w ↦ no_value self.met (sym w.is_some.ensures ∙ w.if-is_some.false)
       | else-earliest-via-else-earliest w ↦ absurd (cc (sym early ∙ w.if-earliest.false))
@@ -198,8 +202,7 @@ loop-self-preserved g c =
           c.in_ok-visit.ensures.made.are_idle free skipped way;
       parts = parts_skipped p s q (i + 1) last.position self.idle self.live.threads self.met c.visit.new.slots next low high c.in_ok-visit.ensures.made.are_idle free skipped parts;
       unmet = unmet;
-      none_before = λ early. none_more p s q c.args.input.now.position i last.position self.met c.visit.new.slots (c.loop-self.invariant.none_before early) so_far (unmet early)
-          (none_skipped p s q (i + 1) last.position self.idle self.live.threads self.met c.visit.new.slots low high c.in_ok-visit.ensures.made.are_idle free skipped parts);
+      first = first_skipped p s q c.args.input.now.position (i + 1) last.position self.idle self.live.threads self.met c.visit.new.slots next low high c.in_ok-visit.ensures.made.are_idle free skipped parts first;
       lives = c.are_over.ensures.lives c.if-are_over.false;
       same = record {
         content = c.go_on.ensures.same.same.content ∙ content;

@@ -4,11 +4,10 @@ use Rattle.rx_walks.specs.Steps.{Steps}
 use Rattle.rx_steps.specs.Threads.{Slots, Thread}
 use Rattle.rx_steps.specs.Lists.{met_at}
 use Rattle.rx_steps.specs.Searching.{search_of}
-use Rattle.rx_steps.specs.Standing.{WalkStands}
-use Rattle.rx_steps.specs.Coming.{machine_in, IsUnderWay, IsUnderWayInParts, IsOver}
-use Rattle.rx_steps.proofs.StandLaws.{pattern_after, stands_on}
+use Rattle.rx_steps.specs.Coming.{machine_in, IsUnderWay, IsUnderWayInParts, IsOver, KeepsFirst, StandsSince}
+use Rattle.rx_steps.proofs.StandLaws.{pattern_after}
 use Rattle.rx_steps.proofs.WayLaws.{way_passed, noted_len, slots_after}
-use Rattle.rx_steps.proofs.PartLaws.{parts_passed, part_over}
+use Rattle.rx_steps.proofs.PartLaws.{parts_passed, part_over, first_kept, stands_since}
 use Rattle.rx_steps.proofs.search.Walks.visit.Goals as goal
 use Rattle.rx_steps.proofs.search.Walks.visit.Goals.{in-Some, in_default}
 
@@ -119,8 +118,8 @@ returns-clause-so_far g c =
     (part_over p s q i c.args.self.now.live c.start_walk.new.self.live.threads next before slots k noted inside c.requires.slot_len c.in_ok-start_walk.ensures.started steps
     (c.requires.parts i (omega arith) (omega (arith, inside.1, inside.3, inside.4))))
 
-pub returns-clause-stands : goal.returns-clause-stands
-returns-clause-stands g c = λ starts lives.
+pub returns-clause-first : goal.returns-clause-first
+returns-clause-first g c = λ first keeps.
     let p = c.args.program.now in
     let s = search_of c.args.utf8_empty c.args.input.now in
     let q = c.args.start in
@@ -143,5 +142,38 @@ returns-clause-stands g c = λ starts lives.
       }
     ] in
     let steps = c.in_ok-pattern.ensures.steps c.args.utf8_empty c.requires.inside in
-    arrive (λ xs o n. (o ≡ None) ⊎ WalkStands p s i) next c.match-branch-3.self.live.threads (pattern_after k before) c.match-branch-3.self.met (slots_after k noted slots) c.match-branch-3.slots came
-    (stands_on p s q i c.args.self.now.live c.start_walk.new.self.live.threads next before k noted c.in_ok-start_walk.ensures.started steps c.requires.way.reached starts lives)
+    let inside = c.requires.inside in
+    let over = part_over p s q i c.args.self.now.live c.start_walk.new.self.live.threads next before slots k noted inside c.requires.slot_len c.in_ok-start_walk.ensures.started steps
+        (c.requires.parts i (omega arith) (omega (arith, inside.1, inside.3, inside.4))) in
+    arrive (λ xs o n. KeepsFirst p s q first (i + 1) o xs) next c.match-branch-3.self.live.threads (pattern_after k before) c.match-branch-3.self.met (slots_after k noted slots) c.match-branch-3.slots came
+    (first_kept p s q first i c.args.self.now.live c.start_walk.new.self.live.threads next before slots k noted inside c.in_ok-start_walk.ensures.started steps c.requires.way.reached over keeps)
+
+pub returns-clause-stands : goal.returns-clause-stands
+returns-clause-stands g c = λ first starts keeps lives.
+    let p = c.args.program.now in
+    let s = search_of c.args.utf8_empty c.args.input.now in
+    let q = c.args.start in
+    let i = c.args.input.now.position in
+    let next = c.pass.new.self.live.threads in
+    let noted = c.pass.new.self.stepper.slots in
+    let k = c.in_ok-pattern.field-0 in
+    let before = c.args.self.now.met in
+    let slots = c.args.slots.now in
+    let came : CameTo c.match-branch-3.self.live.threads next c.match-branch-3.self.met (pattern_after k before) c.match-branch-3.slots (slots_after k noted slots) = elim c.match-branch-3.branch [
+      | in-Some w ↦ record {
+        threads_are = ap (λ x. x.live.threads) w.self-is;
+        met_is = ap (λ x. x.met) w.self-is ∙ sym (ap (λ y. pattern_after y before) w.in-Some.is);
+        slots_are = w.slots-is ∙ w.copy_from_slice.ensures.after ∙ w.slots.ensures ∙ sym (ap (λ y. slots_after y noted slots) w.in-Some.is);
+      }
+      | in_default w ↦ record {
+        threads_are = ap (λ x. x.live.threads) w.self-is;
+        met_is = ap (λ x. x.met) w.self-is ∙ c.in_ok-pattern.ensures.met ∙ c.in_ok-start_walk.ensures.met ∙ sym (ap (λ y. pattern_after y before) w.in_default.is);
+        slots_are = w.slots-is ∙ sym (ap (λ y. slots_after y noted slots) w.in_default.is);
+      }
+    ] in
+    let steps = c.in_ok-pattern.ensures.steps c.args.utf8_empty c.requires.inside in
+    let inside = c.requires.inside in
+    let over = part_over p s q i c.args.self.now.live c.start_walk.new.self.live.threads next before slots k noted inside c.requires.slot_len c.in_ok-start_walk.ensures.started steps
+        (c.requires.parts i (omega arith) (omega (arith, inside.1, inside.3, inside.4))) in
+    arrive (λ xs o n. (o ≡ None) ⊎ StandsSince p s q first i before) next c.match-branch-3.self.live.threads (pattern_after k before) c.match-branch-3.self.met (slots_after k noted slots) c.match-branch-3.slots came
+    (stands_since p s q first i c.args.self.now.live c.start_walk.new.self.live.threads next before slots k noted inside c.in_ok-start_walk.ensures.started steps c.requires.way.reached over starts keeps lives)
