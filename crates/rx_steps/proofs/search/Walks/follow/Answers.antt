@@ -186,8 +186,8 @@ loop-self-preserved g c =
     let parts : IsUnderWayInParts p s q (i + 1) self.live.threads self.met c.visit.new.slots =
     subst (λ x. IsUnderWayInParts p x q (i + 1) self.live.threads self.met c.visit.new.slots) same c.in_ok-visit.ensures.parts in
     let first : KeepsFirst p s q c.args.input.now.position (i + 1) self.met self.live.threads =
-        subst (λ x. KeepsFirst p x q c.args.input.now.position (i + 1) self.met self.live.threads) same
-        (c.in_ok-visit.ensures.first c.args.input.now.position (subst (λ x. KeepsFirst p x q c.args.input.now.position i c.loop-self.self.met c.loop-self.self.live.threads) (sym same) c.loop-self.invariant.first)) in
+    subst (λ x. KeepsFirst p x q c.args.input.now.position (i + 1) self.met self.live.threads) same
+    (c.in_ok-visit.ensures.first c.args.input.now.position (subst (λ x. KeepsFirst p x q c.args.input.now.position i c.loop-self.self.met c.loop-self.self.live.threads) (sym same) c.loop-self.invariant.first)) in
     let unmet : c.args.earliest ≡ true → self.met ≡ None = λ early. elim c.else-earliest.branch [
       | else-earliest-via-then-earliest+else-is_some w ↦ no_value self.met (sym w.is_some.ensures ∙ w.if-is_some.false)
       | else-earliest-via-else-earliest w ↦ absurd (cc (sym early ∙ w.if-earliest.false))

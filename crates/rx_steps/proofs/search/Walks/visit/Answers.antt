@@ -144,7 +144,7 @@ returns-clause-first g c = λ first keeps.
     let steps = c.in_ok-pattern.ensures.steps c.args.utf8_empty c.requires.inside in
     let inside = c.requires.inside in
     let over = part_over p s q i c.args.self.now.live c.start_walk.new.self.live.threads next before slots k noted inside c.requires.slot_len c.in_ok-start_walk.ensures.started steps
-        (c.requires.parts i (omega arith) (omega (arith, inside.1, inside.3, inside.4))) in
+    (c.requires.parts i (omega arith) (omega (arith, inside.1, inside.3, inside.4))) in
     arrive (λ xs o n. KeepsFirst p s q first (i + 1) o xs) next c.match-branch-3.self.live.threads (pattern_after k before) c.match-branch-3.self.met (slots_after k noted slots) c.match-branch-3.slots came
     (first_kept p s q first i c.args.self.now.live c.start_walk.new.self.live.threads next before slots k noted inside c.in_ok-start_walk.ensures.started steps c.requires.way.reached over keeps)
 
@@ -174,6 +174,6 @@ returns-clause-stands g c = λ first starts keeps lives.
     let steps = c.in_ok-pattern.ensures.steps c.args.utf8_empty c.requires.inside in
     let inside = c.requires.inside in
     let over = part_over p s q i c.args.self.now.live c.start_walk.new.self.live.threads next before slots k noted inside c.requires.slot_len c.in_ok-start_walk.ensures.started steps
-        (c.requires.parts i (omega arith) (omega (arith, inside.1, inside.3, inside.4))) in
+    (c.requires.parts i (omega arith) (omega (arith, inside.1, inside.3, inside.4))) in
     arrive (λ xs o n. (o ≡ None) ⊎ StandsSince p s q first i before) next c.match-branch-3.self.live.threads (pattern_after k before) c.match-branch-3.self.met (slots_after k noted slots) c.match-branch-3.slots came
     (stands_since p s q first i c.args.self.now.live c.start_walk.new.self.live.threads next before slots k noted inside c.in_ok-start_walk.ensures.started steps c.requires.way.reached over starts keeps lives)
