@@ -116,12 +116,16 @@ fn builder(rt: HostRuntime) -> Result<(), Fail> {
     Ok(())
 }
 
-/// The match that is found with a cache which is lent.
-fn found_with(re: &Regex, cache: &mut Cache) -> Result<Option<Span>, MatchError>
+/// The match that is found in an input with a cache which is lent.
+fn found_with(
+    re: &Regex,
+    cache: &mut Cache,
+    input: &mut Input<&str>,
+) -> Result<Option<Span>, MatchError>
     requires { IsCacheOf re.now cache.old }
     ensures { IsCacheOf re.now cache.new }
 {
-    let found = re.search_with(cache, &mut Input::new("bax"))?;
+    let found = re.search_with(cache, input)?;
     Ok(found.map(|found| found.span()))
 }
 
@@ -133,9 +137,10 @@ fn in_turn(
 ) -> Result<(Option<Span>, Option<Span>), MatchError>
     requires { IsCacheOf first.now cache.old }
 {
-    let found = found_with(first, cache)?;
+    let mut input = Input::new("bax");
+    let found = found_with(first, cache, &mut input)?;
     cache.reset(second)?;
-    Ok((found, found_with(second, cache)?))
+    Ok((found, found_with(second, cache, &mut input)?))
 }
 
 fn with_one_cache(
@@ -173,7 +178,7 @@ fn with_clone(re: &Regex, cache: &Cache) -> Result<Option<Span>, MatchError>
     requires { IsCacheOf re.now cache.now }
 {
     let mut copy = cache.clone()?;
-    found_with(re, &mut copy)
+    found_with(re, &mut copy, &mut Input::new("bax"))
 }
 
 fn with_cloned_cache(re: &Regex) -> Result<Option<Span>, MatchError> {
