@@ -197,29 +197,6 @@ fn a_pattern_that_has_no_memory(rt: HostRuntime) -> Result<(), Fail> {
     Ok(())
 }
 
-// So it is with this.
-fn next_in(
-    buffer: &mut Buffer,
-    tick: &mut Lines,
-    from: Position,
-) -> Result<Option<(Position, Position)>, Fault> {
-    buffer.next_from(tick, from)
-}
-
-/// `Buffer::next_from`: the next match of a regular expression in the whole text.
-#[test]
-fn the_next_match(rt: HostRuntime) -> Result<(), Fail> {
-    let mut tick = Lines::new(&rt);
-    let mut buffer = buffer_of(&rt, &mut tick, "a frog\na toad", r"\w+d\b")?;
-    let start = Position { line: 0, column: 2 };
-    let from = Position { line: 1, column: 2 };
-    let to = Position { line: 1, column: 6 };
-    assert!(rt; next_in(&mut buffer, &mut tick, start)? == Some((from, to)));
-    assert!(rt; next_in(&mut buffer, &mut tick, to)? == None);
-    assert!(rt; (tick.count(), tick.wholes()) == (2, 2));
-    Ok(())
-}
-
 /// `Fault`: a pattern outside the grammar is refused.
 #[test]
 fn no_pattern(rt: HostRuntime) -> Result<(), Fail> {

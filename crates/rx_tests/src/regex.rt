@@ -174,23 +174,28 @@ fn clones(rt: HostRuntime) -> Result<(), Fail> {
     Ok(())
 }
 
-fn with_clone(re: &Regex, cache: &Cache) -> Result<Option<Span>, MatchError>
+fn with_clone(
+    re: &Regex,
+    cache: &Cache,
+    input: &mut Input<&str>,
+) -> Result<Option<Span>, MatchError>
     requires { IsCacheOf re.now cache.now }
 {
     let mut copy = cache.clone()?;
-    found_with(re, &mut copy, &mut Input::new("bax"))
+    found_with(re, &mut copy, input)
 }
 
-fn with_cloned_cache(re: &Regex) -> Result<Option<Span>, MatchError> {
+fn with_cloned_cache(re: &Regex, input: &mut Input<&str>) -> Result<Option<Span>, MatchError> {
     let cache = re.create_cache()?;
-    with_clone(re, &cache)
+    with_clone(re, &cache, input)
 }
 
 /// A clone of a cache serves as its source does.
 #[test]
 fn clone_of_a_cache(rt: HostRuntime) -> Result<(), Fail> {
     let re = Regex::new(rt.alloc(), "a")?;
-    assert!(rt; with_cloned_cache(&re)? == Some(Span { start: 1, end: 2 }));
+    let mut input = Input::new("bax");
+    assert!(rt; with_cloned_cache(&re, &mut input)? == Some(Span { start: 1, end: 2 }));
     Ok(())
 }
 
