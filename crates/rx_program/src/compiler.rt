@@ -11,24 +11,43 @@ use crate::states::State;
 use rx_grammar::Hir;
 use std::alloc::{AllocError, Global};
 
-/// What is to be done. A part is named by the number of its root among the tree's nodes.
+/// What is to be done. A part is named by the number of its root among the tree's nodes, and `next`
+/// is the state that it goes on to.
 #[derive(Drop)]
 pub(crate) enum Job {
-    /// The part with this root, which goes on to a state.
-    Part(usize, usize),
+    /// One part.
+    Part {
+        root: usize,
+        next: usize,
+    },
     /// One state.
     State(State),
-    /// So many parts, one after the other: how many, the root of the last one, how many states they
-    /// have, and the state that they go on to.
-    Row(usize, usize, usize, usize),
-    /// So many parts beside one another: how many, the root of the last one, and the state that
-    /// they go on to.
-    Branches(usize, usize, usize),
-    /// So many copies of a part: how many, its root, and the state that they go on to.
-    Copies(usize, usize, usize),
-    /// So many optional copies of a part, each inside the one before: whether they are greedy, how
-    /// many, its root, and the state that they go on to.
-    Optional(bool, usize, usize, usize),
+    /// So many parts, one after the other, up to the `last` one; and how many states they have.
+    Row {
+        count: usize,
+        last: usize,
+        states: usize,
+        next: usize,
+    },
+    /// So many parts beside one another, up to the `last` one.
+    Branches {
+        count: usize,
+        last: usize,
+        next: usize,
+    },
+    /// So many copies of a part, one after the other.
+    Copies {
+        count: usize,
+        root: usize,
+        next: usize,
+    },
+    /// So many optional copies of a part, each inside the one before.
+    Optional {
+        greedy: bool,
+        count: usize,
+        root: usize,
+        next: usize,
+    },
 }
 
 /// A program that grows. The last job is done first.
@@ -87,8 +106,13 @@ impl Compiler {
         let part = hir.properties()[root];
         let before = size - part.size;
         let start = self.states.len() + before;
-        self.jobs.push(Job::Part(root, next))?;
-        self.jobs.push(Job::Row(count - 1, root.saturating_sub(part.extent), before, start))?;
+        self.jobs.push(Job::Part { root, next })?;
+        self.jobs.push(Job::Row {
+            count: count - 1,
+            last: root.saturating_sub(part.extent),
+            states: before,
+            next: start,
+        })?;
         Ok(())
     }
 
@@ -110,8 +134,12 @@ impl Compiler {
             return Ok(());
         }
         let part = hir.properties()[root];
-        self.jobs.push(Job::Part(root, next))?;
-        self.jobs.push(Job::Branches(count - 1, root.saturating_sub(part.extent), next))?;
+        self.jobs.push(Job::Part { root, next })?;
+        self.jobs.push(Job::Branches {
+            count: count - 1,
+            last: root.saturating_sub(part.extent),
+            next,
+        })?;
         Ok(())
     }
 
@@ -135,9 +163,15 @@ impl Compiler {
             return Ok(());
         }
         let after = self.states.len() + hir.properties()[root].size;
-        self.jobs.push(Job::Copies(count - 1, root, next))?;
-        self.jobs
-            .push(Job::Part(root, entry_of(count - 1, after, next)))?;
+        self.jobs.push(Job::Copies {
+            count: count - 1,
+            root,
+            next,
+        })?;
+        self.jobs.push(Job::Part {
+            root,
+            next: entry_of(count - 1, after, next),
+        })?;
         Ok(())
     }
 
@@ -164,10 +198,16 @@ impl Compiler {
         let inside = self.states.len() + 1;
         let after = inside + hir.properties()[root].size;
         self.states.push(State::fork(greedy, inside, next))?;
-        self.jobs
-            .push(Job::Optional(greedy, count - 1, root, next))?;
-        self.jobs
-            .push(Job::Part(root, entry_of(count - 1, after, next)))?;
+        self.jobs.push(Job::Optional {
+            greedy,
+            count: count - 1,
+            root,
+            next,
+        })?;
+        self.jobs.push(Job::Part {
+            root,
+            next: entry_of(count - 1, after, next),
+        })?;
         Ok(())
     }
 }

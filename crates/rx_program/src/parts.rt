@@ -74,28 +74,43 @@ impl Compiler {
             Some(most) => {
                 let further = (most as usize).saturating_sub(least);
                 let on = entry_of(further, at + least * part.size, next);
-                self.jobs
-                    .push(Job::Optional(repetition.greedy, further, root, next))?;
-                self.jobs.push(Job::Copies(least, root, on))?;
+                self.jobs.push(Job::Optional {
+                    greedy: repetition.greedy,
+                    count: further,
+                    root,
+                    next,
+                })?;
+                self.jobs.push(Job::Copies {
+                    count: least,
+                    root,
+                    next: on,
+                })?;
             }
             None if least > 0 => {
                 let last = at + (least - 1) * part.size;
                 let end = at + least * part.size;
                 let back = State::fork(repetition.greedy, last, next);
                 self.jobs.push(Job::State(back))?;
-                self.jobs.push(Job::Copies(least, root, end))?;
+                self.jobs.push(Job::Copies {
+                    count: least,
+                    root,
+                    next: end,
+                })?;
             }
             None if part.may_be_empty => {
                 self.states
                     .push(State::fork(repetition.greedy, at + 1, next))?;
                 let back = State::fork(repetition.greedy, at + 1, next);
                 self.jobs.push(Job::State(back))?;
-                self.jobs.push(Job::Part(root, at + 1 + part.size))?;
+                self.jobs.push(Job::Part {
+                    root,
+                    next: at + 1 + part.size,
+                })?;
             }
             None => {
                 self.states
                     .push(State::fork(repetition.greedy, at + 1, next))?;
-                self.jobs.push(Job::Part(root, at))?;
+                self.jobs.push(Job::Part { root, next: at })?;
             }
         }
         Ok(())
@@ -127,13 +142,25 @@ impl Compiler {
                 self.states
                     .push(State::Capture(slot, StateID::new(at + 1)))?;
                 self.jobs.push(Job::State(State::Capture(slot + 1, on)))?;
-                self.jobs.push(Job::Part(root - 1, at + size - 1))?;
+                self.jobs.push(Job::Part {
+                    root: root - 1,
+                    next: at + size - 1,
+                })?;
             }
-            Node::Concat(count) => self.jobs.push(Job::Row(*count, root - 1, size, next))?,
+            Node::Concat(count) => self.jobs.push(Job::Row {
+                count: *count,
+                last: root - 1,
+                states: size,
+                next,
+            })?,
             Node::Alternation(count) => {
                 let starts = branch_starts(self.alloc, hir, *count, root - 1, at + size)?;
                 self.states.push(State::Union(starts))?;
-                self.jobs.push(Job::Branches(*count, root - 1, next))?;
+                self.jobs.push(Job::Branches {
+                    count: *count,
+                    last: root - 1,
+                    next,
+                })?;
             }
             Node::Repeat(repetition) => self.repetition(hir, *repetition, root - 1, next)?,
         }
@@ -151,17 +178,25 @@ impl Compiler {
             self.old.states.items self.new.states.items self.old.jobs.items self.new.jobs.items) }
     {
         match job {
-            Job::Part(root, next) => self.part(hir, root, next),
+            Job::Part { root, next } => self.part(hir, root, next),
             Job::State(state) => {
                 self.states.push(state)?;
                 Ok(())
             }
-            Job::Row(count, root, size, next) => self.row(hir, count, root, size, next),
-            Job::Branches(count, root, next) => self.branches(hir, count, root, next),
-            Job::Copies(count, root, next) => self.copies(hir, count, root, next),
-            Job::Optional(greedy, count, root, next) => {
-                self.optional(hir, greedy, count, root, next)
-            }
+            Job::Row {
+                count,
+                last,
+                states,
+                next,
+            } => self.row(hir, count, last, states, next),
+            Job::Branches { count, last, next } => self.branches(hir, count, last, next),
+            Job::Copies { count, root, next } => self.copies(hir, count, root, next),
+            Job::Optional {
+                greedy,
+                count,
+                root,
+                next,
+            } => self.optional(hir, greedy, count, root, next),
         }
     }
 }

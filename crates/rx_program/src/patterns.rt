@@ -40,7 +40,7 @@ impl Compiler {
         self.jobs
             .push(Job::State(State::Match(PatternID::new(number))))?;
         self.jobs.push(Job::State(State::Capture(2 * number + 1, StateID::new(end + 1))))?;
-        self.jobs.push(Job::Part(root, end))?;
+        self.jobs.push(Job::Part { root, next: end })?;
         while let Some(job) = self.jobs.pop() {
             self.run(hir, job)?;
         }
