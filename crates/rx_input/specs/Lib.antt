@@ -2,3 +2,4 @@ pub mod Cursors
 pub mod Chunks
 pub mod Inputs
 pub mod Searchers
+pub mod Lending

@@ -1,7 +1,7 @@
 -- What a searcher does with what a finder tells.
 use Rattle.std.specs.Prelude.{◌≡◌, ℕ, ◌≤◌, ◌+◌, ◌-◌, ◌<◌, ◌^◌, ◌⊎◌, Bool, true, false, Option, Some, None, is_some, Result, Ok, Err}
 use Rattle.std.specs.Borrow.{MutBor}
-use Rattle.std.specs.Fn.{Mut, CalledAtMut}
+use Rattle.std.specs.Fn.{Mut, CalledAtMut, always_mut}
 use Rattle.std.specs.Iterator.{Count, at_most}
 use Rattle.rx_util.specs.declared.search.MatchError.{MatchError}
 use Rattle.rx_util.specs.Search.{Found, HalfFound}
@@ -70,19 +70,64 @@ pub record Advances {F A : Type 0} (tells : Finder F A) (end : A → ℕ)
   pub next : TellsNext tells (passes old.last_match_end) p q old.input r left
   pub goes_on : GoesOn end (record old { input = left }) r new
 
+-- ---- matches
+
 -- an empty match where the last one ended
 abbrev pub IsEmptyAtLast : Option ℕ → Found → Type 0
 IsEmptyAtLast last a = (a.span.start ≡ a.span.end) × (last ≡ Some a.span.end)
+
+abbrev pub end_of_match : Found → ℕ
+end_of_match a = a.span.end
+
+module _ {F I : Type 0}
+    (calls : Mut F (MutBor I × Unit {0}) (Result (Option Found) MatchError × (MutBor I × Unit {0})))
+    (state : I → InputState) where
+  -- a finder of matches: it may be called with any input, again and again; a match that it tells ends
+  -- in the span, not before its start and not at the greatest number; and it changes nothing of what
+  -- is asked for
+  pub record IsMatchFinder (finder : F) : Type 0 where
+    pub callable : always_mut calls finder
+    pub inside : StaysInside (finder_of calls state) end_of_match
+
+  -- the next match of a searcher: what the finder tells, or, where that is an empty match at the end
+  -- of the last one, what it tells from one byte further on. Behind a match the span starts at its
+  -- end, which is the last one from then on; where none is told, and after a refusal, the searcher
+  -- keeps its last end
+  pub record GivesNextMatch (finder : F) (old : SearcherState)
+      (r : Result (Option Found) MatchError) (new : SearcherState) : Type 0 where
+    pub left : F
+    pub advances : Advances (finder_of calls state) end_of_match IsEmptyAtLast finder left old r new
+
+-- ---- half matches
 
 -- a half match where the last one ended
 abbrev pub IsAtLast : Option ℕ → HalfFound → Type 0
 IsAtLast last a = last ≡ Some a.offset
 
-abbrev pub end_of_match : Found → ℕ
-end_of_match a = a.span.end
-
 abbrev pub end_of_half : HalfFound → ℕ
 end_of_half a = a.offset
+
+module _ {F I : Type 0}
+    (calls : Mut F (MutBor I × Unit {0})
+    (Result (Option HalfFound) MatchError × (MutBor I × Unit {0})))
+    (state : I → InputState) where
+  -- a finder of half matches, as one of matches
+  pub record IsHalfMatchFinder (finder : F) : Type 0 where
+    pub callable : always_mut calls finder
+    pub inside : StaysInside (finder_of calls state) end_of_half
+
+  -- the next half match, which leaves the finder so: as the next match, but that any half match at
+  -- the end of the last one is passed over
+  abbrev pub GivesHalfMatchBy : F → F → SearcherState → Result (Option HalfFound) MatchError
+      → SearcherState → Type 0
+  GivesHalfMatchBy finder left old r new =
+      Advances (finder_of calls state) end_of_half IsAtLast finder left old r new
+
+  -- the same, whatever becomes of the finder
+  pub record GivesNextHalfMatch (finder : F) (old : SearcherState)
+      (r : Result (Option HalfFound) MatchError) (new : SearcherState) : Type 0 where
+    pub left : F
+    pub advances : GivesHalfMatchBy finder left old r new
 
 -- the span starts where the last match ended
 abbrev pub StandsAtLast : SearcherState → Type 0

@@ -87,8 +87,10 @@ impl<'a> Model for ChunkCursor<'a> {
 impl<'a> ChunkCursor<'a> {
     ghost use Rattle.rx_input.specs.Cursors.{IsLawful};
 
-    /// A cursor over these chunks, together at most `isize::MAX` bytes. It shows the first one that
-    /// isn't empty. It costs `O(n)` in the number of chunks.
+    /// Returns a cursor over these chunks, which shows the first one that isn't empty. It costs
+    /// `O(n)` in the number of chunks.
+    ///
+    /// Requires that the chunks have at most `isize::MAX` bytes together.
     pub fn new(chunks: &'a [&'a [u8]]) -> ChunkCursor<'a>
         requires bound { length (joined chunks.now) < 2 ^ 63 }
         ensures content { result.content ≡ joined chunks.now }

@@ -10,17 +10,17 @@ pub trait Cursor {
     // The content, and the piece that is shown.
     ghost state: { Self → CursorState };
 
-    /// The piece that is shown. It is empty only where the content is.
+    /// Returns the piece that is shown. It is empty only where the content is.
     fn chunk(&self) -> &[u8]
         ensures chunk { result.now ≡ piece_of (state self.now) }
         ensures lawful { IsLawful (state self.now) };
 
-    /// Whether the pieces cut no character. No match depends on it.
+    /// Returns whether the pieces cut no character. No match depends on it.
     fn utf8_aware(&self) -> bool {
         true
     }
 
-    /// Shows the piece that starts where this one ends, and answers whether there is one: where
+    /// Shows the piece that starts where this one ends, and returns whether there is one: where
     /// this one ends at the content's end there isn't, and nothing changes.
     fn advance(&mut self) -> bool
         ensures moved { OnTrue result (IsNext (state self.old) (state self.new)) }
@@ -29,7 +29,7 @@ pub trait Cursor {
             ↔ ((state self.old).end ≡ length (state self.old).content) }
         ensures lawful { IsLawful (state self.new) };
 
-    /// Shows the piece that ends where this one starts, and answers whether there is one: where
+    /// Shows the piece that ends where this one starts, and returns whether there is one: where
     /// this one starts at the content's start there isn't, and nothing changes.
     fn backtrack(&mut self) -> bool
         ensures moved { OnTrue result (IsNext (state self.new) (state self.old)) }
@@ -37,11 +37,11 @@ pub trait Cursor {
         ensures at_start { (result ≡ false) ↔ ((state self.old).start ≡ 0) }
         ensures lawful { IsLawful (state self.new) };
 
-    /// How many bytes the content has, or `None` where the cursor doesn't tell.
+    /// Returns how many bytes the content has, or `None` where the cursor doesn't tell.
     fn total_bytes(&self) -> Option<usize>
         ensures { result ≡ told_length (state self.now) };
 
-    /// The byte index in the content at which the piece starts.
+    /// Returns the byte index in the content at which the piece starts.
     fn offset(&self) -> usize
         ensures offset { result ≡ (state self.now).start }
         ensures lawful { IsLawful (state self.now) };

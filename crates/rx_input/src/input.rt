@@ -52,9 +52,9 @@ impl<C: Cursor> Model for Input<C> {
 }
 
 impl<C: Cursor> Input<C> {
-    /// Asks for any match from the start of the cursor's piece on, anywhere in it; looks see the
-    /// whole content. The position is the start of the piece. The span ends at the content's end,
-    /// or at `usize::MAX` where the cursor doesn't tell how long the content is.
+    /// Returns an input that asks for a match anywhere from the start of the cursor's piece on;
+    /// looks see the whole content. The position is the start of the piece. The span ends at the
+    /// content's end, or at `usize::MAX` where the cursor doesn't tell how long the content is.
     pub fn new(cursor: C) -> Input<C>
         ensures cursor { result.cursor ≡ C.state cursor }
         ensures position { result.position ≡ (C.state cursor).start }
@@ -75,7 +75,7 @@ impl<C: Cursor> Input<C> {
         }
     }
 
-    /// The piece that is shown.
+    /// Returns the piece that is shown.
     pub fn chunk(&self) -> &[u8]
         ensures chunk { result.now ≡ piece_of self.now.cursor }
         ensures holds { HoldsPlace self.now.cursor self.now.position }
@@ -83,21 +83,21 @@ impl<C: Cursor> Input<C> {
         self.cursor.chunk()
     }
 
-    /// The place at which that piece starts.
+    /// Returns the place at which that piece starts.
     pub fn chunk_offset(&self) -> usize
         ensures { result ≡ self.now.cursor.start }
     {
         self.cursor.offset()
     }
 
-    /// The index in that piece of the position.
+    /// Returns the index of the position in that piece.
     pub fn chunk_pos(&self) -> usize
         ensures { self.now.cursor.start + result ≡ self.now.position }
     {
         self.chunk_pos
     }
 
-    /// The position.
+    /// Returns the position: a byte index into the content.
     pub fn position(&self) -> usize
         ensures position { result ≡ self.now.position }
         ensures holds { HoldsPlace self.now.cursor self.now.position }
@@ -105,36 +105,36 @@ impl<C: Cursor> Input<C> {
         self.cursor.offset() + self.chunk_pos
     }
 
-    /// Where the span starts.
+    /// Returns where the span starts.
     pub fn start(&self) -> usize
         ensures { result ≡ self.now.asked.span.start }
     {
         self.span.start
     }
 
-    /// Where the span ends. An end past the content's is as the content's.
+    /// Returns where the span ends. An end past the content's is as the content's.
     pub fn end(&self) -> usize
         ensures { result ≡ self.now.asked.span.end }
     {
         self.span.end
     }
 
-    /// The span, in which a match has to lie.
+    /// Returns the span, in which a match has to lie.
     pub fn get_span(&self) -> Span
         ensures { result ≡ self.now.asked.span }
     {
         self.span
     }
 
-    /// The slice, outside of which looks see nothing.
+    /// Returns the slice, outside of which looks see nothing.
     pub fn get_slice(&self) -> Span
         ensures { result ≡ self.now.asked.slice }
     {
         self.slice
     }
 
-    /// How many bytes of the piece that is shown lie before the span's end: 0 where the span ends
-    /// before the piece.
+    /// Returns how many bytes of the piece that is shown lie before the span's end: 0 where the
+    /// span ends before the piece.
     pub fn get_chunk_end(&self) -> usize
         ensures { result ≡ min (self.now.asked.span.end - self.now.cursor.start)
             (length (piece_of self.now.cursor)) }
@@ -145,21 +145,21 @@ impl<C: Cursor> Input<C> {
             .min(self.cursor.chunk().len())
     }
 
-    /// Where a match may start, and of which patterns.
+    /// Returns where a match may start, and of which patterns.
     pub fn get_anchored(&self) -> Anchored
         ensures { result ≡ self.now.asked.anchored }
     {
         self.anchored
     }
 
-    /// Whether any match will do.
+    /// Returns whether any match will do.
     pub fn get_earliest(&self) -> bool
         ensures { result ≡ self.now.asked.earliest }
     {
         self.earliest
     }
 
-    /// Whether the span ends before it starts, so that nothing can be found.
+    /// Returns whether the span ends before it starts, so that nothing can be found.
     pub fn is_done(&self) -> bool
         ensures { result ≡ is_done self.now.asked.span }
     {
@@ -199,9 +199,10 @@ impl<C: Cursor> Input<C> {
     }
 
     /// Sets the span. Where the position is before it, it moves to the span's start; where it is
-    /// behind it and the old span wasn't done, to its end; but at most to the content's end. A span
-    /// may start one place past its end, and no further. It costs the steps over the pieces that
-    /// lie between.
+    /// behind it and the old span wasn't done, to its end; but at most to the content's end. It
+    /// costs the steps over the pieces that lie between.
+    ///
+    /// Requires that the span starts at most one place past its end.
     pub fn set_span<S: Into<Span>>(&mut self, span: S)
         requires { (s : Span) → S.converts span s → IsSpan s }
         ensures { (s : Span) × S.converts span s × HasSpan self.old self.new s }
@@ -210,6 +211,8 @@ impl<C: Cursor> Input<C> {
     }
 
     /// Sets where the span starts, as `set_span` does.
+    ///
+    /// Requires that `start` is at most one place past the span's end.
     pub fn set_start(&mut self, start: usize)
         requires { start ≤ self.old.asked.span.end + 1 }
         ensures { HasSpan self.old self.new (record self.old.asked.span { start = start }) }
@@ -221,6 +224,8 @@ impl<C: Cursor> Input<C> {
     }
 
     /// Sets where the span ends, as `set_span` does.
+    ///
+    /// Requires that the span starts at most one place past `end`.
     pub fn set_end(&mut self, end: usize)
         requires { self.old.asked.span.start ≤ end + 1 }
         ensures { HasSpan self.old self.new (record self.old.asked.span { end = end }) }
@@ -231,7 +236,7 @@ impl<C: Cursor> Input<C> {
         });
     }
 
-    /// Sets the span, as `set_span` does, and answers the input.
+    /// Sets the span, as `set_span` does and under its condition, and returns the input.
     pub fn span<S: Into<Span>>(&mut self, span: S) -> &mut Input<C>
         requires { (s : Span) → S.converts span s → IsSpan s }
         ensures set { (s : Span) × S.converts span s × HasSpan self.old result.now s }
@@ -243,6 +248,9 @@ impl<C: Cursor> Input<C> {
 
     /// Sets the span to a range, as `set_span` does. An open start is 0, an open end the content's
     /// end, or `usize::MAX` where the cursor doesn't tell how long the content is.
+    ///
+    /// Requires that the range starts at most one place past its end, and that no bound overflows,
+    /// as the end of `0..=usize::MAX` does.
     pub fn set_range<R: RangeBounds<usize>>(&mut self, range: R)
         requires known { R.has_bounds range }
         requires span { IsRange
@@ -254,7 +262,8 @@ impl<C: Cursor> Input<C> {
         self.move_into(span_of(range, end));
     }
 
-    /// The input with its span set to a range, as `set_range` does.
+    /// Returns the input with its span set to a range, as `set_range` does and under its
+    /// conditions.
     pub fn range<R: RangeBounds<usize>>(mut self, range: R) -> Input<C>
         requires known { R.has_bounds range }
         requires span { IsRange
@@ -266,8 +275,8 @@ impl<C: Cursor> Input<C> {
         self
     }
 
-    /// Sets the slice, outside of which looks see nothing, and the span to the same places. The
-    /// position moves as by `set_span`.
+    /// Sets the slice, outside of which looks see nothing, and the span to the same places, and
+    /// returns the input. The position moves as by `set_span`, whose condition holds here too.
     pub fn slice_span<S: Into<Span>>(&mut self, span: S) -> &mut Input<C>
         requires { (s : Span) → S.converts span s → IsSpan s }
         ensures set { (s : Span) × S.converts span s × HasSlice self.old result.now s }
@@ -279,8 +288,8 @@ impl<C: Cursor> Input<C> {
         self
     }
 
-    /// Sets the slice to a range, and the span too, as `slice_span` does. An open end is as that of
-    /// `set_range`.
+    /// Sets the slice to a range, and the span too, as `slice_span` does, and returns the input. An
+    /// open end is as that of `set_range`, and so are the conditions.
     pub fn slice<R: RangeBounds<usize>>(&mut self, range: R) -> &mut Input<C>
         requires known { R.has_bounds range }
         requires span { IsRange
@@ -296,7 +305,7 @@ impl<C: Cursor> Input<C> {
         self
     }
 
-    /// Sets where a match may start, as `set_anchored` does, and answers the input.
+    /// Sets where a match may start, as `set_anchored` does, and returns the input.
     pub fn anchored(&mut self, mode: Anchored) -> &mut Input<C>
         ensures set { result.now ≡ record self.old {
           asked = record self.old.asked { anchored = mode };
@@ -307,7 +316,7 @@ impl<C: Cursor> Input<C> {
         self
     }
 
-    /// Sets whether any match will do, as `set_earliest` does, and answers the input.
+    /// Sets whether any match will do, as `set_earliest` does, and returns the input.
     pub fn earliest(&mut self, yes: bool) -> &mut Input<C>
         ensures set { result.now ≡ record self.old {
           asked = record self.old.asked { earliest = yes };
@@ -318,8 +327,8 @@ impl<C: Cursor> Input<C> {
         self
     }
 
-    /// Whether no character is cut at the position: it is the content's end, or its byte continues
-    /// no character. Other pieces than the one that is shown needn't be asked.
+    /// Returns whether no character is cut at the position: it is the content's end, or its byte
+    /// continues no character. It reads the piece that is shown alone.
     pub fn is_char_boundary(&self) -> bool
         ensures { IsTrue result ↔ IsCharBoundary self.now.cursor.content self.now.position }
     {
@@ -338,7 +347,8 @@ impl<C: Cursor> Input<C> {
         self.chunk_pos = move_to(&mut self.cursor, at);
     }
 
-    /// Moves the position to the end of the piece, and shows the next piece, if there is one.
+    /// Moves the position to the end of the piece, and shows the next piece, if there is one, which
+    /// it returns.
     pub fn advance(&mut self) -> bool
         ensures moved { IsMoved self.old self.new self.old.cursor.end self.old.asked }
         ensures next { OnTrue result (self.new.cursor.start ≡ self.old.cursor.end) }
@@ -351,9 +361,9 @@ impl<C: Cursor> Input<C> {
         moves
     }
 
-    /// The bytes of the slice from four before the position up to four behind it, which tell
-    /// whether a look holds there. The piece that is shown may be another then. It costs the steps
-    /// over the pieces in which they lie.
+    /// Returns the bytes of the slice from four before the position up to four behind it, which
+    /// tell whether a look holds there. The piece that is shown may be another then. It costs the
+    /// steps over the pieces in which they lie.
     pub fn look_around(&mut self) -> LookAround
         ensures bytes { result ≡ seen_around self.old }
         ensures same { IsMoved self.old self.new self.old.position self.old.asked }
@@ -376,8 +386,9 @@ impl<C: Cursor> Input<C> {
         ensures { self.new ≡ self.old }
     {}
 
-    /// The same input over a clone of the cursor, which must not fail and must be equal. It takes
-    /// no memory of its own.
+    /// Returns the same input over a clone of the cursor. It takes no memory of its own.
+    ///
+    /// Requires that cloning a cursor of this type never fails and gives an equal one.
     pub fn clone(&self) -> Input<C>
     where
         C: Clone,

@@ -1,7 +1,7 @@
 //! Matches one after the other.
 
 ghost use Rattle.std.specs.Prelude.{◌≡◌, ◌+◌, ◌^◌, ◌<◌, ◌≤◌, None, Some, true, false};
-ghost use Rattle.rx_input.specs.Searchers.{Advances, GivesItem, HasPassed, IsAtLast, IsEmptyAtLast, IsSetTo, StandsAtLast, StaysInside, end_of_half, end_of_match, half_matches_left, finder_of};
+ghost use Rattle.rx_input.specs.Searchers.{GivesHalfMatchBy, GivesItem, GivesNextHalfMatch, GivesNextMatch, HasPassed, IsEmptyAtLast, IsHalfMatchFinder, IsMatchFinder, IsSetTo, StandsAtLast, half_matches_left};
 
 use crate::cursor::Cursor;
 use crate::input::Input;
@@ -16,11 +16,13 @@ pub trait Searched {
     // What is asked for.
     ghost state: { Self → InputState };
 
-    /// Where the span starts.
+    /// Returns where the span starts.
     fn start(&self) -> usize
         ensures { result ≡ (state self.now).asked.span.start };
 
-    /// Has the span start elsewhere, at most one place past its end.
+    /// Sets where the span starts.
+    ///
+    /// Requires that `start` is at most one place past the span's end.
     fn set_start(&mut self, start: usize)
         requires { start ≤ (state self.old).asked.span.end + 1 }
         ensures { HasSpan (state self.old) (state self.new)
@@ -60,7 +62,10 @@ impl<I: Searched> Model for Searcher<I> {
 }
 
 impl<I: Searched> Searcher<I> {
-    /// Starts with the input's span as it is.
+    ghost use Rattle.std.specs.Borrow.{sem};
+    ghost use Rattle.rx_input.specs.Lending.{LendsInput};
+
+    /// Returns a searcher that begins with the input's span as it is.
     pub fn new(input: I) -> Searcher<I>
         ensures { result ≡ record { input = I.state input; last_match_end = None } }
     {
@@ -70,34 +75,39 @@ impl<I: Searched> Searcher<I> {
         }
     }
 
-    /// The input, in which the next search is.
+    /// Returns the input in which the next search is, which may be changed. The end of the last
+    /// match is kept: an empty match that ends there is passed over, and no other.
     pub fn input(&mut self) -> &mut I
-        ensures { I.state result.now ≡ self.old.input }
+        ensures* writes_back { sem 𝓛 (LendsInput I.row I.Searched self.entry result) }
+        ensures input { I.state result.now ≡ self.old.input }
     {
         &mut self.input
     }
 
-    /// The next match, as by `try_advance`.
+    /// Returns the next match, as `try_advance` does, with its errors and under its conditions.
     pub fn advance<F>(&mut self, finder: F) -> Result<Option<Match>, MatchError>
     where
         F: FnMut(&mut I) -> Result<Option<Match>, MatchError>,
-        requires callable { F.IsAlwaysCallable finder }
-        requires inside { StaysInside (finder_of F.FnMut I.state) end_of_match }
-        ensures { (last : F) × Advances (finder_of F.FnMut I.state) end_of_match IsEmptyAtLast
-            finder last self.old result self.new }
+        requires finder { IsMatchFinder F.FnMut I.state finder }
+        ensures next { GivesNextMatch F.FnMut I.state finder self.old result self.new }
     {
         self.try_advance(finder)
     }
 
-    /// The next match. An empty one where the last one ended is thrown away. A refusal of the
-    /// finder is handed on.
+    /// Returns the next match: what the finder tells of the input, or, where that is an empty match
+    /// at the end of the last one, what it tells from one byte further on. Behind a match the span
+    /// starts at its end. `None` where the finder tells none.
+    ///
+    /// Errors are those of the finder; the end of the last match is kept.
+    ///
+    /// Requires that the finder may be called with any input, again and again; that a match that it
+    /// tells ends in the span, not before its start and below the greatest `usize`; and that it
+    /// leaves what the input asks for as it is.
     pub fn try_advance<F>(&mut self, mut finder: F) -> Result<Option<Match>, MatchError>
     where
         F: FnMut(&mut I) -> Result<Option<Match>, MatchError>,
-        requires callable { F.IsAlwaysCallable finder }
-        requires inside { StaysInside (finder_of F.FnMut I.state) end_of_match }
-        ensures { (last : F) × Advances (finder_of F.FnMut I.state) end_of_match IsEmptyAtLast
-            finder last self.old result self.new }
+        requires finder { IsMatchFinder F.FnMut I.state finder }
+        ensures next { GivesNextMatch F.FnMut I.state finder self.old result self.new }
     {
         let Some(found) = finder(&mut self.input)? else {
             return Ok(None);
@@ -116,15 +126,13 @@ impl<I: Searched> Searcher<I> {
         Ok(Some(further))
     }
 
-    /// The next half match. One at the end of the last one is thrown away. A refusal of the finder
-    /// is handed on.
+    /// Returns the next half match, as `try_advance` does a match; any half match at the end of the
+    /// last one is thrown away. Errors and conditions are those of `try_advance`.
     pub fn try_advance_half<F>(&mut self, mut finder: F) -> Result<Option<HalfMatch>, MatchError>
     where
         F: FnMut(&mut I) -> Result<Option<HalfMatch>, MatchError>,
-        requires callable { F.IsAlwaysCallable finder }
-        requires inside { StaysInside (finder_of F.FnMut I.state) end_of_half }
-        ensures { (last : F) × Advances (finder_of F.FnMut I.state) end_of_half IsAtLast
-            finder last self.old result self.new }
+        requires finder { IsHalfMatchFinder F.FnMut I.state finder }
+        ensures next { GivesNextHalfMatch F.FnMut I.state finder self.old result self.new }
     {
         self.advance_half_by(&mut finder)
     }
@@ -133,11 +141,10 @@ impl<I: Searched> Searcher<I> {
     fn advance_half_by<F>(&mut self, finder: &mut F) -> Result<Option<HalfMatch>, MatchError>
     where
         F: FnMut(&mut I) -> Result<Option<HalfMatch>, MatchError>,
-        requires callable { F.IsAlwaysCallable finder.old }
-        requires inside { StaysInside (finder_of F.FnMut I.state) end_of_half }
-        ensures callable { F.IsAlwaysCallable finder.new }
-        ensures advances { Advances (finder_of F.FnMut I.state) end_of_half IsAtLast
-            finder.old finder.new self.old result self.new }
+        requires finder { IsHalfMatchFinder F.FnMut I.state finder.old }
+        ensures finder { IsHalfMatchFinder F.FnMut I.state finder.new }
+        ensures advances { GivesHalfMatchBy F.FnMut I.state finder.old finder.new self.old result
+            self.new }
     {
         let Some(found) = finder(&mut self.input)? else {
             return Ok(None);
@@ -156,7 +163,8 @@ impl<I: Searched> Searcher<I> {
         Ok(Some(further))
     }
 
-    /// All half matches that are left, one after the other.
+    /// Returns an iterator over all half matches that are left, by a finder for which the conditions
+    /// of `try_advance` hold.
     pub fn into_half_matches_iter<F>(self, finder: F) -> TryHalfMatchesIter<I, F>
     where
         F: FnMut(&mut I) -> Result<Option<HalfMatch>, MatchError>,
@@ -230,12 +238,10 @@ where
 {
     type Item = Result<HalfMatch, MatchError>;
 
-    ghost can_next = { λ it. F.IsAlwaysCallable it.finder
-        × StaysInside (finder_of F.FnMut I.state) end_of_half
+    ghost can_next = { λ it. IsHalfMatchFinder F.FnMut I.state it.finder
         × (it.is_over ≡ false → StandsAtLast it.searcher) };
 
-    ghost next_gives = { λ it item left. GivesItem (λ r.
-        Advances (finder_of F.FnMut I.state) end_of_half IsAtLast
+    ghost next_gives = { λ it item left. GivesItem (λ r. GivesHalfMatchBy F.FnMut I.state
         it.finder left.finder it.searcher r left.searcher) it.is_over item left.is_over };
 
     ghost remaining = { λ it. half_matches_left it.searcher it.is_over };

@@ -42,28 +42,28 @@ impl LookAround {
         }
     }
 
-    /// The bytes.
+    /// Returns the bytes.
     pub fn bytes(&self) -> &[u8]
         ensures { result.now ≡ self.now.bytes }
     {
         &self.bytes[..self.len]
     }
 
-    /// How many of them stand before the place.
+    /// Returns how many of them stand before the place.
     pub fn position(&self) -> usize
         ensures { result ≡ self.now.position }
     {
         self.position
     }
 
-    /// The bytes before the place.
+    /// Returns the bytes before the place.
     pub fn before(&self) -> &[u8]
         ensures { result.now ≡ take self.now.position self.now.bytes }
     {
         &self.bytes[..self.position]
     }
 
-    /// The bytes behind the place.
+    /// Returns the bytes behind the place.
     pub fn after(&self) -> &[u8]
         ensures { result.now ≡ drop self.now.position self.now.bytes }
     {

@@ -26,7 +26,7 @@ pass-requires g c =
     let tells = finder_of g.F.FnMut g.I.Searched.state in
     let m : SearcherState = record { input = g.I.Searched.state c.self.inside.input; last_match_end = c.self.inside.last_match_end } in
     let told : tells c.args.finder.now c.finder.new.self m.input (Ok c.in_ok-found.field-0) (g.I.Searched.state c.finder.new.arg2) = (c.self.inside.input, c.finder.new.arg2, Called-Mut g.F.FnMut c.in_ok-found.ensures, refl, refl) in
-    let ends = may_start tells end_of_half c.args.finder.now c.finder.new.self m.input (g.I.Searched.state c.finder.new.arg2) c.in_ok-found.field-0 c.in-Some.found c.requires.inside told c.in-Some.is in
+    let ends = may_start tells end_of_half c.args.finder.now c.finder.new.self m.input (g.I.Searched.state c.finder.new.arg2) c.in_ok-found.field-0 c.in-Some.found c.requires.finder.inside told c.in-Some.is in
     omega (arith, ends.before_end, c.offset-end.ensures)
 
 pub returns-then-not-is_at_last-clause-advances : goal.returns-then-not-is_at_last-clause-advances
@@ -43,7 +43,7 @@ step-requires-clause-inside g c =
     let tells = finder_of g.F.FnMut g.I.Searched.state in
     let m : SearcherState = record { input = g.I.Searched.state c.self.inside.input; last_match_end = c.self.inside.last_match_end } in
     let told : tells c.args.finder.now c.finder.new.self m.input (Ok c.in_ok-found.field-0) (g.I.Searched.state c.finder.new.arg2) = (c.self.inside.input, c.finder.new.arg2, Called-Mut g.F.FnMut c.in_ok-found.ensures, refl, refl) in
-    let ends = may_start tells end_of_half c.args.finder.now c.finder.new.self m.input (g.I.Searched.state c.finder.new.arg2) c.in_ok-found.field-0 c.in-Some.found c.requires.inside told c.in-Some.is in
+    let ends = may_start tells end_of_half c.args.finder.now c.finder.new.self m.input (g.I.Searched.state c.finder.new.arg2) c.in_ok-found.field-0 c.in-Some.found c.requires.finder.inside told c.in-Some.is in
     omega (arith, ends.behind_start, ends.before_end)
 
 pub step-requires-clause-fits : goal.step-requires-clause-fits
@@ -51,7 +51,7 @@ step-requires-clause-fits g c =
     let tells = finder_of g.F.FnMut g.I.Searched.state in
     let m : SearcherState = record { input = g.I.Searched.state c.self.inside.input; last_match_end = c.self.inside.last_match_end } in
     let told : tells c.args.finder.now c.finder.new.self m.input (Ok c.in_ok-found.field-0) (g.I.Searched.state c.finder.new.arg2) = (c.self.inside.input, c.finder.new.arg2, Called-Mut g.F.FnMut c.in_ok-found.ensures, refl, refl) in
-    let ends = may_start tells end_of_half c.args.finder.now c.finder.new.self m.input (g.I.Searched.state c.finder.new.arg2) c.in_ok-found.field-0 c.in-Some.found c.requires.inside told c.in-Some.is in
+    let ends = may_start tells end_of_half c.args.finder.now c.finder.new.self m.input (g.I.Searched.state c.finder.new.arg2) c.in_ok-found.field-0 c.in-Some.found c.requires.finder.inside told c.in-Some.is in
     omega (arith, ends.behind_start, ends.fits)
 
 pub returns-in_err-further-clause-advances : goal.returns-in_err-further-clause-advances
@@ -75,7 +75,7 @@ pub pass-requires-2 : goal.pass-requires-2
 pass-requires-2 g c =
     let tells = finder_of g.F.FnMut g.I.Searched.state in
     let second : tells c.finder.new.self c.finder-2.new.self c.step.new.self.input (Ok c.in_ok-further.field-0) (g.I.Searched.state c.finder-2.new.arg2) = (c.self-2.inside.input, c.finder-2.new.arg2, Called-Mut g.F.FnMut c.in_ok-further.ensures, ap (λ s. s.input) c.self-2.view_is, refl) in
-    let ends = may_start tells end_of_half c.finder.new.self c.finder-2.new.self c.step.new.self.input (g.I.Searched.state c.finder-2.new.arg2) c.in_ok-further.field-0 c.in-Some-2.further c.requires.inside second c.in-Some-2.is in
+    let ends = may_start tells end_of_half c.finder.new.self c.finder-2.new.self c.step.new.self.input (g.I.Searched.state c.finder-2.new.arg2) c.in_ok-further.field-0 c.in-Some-2.further c.requires.finder.inside second c.in-Some-2.is in
     omega (arith, ends.before_end, c.offset-end_further.ensures)
 
 pub returns-clause-advances : goal.returns-clause-advances

@@ -20,12 +20,12 @@ returns-in-Ok-Some-clause-goes g c =
     let p = c.args.self.now.finder in
     let q = c.advance_half_by.new.finder in
     let a = c.in-Ok-Some.found in
-    let stands = c.requires.2 c.if-self.false in
+    let stands = c.requires.1 c.if-self.false in
     let advances = rw c.in-Ok-Some.field-0-is at c.in-Ok-Some.ensures.advances in
-    let fewer = half_fewer tells p q old new a c.requires.1 stands advances in
+    let fewer = half_fewer tells p q old new a c.requires.0.inside stands advances in
     record {
-      on = λ _. ((c.in-Ok-Some.ensures.callable, c.requires.1, λ _. half_stands tells p q old new a c.requires.1 stands advances), tt, subst (λ b. size (half_matches_left new b) < size (half_matches_left old b)) (sym c.if-self.false) fewer);
-      keeps = (c.in-Ok-Some.ensures.callable, c.requires.1, λ _. half_stands tells p q old new a c.requires.1 stands advances);
+      on = λ _. ((c.in-Ok-Some.ensures.finder, λ _. half_stands tells p q old new a c.requires.0.inside stands advances), tt, subst (λ b. size (half_matches_left new b) < size (half_matches_left old b)) (sym c.if-self.false) fewer);
+      keeps = (c.in-Ok-Some.ensures.finder, λ _. half_stands tells p q old new a c.requires.0.inside stands advances);
       rests = λ _. tt;
     }
 
@@ -42,7 +42,7 @@ returns-in-Err-clause-goes g c =
     let old = c.args.self.now.searcher in
     let new = c.advance_half_by.new.self in
     record {
-      on = λ _. ((c.in-Err.ensures.callable, c.requires.1, λ goes_on. absurd (cc goes_on)), tt, subst (λ b. size (half_matches_left new true) < size (half_matches_left old b)) (sym c.if-self.false) (some_left old new));
-      keeps = (c.in-Err.ensures.callable, c.requires.1, λ goes_on. absurd (cc goes_on));
+      on = λ _. ((c.in-Err.ensures.finder, λ goes_on. absurd (cc goes_on)), tt, subst (λ b. size (half_matches_left new true) < size (half_matches_left old b)) (sym c.if-self.false) (some_left old new));
+      keeps = (c.in-Err.ensures.finder, λ goes_on. absurd (cc goes_on));
       rests = λ _. tt;
     }
