@@ -1,5 +1,5 @@
 -- Bytes before which no match begins: which they are, and that they may be skipped.
-use Rattle.std.proofs.Common.{inl, inr, ◌≡◌, ◌⊎◌, ℕ, zero, suc, ◌+◌, ◌-◌, ◌<◌, ◌≤◌, Bool, true, false, ◌&&◌, eqb, IsTrue, Contains, List, [], ◌∷◌, ◌++◌, map, length, take, drop, min, replicate, get_or, Option, Some, None, slice_get, slice_index, refl, sym, ap, ap₂, subst, ◌∙◌, arith}
+use Rattle.std.proofs.Common.{inl, inr, ◌≡◌, ◌⊎◌, ℕ, zero, suc, ◌+◌, ◌-◌, ◌<◌, ◌≤◌, Bool, true, false, ◌&&◌, eqb, IsTrue, Contains, List, [], ◌∷◌, ◌++◌, map, length, take, drop, min, replicate, get_or, Option, Some, None, slice_get, slice_index, IsSomeAnd, refl, sym, ap, ap₂, subst, ◌∙◌, arith}
 use Rattle.std.proofs.lemmas.List.{get_or-take, get_or-drop, length-take, length-drop}
 use Rattle.std.proofs.lemmas.List.Elements.{All-nil}
 use Rattle.std.proofs.lemmas.Bool.{eqb-true}
@@ -123,11 +123,11 @@ same_node a b e = ap₂ (λ x y. (x, y)) (eqb-true a.0 b.0 (first_of (eqb a.0 b.
     second_of false y f = absurd (cc f)
 
 -- one thread, at this node
-pub alone : (threads : List Thread) (a b : ℕ × ℕ) (is_same : Bool) → length threads ≡ 1 → ((x : Thread) → a ≡ (get_or threads 0 x).1) → is_same ≡ (eqb a.0 b.0 && eqb a.1 b.1) → is_same ≡ true
+pub alone : (threads : List Thread) (a b : ℕ × ℕ) (is_same : Bool) → length threads ≡ 1 → IsSomeAnd (slice_get threads 0) (λ t. a ≡ t.1) → is_same ≡ (eqb a.0 b.0 && eqb a.1 b.1) → is_same ≡ true
     → (slots : Slots) × (threads ≡ (slots, b) ∷ [])
 alone [] a b is_same len node told is = absurd (omega (arith, len))
 alone ((slots, q) ∷ []) a b is_same len node told is =
-    let here : q ≡ b = sym (node (slots, q)) ∙ same_node a b (sym told ∙ is) in
+    let here : q ≡ b = sym node ∙ same_node a b (sym told ∙ is) in
     (slots, ap (λ r. (slots, r) ∷ []) here)
 alone (x ∷ y ∷ threads) a b is_same len node told is = absurd (omega (arith, len))
 

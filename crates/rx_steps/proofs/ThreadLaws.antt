@@ -1,7 +1,8 @@
 -- Threads that come one after another, and slots that are put back.
-use Rattle.std.proofs.Common.{◌≡◌, ℕ, zero, suc, ◌+◌, ◌*◌, ◌<◌, ◌≤◌, List, [], ◌∷◌, ◌++◌, length, take, drop, set, get_or, Option, Some, None, slice_get, refl, sym, ap, ap₂, subst, ◌∙◌, arith}
+use Rattle.std.proofs.Common.{◌≡◌, ℕ, zero, suc, ◌+◌, ◌*◌, ◌<◌, ◌≤◌, List, [], ◌∷◌, ◌++◌, length, take, drop, set, get_or, Option, Some, None, slice_get, IsSomeAnd, refl, sym, ap, ap₂, subst, ◌∙◌, arith}
 use Rattle.std.proofs.Math.Nat.{suc-mul}
 use Rattle.std.proofs.lemmas.List.{drop-drop}
+use Rattle.std.proofs.lemmas.Option.{slice_get-get_or}
 use Rattle.rx_steps.specs.Threads.{Slots, Thread, no_slots, threads_of}
 use Rattle.rx_steps.specs.Alike.{AreBare}
 
@@ -113,10 +114,27 @@ one_left (y ∷ xs) (suc n) x d lt e = one_left xs n x d (omega (arith, lt)) e
 this : (x d : Thread) (slots : Slots) (q : ℕ × ℕ) → slots ≡ x.0 → q ≡ x.1 → x ≡ (slots, q)
 this x d slots q e f = sym (ap₂ (λ s r. (s, r)) e f)
 
+-- what is known of the thread at an index, of its slots and of its node
+slots_of : (xs : List Thread) (n : ℕ) (slots : Slots) → n < length xs → IsSomeAnd (slice_get xs n) (λ t. slots ≡ t.0) → (d : Thread) → slots ≡ (get_or xs n d).0
+slots_of xs n slots lt h d = subst (λ o. IsSomeAnd o (λ t. slots ≡ t.0)) (slice_get-get_or xs n d lt) h
+
+pub node_of : (xs : List Thread) (n : ℕ) (q : ℕ × ℕ) → n < length xs → IsSomeAnd (slice_get xs n) (λ t. q ≡ t.1) → (d : Thread) → q ≡ (get_or xs n d).1
+node_of xs n q lt h d = subst (λ o. IsSomeAnd o (λ t. q ≡ t.1)) (slice_get-get_or xs n d lt) h
+
+pub has_slots : (xs : List Thread) (n : ℕ) (slots : Slots) → n < length xs → ((d : Thread) → slots ≡ (get_or xs n d).0) → IsSomeAnd (slice_get xs n) (λ t. slots ≡ t.0)
+has_slots xs n slots lt e =
+    let d : Thread = (slots, (0, 0)) in
+    subst (λ o. IsSomeAnd o (λ t. slots ≡ t.0)) (sym (slice_get-get_or xs n d lt)) (e d)
+
+pub has_node : (xs : List Thread) (n : ℕ) (q : ℕ × ℕ) → n < length xs → ((d : Thread) → q ≡ (get_or xs n d).1) → IsSomeAnd (slice_get xs n) (λ t. q ≡ t.1)
+has_node xs n q lt e =
+    let d : Thread = ([], q) in
+    subst (λ o. IsSomeAnd o (λ t. q ≡ t.1)) (sym (slice_get-get_or xs n d lt)) (e d)
+
 -- the first of the threads from one on
-pub first_after : (xs : List Thread) (n : ℕ) (slots : Slots) (q : ℕ × ℕ) → n < length xs → ((d : Thread) → slots ≡ (get_or xs n d).0) → ((d : Thread) → q ≡ (get_or xs n d).1)
+pub first_after : (xs : List Thread) (n : ℕ) (slots : Slots) (q : ℕ × ℕ) → n < length xs → IsSomeAnd (slice_get xs n) (λ t. slots ≡ t.0) → IsSomeAnd (slice_get xs n) (λ t. q ≡ t.1)
     → drop n xs ≡ (slots, q) ∷ drop (n + 1) xs
 first_after xs n slots q lt e f =
     let d : Thread = (slots, q) in
     let more : suc n ≡ n + 1 = omega arith in
-    one_left xs n (slots, q) d lt (this (get_or xs n d) d slots q (e d) (f d)) ∙ ap (λ k. (slots, q) ∷ drop k xs) more
+    one_left xs n (slots, q) d lt (this (get_or xs n d) d slots q (slots_of xs n slots lt e d) (node_of xs n q lt f d)) ∙ ap (λ k. (slots, q) ∷ drop k xs) more

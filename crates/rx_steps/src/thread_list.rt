@@ -1,7 +1,7 @@
 //! The threads at a place, in order of preference.
 
-ghost use Rattle.std.specs.Prelude.{◌≡◌, ◌+◌, ◌*◌, ◌<◌, ◌≤◌, ◌++◌, ◌∷◌, [], length, take, drop, get_or, OnErr, OnOk};
-ghost use Rattle.rx_steps.specs.Threads.{Thread, no_slots, threads_of};
+ghost use Rattle.std.specs.Prelude.{◌≡◌, ◌+◌, ◌*◌, ◌<◌, ◌≤◌, ◌++◌, ◌∷◌, [], length, take, drop, slice_get, IsSomeAnd, OnErr, OnOk};
+ghost use Rattle.rx_steps.specs.Threads.{no_slots, threads_of};
 ghost use Rattle.rx_steps.specs.Alike.{AreBare};
 
 use crate::node::Node;
@@ -134,7 +134,7 @@ impl ThreadList {
     #[inline(always)]
     pub fn node(&self, index: usize) -> Node
         requires { index < length self.now.threads }
-        ensures { (x : Thread) → result ≡ (get_or self.now.threads index x).1 }
+        ensures { IsSomeAnd (slice_get self.now.threads index) (λ thread. result ≡ thread.1) }
     {
         self.nodes[index]
     }
@@ -143,7 +143,8 @@ impl ThreadList {
     #[inline(always)]
     pub fn slots(&self, index: usize) -> &[Option<NonMaxUsize>]
         requires { index < length self.now.threads }
-        ensures slots { (x : Thread) → result.now ≡ (get_or self.now.threads index x).0 }
+        ensures slots { IsSomeAnd (slice_get self.now.threads index)
+            (λ thread. result.now ≡ thread.0) }
         ensures len { length result.now ≡ self.now.slot_len }
     {
         part(&self.slots, self.slot_len, index)
