@@ -1,3 +1,4 @@
 pub mod Engines
 pub mod Iterating
 pub mod FindMatches
+pub mod Searches

@@ -12,16 +12,14 @@ ghost use Rattle.rx_grammar.specs.Settings.{default_settings};
 ghost use Rattle.rx_grammar.specs.Subtrees.{IsWellFormed, a_group};
 ghost use Rattle.rx_grammar.specs.Nodes.{kind_of};
 ghost use Rattle.rx_grammar.specs.Postorder.{own_names, tree_of};
-ghost use Rattle.rx_input.specs.Cursors.{IsSameContent};
-ghost use Rattle.rx_steps.specs.Nodes.{node_count};
-ghost use Rattle.rx_steps.specs.Searching.{search_of, IsAnswerAt, IsFirstEnd};
+ghost use Rattle.rx_steps.specs.Searching.{IsAnswerAt, IsFirstEnd};
 ghost use Rattle.rx_steps.specs.Standing.{StopsAt};
 ghost use Rattle.rx_steps.specs.Threads.{no_slots};
-ghost use Rattle.rx_steps.specs.Caches.{place_count, IsCacheOf};
-ghost use Rattle.rx_chunk.specs.Engines.{EngineSettings, nothing_set, settings_over, size_limit_of, AreNamesOf, IsEngine, IsBuiltOf, IsRefused, TellsMatch, TellsSlots, TellsWhether, IsFoundAt, refusal_of, by_default, AreGroupsOf};
+ghost use Rattle.rx_steps.specs.Caches.{IsCacheOf};
+ghost use Rattle.rx_chunk.specs.Engines.{EngineSettings, nothing_set, settings_over, size_limit_of, AreNamesOf, IsEngine, IsBuiltOf, IsRefused, TellsWhether, IsFoundAt, refusal_of, by_default, AreGroupsOf};
 ghost use Rattle.rx_chunk.specs.Iterating.{EndsAhead, HasNotedNext, IsFoundNext, StartsFrom, matches_from};
-ghost use Rattle.rx_input.specs.Searchers.{EndsInside};
 ghost use Rattle.rx_chunk.specs.FindMatches.{cache_of, left_of, program_of};
+ghost use Rattle.rx_chunk.specs.Searches.{AsksTheSame, HoldsMatches, ServesOn, StopsInTime, TellsMatch, TellsSlots, TellsSlotsAt, TellsWhole, search_by};
 
 use rx_grammar::{Hir, Node, SyntaxError, parse, syntax};
 use rx_input::{Cursor, Input};
@@ -69,7 +67,7 @@ impl Model for Config {
 }
 
 impl Config {
-    /// Nothing is set.
+    /// Returns settings of which none is set.
     pub fn new() -> Config
         ensures { result ≡ nothing_set }
     {
@@ -115,28 +113,28 @@ impl Config {
         self
     }
 
-    /// Which of all matches a search finds: by default the leftmost one.
+    /// Returns which of all matches a search finds: by default the leftmost one.
     pub fn get_match_kind(&self) -> MatchKind
         ensures { result ≡ unwrap_or self.now.match_kind MatchKind.LeftmostFirst }
     {
         self.match_kind.unwrap_or(MatchKind::LeftmostFirst)
     }
 
-    /// Whether empty matches inside a character are passed over: by default they are.
+    /// Returns whether empty matches inside a character are passed over: by default they are.
     pub fn get_utf8_empty(&self) -> bool
         ensures { result ≡ unwrap_or self.now.utf8_empty true }
     {
         self.utf8_empty.unwrap_or(true)
     }
 
-    /// The byte at which lines end for `^` and `$` under `(?m)`: by default LF.
+    /// Returns the byte at which lines end for `^` and `$` under `(?m)`: by default LF.
     pub fn get_line_terminator(&self) -> u8
         ensures { result ≡ unwrap_or self.now.line_terminator 10 }
     {
         self.line_terminator.unwrap_or(b'\n')
     }
 
-    /// How large a program may be: by default without a limit.
+    /// Returns how large a program may be: by default without a limit.
     pub fn get_nfa_size_limit(&self) -> Option<usize>
         ensures { result ≡ size_limit_of self.now }
     {
@@ -180,7 +178,7 @@ impl Model for Builder {
 }
 
 impl Builder {
-    /// Nothing is set.
+    /// Returns a builder in which nothing is set.
     pub fn new() -> Builder
         ensures { result ≡ record { settings = nothing_set; syntax = default_settings } }
     {
@@ -210,12 +208,13 @@ impl Builder {
         self
     }
 
-    /// The engine for a pattern. There is none for a pattern of more than 65,536 bytes (`TooLong`),
-    /// one that would be a pattern at a greater nest limit (`Nesting`), one outside the grammar
-    /// (`Outside`), and one that is too large for the limit that is set, or, where none is, weighs
-    /// more than 2,147,483,646 (`Size`). `Memory` may be told in place of the engine and of each
-    /// refusal but the first. It takes time and memory in proportion to the pattern's weight and to
-    /// the automata of its sets.
+    /// Returns the engine for a pattern. It takes time and memory in proportion to the pattern's
+    /// weight and to the automata of its sets.
+    ///
+    /// Errors: `TooLong` for a pattern of more than 65,536 bytes, `Nesting` for one that would be a
+    /// pattern at a greater nest limit, `Outside` for one outside the grammar, and `Size` for one
+    /// that is too large for the limit that is set, or, where none is, weighs more than
+    /// 2,147,483,646. `Memory` may come in place of the engine and of each error but the first.
     pub fn build(&self, alloc: Global, pattern: &str) -> Result<PikeVM, BuildError>
         ensures built { IfOk result (λ vm. IsBuiltOf pattern.now self.now vm) }
         ensures refused { IfErr result (λ error. IsRefused pattern.now self.now error) }
@@ -350,7 +349,8 @@ impl Model for PikeVM {
 }
 
 impl PikeVM {
-    /// The engine for a pattern, under default settings, and refused as by `Builder::build`.
+    /// Returns the engine for a pattern, under default settings. Errors are those of
+    /// `Builder::build`.
     pub fn new(alloc: Global, pattern: &str) -> Result<PikeVM, BuildError>
         ensures built { IfOk result (λ vm. IsBuiltOf pattern.now by_default vm) }
         ensures refused { IfErr result (λ error. IsRefused pattern.now by_default error) }
@@ -358,7 +358,7 @@ impl PikeVM {
         Builder::new().build(alloc, pattern)
     }
 
-    /// The same engine, which shares program and groups. The one refusal is `Memory`. `O(1)`.
+    /// Returns the same engine, which shares program and groups. The one error is `Memory`. `O(1)`.
     pub fn clone(&self) -> Result<PikeVM, MatchError>
         ensures same { IfOk result (λ vm. vm ≡ self.now) }
         ensures refused { IfErr result (λ error. error ≡ MatchError.Memory) }
@@ -370,8 +370,8 @@ impl PikeVM {
         })
     }
 
-    /// A cache for searches with it. The one refusal is `Memory`. It takes memory in proportion to
-    /// the program's states and those of their automata.
+    /// Returns a cache for searches with it, which takes memory in proportion to the program's
+    /// states and those of their automata. The one error is `Memory`.
     pub fn create_cache(&self) -> Result<Cache, MatchError>
         ensures made { IfOk result (λ cache. IsCacheOf self.now.program cache) }
         ensures refused { IfErr result (λ error. error ≡ MatchError.Memory) }
@@ -379,8 +379,8 @@ impl PikeVM {
         Cache::new(self.program.allocator(), self)
     }
 
-    /// Captures with slots for all groups, in which nothing is noted. The one refusal is `Memory`.
-    /// `O(n)` in the number of groups.
+    /// Returns captures with slots for all groups, in which nothing is noted. The one error is
+    /// `Memory`. `O(n)` in the number of groups.
     pub fn create_captures(&self) -> Result<Captures, MatchError>
         ensures made { IfOk result (λ caps. caps
             ≡ nothing_noted self.now.groups (slot_len self.now.groups)) }
@@ -390,7 +390,7 @@ impl PikeVM {
         Captures::all(self.program.allocator(), &self.groups)
     }
 
-    /// The groups of its pattern. `O(1)`.
+    /// Returns the groups of its pattern. `O(1)`.
     pub fn group_info(&self) -> &GroupInfo
         ensures groups { result.now ≡ self.now.groups }
         ensures engine { IsEngine self.now }
@@ -398,7 +398,7 @@ impl PikeVM {
         &self.groups
     }
 
-    /// The program that it searches for, for the engines that search by it too. `O(1)`.
+    /// Returns the program that it searches for, for the engines that search by it too. `O(1)`.
     pub fn program(&self) -> &Program
         ensures { result.now ≡ self.now.program }
     {
@@ -422,7 +422,7 @@ impl Model for Cache {
 }
 
 impl Cache {
-    /// A cache for searches with an engine, as by `create_cache`.
+    /// Returns a cache for searches with an engine, as `create_cache` does.
     pub fn new(alloc: Global, vm: &PikeVM) -> Result<Cache, MatchError>
         ensures made { IfOk result (λ cache. IsCacheOf vm.now.program cache) }
         ensures refused { IfErr result (λ error. error ≡ MatchError.Memory) }
@@ -432,7 +432,8 @@ impl Cache {
         })
     }
 
-    /// A cache for the same engine, which knows what this one knows. The one refusal is `Memory`.
+    /// Returns a cache for the same engine, which knows what this one knows. The one error is
+    /// `Memory`.
     pub fn clone(&self) -> Result<Cache, MatchError>
         ensures same { IfOk result (λ cache. cache ≡ record self.now { followed = 0 }) }
         ensures refused { IfErr result (λ error. error ≡ MatchError.Memory) }
@@ -442,8 +443,8 @@ impl Cache {
         })
     }
 
-    /// Makes the cache one for searches with this engine. The one refusal is `Memory`; the cache is
-    /// then as it was.
+    /// Makes the cache one for searches with this engine. The one error is `Memory`, which leaves the
+    /// cache as it was.
     pub fn reset(&mut self, vm: &PikeVM) -> Result<(), MatchError>
         ensures made { OnOk result (IsCacheOf vm.now.program self.new) }
         ensures kept { OnErr result (self.new ≡ self.old) }
@@ -452,21 +453,23 @@ impl Cache {
         self.room.reset(&vm.program)
     }
 
-    /// About how many bytes its lists take: a count that no contract fixes.
+    /// Returns about how many bytes its lists take: a count that no contract fixes.
     pub fn memory_usage(&self) -> usize {
         self.room.memory_usage()
     }
 }
 
-/// Searches: answers the pattern of the match that is found, and puts its places into the slots, as
-/// many as there are; all others hold none. Those of group k are 2k and 2k + 1. Where `earliest` of
-/// the input is set, it stops at the first end of a match, and tells whether there is one: what is
-/// in the slots is what is found up to there. The cache must be one for the engine. The one refusal
-/// is `Memory`: then no slot holds a place.
+/// Returns the pattern of the match that is found, if there is one, and puts its places into the
+/// slots, as many as there are; all others hold none. Those of group k are 2k and 2k + 1. Where
+/// `earliest` of the input is set, it stops at the first end of a match: what is in the slots is
+/// what is found up to there. The input asks for the same afterwards.
+///
+/// The one error is `Memory`: then no slot holds a place. Requires that the cache is one for the
+/// engine, as it is afterwards too.
 ///
 /// It stops where a match is found and no walk is left to follow. It follows each node of the
-/// program once at most at each place (`work`), which takes time in proportion to the program times
-/// the content times the slots.
+/// program once at most at each place (`serves`), which takes time in proportion to the program
+/// times the content times the slots.
 pub fn search_slots<C: Cursor>(
     vm: &PikeVM,
     cache: &mut Cache,
@@ -474,19 +477,14 @@ pub fn search_slots<C: Cursor>(
     slots: &mut [Option<NonMaxUsize>],
 ) -> Result<Option<PatternID>, MatchError>
     requires made { IsCacheOf vm.now.program cache.old }
-    ensures answer { IfOk result (λ pattern. TellsSlots input.old.asked.earliest vm.now.program
-        (search_of vm.now.utf8_empty input.old) pattern slots.new) }
-    ensures answer_at { IfOk result (λ pattern. IsAnswerAt input.old.asked.earliest vm.now.program
-        (search_of vm.now.utf8_empty input.old) input.new.position pattern slots.new) }
-    ensures stops { IfOk result (λ pattern. ForSome pattern (λ _. StopsAt
-        input.old.asked.earliest vm.now.program (search_of vm.now.utf8_empty input.old)
-        input.new.position)) }
+    ensures answer { IfOk result (λ pattern. TellsSlots vm.now input.old pattern slots.new) }
+    ensures answer_at { IfOk result
+        (λ pattern. TellsSlotsAt vm.now input.old input.new.position pattern slots.new) }
+    ensures stops { IfOk result
+        (λ pattern. ForSome pattern (λ _. StopsInTime vm.now input.old input.new.position)) }
     ensures none { OnErr result (slots.new ≡ no_slots (length slots.new)) }
-    ensures made { IsCacheOf vm.now.program cache.new }
-    ensures work { cache.new.followed ≤ cache.old.followed
-        + node_count vm.now.program * place_count (search_of vm.now.utf8_empty input.old) }
-    ensures asked { input.new.asked ≡ input.old.asked }
-    ensures same { IsSameContent input.old.cursor input.new.cursor }
+    ensures serves { ServesOn vm.now input.old cache.old cache.new }
+    ensures asks { AsksTheSame input.old input.new }
     ensures refused { IfErr result (λ error. error ≡ MatchError.Memory) }
 {
     // A law, for the proof alone.
@@ -505,24 +503,21 @@ fn seek<C: Cursor>(
 ) -> Result<Option<PatternID>, MatchError>
     requires made { IsCacheOf vm.now.program cache.old }
     ensures answer { IfOk result (λ pattern. IsAnswerAt earliest vm.now.program
-        (search_of vm.now.utf8_empty input.old) input.new.position pattern slots.new) }
+        (search_by vm.now input.old) input.new.position pattern slots.new) }
     ensures stops { IfOk result (λ pattern. ForSome pattern (λ _. StopsAt earliest vm.now.program
-        (search_of vm.now.utf8_empty input.old) input.new.position)) }
+        (search_by vm.now input.old) input.new.position)) }
     ensures none { OnErr result (slots.new ≡ no_slots (length slots.new)) }
-    ensures made { IsCacheOf vm.now.program cache.new }
-    ensures work { cache.new.followed ≤ cache.old.followed
-        + node_count vm.now.program * place_count (search_of vm.now.utf8_empty input.old) }
-    ensures asked { input.new.asked ≡ input.old.asked }
-    ensures same { IsSameContent input.old.cursor input.new.cursor }
+    ensures serves { ServesOn vm.now input.old cache.old cache.new }
+    ensures asks { AsksTheSame input.old input.new }
     ensures refused { IfErr result (λ error. error ≡ MatchError.Memory) }
 {
     let room = &mut cache.room;
     search::search_slots(&vm.program, room, input, vm.utf8_empty, earliest, slots)
 }
 
-/// Searches, and notes what is found, as `search_slots` does. In captures that the engine made, or
-/// others of its groups with two slots and more, group 0 is then the whole match. The one refusal
-/// is `Memory`: then no pattern is noted, and no slot holds a place.
+/// Notes what is found in captures, as `search_slots` does in slots, and under its condition. In
+/// captures that the engine made, or others of its groups with two slots and more, group 0 is then
+/// the whole match. The one error is `Memory`: then no pattern is noted, and no slot holds a place.
 pub fn search<C: Cursor>(
     vm: &PikeVM,
     cache: &mut Cache,
@@ -530,27 +525,18 @@ pub fn search<C: Cursor>(
     caps: &mut Captures,
 ) -> Result<(), MatchError>
     requires made { IsCacheOf vm.now.program cache.old }
-    ensures answer { OnOk result (TellsSlots input.old.asked.earliest vm.now.program
-        (search_of vm.now.utf8_empty input.old) caps.new.pattern caps.new.slots) }
-    ensures found { OnOk result (caps.old.groups ≡ vm.now.groups → 2 ≤ length caps.old.slots
-        → TellsMatch input.old.asked.earliest vm.now.program
-        (search_of vm.now.utf8_empty input.old) (match_found caps.new)) }
-    ensures ordered { OnOk result (caps.old.groups ≡ vm.now.groups → 2 ≤ length caps.old.slots
-        → ForSome (group_span caps.new 0) (λ span. span.start ≤ span.end)) }
-    ensures inside { OnOk result (caps.old.groups ≡ vm.now.groups → 2 ≤ length caps.old.slots
-        → ForSome (match_found caps.new) (λ found. EndsInside input.old found.span.end)) }
-    ensures stops { OnOk result (ForSome caps.new.pattern (λ _. StopsAt
-        input.old.asked.earliest vm.now.program (search_of vm.now.utf8_empty input.old)
-        input.new.position)) }
+    ensures answer { OnOk result
+        (TellsSlots vm.now input.old caps.new.pattern caps.new.slots) }
+    ensures whole { HoldsMatches vm.now caps.old
+        → OnOk result (TellsWhole vm.now input.old caps.new) }
+    ensures stops { OnOk result
+        (ForSome caps.new.pattern (λ _. StopsInTime vm.now input.old input.new.position)) }
     ensures groups { caps.new.groups ≡ caps.old.groups }
     ensures slot_len { length caps.new.slots ≡ length caps.old.slots }
     ensures no_answer { OnErr result (caps.new.pattern ≡ None) }
     ensures none { OnErr result (caps.new.slots ≡ no_slots (length caps.new.slots)) }
-    ensures made { IsCacheOf vm.now.program cache.new }
-    ensures work { cache.new.followed ≤ cache.old.followed
-        + node_count vm.now.program * place_count (search_of vm.now.utf8_empty input.old) }
-    ensures asked { input.new.asked ≡ input.old.asked }
-    ensures same { IsSameContent input.old.cursor input.new.cursor }
+    ensures serves { ServesOn vm.now input.old cache.old cache.new }
+    ensures asks { AsksTheSame input.old input.new }
     ensures refused { IfErr result (λ error. error ≡ MatchError.Memory) }
 {
     // Laws, for the proof alone.
@@ -573,19 +559,16 @@ fn note<C: Cursor>(
 ) -> Result<(), MatchError>
     requires made { IsCacheOf vm.now.program cache.old }
     ensures answer { OnOk result (IsAnswerAt earliest vm.now.program
-        (search_of vm.now.utf8_empty input.old) input.new.position caps.new.pattern
+        (search_by vm.now input.old) input.new.position caps.new.pattern
         caps.new.slots) }
     ensures stops { OnOk result (ForSome caps.new.pattern (λ _. StopsAt earliest vm.now.program
-        (search_of vm.now.utf8_empty input.old) input.new.position)) }
+        (search_by vm.now input.old) input.new.position)) }
     ensures groups { caps.new.groups ≡ caps.old.groups }
     ensures slot_len { length caps.new.slots ≡ length caps.old.slots }
     ensures no_answer { OnErr result (caps.new.pattern ≡ None) }
     ensures none { OnErr result (caps.new.slots ≡ no_slots (length caps.new.slots)) }
-    ensures made { IsCacheOf vm.now.program cache.new }
-    ensures work { cache.new.followed ≤ cache.old.followed
-        + node_count vm.now.program * place_count (search_of vm.now.utf8_empty input.old) }
-    ensures asked { input.new.asked ≡ input.old.asked }
-    ensures same { IsSameContent input.old.cursor input.new.cursor }
+    ensures serves { ServesOn vm.now input.old cache.old cache.new }
+    ensures asks { AsksTheSame input.old input.new }
     ensures refused { IfErr result (λ error. error ≡ MatchError.Memory) }
 {
     caps.set_pattern(None);
@@ -594,9 +577,9 @@ fn note<C: Cursor>(
     Ok(())
 }
 
-/// Whether there is a match. It stops at the first end of one. The cache must be one for the
-/// engine. The one refusal is `Memory`. It takes time in proportion to the program times the
-/// content at most.
+/// Returns whether there is a match. It stops at the first end of one, and takes time in proportion
+/// to the program times the content at most. The one error is `Memory`. Requires that the cache is
+/// one for the engine.
 pub fn is_match<C: Cursor>(
     vm: &PikeVM,
     cache: &mut Cache,
@@ -604,14 +587,11 @@ pub fn is_match<C: Cursor>(
 ) -> Result<bool, MatchError>
     requires made { IsCacheOf vm.now.program cache.old }
     ensures answer { IfOk result (λ yes. TellsWhether vm.now.program
-        (search_of vm.now.utf8_empty input.old) yes) }
+        (search_by vm.now input.old) yes) }
     ensures stops { IfOk result (λ yes. IsTrue yes → IsFirstEnd vm.now.program
-        (search_of vm.now.utf8_empty input.old) input.new.position) }
-    ensures made { IsCacheOf vm.now.program cache.new }
-    ensures work { cache.new.followed ≤ cache.old.followed
-        + node_count vm.now.program * place_count (search_of vm.now.utf8_empty input.old) }
-    ensures asked { input.new.asked ≡ input.old.asked }
-    ensures same { IsSameContent input.old.cursor input.new.cursor }
+        (search_by vm.now input.old) input.new.position) }
+    ensures serves { ServesOn vm.now input.old cache.old cache.new }
+    ensures asks { AsksTheSame input.old input.new }
     ensures refused { IfErr result (λ error. error ≡ MatchError.Memory) }
 {
     // A law, for the proof alone.
@@ -642,21 +622,19 @@ fn match_in(pattern: PatternID, slots: &[Option<NonMaxUsize>]) -> Option<Match>
     Some(Match::new(pattern, Span { start, end }))
 }
 
-/// The match that is found, as `search` notes it. The cache must be one for the engine. The one
-/// refusal is `Memory`.
+/// Returns the match that is found, as `search` notes it. The one error is `Memory`. Requires that
+/// the cache is one for the engine.
 pub fn find<C: Cursor>(
     vm: &PikeVM,
     cache: &mut Cache,
     input: &mut Input<C>,
 ) -> Result<Option<Match>, MatchError>
     requires made { IsCacheOf vm.now.program cache.old }
-    ensures answer { IfOk result (λ found. TellsMatch input.old.asked.earliest vm.now.program
-        (search_of vm.now.utf8_empty input.old) found) }
-    ensures stops { IfOk result (λ found. ForSome found (λ _. StopsAt input.old.asked.earliest
-        vm.now.program (search_of vm.now.utf8_empty input.old) input.new.position)) }
+    ensures answer { IfOk result (λ found. TellsMatch vm.now input.old found) }
+    ensures stops { IfOk result
+        (λ found. ForSome found (λ _. StopsInTime vm.now input.old input.new.position)) }
     ensures made { IsCacheOf vm.now.program cache.new }
-    ensures asked { input.new.asked ≡ input.old.asked }
-    ensures same { IsSameContent input.old.cursor input.new.cursor }
+    ensures asks { AsksTheSame input.old input.new }
     ensures refused { IfErr result (λ error. error ≡ MatchError.Memory) }
 {
     // A law, for the proof alone.
@@ -674,12 +652,11 @@ fn look_for<C: Cursor>(
 ) -> Result<Option<Match>, MatchError>
     requires made { IsCacheOf vm.now.program cache.old }
     ensures answer { IfOk result (λ found. IsFoundAt earliest vm.now.program
-        (search_of vm.now.utf8_empty input.old) input.new.position found) }
+        (search_by vm.now input.old) input.new.position found) }
     ensures stops { IfOk result (λ found. ForSome found (λ _. StopsAt earliest vm.now.program
-        (search_of vm.now.utf8_empty input.old) input.new.position)) }
+        (search_by vm.now input.old) input.new.position)) }
     ensures made { IsCacheOf vm.now.program cache.new }
-    ensures asked { input.new.asked ≡ input.old.asked }
-    ensures same { IsSameContent input.old.cursor input.new.cursor }
+    ensures asks { AsksTheSame input.old input.new }
     ensures refused { IfErr result (λ error. error ≡ MatchError.Memory) }
 {
     // Laws, for the proof alone.
@@ -704,9 +681,10 @@ fn is_empty_at_last(found: &Match, last_match_end: Option<usize>) -> bool
     found.is_empty() && last_match_end == Some(found.end())
 }
 
-/// The match that comes next where the last one, if there was one, ended at `last_match_end`: an
-/// empty match there is passed over, and the search goes on one byte further than the span starts.
-/// It is a whole match, also where `earliest` is set. The one refusal is `Memory`.
+/// Returns the match that comes next where the last one, if there was one, ended at
+/// `last_match_end`: an empty match there is passed over, and the search goes on one byte further
+/// than the span starts. It is a whole match, also where `earliest` is set. The one error is
+/// `Memory`. Requires that the cache is one for the engine.
 pub fn find_next<C: Cursor>(
     vm: &PikeVM,
     cache: &mut Cache,
@@ -715,9 +693,9 @@ pub fn find_next<C: Cursor>(
 ) -> Result<Option<Match>, MatchError>
     requires made { IsCacheOf vm.now.program cache.old }
     ensures answer { IfOk result (λ found. IsFoundNext vm.now.program
-        (search_of vm.now.utf8_empty input.old) last_match_end found) }
+        (search_by vm.now input.old) last_match_end found) }
     ensures ahead { IfOk result (λ found. ForSome found (λ m. EndsAhead last_match_end
-        (search_of vm.now.utf8_empty input.old) m.span.end)) }
+        (search_by vm.now input.old) m.span.end)) }
     ensures made { IsCacheOf vm.now.program cache.new }
     ensures same { (start : ℕ) × StartsFrom input.old input.new start }
     ensures refused { IfErr result (λ error. error ≡ MatchError.Memory) }
@@ -736,9 +714,9 @@ pub fn find_next<C: Cursor>(
     look_for(vm, cache, input, false)
 }
 
-/// Notes the match that comes next, as `find_next` finds it, with all its groups, in captures of
-/// the engine's groups with two slots or more. The one refusal is `Memory`: then no pattern is
-/// noted.
+/// Notes the match that comes next, as `find_next` finds it, with all its groups. The one error is
+/// `Memory`: then no pattern is noted. Requires that the cache is one for the engine, and the
+/// captures of its groups, with two slots or more.
 pub fn search_next<C: Cursor>(
     vm: &PikeVM,
     cache: &mut Cache,
@@ -750,11 +728,11 @@ pub fn search_next<C: Cursor>(
     requires groups { caps.old.groups ≡ vm.now.groups }
     requires slots { 2 ≤ length caps.old.slots }
     ensures answer { OnOk result (HasNotedNext vm.now.program
-        (search_of vm.now.utf8_empty input.old) last_match_end caps.new) }
+        (search_by vm.now input.old) last_match_end caps.new) }
     ensures ordered { OnOk result (ForSome (group_span caps.new 0)
         (λ span. span.start ≤ span.end)) }
     ensures ahead { OnOk result (ForSome (match_found caps.new) (λ m. EndsAhead last_match_end
-        (search_of vm.now.utf8_empty input.old) m.span.end)) }
+        (search_by vm.now input.old) m.span.end)) }
     ensures groups { caps.new.groups ≡ caps.old.groups }
     ensures slot_len { length caps.new.slots ≡ length caps.old.slots }
     ensures no_answer { OnErr result (caps.new.pattern ≡ None) }
@@ -779,15 +757,16 @@ pub fn search_next<C: Cursor>(
     note(vm, cache, input, false, caps)
 }
 
-/// The matches in an input, one after the other. An empty match where the one before ended is
-/// passed over. The cache must be one for the engine; once the iterator is dropped it serves again.
+/// Returns an iterator over the matches in an input, one after the other. An empty match where the
+/// one before ended is passed over. Requires that the cache is one for the engine; once the iterator
+/// is dropped it serves again.
 pub fn find_iter<'r, 'c, C: Cursor>(
     vm: &'r PikeVM,
     cache: &'c mut Cache,
     input: Input<C>,
 ) -> FindMatches<'r, 'c, C>
     requires made { IsCacheOf vm.now.program cache.old }
-    ensures left { left_of result ≡ matches_from (search_of vm.now.utf8_empty input) }
+    ensures left { left_of result ≡ matches_from (search_by vm.now input) }
     ensures program { program_of result ≡ vm.now.program }
     ensures same_cache { (cache_of result).ghost_name ≡ cache.entry.ghost_name }
 {

@@ -22,15 +22,15 @@ overflow_add-start g c =
     let i = c.args.input.now in
     let at = may_start c.args.vm.now.program (search_of c.args.vm.now.utf8_empty i) c.in_ok-found.field-0 c.in-Some.found c.finds_lie_inside.ensures c.in-Some.is c.in_ok-found.ensures.answer in
     let content : length i.cursor.content < 2 ^ 63 = c.position-at.ensures.holds.lawful.bound in
-    let start : c.start-start.result ≡ i.asked.span.start = c.start-start.ensures ∙ ap (λ a. a.span.start) c.in_ok-found.ensures.asked in
+    let start : c.start-start.result ≡ i.asked.span.start = c.start-start.ensures ∙ ap (λ a. a.span.start) c.in_ok-found.ensures.asks.asked in
     omega (arith, at.in_content, content, start)
 
 pub set_start-requires : goal.set_start-requires
 set_start-requires g c =
     let i = c.args.input.now in
     let at = may_start c.args.vm.now.program (search_of c.args.vm.now.utf8_empty i) c.in_ok-found.field-0 c.in-Some.found c.finds_lie_inside.ensures c.in-Some.is c.in_ok-found.ensures.answer in
-    let start : c.start-start.result ≡ i.asked.span.start = c.start-start.ensures ∙ ap (λ a. a.span.start) c.in_ok-found.ensures.asked in
-    let end : c.look_for.new.input.asked.span.end ≡ i.asked.span.end = ap (λ a. a.span.end) c.in_ok-found.ensures.asked in
+    let start : c.start-start.result ≡ i.asked.span.start = c.start-start.ensures ∙ ap (λ a. a.span.start) c.in_ok-found.ensures.asks.asked in
+    let end : c.look_for.new.input.asked.span.end ≡ i.asked.span.end = ap (λ a. a.span.end) c.in_ok-found.ensures.asks.asked in
     omega (arith, at.in_span, start, end)
 
 pub returns-clause-answer : goal.returns-clause-answer
@@ -39,12 +39,12 @@ returns-clause-answer g c =
     let b = c.args.vm.now.utf8_empty in
     let old = c.args.input.now in
     let s = search_of b old in
-    let same = same_start old c.look_for.new.input c.in_ok-found.ensures.same c.in_ok-found.ensures.asked in
+    let same = same_start old c.look_for.new.input c.in_ok-found.ensures.asks.same c.in_ok-found.ensures.asks.asked in
     let start = c.start-start.result + 1 in
     let starts : StartsFrom old c.set_start.new.self start =
     moved_on old c.look_for.new.input c.set_start.new.self same.0 start same.1 (set_to c.look_for.new.input c.set_start.new.self start c.set_start.ensures) in
     let search : search_of b c.set_start.new.self ≡ from_place_on s (s.start + 1) =
-    moved_search b old c.set_start.new.self start starts ∙ ap (λ k. from_place_on s (k + 1)) (c.start-start.ensures ∙ ap (λ a. a.span.start) c.in_ok-found.ensures.asked) in
+    moved_search b old c.set_start.new.self start starts ∙ ap (λ k. from_place_on s (k + 1)) (c.start-start.ensures ∙ ap (λ a. a.span.start) c.in_ok-found.ensures.asks.asked) in
     if_ok c.look_for-2.result
     (λ next is. passed_next p s c.args.last_match_end c.in_ok-found.field-0 c.in-Some.found next c.in-Some.is (c.is_empty_at_last.ensures.here c.if-not-is_empty_at_last.false) c.in_ok-found.ensures.answer (subst (λ x. IsFound p x next) search is))
     c.look_for-2.ensures.answer

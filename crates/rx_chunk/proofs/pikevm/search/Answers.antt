@@ -36,15 +36,15 @@ returns-clause-stops g c =
     let s = search_of c.args.vm.now.utf8_empty c.args.input.now in
     on_ok c.note.result (λ stops. subst (λ b. ForSome c.note.new.caps.pattern (λ _. StopsAt b c.args.vm.now.program s c.note.new.input.position)) c.get_earliest-earliest.ensures stops) c.note.ensures.stops
 
-pub returns-clause-found : goal.returns-clause-found
-returns-clause-found g c = on_ok c.note.result (λ is same two. (told g c same two is).tells) (answered g c)
-
-pub returns-clause-inside : goal.returns-clause-inside
-returns-clause-inside g c =
+pub returns-clause-whole : goal.returns-clause-whole
+returns-clause-whole g c = λ holds.
     let content : length c.args.input.now.cursor.content < 2 ^ 63 = c.position-at.ensures.holds.lawful.bound in
     on_ok c.note.result
-    (λ is same two a some. (let ends = (told g c same two is).inside a some in record { behind_start = ends.on; before_end = ends.in_span; fits = omega (arith, ends.in_content, content) }))
+    (λ is.
+    let are = told g c holds.0 holds.1 is in
+    record {
+      match = are.tells;
+      ordered = are.ordered;
+      inside = λ a some. (let ends = are.inside a some in record { behind_start = ends.on; before_end = ends.in_span; fits = omega (arith, ends.in_content, content) });
+    })
     (answered g c)
-
-pub returns-clause-ordered : goal.returns-clause-ordered
-returns-clause-ordered g c = on_ok c.note.result (λ is same two. (told g c same two is).ordered) (answered g c)

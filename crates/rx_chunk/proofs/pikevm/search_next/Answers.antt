@@ -40,11 +40,11 @@ returns-clause-answer g c =
     let noted = are_noted vm s c.note.new.caps c.group_info-groups.ensures.engine c.matches_note_their_places.ensures c.finds_lie_inside.ensures (c.in_ok-note.ensures.groups ∙ c.requires.groups) two c.in_ok-note.ensures.answer in
     let i = c.args.input.now in
     let start = c.start-from.result + 1 in
-    let same = same_start i c.note.new.input c.in_ok-note.ensures.same c.in_ok-note.ensures.asked in
+    let same = same_start i c.note.new.input c.in_ok-note.ensures.asks.same c.in_ok-note.ensures.asks.asked in
     let starts : StartsFrom i c.set_start.new.self start =
     moved_on i c.note.new.input c.set_start.new.self same.0 start same.1 (set_to c.note.new.input c.set_start.new.self start c.set_start.ensures) in
     let moved : search_of vm.utf8_empty c.set_start.new.self ≡ from_place_on s (s.start + 1) =
-    moved_search vm.utf8_empty i c.set_start.new.self start starts ∙ ap (λ k. from_place_on s (k + 1)) (c.start-from.ensures ∙ ap (λ a. a.span.start) c.in_ok-note.ensures.asked) in
+    moved_search vm.utf8_empty i c.set_start.new.self start starts ∙ ap (λ k. from_place_on s (k + 1)) (c.start-from.ensures ∙ ap (λ a. a.span.start) c.in_ok-note.ensures.asks.asked) in
     let caps = c.note-2.new.caps in
     let groups = c.note-2.ensures.groups ∙ c.in_ok-note.ensures.groups ∙ c.requires.groups in
     let room : 2 ≤ length caps.slots = omega (arith, two, c.note-2.ensures.slot_len) in
@@ -63,11 +63,11 @@ returns-clause-ahead g c =
     let noted = are_noted vm s c.note.new.caps c.group_info-groups.ensures.engine c.matches_note_their_places.ensures c.finds_lie_inside.ensures (c.in_ok-note.ensures.groups ∙ c.requires.groups) two c.in_ok-note.ensures.answer in
     let i = c.args.input.now in
     let start = c.start-from.result + 1 in
-    let same = same_start i c.note.new.input c.in_ok-note.ensures.same c.in_ok-note.ensures.asked in
+    let same = same_start i c.note.new.input c.in_ok-note.ensures.asks.same c.in_ok-note.ensures.asks.asked in
     let starts : StartsFrom i c.set_start.new.self start =
     moved_on i c.note.new.input c.set_start.new.self same.0 start same.1 (set_to c.note.new.input c.set_start.new.self start c.set_start.ensures) in
     let moved : search_of vm.utf8_empty c.set_start.new.self ≡ from_place_on s (s.start + 1) =
-    moved_search vm.utf8_empty i c.set_start.new.self start starts ∙ ap (λ k. from_place_on s (k + 1)) (c.start-from.ensures ∙ ap (λ a. a.span.start) c.in_ok-note.ensures.asked) in
+    moved_search vm.utf8_empty i c.set_start.new.self start starts ∙ ap (λ k. from_place_on s (k + 1)) (c.start-from.ensures ∙ ap (λ a. a.span.start) c.in_ok-note.ensures.asks.asked) in
     let caps = c.note-2.new.caps in
     let groups = c.note-2.ensures.groups ∙ c.in_ok-note.ensures.groups ∙ c.requires.groups in
     let room : 2 ≤ length caps.slots = omega (arith, two, c.note-2.ensures.slot_len) in

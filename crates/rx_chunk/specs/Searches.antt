@@ -1,0 +1,65 @@
+-- What a search with an engine tells, and what it leaves.
+use Rattle.std.specs.Prelude.{◌≡◌, ℕ, ◌+◌, ◌*◌, ◌≤◌, List, length, Option}
+use Rattle.std.specs.Option.{ForSome}
+use Rattle.rx_util.specs.Search.{Found}
+use Rattle.rx_util.specs.Captured.{Captured, group_span, match_found}
+use Rattle.rx_input.specs.Cursors.{IsSameContent}
+use Rattle.rx_input.specs.Inputs.{InputState}
+use Rattle.rx_input.specs.Searchers.{EndsInside}
+use Rattle.rx_walks.specs.Finds.{Search}
+use Rattle.rx_steps.specs.Nodes.{node_count}
+use Rattle.rx_steps.specs.Searching.{search_of, IsAnswerAt}
+use Rattle.rx_steps.specs.Standing.{StopsAt}
+use Rattle.rx_steps.specs.Caches.{CacheView, IsCacheOf, place_count}
+use Rattle.rx_chunk.specs.Engines as engines
+use Rattle.rx_chunk.specs.Engines.{Engine}
+
+-- the search that an input asks an engine for
+abbrev pub search_by : Engine → InputState → Search
+search_by e i = search_of e.utf8_empty i
+
+-- ---- what it tells
+
+-- whether there is a match; and which one it is, unless any will do
+abbrev pub TellsMatch : Engine → InputState → Option Found → Type 0
+TellsMatch e i found = engines.TellsMatch i.asked.earliest e.program (search_by e i) found
+
+-- the same of the pattern and of the places that are noted in slots
+abbrev pub TellsSlots : Engine → InputState → Option ℕ → List (Option ℕ) → Type 0
+TellsSlots e i pattern slots =
+    engines.TellsSlots i.asked.earliest e.program (search_by e i) pattern slots
+
+-- the same of a search that stands at a place then: if any match will do, what is noted is what is
+-- found up to this place
+abbrev pub TellsSlotsAt : Engine → InputState → ℕ → Option ℕ → List (Option ℕ) → Type 0
+TellsSlotsAt e i at pattern slots =
+    IsAnswerAt i.asked.earliest e.program (search_by e i) at pattern slots
+
+-- captures of the engine's groups with slots for the whole match
+abbrev pub HoldsMatches : Engine → Captured → Type 0
+HoldsMatches e caps = (caps.groups ≡ e.groups) × (2 ≤ length caps.slots)
+
+-- such captures tell the whole match, which doesn't end before it starts, and ends in the span
+pub record TellsWhole (e : Engine) (i : InputState) (caps : Captured) : Type 0 where
+  pub match : TellsMatch e i (match_found caps)
+  pub ordered : ForSome (group_span caps 0) (λ span. span.start ≤ span.end)
+  pub inside : ForSome (match_found caps) (λ found. EndsInside i found.span.end)
+
+-- ---- what it leaves
+
+-- where it found a match, it stands at a place that a walk reached which began before the first end
+-- of a match; and at that end, if any match will do
+abbrev pub StopsInTime : Engine → InputState → ℕ → Type 0
+StopsInTime e i at = StopsAt i.asked.earliest e.program (search_by e i) at
+
+-- an input over the same content, of which the same is asked; the piece that is shown, and the
+-- position, may be others
+pub record AsksTheSame (old new : InputState) : Type 0 where
+  pub asked : new.asked ≡ old.asked
+  pub same : IsSameContent old.cursor new.cursor
+
+-- a cache that serves the engine on, and by which the search followed each node of the program once
+-- at most at each place
+pub record ServesOn (e : Engine) (i : InputState) (old new : CacheView) : Type 0 where
+  pub made : IsCacheOf e.program new
+  pub work : new.followed ≤ old.followed + node_count e.program * place_count (search_by e i)
