@@ -1,5 +1,6 @@
 -- The text of a rope, and the chunks that its calls show.
-use Rattle.std.specs.Prelude.{◌≡◌, ℕ, List}
+use Rattle.std.specs.Prelude.{◌≡◌, ℕ, List, Option}
+use Rattle.std.specs.Iterator.{Drains, Yields}
 use Rattle.std.specs.List.{flat_map}
 use Rattle.std.specs.Str.{chars}
 use Rattle.std.specs.Borrow.{Bor}
@@ -8,7 +9,7 @@ use Rattle.ropey_tree.specs.Counts.{counts_of}
 use Rattle.ropey_tree.specs.Cutting.{IsText}
 use Rattle.ropey_walk.specs.Chunks.{text_of}
 -- they are those of a slice
-pub use Rattle.ropey_walk.specs.Chunks.{text_of, line_breaks, piece_of, ShowsChunk}
+pub use Rattle.ropey_walk.specs.Chunks.{text_of, line_breaks, piece_of, ShowsChunk, ShowsChunkOfBreak}
 -- how a rope is cut, in the words of the tree
 pub use Rattle.ropey_tree.specs.Cutting.{IsPiece, IsCutting, IsText, IsFull, AreFull}
 -- which characters break its lines
@@ -18,6 +19,16 @@ pub use Rattle.ropey_tree.specs.Breaks.{is_break}
 pub record IsRopeOf (pieces : List (List ℕ)) (counts : Counts) : Type 0 where
   pub text : IsText pieces
   pub counted : counts ≡ counts_of (text_of pieces)
+
+-- ---- what an iterable yields, by its ghost members `into_iter_gives` and `next_gives`
+module _ {C I A : Type 0} (gives : C → I → Type 0) (steps : I → Option A → I → Type 0) where
+  -- P holds of all that came of it until it ended
+  abbrev pub YieldsInAll : C → (List A → Type 0) → Type 0
+  YieldsInAll iterable P = (it : I) × (items : List A) × gives iterable it × Drains steps it items × P items
+
+  -- P holds of what came of it at first, whether or not more was to come
+  abbrev pub YieldsAtFirst : C → (List A → Type 0) → Type 0
+  YieldsAtFirst iterable P = (it : I) × (items : List A) × (rest : I) × gives iterable it × Yields steps it items rest × P items
 
 -- the characters of parts of a text, joined
 abbrev pub joined : List (Bor (List ℕ)) → List ℕ

@@ -3,12 +3,12 @@
 ghost use Rattle.std.specs.Prelude.{◌≡◌, ◌+◌, ◌-◌, ◌<◌, ◌≤◌, ◌↔◌, length, slice_index, SomeIff, IfSome, IsNone, encode_utf8_all};
 ghost use Rattle.std.specs.Str.{chars, IsUtf8};
 ghost use Rattle.str_indices.specs.Text.{byte_len};
-ghost use Rattle.ropey.specs.Chunks.{text_of, line_breaks, ShowsChunk};
+ghost use Rattle.ropey.specs.Chunks.{text_of, line_breaks, ShowsChunk, ShowsChunkOfBreak};
 
 use crate::rope::Rope;
 
 impl Rope {
-    /// The byte at an index. The byte index is below `len_bytes`. `O(log n)`.
+    /// Returns a byte. Requires `byte_idx < len_bytes()`. `O(log n)`.
     pub fn byte(&self, byte_idx: usize) -> u8
         requires { byte_idx < byte_len (text_of self.now) }
         ensures { result ≡ slice_index (encode_utf8_all (text_of self.now)) byte_idx }
@@ -16,7 +16,7 @@ impl Rope {
         self.whole().byte(byte_idx)
     }
 
-    /// `byte`, and none from `len_bytes` on. `O(log n)`.
+    /// Returns `byte`, or `None` from `len_bytes()` on. `O(log n)`.
     pub fn get_byte(&self, byte_idx: usize) -> Option<u8>
         ensures { SomeIff result (byte_idx < byte_len (text_of self.now))
             (slice_index (encode_utf8_all (text_of self.now)) byte_idx) }
@@ -24,7 +24,7 @@ impl Rope {
         self.whole().get_byte(byte_idx)
     }
 
-    /// The character at an index. The character index is below `len_chars`. `O(log n)`.
+    /// Returns a character. Requires `char_idx < len_chars()`. `O(log n)`.
     pub fn char(&self, char_idx: usize) -> char
         requires { char_idx < length (text_of self.now) }
         ensures { result ≡ slice_index (text_of self.now) char_idx }
@@ -32,7 +32,7 @@ impl Rope {
         self.whole().char(char_idx)
     }
 
-    /// `char`, and none from `len_chars` on. `O(log n)`.
+    /// Returns `char`, or `None` from `len_chars()` on. `O(log n)`.
     pub fn get_char(&self, char_idx: usize) -> Option<char>
         ensures { SomeIff result (char_idx < length (text_of self.now))
             (slice_index (text_of self.now) char_idx) }
@@ -40,9 +40,9 @@ impl Rope {
         self.whole().get_char(char_idx)
     }
 
-    /// The chunk that holds a character, and then the byte, the character and the line at which the
-    /// chunk starts. The character index is at most `len_chars`, and there it is the last chunk; an
-    /// empty text shows an empty one at 0, 0, 0. `O(log n)`.
+    /// Returns the chunk that holds a character, and the byte, character and line index at which
+    /// the chunk starts: the last chunk for `len_chars()`, and an empty one at 0, 0, 0 of an empty
+    /// text. Requires `char_idx <= len_chars()`. `O(log n)`.
     pub fn chunk_at_char(&self, char_idx: usize) -> (&str, usize, usize, usize)
         requires { char_idx ≤ length (text_of self.now) }
         ensures chunk { ShowsChunk self.now length char_idx (chars result.0.now) result.1 result.2
@@ -52,7 +52,7 @@ impl Rope {
         self.whole().chunk_at_char(char_idx)
     }
 
-    /// `chunk_at_char`, and none past `len_chars`. `O(log n)`.
+    /// Returns `chunk_at_char`, or `None` past `len_chars()`. `O(log n)`.
     pub fn get_chunk_at_char(&self, char_idx: usize) -> Option<(&str, usize, usize, usize)>
         ensures none { IsNone result ↔ (length (text_of self.now) < char_idx) }
         ensures chunk { IfSome result (λ shown. ShowsChunk self.now length char_idx
@@ -62,32 +62,25 @@ impl Rope {
         self.whole().get_chunk_at_char(char_idx)
     }
 
-    /// The first chunk by whose end so many line breaks have ended, and then the byte, the
-    /// character and the line at which the chunk starts. The number is at most `len_lines`, and
-    /// there it is the last chunk; an empty text shows an empty one at 0, 0, 0. `O(log n)`.
+    /// Returns the first chunk by whose end `line_break_idx` line breaks have ended, and the byte,
+    /// character and line index at which the chunk starts: the last chunk for `len_lines()`, and an
+    /// empty one at 0, 0, 0 of an empty text. Requires `line_break_idx <= len_lines()`. `O(log n)`.
     pub fn chunk_at_line_break(&self, line_break_idx: usize) -> (&str, usize, usize, usize)
         requires { line_break_idx ≤ line_breaks (text_of self.now) + 1 }
-        ensures first { line_break_idx ≡ 0 →
-            ShowsChunk self.now byte_len 0 (chars result.0.now) result.1 result.2 result.3 }
-        ensures later { 0 < line_break_idx →
-            ShowsChunk self.now line_breaks (line_break_idx - 1) (chars result.0.now) result.1
+        ensures chunk { ShowsChunkOfBreak self.now line_break_idx (chars result.0.now) result.1
             result.2 result.3 }
         ensures utf8 { IsUtf8 result.0.now }
     {
         self.whole().chunk_at_line_break(line_break_idx)
     }
 
-    /// `chunk_at_line_break`, and none past `len_lines`. `O(log n)`.
+    /// Returns `chunk_at_line_break`, or `None` past `len_lines()`. `O(log n)`.
     pub fn get_chunk_at_line_break(
         &self,
         line_break_idx: usize,
     ) -> Option<(&str, usize, usize, usize)>
         ensures none { IsNone result ↔ (line_breaks (text_of self.now) + 1 < line_break_idx) }
-        ensures first { line_break_idx ≡ 0 →
-            IfSome result (λ shown. ShowsChunk self.now byte_len 0 (chars shown.0.now) shown.1
-            shown.2 shown.3) }
-        ensures later { 0 < line_break_idx →
-            IfSome result (λ shown. ShowsChunk self.now line_breaks (line_break_idx - 1)
+        ensures chunk { IfSome result (λ shown. ShowsChunkOfBreak self.now line_break_idx
             (chars shown.0.now) shown.1 shown.2 shown.3) }
         ensures utf8 { IfSome result (λ shown. IsUtf8 shown.0.now) }
     {

@@ -78,7 +78,8 @@ impl fmt::Display for Rope {
 }
 
 impl Rope {
-    /// Whether the text is that of a `&str`. `O(n)`, and `O(1)` where they have different lengths.
+    /// Returns whether the text is that of a `&str`. `O(n)`, and `O(1)` where they have different
+    /// lengths.
     pub fn eq_str(&self, text: &str) -> bool
         ensures { IsTrue result ↔ (text_of self.now ≡ chars text.now) }
     {

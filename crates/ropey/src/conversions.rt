@@ -15,9 +15,9 @@ use crate::rope::Rope;
 use ropey_tree::error::Error;
 
 impl Rope {
-    /// The index of the character in which a byte lies, or the number of characters at the text's
-    /// end. The byte index is at most `len_bytes`. A byte inside a character is of that character.
-    /// `O(log n)`.
+    /// Returns the index of the character that a byte belongs to, and `len_chars()` for
+    /// `len_bytes()`. A byte inside a character belongs to that character. Requires `byte_idx <=
+    /// len_bytes()`. `O(log n)`.
     pub fn byte_to_char(&self, byte_idx: usize) -> usize
         requires { byte_idx ≤ byte_len (text_of self.now) }
         ensures { result ≡ char_of_byte (text_of self.now) byte_idx }
@@ -25,9 +25,9 @@ impl Rope {
         self.whole().byte_to_char(byte_idx)
     }
 
-    /// The index of the line in which a byte lies: the number of line breaks that end at or before
-    /// it. The byte index is at most `len_bytes`. Between the CR and the LF of a break it is still
-    /// the line that the break ends. `O(log n)`.
+    /// Returns the index of the line that a byte belongs to: the number of line breaks that end at
+    /// or before it. Between the CR and the LF of a break that is still the line that the break
+    /// ends. Requires `byte_idx <= len_bytes()`. `O(log n)`.
     pub fn byte_to_line(&self, byte_idx: usize) -> usize
         requires { byte_idx ≤ byte_len (text_of self.now) }
         ensures { result ≡ line_of_byte (text_of self.now) byte_idx }
@@ -35,8 +35,8 @@ impl Rope {
         self.whole().byte_to_line(byte_idx)
     }
 
-    /// The byte index at which a character starts, or the text's end for `len_chars`. The character
-    /// index is at most `len_chars`. `O(log n)`.
+    /// Returns the byte index at which a character starts, and `len_bytes()` for `len_chars()`.
+    /// Requires `char_idx <= len_chars()`. `O(log n)`.
     pub fn char_to_byte(&self, char_idx: usize) -> usize
         requires { char_idx ≤ length (text_of self.now) }
         ensures { result ≡ byte_of_char (text_of self.now) char_idx }
@@ -44,8 +44,8 @@ impl Rope {
         self.whole().char_to_byte(char_idx)
     }
 
-    /// The index of the line in which a character lies, or of the last line for `len_chars`. The
-    /// character index is at most `len_chars`. `O(log n)`.
+    /// Returns the index of the line that a character belongs to, and of the last line for
+    /// `len_chars()`. Requires `char_idx <= len_chars()`. `O(log n)`.
     pub fn char_to_line(&self, char_idx: usize) -> usize
         requires { char_idx ≤ length (text_of self.now) }
         ensures { result ≡ line_of_byte (text_of self.now)
@@ -54,8 +54,8 @@ impl Rope {
         self.whole().char_to_line(char_idx)
     }
 
-    /// The UTF-16 code unit index at which a character starts: how many units the characters before
-    /// it take. The character index is at most `len_chars`. `O(log n)`.
+    /// Returns the index of the UTF-16 code unit at which a character starts: how many units the
+    /// characters before it take. Requires `char_idx <= len_chars()`. `O(log n)`.
     pub fn char_to_utf16_cu(&self, char_idx: usize) -> usize
         requires { char_idx ≤ length (text_of self.now) }
         ensures { result ≡ unit_of_byte (text_of self.now)
@@ -64,9 +64,9 @@ impl Rope {
         self.whole().char_to_utf16_cu(char_idx)
     }
 
-    /// The index of the character that holds a UTF-16 code unit, or the number of characters for
-    /// `len_utf16_cu`. The unit index is at most `len_utf16_cu`. The second unit of a pair is of
-    /// the character that the pair spells. `O(log n)`.
+    /// Returns the index of the character that a UTF-16 code unit belongs to, and `len_chars()` for
+    /// `len_utf16_cu()`. The second unit of a surrogate pair belongs to the character that the pair
+    /// spells. Requires `utf16_cu_idx <= len_utf16_cu()`. `O(log n)`.
     pub fn utf16_cu_to_char(&self, utf16_cu_idx: usize) -> usize
         requires { utf16_cu_idx ≤ units (text_of self.now) }
         ensures { result ≡ char_of_byte (text_of self.now)
@@ -75,8 +75,8 @@ impl Rope {
         self.whole().utf16_cu_to_char(utf16_cu_idx)
     }
 
-    /// The byte index at which a line starts, or the text's end for `len_lines`. The line index is
-    /// at most `len_lines`. `O(log n)`.
+    /// Returns the byte index at which a line starts, and `len_bytes()` for `len_lines()`. Requires
+    /// `line_idx <= len_lines()`. `O(log n)`.
     pub fn line_to_byte(&self, line_idx: usize) -> usize
         requires { line_idx ≤ line_breaks (text_of self.now) + 1 }
         ensures { result ≡ byte_of_line (text_of self.now) line_idx }
@@ -84,8 +84,8 @@ impl Rope {
         self.whole().line_to_byte(line_idx)
     }
 
-    /// The index of the character with which a line starts, or the number of characters for
-    /// `len_lines`. The line index is at most `len_lines`. `O(log n)`.
+    /// Returns the index of the character at which a line starts, and `len_chars()` for
+    /// `len_lines()`. Requires `line_idx <= len_lines()`. `O(log n)`.
     pub fn line_to_char(&self, line_idx: usize) -> usize
         requires { line_idx ≤ line_breaks (text_of self.now) + 1 }
         ensures { result ≡ char_of_byte (text_of self.now)
@@ -94,8 +94,8 @@ impl Rope {
         self.whole().line_to_char(line_idx)
     }
 
-    /// `byte_to_char`, and past the length the error
-    /// `ByteIndexOutOfBounds`, with the index and that length. `O(log n)`.
+    /// `byte_to_char` of any index. Errors: `ByteIndexOutOfBounds(byte_idx, len_bytes())` past
+    /// `len_bytes()`. `O(log n)`.
     pub fn try_byte_to_char(&self, byte_idx: usize) -> Result<usize, Error>
         ensures value { OkIff result (byte_idx ≤ byte_len (text_of self.now))
             (char_of_byte (text_of self.now) byte_idx) }
@@ -105,8 +105,8 @@ impl Rope {
         self.whole().try_byte_to_char(byte_idx)
     }
 
-    /// `byte_to_line`, and past the length the error
-    /// `ByteIndexOutOfBounds`, with the index and that length. `O(log n)`.
+    /// `byte_to_line` of any index. Errors: `ByteIndexOutOfBounds(byte_idx, len_bytes())` past
+    /// `len_bytes()`. `O(log n)`.
     pub fn try_byte_to_line(&self, byte_idx: usize) -> Result<usize, Error>
         ensures value { OkIff result (byte_idx ≤ byte_len (text_of self.now))
             (line_of_byte (text_of self.now) byte_idx) }
@@ -116,8 +116,8 @@ impl Rope {
         self.whole().try_byte_to_line(byte_idx)
     }
 
-    /// `char_to_byte`, and past the number of characters the error
-    /// `CharIndexOutOfBounds`, with the index and that length. `O(log n)`.
+    /// `char_to_byte` of any index. Errors: `CharIndexOutOfBounds(char_idx, len_chars())` past
+    /// `len_chars()`. `O(log n)`.
     pub fn try_char_to_byte(&self, char_idx: usize) -> Result<usize, Error>
         ensures value { OkIff result (char_idx ≤ length (text_of self.now))
             (byte_of_char (text_of self.now) char_idx) }
@@ -127,8 +127,8 @@ impl Rope {
         self.whole().try_char_to_byte(char_idx)
     }
 
-    /// `char_to_line`, and past the number of characters the error
-    /// `CharIndexOutOfBounds`, with the index and that length. `O(log n)`.
+    /// `char_to_line` of any index. Errors: `CharIndexOutOfBounds(char_idx, len_chars())` past
+    /// `len_chars()`. `O(log n)`.
     pub fn try_char_to_line(&self, char_idx: usize) -> Result<usize, Error>
         ensures value { OkIff result (char_idx ≤ length (text_of self.now))
             (line_of_byte (text_of self.now) (byte_of_char (text_of self.now) char_idx)) }
@@ -138,8 +138,8 @@ impl Rope {
         self.whole().try_char_to_line(char_idx)
     }
 
-    /// `char_to_utf16_cu`, and past the number of characters the error
-    /// `CharIndexOutOfBounds`, with the index and that length. `O(log n)`.
+    /// `char_to_utf16_cu` of any index. Errors: `CharIndexOutOfBounds(char_idx, len_chars())` past
+    /// `len_chars()`. `O(log n)`.
     pub fn try_char_to_utf16_cu(&self, char_idx: usize) -> Result<usize, Error>
         ensures value { OkIff result (char_idx ≤ length (text_of self.now))
             (unit_of_byte (text_of self.now) (byte_of_char (text_of self.now) char_idx)) }
@@ -149,8 +149,8 @@ impl Rope {
         self.whole().try_char_to_utf16_cu(char_idx)
     }
 
-    /// `utf16_cu_to_char`, and past the number of code units the error
-    /// `Utf16IndexOutOfBounds`, with the index and that length. `O(log n)`.
+    /// `utf16_cu_to_char` of any index. Errors: `Utf16IndexOutOfBounds(utf16_cu_idx,
+    /// len_utf16_cu())` past `len_utf16_cu()`. `O(log n)`.
     pub fn try_utf16_cu_to_char(&self, utf16_cu_idx: usize) -> Result<usize, Error>
         ensures value { OkIff result (utf16_cu_idx ≤ units (text_of self.now))
             (char_of_byte (text_of self.now) (byte_of_unit (text_of self.now) utf16_cu_idx)) }
@@ -160,8 +160,8 @@ impl Rope {
         self.whole().try_utf16_cu_to_char(utf16_cu_idx)
     }
 
-    /// `line_to_byte`, and past the number of lines the error
-    /// `LineIndexOutOfBounds`, with the index and that length. `O(log n)`.
+    /// `line_to_byte` of any index. Errors: `LineIndexOutOfBounds(line_idx, len_lines())` past
+    /// `len_lines()`. `O(log n)`.
     pub fn try_line_to_byte(&self, line_idx: usize) -> Result<usize, Error>
         ensures value { OkIff result (line_idx ≤ line_breaks (text_of self.now) + 1)
             (byte_of_line (text_of self.now) line_idx) }
@@ -171,8 +171,8 @@ impl Rope {
         self.whole().try_line_to_byte(line_idx)
     }
 
-    /// `line_to_char`, and past the number of lines the error
-    /// `LineIndexOutOfBounds`, with the index and that length. `O(log n)`.
+    /// `line_to_char` of any index. Errors: `LineIndexOutOfBounds(line_idx, len_lines())` past
+    /// `len_lines()`. `O(log n)`.
     pub fn try_line_to_char(&self, line_idx: usize) -> Result<usize, Error>
         ensures value { OkIff result (line_idx ≤ line_breaks (text_of self.now) + 1)
             (char_of_byte (text_of self.now) (byte_of_line (text_of self.now) line_idx)) }

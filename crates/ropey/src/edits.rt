@@ -72,11 +72,11 @@ impl Rope {
         self.replace_between(byte_idx, byte_idx, text)
     }
 
-    /// Inserts a text before a character, or at the end for `len_chars`. The character index is at
-    /// most `len_chars`.
+    /// Inserts a text before a character, or at the end for `len_chars()`. Requires `char_idx <=
+    /// len_chars()`. `O(log n + m)` for m bytes.
     ///
-    /// `Size` where the text would have more than `isize::MAX` bytes, which is asked first, and
-    /// `Memory`. `O(log n + m)` for a text of m bytes.
+    /// Errors: `Size` where the text would have more than `isize::MAX` bytes, before anything is
+    /// allocated; `Memory`.
     pub fn insert(&mut self, char_idx: usize, text: &str) -> Result<(), Error>
         requires { char_idx ≤ length (text_of self.old) }
         ensures text { OnOk result (text_of self.new ≡
@@ -92,8 +92,8 @@ impl Rope {
         self.insert_at(at, text)
     }
 
-    /// `insert`, and past the number of characters the error `CharIndexOutOfBounds`, with the index
-    /// and that number, which is asked before the size.
+    /// `insert` at any index. Errors: `CharIndexOutOfBounds(char_idx, len_chars())` past
+    /// `len_chars()`, before the size is asked; else as `insert`.
     pub fn try_insert(&mut self, char_idx: usize, text: &str) -> Result<(), Error>
         ensures text { OnOk result (text_of self.new ≡
             with_inserted (text_of self.old) char_idx (chars text.now)) }
@@ -113,7 +113,7 @@ impl Rope {
         self.insert_at(byte_idx, text)
     }
 
-    /// `insert` of one character.
+    /// Inserts one character, as `insert` does.
     pub fn insert_char(&mut self, char_idx: usize, character: char) -> Result<(), Error>
         requires { char_idx ≤ length (text_of self.old) }
         ensures text { OnOk result (text_of self.new ≡
@@ -127,7 +127,7 @@ impl Rope {
         self.insert(char_idx, character.encode_utf8(&mut buffer))
     }
 
-    /// `try_insert` of one character.
+    /// Inserts one character, as `try_insert` does.
     pub fn try_insert_char(&mut self, char_idx: usize, character: char) -> Result<(), Error>
         ensures text { OnOk result (text_of self.new ≡
             with_inserted (text_of self.old) char_idx (character ∷ [])) }
@@ -190,8 +190,8 @@ impl Rope {
         self.replace_chars(start, end, "")
     }
 
-    /// Removes a range of characters. It lies inside the text: it starts no later than it ends, and
-    /// ends at most at `len_chars`. The one refusal is `Memory`. `O(log n)`.
+    /// Removes a range of characters. Requires the range to start no later than it ends, and to end
+    /// at or before `len_chars()`. Errors: `Memory`. `O(log n)`.
     pub fn remove<R: TextRange>(&mut self, char_range: R) -> Result<(), Error>
         requires { IsRangeIn (length (text_of self.old)) (R.ends char_range) }
         ensures text { OnOk result (text_of self.new ≡ with_removed (text_of self.old)
@@ -205,8 +205,8 @@ impl Rope {
         self.remove_chars(ends.start.unwrap_or(0), end)
     }
 
-    /// `remove`, and a range that doesn't lie inside the text is refused: `CharRangeInvalid` where
-    /// it starts above its end, else `CharRangeOutOfBounds` where it goes past `len_chars`.
+    /// `remove` of any range. Errors: `CharRangeInvalid` where it starts above its end, else
+    /// `CharRangeOutOfBounds` where it goes past `len_chars()`; `Memory`.
     pub fn try_remove<R: TextRange>(&mut self, char_range: R) -> Result<(), Error>
         ensures range { OnOk result (IsRangeIn (length (text_of self.old)) (R.ends char_range)) }
         ensures text { OnOk result (text_of self.new ≡ with_removed (text_of self.old)
@@ -223,12 +223,12 @@ impl Rope {
         self.remove_chars(start, end)
     }
 
-    /// Replaces a range of characters by a text, in one edit. The range lies inside the text: it
-    /// starts no later than it ends, and ends at most at `len_chars`. The new text stands before
-    /// what stood behind the range; an empty range inserts it, and an empty text removes the range.
+    /// Replaces a range of characters by a text, in one edit: an empty range inserts it, and an
+    /// empty text removes the range. Requires the range to start no later than it ends, and to end
+    /// at or before `len_chars()`. `O(log n + m)` for m bytes of new text.
     ///
-    /// `Size` where the text would have more than `isize::MAX` bytes, which is asked first, and
-    /// `Memory`. `O(log n + m)` for a text of m bytes.
+    /// Errors: `Size` where the text would have more than `isize::MAX` bytes, before anything is
+    /// allocated; `Memory`.
     pub fn replace<R: TextRange>(&mut self, char_range: R, text: &str) -> Result<(), Error>
         requires { IsRangeIn (length (text_of self.old)) (R.ends char_range) }
         ensures text { OnOk result (text_of self.new ≡ with_replaced (text_of self.old)
@@ -245,9 +245,9 @@ impl Rope {
         self.replace_chars(ends.start.unwrap_or(0), end, text)
     }
 
-    /// `replace`, and a range that doesn't lie inside the text is refused before the size is asked:
-    /// `CharRangeInvalid` where it starts above its end, else `CharRangeOutOfBounds` where it goes
-    /// past `len_chars`.
+    /// `replace` of any range. Errors: `CharRangeInvalid` where it starts above its end, else
+    /// `CharRangeOutOfBounds` where it goes past `len_chars()`, before the size is asked; else as
+    /// `replace`.
     pub fn try_replace<R: TextRange>(&mut self, char_range: R, text: &str) -> Result<(), Error>
         ensures range { OnOk result (IsRangeIn (length (text_of self.old)) (R.ends char_range)) }
         ensures text { OnOk result (text_of self.new ≡ with_replaced (text_of self.old)
@@ -287,8 +287,12 @@ impl Rope {
         self.replace_between(start, end, text)
     }
 
-    /// `replace` of a range of bytes, which neither starts nor ends inside a character: it starts
-    /// no later than it ends, and ends at most at `len_bytes`. Nothing is looked up for it.
+    /// Replaces a range of bytes by a text, as `replace` does, and converts no index. Requires the
+    /// range to start no later than it ends, to end at or before `len_bytes()`, and to start and
+    /// end at character boundaries.
+    ///
+    /// Errors: `Size` where the text would have more than `isize::MAX` bytes, before anything is
+    /// allocated; `Memory`.
     pub fn byte_replace<R: TextRange>(&mut self, byte_range: R, text: &str) -> Result<(), Error>
         requires { IsByteRangeIn (text_of self.old) (R.ends byte_range) }
         ensures text { OnOk result (IsReplaced (text_of self.old) (start_of (R.ends byte_range))
@@ -308,10 +312,10 @@ impl Rope {
         self.replace_bytes(ends.start.unwrap_or(0), end, text)
     }
 
-    /// `byte_replace`, and a range that doesn't lie inside the text, or cuts a character, is
-    /// refused before the size is asked: `ByteRangeInvalid` where it starts above its end, else
-    /// `ByteRangeOutOfBounds` where it goes past `len_bytes`, else `ByteRangeNotCharBoundary` where
-    /// it starts or ends inside a character.
+    /// `byte_replace` of any range. Errors: `ByteRangeInvalid` where it starts above its end, else
+    /// `ByteRangeOutOfBounds` where it goes past `len_bytes()`, else `ByteRangeNotCharBoundary`
+    /// where it starts or ends inside a character, before the size is asked; else as
+    /// `byte_replace`.
     pub fn try_byte_replace<R: TextRange>(&mut self, byte_range: R, text: &str) -> Result<(), Error>
         ensures range { OnOk result (IsByteRangeIn (text_of self.old) (R.ends byte_range)) }
         ensures text { OnOk result (IsReplaced (text_of self.old) (start_of (R.ends byte_range))
@@ -349,9 +353,9 @@ impl Rope {
         Ok(Rope::of_tree(alloc, halves.right))
     }
 
-    /// Splits the text in two: the rope keeps what stands before a character, and what stands from
-    /// it on is a rope of its own, which shares the nodes. For `len_chars` that is empty. The
-    /// character index is at most `len_chars`. The one refusal is `Memory`. `O(log n)`.
+    /// Splits the text before a character: the rope keeps what stands before it, and the rest is
+    /// returned, which shares its nodes and is empty for `len_chars()`. Requires `char_idx <=
+    /// len_chars()`. Errors: `Memory`. `O(log n)`.
     pub fn split_off(&mut self, char_idx: usize) -> Result<Rope, Error>
         requires { char_idx ≤ length (text_of self.old) }
         ensures front { OnOk result (text_of self.new ≡ take char_idx (text_of self.old)) }
@@ -365,8 +369,8 @@ impl Rope {
         self.split_off_at(byte_idx)
     }
 
-    /// `split_off`, and past the number of characters the error `CharIndexOutOfBounds`, with the
-    /// index and that number.
+    /// `split_off` at any index. Errors: `CharIndexOutOfBounds(char_idx, len_chars())` past
+    /// `len_chars()`; `Memory`.
     pub fn try_split_off(&mut self, char_idx: usize) -> Result<Rope, Error>
         ensures front { OnOk result (text_of self.new ≡ take char_idx (text_of self.old)) }
         ensures back { IfOk result (λ rest. text_of rest ≡ drop char_idx (text_of self.old)) }
@@ -384,11 +388,11 @@ impl Rope {
         self.split_off_at(byte_idx)
     }
 
-    /// Appends the text of another rope, whose nodes it shares. Also a CR and an LF that meet are
-    /// in one chunk then.
+    /// Appends the text of another rope, whose nodes it shares. A CR and an LF that meet are in one
+    /// chunk then. `O(log n)`.
     ///
-    /// `Size` where the text would have more than `isize::MAX` bytes, which is asked first, and
-    /// `Memory`; both drop the other rope. `O(log n)`.
+    /// Errors: `Size` where the text would have more than `isize::MAX` bytes, before anything is
+    /// allocated; `Memory`. Both drop the other rope.
     pub fn append(&mut self, other: Rope) -> Result<(), Error>
         ensures text { OnOk result (text_of self.new ≡ text_of self.old ++ text_of other) }
         ensures kept { OnErr result (self.new ≡ self.old) }

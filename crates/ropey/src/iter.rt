@@ -10,21 +10,21 @@
 ghost use Rattle.std.specs.Prelude.{◌≡◌, ◌+◌, ◌-◌, ◌<◌, ◌≤◌, ◌↔◌, length, SomeIff, IfSome, IsNone, encode_utf8_all};
 ghost use Rattle.str_indices.specs.Text.{byte_len};
 ghost use Rattle.ropey.specs.Chunks.{text_of, line_breaks, IsText};
-ghost use Rattle.ropey.specs.Iter.{before_item, lines_of, StandsBefore, CutsNoCrLf};
+ghost use Rattle.ropey.specs.Iter.{before_item, lines_of, StandsBefore, StandsBeforeBreak, CutsNoCrLf};
 
 use crate::rope::Rope;
 pub use ropey_walk::iter::{Bytes, Chars, Chunks, Lines};
 
 impl Rope {
-    /// The bytes, from the first on.
+    /// Returns an iterator over the bytes, before the first.
     pub fn bytes(&self) -> Bytes<'_>
         ensures { result ≡ before_item 0 (encode_utf8_all (text_of self.now)) }
     {
         self.whole().bytes()
     }
 
-    /// The bytes, from the place before one of them; at `len_bytes` from behind the last. The byte
-    /// index is at most `len_bytes`. `O(log n)`.
+    /// Returns an iterator over the bytes, before one of them, or behind the last for
+    /// `len_bytes()`. Requires `byte_idx <= len_bytes()`. `O(log n)`.
     pub fn bytes_at(&self, byte_idx: usize) -> Bytes<'_>
         requires { byte_idx ≤ byte_len (text_of self.now) }
         ensures { result ≡ before_item byte_idx (encode_utf8_all (text_of self.now)) }
@@ -32,7 +32,7 @@ impl Rope {
         self.whole().bytes_at(byte_idx)
     }
 
-    /// `bytes_at`, and none past `len_bytes`. `O(log n)`.
+    /// Returns `bytes_at`, or `None` past `len_bytes()`. `O(log n)`.
     pub fn get_bytes_at(&self, byte_idx: usize) -> Option<Bytes<'_>>
         ensures { SomeIff result (byte_idx ≤ byte_len (text_of self.now))
             (before_item byte_idx (encode_utf8_all (text_of self.now))) }
@@ -40,15 +40,15 @@ impl Rope {
         self.whole().get_bytes_at(byte_idx)
     }
 
-    /// The characters, from the first on.
+    /// Returns an iterator over the characters, before the first.
     pub fn chars(&self) -> Chars<'_>
         ensures { result ≡ before_item 0 (text_of self.now) }
     {
         self.whole().chars()
     }
 
-    /// The characters, from the place before one of them; at `len_chars` from behind the last. The
-    /// character index is at most `len_chars`. `O(log n)`.
+    /// Returns an iterator over the characters, before one of them, or behind the last for
+    /// `len_chars()`. Requires `char_idx <= len_chars()`. `O(log n)`.
     pub fn chars_at(&self, char_idx: usize) -> Chars<'_>
         requires { char_idx ≤ length (text_of self.now) }
         ensures { result ≡ before_item char_idx (text_of self.now) }
@@ -56,7 +56,7 @@ impl Rope {
         self.whole().chars_at(char_idx)
     }
 
-    /// `chars_at`, and none past `len_chars`. `O(log n)`.
+    /// Returns `chars_at`, or `None` past `len_chars()`. `O(log n)`.
     pub fn get_chars_at(&self, char_idx: usize) -> Option<Chars<'_>>
         ensures { SomeIff result (char_idx ≤ length (text_of self.now))
             (before_item char_idx (text_of self.now)) }
@@ -64,16 +64,16 @@ impl Rope {
         self.whole().get_chars_at(char_idx)
     }
 
-    /// The lines, from the first on: `len_lines` slices, each with the break that ends it. The last
-    /// has no break, and may be empty. `O(log n)`.
+    /// Returns an iterator over the lines, before the first: `len_lines()` slices, each with the
+    /// break that ends it. The last has no break, and may be empty. `O(log n)`.
     pub fn lines(&self) -> Lines<'_>
         ensures { result ≡ before_item 0 (lines_of self.now) }
     {
         self.whole().lines()
     }
 
-    /// The lines, from the place before one of them; at `len_lines` from behind the last. The line
-    /// index is at most `len_lines`. `O(log n)`.
+    /// Returns an iterator over the lines, before one of them, or behind the last for
+    /// `len_lines()`. Requires `line_idx <= len_lines()`. `O(log n)`.
     pub fn lines_at(&self, line_idx: usize) -> Lines<'_>
         requires { line_idx ≤ line_breaks (text_of self.now) + 1 }
         ensures { result ≡ before_item line_idx (lines_of self.now) }
@@ -81,7 +81,7 @@ impl Rope {
         self.whole().lines_at(line_idx)
     }
 
-    /// `lines_at`, and none past `len_lines`. `O(log n)`.
+    /// Returns `lines_at`, or `None` past `len_lines()`. `O(log n)`.
     pub fn get_lines_at(&self, line_idx: usize) -> Option<Lines<'_>>
         ensures { SomeIff result (line_idx ≤ line_breaks (text_of self.now) + 1)
             (before_item line_idx (lines_of self.now)) }
@@ -89,8 +89,8 @@ impl Rope {
         self.whole().get_lines_at(line_idx)
     }
 
-    /// The chunks, from the first on: texts of 1 to 984 bytes, which are the text together, with no
-    /// character and no CR LF cut between them. A text of no characters has none.
+    /// Returns an iterator over the chunks, before the first: texts of 1 to 984 bytes, which joined
+    /// are the text, with no character and no CR LF cut between them. An empty text has none.
     pub fn chunks(&self) -> Chunks<'_>
         ensures pieces { result ≡ before_item 0 self.now }
         ensures cut { IsText self.now }
@@ -99,9 +99,9 @@ impl Rope {
         self.whole().chunks()
     }
 
-    /// The chunks, from the place before the one that holds a byte, or at `len_bytes` from behind
-    /// the last; and then the byte, the character and the line there. The byte index is at most
-    /// `len_bytes`. `O(log n)`.
+    /// Returns an iterator over the chunks, before the one that holds a byte, or behind the last
+    /// for `len_bytes()`; and the byte, character and line index there. Requires `byte_idx <=
+    /// len_bytes()`. `O(log n)`.
     pub fn chunks_at_byte(&self, byte_idx: usize) -> (Chunks<'_>, usize, usize, usize)
         requires { byte_idx ≤ byte_len (text_of self.now) }
         ensures { StandsBefore self.now byte_len byte_idx result.0 result.1 result.2 result.3 }
@@ -109,7 +109,7 @@ impl Rope {
         self.whole().chunks_at_byte(byte_idx)
     }
 
-    /// `chunks_at_byte`, and none past `len_bytes`. `O(log n)`.
+    /// Returns `chunks_at_byte`, or `None` past `len_bytes()`. `O(log n)`.
     pub fn get_chunks_at_byte(&self, byte_idx: usize) -> Option<(Chunks<'_>, usize, usize, usize)>
         ensures none { IsNone result ↔ (byte_len (text_of self.now) < byte_idx) }
         ensures chunks { IfSome result (λ from. StandsBefore self.now byte_len byte_idx from.0
@@ -118,9 +118,9 @@ impl Rope {
         self.whole().get_chunks_at_byte(byte_idx)
     }
 
-    /// The chunks, from the place before the one that holds a character, or at `len_chars` from
-    /// behind the last; and then the byte, the character and the line there. The character index is
-    /// at most `len_chars`. `O(log n)`.
+    /// Returns an iterator over the chunks, before the one that holds a character, or behind the
+    /// last for `len_chars()`; and the byte, character and line index there. Requires `char_idx <=
+    /// len_chars()`. `O(log n)`.
     pub fn chunks_at_char(&self, char_idx: usize) -> (Chunks<'_>, usize, usize, usize)
         requires { char_idx ≤ length (text_of self.now) }
         ensures { StandsBefore self.now length char_idx result.0 result.1 result.2 result.3 }
@@ -128,7 +128,7 @@ impl Rope {
         self.whole().chunks_at_char(char_idx)
     }
 
-    /// `chunks_at_char`, and none past `len_chars`. `O(log n)`.
+    /// Returns `chunks_at_char`, or `None` past `len_chars()`. `O(log n)`.
     pub fn get_chunks_at_char(&self, char_idx: usize) -> Option<(Chunks<'_>, usize, usize, usize)>
         ensures none { IsNone result ↔ (length (text_of self.now) < char_idx) }
         ensures chunks { IfSome result (λ from. StandsBefore self.now length char_idx from.0
@@ -137,31 +137,23 @@ impl Rope {
         self.whole().get_chunks_at_char(char_idx)
     }
 
-    /// The chunks, from the place before the first one by whose end so many line breaks have ended,
-    /// or at `len_lines` from behind the last; and then the byte, the character and the line there.
-    /// The number is at most `len_lines`. `O(log n)`.
+    /// Returns an iterator over the chunks, before the first one by whose end `line_break_idx` line
+    /// breaks have ended, or behind the last for `len_lines()`; and the byte, character and line
+    /// index there. Requires `line_break_idx <= len_lines()`. `O(log n)`.
     pub fn chunks_at_line_break(&self, line_break_idx: usize) -> (Chunks<'_>, usize, usize, usize)
         requires { line_break_idx ≤ line_breaks (text_of self.now) + 1 }
-        ensures first { line_break_idx ≡ 0 →
-            StandsBefore self.now byte_len 0 result.0 result.1 result.2 result.3 }
-        ensures later { 0 < line_break_idx →
-            StandsBefore self.now line_breaks (line_break_idx - 1) result.0 result.1 result.2
-            result.3 }
+        ensures { StandsBeforeBreak self.now line_break_idx result }
     {
         self.whole().chunks_at_line_break(line_break_idx)
     }
 
-    /// `chunks_at_line_break`, and none past `len_lines`. `O(log n)`.
+    /// Returns `chunks_at_line_break`, or `None` past `len_lines()`. `O(log n)`.
     pub fn get_chunks_at_line_break(
         &self,
         line_break_idx: usize,
     ) -> Option<(Chunks<'_>, usize, usize, usize)>
         ensures none { IsNone result ↔ (line_breaks (text_of self.now) + 1 < line_break_idx) }
-        ensures first { line_break_idx ≡ 0 → IfSome result (λ from.
-            StandsBefore self.now byte_len 0 from.0 from.1 from.2 from.3) }
-        ensures later { 0 < line_break_idx → IfSome result (λ from.
-            StandsBefore self.now line_breaks (line_break_idx - 1) from.0 from.1 from.2
-            from.3) }
+        ensures chunks { IfSome result (StandsBeforeBreak self.now line_break_idx) }
     {
         self.whole().get_chunks_at_line_break(line_break_idx)
     }

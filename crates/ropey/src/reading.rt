@@ -16,13 +16,13 @@ use std::io::Read;
 const MOST_READS: u64 = 1 << 62;
 
 impl Rope {
-    /// A rope of all bytes that a reader gives up to its end. They come through an array of 4,096
-    /// bytes, and may be cut inside a character. `O(n)`.
+    /// Returns a rope of all bytes that a reader gives up to its end. They are read through an
+    /// array of 4,096 bytes, and a read may end inside a character. `O(n)`.
     ///
-    /// The first fault that is met is told, and what was read is lost: `Read` where a read failed,
-    /// also where it was interrupted; `Utf8` where no text begins with the bytes that came, or they
-    /// ended inside a character; `Size` where they are more than `isize::MAX`; `Memory`; and
-    /// `Turns` where `2^62` reads didn't come to the end.
+    /// Errors: the first of these that is met, and what was read is dropped: `Read` where a read
+    /// failed, also where it was interrupted; `Utf8` where no text begins with the bytes so far, or
+    /// they end inside a character; `Size` for more than `isize::MAX` bytes; `Memory`; `Turns`
+    /// where `2^62` reads didn't reach the end.
     pub fn from_reader<R: Read>(alloc: Global, reader: &mut R) -> Result<Self, ReadFault>
         ensures text { IfOk result (λ rope. GivesAll (R.remaining reader.old)
             (R.remaining reader.new) (text_bytes rope)) }

@@ -2,15 +2,14 @@
 
 ghost use Rattle.std.specs.Prelude.{◌≡◌, ℕ, List, ◌+◌, ◌-◌, ◌*◌, ◌^◌, ◌<◌, ◌≤◌, ◌⊎◌, ◌↔◌, min, [], length, Err, OnOk, OnErr, IfOk, IfErr, IfSome, IsNone, encode_utf8_all, string_bytes};
 ghost use Rattle.std.specs.Str.{chars, IsUtf8};
-ghost use Rattle.std.specs.Iterator.{Drains, IsFiniteIterable, Yields};
-ghost use Rattle.std.specs.Borrow.{Bor};
+ghost use Rattle.std.specs.Iterator.{IsFiniteIterable};
 ghost use Rattle.str_indices.specs.Text.{units};
 ghost use Rattle.str_indices.specs.Text.{byte_len};
 ghost use Rattle.ropey_tree.specs.Cutting.{IsText};
 ghost use Rattle.ropey_tree.specs.Nodes.{AreNodes, all_pieces};
 ghost use Rattle.ropey_tree.specs.Siblings.{views};
 ghost use Rattle.ropey_tree.specs.Splits.{pieces_in};
-ghost use Rattle.ropey.specs.Chunks.{AreFull, text_of, joined, line_breaks, ShowsChunk};
+ghost use Rattle.ropey.specs.Chunks.{AreFull, text_of, joined, line_breaks, ShowsChunk, YieldsInAll, YieldsAtFirst};
 ghost use Rattle.ropey_walk.specs.Slices.{slice_pieces};
 
 use crate::rope_builder::RopeBuilder;
@@ -74,7 +73,7 @@ impl Clone for Rope {
 }
 
 impl Rope {
-    /// The empty text. It takes no memory, and keeps the allocator for later.
+    /// Returns an empty rope. Allocates nothing, and keeps the allocator for later.
     pub fn new(alloc: Global) -> Self
         ensures { result ≡ [] }
     {
@@ -85,10 +84,9 @@ impl Rope {
         }
     }
 
-    /// A rope of a text.
+    /// Returns a rope of a text, which it copies. `O(n)`.
     ///
-    /// `Size` where the text has more than `isize::MAX` bytes, which is asked first, and `Memory`
-    /// where memory is refused. `O(n)`.
+    /// Errors: `Size` for more than `isize::MAX` bytes, before anything is allocated; `Memory`.
     pub fn from_str(alloc: Global, text: &str) -> Result<Self, Error>
         ensures text { IfOk result (λ rope. text_of rope ≡ chars text.now) }
         ensures full { IfOk result (λ rope. AreFull rope) }
@@ -103,24 +101,22 @@ impl Rope {
         Ok(rope)
     }
 
-    /// A rope of the parts of a text that an iterator yields, joined in their order.
+    /// Returns a rope of the texts that an iterator yields, joined. Requires an iterator that ends.
+    /// `O(n)`.
     ///
-    /// `Size` where so many have come that they have more than `isize::MAX` bytes together, and
-    /// `Memory` where memory is refused before that. How much was taken from the iterator then
-    /// isn't told. `O(n)`.
+    /// Errors: `Size` once what has come is more than `isize::MAX` bytes; `Memory`. How far the
+    /// iterator has gone then isn't specified.
     pub fn from_chunks<'a, I: IntoIterator<Item = &'a str>>(
         alloc: Global,
         chunks: I,
     ) -> Result<Self, Error>
         requires ends { IsFiniteIterable I.into_iter_gives I.IntoIter.can_next I.IntoIter.remaining
             chunks }
-        ensures text { IfOk result (λ rope. (it : I.IntoIter) × (parts : List (Bor (List ℕ))) ×
-            I.into_iter_gives chunks it × Drains I.IntoIter.next_gives it parts ×
-            (text_of rope ≡ joined parts)) }
+        ensures text { IfOk result (λ rope. YieldsInAll I.into_iter_gives I.IntoIter.next_gives
+            chunks (λ parts. text_of rope ≡ joined parts)) }
         ensures full { IfOk result (λ rope. AreFull rope) }
-        ensures size { (result ≡ Err Error.Size) → (it : I.IntoIter) ×
-            (parts : List (Bor (List ℕ))) × (after : I.IntoIter) × I.into_iter_gives chunks it ×
-            Yields I.IntoIter.next_gives it parts after × (2 ^ 63 ≤ byte_len (joined parts)) }
+        ensures size { result ≡ Err Error.Size → YieldsAtFirst I.into_iter_gives
+            I.IntoIter.next_gives chunks (λ parts. 2 ^ 63 ≤ byte_len (joined parts)) }
         ensures refused { IfErr result (λ error. (error ≡ Error.Size) ⊎ (error ≡ Error.Memory)) }
     {
         let mut builder = RopeBuilder::new(alloc);
@@ -179,7 +175,7 @@ impl Rope {
         }
     }
 
-    /// How many bytes of UTF-8 the text has. `O(1)`.
+    /// Returns the length in bytes of UTF-8. `O(1)`.
     pub fn len_bytes(&self) -> usize
         ensures bytes { result ≡ byte_len (text_of self.now) }
         ensures fits { result < 2 ^ 63 }
@@ -188,30 +184,30 @@ impl Rope {
         self.whole().len_bytes()
     }
 
-    /// How many characters, Unicode scalar values, the text has. `O(1)`.
+    /// Returns the number of characters, Unicode scalar values. `O(1)`.
     pub fn len_chars(&self) -> usize
         ensures { result ≡ length (text_of self.now) }
     {
         self.whole().len_chars()
     }
 
-    /// How many UTF-16 code units the text takes. `O(1)`.
+    /// Returns the number of UTF-16 code units. `O(1)`.
     pub fn len_utf16_cu(&self) -> usize
         ensures { result ≡ units (text_of self.now) }
     {
         self.whole().len_utf16_cu()
     }
 
-    /// How many lines the text has: one more than line breaks, CR LF as one. `O(1)`.
+    /// Returns the number of lines: line breaks plus one, CR LF being one break. `O(1)`.
     pub fn len_lines(&self) -> usize
         ensures { result ≡ line_breaks (text_of self.now) + 1 }
     {
         self.whole().len_lines()
     }
 
-    /// The chunk that holds a byte, and then the byte, the character and the line at which the
-    /// chunk starts. The byte index is at most `len_bytes`, and there it is the last chunk; an
-    /// empty text shows an empty one at 0, 0, 0. `O(log n)`.
+    /// Returns the chunk that holds a byte, and the byte, character and line index at which the
+    /// chunk starts: the last chunk for `len_bytes()`, and an empty one at 0, 0, 0 of an empty
+    /// text. Requires `byte_idx <= len_bytes()`. `O(log n)`.
     pub fn chunk_at_byte(&self, byte_idx: usize) -> (&str, usize, usize, usize)
         requires { byte_idx ≤ byte_len (text_of self.now) }
         ensures chunk { ShowsChunk self.now byte_len byte_idx (chars result.0.now) result.1 result.2
@@ -222,7 +218,7 @@ impl Rope {
         self.whole().chunk_at_byte(byte_idx)
     }
 
-    /// `chunk_at_byte`, and none past `len_bytes`. `O(log n)`.
+    /// Returns `chunk_at_byte`, or `None` past `len_bytes()`. `O(log n)`.
     pub fn get_chunk_at_byte(&self, byte_idx: usize) -> Option<(&str, usize, usize, usize)>
         ensures none { IsNone result ↔ (byte_len (text_of self.now) < byte_idx) }
         ensures chunk { IfSome result (λ shown. ShowsChunk self.now byte_len byte_idx
@@ -236,7 +232,7 @@ impl Rope {
         }
     }
 
-    /// The whole text. The one refusal is `Memory`, and the rope stays as it is. `O(n)`.
+    /// Returns a copy of the whole text. Errors: `Memory`. `O(n)`.
     pub fn to_text(&self) -> Result<String, Error>
         ensures text { IfOk result (λ text. string_bytes text ≡
             encode_utf8_all (text_of self.now)) }
@@ -245,8 +241,8 @@ impl Rope {
         self.whole().to_text(self.alloc)
     }
 
-    /// Cuts the text anew into as few chunks as `from_str` does, each of 980 bytes or more but the
-    /// last. The one refusal is `Memory`, and the rope stays as it is. `O(n)`.
+    /// Cuts the text anew into as few chunks as `from_str` does, of 980 bytes or more but for the
+    /// last. Errors: `Memory`, which leaves the rope as it was. `O(n)`.
     pub fn shrink_to_fit(&mut self) -> Result<(), Error>
         ensures text { text_of self.new ≡ text_of self.old }
         ensures full { OnOk result (AreFull self.new) }
@@ -258,8 +254,8 @@ impl Rope {
         Ok(())
     }
 
-    /// How many bytes the rope has room for without a new chunk: `MAX_BYTES` for each, and
-    /// `usize::MAX` where that is too much to say. It goes over all chunks, in `O(n)`.
+    /// Returns how many bytes all chunks have room for, `MAX_BYTES` each, and `usize::MAX` where it
+    /// would be more. Goes over the chunks, in `O(n)`.
     pub fn capacity(&self) -> usize
         ensures { result ≡ min (984 * length self.now) (2 ^ 64 - 1) }
     {

@@ -34,7 +34,7 @@ impl Model for RopeBuilder {
 }
 
 impl RopeBuilder {
-    /// No text yet. It takes no memory.
+    /// Returns a builder with no text. Allocates nothing.
     pub fn new(alloc: Global) -> Self
         ensures { result ≡ [] }
     {
@@ -44,8 +44,10 @@ impl RopeBuilder {
         }
     }
 
-    /// Appends a text. A refusal leaves the builder as it was: `Size` where there would be more
-    /// than `isize::MAX` bytes, which is asked first, and `Memory`. `O(m)` for a text of m bytes.
+    /// Appends a text. `O(m)` for m bytes.
+    ///
+    /// Errors, which leave the builder as it was: `Size` where there would be more than
+    /// `isize::MAX` bytes, before anything is allocated; `Memory`.
     pub fn append(&mut self, text: &str) -> Result<(), Error>
         ensures text { OnOk result (self.new ≡ self.old ++ chars text.now) }
         ensures kept { OnErr result (self.new ≡ self.old) }
@@ -60,9 +62,10 @@ impl RopeBuilder {
         Ok(())
     }
 
-    /// Appends the text of a slice, chunk by chunk. `Size` where there would be more than
-    /// `isize::MAX` bytes, which is asked first and leaves the builder as it was, and `Memory`,
-    /// which may leave a front of that text appended. `O(m)` for a slice of m bytes.
+    /// Appends the text of a slice, chunk by chunk. `O(m)` for m bytes.
+    ///
+    /// Errors: `Size` where there would be more than `isize::MAX` bytes, which leaves the builder
+    /// as it was; `Memory`, after which some of the slice's first chunks may be appended.
     pub fn append_slice(&mut self, slice: RopeSlice<'_>) -> Result<(), Error>
         ensures text { OnOk result (self.new ≡ self.old ++ slice_text slice.entry) }
         ensures front { OnErr result ((len : ℕ) ×
@@ -81,7 +84,7 @@ impl RopeBuilder {
         Ok(())
     }
 
-    /// How many bytes of UTF-8 the text so far has. `O(1)`.
+    /// Returns the length in bytes of the text so far. `O(1)`.
     pub fn len_bytes(&self) -> usize
         ensures bytes { result ≡ byte_len self.now }
         ensures fits { result < 2 ^ 63 }
@@ -98,8 +101,8 @@ impl RopeBuilder {
         self.append(part)
     }
 
-    /// The rope of the text. A refusal, which is `Memory`, drops the builder. `O(n)`, without
-    /// copying the text again.
+    /// Returns the rope of the text, which isn't copied again. Errors: `Memory`, which drops the
+    /// text. `O(n)`.
     pub fn finish(self) -> Result<Rope, Error>
         ensures text { IfOk result (λ rope. text_of rope ≡ self) }
         ensures full { IfOk result (λ rope. AreFull rope) }

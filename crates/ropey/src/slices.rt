@@ -19,8 +19,8 @@ use ropey_walk::slice::RopeSlice;
 use std::alloc::Global;
 
 impl Rope {
-    /// A rope of the text of a slice. It copies the text, and shares nothing with the slice's rope.
-    /// The one refusal is `Memory`. `O(n)`.
+    /// Returns a rope of the text of a slice, which it copies; no node is shared. Errors: `Memory`.
+    /// `O(n)`.
     pub fn from_slice(alloc: Global, slice: RopeSlice<'_>) -> Result<Self, Error>
         ensures text { IfOk result (λ rope. text_of rope ≡ slice_text slice.entry) }
         ensures full { IfOk result (λ rope. AreFull rope) }
@@ -34,7 +34,7 @@ impl Rope {
         Ok(rope)
     }
 
-    /// A line, with the break that ends it. The line index is below `len_lines`. `O(log n)`.
+    /// Returns a line with the break that ends it. Requires `line_idx < len_lines()`. `O(log n)`.
     pub fn line(&self, line_idx: usize) -> RopeSlice<'_>
         requires { line_idx < line_breaks (text_of self.now) + 1 }
         ensures { slice_pieces result ≡ line_pieces self.now line_idx }
@@ -42,7 +42,7 @@ impl Rope {
         self.whole().line(line_idx)
     }
 
-    /// `line`, and none from `len_lines` on. `O(log n)`.
+    /// Returns `line`, or `None` from `len_lines()` on. `O(log n)`.
     pub fn get_line(&self, line_idx: usize) -> Option<RopeSlice<'_>>
         ensures none { IsNone result ↔ (line_breaks (text_of self.now) + 1 ≤ line_idx) }
         ensures line { IfSome result (λ line. slice_pieces line ≡ line_pieces self.now line_idx) }
@@ -50,8 +50,8 @@ impl Rope {
         self.whole().get_line(line_idx)
     }
 
-    /// A range of characters. It lies inside the text: it starts no later than it ends, and ends at
-    /// most at `len_chars`. `O(log n)`.
+    /// Returns the slice of a range of characters. Requires the range to start no later than it
+    /// ends, and to end at or before `len_chars()`. `O(log n)`.
     pub fn slice<R: TextRange>(&self, char_range: R) -> RopeSlice<'_>
         requires { IsRangeIn (length (text_of self.now)) (R.ends char_range) }
         ensures { slice_pieces result ≡ chars_in (R.ends char_range) self.now }
@@ -59,7 +59,7 @@ impl Rope {
         self.whole().slice(char_range)
     }
 
-    /// `slice`, and none where the range doesn't lie inside the text. `O(log n)`.
+    /// Returns `slice`, or `None` where its range isn't inside the text. `O(log n)`.
     pub fn get_slice<R: TextRange>(&self, char_range: R) -> Option<RopeSlice<'_>>
         ensures some { IsSome result ↔ IsRangeIn (length (text_of self.now)) (R.ends char_range) }
         ensures slice { IfSome result (λ slice. slice_pieces slice ≡
@@ -68,8 +68,8 @@ impl Rope {
         self.whole().get_slice(char_range)
     }
 
-    /// A range of bytes. It lies inside the text: it starts no later than it ends, ends at most at
-    /// `len_bytes`, and neither inside a character. `O(log n)`.
+    /// Returns the slice of a range of bytes. Requires the range to start no later than it ends, to
+    /// end at or before `len_bytes()`, and to start and end at character boundaries. `O(log n)`.
     pub fn byte_slice<R: TextRange>(&self, byte_range: R) -> RopeSlice<'_>
         requires { IsByteRangeIn (text_of self.now) (R.ends byte_range) }
         ensures { slice_pieces result ≡ bytes_in (R.ends byte_range) self.now }
@@ -77,7 +77,7 @@ impl Rope {
         self.whole().byte_slice(byte_range)
     }
 
-    /// `byte_slice`, and none where the range doesn't lie inside the text, or cuts a character.
+    /// Returns `byte_slice`, or `None` where its range isn't inside the text or cuts a character.
     /// `O(log n)`.
     pub fn get_byte_slice<R: TextRange>(&self, byte_range: R) -> Option<RopeSlice<'_>>
         ensures some { IsSome result ↔ IsByteRangeIn (text_of self.now) (R.ends byte_range) }

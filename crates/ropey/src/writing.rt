@@ -27,12 +27,12 @@ fn write_bytes<W: Write>(writer: &mut W, bytes: &[u8]) -> io::Result<()>
 }
 
 impl Rope {
-    /// Writes the text's bytes to a writer, chunk by chunk, in as many writes as it needs. It
-    /// doesn't flush. `O(n)`.
+    /// Writes the text's bytes to a writer, chunk by chunk, in as many writes as it takes. Doesn't
+    /// flush. `O(n)`.
     ///
-    /// The first error of the writer is handed back, also an `Interrupted`, and a write that takes
-    /// none of some bytes is an error of the kind `WriteZero`. After an error the writer took a
-    /// front of the text's bytes, which may end inside a character, and no write is made after it.
+    /// Errors: the writer's first, also `Interrupted`, and `WriteZero` where it takes none of some
+    /// bytes. Nothing is written after an error; the writer has taken a front of the text's bytes,
+    /// which may end inside a character.
     pub fn write_to<W: Write>(&self, writer: &mut W) -> io::Result<()>
         ensures ok { OnOk result (Appends (W.contents writer.old) (W.contents writer.new)
             (encode_utf8_all (text_of self.now))) }

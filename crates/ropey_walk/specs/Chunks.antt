@@ -1,5 +1,5 @@
 -- The text of a rope or a slice, and the chunks that its calls show.
-use Rattle.std.specs.Prelude.{◌≡◌, ℕ, ◌<◌, ◌≤◌, ◌⊎◌, List, [], ◌∷◌, ◌++◌, length}
+use Rattle.std.specs.Prelude.{◌≡◌, ℕ, ◌-◌, ◌<◌, ◌≤◌, ◌⊎◌, List, [], ◌∷◌, ◌++◌, length}
 use Rattle.std.specs.List.{concat}
 use Rattle.str_indices.specs.Text.{breaks, byte_len}
 -- how a rope is cut, in the words of the tree
@@ -31,3 +31,8 @@ pub record ShowsChunk (pieces : List (List ℕ)) (count : List ℕ → ℕ) (i :
   pub line_is : line ≡ line_breaks (text_of before)
   pub not_past : count (text_of before) ≤ i
   pub passed : (i < count (text_of before ++ chunk)) ⊎ (after ≡ [])
+
+-- The chunk by a number of line breaks: the first chunk for none, else the first by whose end so many have ended, or the last.
+pub record ShowsChunkOfBreak (pieces : List (List ℕ)) (line_break_idx : ℕ) (chunk : List ℕ) (byte char line : ℕ) : Type 0 where
+  pub first : line_break_idx ≡ 0 → ShowsChunk pieces byte_len 0 chunk byte char line
+  pub later : 0 < line_break_idx → ShowsChunk pieces line_breaks (line_break_idx - 1) chunk byte char line

@@ -81,6 +81,11 @@ pub record StandsBefore (pieces : List (List ℕ)) (count : List ℕ → ℕ) (i
   pub not_past : count (text_of before) ≤ i
   pub passed : PassesFirst count i before after
 
+-- The place by a number of line breaks, as a call tells it: before the first chunk for none, else before the first chunk by whose end so many have ended, or behind the last.
+pub record StandsBeforeBreak (pieces : List (List ℕ)) (line_break_idx : ℕ) (from : TwoWay (List ℕ) × ℕ × ℕ × ℕ) : Type 0 where
+  pub first : line_break_idx ≡ 0 → StandsBefore pieces byte_len 0 from.0 from.1 from.2 from.3
+  pub later : 0 < line_break_idx → StandsBefore pieces line_breaks (line_break_idx - 1) from.0 from.1 from.2 from.3
+
 -- no CR LF is cut between any front of the pieces and the rest
 abbrev pub CutsNoCrLf : List (List ℕ) → Type 0
 CutsNoCrLf pieces = (front rest : List (List ℕ)) → pieces ≡ front ++ rest → NoCrLfBetween (text_of front) (text_of rest)

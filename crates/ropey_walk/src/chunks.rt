@@ -3,7 +3,7 @@
 ghost use Rattle.std.specs.Prelude.{◌≡◌, ◌+◌, ◌-◌, ◌<◌, ◌≤◌, ◌↔◌, length, slice_index, SomeIff, IfSome, IsSome, IsNone, IfOk, IfErr, IsOk, encode_utf8_all};
 ghost use Rattle.std.specs.Str.{chars, IsUtf8};
 ghost use Rattle.str_indices.specs.Text.{byte_len};
-ghost use Rattle.ropey_walk.specs.Chunks.{line_breaks, IsText, ShowsChunk};
+ghost use Rattle.ropey_walk.specs.Chunks.{line_breaks, IsText, ShowsChunk, ShowsChunkOfBreak};
 
 use crate::ascii::byte_of_char;
 use crate::slice::RopeSlice;
@@ -151,11 +151,7 @@ impl<'a> RopeSlice<'a> {
     /// there it is the last chunk; an empty text shows an empty one at 0, 0, 0. `O(log n)`.
     pub fn chunk_at_line_break(&self, line_break_idx: usize) -> (&'a str, usize, usize, usize)
         requires { line_break_idx ≤ line_breaks (slice_text self.now) + 1 }
-        ensures first { line_break_idx ≡ 0 →
-            ShowsChunk (slice_pieces self.now) byte_len 0 (chars result.0.now) result.1 result.2
-            result.3 }
-        ensures later { 0 < line_break_idx →
-            ShowsChunk (slice_pieces self.now) line_breaks (line_break_idx - 1)
+        ensures chunk { ShowsChunkOfBreak (slice_pieces self.now) line_break_idx
             (chars result.0.now) result.1 result.2 result.3 }
         ensures utf8 { IsUtf8 result.0.now }
     {
@@ -174,12 +170,8 @@ impl<'a> RopeSlice<'a> {
         line_break_idx: usize,
     ) -> Option<(&'a str, usize, usize, usize)>
         ensures none { IsNone result ↔ (line_breaks (slice_text self.now) + 1 < line_break_idx) }
-        ensures first { line_break_idx ≡ 0 →
-            IfSome result (λ shown. ShowsChunk (slice_pieces self.now) byte_len 0
-            (chars shown.0.now) shown.1 shown.2 shown.3) }
-        ensures later { 0 < line_break_idx →
-            IfSome result (λ shown. ShowsChunk (slice_pieces self.now) line_breaks
-            (line_break_idx - 1) (chars shown.0.now) shown.1 shown.2 shown.3) }
+        ensures chunk { IfSome result (λ shown. ShowsChunkOfBreak (slice_pieces self.now)
+            line_break_idx (chars shown.0.now) shown.1 shown.2 shown.3) }
         ensures utf8 { IfSome result (λ shown. IsUtf8 shown.0.now) }
     {
         if line_break_idx <= self.len_lines() {

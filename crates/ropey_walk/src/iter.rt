@@ -12,7 +12,7 @@ ghost use Rattle.str_indices.specs.Text.{byte_len};
 ghost use Rattle.ropey_tree.specs.Counts.{counts_of, amount};
 ghost use Rattle.ropey_walk.specs.Chunks.{line_breaks, IsText};
 ghost use Rattle.ropey_walk.specs.TwoWay.{before_item};
-ghost use Rattle.ropey_walk.specs.Iter.{StandsBefore, CutsNoCrLf};
+ghost use Rattle.ropey_walk.specs.Iter.{StandsBefore, StandsBeforeBreak, CutsNoCrLf};
 ghost use Rattle.ropey_walk.specs.Lines.{lines_of};
 ghost use Rattle.ropey_walk.specs.Slices.{slice_pieces, slice_text};
 
@@ -204,11 +204,7 @@ impl<'a> RopeSlice<'a> {
     /// The number is at most `len_lines`. `O(log n)`.
     pub fn chunks_at_line_break(&self, line_break_idx: usize) -> (Chunks<'a>, usize, usize, usize)
         requires { line_break_idx ≤ line_breaks (slice_text self.now) + 1 }
-        ensures first { line_break_idx ≡ 0 →
-            StandsBefore (slice_pieces self.now) byte_len 0 result.0 result.1 result.2 result.3 }
-        ensures later { 0 < line_break_idx →
-            StandsBefore (slice_pieces self.now) line_breaks (line_break_idx - 1) result.0 result.1
-            result.2 result.3 }
+        ensures { StandsBeforeBreak (slice_pieces self.now) line_break_idx result }
     {
         if line_break_idx == 0 {
             self.chunks_at(By::Bytes, 0)
@@ -223,11 +219,8 @@ impl<'a> RopeSlice<'a> {
         line_break_idx: usize,
     ) -> Option<(Chunks<'a>, usize, usize, usize)>
         ensures none { IsNone result ↔ (line_breaks (slice_text self.now) + 1 < line_break_idx) }
-        ensures first { line_break_idx ≡ 0 → IfSome result (λ from.
-            StandsBefore (slice_pieces self.now) byte_len 0 from.0 from.1 from.2 from.3) }
-        ensures later { 0 < line_break_idx → IfSome result (λ from.
-            StandsBefore (slice_pieces self.now) line_breaks (line_break_idx - 1) from.0 from.1
-            from.2 from.3) }
+        ensures chunks { IfSome result
+            (StandsBeforeBreak (slice_pieces self.now) line_break_idx) }
     {
         if line_break_idx == 0 || line_break_idx - 1 <= self.counts().breaks {
             Some(self.chunks_at_line_break(line_break_idx))
