@@ -22,6 +22,7 @@ use Rattle.rx_program.specs.Programs.{ByteProgram, characters_of}
 use Rattle.rx_steps.specs.Threads.{Slots}
 use Rattle.rx_steps.specs.Searching.{IsAnswer, anchoring_of, search_of}
 use Rattle.rx_chunk.specs.Engines.{Engine, Finds, IsFound, TellsMatch, TellsSlots, TellsWhether}
+use Rattle.rx_chunk.specs.Searches.{TellsWhole}
 use Rattle.rx_chunk.specs.Iterating.{ComesNext, EndsAhead, HasNotedNext, IsFoundNext}
 use Rattle.regex_cursor.specs.declared.engines.meta.strategy.Left.{Left}
 use Rattle.regex_cursor.specs.Strategies.{FindsUpTo, IsLeft}
@@ -157,3 +158,12 @@ pub no_slots_told : (p : ByteProgram) (s : Search) (earliest : Bool) (slots : Sl
 no_slots_told p s earliest slots n finds is =
     let len : length slots ≡ n = ap (λ xs. length xs) is ∙ length-replicate n None in
     record { whether = none_there p s finds; exact = λ e. record { found = None; finds = finds; pattern_is = refl; slots_are = is ∙ ap (λ k. replicate k None) (sym len) } }
+
+-- and captures in which nothing is noted tell no match
+pub nothing_whole : (e : Engine) (i : InputState) (caps : Captured) (groups : Groups) (n : ℕ) → Finds e.program (search_of e.utf8_empty i) None → caps ≡ nothing_noted groups n → TellsWhole e i caps
+nothing_whole e i caps groups n finds is =
+    subst (λ (x : Captured). TellsWhole e i x) (sym is) (record {
+      match = no_match_told e.program (search_of e.utf8_empty i) i.asked.earliest finds;
+      ordered = λ span some. absurd (cc some);
+      inside = λ found some. absurd (cc some);
+    })

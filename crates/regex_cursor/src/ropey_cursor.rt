@@ -37,8 +37,8 @@ impl<'a> RopeyCursor<'a> {
     ghost use Rattle.rx_input.specs.Inputs.{HoldsPlace};
     ghost use Rattle.regex_cursor.specs.Showing.{EndsFirst, MayShowNext, all_chunks};
 
-    /// A cursor over the bytes of a slice. It shows the first chunk, and an empty one where the
-    /// slice is empty. `O(log n)`.
+    /// Returns a cursor over the bytes of a slice. It shows the first chunk, and an empty one where
+    /// the slice is empty. `O(log n)`.
     pub fn new(slice: RopeSlice<'a>) -> RopeyCursor<'a>
         ensures content { result.content ≡ slice_bytes slice.entry }
         ensures is_sized { result.is_sized ≡ true }
@@ -47,8 +47,10 @@ impl<'a> RopeyCursor<'a> {
         RopeyCursor::at(slice, 0)
     }
 
-    /// A cursor over the bytes of a slice that shows the chunk with the byte at a place, which is
-    /// at most the slice's length; there it is the last chunk. `O(log n)`.
+    /// Returns a cursor over the bytes of a slice that shows the chunk with the byte at a place; at
+    /// the slice's length it is the last chunk. `O(log n)`.
+    ///
+    /// Requires that the place is at most the slice's length.
     pub fn at(slice: RopeSlice<'a>, at: usize) -> RopeyCursor<'a>
         requires { at ≤ byte_len (slice_text slice) }
         ensures content { result.content ≡ slice_bytes slice.entry }

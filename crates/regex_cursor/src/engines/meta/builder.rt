@@ -18,16 +18,18 @@ const NFA_SIZE_LIMIT: usize = 10_485_760;
 pub struct Builder {}
 
 impl Builder {
-    /// Nothing is set.
+    /// Returns a builder in which nothing is set.
     pub fn new() -> Builder {
         Builder {}
     }
 
-    /// The regex for a pattern. There is none for a pattern of more than 65,536 bytes (`TooLong`),
-    /// one that would be a pattern at a greater nest limit (`Nesting`), one outside the grammar
-    /// (`Outside`), and one that weighs more than 262,144 (`Size`). `Memory` may be told in place
-    /// of the regex and of each refusal but the first. It takes time and memory in proportion to
-    /// the pattern's weight and to the automata of its sets.
+    /// Returns the regex for a pattern. It takes time and memory in proportion to the pattern's
+    /// weight and to the automata of its sets.
+    ///
+    /// Errors: `TooLong` for a pattern of more than 65,536 bytes, `Nesting` for one that would be a
+    /// pattern at a greater nest limit, `Outside` for one outside the grammar, and `Size` for one
+    /// that weighs more than 262,144. `Memory` may come in place of the regex and of each error but
+    /// the first.
     pub fn build(&self, alloc: Global, pattern: &str) -> Result<Regex, BuildError>
         ensures built { IfOk result (λ re. IsRegexOf pattern.now re) }
         ensures refused { IfErr result (λ error. IsRefusedAsRegex pattern.now error) }

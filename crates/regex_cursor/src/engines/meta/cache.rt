@@ -43,8 +43,8 @@ impl Model for Cache {
 }
 
 impl Cache {
-    /// A cache for searches with a regex. The one refusal is `Memory`. It takes memory in
-    /// proportion to the states of the pattern's program and to those of its sets' automata.
+    /// Returns a cache for searches with a regex, which takes memory in proportion to the states of
+    /// the pattern's program and to those of its sets' automata. The one error is `Memory`.
     pub fn new(alloc: Global, re: &Regex) -> Result<Cache, MatchError>
         ensures made { IfOk result (λ cache. IsCacheOf re.now cache) }
         ensures refused { IfErr result (λ error. error ≡ MatchError.Memory) }
@@ -67,7 +67,7 @@ impl Cache {
         })
     }
 
-    /// A cache for the same regex. The one refusal is `Memory`.
+    /// Returns a cache for the same regex. The one error is `Memory`.
     pub fn clone(&self) -> Result<Cache, MatchError>
         ensures same { IfOk result (λ cache. cache ≡ self.now) }
         ensures refused { IfErr result (λ error. error ≡ MatchError.Memory) }
@@ -76,8 +76,8 @@ impl Cache {
         Cache::over(strategy.program().allocator(), strategy)
     }
 
-    /// Makes the cache one for searches with this regex. The one refusal is `Memory`; the cache is
-    /// then as it was.
+    /// Makes the cache one for searches with this regex. The one error is `Memory`, which leaves the
+    /// cache as it was.
     pub fn reset(&mut self, re: &Regex) -> Result<(), MatchError>
         ensures made { OnOk result (IsCacheOf re.now self.new) }
         ensures kept { OnErr result (self.new ≡ self.old) }
@@ -88,7 +88,7 @@ impl Cache {
         Ok(())
     }
 
-    /// About how many bytes its lists take: a count that no contract fixes.
+    /// Returns about how many bytes its lists take: a count that no contract fixes.
     pub fn memory_usage(&self) -> usize {
         self.vm
             .memory_usage()

@@ -64,15 +64,15 @@ impl<'r, C: Cursor> CapturesMatches<'r, C> {
         }
     }
 
-    /// The regex that it searches for.
+    /// Returns the regex that it searches for.
     pub fn regex(&self) -> &'r Regex
         ensures { result.now ≡ regex_of self.now }
     {
         self.re
     }
 
-    /// The input in which the next match is searched, which may be changed. The end of the last
-    /// match is kept: an empty match that ends there is passed over, and no other.
+    /// Returns the input in which the next match is searched, which may be changed. The end of the
+    /// last match is kept: an empty match that ends there is passed over, and no other.
     pub fn input(&mut self) -> &mut Input<C>
         ensures* writes_back { sem 𝓛 (CapturesLendInput C.row C.Cursor self.entry result) }
         ensures search { search_by (regex_of self.old) result.now ≡ (left_of self.old).search }

@@ -46,7 +46,8 @@ impl Model for Regex {
 }
 
 impl Regex {
-    /// The regex for a pattern, with the default settings, and refused as by `Builder::build`.
+    /// Returns the regex for a pattern, with the default settings. Errors are those of
+    /// `Builder::build`.
     pub fn new(alloc: Global, pattern: &str) -> Result<Regex, BuildError>
         ensures built { IfOk result (λ re. IsRegexOf pattern.now re) }
         ensures refused { IfErr result (λ error. IsRefusedAsRegex pattern.now error) }
@@ -54,7 +55,7 @@ impl Regex {
         Regex::builder().build(alloc, pattern)
     }
 
-    /// A builder with the default settings.
+    /// Returns a builder with the default settings.
     pub fn builder() -> Builder {
         Builder::new()
     }
@@ -82,7 +83,8 @@ impl Regex {
         self.strategy.vm()
     }
 
-    /// The same regex, which shares what it was compiled to. The one refusal is `Memory`. `O(1)`.
+    /// Returns the same regex, which shares what it was compiled to. The one error is `Memory`.
+    /// `O(1)`.
     pub fn clone(&self) -> Result<Regex, MatchError>
         ensures same { IfOk result (λ re. re ≡ self.now) }
         ensures refused { IfErr result (λ error. error ≡ MatchError.Memory) }
@@ -92,7 +94,7 @@ impl Regex {
         })
     }
 
-    /// Whether there is a match. The one refusal is `Memory`.
+    /// Returns whether there is a match. The one error is `Memory`.
     pub fn is_match<C: Cursor + Drop>(&self, mut input: Input<C>) -> Result<bool, MatchError>
         ensures answer { IfOk result (λ yes. TellsWhether self.now.program
             (search_by self.now input) yes) }
@@ -102,7 +104,7 @@ impl Regex {
         strategy::is_match(self.vm(), &mut cache, &mut input)
     }
 
-    /// The match that is found, as by `search`.
+    /// Returns the match that is found, as `search` does.
     pub fn find<C: Cursor + Drop>(&self, input: Input<C>) -> Result<Option<Match>, MatchError>
         ensures answer { IfOk result (λ found. TellsMatch self.now input found) }
         ensures refused { IfErr result (λ error. error ≡ MatchError.Memory) }
@@ -110,7 +112,7 @@ impl Regex {
         self.search(input)
     }
 
-    /// Notes what is found with all its groups, as by `search_captures`.
+    /// Notes what is found with all its groups, as `search_captures` does.
     pub fn captures<C: Cursor + Drop>(
         &self,
         input: Input<C>,
@@ -128,9 +130,9 @@ impl Regex {
         self.search_captures(input, caps)
     }
 
-    /// All matches in an input, one after the other, also where its `earliest` is set. An empty
-    /// match where the one before ended is passed over. They are few enough that `count` may be
-    /// asked. The one refusal is `Memory`.
+    /// Returns an iterator over all matches in an input, one after the other, also where its
+    /// `earliest` is set. An empty match where the one before ended is passed over. They are few
+    /// enough that `count` may be called. The one error is `Memory`.
     pub fn find_iter<'r, C: Cursor + Drop>(
         &'r self,
         input: Input<C>,
@@ -145,8 +147,8 @@ impl Regex {
         Ok(FindMatches::new(self, cache, input))
     }
 
-    /// All matches in an input with their groups, as by `find_iter`. Each item has captures of its
-    /// own. The one refusal is `Memory`.
+    /// Returns an iterator over all matches in an input with their groups, as `find_iter` does. Each
+    /// item has captures of its own. The one error is `Memory`.
     pub fn captures_iter<'r, C: Cursor + Drop>(
         &'r self,
         input: Input<C>,
@@ -164,8 +166,8 @@ impl Regex {
         Ok(CapturesMatches::new(self, cache, caps, input))
     }
 
-    /// The parts between the matches, from 0 to the end of the input's span, at most to that of its
-    /// content. The one refusal is `Memory`.
+    /// Returns an iterator over the parts between the matches, from 0 to the end of the input's span,
+    /// at most to that of its content. The one error is `Memory`.
     pub fn split<'r, C: Cursor + Drop>(
         &'r self,
         input: Input<C>,
@@ -181,8 +183,8 @@ impl Regex {
         Ok(Split::new(self, cache, input))
     }
 
-    /// The same parts, at most as many as the limit: the last of so many goes to the end. The one
-    /// refusal is `Memory`.
+    /// Returns an iterator over the same parts, at most as many as the limit: the last of so many
+    /// goes to the end. The one error is `Memory`.
     pub fn splitn<'r, C: Cursor + Drop>(
         &'r self,
         input: Input<C>,
@@ -201,8 +203,9 @@ impl Regex {
         Ok(SplitN::new(self, cache, input, limit))
     }
 
-    /// The match that is found: of those that start first the one that the pattern prefers. Where
-    /// `earliest` is set, only whether there is a match is promised. The one refusal is `Memory`.
+    /// Returns the match that is found: of those that start first the one that the pattern prefers.
+    /// Where `earliest` is set, only whether there is a match is promised. The one error is
+    /// `Memory`.
     pub fn search<C: Cursor + Drop>(&self, mut input: Input<C>) -> Result<Option<Match>, MatchError>
         ensures answer { IfOk result (λ found. TellsMatch self.now input found) }
         ensures refused { IfErr result (λ error. error ≡ MatchError.Memory) }
@@ -211,7 +214,7 @@ impl Regex {
         self.search_with(&mut cache, &mut input)
     }
 
-    /// Notes what is found with all its groups, as by `search_captures_with`.
+    /// Notes what is found with all its groups, as `search_captures_with` does.
     pub fn search_captures<C: Cursor + Drop>(
         &self,
         mut input: Input<C>,
@@ -231,7 +234,7 @@ impl Regex {
         self.search_captures_with(&mut cache, &mut input, caps)
     }
 
-    /// Puts what is found into slots, as by `search_slots_with`.
+    /// Puts what is found into slots, as `search_slots_with` does.
     pub fn search_slots<C: Cursor + Drop>(
         &self,
         mut input: Input<C>,
@@ -245,8 +248,9 @@ impl Regex {
         self.search_slots_with(&mut cache, &mut input, slots)
     }
 
-    /// `search`, with a cache, which must be one for this regex. Span, slice, anchoring and
-    /// `earliest` of the input stay as they are.
+    /// Returns the match that is found, as `search` does, by a cache. Span, slice, anchoring and
+    /// `earliest` of the input stay as they are. The one error is `Memory`. Requires that the cache
+    /// is one for this regex, as it is afterwards too.
     pub fn search_with<C: Cursor>(
         &self,
         cache: &mut Cache,
@@ -264,9 +268,9 @@ impl Regex {
 
     /// Notes what is found in captures: its pattern, and the places in as many slots as they have.
     /// In captures that the regex made group 0 is then the whole match. Where `earliest` is set,
-    /// only whether there is a match is promised. The one refusal is `Memory`: then no pattern is
-    /// noted. The cache must be one for this regex. Span, slice, anchoring and `earliest` of the
-    /// input stay as they are.
+    /// only whether there is a match is promised. Span, slice, anchoring and `earliest` of the input
+    /// stay as they are. The one error is `Memory`: then no pattern is noted. Requires that the cache
+    /// is one for this regex, as it is afterwards too.
     pub fn search_captures_with<C: Cursor>(
         &self,
         cache: &mut Cache,
@@ -289,11 +293,11 @@ impl Regex {
         strategy::search(self.vm(), cache, input, caps)
     }
 
-    /// The pattern of the match that is found; its places are put into the slots, as many as there
-    /// are, and all others hold none. Those of group k are 2k and 2k + 1. Where `earliest` is set,
-    /// only whether there is a match is promised. The one refusal is `Memory`: what the slots then
-    /// hold has no meaning. The cache must be one for this regex. Span, slice, anchoring and
-    /// `earliest` of the input stay as they are.
+    /// Returns the pattern of the match that is found, if there is one, and puts its places into the
+    /// slots, as many as there are; all others hold none. Those of group k are 2k and 2k + 1. Where
+    /// `earliest` is set, only whether there is a match is promised. Span, slice, anchoring and
+    /// `earliest` of the input stay as they are. The one error is `Memory`: what the slots then hold
+    /// has no meaning. Requires that the cache is one for this regex, as it is afterwards too.
     pub fn search_slots_with<C: Cursor>(
         &self,
         cache: &mut Cache,
@@ -311,8 +315,8 @@ impl Regex {
         strategy::search_slots(self.vm(), cache, input, slots)
     }
 
-    /// Captures with slots for all groups, in which nothing is noted. The one refusal is `Memory`.
-    /// `O(n)` in the number of groups.
+    /// Returns captures with slots for all groups, in which nothing is noted. The one error is
+    /// `Memory`. `O(n)` in the number of groups.
     pub fn create_captures(&self) -> Result<Captures, MatchError>
         ensures made { IfOk result (λ caps. caps
             ≡ nothing_noted self.now.groups (slot_len self.now.groups)) }
@@ -323,8 +327,8 @@ impl Regex {
         self.vm().create_captures()
     }
 
-    /// A cache for searches with it. The one refusal is `Memory`. It takes memory in proportion to
-    /// the states of the pattern's program and to those of its sets' automata.
+    /// Returns a cache for searches with it, which takes memory in proportion to the states of the
+    /// pattern's program and to those of its sets' automata. The one error is `Memory`.
     pub fn create_cache(&self) -> Result<Cache, MatchError>
         ensures made { IfOk result (λ cache. IsCacheOf self.now cache) }
         ensures refused { IfErr result (λ error. error ≡ MatchError.Memory) }
@@ -332,21 +336,21 @@ impl Regex {
         Cache::new(self.strategy.program().allocator(), self)
     }
 
-    /// How many patterns it has: one.
+    /// Returns how many patterns it has: one.
     pub fn pattern_len(&self) -> usize
         ensures { result ≡ length self.now.groups }
     {
         self.group_info().pattern_len()
     }
 
-    /// How many groups its pattern has, the whole match among them.
+    /// Returns how many groups its pattern has, the whole match among them.
     pub fn captures_len(&self) -> usize
         ensures { result ≡ group_len self.now.groups 0 }
     {
         self.group_info().group_len(PatternID::ZERO)
     }
 
-    /// The groups of its pattern. `O(1)`.
+    /// Returns the groups of its pattern. `O(1)`.
     pub fn group_info(&self) -> &GroupInfo
         ensures groups { result.now ≡ self.now.groups }
         ensures regex { IsRegex self.now }

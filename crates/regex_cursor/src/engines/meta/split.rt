@@ -44,7 +44,7 @@ impl<'r, C: Cursor> Split<'r, C> {
         }
     }
 
-    /// The input in which the next match is searched, which may be changed, as that of
+    /// Returns the input in which the next match is searched, which may be changed, as that of
     /// `FindMatches`. The next part starts at the end of the last match all the same.
     pub fn input(&mut self) -> &mut Input<C>
         ensures* writes_back { sem 𝓛 (SplitLendsInput C.row C.Cursor self.entry result) }

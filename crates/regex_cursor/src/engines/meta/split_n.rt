@@ -49,7 +49,8 @@ impl<'r, C: Cursor> SplitN<'r, C> {
         }
     }
 
-    /// The input in which the next match is searched, which may be changed, as that of `Split`.
+    /// Returns the input in which the next match is searched, which may be changed, as that of
+    /// `Split`.
     pub fn input(&mut self) -> &mut Input<C>
         ensures* writes_back { sem 𝓛 (SplitNLendsInput C.row C.Cursor self.entry result) }
         ensures search { search_by (regex_of self.old) result.now

@@ -7,13 +7,11 @@ ghost use Rattle.rx_util.specs.declared.search.MatchError.{MatchError};
 ghost use Rattle.rx_util.specs.Captured.{group_span, match_found, nothing_noted};
 ghost use Rattle.rx_input.specs.Cursors.{IsSameContent};
 ghost use Rattle.rx_input.specs.Inputs.{IsSpan};
-ghost use Rattle.rx_input.specs.Searchers.{EndsInside};
-ghost use Rattle.rx_steps.specs.Searching.{search_of};
 ghost use Rattle.rx_walks.specs.Finds.{Search};
 ghost use Rattle.rx_program.specs.Programs.{ByteProgram};
 ghost use Rattle.rx_chunk.specs.Engines.{TellsWhether};
 ghost use Rattle.rx_chunk.specs.Iterating.{EndsAhead, HasNotedNext, IsFoundNext, StartsFrom};
-ghost use Rattle.regex_cursor.specs.Regexes.{IsCacheOf, TellsMatch, TellsSlots};
+ghost use Rattle.regex_cursor.specs.Regexes.{HoldsMatches, IsCacheOf, TellsMatch, TellsSlots, TellsWhole, search_by};
 ghost use Rattle.regex_cursor.specs.Strategies.{AreEngines, IsLeft};
 
 use super::cache::Cache;
@@ -138,7 +136,7 @@ pub(super) fn is_match<C: Cursor>(
 ) -> Result<bool, MatchError>
     requires made { IsCacheOf vm.now cache.old }
     ensures answer { IfOk result (λ yes. TellsWhether vm.now.program
-        (search_of vm.now.utf8_empty input.old) yes) }
+        (search_by vm.now input.old) yes) }
     ensures made { IsCacheOf vm.now cache.new }
     ensures asked { input.new.asked ≡ input.old.asked }
     ensures same { IsSameContent input.old.cursor input.new.cursor }
@@ -230,12 +228,8 @@ pub(super) fn search<C: Cursor>(
     requires made { IsCacheOf vm.now cache.old }
     ensures answer { OnOk result
         (TellsSlots vm.now input.old caps.new.pattern caps.new.slots) }
-    ensures found { OnOk result (caps.old.groups ≡ vm.now.groups → 2 ≤ length caps.old.slots
-        → TellsMatch vm.now input.old (match_found caps.new)) }
-    ensures ordered { OnOk result (caps.old.groups ≡ vm.now.groups → 2 ≤ length caps.old.slots
-        → ForSome (group_span caps.new 0) (λ span. span.start ≤ span.end)) }
-    ensures inside { OnOk result (caps.old.groups ≡ vm.now.groups → 2 ≤ length caps.old.slots
-        → ForSome (match_found caps.new) (λ found. EndsInside input.old found.span.end)) }
+    ensures whole { HoldsMatches vm.now caps.old
+        → OnOk result (TellsWhole vm.now input.old caps.new) }
     ensures groups { caps.new.groups ≡ caps.old.groups }
     ensures slot_len { length caps.new.slots ≡ length caps.old.slots }
     ensures no_answer { OnErr result (caps.new.pattern ≡ None) }
@@ -276,9 +270,9 @@ pub(super) fn find_next<C: Cursor>(
 ) -> Result<Option<Match>, MatchError>
     requires made { IsCacheOf vm.now cache.old }
     ensures answer { IfOk result (λ found. IsFoundNext vm.now.program
-        (search_of vm.now.utf8_empty input.old) last_match_end found) }
+        (search_by vm.now input.old) last_match_end found) }
     ensures ahead { IfOk result (λ found. ForSome found (λ m. EndsAhead last_match_end
-        (search_of vm.now.utf8_empty input.old) m.span.end)) }
+        (search_by vm.now input.old) m.span.end)) }
     ensures made { IsCacheOf vm.now cache.new }
     ensures same { (start : ℕ) × StartsFrom input.old input.new start }
     ensures refused { IfErr result (λ error. error ≡ MatchError.Memory) }
@@ -314,11 +308,11 @@ pub(super) fn search_next<C: Cursor>(
     requires groups { caps.old.groups ≡ vm.now.groups }
     requires slots { 2 ≤ length caps.old.slots }
     ensures answer { OnOk result (HasNotedNext vm.now.program
-        (search_of vm.now.utf8_empty input.old) last_match_end caps.new) }
+        (search_by vm.now input.old) last_match_end caps.new) }
     ensures ordered { OnOk result (ForSome (group_span caps.new 0)
         (λ span. span.start ≤ span.end)) }
     ensures ahead { OnOk result (ForSome (match_found caps.new) (λ m. EndsAhead last_match_end
-        (search_of vm.now.utf8_empty input.old) m.span.end)) }
+        (search_by vm.now input.old) m.span.end)) }
     ensures groups { caps.new.groups ≡ caps.old.groups }
     ensures slot_len { length caps.new.slots ≡ length caps.old.slots }
     ensures no_answer { OnErr result (caps.new.pattern ≡ None) }
