@@ -1,7 +1,8 @@
 -- Threads without slots.
-use Rattle.std.proofs.Common.{inl, inr, ◌≡◌, ℕ, zero, suc, ◌+◌, ◌<◌, ◌≤◌, All, List, [], ◌∷◌, ◌++◌, length, take, get_or, Option, Some, None, slice_get, refl, sym, ap, ap₂, subst, ◌∙◌, arith}
+use Rattle.std.proofs.Common.{inl, inr, ◌≡◌, ℕ, zero, suc, ◌+◌, ◌<◌, ◌≤◌, All, List, [], ◌∷◌, ◌++◌, length, take, get_or, Option, Some, None, slice_get, IsSomeAnd, refl, sym, ap, ap₂, subst, ◌∙◌, arith}
 use Rattle.std.proofs.lemmas.List.{append_assoc, append-nil}
 use Rattle.std.proofs.lemmas.List.Elements.{All-append, All-cons, All-nil}
+use Rattle.std.proofs.lemmas.Option.{slice_get-get_or}
 use Rattle.rx_program.specs.declared.states.State.{State}
 use Rattle.rx_program.specs.declared.states.State.TheVariants as state
 use Rattle.rx_steps.specs.Nodes.{IsNodeOf, MayStand}
@@ -36,11 +37,12 @@ thread_is threads i x q bare lt e = whole (get_or threads i x) (bare_at threads 
     whole (n, r) f g = ap (λ k. (k, r)) f ∙ ap (λ s. ([], s)) (sym g)
 
 -- one more thread was added
-pub push_one : (threads others all : List Thread) (i : ℕ) (q : ℕ × ℕ) → AreBare others → i < length others → ((x : Thread) → q ≡ (get_or others i x).1) → threads ≡ all ++ take i others
+pub push_one : (threads others all : List Thread) (i : ℕ) (q : ℕ × ℕ) → AreBare others → i < length others → IsSomeAnd (slice_get others i) (λ t. q ≡ t.1) → threads ≡ all ++ take i others
     → threads ++ ([], q) ∷ [] ≡ all ++ take (i + 1) others
 push_one threads others all i q bare lt is e =
     let x : Thread = ([], q) in
-    let here : get_or others i x ≡ x = thread_is others i x q bare lt (is x) in
+    let at : q ≡ (get_or others i x).1 = subst (λ o. IsSomeAnd o (λ t. q ≡ t.1)) (slice_get-get_or others i x lt) is in
+    let here : get_or others i x ≡ x = thread_is others i x q bare lt at in
     let more : suc i ≡ i + 1 = omega arith in
     let front : take i others ++ x ∷ [] ≡ take (i + 1) others = ap (λ t. take i others ++ t ∷ []) (sym here) ∙ take_one others [] i x lt ∙ append-nil (take (suc i) others) ∙ ap (λ j. take j others) more in
     ap (λ xs. xs ++ x ∷ []) e ∙ append_assoc all (take i others) (x ∷ []) ∙ ap (λ xs. all ++ xs) front
