@@ -4,7 +4,7 @@ ghost use Rattle.std.specs.Prelude.{◌≡◌, IfErr, IfOk, OnErr, OnOk};
 ghost use Rattle.rx_util.specs.declared.search.MatchError.{MatchError};
 ghost use Rattle.rx_input.specs.Cursors.{IsSameContent};
 ghost use Rattle.regex_cursor.specs.Regexes.{IsCacheOf, search_by};
-ghost use Rattle.regex_cursor.specs.Strategies.{IsLeft};
+ghost use Rattle.regex_cursor.specs.Strategies.{AreCachesOf, IsLeft};
 
 use super::regex::Regex;
 use super::strategy::{Left, Strategy};
@@ -12,7 +12,7 @@ use rx_chunk::pikevm;
 use rx_dfa::try_search_fwd;
 use rx_input::{Cursor, Input};
 use rx_util::MatchError;
-use std::alloc::Global;
+use std::alloc::{AllocError, Global};
 use std::marker::Model;
 use std::rc::Rc;
 
@@ -24,6 +24,13 @@ const GIVES_UP: usize = 4;
 /// Contracts see that regex.
 #[derive(Debug, Drop)]
 pub struct Cache {
+    // In a box, so that caches and what holds them are small and quickly moved.
+    pub(super) kept: Box<Kept>,
+}
+
+/// What a cache keeps for each engine.
+#[derive(Debug, Drop)]
+pub(super) struct Kept {
     strategy: Rc<Strategy>,
     pub(super) vm: pikevm::Cache,
     automaton: rx_dfa::Cache,
@@ -31,77 +38,21 @@ pub struct Cache {
     gave_up: usize,
 }
 
-impl Model for Cache {
-    ghost use Rattle.regex_cursor.specs.Regexes.{CacheView};
-    ghost use Rattle.regex_cursor.specs.Strategies.{AreCachesOf};
-
-    ghost Value = { CacheView };
-
-    ghost view = { λ c. c.strategy.value.vm };
-
-    ghost invariant = { λ c. AreCachesOf c.strategy.value c.vm c.automaton };
-}
-
-impl Cache {
-    /// Returns a cache for searches with a regex, which takes memory in proportion to the states of
-    /// the pattern's program and to those of its sets' automata. The one error is `Memory`.
-    pub fn new(alloc: Global, re: &Regex) -> Result<Cache, MatchError>
-        ensures made { IfOk result (λ cache. IsCacheOf re.now cache) }
-        ensures refused { IfErr result (λ error. error ≡ MatchError.Memory) }
+impl Kept {
+    /// All of it in a box.
+    fn boxed(self, alloc: Global) -> Result<Box<Kept>, AllocError>
+        ensures { IfOk result (λ boxed. boxed.value ≡ self) }
     {
-        Cache::over(alloc, re.strategy().clone()?)
+        Ok(Box::new(alloc, self)?)
     }
 
-    /// A cache for searches by these engines.
-    fn over(alloc: Global, strategy: Rc<Strategy>) -> Result<Cache, MatchError>
-        ensures made { IfOk result (λ cache. cache ≡ strategy.value.vm) }
-        ensures refused { IfErr result (λ error. error ≡ MatchError.Memory) }
-    {
-        let vm = pikevm::Cache::new(alloc, strategy.vm())?;
-        let automaton = rx_dfa::Cache::new(alloc, strategy.program(), strategy.dfa())?;
-        Ok(Cache {
-            strategy,
-            vm,
-            automaton,
-            gave_up: 0,
-        })
-    }
-
-    /// Returns a cache for the same regex. The one error is `Memory`.
-    pub fn clone(&self) -> Result<Cache, MatchError>
-        ensures same { IfOk result (λ cache. cache ≡ self.now) }
-        ensures refused { IfErr result (λ error. error ≡ MatchError.Memory) }
-    {
-        let strategy = self.strategy.clone()?;
-        Cache::over(strategy.program().allocator(), strategy)
-    }
-
-    /// Makes the cache one for searches with this regex. The one error is `Memory`, which leaves the
-    /// cache as it was.
-    pub fn reset(&mut self, re: &Regex) -> Result<(), MatchError>
-        ensures made { OnOk result (IsCacheOf re.now self.new) }
-        ensures kept { OnErr result (self.new ≡ self.old) }
-        ensures refused { IfErr result (λ error. error ≡ MatchError.Memory) }
-    {
-        let alloc = self.strategy.program().allocator();
-        *self = Cache::new(alloc, re)?;
-        Ok(())
-    }
-
-    /// Returns about how many bytes its lists take: a count that no contract fixes.
-    pub fn memory_usage(&self) -> usize {
-        self.vm
-            .memory_usage()
-            .saturating_add(self.automaton.memory_usage())
-    }
-
-    /// Asks the automaton what is left of a search: nothing, where there is no match; else what
-    /// comes before the end of the match; or all, where it can't tell, or where it would come to
-    /// more than the search needs. The one refusal is `Memory`.
-    pub(super) fn ask<C: Cursor>(&mut self, input: &mut Input<C>) -> Result<Left, MatchError>
-        ensures left { IfOk result
-            (IsLeft self.old.program (search_by self.old input.old)) }
-        ensures same_regex { self.new ≡ self.old }
+    /// As `Cache::ask`.
+    fn ask<C: Cursor>(&mut self, input: &mut Input<C>) -> Result<Left, MatchError>
+        requires serve { AreCachesOf self.old.strategy.value self.old.vm self.old.automaton }
+        ensures left { IfOk result (IsLeft self.old.strategy.value.vm.program
+            (search_by self.old.strategy.value.vm input.old)) }
+        ensures serve { AreCachesOf self.new.strategy.value self.new.vm self.new.automaton }
+        ensures same_strategy { self.new.strategy ≡ self.old.strategy }
         ensures asked { input.new.asked ≡ input.old.asked }
         ensures same { IsSameContent input.old.cursor input.new.cursor }
         ensures refused { IfErr result (λ error. error ≡ MatchError.Memory) }
@@ -126,5 +77,89 @@ impl Cache {
             }
             Err(_) => Ok(Left::All),
         }
+    }
+}
+
+impl Model for Cache {
+    ghost use Rattle.regex_cursor.specs.Regexes.{CacheView};
+    ghost use Rattle.regex_cursor.specs.Strategies.{AreCachesOf};
+
+    ghost Value = { CacheView };
+
+    ghost view = { λ c. c.kept.value.strategy.value.vm };
+
+    ghost invariant = { λ c. AreCachesOf c.kept.value.strategy.value c.kept.value.vm
+        c.kept.value.automaton };
+}
+
+impl Cache {
+    /// Returns a cache for searches with a regex, which takes memory in proportion to the states of
+    /// the pattern's program and to those of its sets' automata. The one error is `Memory`.
+    pub fn new(alloc: Global, re: &Regex) -> Result<Cache, MatchError>
+        ensures made { IfOk result (λ cache. IsCacheOf re.now cache) }
+        ensures refused { IfErr result (λ error. error ≡ MatchError.Memory) }
+    {
+        Cache::over(alloc, re.strategy().clone()?)
+    }
+
+    /// A cache for searches by these engines.
+    fn over(alloc: Global, strategy: Rc<Strategy>) -> Result<Cache, MatchError>
+        ensures made { IfOk result (λ cache. cache ≡ strategy.value.vm) }
+        ensures refused { IfErr result (λ error. error ≡ MatchError.Memory) }
+    {
+        let vm = pikevm::Cache::new(alloc, strategy.vm())?;
+        let automaton = rx_dfa::Cache::new(alloc, strategy.program(), strategy.dfa())?;
+        let kept = Kept {
+            strategy,
+            vm,
+            automaton,
+            gave_up: 0,
+        };
+        Ok(Cache {
+            kept: kept.boxed(alloc)?,
+        })
+    }
+
+    /// Returns a cache for the same regex. The one error is `Memory`.
+    pub fn clone(&self) -> Result<Cache, MatchError>
+        ensures same { IfOk result (λ cache. cache ≡ self.now) }
+        ensures refused { IfErr result (λ error. error ≡ MatchError.Memory) }
+    {
+        let strategy = self.kept.strategy.clone()?;
+        Cache::over(strategy.program().allocator(), strategy)
+    }
+
+    /// Makes the cache one for searches with this regex. The one error is `Memory`, which leaves the
+    /// cache as it was.
+    pub fn reset(&mut self, re: &Regex) -> Result<(), MatchError>
+        ensures made { OnOk result (IsCacheOf re.now self.new) }
+        ensures kept { OnErr result (self.new ≡ self.old) }
+        ensures refused { IfErr result (λ error. error ≡ MatchError.Memory) }
+    {
+        let alloc = self.kept.strategy.program().allocator();
+        *self = Cache::new(alloc, re)?;
+        Ok(())
+    }
+
+    /// Returns about how many bytes its lists take: a count that no contract fixes.
+    pub fn memory_usage(&self) -> usize {
+        let kept = &self.kept;
+        kept.vm
+            .memory_usage()
+            .saturating_add(kept.automaton.memory_usage())
+    }
+
+    /// Asks the automaton what is left of a search: nothing, where there is no match; else what
+    /// comes before the end of the match; or all, where it can't tell, or where it would come to
+    /// more than the search needs. The one refusal is `Memory`.
+    pub(super) fn ask<C: Cursor>(&mut self, input: &mut Input<C>) -> Result<Left, MatchError>
+        ensures left { IfOk result
+            (IsLeft self.old.program (search_by self.old input.old)) }
+        ensures same_regex { self.new ≡ self.old }
+        ensures asked { input.new.asked ≡ input.old.asked }
+        ensures same { IsSameContent input.old.cursor input.new.cursor }
+        ensures refused { IfErr result (λ error. error ≡ MatchError.Memory) }
+    {
+        self.kept.ask(input)
     }
 }

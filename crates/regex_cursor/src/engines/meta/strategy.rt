@@ -145,7 +145,7 @@ pub(super) fn is_match<C: Cursor>(
     match cache.ask(input)? {
         Left::Nothing => Ok(false),
         Left::UpTo(_) => Ok(true),
-        Left::All => pikevm::is_match(vm, &mut cache.vm, input),
+        Left::All => pikevm::is_match(vm, &mut cache.kept.vm, input),
     }
 }
 
@@ -169,11 +169,11 @@ pub(super) fn find<C: Cursor>(
     finds_stay_in_cut_spans::<CharacterSet>();
     match cache.ask(input)? {
         Left::Nothing => Ok(None),
-        Left::All => pikevm::find(vm, &mut cache.vm, input),
+        Left::All => pikevm::find(vm, &mut cache.kept.vm, input),
         Left::UpTo(end) => {
             let span = input.get_span();
             input.set_end(end);
-            let found = pikevm::find(vm, &mut cache.vm, input);
+            let found = pikevm::find(vm, &mut cache.kept.vm, input);
             put_back(input, span);
             found
         }
@@ -205,11 +205,11 @@ pub(super) fn search_slots<C: Cursor>(
             clear_slots(slots);
             Ok(None)
         }
-        Left::All => pikevm::search_slots(vm, &mut cache.vm, input, slots),
+        Left::All => pikevm::search_slots(vm, &mut cache.kept.vm, input, slots),
         Left::UpTo(end) => {
             let span = input.get_span();
             input.set_end(end);
-            let found = pikevm::search_slots(vm, &mut cache.vm, input, slots);
+            let found = pikevm::search_slots(vm, &mut cache.kept.vm, input, slots);
             put_back(input, span);
             found
         }
@@ -248,11 +248,11 @@ pub(super) fn search<C: Cursor>(
             note_nothing(caps);
             Ok(())
         }
-        Left::All => pikevm::search(vm, &mut cache.vm, input, caps),
+        Left::All => pikevm::search(vm, &mut cache.kept.vm, input, caps),
         Left::UpTo(end) => {
             let span = input.get_span();
             input.set_end(end);
-            let told = pikevm::search(vm, &mut cache.vm, input, caps);
+            let told = pikevm::search(vm, &mut cache.kept.vm, input, caps);
             put_back(input, span);
             told
         }
@@ -283,11 +283,11 @@ pub(super) fn find_next<C: Cursor>(
     finds_stay_in_cut_spans::<CharacterSet>();
     match cache.ask(input)?.behind(last_match_end) {
         Left::Nothing => Ok(None),
-        Left::All => pikevm::find_next(vm, &mut cache.vm, input, last_match_end),
+        Left::All => pikevm::find_next(vm, &mut cache.kept.vm, input, last_match_end),
         Left::UpTo(end) => {
             let span = input.get_span();
             input.set_end(end);
-            let found = pikevm::find_next(vm, &mut cache.vm, input, last_match_end);
+            let found = pikevm::find_next(vm, &mut cache.kept.vm, input, last_match_end);
             put_back(input, span);
             found
         }
@@ -330,11 +330,11 @@ pub(super) fn search_next<C: Cursor>(
             note_nothing(caps);
             Ok(())
         }
-        Left::All => pikevm::search_next(vm, &mut cache.vm, input, caps, last_match_end),
+        Left::All => pikevm::search_next(vm, &mut cache.kept.vm, input, caps, last_match_end),
         Left::UpTo(end) => {
             let span = input.get_span();
             input.set_end(end);
-            let told = pikevm::search_next(vm, &mut cache.vm, input, caps, last_match_end);
+            let told = pikevm::search_next(vm, &mut cache.kept.vm, input, caps, last_match_end);
             put_back(input, span);
             told
         }
