@@ -1,0 +1,8 @@
+-- Inputs over the same content that ask for the same.
+use Rattle.std.proofs.Common.{◌≡◌, take, sym, ap, ap₂}
+use Rattle.rx_input.specs.Cursors.{IsSameContent}
+use Rattle.rx_input.specs.Inputs.{InputState, Asked}
+use Rattle.rx_literals.specs.Needles.{bytes_of}
+
+pub same_bytes : (i j : InputState) → IsSameContent i.cursor j.cursor → j.asked ≡ i.asked → bytes_of i ≡ bytes_of j
+same_bytes i j same asked = ap₂ take (ap (λ (a : Asked). a.span.end) (sym asked)) (sym same.content)

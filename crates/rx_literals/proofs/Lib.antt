@@ -1,0 +1,9 @@
+pub mod PieceLaws
+pub mod InputLaws
+pub mod NeedleLaws
+pub mod FoundLaws
+pub mod SliceLaws
+pub mod ScanLaws
+pub mod LowLaws
+pub mod SkipLaws
+pub mod WayLaws

@@ -1,0 +1,18 @@
+use Rattle.std.proofs.Common.{◌≡◌, ◌∷◌, [], ℕ, List, length, sym, subst, ◌∙◌}
+use Rattle.rx_literals.specs.declared.prefilter.Searcher.{Searcher}
+use Rattle.rx_literals.specs.declared.prefilter.Searcher.TheVariants as searcher
+use Rattle.rx_literals.specs.Needles.{FoundBetween}
+use Rattle.rx_literals.specs.Prefilters.{Searches}
+use Rattle.rx_literals.proofs.SliceLaws.{only_needle}
+use Rattle.rx_literals.proofs.prefilter.Parts.find.Goals as goal
+
+one_by : (s : Searcher) (finder : List ℕ) (needles : List (List ℕ)) → s ≡ searcher.One finder → Searches s needles → needles ≡ finder ∷ []
+one_by s finder needles is searches = subst (λ x. Searches x needles) is searches
+
+pub find_one-requires : goal.find_one-requires
+find_one-requires c = only_needle _ c.in-One.finder (one_by c.self.inside.searcher c.in-One.finder _ c.in-One.is c.self.invariant.searches) c.self.invariant.are.each
+
+pub returns-in-One : goal.returns-in-One
+returns-in-One c =
+    let one : c.args.self.now ≡ c.in-One.finder ∷ [] = sym c.self.view_is ∙ one_by c.self.inside.searcher c.in-One.finder _ c.in-One.is c.self.invariant.searches in
+    subst (λ needles. FoundBetween c.args.hay.now needles 0 (length c.args.hay.now) c.find_one.result) (sym one) c.find_one.ensures

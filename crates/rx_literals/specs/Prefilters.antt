@@ -1,0 +1,17 @@
+-- What a prefilter looks for its needles by.
+use Rattle.std.specs.Prelude.{◌≡◌, ℕ, ◌≤◌, List, [], ◌∷◌, length, All}
+use Rattle.rx_literals.specs.declared.prefilter.Searcher.{Searcher}
+use Rattle.rx_literals.specs.declared.prefilter.Searcher.TheVariants as searcher
+use Rattle.rx_literals.specs.Needles.{AreNeedles}
+
+-- a searcher finds these needles
+abbrev pub Searches : Searcher → List (List ℕ) → Type 0
+Searches (searcher.One finder) needles = needles ≡ finder ∷ []
+Searches searcher.Several needles = Unit {0}
+
+-- the needles are such, none is longer than is known, and this finds them
+pub record AreParts (needles : List (List ℕ)) (longest : ℕ) (searcher : Searcher) : Type 0 where
+  pub are : AreNeedles needles
+  pub some : 1 ≤ longest
+  pub below : All (λ needle. length needle ≤ longest) needles
+  pub searches : Searches searcher needles

@@ -1,0 +1,9 @@
+//! Literals that matches begin with: prefilters, and what they find in contents that lie in pieces.
+#![tactic(auto)]
+
+mod beginning;
+pub mod laws;
+pub mod literal;
+mod prefilter;
+
+pub use prefilter::Prefilter;
