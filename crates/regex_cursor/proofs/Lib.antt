@@ -5,3 +5,4 @@ pub mod PatternLemmas
 pub mod PlaceLaws
 pub mod StrategyLaws
 pub mod SetLaws
+pub mod StartLaws

@@ -10,6 +10,7 @@ pub mod util;
 pub use ropey_cursor::RopeyCursor;
 pub use rx_grammar::{Hir, SyntaxError, parse};
 pub use rx_input::{ChunkCursor, Cursor, Input, LookAround};
+pub use rx_literals::{Prefilter, literal};
 pub use rx_program::BuildError;
 pub use rx_util::{
     Anchored, Captures, GroupInfo, HalfMatch, Match, MatchError, MatchKind, NonMaxUsize, PatternID,

@@ -1,13 +1,14 @@
 //! What searches keep from one to the next.
 
-ghost use Rattle.std.specs.Prelude.{◌≡◌, IfErr, IfOk, OnErr, OnOk};
+ghost use Rattle.std.specs.Prelude.{◌≡◌, ◌≤◌, IfErr, IfOk, OnErr, OnOk};
 ghost use Rattle.rx_util.specs.declared.search.MatchError.{MatchError};
 ghost use Rattle.rx_input.specs.Cursors.{IsSameContent};
+ghost use Rattle.rx_walks.specs.Finds.{from_place_on};
 ghost use Rattle.regex_cursor.specs.Regexes.{IsCacheOf, search_by};
 ghost use Rattle.regex_cursor.specs.Strategies.{AreCachesOf, IsLeft};
 
 use super::regex::Regex;
-use super::strategy::{Left, Strategy};
+use super::strategy::{Left, Start, Strategy, put_back};
 use rx_chunk::pikevm;
 use rx_input::{Cursor, Input};
 use rx_util::{HalfMatch, MatchError};
@@ -64,7 +65,7 @@ impl Kept {
         clears < CLEARS || self.passed >= clears.saturating_mul(BYTES_A_CLEAR)
     }
 
-    /// As `Cache::ask`.
+    /// As `Cache::ask_automaton`.
     fn ask<C: Cursor>(&mut self, input: &mut Input<C>) -> Result<Left, MatchError>
         requires serve { AreCachesOf self.old.strategy.value self.old.vm self.old.automaton }
         ensures left { IfOk result (IsLeft self.old.strategy.value.vm.program
@@ -160,10 +161,56 @@ impl Cache {
             .saturating_add(kept.automaton.memory_usage())
     }
 
+    /// The engines that it serves.
+    fn strategy(&self) -> &Strategy
+        ensures { result.now.vm ≡ self.now }
+    {
+        &self.kept.strategy
+    }
+
+    /// Asks what is left of a search: the literal that each match begins with is looked for first,
+    /// if one is known, and the automaton is asked from there on. The one error is `Memory`.
+    pub(super) fn ask<C: Cursor>(&mut self, input: &mut Input<C>) -> Result<Left, MatchError>
+        ensures left { IfOk result
+            (IsLeft self.old.program (search_by self.old input.old)) }
+        ensures same_regex { self.new ≡ self.old }
+        ensures asked { input.new.asked ≡ input.old.asked }
+        ensures same { IsSameContent input.old.cursor input.new.cursor }
+        ensures refused { IfErr result (λ error. error ≡ MatchError.Memory) }
+    {
+        match self.strategy().first_start(input) {
+            Start::Anywhere => self.ask_automaton(input),
+            Start::From(place) => self.ask_from(place, input),
+            Start::Nowhere => Ok(Left::Nothing),
+        }
+    }
+
+    /// Asks the automaton what is left of a search from a place of the span on.
+    fn ask_from<C: Cursor>(
+        &mut self,
+        place: usize,
+        input: &mut Input<C>,
+    ) -> Result<Left, MatchError>
+        requires behind { input.old.asked.span.start ≤ place }
+        requires before { place ≤ input.old.asked.span.end }
+        ensures left { IfOk result (IsLeft self.old.program
+            (from_place_on (search_by self.old input.old) place)) }
+        ensures same_regex { self.new ≡ self.old }
+        ensures asked { input.new.asked ≡ input.old.asked }
+        ensures same { IsSameContent input.old.cursor input.new.cursor }
+        ensures refused { IfErr result (λ error. error ≡ MatchError.Memory) }
+    {
+        let span = input.get_span();
+        input.set_start(place);
+        let left = self.ask_automaton(input);
+        put_back(input, span);
+        left
+    }
+
     /// Asks the automaton what is left of a search: nothing, where there is no match; else what
     /// comes before the end of the match; or all, where it can't tell, or where it would come to
     /// more than the search needs. The one refusal is `Memory`.
-    pub(super) fn ask<C: Cursor>(&mut self, input: &mut Input<C>) -> Result<Left, MatchError>
+    fn ask_automaton<C: Cursor>(&mut self, input: &mut Input<C>) -> Result<Left, MatchError>
         ensures left { IfOk result
             (IsLeft self.old.program (search_by self.old input.old)) }
         ensures same_regex { self.new ≡ self.old }

@@ -1,5 +1,5 @@
-//! The engines of a regex, and how it chooses among them: the automaton is asked first, and what it
-//! leaves is searched by the PikeVM.
+//! The engines of a regex, and how it chooses among them: a literal that each match begins with is
+//! looked for first, then the automaton is asked, and what it leaves is searched by the PikeVM.
 
 ghost use Rattle.std.specs.Prelude.{◌≡◌, ℕ, ◌≤◌, IfOk, IfErr, OnOk, OnErr, None, Some, length, replicate};
 ghost use Rattle.std.specs.Option.{ForSome};
@@ -14,16 +14,18 @@ ghost use Rattle.rx_dfa.specs.Searching.{IsHalfAnswer};
 ghost use Rattle.rx_chunk.specs.Engines.{TellsWhether};
 ghost use Rattle.rx_chunk.specs.Iterating.{EndsAhead, HasNotedNext, IsFoundNext, StartsFrom};
 ghost use Rattle.regex_cursor.specs.Regexes.{HoldsMatches, IsCacheOf, TellsMatch, TellsSlots, TellsWhole, search_by};
-ghost use Rattle.regex_cursor.specs.Strategies.{AreEngines, IsLeft};
+ghost use Rattle.regex_cursor.specs.Strategies.{AreEngines, IsLeft, IsStart};
 
 use super::cache::Cache;
 use super::dense::closed_of;
 use rx_chunk::pikevm::{self, PikeVM};
 use rx_dfa::{Closed, Dfa, try_search_fwd};
 use rx_input::{Cursor, Input};
+use rx_literals::laws::{matches_come_behind, no_needle_no_match};
+use rx_literals::{Prefilter, literal};
 use rx_program::Program;
 use rx_sets::CharacterSet;
-use rx_util::{Captures, HalfMatch, Match, MatchError, NonMaxUsize, PatternID, Span};
+use rx_util::{Captures, HalfMatch, Match, MatchError, MatchKind, NonMaxUsize, PatternID, Span};
 use rx_walks::laws::{finds_at_most_one, finds_lie_inside, finds_stay_in_cut_spans};
 use std::alloc::{AllocError, Global};
 use std::marker::Model;
@@ -55,6 +57,17 @@ impl Left {
     }
 }
 
+/// Where in the span of a search a match may begin.
+#[derive(Clone, Copy, Debug)]
+pub(super) enum Start {
+    /// Anywhere: it isn't known.
+    Anywhere,
+    /// From this place on.
+    From(usize),
+    /// Nowhere: there is no match.
+    Nowhere,
+}
+
 /// The engines of a regex, which it shares with its clones and its caches.
 #[derive(Debug, Drop)]
 pub(super) struct Strategy {
@@ -62,6 +75,8 @@ pub(super) struct Strategy {
     dfa: Dfa,
     // Where program and automaton are small.
     closed: Option<Closed>,
+    // Of a literal that each match begins with, if one is known.
+    prefilter: Option<Prefilter>,
 }
 
 impl Model for Strategy {
@@ -69,15 +84,24 @@ impl Model for Strategy {
 
     ghost Value = { Engines };
 
-    ghost view = { λ s. record { vm = s.vm; dfa = s.dfa; closed = s.closed } };
+    ghost view = { λ s. record {
+      vm = s.vm;
+      dfa = s.dfa;
+      closed = s.closed;
+      prefilter = s.prefilter;
+    } };
 
-    ghost invariant = { λ s.
-        AreEngines (record { vm = s.vm; dfa = s.dfa; closed = s.closed }) };
+    ghost invariant = { λ s. AreEngines (record {
+      vm = s.vm;
+      dfa = s.dfa;
+      closed = s.closed;
+      prefilter = s.prefilter;
+    }) };
 }
 
 impl Strategy {
-    /// A PikeVM, and the automaton of its program, with all its states where they are few.
-    /// `utf8_empty` is as the PikeVM has it. It takes time in proportion to the program's states and
+    /// A PikeVM, the automaton of its program, with all its states where they are few, and a literal
+    /// that each match begins with, if one is known. `utf8_empty` is as the PikeVM has it. It takes time in proportion to the program's states and
     /// the ranges of their automata.
     pub(super) fn new(alloc: Global, vm: PikeVM, utf8_empty: bool) -> Result<Strategy, AllocError>
         requires { utf8_empty ≡ vm.utf8_empty }
@@ -85,7 +109,14 @@ impl Strategy {
     {
         let dfa = Dfa::new(alloc, vm.program(), utf8_empty, CACHE_CAPACITY)?;
         let closed = closed_of(alloc, vm.program(), &dfa)?;
-        Ok(Strategy { vm, dfa, closed })
+        let kind = MatchKind::LeftmostFirst;
+        let prefilter = Prefilter::from_program(alloc, kind, vm.program())?;
+        Ok(Strategy {
+            vm,
+            dfa,
+            closed,
+            prefilter,
+        })
     }
 
     /// The engine that serves any search.
@@ -129,10 +160,32 @@ impl Strategy {
             None => try_search_fwd(self.program(), &self.dfa, cache, input),
         }
     }
+
+    /// Where a match may begin, by the literal that each match begins with: it is looked for unless
+    /// the search is anchored. The position may move.
+    pub(super) fn first_start<C: Cursor>(&self, input: &mut Input<C>) -> Start
+        ensures start { IsStart self.now.vm.program (search_by self.now.vm input.old) result }
+        ensures asked { input.new.asked ≡ input.old.asked }
+        ensures same { IsSameContent input.old.cursor input.new.cursor }
+    {
+        match &self.prefilter {
+            Some(prefilter) if !input.get_anchored().is_anchored() => {
+                // Laws, for the proof alone.
+                no_needle_no_match();
+                matches_come_behind();
+                prefilter.needles_are_lawful();
+                match literal::find(prefilter, input) {
+                    Some(span) => Start::From(span.start),
+                    None => Start::Nowhere,
+                }
+            }
+            _ => Start::Anywhere,
+        }
+    }
 }
 
 /// Gives an input back the span that was cut.
-fn put_back<C: Cursor>(input: &mut Input<C>, span: Span)
+pub(super) fn put_back<C: Cursor>(input: &mut Input<C>, span: Span)
     requires { IsSpan span }
     ensures same { IsSameContent input.old.cursor input.new.cursor }
     ensures asked { input.new.asked ≡ record input.old.asked { span = span } }

@@ -1,0 +1,64 @@
+-- What a prefilter tells of where a match may begin.
+use Rattle.std.proofs.Common.{◌≡◌, ℕ, ◌<◌, ◌≤◌, Bool, false, List, Option, Some, None, refl, sym, ap₂, subst, arith}
+use Rattle.unicode.specs.Perl.{is_word_char}
+use Rattle.rx_util.specs.declared.search.Anchored.{Anchored}
+use Rattle.rx_util.specs.declared.search.Anchored.TheVariants.{No, Yes, Pattern}
+use Rattle.rx_util.specs.declared.search.Span.{Span}
+use Rattle.rx_util.specs.Anchoring.{is_anchored}
+use Rattle.rx_input.specs.Cursors.{IsSameContent}
+use Rattle.rx_input.specs.Inputs.{Asked, InputState, HasSpan}
+use Rattle.rx_walks.specs.Finds.{Search, unanchored, from_place_on}
+use Rattle.rx_steps.specs.Searching.{anchoring_of, search_of}
+use Rattle.rx_program.specs.Programs.{ByteProgram, characters_of}
+use Rattle.rx_chunk.specs.Engines.{Finds}
+use Rattle.rx_literals.specs.Needles.{AreNeedles, FoundAt, FoundBetween, nowhere, at_least_place}
+use Rattle.rx_literals.specs.Beginnings.{BeginsWith, FirstNeedle, MatchesComeBehind, NoNeedleNoMatch}
+use Rattle.rx_literals.proofs.NeedleLaws.{found_start}
+use Rattle.regex_cursor.specs.declared.engines.meta.strategy.Left.{Left}
+use Rattle.regex_cursor.specs.declared.engines.meta.strategy.Left.TheVariants.{Nothing, UpTo, All}
+use Rattle.regex_cursor.specs.Strategies.{BeginsFrom, IsLeft}
+
+pub is_free : (a : Anchored) → is_anchored a ≡ false → anchoring_of a ≡ unanchored
+is_free No e = refl
+is_free Yes e = absurd (cc e)
+is_free (Pattern k) e = absurd (cc e)
+
+inside : {bytes : List ℕ} {needles : List (List ℕ)} {from to : ℕ} {out : Option Span} {span : Span} → FoundBetween bytes needles from to out → out ≡ Some span → (from ≤ span.start) × (span.start ≤ to)
+inside (nowhere none) e = absurd (cc e)
+inside {bytes} {needles} (at_least_place i low high here before) e =
+    let start = found_start (subst (λ o. FoundAt bytes i needles o) e here) in (omega (arith, low, start), omega (arith, high, start))
+
+module _ (p : ByteProgram) (needles : List (List ℕ)) (s : Search) (begins : BeginsWith needles (characters_of p)) (free : s.anchoring ≡ unanchored) where
+  pub begins_from : (span : Span) → MatchesComeBehind → FirstNeedle needles s (Some span) → BeginsFrom p s span.start
+  begins_from span law first = record {
+    behind = (inside first refl).0;
+    before = (inside first refl).1;
+    finds = λ out finds. law needles (characters_of p) is_word_char s span out begins free first finds;
+  }
+
+  pub begins_nowhere : AreNeedles needles → NoNeedleNoMatch → FirstNeedle needles s None → Finds p s None
+  begins_nowhere are law first = law needles (characters_of p) is_word_char s are begins free first
+
+-- what is left from there on is left of all
+pub left_from : (p : ByteProgram) (s : Search) (place : ℕ) (left : Left) → BeginsFrom p s place → IsLeft p (from_place_on s place) left → IsLeft p s left
+left_from p s place Nothing begins left = begins.finds None left
+left_from p s place (UpTo end) begins left = record { found = left.found; finds = begins.finds (Some left.found) left.finds; end_is = left.end_is }
+left_from p s place All begins left = tt
+
+abbrev search_by : Bool → List ℕ → Asked → Search
+search_by utf8_empty content asked = record {
+  content = content;
+  slice_start = asked.slice.start;
+  slice_end = asked.slice.end;
+  start = asked.span.start;
+  end = asked.span.end;
+  anchoring = anchoring_of asked.anchored;
+  utf8_empty = utf8_empty;
+}
+
+-- an input whose span starts at another place
+pub start_search : (utf8_empty : Bool) (i k : InputState) (place : ℕ) → HasSpan i k (record i.asked.span { start = place }) → search_of utf8_empty k ≡ from_place_on (search_of utf8_empty i) place
+start_search utf8_empty i k place has = ap₂ (search_by utf8_empty) has.same.content has.asked_is
+
+pub same_search : (utf8_empty : Bool) (i j : InputState) → IsSameContent i.cursor j.cursor → j.asked ≡ i.asked → search_of utf8_empty j ≡ search_of utf8_empty i
+same_search utf8_empty i j same asked = ap₂ (search_by utf8_empty) same.content asked
