@@ -47,8 +47,9 @@ pub struct Cache {
     numbers: HashMap<u64, usize>,
     // About how much room the states take.
     pub(crate) used: usize,
-    // How often it was cleared in this search.
+    // How often it was cleared in this search, and in all that it has served.
     pub(crate) cleared: usize,
+    clear_count: usize,
     // The numbers that first states had, by how walks start and what stands before.
     firsts: [usize; 15],
 }
@@ -103,6 +104,7 @@ impl Cache {
             numbers: HashMap::new(alloc),
             used: 0,
             cleared: 0,
+            clear_count: 0,
             firsts: [0; 15],
         })
     }
@@ -117,12 +119,19 @@ impl Cache {
         self.maker = Maker::new(self.maker.allocator(), program)?;
         self.width = dfa.column_count();
         self.clear();
+        self.clear_count = 0;
         Ok(())
     }
 
     /// About how many bytes its states take: a count that no contract fixes.
     pub fn memory_usage(&self) -> usize {
         self.used
+    }
+
+    /// How often all states were taken out for want of room since it was made or reset: a count that
+    /// no contract fixes.
+    pub fn clear_count(&self) -> usize {
+        self.clear_count
     }
 
     /// Takes all states out.
@@ -250,6 +259,7 @@ impl Cache {
             return Err(MatchError::GaveUp { offset: at });
         }
         self.cleared += 1;
+        self.clear_count = self.clear_count.saturating_add(1);
         self.clear();
         let number = self.add(program, dfa, state)?;
         Ok((number, true))
