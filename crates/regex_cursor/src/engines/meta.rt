@@ -3,6 +3,7 @@
 mod builder;
 mod cache;
 mod captures_matches;
+mod dense;
 mod find_matches;
 mod finder;
 mod regex;

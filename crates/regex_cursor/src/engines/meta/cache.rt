@@ -3,21 +3,25 @@
 ghost use Rattle.std.specs.Prelude.{◌≡◌, IfErr, IfOk, OnErr, OnOk};
 ghost use Rattle.rx_util.specs.declared.search.MatchError.{MatchError};
 ghost use Rattle.rx_input.specs.Cursors.{IsSameContent};
+ghost use Rattle.rx_dfa.specs.Searching.{IsHalfAnswer};
 ghost use Rattle.regex_cursor.specs.Regexes.{IsCacheOf, search_by};
 ghost use Rattle.regex_cursor.specs.Strategies.{IsLeft};
 
 use super::regex::Regex;
 use super::strategy::{Left, Strategy};
 use rx_chunk::pikevm;
-use rx_dfa::try_search_fwd;
 use rx_input::{Cursor, Input};
-use rx_util::MatchError;
+use rx_util::{HalfMatch, MatchError};
 use std::alloc::Global;
 use std::marker::Model;
 use std::rc::Rc;
 
-/// After so many searches in which the automaton gave up it isn't asked any more.
-const GIVES_UP: usize = 4;
+/// How often the states of the automaton may be taken out for want of room.
+const CLEARS: usize = 3;
+
+/// How many bytes searches must come on by for each time, if it is more often: about ten for each
+/// state that has room, since to make one takes as long as the PikeVM takes for some bytes.
+const BYTES_A_CLEAR: usize = 50_000;
 
 /// What searches with a regex keep from one to the next, so that they ask for memory once. It
 /// serves the regex that it was made for or reset for, after each search again, refused or not.
@@ -27,8 +31,8 @@ pub struct Cache {
     strategy: Rc<Strategy>,
     pub(super) vm: pikevm::Cache,
     automaton: rx_dfa::Cache,
-    // In how many searches the automaton gave up.
-    gave_up: usize,
+    // By how many bytes it came on.
+    passed: usize,
 }
 
 impl Model for Cache {
@@ -40,6 +44,15 @@ impl Model for Cache {
     ghost view = { λ c. c.strategy.value.vm };
 
     ghost invariant = { λ c. AreCachesOf c.strategy.value c.vm c.automaton };
+}
+
+/// By how many bytes the automaton came on that answers so in a search of an input.
+fn bytes_of<C: Cursor>(answer: &Result<Option<HalfMatch>, MatchError>, input: &Input<C>) -> usize {
+    let place = match answer {
+        Err(MatchError::GaveUp { offset }) => *offset,
+        _ => input.position(),
+    };
+    place.saturating_sub(input.start())
 }
 
 impl Cache {
@@ -63,7 +76,7 @@ impl Cache {
             strategy,
             vm,
             automaton,
-            gave_up: 0,
+            passed: 0,
         })
     }
 
@@ -95,6 +108,29 @@ impl Cache {
             .saturating_add(self.automaton.memory_usage())
     }
 
+    /// Whether the automaton may be quicker than the PikeVM: its states stay long enough.
+    fn pays(&self) -> bool {
+        let clears = self.automaton.clear_count();
+        clears < CLEARS || self.passed >= clears.saturating_mul(BYTES_A_CLEAR)
+    }
+
+    /// Where the match ends, by the automaton, which is noted to come on.
+    fn search_half<C: Cursor>(
+        &mut self,
+        input: &mut Input<C>,
+    ) -> Result<Option<HalfMatch>, MatchError>
+        ensures answer { IfOk result
+            (IsHalfAnswer self.old.program (search_by self.old input.old)) }
+        ensures same_regex { self.new ≡ self.old }
+        ensures asked { input.new.asked ≡ input.old.asked }
+        ensures same { IsSameContent input.old.cursor input.new.cursor }
+    {
+        let answer = self.strategy.search_half(&mut self.automaton, input);
+        let bytes = bytes_of(&answer, input);
+        self.passed = self.passed.saturating_add(bytes);
+        answer
+    }
+
     /// Asks the automaton what is left of a search: nothing, where there is no match; else what
     /// comes before the end of the match; or all, where it can't tell, or where it would come to
     /// more than the search needs. The one refusal is `Memory`.
@@ -107,23 +143,13 @@ impl Cache {
         ensures refused { IfErr result (λ error. error ≡ MatchError.Memory) }
     {
         let wants_less = input.get_earliest() || input.get_anchored().is_anchored();
-        if wants_less || self.gave_up >= GIVES_UP {
+        if wants_less || !self.pays() {
             return Ok(Left::All);
         }
-        let strategy = &self.strategy;
-        match try_search_fwd(
-            strategy.program(),
-            strategy.dfa(),
-            &mut self.automaton,
-            input,
-        ) {
+        match self.search_half(input) {
             Ok(Some(half)) => Ok(Left::UpTo(half.offset())),
             Ok(None) => Ok(Left::Nothing),
             Err(MatchError::Memory) => Err(MatchError::Memory),
-            Err(MatchError::GaveUp { offset: _ }) => {
-                self.gave_up += 1;
-                Ok(Left::All)
-            }
             Err(_) => Ok(Left::All),
         }
     }

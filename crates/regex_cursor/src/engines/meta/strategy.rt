@@ -11,18 +11,21 @@ ghost use Rattle.rx_input.specs.Searchers.{EndsInside};
 ghost use Rattle.rx_steps.specs.Searching.{search_of};
 ghost use Rattle.rx_walks.specs.Finds.{Search};
 ghost use Rattle.rx_program.specs.Programs.{ByteProgram};
+ghost use Rattle.rx_dfa.specs.Caches as automata;
+ghost use Rattle.rx_dfa.specs.Searching.{IsHalfAnswer};
 ghost use Rattle.rx_chunk.specs.Engines.{TellsWhether};
 ghost use Rattle.rx_chunk.specs.Iterating.{EndsAhead, HasNotedNext, IsFoundNext, StartsFrom};
 ghost use Rattle.regex_cursor.specs.Regexes.{IsCacheOf, TellsMatch, TellsSlots};
 ghost use Rattle.regex_cursor.specs.Strategies.{AreEngines, IsLeft};
 
 use super::cache::Cache;
+use super::dense::closed_of;
 use rx_chunk::pikevm::{self, PikeVM};
-use rx_dfa::Dfa;
+use rx_dfa::{Closed, Dfa, try_search_fwd};
 use rx_input::{Cursor, Input};
 use rx_program::Program;
 use rx_sets::CharacterSet;
-use rx_util::{Captures, Match, MatchError, NonMaxUsize, PatternID, Span};
+use rx_util::{Captures, HalfMatch, Match, MatchError, NonMaxUsize, PatternID, Span};
 use rx_walks::laws::{finds_at_most_one, finds_lie_inside, finds_stay_in_cut_spans};
 use std::alloc::{AllocError, Global};
 use std::marker::Model;
@@ -59,6 +62,8 @@ impl Left {
 pub(super) struct Strategy {
     vm: PikeVM,
     dfa: Dfa,
+    // Where program and automaton are small.
+    closed: Option<Closed>,
 }
 
 impl Model for Strategy {
@@ -66,20 +71,23 @@ impl Model for Strategy {
 
     ghost Value = { Engines };
 
-    ghost view = { λ s. record { vm = s.vm; dfa = s.dfa } };
+    ghost view = { λ s. record { vm = s.vm; dfa = s.dfa; closed = s.closed } };
 
-    ghost invariant = { λ s. AreEngines (record { vm = s.vm; dfa = s.dfa }) };
+    ghost invariant = { λ s.
+        AreEngines (record { vm = s.vm; dfa = s.dfa; closed = s.closed }) };
 }
 
 impl Strategy {
-    /// A PikeVM, and the automaton of its program. `utf8_empty` is as the PikeVM has it. It takes
-    /// time in proportion to the program's states and the ranges of their automata.
+    /// A PikeVM, and the automaton of its program, with all its states where they are few.
+    /// `utf8_empty` is as the PikeVM has it. It takes time in proportion to the program's states and
+    /// the ranges of their automata.
     pub(super) fn new(alloc: Global, vm: PikeVM, utf8_empty: bool) -> Result<Strategy, AllocError>
         requires { utf8_empty ≡ vm.utf8_empty }
         ensures { IfOk result (λ strategy. strategy.vm ≡ vm) }
     {
         let dfa = Dfa::new(alloc, vm.program(), utf8_empty, CACHE_CAPACITY)?;
-        Ok(Strategy { vm, dfa })
+        let closed = closed_of(alloc, vm.program(), &dfa)?;
+        Ok(Strategy { vm, dfa, closed })
     }
 
     /// The engine that serves any search.
@@ -102,6 +110,26 @@ impl Strategy {
         ensures { result.now ≡ self.now.vm.program }
     {
         self.vm.program()
+    }
+
+    /// Where the match ends, by the automaton. The cache must be one for it, and still is one
+    /// afterwards. Where all states are made already, it isn't looked at.
+    pub(super) fn search_half<C: Cursor>(
+        &self,
+        cache: &mut rx_dfa::Cache,
+        input: &mut Input<C>,
+    ) -> Result<Option<HalfMatch>, MatchError>
+        requires made { automata.IsCacheOf self.now.vm.program self.now.dfa cache.old }
+        ensures answer { IfOk result (IsHalfAnswer self.now.vm.program
+            (search_of self.now.dfa.utf8_empty input.old)) }
+        ensures made { automata.IsCacheOf self.now.vm.program self.now.dfa cache.new }
+        ensures asked { input.new.asked ≡ input.old.asked }
+        ensures same { IsSameContent input.old.cursor input.new.cursor }
+    {
+        match &self.closed {
+            Some(closed) => closed.try_search_fwd(self.program(), &self.dfa, input),
+            None => try_search_fwd(self.program(), &self.dfa, cache, input),
+        }
     }
 }
 

@@ -1,0 +1,45 @@
+//! Automata all of whose states are made with a regex: those of few states.
+
+ghost use Rattle.std.specs.Prelude.{IfOk, IfSome};
+ghost use Rattle.rx_dfa.specs.Closed.{IsClosedOf};
+ghost use Rattle.rx_dfa.specs.Dfas.{IsDfaOf};
+
+use rx_dfa::{Closed, Dfa};
+use rx_program::{Program, State};
+use std::alloc::{AllocError, Global};
+
+/// How many states the program and the automaton may have.
+const DFA_STATE_LIMIT: usize = 30;
+
+/// How many bytes the states of the automaton may take, about.
+const DFA_SIZE_LIMIT: usize = 40_960;
+
+/// How many states a program has where those that read a character of a set, byte by byte, are
+/// counted.
+fn state_count(program: &Program) -> usize {
+    let mut count: usize = 0;
+    for state in program.states() {
+        let more = match state {
+            State::Ranges(automaton, _) => automaton.state_count(),
+            _ => 1,
+        };
+        count = count.saturating_add(more);
+    }
+    count
+}
+
+/// All states and steps of a program's automaton, where program and automaton are small. So it
+/// takes little time beside that of compiling, however many states the automaton has.
+pub(super) fn closed_of(
+    alloc: Global,
+    program: &Program,
+    dfa: &Dfa,
+) -> Result<Option<Closed>, AllocError>
+    requires { IsDfaOf program.now dfa.now }
+    ensures { IfOk result (λ closed. IfSome closed (IsClosedOf program.now dfa.now)) }
+{
+    if state_count(program) > DFA_STATE_LIMIT {
+        return Ok(None);
+    }
+    Closed::new(alloc, program, dfa, DFA_STATE_LIMIT, DFA_SIZE_LIMIT)
+}
