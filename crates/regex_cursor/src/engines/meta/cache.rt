@@ -3,7 +3,6 @@
 ghost use Rattle.std.specs.Prelude.{◌≡◌, IfErr, IfOk, OnErr, OnOk};
 ghost use Rattle.rx_util.specs.declared.search.MatchError.{MatchError};
 ghost use Rattle.rx_input.specs.Cursors.{IsSameContent};
-ghost use Rattle.rx_dfa.specs.Searching.{IsHalfAnswer};
 ghost use Rattle.regex_cursor.specs.Regexes.{IsCacheOf, search_by};
 ghost use Rattle.regex_cursor.specs.Strategies.{IsLeft};
 
@@ -11,7 +10,7 @@ use super::regex::Regex;
 use super::strategy::{Left, Strategy};
 use rx_chunk::pikevm;
 use rx_input::{Cursor, Input};
-use rx_util::{HalfMatch, MatchError};
+use rx_util::MatchError;
 use std::alloc::Global;
 use std::marker::Model;
 use std::rc::Rc;
@@ -44,15 +43,6 @@ impl Model for Cache {
     ghost view = { λ c. c.strategy.value.vm };
 
     ghost invariant = { λ c. AreCachesOf c.strategy.value c.vm c.automaton };
-}
-
-/// By how many bytes the automaton came on that answers so in a search of an input.
-fn bytes_of<C: Cursor>(answer: &Result<Option<HalfMatch>, MatchError>, input: &Input<C>) -> usize {
-    let place = match answer {
-        Err(MatchError::GaveUp { offset }) => *offset,
-        _ => input.position(),
-    };
-    place.saturating_sub(input.start())
 }
 
 impl Cache {
@@ -114,23 +104,6 @@ impl Cache {
         clears < CLEARS || self.passed >= clears.saturating_mul(BYTES_A_CLEAR)
     }
 
-    /// Where the match ends, by the automaton, which is noted to come on.
-    fn search_half<C: Cursor>(
-        &mut self,
-        input: &mut Input<C>,
-    ) -> Result<Option<HalfMatch>, MatchError>
-        ensures answer { IfOk result
-            (IsHalfAnswer self.old.program (search_by self.old input.old)) }
-        ensures same_regex { self.new ≡ self.old }
-        ensures asked { input.new.asked ≡ input.old.asked }
-        ensures same { IsSameContent input.old.cursor input.new.cursor }
-    {
-        let answer = self.strategy.search_half(&mut self.automaton, input);
-        let bytes = bytes_of(&answer, input);
-        self.passed = self.passed.saturating_add(bytes);
-        answer
-    }
-
     /// Asks the automaton what is left of a search: nothing, where there is no match; else what
     /// comes before the end of the match; or all, where it can't tell, or where it would come to
     /// more than the search needs. The one refusal is `Memory`.
@@ -146,11 +119,9 @@ impl Cache {
         if wants_less || !self.pays() {
             return Ok(Left::All);
         }
-        match self.search_half(input) {
-            Ok(Some(half)) => Ok(Left::UpTo(half.offset())),
-            Ok(None) => Ok(Left::Nothing),
-            Err(MatchError::Memory) => Err(MatchError::Memory),
-            Err(_) => Ok(Left::All),
-        }
+        let left = self.strategy.ask(&mut self.automaton, input)?;
+        let bytes = input.position().saturating_sub(input.start());
+        self.passed = self.passed.saturating_add(bytes);
+        Ok(left)
     }
 }

@@ -114,7 +114,7 @@ impl Strategy {
 
     /// Where the match ends, by the automaton. The cache must be one for it, and still is one
     /// afterwards. Where all states are made already, it isn't looked at.
-    pub(super) fn search_half<C: Cursor>(
+    fn search_half<C: Cursor>(
         &self,
         cache: &mut rx_dfa::Cache,
         input: &mut Input<C>,
@@ -122,6 +122,7 @@ impl Strategy {
         requires made { automata.IsCacheOf self.now.vm.program self.now.dfa cache.old }
         ensures answer { IfOk result (IsHalfAnswer self.now.vm.program
             (search_of self.now.dfa.utf8_empty input.old)) }
+        ensures engines { AreEngines self.now }
         ensures made { automata.IsCacheOf self.now.vm.program self.now.dfa cache.new }
         ensures asked { input.new.asked ≡ input.old.asked }
         ensures same { IsSameContent input.old.cursor input.new.cursor }
@@ -129,6 +130,29 @@ impl Strategy {
         match &self.closed {
             Some(closed) => closed.try_search_fwd(self.program(), &self.dfa, input),
             None => try_search_fwd(self.program(), &self.dfa, cache, input),
+        }
+    }
+
+    /// What the automaton leaves of a search, with a cache as for `search_half`. The one refusal is
+    /// `Memory`.
+    pub(super) fn ask<C: Cursor>(
+        &self,
+        cache: &mut rx_dfa::Cache,
+        input: &mut Input<C>,
+    ) -> Result<Left, MatchError>
+        requires made { automata.IsCacheOf self.now.vm.program self.now.dfa cache.old }
+        ensures left { IfOk result (IsLeft self.now.vm.program
+            (search_of self.now.vm.utf8_empty input.old)) }
+        ensures made { automata.IsCacheOf self.now.vm.program self.now.dfa cache.new }
+        ensures asked { input.new.asked ≡ input.old.asked }
+        ensures same { IsSameContent input.old.cursor input.new.cursor }
+        ensures refused { IfErr result (λ error. error ≡ MatchError.Memory) }
+    {
+        match self.search_half(cache, input) {
+            Ok(Some(half)) => Ok(Left::UpTo(half.offset())),
+            Ok(None) => Ok(Left::Nothing),
+            Err(MatchError::Memory) => Err(MatchError::Memory),
+            Err(_) => Ok(Left::All),
         }
     }
 }
