@@ -11,6 +11,7 @@ import sessions
 
 MB = 1_000_000
 EXPRESSIONS = [r"\w+\s*=>\s*\w+", "(?i)todo|error", "[0-9]+|0x[0-9a-f]+"]
+SEARCHED = [*EXPRESSIONS, "TODO", ".*x", "(a*)*b", r"(\w+) (\w+)"]
 LETTERS = "abcdefghijklmnopqrstuvwxyz"
 NAMES = ["".join(name) for name in itertools.islice(itertools.product(LETTERS, repeat=3), 8192)]
 
@@ -120,7 +121,12 @@ TOPICS = {
     "searches": (
         "all matches by the engine, in one piece and in pieces; the aims are 40 ns a byte where walks are under way all "
         "the time, 5 where a match seldom begins, and in pieces at most 110 % of one piece",
-        over(TEXTS, *EXPRESSIONS, "TODO", ".*x", "(a*)*b", r"(\w+) (\w+)"),
+        over(TEXTS, *SEARCHED),
+    ),
+    "engines": (
+        "where matches end, by each engine and by a `Regex`: of one after the other, and of each line the first, in one "
+        "piece and in pieces; the aims for automata are 2.5 ns a byte, and 60 ns a line more than its bytes",
+        over(TEXTS[:1], *SEARCHED),
     ),
     "regexes": (
         "a `Regex` over a rope, beside one slice, and line by line with one cache; the aims are at most 110 % of a "

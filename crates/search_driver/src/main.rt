@@ -30,6 +30,11 @@
 //!   many matches so many calls of `next` give, and how many `count` tells then.
 //! - `split,PATTERN,SETTINGS,CUT,HAYSTACK,ASKED,START,END,AT,LIMIT`: the parts between matches there,
 //!   at most so many.
+//! - `lazy,PATTERN,SETTINGS,CUT,HAYSTACK,ASKED,TIMES,CAPACITY`: the pattern and the end of the first
+//!   match, by an automaton whose states a cache of that capacity keeps, once the cache has served so
+//!   many searches before. It has no settings either.
+//! - `dense,PATTERN,SETTINGS,CUT,HAYSTACK,ASKED,TIMES`: the same by one all of whose states are made
+//!   before.
 //! - `pieces,CUT,HAYSTACK`: the pieces that a cursor shows.
 //! - `chunks,CUT,HAYSTACK,START,END,AT`: those that a cursor over such a part of a rope shows.
 //! - `places,CUT,HAYSTACK,ASKED,TERMINATOR`: what is seen at each place of the slice, where lines
@@ -37,6 +42,7 @@
 //! - `moved,CUT,HAYSTACK,AT,START,END`: where a position is once a span is set.
 #![tactic(auto)]
 
+mod automata;
 mod fields;
 mod haystacks;
 mod inputs;
@@ -64,6 +70,8 @@ fn answer(alloc: Global, line: &str) -> Result<String, Fault> {
         "slots" => slots::noted(alloc, &fields),
         "regex" => regexes::in_pieces(alloc, &fields),
         "rope" | "counts" | "split" => regexes::in_rope(alloc, &fields),
+        "lazy" => automata::lazy(alloc, &fields),
+        "dense" => automata::dense(alloc, &fields),
         "pieces" => inputs::pieces(alloc, &fields),
         "chunks" => inputs::chunks(alloc, &fields),
         "places" => inputs::places(alloc, &fields),

@@ -1,0 +1,210 @@
+"""What the engines find, on bin/search-driver: where the first match ends, by the PikeVM, by an automaton whose states
+a cache keeps, of three capacities, and by one all of whose states are made before; and all matches, by a `Regex`, which
+chooses among them. Haystacks lie in pieces, and perhaps in slices and spans, and searches are perhaps anchored.
+
+The answers are those of the table tests/searches.jsonl and those of the model of tests/walks.py. An automaton may also
+quit before the first byte of 128 or more that it sees, where a pattern has `\\b` or `\\B`, and give up where a cache
+is small.
+"""
+import itertools
+import json
+import os
+import random
+import re
+
+from driver import PROGRAM_WANT, WANT, Case, Settings
+from driver import answer_to, answers, check_memory, line_of, problems, search, written
+from harness import TOP, differences, short, test
+from memory import library, tallied
+from random_patterns import Maker
+from test_regexes import in_rope
+from test_searches import SECOND, asked_at_random, listed
+from walks import Search, spelled
+
+SIZES = (0, 1, 2, 3)  # how many bytes a piece has; 0: all are one piece
+RANDOM_CASES, IN_ONE_RUN = 20_000, 2_500
+CAPACITIES = (0, 700, None)  # of caches, in bytes; none: as it is by default
+
+# An automaton all of whose states are made before may have so many of these that it takes long to make.
+MANY = re.compile(r"\\[dDsSwW]")
+
+# A content of 100,000 letters, a pattern that matches nothing in it, and one that matches all.
+LETTERS = "abcab" * 20_000
+IN_LETTERS = [("(a|b|ab)*x", "none"), ("(?:[a-c]|\\w)+", "0 100000"), ("(?i)todo|error", "none")]
+
+
+def automaton(word, pattern, haystack, cut=0, asked=None, times=0, capacity=None, answer=None):
+    """A case of a search by an automaton, once it has served so many searches before."""
+    slice_, span, anchored = asked or ((None, None), (None, None), None)
+    fields = [written(pattern), *Settings().fields(), cut, haystack.hex(), *slice_, *span]
+    fields += ["" if anchored is None else int(anchored), times, capacity]
+    name = f"{word} {pattern[:70]!r} in {short(haystack)}, cut by {cut} (slice, span, anchored: {asked})"
+    name += f", {times} times before, capacity {capacity}"
+    return Case(name, line_of(word, *fields), answer)
+
+
+def regex(pattern, haystack, cut=0, asked=None):
+    """A case of a search for all matches by a `Regex`."""
+    case = search(pattern, haystack, None, cut, asked)
+    return Case(f"regex {case.name}", "regex" + case.line[len("search") :])
+
+
+class Wanted:
+    """A search, all of whose matches are known, and what each engine may answer."""
+
+    def __init__(self, pattern, haystack, matches, cut=0, asked=None, times=0, is_dense=True):
+        self.pattern, self.haystack, self.matches = pattern, haystack, matches
+        self.cut, self.asked, self.times, self.is_dense = cut, asked, times, is_dense
+
+    def cases(self):
+        """By the PikeVM, by a regex, by an automaton with caches of each capacity, and by one with all states."""
+        how = self.pattern, self.haystack, self.cut, self.asked
+        yield search(self.pattern, self.haystack, None, self.cut, self.asked, slots=2)
+        yield regex(*how)
+        for capacity in CAPACITIES:
+            yield automaton("lazy", *how, self.times, capacity)
+        if self.is_dense:
+            yield automaton("dense", *how, self.times)
+
+    def places(self):
+        """Where the slice starts and ends, and the first and the last place of the search."""
+        length = len(self.haystack)
+        slice_, span, _ = self.asked or ((0, length), (0, length), None)
+        low, high = max(slice_[0], span[0]), min(slice_[1], span[1], length)
+        return slice_[0], min(slice_[1], length), low, high
+
+    def quit(self):
+        """How a search quits, if there is a byte before which it may have to."""
+        start, end, low, high = self.places()
+        if low <= high and re.search(r"\\[bB]", self.pattern):
+            for place in range(max(start, low - 1), min(high + 1, end)):
+                if self.haystack[place] >= 128:
+                    return f"the search met the byte {self.haystack[place]} at {place}, and can't go on"
+        return None
+
+    def is_given_up(self, answer):
+        """Whether it is that a search gave up at a place inside."""
+        _, _, low, high = self.places()
+        told = re.fullmatch(r"the search gave up at (\d+)", answer)
+        return told is not None and low <= int(told[1]) <= high
+
+    def wrong(self, told):
+        """The numbers of the cases that have wrong answers."""
+        by_vm, by_regex, *by_caches = told[:5]
+        whole = self.matches[0][0] if self.matches else None
+        end = f"0 {whole[1]}" if whole else "none"
+        if by_vm != (f"0 {whole[0]} {whole[1]}" if whole else "none - -"):
+            yield 0
+        if by_regex != listed(self.matches):
+            yield 1
+        for number, (capacity, answer) in enumerate(zip(CAPACITIES, by_caches), 2):
+            if answer not in (end, self.quit()) and (capacity is None or not self.is_given_up(answer)):
+                yield number
+        if self.is_dense and told[5] != by_caches[-1]:
+            yield 5
+
+
+def answered(searches, wrong):
+    """Each of the searches, with its cases and the answers to them, which come from runs of so many searches. What is
+    wrong with a run is added to what is wrong."""
+    while batch := list(itertools.islice(searches, IN_ONE_RUN)):
+        cases = [list(wanted.cases()) for wanted in batch]
+        told, with_run = answers(list(itertools.chain.from_iterable(cases)))
+        wrong += with_run
+        told = iter(told)
+        for wanted, about in zip(batch, cases):
+            yield wanted, about, list(itertools.islice(told, len(about)))
+
+
+def compared(searches):
+    """What is wrong with the answers to searches, and how they were answered, which has to be in each way."""
+    counts, wrong = {"with a match": 0, "that quit": 0, "that gave up": 0}, []
+    for wanted, about, here in answered(iter(searches), wrong):
+        for number in wanted.wrong(here):
+            wrong.append(f"{about[number].name}: {short(here[number].encode())}, of matches {wanted.matches[:1]}")
+        counts["with a match"] += bool(wanted.matches)
+        counts["that quit"] += "can't go on" in here[4]
+        counts["that gave up"] += any("gave up" in answer for answer in here)
+    wrong += [f"no searches {what}" for what, count in counts.items() if not count]
+    return wrong, ", ".join(f"{count} {what}" for what, count in counts.items())
+
+
+def table():
+    """All rows, in pieces of sizes in turn."""
+    with open(os.path.join(TOP, "tests", "searches.jsonl"), encoding="utf-8") as file:
+        rows = [json.loads(line) for line in file]
+    for row, size in zip(rows, itertools.cycle(SIZES)):
+        pattern = row["pattern"]
+        yield Wanted(pattern, row["haystack"].encode(), row["matches"], size, is_dense=not MANY.search(pattern))
+
+
+def at_random(count=RANDOM_CASES):
+    """Searches at random, four for a pattern, of which one is by an automaton with all states; some of them with caches
+    that served before."""
+    chance = random.Random(21)
+    maker = Maker(chance)
+    for number in range(count):
+        if number % 4 == 0:
+            tree = maker.tree()
+        is_dense = number % 4 == 0 and (not MANY.search(spelled(tree)) or chance.random() < 0.01)
+        haystack = maker.haystack(tree).encode()
+        asked = chance.choice([None, asked_at_random(chance, len(haystack))])
+        matches = Search(tree, haystack, *(asked or ())).matches()
+        if asked and asked[2] and chance.random() < 0.2:
+            matches, asked = [], (*asked[:2], SECOND)
+        how = chance.choice((0, 1, 2, 3, 5)), asked, chance.choice((0, 2))
+        yield Wanted(spelled(tree), haystack, matches, *how, is_dense)
+
+
+# Patterns, haystacks and what is answered with a cache that has room for two states: each letter leads to another one,
+# and when they would be taken out for the fourth time it gives up.
+IN_LITTLE_ROOM = [
+    ("a", b"bbbb", "none"),
+    ("abcdefg", b"abcdefg", "0 7"),
+    ("abcdefgh", b"abcdefgh", "the search gave up at 7"),
+]
+
+# Each has its requests for memory refused in turn. After each that comes in a search with a cache there is one more.
+IN_NEED = [
+    automaton("lazy", "(a)|b", b"ab", 1, answer="0 1"),
+    automaton("lazy", "(?:([a-é]+?)|$){2}x?", "aé 🐸".encode(), 2, None, 1, answer="0 3"),
+    automaton("lazy", "a*b", b"xaab", 1, ((0, 4), (1, 4), True), 0, 700, answer="0 4"),
+]
+IN_NEED_OF_ALL = [automaton("dense", "a*b", b"xaab", 1, answer="0 4")]
+
+
+def check_warm(few, many):
+    """A program that searches more often in a long content, with what it has searched with before, asks for no more
+    memory."""
+    wrong, told = [], []
+    for case in (few, many):
+        ended, count, _, total = tallied(lambda environment, line=case.line: answer_to(line, environment))
+        wrong += differences(ended, f"{case.answer}\n".encode(), 0)
+        told.append((count, total))
+    if told[0] != told[1]:
+        wrong.append("%d requests for %d bytes, and %d for %d with more searches" % (*told[0], *told[1]))
+    test(f"{many.name}, as much memory as {few.name}", wrong)
+
+
+def in_long_contents():
+    """Pairs of cases that differ in how often is searched before."""
+    for pattern, answer in IN_LETTERS:
+        for word in ("lazy", "dense"):
+            if word == "lazy" or not MANY.search(pattern):
+                yield [automaton(word, pattern, LETTERS.encode(), 984, None, times, answer=answer) for times in (1, 4)]
+        matches = "" if answer == "none" else "0-100000"
+        yield [in_rope("rope", pattern, LETTERS, matches, (900,), count=times) for times in (2, 5)]
+
+
+def test_all():
+    wrong, how = compared(itertools.chain(table(), at_random()))
+    test(f"searches of the table, and {RANDOM_CASES} at random, by each engine: {how}", wrong)
+    told = [automaton("lazy", *told, capacity=0, answer=answer) for *told, answer in IN_LITTLE_ROOM]
+    test(f"{len(told)} searches with a cache that has room for two states", problems(told))
+    if library() is not None:
+        for case in IN_NEED:
+            check_memory(case, [PROGRAM_WANT, WANT, b"again"], f"{case.answer}\n".encode())
+        for case in IN_NEED_OF_ALL:
+            check_memory(case, [PROGRAM_WANT, WANT], f"{case.answer}\n".encode())
+        for few, many in in_long_contents():
+            check_warm(few, many)
