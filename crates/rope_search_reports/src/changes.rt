@@ -70,7 +70,7 @@ fn turned(alloc: Global, changes: &[Change]) -> Result<Vec<Change>, Fault>
 }
 
 impl Changes {
-    /// The changes, from the first on.
+    /// Returns the changes, from the first on.
     pub fn as_slice(&self) -> &[Change]
         ensures { result.now ≡ listed self.now }
     {
@@ -80,8 +80,9 @@ impl Changes {
         }
     }
 
-    /// The changes that lead from the new text back to the old one. It may be refused with
-    /// `Fault::Memory` alone; for one change it takes no memory. `O(k)` for k changes.
+    /// Returns the changes that lead from the new text back to the old one. `O(k)` for k changes.
+    ///
+    /// Errors: `Fault::Memory`, which one change never meets.
     pub fn turned(&self, alloc: Global) -> Result<Changes, Fault>
         requires { (old : List ℕ) × (new : List ℕ) × Lead (listed self.now) old new }
         ensures changes { IfOk result (λ back. listed back ≡ turned 0 0 (listed self.now)) }
@@ -94,10 +95,12 @@ impl Changes {
     }
 }
 
-/// The patches that make a report that of the text after some changes. They search each line of the
-/// new text once at most, and at most as many as the changes' new parts have breaks, and one more
-/// for each change. It may be refused with `Fault::Memory` alone. `O(log n)` for each change, and
-/// time in the lines that are searched.
+/// Returns the patches that make a report that of the text after some changes. Each line of the new
+/// text is searched once at most, and at most as many as the changes' new parts have breaks, and
+/// one more for each change. Requires changes that lead from the old text to the new one.
+/// `O(log n)` for each change, and time linear in the lines that are searched.
+///
+/// Errors: `Fault::Memory`; the finder serves on.
 pub fn patches_of(
     tick: &mut Lines,
     alloc: Global,

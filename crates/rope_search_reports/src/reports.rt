@@ -31,9 +31,11 @@ fn without_break(line: RopeSlice<'_>) -> RopeSlice<'_>
     line.slice(..len - 1)
 }
 
-/// The report of a text and a finder's pattern: a row for each line, from the first. Each line is
-/// searched where it lies. It counts at most a row a line, and may be refused with `Fault::Memory`
-/// alone; the finder is then as before. Time is linear in the text, times the pattern's weight.
+/// Returns the report of a text and a finder's pattern: a row for each line, from the first, each
+/// searched where it lies. At most a row a line is counted. Time is linear in the text, times the
+/// pattern's weight.
+///
+/// Errors: `Fault::Memory`; the finder serves on.
 pub fn report_of(
     tick: &mut Lines,
     alloc: Global,
@@ -53,10 +55,11 @@ pub fn report_of(
     rows_of_lines(tick, alloc, finder, text, 0, text.len_lines())
 }
 
-/// The rows of lines `first..end` of a text, of which there may be none. Each line is searched by
-/// itself, where it lies. It counts at most a row for each of them, and may be refused with
-/// `Fault::Memory` alone; the finder is then as before. Time is `O(log n)` and linear in these
-/// lines, times the pattern's weight.
+/// Returns the rows of lines `first..end` of a text, each searched by itself, where it lies. At
+/// most a row for each of them is counted. Requires `first <= end` and `end <= len_lines()`. Time
+/// is `O(log n)` and linear in these lines, times the pattern's weight.
+///
+/// Errors: `Fault::Memory`; the finder serves on.
 pub fn rows_of_lines(
     tick: &mut Lines,
     alloc: Global,
