@@ -8,6 +8,7 @@ ghost use Rattle.rope_search.specs.Places.{HasNoneBetween, GetsTooLong, TellsRan
 ghost use Rattle.str_indices.specs.Text.{byte_len};
 ghost use Rattle.rope_search_reports.specs.Pattern.{IsPattern, IsTooHeavy, SpellsNone, pattern_limit};
 ghost use Rattle.rope_search_reports.specs.Position.{IsNowhere};
+ghost use Rattle.rope_search_reports.specs.Ticks.{MakesAtMost, SearchesOneWhole};
 ghost use Rattle.rope_search.specs.Finding.{TellsNext};
 ghost use Rattle.rope_search.specs.Replacing.{IsReplacement, GetsTooLongWith, RowsOfReplacement};
 ghost use Rattle.rope_search.specs.Cost.{rows_anew};
@@ -110,8 +111,7 @@ impl Buffer {
         // A report that is made anew has a row for each line; a text that is too long is searched
         // nowhere.
         ensures refused { result ≡ Err Fault.Size → tick.new ≡ tick.old }
-        ensures rows { tick.new.count ≤ tick.old.count + rows_anew self.old.state (chars text.now) }
-        ensures wholes { tick.new.wholes ≡ tick.old.wholes }
+        ensures rows { MakesAtMost (rows_anew self.old.state (chars text.now)) tick.old tick.new }
     {
         if self.limits.text < text.len() {
             return Err(Fault::Size);
@@ -159,9 +159,8 @@ impl Buffer {
         // It makes at most as many rows as what it inserts has lines.
         ensures astray { result ≡ Err Fault.Range → tick.new ≡ tick.old }
         ensures refused { result ≡ Err Fault.Size → tick.new ≡ tick.old }
-        ensures rows { tick.new.count ≤
-            tick.old.count + rows_anew self.old.state (chars inserted.now) }
-        ensures wholes { tick.new.wholes ≡ tick.old.wholes }
+        ensures rows { MakesAtMost (rows_anew self.old.state (chars inserted.now))
+            tick.old tick.new }
     {
         let part = self.part_to_replace(from, to, inserted)?;
         let old = self.history.current();
@@ -238,9 +237,8 @@ impl Buffer {
         // has.
         ensures refused { result ≡ Err Fault.Nothing → tick.new ≡ tick.old }
         ensures back { tick.new.count ≤ tick.old.count + rows_back self.old }
-        ensures rows { tick.new.count ≤ tick.old.count
-            + rows_anew self.old.state (current_text (undone self.old.state)) }
-        ensures wholes { tick.new.wholes ≡ tick.old.wholes }
+        ensures rows { MakesAtMost
+            (rows_anew self.old.state (current_text (undone self.old.state))) tick.old tick.new }
     {
         let Some(text) = self.history.previous() else {
             return Err(Fault::Nothing);
@@ -273,9 +271,8 @@ impl Buffer {
         // has.
         ensures refused { result ≡ Err Fault.Nothing → tick.new ≡ tick.old }
         ensures on { tick.new.count ≤ tick.old.count + rows_on self.old }
-        ensures rows { tick.new.count ≤ tick.old.count
-            + rows_anew self.old.state (current_text (redone self.old.state)) }
-        ensures wholes { tick.new.wholes ≡ tick.old.wholes }
+        ensures rows { MakesAtMost
+            (rows_anew self.old.state (current_text (redone self.old.state))) tick.old tick.new }
     {
         let Some(version) = self.history.next() else {
             return Err(Fault::Nothing);
@@ -312,8 +309,7 @@ impl Buffer {
         // The report has a row for each line; for what is no pattern nothing is searched.
         ensures long_unsearched { result ≡ Err Fault.Limit → tick.new ≡ tick.old }
         ensures unsearched { (IsPattern (chars pattern.now) → ⊥) → tick.new ≡ tick.old }
-        ensures rows { tick.new.count ≤ tick.old.count + line_count (current_text self.old.state) }
-        ensures wholes { tick.new.wholes ≡ tick.old.wholes }
+        ensures rows { MakesAtMost (line_count (current_text self.old.state)) tick.old tick.new }
     {
         let mut finder = Finder::new(self.alloc, pattern)?;
         let rows = report_of(tick, self.alloc, &mut finder, self.text())?;
@@ -364,8 +360,7 @@ impl Buffer {
         ensures fault { IfErr result (λ fault.
             (fault ≡ Fault.Nothing) ⊎ ((fault ≡ Fault.Range) ⊎ (fault ≡ Fault.Memory))) }
         ensures same { self.new ≡ self.old }
-        ensures count { tick.new.count ≡ tick.old.count }
-        ensures wholes { tick.new.wholes ≤ tick.old.wholes + 1 }
+        ensures searches { SearchesOneWhole tick.old tick.new }
     {
         let Some(search) = &mut self.search else {
             return Err(Fault::Nothing);

@@ -1,12 +1,13 @@
 //! A session: buffers, of which one is chosen.
 ghost use Rattle.std.specs.Prelude.{◌≡◌, ◌+◌, ◌<◌, ◌≤◌, ◌↔◌, [], ◌∷◌, ◌++◌, List, ℕ, length, Bool, Err, OnOk, OnErr, IfOk, IfErr, IsOk, None, Some};
-ghost use Rattle.rope_search.specs.Order.{Order, SetText, EditText, UndoEdit, RedoEdit, SetPattern, ListMatches, FindNext, ReplaceAll};
+ghost use Rattle.rope_search.specs.Order.{SetText, EditText, UndoEdit, RedoEdit, SetPattern, ListMatches, FindNext, ReplaceAll};
 ghost use Rattle.rope_search.specs.Session.{first, fresh, current_text, chosen_buffer, with_pattern, with_chosen};
 ghost use Rattle.rope_search_reports.specs.Pattern.{pattern_limit};
 ghost use Rattle.rope_search.specs.Laws.{HasCurrent, AllHoldTexts};
 ghost use Rattle.rope_search.specs.Step.{Step};
-ghost use Rattle.rope_search.specs.Stands.{Stands, StandsFor, kept_of};
-ghost use Rattle.rope_search.specs.Cost.{Costs, whole_searches};
+ghost use Rattle.rope_search.specs.Stands.{ForOrders, StandsFor, kept_of};
+ghost use Rattle.rope_search.specs.Cost.{Costs, SearchesFor};
+ghost use Rattle.rope_search_reports.specs.Ticks.{SearchesOneWhole};
 ghost use Rattle.rope_search.specs.Finding as finding;
 
 use crate::buffer::Buffer;
@@ -150,8 +151,8 @@ impl Session {
     /// counts each line and each whole text that is searched.
     pub fn apply(&mut self, tick: &mut Lines, command: Command<'_>) -> Result<Reply, Fault>
         // What it answers and leaves is a step, for each command that this one stands for.
-        ensures step { (order : Order) → Stands self.old.limit command.entry order
-            → Step self.old.limit self.old.state order result self.new.state }
+        ensures step { ForOrders self.old.limit command.entry (λ order.
+            Step self.old.limit self.old.state order result self.new.state) }
 
         // Want of memory is told where the payload was lost, and not where it is too long.
         ensures lost { kept_of command.entry ≡ Some Payload.Lost → result ≡ Err Fault.Memory }
@@ -160,12 +161,9 @@ impl Session {
 
         ensures limit { self.new.limit ≡ self.old.limit }
 
-        // It makes at most the rows that the command costs.
-        ensures rows { (order : Order) (cost : ℕ) → Stands self.old.limit command.entry order
-            → Costs self.old.limit self.old.state order cost
-            → tick.new.count ≤ tick.old.count + cost }
-        ensures wholes { (order : Order) → Stands self.old.limit command.entry order
-            → tick.new.wholes ≤ tick.old.wholes + whole_searches order }
+        // It searches no more than the command costs.
+        ensures searches { ForOrders self.old.limit command.entry (λ order.
+            SearchesFor self.old.limit self.old.state order tick.old tick.new) }
     {
         match command {
             Command::Text(payload) => self.set_text(tick, payload),
@@ -328,8 +326,7 @@ impl Session {
     fn find_next(&mut self, tick: &mut Lines, from: Position) -> Result<Reply, Fault>
         ensures step { Step self.old.limit self.old.state (FindNext from) result self.new.state }
         ensures limit { self.new.limit ≡ self.old.limit }
-        ensures count { tick.new.count ≡ tick.old.count }
-        ensures wholes { tick.new.wholes ≤ tick.old.wholes + 1 }
+        ensures searches { SearchesOneWhole tick.old tick.new }
     {
         let found = self.buffers[self.chosen].next_from(tick, from)?;
         Ok(reply_for(found))

@@ -5,6 +5,7 @@ ghost use Rattle.rope_search_reports.specs.Text.{line_count};
 ghost use Rattle.ropey.specs.Chunks.{text_of};
 ghost use Rattle.rope_search_reports.specs.Changes.{AreChanges};
 ghost use Rattle.rope_search_reports.specs.Patches.{patched, AreInTurn};
+ghost use Rattle.rope_search_reports.specs.Ticks.{MakesAtMost};
 ghost use Rattle.rope_search_reports.specs.Turned.{Lead, listed, turned, turned_from};
 
 use crate::patches::Patch;
@@ -121,8 +122,7 @@ pub fn patches_of(
     ensures finder { finder.new ≡ finder.old }
     ensures count { (n : ℕ) → AreChanges changes.now 0 0 (text_of old.now) (text_of new.now) n
         → tick.new.count ≤ tick.old.count + n }
-    ensures once { tick.new.count ≤ tick.old.count + line_count (text_of new.now) }
-    ensures wholes { tick.new.wholes ≡ tick.old.wholes }
+    ensures once { MakesAtMost (line_count (text_of new.now)) tick.old tick.new }
 {
     let mut patches = Vec::new(alloc);
     // The lines of both texts up to the last change: the old one's that are kept or gone, and the

@@ -6,6 +6,7 @@ ghost use Rattle.ropey_walk.specs.Slices.{slice_text};
 ghost use Rattle.rope_search_reports.specs.Text.{line_count};
 ghost use Rattle.rope_search_reports.specs.Report.{line_texts, AreRows, IsReport, match_count};
 ghost use Rattle.rope_search_reports.specs.Drafts.{IsLine};
+ghost use Rattle.rope_search_reports.specs.Ticks.{MakesAtMost};
 
 use crate::laws;
 use crate::rows::{Finder, Lines, Row, search_line};
@@ -46,8 +47,7 @@ pub fn report_of(
     ensures few { IfOk result (λ rows. match_count rows.items < 2 ^ 64) }
     ensures fault { IfErr result (λ fault. fault ≡ Fault.Memory) }
     ensures finder { finder.new ≡ finder.old }
-    ensures count { tick.new.count ≤ tick.old.count + breaks is_break (text_of text.now) + 1 }
-    ensures wholes { tick.new.wholes ≡ tick.old.wholes }
+    ensures count { MakesAtMost (line_count (text_of text.now)) tick.old tick.new }
 {
     // Laws, and the text's facts, for the proof alone.
     laws::few_matches();
@@ -74,8 +74,7 @@ pub fn rows_of_lines(
         (take (end - first) (drop first (line_texts (text_of text.now)))) rows.items) }
     ensures fault { IfErr result (λ fault. fault ≡ Fault.Memory) }
     ensures finder { finder.new ≡ finder.old }
-    ensures count { tick.new.count ≤ tick.old.count + (end - first) }
-    ensures wholes { tick.new.wholes ≡ tick.old.wholes }
+    ensures count { MakesAtMost (end - first) tick.old tick.new }
 {
     // Laws, for the proof alone.
     laws::places();
