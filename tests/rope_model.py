@@ -30,6 +30,12 @@ def order(left, right):
     return "Less" if left < right else "Greater" if left > right else "Equal"
 
 
+def compared(left, right):
+    """The order of two texts, whether they are equal, and whether their hashes are."""
+    is_equal = "true" if left == right else "false"
+    return f"{order(left, right)} {is_equal} {is_equal}"
+
+
 def ok(value):
     return f"Ok({value})"
 

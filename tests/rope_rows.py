@@ -3,7 +3,7 @@
 A row is a line that is sent, and what is due: a line, or a call that tells what is wrong with one.
 """
 from harness import ROPE_PROGRAM, differences, end_of, open_input, start, test
-from rope_model import MOST_BYTES, Cut, byte_range_refusal, hexed, lengths, ok, range_refusal, refused, text_of
+from rope_model import MOST_BYTES, Cut, byte_range_refusal, compared, hexed, lengths, ok, range_refusal, refused, text_of
 
 BATCH = 20_000  # how many rows go into one run
 
@@ -148,7 +148,9 @@ class RopeRow:
         if name in ("text", "display", "written"):
             return hexed(self.text)
         if name == "same":
-            return "true true Equal"
+            return f"true {compared(self.text, self.text)}"
+        if name == "compare":
+            return compared(self.text, self.kept[-1])
         if name == "places":
             return text_of(self.text).places(int(arguments[0]))
         if name == "parts":

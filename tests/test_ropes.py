@@ -33,7 +33,7 @@ EDITS = [
               "lengths", "append", "text", "same"],
      ["Ok(())", "Ok(())", "Ok(())", hexed("baせé🐸\r\n"), "Ok(())", "Ok(())", "Ok(())", hexed("cbaせeé🐸\r\nd"), "16 10 11 2",
       "Ok(())", hexed("cせeé🐸\r\nd"), "Ok(())", "Ok(())", "Ok(())", hexed("cせe"), "Ok(())", "Ok(())", "0 0 0 1", "Ok(())",
-      hexed("cせeé🐸\r\nd"), "true true Equal"]),
+      hexed("cせeé🐸\r\nd"), "true Equal true true"]),
     # A text in the place of a range of characters or of bytes; and a range is refused before anything is done.
     ("aé\r\n🐸", ["replace,1,3,7879", "text", "lengths", "try_replace,1,9,61", "try_replace,3,2,61", "try_replace,6,,61",
                   "try_byte_replace,2,5,62", "try_byte_replace,9,9,62", "try_byte_replace,4,3,62", "try_byte_replace,5,8,62",
@@ -47,10 +47,10 @@ EDITS = [
       "Ok(())", "1 1 1 2"]),
     # Of the characters that Unicode lets break lines LF and CR do, CR LF as one.
     ("a\nb\vc\fd\re\x85f\u2028g\u2029h\r\ni", ["lengths", "same", "remove,1,2", "remove,6,7", "lengths", "same"],
-     ["23 18 18 4", "true true Equal", "Ok(())", "Ok(())", "21 16 16 2", "true true Equal"]),
+     ["23 18 18 4", "true Equal true true", "Ok(())", "Ok(())", "21 16 16 2", "true Equal true true"]),
     # What a builder is given by slices: the text up to one character, and that from another one on.
     ("aé\r\n🐸", ["build,3,3", "text", "build,2,3", "text", "cut", "build,4,0", "text", "same", "build,0,8", "lengths"],
-     ["Ok(9)", hexed("aé\r\n🐸"), "Ok(8)", hexed("aé\n🐸"), "8 984", "Ok(16)", hexed("aé\n🐸aé\n🐸"), "true true Equal", "Ok(0)",
+     ["Ok(9)", hexed("aé\r\n🐸"), "Ok(8)", hexed("aé\n🐸"), "8 984", "Ok(16)", hexed("aé\n🐸aé\n🐸"), "true Equal true true", "Ok(0)",
       "0 0 0 1"]),
 ]  # fmt: skip
 
@@ -116,6 +116,23 @@ def made_ropes():
         # Ten million bytes: what is told is too long to be asked for by the model at each place.
         text, count = unit * (10_000_000 // len(unit.encode())), 10_000_000 // len(unit.encode())
         yield f"from_str {hexed(unit)}*{count} cut lengths", RopeRow("from_str", [text], ["cut", "lengths"]).wrong
+
+
+def compared_ropes():
+    """Ropes of one text that are cut in different ways, and ropes of texts that differ in a character or where one
+    ends, compared and hashed as wholes."""
+    others = [(text, other) for text in small_texts("a\né", 2) for other in small_texts("a\né", 2)]
+    for text, other in [*others, ("", "a"), ("a", ""), ("\U0001f438", "\uffff"), ("a\r", "a\r\n")]:
+        asks = ["split_off,0", f"insert,0,{hexed(other)}", "compare", "swap", "compare"]
+        yield RopeRow("from_str", [text], asks).row()
+    for unit, size in itertools.product(UNITS, (983, 985, 2_000, 50_000)):
+        text, inserted = full(unit, size), full("\r\na", 1_500)
+        for at in (0, 1, len(text) // 2, len(text)):
+            cut_anew = [f"insert,{at},{hexed(inserted)}", "cut", f"remove,{at},{at + len(inserted)}", "cut"]
+            one_more = [f"insert,{at},61", "compare", "swap", "compare"]
+            asks = ["clone", *cut_anew, "compare", "swap", "compare", *one_more]
+            yield RopeRow("from_str", [text], asks).row()
+            yield RopeRow("builder", parts_of(text, 41), [*asks, "shrink_to_fit", "cut", "compare"]).row()
 
 
 def small_edits():
@@ -232,6 +249,7 @@ def test_all():
     check("edits of ropes whose outcome is known", known_edits())
     check("texts that are built of parts", built_texts())
     check("long texts that are made ropes", made_ropes())
+    check("ropes that are compared and hashed", compared_ropes())
     check("edits of short texts", small_edits())
     check("edits where chunks meet", itertools.chain(seams(), edits_of_many_chunks(), merging_leaves()))
     check("ropes that are edited at random", edits_at_random())

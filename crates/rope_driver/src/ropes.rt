@@ -7,6 +7,7 @@ use crate::texts::{asked, number, tell_slice, tell_text, text, texts};
 use crate::walks::{follow, walk_chunks, walk_over};
 use ropey::{Error, ReadFault, Rope, RopeBuilder};
 use std::alloc::{AllocError, Global};
+use std::hash::{DefaultHasher, Hash, Hasher};
 use std::mem;
 
 /// A rope, and those that are kept.
@@ -52,6 +53,21 @@ fn made(alloc: Global, maker: &str, parts: &[String], out: &mut String) -> Resul
     }
 }
 
+/// What a hasher makes of a rope.
+fn hash_of(rope: &Rope) -> u64 {
+    let mut hasher = DefaultHasher::new();
+    rope.hash(&mut hasher);
+    hasher.finish()
+}
+
+/// Writes the order of two ropes, whether they are equal, and whether their hashes are.
+fn tell_order(out: &mut String, left: &Rope, right: &Rope) -> Result<(), AllocError> {
+    let order = left.cmp(right);
+    let is_equal = left == right;
+    let is_hashed_alike = hash_of(left) == hash_of(right);
+    write!(out, "{order:?} {is_equal} {is_hashed_alike}")
+}
+
 /// Answers what is asked of the rope of parts of a text. The first answer is whether there is one.
 pub fn answer(
     alloc: Global,
@@ -93,6 +109,7 @@ impl Ropes {
             "display" => tell_text(out, rope.to_string(alloc)?.as_str())?,
             "cut" => self.tell_cut(out)?,
             "same" => self.tell_same(alloc, out)?,
+            "compare" => self.tell_compared(out)?,
             "written" => self.tell_written(alloc, out)?,
             "places" => tell_places!(rope, number(first)?, out)?,
             "chunk" => self.tell_chunks(number(first)?, out)?,
@@ -123,15 +140,22 @@ impl Ropes {
         write!(out, "{}", self.rope.capacity())
     }
 
-    /// Writes whether the rope is one of its own text, and the same as its last kept one.
+    /// Writes whether the rope is its own text, and how it compares with a rope of that text.
     fn tell_same(&self, alloc: Global, out: &mut String) -> Result<(), Fault> {
         let text = self.rope.to_text()?;
         let anew = Rope::from_str(alloc, &text)?;
         let is_text = self.rope.eq_str(&text);
-        let is_equal = self.rope == anew;
-        let order = self.rope.cmp(&anew);
-        write!(out, "{is_text} {is_equal} {order:?}")?;
+        write!(out, "{is_text} ")?;
+        tell_order(out, &self.rope, &anew)?;
         Ok(())
+    }
+
+    /// Writes how the rope compares with the one that was kept last.
+    fn tell_compared(&self, out: &mut String) -> Result<(), AllocError> {
+        match self.kept.last() {
+            Some(other) => tell_order(out, &self.rope, other),
+            None => Ok(()),
+        }
     }
 
     /// Writes what a writer is given.

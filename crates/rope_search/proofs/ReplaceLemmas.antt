@@ -12,7 +12,7 @@ use Rattle.rope_search.specs.Session.{BufferState, State, LimitedBuffer, Limited
 use Rattle.rope_search.specs.Stands.{Stands, StandsFor}
 use Rattle.rope_search.specs.Replacing.{IsReplacement, GetsTooLongWith, RowsOfReplacement}
 use Rattle.rope_search.specs.Step.{Refuses, Step}
-use Rattle.rope_search.specs.Cost.{Costs}
+use Rattle.rope_search.specs.Cost.{Costs, whole_searches}
 use Rattle.rope_search.proofs.SessionLemmas.{Chosen, Chosen-state, Chosen-limit, Chosen-set, Chosen-kept, state_with}
 use Rattle.rope_search.proofs.StepLaws.{accepted_replace, refused_replace, refused_replace_utf8, refused_replace_size}
 use Rattle.rope_search.proofs.TextLemmas.{Encodes-chars}
@@ -23,6 +23,11 @@ pub rows_for_replace : (limit : ℕ) (s : State) (payload : Payload) (count befo
     → (order : Order) (cost : ℕ) → Stands limit (Replace payload) order → Costs limit s order cost → count ≤ before + cost
 rows_for_replace limit s payload count before each (ReplaceAll bytes) cost stands costs = each bytes cost stands costs
 rows_for_replace limit s payload count before each order cost stands costs = absurd stands
+
+pub wholes_for_replace : (limit : ℕ) (payload : Payload) (wholes before : ℕ) → wholes ≤ before + 1
+    → (order : Order) → Stands limit (Replace payload) order → wholes ≤ before + whole_searches order
+wholes_for_replace limit payload wholes before one (ReplaceAll bytes) stands = one
+wholes_for_replace limit payload wholes before one order stands = absurd stands
 
 -- a text is too long for the session where it is for the chosen buffer
 long_here : (items : List LimitedBuffer) (k limit : ℕ) (old : LimitedBuffer) (s : LimitedSession) (template : List ℕ) → Chosen items k limit old s

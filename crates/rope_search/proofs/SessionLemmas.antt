@@ -2,17 +2,18 @@
 use Rattle.std.proofs.Common.{◌≡◌, ℕ, ◌+◌, ◌<◌, ◌≤◌, ◌⊎◌, List, [], length, map, sym, ap, ◌∙◌, subst, inl, inr, refl, IsUtf8, Ok, Err, arith, slice_index_or, slice_set}
 use Rattle.std.proofs.lemmas.List.{map-set, get_or-map, get_or-set_same, set-get_or, length-map}
 use Rattle.rope_search.specs.declared.commands.Payload.{Payload}
-use Rattle.rope_search.specs.declared.commands.CommandOf.TheVariants.{Text, Pattern as PatternCommand}
-use Rattle.rope_search.specs.Order.{Order, SetText, SetPattern}
+use Rattle.rope_search.specs.declared.commands.CommandOf.TheVariants.{Text, Pattern as PatternCommand, Next}
+use Rattle.rope_search.specs.Order.{Order, SetText, SetPattern, FindNext}
 use Rattle.rope_search.specs.Session.{State, BufferState, LimitedBuffer, LimitedSession, fresh, current_text, chosen_buffer, with_text, with_pattern, with_chosen}
 use Rattle.rope_search_reports.specs.Pattern.{IsPattern, IsTooHeavy, SpellsNone, pattern_limit}
 use Rattle.rope_search_reports.specs.Text.{line_count}
+use Rattle.rope_search_reports.specs.declared.positions.Position.{Position}
 use Rattle.rope_search_io.specs.declared.faults.Fault.{Fault}
 use Rattle.rope_search_io.specs.declared.faults.Fault.TheVariants.{Utf8, Pattern, Limit, Memory}
 use Rattle.rope_search_reports.specs.Laws.{IsOneOfThree}
 use Rattle.rope_search.specs.Stands.{Stands, StandsFor}
 use Rattle.rope_search.specs.Step.{Refuses, Accepts, Does, Step}
-use Rattle.rope_search.specs.Cost.{Costs, CostsAccepted, rows_anew, rows_of_report}
+use Rattle.rope_search.specs.Cost.{Costs, CostsAccepted, rows_anew, rows_of_report, whole_searches}
 use Rattle.rope_search.proofs.StepLaws.{accepted_text, accepted_pattern, refused_limit, refused_pattern}
 use Rattle.std.proofs.lemmas.Bool.{cases_lt}
 use Rattle.std.specs.Prelude.{Some}
@@ -36,6 +37,11 @@ pub rows_for_pattern : (limit : ℕ) (s : State) (payload : Payload) (count befo
     → (order : Order) (cost : ℕ) → Stands limit (PatternCommand payload) order → Costs limit s order cost → count ≤ before + cost
 rows_for_pattern limit s payload count before each (SetPattern bytes) cost stands costs = each bytes cost stands costs
 rows_for_pattern limit s payload count before each order cost stands costs = absurd stands
+
+pub wholes_for_next : (limit : ℕ) (from : Position) (wholes before : ℕ) → wholes ≤ before + 1
+    → (order : Order) → Stands limit (Next from) order → wholes ≤ before + whole_searches order
+wholes_for_next limit from wholes before one (FindNext at) stands = one
+wholes_for_next limit from wholes before one order stands = absurd stands
 
 -- ---- the chosen buffer in the list of all
 

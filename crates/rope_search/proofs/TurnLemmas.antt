@@ -10,9 +10,10 @@ use Rattle.rope_search_reports.specs.Ticks.{Ticks}
 use Rattle.rope_search.specs.declared.commands.CommandOf.{CommandOf}
 use Rattle.rope_search.specs.declared.payloads.Collected.{Collected}
 use Rattle.rope_search.specs.Order.{Order}
+use Rattle.rope_search.specs.Session.{State}
 use Rattle.rope_search.specs.Step.{Answer, Step}
 use Rattle.rope_search.specs.Shows.{IsShown}
-use Rattle.rope_search.specs.Cost.{Costs, whole_searches}
+use Rattle.rope_search.specs.Cost.{Costs, SearchesFor, whole_searches}
 use Rattle.rope_search.specs.Requests.{IsReadAs, TakesOrder}
 use Rattle.rope_search.specs.Runs.{SearchesWithin, Scene, Turned, TakesTurn, SoFar}
 use Rattle.rope_search.specs.Laws.{AllHoldTexts, Known}
@@ -27,9 +28,8 @@ pub SearchesWithin-none : (t : Ticks) → SearchesWithin [] 0 t t
 SearchesWithin-none t = record { rows = omega arith; wholes = omega arith }
 
 -- by one command
-pub SearchesWithin-one : (o : Order) (cost : ℕ) (t u : Ticks) → u.count ≤ t.count + cost → u.wholes ≤ t.wholes + whole_searches o
-    → SearchesWithin (o ∷ []) cost t u
-SearchesWithin-one o cost t u rows wholes = record { rows = rows; wholes = omega (arith, wholes) }
+pub SearchesWithin-one : (limit : ℕ) (s : State) (o : Order) (cost : ℕ) (t u : Ticks) → Costs limit s o cost → SearchesFor limit s o t u → SearchesWithin (o ∷ []) cost t u
+SearchesWithin-one limit s o cost t u costs searches = record { rows = searches.rows cost costs; wholes = omega (arith, searches.wholes) }
 
 -- by commands and then by others
 pub SearchesWithin-trans : (os ps : List Order) (m n : ℕ) (t u v : Ticks) → SearchesWithin os m t u → SearchesWithin ps n u v → SearchesWithin (os ++ ps) (m + n) t v
@@ -51,10 +51,9 @@ SearchesWithin-more os ps m n t u before = record {
 pub Turned-given : (known : Known) (limit : ℕ) (header : CommandOf ℕ) (kept : Collected) (answer : Answer) (old new : Scene) (Written : List ℕ → Type 0) → AllHoldTexts old.session
     → TakesOrder limit header kept old.buffer new.buffer old.source new.source
     → ((order : Order) → IsReadAs limit header kept order → Step limit old.session order answer new.session)
-    → ((order : Order) (cost : ℕ) → IsReadAs limit header kept order → Costs limit old.session order cost → new.ticks.count ≤ old.ticks.count + cost)
-    → ((order : Order) → IsReadAs limit header kept order → new.ticks.wholes ≤ old.ticks.wholes + whole_searches order)
+    → ((order : Order) → IsReadAs limit header kept order → SearchesFor limit old.session order old.ticks new.ticks)
     → IsShown new.session answer Written → Turned limit old new Written
-Turned-given known limit header kept answer old new Written all read step rows wholes written =
+Turned-given known limit header kept answer old new Written all read step searches written =
     let cost = costs_exist known limit old.session read.order all in
     record {
       order = read.order;
@@ -66,7 +65,7 @@ Turned-given known limit header kept answer old new Written all read step rows w
       step = step read.order read.is;
       costs = cost.1;
       reply = written;
-      searches = SearchesWithin-one read.order cost.0 old.ticks new.ticks (rows read.order cost.0 read.is cost.1) (wholes read.order read.is);
+      searches = SearchesWithin-one limit old.session read.order cost.0 old.ticks new.ticks cost.1 (searches read.order read.is);
     }
 
 -- a sink that failed in the middle of an answer

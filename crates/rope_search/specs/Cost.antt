@@ -1,8 +1,9 @@
 -- How many rows of a report a command may make, and how often it may search a whole text.
-use Rattle.std.specs.Prelude.{◌≡◌, ℕ, ◌⊎◌, List, if◌then◌else◌, is_some, Ok, chars}
+use Rattle.std.specs.Prelude.{◌≡◌, ℕ, ◌+◌, ◌≤◌, ◌⊎◌, List, if◌then◌else◌, is_some, Ok, chars}
 use Rattle.rope_search_io.specs.declared.faults.Fault.{Fault}
 use Rattle.rope_search.specs.declared.commands.Reply.{Reply}
 use Rattle.rope_search_reports.specs.Text.{line_count}
+use Rattle.rope_search_reports.specs.Ticks.{Ticks}
 use Rattle.rope_search.specs.Order.{Order, SetText, EditText, UndoEdit, RedoEdit, PrintText, ForkBuffer, SetPattern, DropPattern, ListMatches, FindNext, ReplaceAll, UseBuffer}
 use Rattle.rope_search.specs.Session.{BufferState, State, current_text, chosen_buffer}
 use Rattle.rope_search.specs.Replacing.{RowsOfReplacement}
@@ -62,3 +63,9 @@ whole_searches ListMatches = 0
 whole_searches (FindNext from) = 1
 whole_searches (ReplaceAll payload) = 1
 whole_searches (UseBuffer k) = 0
+
+-- at most the rows were made that the command costs, and whole texts searched no more often than it
+-- may
+pub record SearchesFor (limit : ℕ) (session : State) (order : Order) (ticks ticks' : Ticks) : Type 0 where
+  pub rows : (cost : ℕ) → Costs limit session order cost → ticks'.count ≤ ticks.count + cost
+  pub wholes : ticks'.wholes ≤ ticks.wholes + whole_searches order

@@ -16,6 +16,10 @@ StandsFor limit Lost payload = Unit {0}
 abbrev pub Stands : ℕ → CommandOf Payload → Order → Type 0
 Stands limit command order = IsOf StandsFor limit command order
 
+-- P holds of each command in full that this one stands for
+abbrev pub ForOrders : ℕ → CommandOf Payload → (Order → Type 0) → Type 0
+ForOrders limit command P = (order : Order) → Stands limit command order → P order
+
 -- what was kept of the command's payload, where it has one
 abbrev pub kept_of : CommandOf Payload → Option Payload
 kept_of (SetText payload) = Some payload

@@ -8,6 +8,7 @@ ghost use Rattle.rope_search.specs.Places.{HasNoneBetween, GetsTooLong, TellsRan
 ghost use Rattle.str_indices.specs.Text.{byte_len};
 ghost use Rattle.rope_search_reports.specs.Pattern.{IsPattern, IsTooHeavy, SpellsNone, pattern_limit};
 ghost use Rattle.rope_search_reports.specs.Position.{IsNowhere};
+ghost use Rattle.rope_search_reports.specs.Ticks.{MakesAtMost, SearchesOneWhole};
 ghost use Rattle.rope_search.specs.Finding.{TellsNext};
 ghost use Rattle.rope_search.specs.Replacing.{IsReplacement, GetsTooLongWith, RowsOfReplacement};
 ghost use Rattle.rope_search.specs.Cost.{rows_anew};
@@ -57,7 +58,7 @@ impl Model for Buffer {
 }
 
 impl Buffer {
-    /// A buffer with the empty text and no pattern. It may be refused with `Fault::Memory` alone.
+    /// Returns a buffer with an empty text and no pattern. Errors: `Fault::Memory`.
     pub fn new(alloc: Global, limits: Limits) -> Result<Buffer, Fault>
         ensures ok { IfOk result (λ buffer. buffer ≡
             record { limit = limits.text; state = fresh []; changes = [] ∷ [] }) }
@@ -84,7 +85,7 @@ impl Buffer {
         self.limits
     }
 
-    /// The current text.
+    /// Returns the current text. `O(1)`.
     pub fn text(&self) -> &Rope
         ensures text { text_of result.now ≡ current_text self.now.state }
         ensures current { self.now.state.current < length self.now.state.texts }
@@ -95,9 +96,10 @@ impl Buffer {
         self.history.current()
     }
 
-    /// Makes this the text, with a new history; the pattern stays, and its report is made anew. It
-    /// is refused with `Fault::Size` where it has more bytes than the limit, and perhaps with
-    /// `Fault::Memory`; the buffer is then as before.
+    /// Replaces the text, with a new history. The pattern stays, and its report is made anew.
+    ///
+    /// Errors, which leave the buffer as it was: `Fault::Size` for more bytes than the limit;
+    /// `Fault::Memory`.
     pub fn set_text(&mut self, tick: &mut Lines, text: &str) -> Result<(), Fault>
         ensures ok { OnOk result (self.new.state ≡ with_text self.old.state (chars text.now)) }
         ensures changes { OnOk result (self.new.changes ≡ [] ∷ []) }
@@ -109,8 +111,7 @@ impl Buffer {
         // A report that is made anew has a row for each line; a text that is too long is searched
         // nowhere.
         ensures refused { result ≡ Err Fault.Size → tick.new ≡ tick.old }
-        ensures rows { tick.new.count ≤ tick.old.count + rows_anew self.old.state (chars text.now) }
-        ensures wholes { tick.new.wholes ≡ tick.old.wholes }
+        ensures rows { MakesAtMost (rows_anew self.old.state (chars text.now)) tick.old tick.new }
     {
         if self.limits.text < text.len() {
             return Err(Fault::Size);
@@ -127,13 +128,14 @@ impl Buffer {
         Ok(())
     }
 
-    /// Replaces what stands from the first position to the second; the pattern stays, and of the
-    /// report only the rows of the lines that are touched are made anew. What could be redone is
-    /// dropped. It is refused with `Fault::Range` where a position is nowhere in the text or the
-    /// second one is before the first, else with `Fault::Size` where the new text would have more
-    /// bytes than the limit, and perhaps with `Fault::Memory`; the buffer is then as before.
-    /// `O(log n)`, and time in what is inserted and in the lines that are touched; where the number
-    /// of lines changes, the rows behind are moved.
+    /// Replaces what stands from the first position to the second by a text. The pattern stays, and
+    /// of the report the rows of the lines that are touched are made anew. What could be redone is
+    /// dropped. `O(log n)`, and linear in the inserted text and in the lines that are touched;
+    /// where the number of lines changes, the rows behind them are moved.
+    ///
+    /// Errors, which leave the buffer as it was: `Fault::Range` where a position is nowhere in the
+    /// text or the second one is before the first, else `Fault::Size` where the new text would have
+    /// more bytes than the limit; `Fault::Memory`.
     pub fn edit(
         &mut self,
         tick: &mut Lines,
@@ -157,9 +159,8 @@ impl Buffer {
         // It makes at most as many rows as what it inserts has lines.
         ensures astray { result ≡ Err Fault.Range → tick.new ≡ tick.old }
         ensures refused { result ≡ Err Fault.Size → tick.new ≡ tick.old }
-        ensures rows { tick.new.count ≤
-            tick.old.count + rows_anew self.old.state (chars inserted.now) }
-        ensures wholes { tick.new.wholes ≡ tick.old.wholes }
+        ensures rows { MakesAtMost (rows_anew self.old.state (chars inserted.now))
+            tick.old tick.new }
     {
         let part = self.part_to_replace(from, to, inserted)?;
         let old = self.history.current();
@@ -214,12 +215,14 @@ impl Buffer {
         }
     }
 
-    /// Goes back to the text from before the last edit or replacement; the pattern stays, and of
-    /// the report only the rows of the lines that come back are made anew. It is refused with
-    /// `Fault::Nothing` where there is no such text, and, where there is a pattern, perhaps with
-    /// `Fault::Memory`; the buffer is then as before. Without a pattern it takes no memory, and
-    /// `O(1)` time. With one it takes what the edit took: `O(log n)` for each change, and time in
-    /// the lines that come back; where the number of lines changes, the rows behind are moved.
+    /// Goes back to the text from before the last edit or replacement. The pattern stays, and of
+    /// the report the rows of the lines that come back are made anew. Without a pattern it
+    /// allocates nothing and takes `O(1)` time; with one, `O(log n)` for each change, and time
+    /// linear in the lines that come back; where the number of lines changes, the rows behind them
+    /// are moved.
+    ///
+    /// Errors, which leave the buffer as it was: `Fault::Nothing` where there is no such text; with
+    /// a pattern, `Fault::Memory`.
     pub fn undo(&mut self, tick: &mut Lines) -> Result<(), Fault>
         ensures ok { OnOk result (self.new.state ≡ undone self.old.state) }
         ensures limit { self.new.limit ≡ self.old.limit }
@@ -234,9 +237,8 @@ impl Buffer {
         // has.
         ensures refused { result ≡ Err Fault.Nothing → tick.new ≡ tick.old }
         ensures back { tick.new.count ≤ tick.old.count + rows_back self.old }
-        ensures rows { tick.new.count ≤ tick.old.count
-            + rows_anew self.old.state (current_text (undone self.old.state)) }
-        ensures wholes { tick.new.wholes ≡ tick.old.wholes }
+        ensures rows { MakesAtMost
+            (rows_anew self.old.state (current_text (undone self.old.state))) tick.old tick.new }
     {
         let Some(text) = self.history.previous() else {
             return Err(Fault::Nothing);
@@ -252,7 +254,8 @@ impl Buffer {
         Ok(())
     }
 
-    /// Goes forward again to the text that was undone last; else as `undo`.
+    /// Goes forward again to the text that was undone last, as `undo` goes back. Errors: as of
+    /// `undo`.
     pub fn redo(&mut self, tick: &mut Lines) -> Result<(), Fault>
         ensures ok { OnOk result (self.new.state ≡ redone self.old.state) }
         ensures limit { self.new.limit ≡ self.old.limit }
@@ -268,9 +271,8 @@ impl Buffer {
         // has.
         ensures refused { result ≡ Err Fault.Nothing → tick.new ≡ tick.old }
         ensures on { tick.new.count ≤ tick.old.count + rows_on self.old }
-        ensures rows { tick.new.count ≤ tick.old.count
-            + rows_anew self.old.state (current_text (redone self.old.state)) }
-        ensures wholes { tick.new.wholes ≡ tick.old.wholes }
+        ensures rows { MakesAtMost
+            (rows_anew self.old.state (current_text (redone self.old.state))) tick.old tick.new }
     {
         let Some(version) = self.history.next() else {
             return Err(Fault::Nothing);
@@ -284,11 +286,11 @@ impl Buffer {
         Ok(())
     }
 
-    /// Makes this the pattern, in place of any other, and makes the report. It is refused with
-    /// `Fault::Limit` where it has more than 65,536 bytes, else with `Fault::Pattern` where it is
-    /// outside the grammar of patterns and with `Fault::Limit` where it weighs more than 262,144;
-    /// and perhaps, but for one that is too long, with `Fault::Memory`. The buffer is then as
-    /// before.
+    /// Replaces the pattern, and makes the report.
+    ///
+    /// Errors, which leave the buffer as it was: `Fault::Limit` for more than 65,536 bytes, else
+    /// `Fault::Pattern` outside the grammar of patterns and `Fault::Limit` for a weight above
+    /// 262,144; `Fault::Memory`, which never hides that a pattern is too long.
     pub fn set_pattern(&mut self, tick: &mut Lines, pattern: &str) -> Result<(), Fault>
         ensures ok { OnOk result
             (self.new.state ≡ with_pattern self.old.state (Some (chars pattern.now))) }
@@ -307,8 +309,7 @@ impl Buffer {
         // The report has a row for each line; for what is no pattern nothing is searched.
         ensures long_unsearched { result ≡ Err Fault.Limit → tick.new ≡ tick.old }
         ensures unsearched { (IsPattern (chars pattern.now) → ⊥) → tick.new ≡ tick.old }
-        ensures rows { tick.new.count ≤ tick.old.count + line_count (current_text self.old.state) }
-        ensures wholes { tick.new.wholes ≡ tick.old.wholes }
+        ensures rows { MakesAtMost (line_count (current_text self.old.state)) tick.old tick.new }
     {
         let mut finder = Finder::new(self.alloc, pattern)?;
         let rows = report_of(tick, self.alloc, &mut finder, self.text())?;
@@ -316,7 +317,7 @@ impl Buffer {
         Ok(())
     }
 
-    /// Drops the pattern and its report, where there is one.
+    /// Drops the pattern and its report, if there is one.
     pub fn off(&mut self)
         ensures off { self.new.state ≡ with_pattern self.old.state None }
         ensures limit { self.new.limit ≡ self.old.limit }
@@ -325,8 +326,8 @@ impl Buffer {
         self.search = None;
     }
 
-    /// The report of the current text: a row for each line, from the first, with the matches of the
-    /// pattern in that line alone. None where there is no pattern.
+    /// Returns the report of the current text, or `None` without a pattern: a row for each line,
+    /// from the first, with the matches of the pattern in that line alone. `O(1)`.
     pub fn report(&self) -> Option<&[Row]>
         ensures rows { IfSome result (λ rows. IsReportIn self.now.state rows.now) }
         ensures none { (result ≡ None) ↔ (self.now.state.pattern ≡ None) }
@@ -338,13 +339,14 @@ impl Buffer {
         }
     }
 
-    /// The first match of the pattern in the current text, as a whole, that starts at a position or
-    /// behind it: the positions where it starts and where it ends, or none where there is no such
-    /// match. What stands before the position is seen by looks. A place between the CR and the LF
-    /// of a break is told as one past the end of its line's text. It is refused with
-    /// `Fault::Nothing` where there is no pattern, else with `Fault::Range` where the position is
-    /// nowhere in the text, and perhaps with `Fault::Memory`. It counts at most one search of a
-    /// whole text. Time is that of a search up to the match.
+    /// Returns the first match of the pattern in the whole current text that starts at a position
+    /// or behind it, as the positions of its start and end, or `None`. Looks see what stands before
+    /// the position. A place between the CR and the LF of a break has the position one past its
+    /// line's text. One search of a whole text is counted at most; time is that of a search up to
+    /// the match.
+    ///
+    /// Errors, which leave the buffer as it was: `Fault::Nothing` without a pattern, else
+    /// `Fault::Range` where the position is nowhere in the text; `Fault::Memory`.
     pub fn next_from(
         &mut self,
         tick: &mut Lines,
@@ -358,8 +360,7 @@ impl Buffer {
         ensures fault { IfErr result (λ fault.
             (fault ≡ Fault.Nothing) ⊎ ((fault ≡ Fault.Range) ⊎ (fault ≡ Fault.Memory))) }
         ensures same { self.new ≡ self.old }
-        ensures count { tick.new.count ≡ tick.old.count }
-        ensures wholes { tick.new.wholes ≤ tick.old.wholes + 1 }
+        ensures searches { SearchesOneWhole tick.old tick.new }
     {
         let Some(search) = &mut self.search else {
             return Err(Fault::Nothing);
@@ -368,20 +369,20 @@ impl Buffer {
         Ok(found)
     }
 
-    /// Replaces all matches of the pattern in the current text, as a whole, by what the template
-    /// stands for at each, and tells their number. In a template `$` and a digit stand for the text
-    /// of that group, which is empty where the group is absent or not in the pattern; `$$` stands
-    /// for a dollar, and all else for itself. Matches that start or end between the CR and the LF
-    /// of a break are replaced too. The pattern stays, and of the report only the rows of the lines
-    /// that are touched are made anew. What could be redone is dropped, also where there is no
-    /// match.
+    /// Replaces all matches of the pattern in the whole current text by what the template stands
+    /// for at each, and returns their number. In a template `$` and a digit stand for the text of
+    /// that group, which is empty where the group is absent or not in the pattern; `$$` stands for
+    /// a dollar, and all else for itself. Matches that start or end between the CR and the LF of a
+    /// break are replaced too. The pattern stays, and of the report the rows of the lines that are
+    /// touched are made anew. What could be redone is dropped, also where there is no match.
     ///
-    /// It is refused with `Fault::Nothing` where there is no pattern, else with `Fault::Size` where
-    /// the template has more bytes than the limit, or the new text would; and perhaps, but for a
-    /// template that is too long, with `Fault::Memory`. The buffer is then as before. It counts at
-    /// most one search of a whole text. Time is that of this search, and linear in the matches, in
-    /// what takes their places, in the lines that this touches, and where the number of lines
-    /// changes also in all lines.
+    /// One search of a whole text is counted at most. Time is that of this search, and linear in
+    /// the matches, in what takes their places, in the lines that this touches, and where the
+    /// number of lines changes also in all lines.
+    ///
+    /// Errors, which leave the buffer as it was: `Fault::Nothing` without a pattern, else
+    /// `Fault::Size` where the template has more bytes than the limit, or the new text would;
+    /// `Fault::Memory`, which never hides that a template is too long.
     pub fn replace(&mut self, tick: &mut Lines, template: &str) -> Result<usize, Fault>
         ensures ok { IfOk result (λ count.
             IsReplacement self.old.state (chars template.now) count self.new.state) }
@@ -434,8 +435,8 @@ impl Buffer {
         }
     }
 
-    /// A new buffer with the current text alone: a history of its own, and no pattern. It may be
-    /// refused with `Fault::Memory` alone.
+    /// Returns a buffer with the current text, a history of its own, and no pattern. The text is
+    /// shared. Errors: `Fault::Memory`.
     pub fn fork(&self) -> Result<Buffer, Fault>
         ensures ok { IfOk result (λ buffer.
             buffer ≡ record {

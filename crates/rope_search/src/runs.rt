@@ -14,7 +14,7 @@ use rope_search_reports::Lines;
 use std::alloc::Global;
 
 /// Reads commands to the input's end and writes their replies, under the default limits: a text has
-/// at most 1,073,741,824 bytes. What it promises is what `run_limited` does.
+/// at most 1,073,741,824 bytes. Returns and errors are those of `run_limited`.
 pub fn run<R: Source, W: Sink>(
     tick: &mut Lines,
     alloc: Global,
@@ -37,9 +37,11 @@ pub fn run<R: Source, W: Sink>(
 }
 
 /// Reads commands to the input's end and writes their replies, each whole before the next command
-/// is carried out, under these limits; then the ending's line, and then it flushes, once. Each read
-/// has room for 4,096 bytes, and none follows the one that tells the end. It stops at the first
-/// call that fails: `Broken` tells which, and what is written then.
+/// is carried out, under these limits; then the ending's line, and then flushes, once. Returns how
+/// the input ended. Each read has room for 4,096 bytes, and none follows the one that tells the
+/// end.
+///
+/// Errors: `Broken` says which call failed first, and what is written then. No call follows it.
 pub fn run_limited<R: Source, W: Sink>(
     tick: &mut Lines,
     alloc: Global,

@@ -6,6 +6,7 @@ ghost use Rattle.rope_search_reports.specs.Report.{IsReport, match_count};
 ghost use Rattle.rope_search_reports.specs.Changes.{AreChanges};
 ghost use Rattle.rope_search_reports.specs.Patches.{patched, made_by};
 ghost use Rattle.rope_search_reports.specs.Position.{IsNowhere};
+ghost use Rattle.rope_search_reports.specs.Ticks.{MakesAtMost, SearchesOneWhole};
 ghost use Rattle.rope_search.specs.Finding.{TellsIn};
 ghost use Rattle.rope_search.specs.Replacing.{IsReplacementIn, GetsTooLongIn, RowsOfReplacementIn};
 ghost use Rattle.rope_search.specs.Searched.{FitIn, HasRoom};
@@ -101,8 +102,7 @@ impl Search {
         ensures rows { self.new.rows.items ≡ self.old.rows.items }
         ensures count { (n : ℕ) → AreChanges changes.now 0 0 (text_of old.now) (text_of new.now) n
             → tick.new.count ≤ tick.old.count + n }
-        ensures once { tick.new.count ≤ tick.old.count + line_count (text_of new.now) }
-        ensures wholes { tick.new.wholes ≡ tick.old.wholes }
+        ensures once { MakesAtMost (line_count (text_of new.now)) tick.old tick.new }
     {
         // Laws, and the texts' facts, for the proof alone.
         rope_search_reports::laws::few_matches();
@@ -207,8 +207,7 @@ impl Search {
         ensures finder { self.new.finder ≡ self.old.finder }
         ensures put { tick.new.count ≤
             tick.old.count + lines_put (bytes_of (text_of new.now)) changes.now }
-        ensures once { tick.new.count ≤ tick.old.count + line_count (text_of new.now) }
-        ensures wholes { tick.new.wholes ≡ tick.old.wholes }
+        ensures once { MakesAtMost (line_count (text_of new.now)) tick.old tick.new }
     {
         // A law, and the text's facts, for the proof alone.
         rope_search_reports::laws::changes_put_lines();
@@ -234,8 +233,7 @@ impl Search {
         ensures fault { IfErr result (λ fault. (fault ≡ Fault.Range) ⊎ (fault ≡ Fault.Memory)) }
         ensures finder { self.new.finder ≡ self.old.finder }
         ensures rows { self.new.rows.items ≡ self.old.rows.items }
-        ensures count { tick.new.count ≡ tick.old.count }
-        ensures wholes { tick.new.wholes ≤ tick.old.wholes + 1 }
+        ensures searches { SearchesOneWhole tick.old tick.new }
     {
         // A law, and the text's facts, for the proof alone.
         rope_search_reports::laws::finds_are_in_text();

@@ -1,12 +1,13 @@
 //! A session: buffers, of which one is chosen.
 ghost use Rattle.std.specs.Prelude.{◌≡◌, ◌+◌, ◌<◌, ◌≤◌, ◌↔◌, [], ◌∷◌, ◌++◌, List, ℕ, length, Bool, Err, OnOk, OnErr, IfOk, IfErr, IsOk, None, Some};
-ghost use Rattle.rope_search.specs.Order.{Order, SetText, EditText, UndoEdit, RedoEdit, SetPattern, ListMatches, FindNext, ReplaceAll};
+ghost use Rattle.rope_search.specs.Order.{SetText, EditText, UndoEdit, RedoEdit, SetPattern, ListMatches, FindNext, ReplaceAll};
 ghost use Rattle.rope_search.specs.Session.{first, fresh, current_text, chosen_buffer, with_pattern, with_chosen};
 ghost use Rattle.rope_search_reports.specs.Pattern.{pattern_limit};
 ghost use Rattle.rope_search.specs.Laws.{HasCurrent, AllHoldTexts};
 ghost use Rattle.rope_search.specs.Step.{Step};
-ghost use Rattle.rope_search.specs.Stands.{Stands, StandsFor, kept_of};
-ghost use Rattle.rope_search.specs.Cost.{Costs, whole_searches};
+ghost use Rattle.rope_search.specs.Stands.{ForOrders, StandsFor, kept_of};
+ghost use Rattle.rope_search.specs.Cost.{Costs, SearchesFor};
+ghost use Rattle.rope_search_reports.specs.Ticks.{SearchesOneWhole};
 ghost use Rattle.rope_search.specs.Finding as finding;
 
 use crate::buffer::Buffer;
@@ -46,8 +47,10 @@ impl Model for Session {
 }
 
 impl Session {
-    /// One buffer, chosen, with the empty text and no pattern. All buffers take their memory from
-    /// `alloc` and keep within `limits`. It may be refused with `Fault::Memory` alone. `O(1)`.
+    /// Returns a session with one buffer, which is chosen and has an empty text and no pattern. All
+    /// buffers allocate from `alloc` and keep within `limits`. `O(1)`.
+    ///
+    /// Errors: `Fault::Memory`.
     pub fn new(alloc: Global, limits: Limits) -> Result<Session, Fault>
         ensures ok { IfOk result (λ session.
             session ≡ record { limit = limits.text; state = first }) }
@@ -59,7 +62,7 @@ impl Session {
         Ok(Session { buffers, chosen: 0 })
     }
 
-    /// The chosen buffer. `O(1)`.
+    /// Returns the chosen buffer. `O(1)`.
     pub fn buffer(&self) -> &Buffer
         ensures state { result.now.state ≡ chosen_buffer self.now.state }
         ensures limit { result.now.limit ≡ self.now.limit }
@@ -84,8 +87,9 @@ impl Session {
         self.buffer().limits()
     }
 
-    /// Chooses a buffer by its number, from 0. It is refused with `Fault::Nothing` where there is
-    /// no such buffer; the session is then as before. `O(1)`.
+    /// Chooses a buffer by its number, from 0. `O(1)`.
+    ///
+    /// Errors: `Fault::Nothing` where there is no such buffer; the session is then as it was.
     pub fn choose(&mut self, number: u64) -> Result<(), Fault>
         ensures found { IsOk result ↔ (number < length self.old.state.buffers) }
         ensures ok { OnOk result (self.new ≡ record {
@@ -102,10 +106,11 @@ impl Session {
         Ok(())
     }
 
-    /// Makes a new buffer of the chosen one's text, without its pattern, and answers the new one's
-    /// number, which is how many there were. The chosen one stays chosen. It may be refused with
-    /// `Fault::Memory` alone; the session is then as before. The text is shared: `O(1)`, but for
-    /// the list of buffers, which may be moved as it grows.
+    /// Adds a buffer with the chosen one's text and no pattern, and returns its number, which is
+    /// how many buffers there were. The chosen one stays chosen. The text is shared: `O(1)`, but
+    /// that the list of buffers may be moved as it grows.
+    ///
+    /// Errors: `Fault::Memory`; the session is then as it was.
     pub fn fork(&mut self) -> Result<usize, Fault>
         ensures number { IfOk result (λ number. number ≡ length self.old.state.buffers) }
         ensures ok { OnOk result (self.new ≡ record {
@@ -124,23 +129,30 @@ impl Session {
         Ok(number)
     }
 
-    /// Carries out a command on the chosen buffer. A refusal is the first in the order of `Fault`'s
-    /// numbers that applies, but that memory may run out before it is found; the session is then as
-    /// before.
+    /// Carries out a command on the chosen buffer and returns the reply.
     ///
-    /// `Text` and `Pattern` take time in the bytes of the payload, and where there is a pattern
-    /// then also in those of the text, each line of which is searched anew and counted by `tick`.
-    /// `Edit` takes time in the bytes of the payload and `O(log n)`, and where there is a pattern
-    /// searches the lines that it touches, which are at most as many as the payload has; where the
-    /// number of lines changes, it moves the rows behind them. `Replace` searches the whole text
-    /// once, and takes time in the matches and what takes their places, of which it searches the
-    /// lines. `Undo` and `Redo` search the lines of what comes back, as the edit or replacement did
-    /// of what it put there; without a pattern they are `O(1)`.
-    /// `Off` lets go of the report, a row a line. All others are `O(1)`, but for what `fork` says.
+    /// Errors: of all faults that apply, the first in the order of `Fault::rank`, unless
+    /// `Fault::Memory` comes before it is found; the session is then as it was.
+    ///
+    /// Time, for a text of n bytes:
+    ///
+    /// - `Text`, `Pattern`: linear in the payload; with a pattern, the whole text is searched, line
+    ///   by line.
+    /// - `Edit`: linear in the payload, and `O(log n)`; with a pattern, the lines that it touches
+    ///   are searched, at most as many as the payload has.
+    /// - `Replace`: one search of the whole text, and linear in the matches and what takes their
+    ///   places, of which the lines are searched.
+    /// - `Undo`, `Redo`: `O(1)`; with a pattern, as the edit or replacement, of what comes back.
+    /// - `Next`: a search of the text up to the match.
+    /// - `Off`: linear in the report, which it drops.
+    /// - All others: `O(1)`, but for what `fork` says.
+    ///
+    /// Where the number of lines changes under a pattern, the rows behind them are moved. `tick`
+    /// counts each line and each whole text that is searched.
     pub fn apply(&mut self, tick: &mut Lines, command: Command<'_>) -> Result<Reply, Fault>
         // What it answers and leaves is a step, for each command that this one stands for.
-        ensures step { (order : Order) → Stands self.old.limit command.entry order
-            → Step self.old.limit self.old.state order result self.new.state }
+        ensures step { ForOrders self.old.limit command.entry (λ order.
+            Step self.old.limit self.old.state order result self.new.state) }
 
         // Want of memory is told where the payload was lost, and not where it is too long.
         ensures lost { kept_of command.entry ≡ Some Payload.Lost → result ≡ Err Fault.Memory }
@@ -149,12 +161,9 @@ impl Session {
 
         ensures limit { self.new.limit ≡ self.old.limit }
 
-        // It makes at most the rows that the command costs.
-        ensures rows { (order : Order) (cost : ℕ) → Stands self.old.limit command.entry order
-            → Costs self.old.limit self.old.state order cost
-            → tick.new.count ≤ tick.old.count + cost }
-        ensures wholes { (order : Order) → Stands self.old.limit command.entry order
-            → tick.new.wholes ≤ tick.old.wholes + whole_searches order }
+        // It searches no more than the command costs.
+        ensures searches { ForOrders self.old.limit command.entry (λ order.
+            SearchesFor self.old.limit self.old.state order tick.old tick.new) }
     {
         match command {
             Command::Text(payload) => self.set_text(tick, payload),
@@ -317,8 +326,7 @@ impl Session {
     fn find_next(&mut self, tick: &mut Lines, from: Position) -> Result<Reply, Fault>
         ensures step { Step self.old.limit self.old.state (FindNext from) result self.new.state }
         ensures limit { self.new.limit ≡ self.old.limit }
-        ensures count { tick.new.count ≡ tick.old.count }
-        ensures wholes { tick.new.wholes ≤ tick.old.wholes + 1 }
+        ensures searches { SearchesOneWhole tick.old tick.new }
     {
         let found = self.buffers[self.chosen].next_from(tick, from)?;
         Ok(reply_for(found))

@@ -1,7 +1,17 @@
 -- What is counted of searches.
-use Rattle.std.specs.Prelude.{ℕ}
+use Rattle.std.specs.Prelude.{◌≡◌, ◌+◌, ◌≤◌, ℕ}
 
 -- how many rows were made, and how many whole texts were searched
 pub record Ticks : Type 0 where
   pub count : ℕ
   pub wholes : ℕ
+
+-- at most so many rows were made, and no whole text was searched
+pub record MakesAtMost (rows : ℕ) (old new : Ticks) : Type 0 where
+  pub made : new.count ≤ old.count + rows
+  pub no_whole : new.wholes ≡ old.wholes
+
+-- no row was made, and at most one whole text searched
+pub record SearchesOneWhole (old new : Ticks) : Type 0 where
+  pub no_row : new.count ≡ old.count
+  pub searched : new.wholes ≤ old.wholes + 1

@@ -5,6 +5,7 @@ ghost use Rattle.rope_search_reports.specs.Text.{line_count};
 ghost use Rattle.ropey.specs.Chunks.{text_of};
 ghost use Rattle.rope_search_reports.specs.Changes.{AreChanges};
 ghost use Rattle.rope_search_reports.specs.Patches.{patched, AreInTurn};
+ghost use Rattle.rope_search_reports.specs.Ticks.{MakesAtMost};
 ghost use Rattle.rope_search_reports.specs.Turned.{Lead, listed, turned, turned_from};
 
 use crate::patches::Patch;
@@ -70,7 +71,7 @@ fn turned(alloc: Global, changes: &[Change]) -> Result<Vec<Change>, Fault>
 }
 
 impl Changes {
-    /// The changes, from the first on.
+    /// Returns the changes, from the first on.
     pub fn as_slice(&self) -> &[Change]
         ensures { result.now ≡ listed self.now }
     {
@@ -80,8 +81,9 @@ impl Changes {
         }
     }
 
-    /// The changes that lead from the new text back to the old one. It may be refused with
-    /// `Fault::Memory` alone; for one change it takes no memory. `O(k)` for k changes.
+    /// Returns the changes that lead from the new text back to the old one. `O(k)` for k changes.
+    ///
+    /// Errors: `Fault::Memory`, which one change never meets.
     pub fn turned(&self, alloc: Global) -> Result<Changes, Fault>
         requires { (old : List ℕ) × (new : List ℕ) × Lead (listed self.now) old new }
         ensures changes { IfOk result (λ back. listed back ≡ turned 0 0 (listed self.now)) }
@@ -94,10 +96,12 @@ impl Changes {
     }
 }
 
-/// The patches that make a report that of the text after some changes. They search each line of the
-/// new text once at most, and at most as many as the changes' new parts have breaks, and one more
-/// for each change. It may be refused with `Fault::Memory` alone. `O(log n)` for each change, and
-/// time in the lines that are searched.
+/// Returns the patches that make a report that of the text after some changes. Each line of the new
+/// text is searched once at most, and at most as many as the changes' new parts have breaks, and
+/// one more for each change. Requires changes that lead from the old text to the new one.
+/// `O(log n)` for each change, and time linear in the lines that are searched.
+///
+/// Errors: `Fault::Memory`; the finder serves on.
 pub fn patches_of(
     tick: &mut Lines,
     alloc: Global,
@@ -118,8 +122,7 @@ pub fn patches_of(
     ensures finder { finder.new ≡ finder.old }
     ensures count { (n : ℕ) → AreChanges changes.now 0 0 (text_of old.now) (text_of new.now) n
         → tick.new.count ≤ tick.old.count + n }
-    ensures once { tick.new.count ≤ tick.old.count + line_count (text_of new.now) }
-    ensures wholes { tick.new.wholes ≡ tick.old.wholes }
+    ensures once { MakesAtMost (line_count (text_of new.now)) tick.old tick.new }
 {
     let mut patches = Vec::new(alloc);
     // The lines of both texts up to the last change: the old one's that are kept or gone, and the

@@ -27,7 +27,7 @@ impl Patch {
     }
 }
 
-/// Whether at most one of the patches moves the rows behind it. `O(k)` for k patches.
+/// Returns whether at most one of the patches moves the rows behind it. `O(k)` for k patches.
 pub fn shift_once(patches: &[Patch]) -> bool {
     patches
         .iter()
@@ -36,7 +36,7 @@ pub fn shift_once(patches: &[Patch]) -> bool {
         .is_none()
 }
 
-/// How many rows the patches bring. `O(k)` for k patches.
+/// Returns how many rows the patches bring. `O(k)` for k patches.
 pub fn rows_made(patches: &[Patch]) -> usize
     requires { made_by patches.now < 2 ^ 64 }
     ensures { result ≡ made_by patches.now }
@@ -74,8 +74,8 @@ fn drop_rows(left: &mut IntoIter<Row, Global>, count: usize)
 }
 
 /// Puts patches in their places: each one's rows come in the place of those that are gone. The new
-/// list is built in `room`, an empty list with room for all of it. It takes no memory, and time is
-/// linear in both lists.
+/// list is built in `room`. Requires an empty `room` with capacity for all of it, and patches in
+/// turn. Allocates nothing; time is linear in both lists.
 pub fn put_patches(rows: &mut Vec<Row>, patches: Vec<Patch>, room: Vec<Row>)
     requires in_turn { AreInTurn 0 (length rows.old.items) patches.items }
     requires empty { room.items ≡ [] }
@@ -100,9 +100,9 @@ pub fn put_patches(rows: &mut Vec<Row>, patches: Vec<Patch>, room: Vec<Row>)
     move_rows(&mut left, count, rows);
 }
 
-/// Puts patches in their places in a list that has room for the rows that they bring beside its
-/// own. It takes no memory. Time is linear in these rows and those that are gone; and in the rows
-/// behind for each patch that doesn't bring as many as it takes.
+/// Puts patches in their places in a list. Requires capacity for the rows that they bring beside
+/// its own, and patches in turn. Allocates nothing; time is linear in these rows and those that are
+/// gone, and in the rows behind for each patch that doesn't bring as many as it takes.
 pub fn put_in_place(rows: &mut Vec<Row>, mut patches: Vec<Patch>)
     requires in_turn { AreInTurn 0 (length rows.old.items) patches.items }
     requires room { length rows.old.items + made_by patches.items ≤ vec_capacity rows.old }

@@ -21,9 +21,8 @@ pub struct Position {
     pub column: usize,
 }
 
-/// The position of a byte index, which is a character boundary up to `len_bytes`. Between the CR
-/// and the LF of a break it is one past the end of the line's text. Five conversions of the rope,
-/// `O(log n)`.
+/// Returns the position of a byte index; between the CR and the LF of a break that is one past the
+/// end of the line's text. Requires a character boundary up to `len_bytes()`. `O(log n)`.
 pub fn position_of(text: &Rope, byte_idx: usize) -> Position
     requires { IsCharBoundary (bytes_of (text_of text.now)) byte_idx }
     ensures { (result.line, result.column) ≡ position (text_of text.now) byte_idx }
@@ -62,8 +61,9 @@ pub struct Place {
     pub char_idx: usize,
 }
 
-/// The byte index at which a position is, or none where it is nowhere: inside a surrogate pair,
-/// behind its line's text, between the CR and the LF of a break, or past the last line. `O(log n)`.
+/// Returns the byte index at which a position is, or `None` where it is nowhere: inside a surrogate
+/// pair, behind its line's text, between the CR and the LF of a break, or past the last line.
+/// `O(log n)`.
 pub fn byte_of(text: &Rope, position: Position) -> Option<usize>
     ensures { MatchOption result
         (IsNowhere (text_of text.now) (position.line, position.column))
@@ -73,7 +73,8 @@ pub fn byte_of(text: &Rope, position: Position) -> Option<usize>
     Some(place.byte_idx)
 }
 
-/// The place at which a position is, in bytes and in characters; else as `byte_of`.
+/// Returns the place at which a position is, in bytes and in characters, or `None` as `byte_of`
+/// does.
 pub fn place_of(text: &Rope, position: Position) -> Option<Place>
     ensures at { MatchOption result
         (IsNowhere (text_of text.now) (position.line, position.column))

@@ -58,9 +58,10 @@ fn insert_rows(rows: &mut Vec<Row>, at: usize, mut made: Vec<Row>, from: usize)
     rows.truncate(rows.len() - from);
 }
 
-/// Puts rows in the place of rows `first..end`, which are dropped. It takes no memory: the list has
-/// room for the rows that are made beside its own. Where as many rows come as go, no other row is
-/// moved, and time is linear in these; else those behind them are moved once.
+/// Puts rows in the place of rows `first..end`, which are dropped. Requires `first <= end`,
+/// `end <= rows.len()`, and capacity for the rows that are made beside the list's own. Allocates
+/// nothing. Where as many rows come as go, no other row is moved, and time is linear in these; else
+/// those behind them are moved once.
 pub fn replace_rows(rows: &mut Vec<Row>, first: usize, end: usize, mut made: Vec<Row>)
     requires ordered { first ≤ end }
     requires within { end ≤ vec_len rows.old }

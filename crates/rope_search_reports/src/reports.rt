@@ -6,6 +6,7 @@ ghost use Rattle.ropey_walk.specs.Slices.{slice_text};
 ghost use Rattle.rope_search_reports.specs.Text.{line_count};
 ghost use Rattle.rope_search_reports.specs.Report.{line_texts, AreRows, IsReport, match_count};
 ghost use Rattle.rope_search_reports.specs.Drafts.{IsLine};
+ghost use Rattle.rope_search_reports.specs.Ticks.{MakesAtMost};
 
 use crate::laws;
 use crate::rows::{Finder, Lines, Row, search_line};
@@ -31,9 +32,11 @@ fn without_break(line: RopeSlice<'_>) -> RopeSlice<'_>
     line.slice(..len - 1)
 }
 
-/// The report of a text and a finder's pattern: a row for each line, from the first. Each line is
-/// searched where it lies. It counts at most a row a line, and may be refused with `Fault::Memory`
-/// alone; the finder is then as before. Time is linear in the text, times the pattern's weight.
+/// Returns the report of a text and a finder's pattern: a row for each line, from the first, each
+/// searched where it lies. At most a row a line is counted. Time is linear in the text, times the
+/// pattern's weight.
+///
+/// Errors: `Fault::Memory`; the finder serves on.
 pub fn report_of(
     tick: &mut Lines,
     alloc: Global,
@@ -44,8 +47,7 @@ pub fn report_of(
     ensures few { IfOk result (λ rows. match_count rows.items < 2 ^ 64) }
     ensures fault { IfErr result (λ fault. fault ≡ Fault.Memory) }
     ensures finder { finder.new ≡ finder.old }
-    ensures count { tick.new.count ≤ tick.old.count + breaks is_break (text_of text.now) + 1 }
-    ensures wholes { tick.new.wholes ≡ tick.old.wholes }
+    ensures count { MakesAtMost (line_count (text_of text.now)) tick.old tick.new }
 {
     // Laws, and the text's facts, for the proof alone.
     laws::few_matches();
@@ -53,10 +55,11 @@ pub fn report_of(
     rows_of_lines(tick, alloc, finder, text, 0, text.len_lines())
 }
 
-/// The rows of lines `first..end` of a text, of which there may be none. Each line is searched by
-/// itself, where it lies. It counts at most a row for each of them, and may be refused with
-/// `Fault::Memory` alone; the finder is then as before. Time is `O(log n)` and linear in these
-/// lines, times the pattern's weight.
+/// Returns the rows of lines `first..end` of a text, each searched by itself, where it lies. At
+/// most a row for each of them is counted. Requires `first <= end` and `end <= len_lines()`. Time
+/// is `O(log n)` and linear in these lines, times the pattern's weight.
+///
+/// Errors: `Fault::Memory`; the finder serves on.
 pub fn rows_of_lines(
     tick: &mut Lines,
     alloc: Global,
@@ -71,8 +74,7 @@ pub fn rows_of_lines(
         (take (end - first) (drop first (line_texts (text_of text.now)))) rows.items) }
     ensures fault { IfErr result (λ fault. fault ≡ Fault.Memory) }
     ensures finder { finder.new ≡ finder.old }
-    ensures count { tick.new.count ≤ tick.old.count + (end - first) }
-    ensures wholes { tick.new.wholes ≡ tick.old.wholes }
+    ensures count { MakesAtMost (end - first) tick.old tick.new }
 {
     // Laws, for the proof alone.
     laws::places();

@@ -45,7 +45,7 @@ impl Model for Lines {
 }
 
 impl Lines {
-    /// Nothing counted yet.
+    /// Returns counts of 0.
     pub fn new(_rt: &HostRuntime) -> Lines
         ensures { result ≡ record { count = 0; wholes = 0 } }
     {
@@ -55,14 +55,14 @@ impl Lines {
         }
     }
 
-    /// How many rows were made.
+    /// Returns the number of rows that were made.
     pub fn count(&self) -> u64
         ensures { result ≡ self.now.count }
     {
         self.count
     }
 
-    /// How many searches of a whole text were made.
+    /// Returns the number of searches of a whole text.
     pub fn wholes(&self) -> u64
         ensures { result ≡ self.now.wholes }
     {
@@ -111,10 +111,11 @@ impl Model for Finder {
 }
 
 impl Finder {
-    /// A finder of this pattern's matches, by the default settings of a regex. It is refused with
-    /// `Fault::Limit` where the pattern has more than 65,536 bytes, which is asked first, or weighs
-    /// more than 262,144; with `Fault::Pattern` where it isn't in the grammar; and perhaps with
-    /// `Fault::Memory`. Time and memory are in proportion to the pattern's weight.
+    /// Returns a finder of a pattern's matches, by the default settings of a regex. Time and memory
+    /// are in proportion to the pattern's weight.
+    ///
+    /// Errors: `Fault::Limit` for more than 65,536 bytes, before anything is allocated, and for a
+    /// weight above 262,144; `Fault::Pattern` outside the grammar; `Fault::Memory`.
     pub fn new(alloc: Global, pattern: &str) -> Result<Finder, Fault>
         ensures ok { IfOk result (λ finder. finder ≡ chars pattern.now) }
         ensures is_pattern { IfOk result (λ finder. IsPattern finder) }
@@ -166,7 +167,7 @@ impl Model for Row {
 }
 
 impl Row {
-    /// The start and the end of each match, in UTF-16 code units from the line's start.
+    /// Returns the start and the end of each match, in UTF-16 code units from the line's start.
     pub fn matches(&self) -> &[(usize, usize)]
         ensures { result.now ≡ self.now }
     {
@@ -205,11 +206,12 @@ fn columns_in(
     Ok(matches)
 }
 
-/// Searches one line's text, given without its break: the first match from the line's start, and
-/// each further one from the end of the one before, an empty match there passed over. The line is
-/// searched where it lies. It counts one row, refused or not, and may be refused with
-/// `Fault::Memory` alone; the finder is then as before. Time is linear in the line, times the
-/// pattern's weight.
+/// Searches one line's text, given without its break and searched where it lies, and returns its
+/// row: the first match from the line's start, and each further one from the end of the one before,
+/// an empty match there passed over. One row is counted, also after an error. Time is linear in the
+/// line, times the pattern's weight.
+///
+/// Errors: `Fault::Memory`; the finder serves on.
 pub fn search_line(tick: &mut Lines, finder: &mut Finder, line: RopeSlice<'_>) -> Result<Row, Fault>
     ensures row { IfOk result (λ row. IsRow finder.old (slice_text line.entry) row) }
     ensures fault { IfErr result (λ fault. fault ≡ Fault.Memory) }
@@ -222,11 +224,12 @@ pub fn search_line(tick: &mut Lines, finder: &mut Finder, line: RopeSlice<'_>) -
     Ok(Row { matches })
 }
 
-/// The first match in a whole text from a place on, as the byte indices of its start and its end;
-/// looks see what stands before the place. The place is a character boundary up to `len_bytes`. It
-/// counts one search of a whole text, refused or not, and may be refused with `Fault::Memory`
-/// alone; the finder is then as before. Time is linear in the text behind the place, times the
-/// pattern's weight.
+/// Returns the first match in a whole text from a byte index on, as the byte indices of its start
+/// and its end; looks see what stands before it. One search of a whole text is counted, also after
+/// an error. Requires that `from` is a character boundary of the text. Time is linear in the text
+/// behind it, times the pattern's weight.
+///
+/// Errors: `Fault::Memory`; the finder serves on.
 pub fn find_from(
     tick: &mut Lines,
     finder: &mut Finder,
@@ -246,11 +249,13 @@ pub fn find_from(
     find(&finder.regex, &mut finder.cache, &mut input, &mut [None; 2])
 }
 
-/// All matches in a whole text, one after the other, with their groups 0 to 9: the first from the
-/// text's start, each further one from the end of the one before, an empty match there passed over.
-/// It counts one search of a whole text, refused or not, and may be refused with `Fault::Memory`
-/// alone; the finder is then as before. Each match takes a search of what is behind the one before,
-/// in time linear in that, times the pattern's weight. Memory is in proportion to their number.
+/// Returns all matches in a whole text with their groups 0 to 9: the first from the text's start,
+/// each further one from the end of the one before, an empty match there passed over. One search of
+/// a whole text is counted, also after an error. Each match takes a search of what is behind the
+/// one before, in time linear in that, times the pattern's weight. Memory is in proportion to their
+/// number.
+///
+/// Errors: `Fault::Memory`; the finder serves on.
 pub fn find_all(tick: &mut Lines, finder: &mut Finder, text: &Rope) -> Result<Vec<Groups>, Fault>
     ensures found { IfOk result (λ groups.
         AreGroups finder.old (bytes_of (text_of text.now)) groups.items) }

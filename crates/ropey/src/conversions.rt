@@ -16,8 +16,8 @@ use ropey_tree::error::Error;
 
 impl Rope {
     /// Returns the index of the character that a byte belongs to, and `len_chars()` for
-    /// `len_bytes()`. A byte inside a character belongs to that character. Requires `byte_idx <=
-    /// len_bytes()`. `O(log n)`.
+    /// `len_bytes()`. A byte inside a character belongs to that character. Requires
+    /// `byte_idx <= len_bytes()`. `O(log n)`.
     pub fn byte_to_char(&self, byte_idx: usize) -> usize
         requires { byte_idx ≤ byte_len (text_of self.now) }
         ensures { result ≡ char_of_byte (text_of self.now) byte_idx }
@@ -149,8 +149,8 @@ impl Rope {
         self.whole().try_char_to_utf16_cu(char_idx)
     }
 
-    /// `utf16_cu_to_char` of any index. Errors: `Utf16IndexOutOfBounds(utf16_cu_idx,
-    /// len_utf16_cu())` past `len_utf16_cu()`. `O(log n)`.
+    /// `utf16_cu_to_char` of any index. Errors:
+    /// `Utf16IndexOutOfBounds(utf16_cu_idx, len_utf16_cu())` past `len_utf16_cu()`. `O(log n)`.
     pub fn try_utf16_cu_to_char(&self, utf16_cu_idx: usize) -> Result<usize, Error>
         ensures value { OkIff result (utf16_cu_idx ≤ units (text_of self.now))
             (char_of_byte (text_of self.now) (byte_of_unit (text_of self.now) utf16_cu_idx)) }

@@ -72,8 +72,8 @@ impl Rope {
         self.replace_between(byte_idx, byte_idx, text)
     }
 
-    /// Inserts a text before a character, or at the end for `len_chars()`. Requires `char_idx <=
-    /// len_chars()`. `O(log n + m)` for m bytes.
+    /// Inserts a text before a character, or at the end for `len_chars()`. Requires
+    /// `char_idx <= len_chars()`. `O(log n + m)` for m bytes.
     ///
     /// Errors: `Size` where the text would have more than `isize::MAX` bytes, before anything is
     /// allocated; `Memory`.
@@ -354,8 +354,8 @@ impl Rope {
     }
 
     /// Splits the text before a character: the rope keeps what stands before it, and the rest is
-    /// returned, which shares its nodes and is empty for `len_chars()`. Requires `char_idx <=
-    /// len_chars()`. Errors: `Memory`. `O(log n)`.
+    /// returned, which shares its nodes and is empty for `len_chars()`. Requires
+    /// `char_idx <= len_chars()`. Errors: `Memory`. `O(log n)`.
     pub fn split_off(&mut self, char_idx: usize) -> Result<Rope, Error>
         requires { char_idx ≤ length (text_of self.old) }
         ensures front { OnOk result (text_of self.new ≡ take char_idx (text_of self.old)) }

@@ -100,8 +100,8 @@ impl Rope {
     }
 
     /// Returns an iterator over the chunks, before the one that holds a byte, or behind the last
-    /// for `len_bytes()`; and the byte, character and line index there. Requires `byte_idx <=
-    /// len_bytes()`. `O(log n)`.
+    /// for `len_bytes()`; and the byte, character and line index there. Requires
+    /// `byte_idx <= len_bytes()`. `O(log n)`.
     pub fn chunks_at_byte(&self, byte_idx: usize) -> (Chunks<'_>, usize, usize, usize)
         requires { byte_idx ≤ byte_len (text_of self.now) }
         ensures { StandsBefore self.now byte_len byte_idx result.0 result.1 result.2 result.3 }
@@ -119,8 +119,8 @@ impl Rope {
     }
 
     /// Returns an iterator over the chunks, before the one that holds a character, or behind the
-    /// last for `len_chars()`; and the byte, character and line index there. Requires `char_idx <=
-    /// len_chars()`. `O(log n)`.
+    /// last for `len_chars()`; and the byte, character and line index there. Requires
+    /// `char_idx <= len_chars()`. `O(log n)`.
     pub fn chunks_at_char(&self, char_idx: usize) -> (Chunks<'_>, usize, usize, usize)
         requires { char_idx ≤ length (text_of self.now) }
         ensures { StandsBefore self.now length char_idx result.0 result.1 result.2 result.3 }

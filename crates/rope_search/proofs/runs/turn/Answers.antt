@@ -14,8 +14,7 @@ returns-in_err-write_answer-in-Given-clause-taken g c =
     λ order is. c.with.ensures.stands _ order is.of_header (c.payload.ensures.stands _ (payload_of order) is.payload) in
     rw (p.1, p.2) (TakesTurn-failed _ _ c.apply-answer.result _ _
     (λ Written written. Turned-given c.known.ensures _ _ _ c.apply-answer.result _ _ Written c.buffer.ensures.texts read (λ order is. c.apply-answer.ensures.step order (stands order is))
-    (λ order cost is costs. c.apply-answer.ensures.rows order cost (stands order is) costs)
-    (λ order is. c.apply-answer.ensures.wholes order (stands order is)) written)
+    (λ order is. c.apply-answer.ensures.searches order (stands order is)) written)
     c.in_err-write_answer-in-Given.ensures.written)
 
 pub returns-in_ok-write_answer-in-Given-clause-taken : goal.returns-in_ok-write_answer-in-Given-clause-taken
@@ -24,5 +23,4 @@ returns-in_ok-write_answer-in-Given-clause-taken g c =
     let stands : (order : Order) → IsReadAs c.args.session.now.limit c.in-Given.header c.in-Given.collected order → Stands c.args.session.now.limit c.with.result order =
     λ order is. c.with.ensures.stands _ order is.of_header (c.payload.ensures.stands _ (payload_of order) is.payload) in
     Turned-given c.known.ensures _ _ _ c.apply-answer.result _ _ _ c.buffer.ensures.texts read (λ order is. c.apply-answer.ensures.step order (stands order is))
-    (λ order cost is costs. c.apply-answer.ensures.rows order cost (stands order is) costs)
-    (λ order is. c.apply-answer.ensures.wholes order (stands order is)) c.in_ok-write_answer-in-Given.ensures.written
+    (λ order is. c.apply-answer.ensures.searches order (stands order is)) c.in_ok-write_answer-in-Given.ensures.written

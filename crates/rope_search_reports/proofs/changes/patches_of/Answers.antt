@@ -31,7 +31,7 @@ pub returns-in_err-made-clause-count : goal.returns-in_err-made-clause-count
 returns-in_err-made-clause-count c = λ n are.
     let so = c.loop-change.invariant.0 n are in
     let next = next-at _ _ _ c.args.changes.now _ _ _ _ _ c.loop-change-test.true so.1 in
-    let sum = count-at _ _ _ _ _ _ next.others _ _ _ _ so.2 next.counts next.few (start-is c.loop-change.done _ c.byte_to_line.result c.max-start.result c.byte_to_line.ensures (c.max-start.ensures ∙ max-is c.loop-change.done c.byte_to_line.result)) c.byte_to_line-end.ensures c.rows_of_lines.ensures.count in
+    let sum = count-at _ _ _ _ _ _ next.others _ _ _ _ so.2 next.counts next.few (start-is c.loop-change.done _ c.byte_to_line.result c.max-start.result c.byte_to_line.ensures (c.max-start.ensures ∙ max-is c.loop-change.done c.byte_to_line.result)) c.byte_to_line-end.ensures c.rows_of_lines.ensures.count.made in
     omega (arith, sum)
 
 pub overflow_add-first : goal.overflow_add-first
@@ -50,7 +50,7 @@ pub returns-in_err-push-clause-count : goal.returns-in_err-push-clause-count
 returns-in_err-push-clause-count c = λ n are.
     let so = c.loop-change.invariant.0 n are in
     let next = next-at _ _ _ c.args.changes.now _ _ _ _ _ c.loop-change-test.true so.1 in
-    let sum = count-at _ _ _ _ _ _ next.others _ _ _ _ so.2 next.counts next.few (start-is c.loop-change.done _ c.byte_to_line.result c.max-start.result c.byte_to_line.ensures (c.max-start.ensures ∙ max-is c.loop-change.done c.byte_to_line.result)) c.byte_to_line-end.ensures c.rows_of_lines.ensures.count in
+    let sum = count-at _ _ _ _ _ _ next.others _ _ _ _ so.2 next.counts next.few (start-is c.loop-change.done _ c.byte_to_line.result c.max-start.result c.byte_to_line.ensures (c.max-start.ensures ∙ max-is c.loop-change.done c.byte_to_line.result)) c.byte_to_line-end.ensures c.rows_of_lines.ensures.count.made in
     omega (arith, sum)
 
 pub loop-change-preserved : goal.loop-change-preserved
@@ -70,11 +70,11 @@ loop-change-preserved c =
           let step = Woven-step _ _ _ _ _ _ _ _ _ _ _ here next (ap (λ n. c.loop-change.kept + (n - c.loop-change.done)) start) (ap (λ n. n + 1) c.byte_to_line-kept.ensures) made c.in_ok-push.ensures.items in (
             next.others,
             subst (λ k. Woven c.args.finder.now (text_of c.args.old.now) (text_of c.args.new.now) (drop (c.loop-change.change-index + 1) changes) next.others (c.byte_to_line-kept.result + 1) k c.push.new.self.items) (sym one) step,
-            count-at _ _ _ _ _ _ next.others _ _ _ _ here-so.2 next.counts next.few start last c.rows_of_lines.ensures.count,
+            count-at _ _ _ _ _ _ next.others _ _ _ _ here-so.2 next.counts next.few start last c.rows_of_lines.ensures.count.made,
           ),
       c.rows_of_lines.ensures.finder ∙ so.1,
-      c.rows_of_lines.ensures.wholes ∙ so.2,
-      once-at _ _ _ _ _ _ so.3 (first.lines.forward) first.lines.ordered start last c.rows_of_lines.ensures.count,
+      c.rows_of_lines.ensures.count.no_whole ∙ so.2,
+      once-at _ _ _ _ _ _ so.3 (first.lines.forward) first.lines.ordered start last c.rows_of_lines.ensures.count.made,
       few-lines,
     )
 
@@ -91,12 +91,12 @@ pub returns-in_err-made-clause-once : goal.returns-in_err-made-clause-once
 returns-in_err-made-clause-once c =
     let next = next-at _ _ _ c.args.changes.now _ _ _ _ _ c.loop-change-test.true (c.loop-change.invariant.0 c.requires.changed.0 c.requires.changed.1).1 in
     let few : c.byte_to_line-end.result + 1 ≤ line_count (text_of c.args.new.now) = grind (arith, common_steps) in
-    let sum = once-at _ _ _ _ _ _ c.loop-change.invariant.3 next.lines.forward next.lines.ordered (start-is c.loop-change.done _ c.byte_to_line.result c.max-start.result c.byte_to_line.ensures (c.max-start.ensures ∙ max-is c.loop-change.done c.byte_to_line.result)) c.byte_to_line-end.ensures c.rows_of_lines.ensures.count in
-    omega (arith, sum, few)
+    let sum = once-at _ _ _ _ _ _ c.loop-change.invariant.3 next.lines.forward next.lines.ordered (start-is c.loop-change.done _ c.byte_to_line.result c.max-start.result c.byte_to_line.ensures (c.max-start.ensures ∙ max-is c.loop-change.done c.byte_to_line.result)) c.byte_to_line-end.ensures c.rows_of_lines.ensures.count.made in
+    record { made = omega (arith, sum, few); no_whole = c.rows_of_lines.ensures.count.no_whole ∙ c.loop-change.invariant.2 }
 
 pub returns-in_err-push-clause-once : goal.returns-in_err-push-clause-once
 returns-in_err-push-clause-once c =
     let next = next-at _ _ _ c.args.changes.now _ _ _ _ _ c.loop-change-test.true (c.loop-change.invariant.0 c.requires.changed.0 c.requires.changed.1).1 in
     let few : c.byte_to_line-end.result + 1 ≤ line_count (text_of c.args.new.now) = grind (arith, common_steps) in
-    let sum = once-at _ _ _ _ _ _ c.loop-change.invariant.3 next.lines.forward next.lines.ordered (start-is c.loop-change.done _ c.byte_to_line.result c.max-start.result c.byte_to_line.ensures (c.max-start.ensures ∙ max-is c.loop-change.done c.byte_to_line.result)) c.byte_to_line-end.ensures c.rows_of_lines.ensures.count in
-    omega (arith, sum, few)
+    let sum = once-at _ _ _ _ _ _ c.loop-change.invariant.3 next.lines.forward next.lines.ordered (start-is c.loop-change.done _ c.byte_to_line.result c.max-start.result c.byte_to_line.ensures (c.max-start.ensures ∙ max-is c.loop-change.done c.byte_to_line.result)) c.byte_to_line-end.ensures c.rows_of_lines.ensures.count.made in
+    record { made = omega (arith, sum, few); no_whole = c.rows_of_lines.ensures.count.no_whole ∙ c.loop-change.invariant.2 }

@@ -56,7 +56,7 @@ returns-in_err-edit-in-Ok-clause-rows c = λ bytes cost stands costs.
           (told.refused (told.size.1 (subst (λ t. GetsTooLong old.limit (current_text old.state) c.args.from c.args.to (length t)) (sym same) over))),
     ) in
     let rows : c.edit.new.tick.count ≤ c.args.tick.now.count + rows_anew old.state (chars bytes) =
-    omega (arith, told.rows, ap (λ t. rows_anew old.state (chars t)) same) in
+    omega (arith, told.rows.made, ap (λ t. rows_anew old.state (chars t)) same) in
     rows_edited inside.buffers.items inside.chosen (limit_in inside.buffers.items inside.chosen) old c.args.from c.args.to bytes c.args.self.now
     c.edit.new.tick.count c.args.tick.now.count chosen utf8 nowhere long rows cost costs
 
@@ -96,7 +96,7 @@ returns-in_ok-edit-in-Ok-clause-rows c = λ bytes cost stands costs.
           (told.refused (told.size.1 (subst (λ t. GetsTooLong old.limit (current_text old.state) c.args.from c.args.to (length t)) (sym same) over))),
     ) in
     let rows : c.edit.new.tick.count ≤ c.args.tick.now.count + rows_anew old.state (chars bytes) =
-    omega (arith, told.rows, ap (λ t. rows_anew old.state (chars t)) same) in
+    omega (arith, told.rows.made, ap (λ t. rows_anew old.state (chars t)) same) in
     rows_edited inside.buffers.items inside.chosen (limit_in inside.buffers.items inside.chosen) old c.args.from c.args.to bytes c.args.self.now
     c.edit.new.tick.count c.args.tick.now.count chosen utf8 nowhere long rows cost costs
 

@@ -34,7 +34,7 @@ returns-in_err-set_text-in-Ok-clause-rows c = λ bytes cost stands costs.
     let long : old.limit < length bytes → c.set_text.new.tick.count ≤ c.args.tick.now.count =
     λ over. omega (arith, ap (λ (t : Ticks). t.count) (told.refused (told.size.1 (omega (arith, over, ap length same))))) in
     let rows : c.set_text.new.tick.count ≤ c.args.tick.now.count + rows_anew old.state (chars bytes) =
-    omega (arith, told.rows, ap (λ t. rows_anew old.state (chars t)) same) in
+    omega (arith, told.rows.made, ap (λ t. rows_anew old.state (chars t)) same) in
     rows_taken inside.buffers.items inside.chosen (limit_in inside.buffers.items inside.chosen) old bytes c.args.self.now c.set_text.new.tick.count c.args.tick.now.count
     (record { inside = omega (arith, inside.buffers.ok.0); is = c.index_mut.ensures.value; all = c.self.invariant.1.0; seen = c.self.view_is })
     utf8 long rows cost costs
@@ -50,7 +50,7 @@ returns-in_ok-set_text-in-Ok-clause-rows c = λ bytes cost stands costs.
     let long : old.limit < length bytes → c.set_text.new.tick.count ≤ c.args.tick.now.count =
     λ over. omega (arith, ap (λ (t : Ticks). t.count) (told.refused (told.size.1 (omega (arith, over, ap length same))))) in
     let rows : c.set_text.new.tick.count ≤ c.args.tick.now.count + rows_anew old.state (chars bytes) =
-    omega (arith, told.rows, ap (λ t. rows_anew old.state (chars t)) same) in
+    omega (arith, told.rows.made, ap (λ t. rows_anew old.state (chars t)) same) in
     rows_taken inside.buffers.items inside.chosen (limit_in inside.buffers.items inside.chosen) old bytes c.args.self.now c.set_text.new.tick.count c.args.tick.now.count
     (record { inside = omega (arith, inside.buffers.ok.0); is = c.index_mut.ensures.value; all = c.self.invariant.1.0; seen = c.self.view_is })
     utf8 long rows cost costs
