@@ -39,6 +39,15 @@ fn find_end(
     }
 }
 
+/// The next match of a searcher.
+fn next_match(
+    alloc: Global,
+    vm: &PikeVM,
+    searcher: &mut Searcher<Input<&str>>,
+) -> Result<Option<Match>, MatchError> {
+    searcher.try_advance(|input| find(alloc, vm, input))
+}
+
 /// An empty match where the one before ended is passed over.
 #[test]
 fn empty_matches(rt: HostRuntime) -> Result<(), Fail> {
@@ -46,7 +55,7 @@ fn empty_matches(rt: HostRuntime) -> Result<(), Fail> {
     let vm = PikeVM::new(alloc, "x*")?;
     let mut searcher = Searcher::new(Input::new("xせ"));
     for wanted in [Some((0, 1)), Some((4, 4)), None] {
-        let found = searcher.try_advance(|input| find(alloc, &vm, input))?;
+        let found = next_match(alloc, &vm, &mut searcher)?;
         let found = found.map(|found| (found.start(), found.end()));
         assert!(rt; found == wanted, "{found:?}");
     }
