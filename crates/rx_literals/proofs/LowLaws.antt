@@ -1,7 +1,7 @@
 -- Walks that start at a place or behind it are the same where the span starts there.
-use Rattle.std.proofs.Common.{◌≡◌, ℕ, ◌<◌, ◌≤◌, Bool, List, [], ◌∷◌, Option, Some, None, slice_get, max, refl, sym, ap, ◌∙◌, arith}
+use Rattle.std.proofs.Common.{◌≡◌, ℕ, ◌≤◌, Bool, List, [], Option, Some, None, slice_get, refl, ap, ◌∙◌, arith}
 use Rattle.std.proofs.lemmas.Bool.Decides.{nat_tests}
-use Rattle.rx_walks.specs.Machines.{Move, Machine, Outcome, IsForward}
+use Rattle.rx_walks.specs.Machines.{Machine, Outcome, IsForward}
 use Rattle.rx_walks.specs.Walks.{Walk, ended, went, took, IsLeast}
 use Rattle.rx_walks.specs.Looks.{Look}
 use Rattle.rx_walks.specs.Programs.{Node, match, pass, note, look, set, Haystack, Notes, put_note, only_if, is_within, by_character, over_characters}

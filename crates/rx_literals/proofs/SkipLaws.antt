@@ -1,7 +1,7 @@
 -- A search may begin at the first needle of its span.
-use Rattle.std.proofs.Common.{◌≡◌, ℕ, ◌+◌, ◌<◌, ◌≤◌, ◌⊎◌, Bool, true, IsTrue, List, [], ◌∷◌, take, length, max, Option, Some, None, refl, sym, ap, subst, ◌∙◌, arith, inl, inr}
+use Rattle.std.proofs.Common.{◌≡◌, ℕ, ◌+◌, ◌<◌, ◌≤◌, Bool, true, IsTrue, List, take, length, Option, Some, None, refl, sym, ap, subst, ◌∙◌, arith, inl, inr}
 use Rattle.std.proofs.lemmas.Bool.{cases_lt}
-use Rattle.std.proofs.lemmas.List.{length-take, take-take, get_or-take}
+use Rattle.std.proofs.lemmas.List.{length-take, get_or-take}
 use Rattle.std.proofs.lemmas.List.Elements.{All-head, All-tail}
 use Rattle.std.specs.List.{All}
 use Rattle.memchr.specs.Find.{OccursAt}
@@ -10,8 +10,8 @@ use Rattle.rx_utf8.specs.Automata.{is_in}
 use Rattle.rx_util.specs.declared.search.Span.{Span}
 use Rattle.rx_walks.specs.Looks.{Look}
 use Rattle.rx_walks.specs.Machines.{Outcome}
-use Rattle.rx_walks.specs.Finds.{Search, unanchored, from_place_on, IsInside, IsPossible, Counts, IsFind, not_found, is_found, is_anchored}
-use Rattle.rx_walks.specs.Programs.{Program, Notes, Haystack, fresh_notes}
+use Rattle.rx_walks.specs.Finds.{Search, unanchored, from_place_on, IsInside, Counts, IsFind, not_found, is_found, is_anchored}
+use Rattle.rx_walks.specs.Programs.{Program, Notes, fresh_notes}
 use Rattle.rx_walks.specs.ProgramFinds.{ProgramFinds, machine_of, haystack_of, holds_in, lowest, start_node, IfStarts}
 use Rattle.rx_walks.proofs.InsideLaws.{walk_keeps, inside_of}
 use Rattle.rx_literals.specs.Needles.{AreNeedles, IsNeedle, FoundAt, no_needle, this_needle, other_needle, FoundBetween, nowhere, at_least_place, OneOccursAt, this_occurs, other_occurs}

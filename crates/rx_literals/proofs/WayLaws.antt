@@ -1,7 +1,7 @@
 -- Following the one way that leads from a program's start.
-use Rattle.std.proofs.Common.{◌≡◌, ℕ, ◌+◌, ◌-◌, ◌<◌, ◌≤◌, Bool, true, List, [], ◌∷◌, ◌++◌, take, drop, get_or, length, Option, Some, None, slice_get, refl, sym, ap, subst, ◌∙◌, arith, append_assoc, length-append, length-drop}
+use Rattle.std.proofs.Common.{◌≡◌, ℕ, ◌+◌, ◌-◌, ◌≤◌, Bool, List, [], ◌∷◌, ◌++◌, take, drop, length, Option, Some, None, slice_get, refl, sym, ap, subst, ◌∙◌, arith, append_assoc, length-append, length-drop}
 use Rattle.std.proofs.Math.Seq.{take-append_seam}
-use Rattle.std.specs.Char.{IsScalar, len_utf8, encode_utf8}
+use Rattle.std.specs.Char.{len_utf8, encode_utf8}
 use Rattle.std.proofs.lemmas.List.{length-take, get_or-take}
 use Rattle.std.proofs.lemmas.Str.{length-encode}
 use Rattle.memchr.specs.Find.{OccursAt}
@@ -9,17 +9,17 @@ use Rattle.memchr.proofs.lemmas.MatchLemmas.{OccursAt-split, OccursAt-from_part}
 use Rattle.rx_sets.specs.Sets.{Range}
 use Rattle.rx_utf8.specs.Automata.{is_in}
 use Rattle.rx_walks.specs.Looks.{Look}
-use Rattle.rx_walks.specs.Machines.{Move, Machine, Outcome, IsForward, ends, goes, reads}
+use Rattle.rx_walks.specs.Machines.{Machine, IsForward, goes, reads}
 use Rattle.rx_walks.specs.Paths.{Path, at_end, by_edge, by_read}
-use Rattle.rx_walks.specs.Finds.{Search, IsInside}
-use Rattle.rx_walks.specs.Programs.{Node, match, pass, note, look, set, Program, Haystack, Notes, put_note, left_from, read_up_to, by_character}
+use Rattle.rx_walks.specs.Finds.{Search}
+use Rattle.rx_walks.specs.Programs.{Node, pass, note, look, set, Program, Haystack, Notes, put_note, left_from, read_up_to}
 use Rattle.rx_walks.specs.ProgramFinds.{first_by, haystack_of, holds_in, highest, machine_of}
 use Rattle.rx_walks.proofs.CharacterLaws.{member_stands}
 use Rattle.rx_walks.proofs.ForwardLaws.{characters_forward}
 use Rattle.rx_walks.proofs.InsideLaws.{walk_keeps, inside_of}
 use Rattle.rx_walks.proofs.PathLaws.{walk_has_path}
-use Rattle.rx_program.proofs.NoteLaws.{same_edges, only_edge, only_ends, only_goes, only_reads, read_not_ends, read_not_goes, ends_by, goes_by, reads_by}
-use Rattle.rx_literals.specs.Needles.{OneOccursAt, this_occurs}
+use Rattle.rx_program.proofs.NoteLaws.{only_edge, only_ends, only_goes, only_reads, read_not_ends, read_not_goes, ends_by, goes_by, reads_by}
+use Rattle.rx_literals.specs.Needles.{this_occurs}
 use Rattle.rx_literals.specs.Beginnings.{BeginsWith}
 use Rattle.rx_literals.specs.Ways.{GoesTo, Reads, Leads}
 

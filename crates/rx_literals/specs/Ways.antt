@@ -1,5 +1,5 @@
 -- Nodes that lead one way, and the literal that is read on it.
-use Rattle.std.specs.Prelude.{◌≡◌, ℕ, ◌+◌, Bool, true, List, [], ◌∷◌, length, take, Option, Some, None}
+use Rattle.std.specs.Prelude.{◌≡◌, ℕ, ◌+◌, Bool, true, List, [], ◌∷◌, length, take, Option, Some}
 use Rattle.std.specs.Char.{IsScalar}
 use Rattle.memchr.specs.Find.{OccursAt}
 use Rattle.rx_sets.specs.Sets.{Range}
@@ -7,7 +7,7 @@ use Rattle.rx_utf8.specs.Automata.{is_in}
 use Rattle.rx_walks.specs.Looks.{Look}
 use Rattle.rx_walks.specs.Paths.{Path}
 use Rattle.rx_walks.specs.Finds.{Search, IsInside}
-use Rattle.rx_walks.specs.Programs.{Node, match, pass, note, look, set, Program}
+use Rattle.rx_walks.specs.Programs.{Node, pass, note, look, set, Program}
 use Rattle.rx_walks.specs.ProgramFinds.{highest, machine_of}
 use Rattle.rx_literals.specs.declared.beginning.Way.{Way}
 use Rattle.rx_literals.specs.declared.beginning.Way.TheVariants as way

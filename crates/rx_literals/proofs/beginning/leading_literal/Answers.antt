@@ -1,6 +1,6 @@
-use Rattle.std.proofs.Common.{[], string_bytes, sym, subst}
+use Rattle.std.proofs.Common.{string_bytes}
 use Rattle.rx_program.specs.Programs.{characters_of}
-use Rattle.rx_literals.proofs.WayLaws.{leads_first, begins_with}
+use Rattle.rx_literals.proofs.WayLaws.{begins_with}
 use Rattle.rx_literals.proofs.beginning.leading_literal.Goals as goal
 
 pub returns-then-not-branch : goal.returns-then-not-branch

@@ -1,4 +1,4 @@
-use Rattle.std.proofs.Common.{◌≡◌, ◌+◌, ◌≤◌, length, sym, ap, ◌∙◌, arith}
+use Rattle.std.proofs.Common.{length, sym, ap, ◌∙◌, arith}
 use Rattle.rx_literals.proofs.ScanLaws.{under_way, over, in_span, found, none_yet, less_left}
 use Rattle.rx_literals.proofs.literal.find.Goals as goal
 

@@ -1,4 +1,4 @@
-use Rattle.std.proofs.Common.{◌≡◌, ◌+◌, ◌<◌, ◌≤◌, ◌^◌, ℕ, List, Vec, Global, [], length, map, take, true, sym, ap, subst, ◌∙◌, arith}
+use Rattle.std.proofs.Common.{◌≡◌, ◌+◌, ◌<◌, ◌^◌, ℕ, Vec, Global, [], length, true, sym, ap, subst, ◌∙◌, arith}
 use Rattle.memchr.specs.Find.{OccursAt}
 use Rattle.rx_literals.specs.Needles.{bytes_of}
 use Rattle.rx_literals.proofs.NeedleLaws.{found_this, carried_on, has_some, found_none}

@@ -1,4 +1,4 @@
-use Rattle.std.proofs.Common.{◌≡◌, ℕ, List, Vec, Global}
+use Rattle.std.proofs.Common.{◌≡◌, ℕ, Vec, Global}
 use Rattle.rx_input.specs.Cursors.{IsSameContent}
 use Rattle.rx_literals.specs.Needles.{bytes_of}
 use Rattle.rx_literals.proofs.NeedleLaws.{Carries}

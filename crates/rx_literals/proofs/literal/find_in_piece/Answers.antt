@@ -1,7 +1,6 @@
-use Rattle.std.proofs.Common.{◌≡◌, ◌+◌, ◌-◌, ◌<◌, ◌≤◌, ◌^◌, ℕ, List, Some, None, min, length, sym, ap, ap₂, subst, ◌∙◌, arith}
+use Rattle.std.proofs.Common.{◌≡◌, ◌+◌, ◌≤◌, Some, min, length, sym, ap, subst, ◌∙◌, arith}
 use Rattle.rx_util.specs.declared.search.Span.{Span}
 use Rattle.rx_literals.specs.Needles.{FoundBetween, bytes_of}
-use Rattle.rx_literals.proofs.NeedleLaws.{IsPart}
 use Rattle.rx_literals.proofs.FoundLaws.{Tells, all_told, some_told, piece_is_part, piece_length, told_found, told_else, end_inside}
 use Rattle.rx_literals.proofs.literal.find_in_piece.Goals as goal
 use Rattle.rx_literals.proofs.literal.find_in_piece.Goals.{then-at-len, else-at-len, in_default-via-in-Some+else-span-told, in_default-via-in_default}

@@ -1,4 +1,4 @@
-use Rattle.std.proofs.Common.{ℕ, List, ◌-◌, take, drop, ap, ◌∙◌, arith}
+use Rattle.std.proofs.Common.{ℕ, List, ◌-◌, take, drop, ap, ◌∙◌}
 use Rattle.rx_literals.proofs.PieceLaws.{left_is}
 use Rattle.rx_literals.proofs.literal.left_in_piece.Goals as goal
 

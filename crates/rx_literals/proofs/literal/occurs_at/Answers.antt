@@ -1,6 +1,6 @@
-use Rattle.std.proofs.Common.{◌≡◌, ◌+◌, ◌<◌, ◌⊎◌, ℕ, refl, true, Some, length, get_or, slice_get, inl, inr, sym, ap, subst, ◌∙◌, arith, below_more}
+use Rattle.std.proofs.Common.{◌≡◌, ◌+◌, refl, true, Some, get_or, slice_get, sym, ap, ◌∙◌, below_more}
 use Rattle.std.proofs.lemmas.Option.{slice_get_within, get_or_from_slice_get}
-use Rattle.rx_literals.proofs.NeedleLaws.{byte_there, all_read, too_long}
+use Rattle.rx_literals.proofs.NeedleLaws.{byte_there}
 use Rattle.rx_literals.proofs.literal.occurs_at.Goals as goal
 
 pub returns-then-not-has_byte-clause-occurs : goal.returns-then-not-has_byte-clause-occurs

@@ -1,5 +1,5 @@
-use Rattle.std.proofs.Common.{◌<◌, ◌≤◌, ℕ, Some, None, sym, subst, arith}
-use Rattle.rx_literals.specs.Needles.{FoundAt, nowhere, at_least_place, bytes_of}
+use Rattle.std.proofs.Common.{Some, sym, subst, arith}
+use Rattle.rx_literals.specs.Needles.{FoundAt, nowhere, at_least_place}
 use Rattle.rx_literals.proofs.InputLaws.{same_bytes}
 use Rattle.rx_literals.proofs.literal.try_each.Goals as goal
 

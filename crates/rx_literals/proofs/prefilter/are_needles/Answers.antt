@@ -1,6 +1,5 @@
-use Rattle.std.proofs.Common.{◌≡◌, ◌≤◌, ℕ, List, length, true, arith, refl}
+use Rattle.std.proofs.Common.{◌≡◌, ℕ, List, length, true, refl}
 use Rattle.std.specs.Borrow.{Bor}
-use Rattle.std.proofs.lemmas.Bool.{cases_eq, eq-eqb}
 use Rattle.std.proofs.lemmas.List.Elements.{All-more}
 use Rattle.rx_literals.specs.Needles.{IsNeedle}
 use Rattle.rx_literals.proofs.SliceLaws.{are_needles, needle_of, not_empty}

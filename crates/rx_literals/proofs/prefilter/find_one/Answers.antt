@@ -1,4 +1,4 @@
-use Rattle.std.proofs.Common.{◌+◌, ap, arith, length}
+use Rattle.std.proofs.Common.{◌+◌, ap, length}
 use Rattle.rx_literals.proofs.FoundLaws.{one_nowhere, one_somewhere}
 use Rattle.rx_literals.proofs.prefilter.find_one.Goals as goal
 

@@ -1,4 +1,4 @@
-use Rattle.std.proofs.Common.{◌≡◌, ◌<◌, ◌≤◌, ℕ, List, Vec, Global, length, map, sym, ap, ◌∙◌, arith}
+use Rattle.std.proofs.Common.{ℕ, Vec, Global, length, map, sym, ap, ◌∙◌, arith}
 use Rattle.rx_literals.proofs.NeedleLaws.{prefix_is, found_this, carried_on, found_none}
 use Rattle.rx_literals.proofs.prefilter.Parts.find_at.Goals as goal
 

@@ -1,4 +1,4 @@
-use Rattle.std.proofs.Common.{ℕ, List, Vec, Global}
+use Rattle.std.proofs.Common.{ℕ, Vec, Global}
 use Rattle.rx_literals.proofs.NeedleLaws.{Carries}
 use Rattle.rx_literals.proofs.prefilter.Parts.find_at.Given as goal
 

@@ -1,4 +1,4 @@
-use Rattle.std.proofs.Common.{◌<◌, ◌≤◌, ℕ, arith}
+use Rattle.std.proofs.Common.{arith}
 use Rattle.rx_literals.specs.Needles.{nowhere, at_least_place}
 use Rattle.rx_literals.proofs.prefilter.Parts.try_each.Goals as goal
 
