@@ -10,7 +10,7 @@ import json
 import os
 import random
 
-from driver import OUTSIDE, PROGRAM_WANT, TOO_DEEP, TOO_LARGE, TOO_LONG, WANT, Settings
+from driver import OUTSIDE, PROGRAM_WANT, TOO_DEEP, TOO_LARGE, TOO_LONG, WANT, Case, Settings
 from driver import answer_to, check_memory, problems, search
 from harness import TOP, differences, test
 from memory import library, tallied
@@ -20,6 +20,7 @@ from walks import LOOKS, Alternation, Concat, Empty, Group, Look, Repeat, Search
 
 SIZES = (0, 1, 2, 3)  # how many bytes a piece has; 0: all are one piece
 RANDOM_CASES, CASES_UNDER_SETTINGS, RANDOM_SLOTS, BROKEN_HAYSTACKS = 1_500, 700, 500, 400
+SEARCHERS_CASES = 400
 
 ALL, FIRST, SECOND = True, 2, 3  # anchored: matches start at the span's start alone; of pattern 0, or of pattern 1
 BY_SEMICOLON, BY_LINE_FEED = Settings("m", line_end=ord(";")), Settings("m", line_end=ord("\n"))
@@ -241,6 +242,15 @@ def at_random(seed, count, has_settings=False):
             yield case
 
 
+def by_searchers(cases):
+    """The cases of searches, as those of a searcher: the matches without their groups, and where each ends."""
+    for case in cases:
+        wholes = [match.split(",")[0] for match in case.answer.split()]
+        ends = [whole.split("-")[1] for whole in wholes]
+        for word, answer in ("advance", wholes), ("advance_half", ends):
+            yield Case(f"{word}: {case.name}", case.line.replace("search", word, 1), " ".join(answer))
+
+
 def slots_at_random(count=RANDOM_SLOTS):
     chance = random.Random(13)
     maker = Maker(chance)
@@ -333,6 +343,8 @@ def test_all():
         ("searches of which the slots are told, more or fewer than there are", told_slots()),
         ("searches at random, in slices, spans and pieces at random", at_random(11, RANDOM_CASES)),
         ("searches at random, under settings at random", at_random(14, CASES_UNDER_SETTINGS, True)),
+        ("calls of searchers, for the searches of the table", by_searchers(table())),
+        ("calls of searchers, for searches at random", by_searchers(at_random(15, SEARCHERS_CASES))),
         ("searches at random for the first match's slots", slots_at_random()),
         ("searches in all slices and spans of short haystacks", slices_and_spans()),
         ("searches in bytes that are no UTF-8", not_utf8()),

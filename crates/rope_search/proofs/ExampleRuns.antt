@@ -15,7 +15,7 @@ use Rattle.rope_search.specs.Answers.{Run, Answers}
 use Rattle.rope_search.proofs.Examples.{session_of}
 use Rattle.rope_search.proofs.LineLaws.{IsLine-first, IsLine-third}
 use Rattle.rope_search.proofs.RunLaws.{Run-one, Run-append, SpellAll-one, SpellAll-append}
-use Rattle.rope_search.proofs.StepLaws.{accepted_text, accepted_print}
+use Rattle.rope_search.proofs.RefusalLaws.{accepted_text, accepted_print}
 
 -- ---- reading
 

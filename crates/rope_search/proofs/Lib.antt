@@ -25,6 +25,7 @@ pub mod NextLemmas
 pub mod StandLaws
 pub mod HoldLaws
 pub mod HoldLemmas
+pub mod RefusalLaws
 pub mod StepLaws
 pub mod ExistLaws
 pub mod TakesLemmas

@@ -14,7 +14,7 @@ use Rattle.rope_search_reports.specs.Laws.{IsOneOfThree}
 use Rattle.rope_search.specs.Stands.{Stands, StandsFor}
 use Rattle.rope_search.specs.Step.{Refuses, Accepts, Does, Step}
 use Rattle.rope_search.specs.Cost.{Costs, CostsAccepted, rows_anew, rows_of_report, whole_searches}
-use Rattle.rope_search.proofs.StepLaws.{accepted_text, accepted_pattern, refused_limit, refused_pattern}
+use Rattle.rope_search.proofs.RefusalLaws.{accepted_text, accepted_pattern, refused_limit, refused_pattern}
 use Rattle.std.proofs.lemmas.Bool.{cases_lt}
 use Rattle.std.specs.Prelude.{Some}
 use Rattle.rope_search.proofs.TextLemmas.{Encodes-chars}

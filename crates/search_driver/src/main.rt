@@ -19,6 +19,8 @@
 //! - `search,PATTERN,SETTINGS,CUT,HAYSTACK,ASKED,INSIDE,TAKEN`: all matches, with their groups.
 //!   `INSIDE` is 1 where empty matches inside a character are found too; and the haystack is cut to
 //!   the length `TAKEN` first.
+//! - `advance,PATTERN,SETTINGS,CUT,HAYSTACK,ASKED,INSIDE`: all matches without their groups, and
+//!   `advance_half,..` where each ends, as calls of a `Searcher` tell them.
 //! - `slots,PATTERN,SETTINGS,CUT,HAYSTACK,ASKED,INSIDE,COUNT`: what the first match notes in so many
 //!   slots.
 //! - `regex,PATTERN,SETTINGS,CUT,HAYSTACK,ASKED`: all matches, with their groups, by a `Regex`. It has
@@ -50,6 +52,7 @@ mod patterns;
 mod programs;
 mod regexes;
 mod ropes;
+mod searchers;
 mod searches;
 mod slots;
 
@@ -67,6 +70,7 @@ fn answer(alloc: Global, line: &str) -> Result<String, Fault> {
         "compile" => programs::states(alloc, &fields),
         "build" => programs::size(alloc, &fields),
         "search" => searches::matches(alloc, &fields),
+        "advance" | "advance_half" => searchers::matches(alloc, &fields),
         "slots" => slots::noted(alloc, &fields),
         "regex" => regexes::in_pieces(alloc, &fields),
         "rope" | "counts" | "split" => regexes::in_rope(alloc, &fields),
