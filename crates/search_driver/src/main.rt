@@ -42,12 +42,17 @@
 //! - `places,CUT,HAYSTACK,ASKED,TERMINATOR`: what is seen at each place of the slice, where lines
 //!   end in this byte.
 //! - `moved,CUT,HAYSTACK,AT,START,END`: where a position is once a span is set.
+//! - `literal,NEEDLES,CUT,HAYSTACK,START,END`: what is found of needles, which are parted by dots, in a
+//!   span, and at its start; a dash stands for no needle.
+//! - `beginning,PATTERN,SETTINGS,CUT,HAYSTACK,START,END`: the same of the literal that the matches of a
+//!   pattern begin with.
 #![tactic(auto)]
 
 mod automata;
 mod fields;
 mod haystacks;
 mod inputs;
+mod literals;
 mod patterns;
 mod programs;
 mod regexes;
@@ -80,6 +85,8 @@ fn answer(alloc: Global, line: &str) -> Result<String, Fault> {
         "chunks" => inputs::chunks(alloc, &fields),
         "places" => inputs::places(alloc, &fields),
         "moved" => inputs::moved(alloc, &fields),
+        "literal" => literals::found(alloc, &fields),
+        "beginning" => literals::beginning(alloc, &fields),
         _ => Err(Fault::Line),
     }
 }
