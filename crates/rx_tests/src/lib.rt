@@ -9,6 +9,8 @@ mod grammar;
 #[cfg(test)]
 mod input;
 #[cfg(test)]
+mod literals;
+#[cfg(test)]
 mod program;
 #[cfg(test)]
 mod regex;

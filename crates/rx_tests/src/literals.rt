@@ -1,0 +1,32 @@
+//! An example of prefilters.
+
+use regex_cursor::{ChunkCursor, Input, MatchKind, Prefilter, Span, literal};
+use std::test::Fail;
+
+/// One of two needles, found across the edge of two pieces.
+#[test]
+fn prefilter(rt: HostRuntime) -> Result<(), Fail> {
+    let chunks: [&[u8]; 3] = [b"one fo", b"", b"ur two"];
+    let needles: [&[u8]; 2] = [b"four", b"two"];
+    let mut input = Input::new(ChunkCursor::new(&chunks));
+    if let Some(prefilter) = Prefilter::new(rt.alloc(), MatchKind::LeftmostFirst, &needles)? {
+        let found = literal::find(&prefilter, &mut input);
+        assert!(rt; found == Some(Span { start: 4, end: 8 }));
+    }
+    Ok(())
+}
+
+/// A clone looks for the same; there is none without a needle.
+#[test]
+fn clone_of_a_prefilter(rt: HostRuntime) -> Result<(), Fail> {
+    let needles: [&[u8]; 1] = [b"frog"];
+    let prefilter = Prefilter::new(rt.alloc(), MatchKind::LeftmostFirst, &needles)?;
+    assert!(rt; prefilter.is_some());
+    if let Some(prefilter) = prefilter {
+        let copy = prefilter.clone()?;
+        let found = literal::prefix(&copy, &mut Input::new("frogs"));
+        assert!(rt; found == Some(Span { start: 0, end: 4 }));
+    }
+    assert!(rt; Prefilter::new(rt.alloc(), MatchKind::LeftmostFirst, &[])?.is_none());
+    Ok(())
+}
