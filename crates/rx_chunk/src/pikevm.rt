@@ -443,8 +443,8 @@ impl Cache {
         })
     }
 
-    /// Makes the cache one for searches with this engine. The one error is `Memory`, which leaves the
-    /// cache as it was.
+    /// Makes the cache one for searches with this engine. The one error is `Memory`, which leaves
+    /// the cache as it was.
     pub fn reset(&mut self, vm: &PikeVM) -> Result<(), MatchError>
         ensures made { OnOk result (IsCacheOf vm.now.program self.new) }
         ensures kept { OnErr result (self.new ≡ self.old) }
@@ -758,8 +758,8 @@ pub fn search_next<C: Cursor>(
 }
 
 /// Returns an iterator over the matches in an input, one after the other. An empty match where the
-/// one before ended is passed over. Requires that the cache is one for the engine; once the iterator
-/// is dropped it serves again.
+/// one before ended is passed over. Requires that the cache is one for the engine; once the
+/// iterator is dropped it serves again.
 pub fn find_iter<'r, 'c, C: Cursor>(
     vm: &'r PikeVM,
     cache: &'c mut Cache,

@@ -128,8 +128,8 @@ impl Cache {
         self.used
     }
 
-    /// How often all states were taken out for want of room since it was made or reset: a count that
-    /// no contract fixes.
+    /// How often all states were taken out for want of room since it was made or reset: a count
+    /// that no contract fixes.
     pub fn clear_count(&self) -> usize {
         self.clear_count
     }

@@ -163,8 +163,8 @@ impl<I: Searched> Searcher<I> {
         Ok(Some(further))
     }
 
-    /// Returns an iterator over all half matches that are left, by a finder for which the conditions
-    /// of `try_advance` hold.
+    /// Returns an iterator over all half matches that are left, by a finder for which the
+    /// conditions of `try_advance` hold.
     pub fn into_half_matches_iter<F>(self, finder: F) -> TryHalfMatchesIter<I, F>
     where
         F: FnMut(&mut I) -> Result<Option<HalfMatch>, MatchError>,

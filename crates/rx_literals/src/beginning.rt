@@ -124,8 +124,8 @@ fn leading_literal(alloc: Global, program: &Program) -> Result<String, AllocErro
 impl Prefilter {
     /// A prefilter of what each match of a program begins with, and `None` where nothing is found
     /// that all of them do. For now it is one literal: characters that stand alone at the beginning
-    /// of a pattern, also in groups, between looks, and where they are repeated at least once; a set
-    /// with several members ends it, and so does what may be left out or has branches. It takes
+    /// of a pattern, also in groups, between looks, and where they are repeated at least once; a
+    /// set with several members ends it, and so does what may be left out or has branches. It takes
     /// time for at most 256 states, and memory for 64 bytes.
     pub fn from_program(
         alloc: Global,

@@ -89,8 +89,8 @@ fn try_each<C: Cursor>(
 }
 
 /// What is found at the least place of the span from the position, which must lie in it, up to the
-/// end of the piece that is shown. Most needles lie in the piece; those that may lie across its end start at the last
-/// places of it.
+/// end of the piece that is shown. Most needles lie in the piece; those that may lie across its end
+/// start at the last places of it.
 fn find_in_piece<C: Cursor>(prefilter: &Prefilter, input: &mut Input<C>) -> Option<Span>
     requires { input.old.position ≤ min input.old.asked.span.end input.old.cursor.end }
     ensures found { FoundBetween (bytes_of input.old) prefilter.now input.old.position

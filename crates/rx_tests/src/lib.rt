@@ -1,5 +1,5 @@
-//! Tests of `regex_cursor` and the `rx_` crates that are proved: an example for each public type, calls at a type of
-//! one's own, and callers whose proof is the test.
+//! Tests of `regex_cursor` and the `rx_` crates that are proved: an example for each public type,
+//! calls at a type of one's own, and callers whose proof is the test.
 #![tactic(auto)]
 
 #[cfg(test)]

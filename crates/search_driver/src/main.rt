@@ -21,31 +21,31 @@
 //!   the length `TAKEN` first.
 //! - `advance,PATTERN,SETTINGS,CUT,HAYSTACK,ASKED,INSIDE`: all matches without their groups, and
 //!   `advance_half,..` where each ends, as calls of a `Searcher` tell them.
-//! - `slots,PATTERN,SETTINGS,CUT,HAYSTACK,ASKED,INSIDE,COUNT`: what the first match notes in so many
-//!   slots.
-//! - `regex,PATTERN,SETTINGS,CUT,HAYSTACK,ASKED`: all matches, with their groups, by a `Regex`. It has
-//!   no settings: these fields aren't read.
-//! - `rope,PATTERN,SETTINGS,CUT,HAYSTACK,ASKED,START,END,AT,TIMES`: the same in the part from the byte
-//!   `START` to the byte `END` of a rope whose leaves are the pieces, by a cursor that is made at the
-//!   place `AT`. One cache serves so often. No leaf cuts a character or a CR LF.
+//! - `slots,PATTERN,SETTINGS,CUT,HAYSTACK,ASKED,INSIDE,COUNT`: what the first match notes in so
+//!   many slots.
+//! - `regex,PATTERN,SETTINGS,CUT,HAYSTACK,ASKED`: all matches, with their groups, by a `Regex`. It
+//!   has no settings: these fields aren't read.
+//! - `rope,PATTERN,SETTINGS,CUT,HAYSTACK,ASKED,START,END,AT,TIMES`: the same in the part from the
+//!   byte `START` to the byte `END` of a rope whose leaves are the pieces, by a cursor that is made
+//!   at the place `AT`. One cache serves so often. No leaf cuts a character or a CR LF.
 //! - `counts,PATTERN,SETTINGS,CUT,HAYSTACK,ASKED,START,END,AT,CALLS`: of both iterators there, how
 //!   many matches so many calls of `next` give, and how many `count` tells then.
-//! - `split,PATTERN,SETTINGS,CUT,HAYSTACK,ASKED,START,END,AT,LIMIT`: the parts between matches there,
-//!   at most so many.
-//! - `lazy,PATTERN,SETTINGS,CUT,HAYSTACK,ASKED,TIMES,CAPACITY`: the pattern and the end of the first
-//!   match, by an automaton whose states a cache of that capacity keeps, once the cache has served so
-//!   many searches before. It has no settings either.
-//! - `dense,PATTERN,SETTINGS,CUT,HAYSTACK,ASKED,TIMES`: the same by one all of whose states are made
-//!   before.
+//! - `split,PATTERN,SETTINGS,CUT,HAYSTACK,ASKED,START,END,AT,LIMIT`: the parts between matches
+//!   there, at most so many.
+//! - `lazy,PATTERN,SETTINGS,CUT,HAYSTACK,ASKED,TIMES,CAPACITY`: the pattern and the end of the
+//!   first match, by an automaton whose states a cache of that capacity keeps, once the cache has
+//!   served so many searches before. It has no settings either.
+//! - `dense,PATTERN,SETTINGS,CUT,HAYSTACK,ASKED,TIMES`: the same by one all of whose states are
+//!   made before.
 //! - `pieces,CUT,HAYSTACK`: the pieces that a cursor shows.
 //! - `chunks,CUT,HAYSTACK,START,END,AT`: those that a cursor over such a part of a rope shows.
 //! - `places,CUT,HAYSTACK,ASKED,TERMINATOR`: what is seen at each place of the slice, where lines
 //!   end in this byte.
 //! - `moved,CUT,HAYSTACK,AT,START,END`: where a position is once a span is set.
-//! - `literal,NEEDLES,CUT,HAYSTACK,START,END`: what is found of needles, which are parted by dots, in a
-//!   span, and at its start; a dash stands for no needle.
-//! - `beginning,PATTERN,SETTINGS,CUT,HAYSTACK,START,END`: the same of the literal that the matches of a
-//!   pattern begin with.
+//! - `literal,NEEDLES,CUT,HAYSTACK,START,END`: what is found of needles, which are parted by dots,
+//!   in a span, and at its start; a dash stands for no needle.
+//! - `beginning,PATTERN,SETTINGS,CUT,HAYSTACK,START,END`: the same of the literal that the matches
+//!   of a pattern begin with.
 #![tactic(auto)]
 
 mod automata;

@@ -141,8 +141,8 @@ impl Cache {
         Cache::over(strategy.program().allocator(), strategy)
     }
 
-    /// Makes the cache one for searches with this regex. The one error is `Memory`, which leaves the
-    /// cache as it was.
+    /// Makes the cache one for searches with this regex. The one error is `Memory`, which leaves
+    /// the cache as it was.
     pub fn reset(&mut self, re: &Regex) -> Result<(), MatchError>
         ensures made { OnOk result (IsCacheOf re.now self.new) }
         ensures kept { OnErr result (self.new ≡ self.old) }

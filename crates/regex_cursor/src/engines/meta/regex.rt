@@ -147,8 +147,8 @@ impl Regex {
         Ok(FindMatches::new(self, cache, input))
     }
 
-    /// Returns an iterator over all matches in an input with their groups, as `find_iter` does. Each
-    /// item has captures of its own. The one error is `Memory`.
+    /// Returns an iterator over all matches in an input with their groups, as `find_iter` does.
+    /// Each item has captures of its own. The one error is `Memory`.
     pub fn captures_iter<'r, C: Cursor + Drop>(
         &'r self,
         input: Input<C>,
@@ -166,8 +166,8 @@ impl Regex {
         Ok(CapturesMatches::new(self, cache, caps, input))
     }
 
-    /// Returns an iterator over the parts between the matches, from 0 to the end of the input's span,
-    /// at most to that of its content. The one error is `Memory`.
+    /// Returns an iterator over the parts between the matches, from 0 to the end of the input's
+    /// span, at most to that of its content. The one error is `Memory`.
     pub fn split<'r, C: Cursor + Drop>(
         &'r self,
         input: Input<C>,
@@ -268,9 +268,9 @@ impl Regex {
 
     /// Notes what is found in captures: its pattern, and the places in as many slots as they have.
     /// In captures that the regex made group 0 is then the whole match. Where `earliest` is set,
-    /// only whether there is a match is promised. Span, slice, anchoring and `earliest` of the input
-    /// stay as they are. The one error is `Memory`: then no pattern is noted. Requires that the cache
-    /// is one for this regex, as it is afterwards too.
+    /// only whether there is a match is promised. Span, slice, anchoring and `earliest` of the
+    /// input stay as they are. The one error is `Memory`: then no pattern is noted. Requires that
+    /// the cache is one for this regex, as it is afterwards too.
     pub fn search_captures_with<C: Cursor>(
         &self,
         cache: &mut Cache,
@@ -293,11 +293,11 @@ impl Regex {
         strategy::search(self.vm(), cache, input, caps)
     }
 
-    /// Returns the pattern of the match that is found, if there is one, and puts its places into the
-    /// slots, as many as there are; all others hold none. Those of group k are 2k and 2k + 1. Where
-    /// `earliest` is set, only whether there is a match is promised. Span, slice, anchoring and
-    /// `earliest` of the input stay as they are. The one error is `Memory`: what the slots then hold
-    /// has no meaning. Requires that the cache is one for this regex, as it is afterwards too.
+    /// Returns the pattern of the match that is found, if there is one, and puts its places into
+    /// the slots, as many as there are; all others hold none. Those of group k are 2k and 2k + 1.
+    /// Where `earliest` is set, only whether there is a match is promised. Span, slice, anchoring
+    /// and `earliest` of the input stay as they are. The one error is `Memory`: what the slots then
+    /// hold has no meaning. Requires that the cache is one for this regex, as it is afterwards too.
     pub fn search_slots_with<C: Cursor>(
         &self,
         cache: &mut Cache,

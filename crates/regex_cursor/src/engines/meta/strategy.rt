@@ -100,9 +100,9 @@ impl Model for Strategy {
 }
 
 impl Strategy {
-    /// A PikeVM, the automaton of its program, with all its states where they are few, and a literal
-    /// that each match begins with, if one is known. `utf8_empty` is as the PikeVM has it. It takes time in proportion to the program's states and
-    /// the ranges of their automata.
+    /// A PikeVM, the automaton of its program, with all its states where they are few, and a
+    /// literal that each match begins with, if one is known. `utf8_empty` is as the PikeVM has it.
+    /// It takes time in proportion to the program's states and the ranges of their automata.
     pub(super) fn new(alloc: Global, vm: PikeVM, utf8_empty: bool) -> Result<Strategy, AllocError>
         requires { utf8_empty ≡ vm.utf8_empty }
         ensures { IfOk result (λ strategy. strategy.vm ≡ vm) }
