@@ -22,7 +22,7 @@ from test_searches import SECOND, asked_at_random, listed
 from walks import Search, spelled
 
 SIZES = (0, 1, 2, 3)  # how many bytes a piece has; 0: all are one piece
-RANDOM_CASES, IN_ONE_RUN = 20_000, 2_500
+RANDOM_CASES, IN_ONE_RUN = 20_000, 500
 CAPACITIES = (0, 700, None)  # of caches, in bytes; none: as it is by default
 
 # An automaton all of whose states are made before may have so many of these that it takes long to make.
@@ -157,17 +157,18 @@ def at_random(count=RANDOM_CASES):
 
 
 # Patterns, haystacks and what is answered with a cache that has room for two states: each letter leads to another one,
-# and when they would be taken out for the fourth time it gives up.
+# and so does the end, and when they would be taken out for the fourth time it gives up.
 IN_LITTLE_ROOM = [
     ("a", b"bbbb", "none"),
-    ("abcdefg", b"abcdefg", "0 7"),
+    ("abcdef", b"abcdef", "0 6"),
+    ("abcdefg", b"abcdefg", "the search gave up at 7"),
     ("abcdefgh", b"abcdefgh", "the search gave up at 7"),
 ]
 
 # Each has its requests for memory refused in turn. After each that comes in a search with a cache there is one more.
 IN_NEED = [
     automaton("lazy", "(a)|b", b"ab", 1, answer="0 1"),
-    automaton("lazy", "(?:([a-é]+?)|$){2}x?", "aé 🐸".encode(), 2, None, 1, answer="0 3"),
+    automaton("lazy", "(?:([a-é]+?)|$){2}x?", "aé 🐸".encode(), 2, answer="0 3"),
     automaton("lazy", "a*b", b"xaab", 1, ((0, 4), (1, 4), True), 0, 700, answer="0 4"),
 ]
 IN_NEED_OF_ALL = [automaton("dense", "a*b", b"xaab", 1, answer="0 4")]

@@ -114,11 +114,13 @@ fn same_nodes(threads: &ThreadList, others: &ThreadList) -> bool
     true
 }
 
-/// A hash with a further number mixed in.
+/// A hash with a further number mixed in. The addend keeps small hashes and numbers from cancelling
+/// each other out, so that states which differ have the same hash by chance alone.
 fn mixed(hash: u64, number: usize) -> u64 {
-    (hash ^ number as u64)
+    hash.rotate_left(29)
+        .wrapping_add(0xD1B5_4A32_D192_ED03)
+        .wrapping_add(number as u64)
         .wrapping_mul(0x9E37_79B9_7F4A_7C15)
-        .rotate_left(29)
 }
 
 /// What a search knows where it stands.
@@ -189,7 +191,7 @@ impl AutomatonState {
     /// A number by which states are looked up: same states have the same.
     pub(crate) fn hash(&self) -> u64 {
         let mut hash = match self.starting {
-            Starting::Never => 1,
+            Starting::Never => mixed(1, 0),
             Starting::Once(state) => mixed(2, state.as_usize()),
             Starting::Always(state) => mixed(3, state.as_usize()),
         };
