@@ -2,12 +2,12 @@
 # make demo     gives it the commands of examples/first.session, and shows each with its reply; where
 #               it isn't built, rt runs it with checks in place of proofs, within a minute
 # make check    while one works and before a commit: lays out, proves and tests what changed and all that
-#               stands on it, over the work that earlier runs kept, then the edits of the crates that
-#               changed, the programs and their tests. CRATES='NAME ..' names more crates
+#               stands on it, over the work that earlier runs kept, with the programs, and the gate's
+#               edits of the files that changed. CRATES='NAME ..' names more crates
 # make test     the gate: every proof and test from nothing, then the tests of the built programs
 # make edits    tries each edit of code that the prover must refuse: those of crates/NAME/must-fail,
 #               which the gate tries too, and those of crates/NAME/must-fail-more. CRATES='NAME ..'
-#               names some crates, JOBS=N tries N of them at a time
+#               names some crates, or files as NAME/src/FILE, JOBS=N tries N crates at a time
 # make bench    measures texts, reports, edits, ropes, patterns and searches. TOPICS='NAME ..' names some
 #               of the topics in bench/topics.py; TOPICS=--write puts the figures into bench/RESULTS.md
 # make clean    removes what these made
