@@ -5,6 +5,8 @@
 #[cfg(test)]
 mod devices;
 #[cfg(test)]
+mod embedded;
+#[cfg(test)]
 mod examples;
 #[cfg(test)]
 mod io_examples;
