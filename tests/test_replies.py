@@ -85,7 +85,7 @@ MORE_EXAMPLES = [
     (b"edit 0 0 0 0\n", b"error command\n", 2),
     (b"list 1\n", b"error command\n", 2),
     (b"undo\nredo\n", b"error none\nerror none\n", 0),
-    # lines and payloads like those of the page's table
+    # more of what the page's table shows
     (b"text 0\nprint\n", b"ok\ntext 0\n\n", 0),
     (b"text 6\nprint\nprint\n", b"ok\ntext 6\nprint\n\n", 0),
     (b"text 1\n\xffprint\n", b"error utf8\ntext 0\n\n", 0),
@@ -115,6 +115,17 @@ MORE_EXAMPLES = [
     (b"use -1\n", b"error command\n", 2),
     (b"use\n", b"error command\n", 2),
     (b"fork 1\n", b"error command\n", 2),
+    (b"use 0\nuse 1\nfork\nuse 1\nuse 2\n", b"ok\nerror none\nok 1\nok\nerror none\n", 0),
+    (b"text 2\nabpattern 1\nbpattern 2\nb(pattern 1\n\xfflist\n", b"ok\nok\nerror pattern\nerror utf8\nm 0 1 2\nok 1\n", 0),
+    (b"text 5\nx\rb\nypattern 1\nylist\nedit 1 0 1 1 0\nlist\n", b"ok\nok\nm 2 0 1\nok 1\nok\nm 1 0 1\nok 1\n", 0),
+    (b"text 3\nb\nypattern 1\nyedit 0 1 0 1 1\n\rlist\n", b"ok\nok\nok\nm 1 0 1\nok 1\n", 0),
+    (b"text 5\nx\rb\nypattern 1\nyedit 1 0 1 1 2\n\n\rlist\n", b"ok\nok\nok\nm 2 0 1\nok 1\n", 0),
+    (b"text 3\na\x0bbedit 0 2 0 2 1\nxprint\n", b"ok\nok\ntext 4\na\x0bxb\n", 0),
+    (b"text 5\na\x0bb\x0ccpattern 1\nblist\n", b"ok\nok\nm 0 2 3\nok 1\n", 0),
+    (b"text 1\nqfork\nedit 0 0 0 1 1\nzuse 1\nprint\n", b"ok\nok 1\nok\nok\ntext 1\nq\n", 0),
+    (b"edit 0 0 0 0 1\natext 1\nbundo\nprint\n", b"ok\nok\nerror none\ntext 1\nb\n", 0),
+    (b"text 5\na\rx\nypattern 1\nxreplace 0\nlist\nprint\n", b"ok\nok\nok 1\nok 0\ntext 4\na\r\ny\n", 0),
+    (b"text 4\na\r\nbpattern 2\n\r\nreplace 2\n\n\rprint\nlist\n", b"ok\nok\nok 1\ntext 4\na\n\rb\nok 0\n", 0),
     # buffers
     (b"use 1\nfork\nuse 1\nuse 2\nuse 0\n", b"error none\nok 1\nok\nerror none\nok\n", 0),
     (b"text 2\nabfork\nuse 2\nuse 1\nprint\nfork\nuse 2\nuse 3\n",
