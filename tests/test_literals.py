@@ -33,7 +33,7 @@ ACCEPTED = [[b"a"] * 16, [b"a" * 64]]
 
 # Patterns, and the literals that their matches begin with, if there are some. What is repeated at least once, groups,
 # looks and no item go on with them; a branch, a set of at most four members, and what may be missing are followed each
-# way, up to three bytes.
+# way, up to three bytes, or two where a literal is the only one.
 BEGINNINGS = [
     ("let", ["let"]),
     ("xyz+", ["xyz"]),
@@ -45,7 +45,11 @@ BEGINNINGS = [
     ("\\x{E9}t", ["ét"]),
     ("a[b]c", ["abc"]),
     ("a[bc]d", ["abd", "acd"]),
-    ("(ab)+c", ["abab", "abc"]),
+    ("(ab)+c", ["ab"]),
+    ("ab[cd]", ["ab"]),
+    ("é[ab]", ["é"]),
+    ("e[a-d]x", ["e"]),
+    ("x(ab)+c", ["xab"]),
     ("a{3}b", ["aaab"]),
     ("(?:ab|ac)", ["ab", "ac"]),
     ("a(?:b|c)", ["ab", "ac"]),
@@ -88,6 +92,8 @@ BEGINNINGS = [
     ("\\bfoo|^bar$", ["foo", "bar"]),
     ("(?:foo){0,2}bar", ["foo", "bar"]),
     ("foo|[^\\s\\S]", ["foo"]),
+    # Of 16 literals at most, these are made longer first.
+    ("[xy][a-d][a-d]", ["xaa", "xab", "xac", "xad", "xba", "xbb", "xbc", "xbd", "xc", "xd", "ya", "yb", "yc", "yd"]),
 ]
 
 # Words of patterns at random. All of them begin with few bytes.

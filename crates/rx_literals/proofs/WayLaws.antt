@@ -1,8 +1,7 @@
 -- Following the ways that lead from a program's start.
 use Rattle.std.proofs.Common.{◌≡◌, ℕ, zero, suc, ◌+◌, ◌-◌, ◌<◌, ◌≤◌, Bool, true, List, [], ◌∷◌, ◌++◌, map, take, drop, get_or, length, Option, Some, None, Result, Ok, Err, OnOk, IfOk, slice_get, refl, sym, ap, subst, ◌∙◌, arith, append_assoc, length-append, length-drop}
 use Rattle.std.proofs.Math.Seq.{take-append_seam}
-use Rattle.std.specs.Char.{IsScalar, len_utf8, encode_utf8}
-use Rattle.std.specs.List.{Contains}
+use Rattle.std.specs.Char.{IsScalar, encode_utf8}
 use Rattle.std.specs.Option.{ForSome}
 use Rattle.std.proofs.lemmas.List.{length-take, get_or-take, take_all}
 use Rattle.std.proofs.lemmas.Option.{slice_get_within, get_or_from_slice_get}
@@ -14,7 +13,7 @@ use Rattle.rx_utf8.specs.Automata.{is_in}
 use Rattle.rx_walks.specs.Looks.{Look}
 use Rattle.rx_walks.specs.Machines.{Machine, IsForward, goes, reads}
 use Rattle.rx_walks.specs.Paths.{Path, at_end, by_edge, by_read}
-use Rattle.rx_walks.specs.Finds.{Search, IsInside}
+use Rattle.rx_walks.specs.Finds.{Search}
 use Rattle.rx_walks.specs.Programs.{Node, pass, note, look, set, Program, Haystack, Notes, put_note, left_from, read_up_to}
 use Rattle.rx_walks.specs.ProgramFinds.{first_by, haystack_of, holds_in, highest, machine_of}
 use Rattle.rx_walks.proofs.CharacterLaws.{member_stands}

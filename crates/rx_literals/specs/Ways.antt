@@ -1,5 +1,5 @@
 -- Where nodes lead, and what is read on the way.
-use Rattle.std.specs.Prelude.{◌≡◌, ℕ, ◌+◌, Bool, true, List, [], ◌∷◌, ◌++◌, length, take, map, Option, slice_get, Contains}
+use Rattle.std.specs.Prelude.{◌≡◌, ℕ, ◌+◌, Bool, true, List, ◌∷◌, ◌++◌, length, take, map, Option, slice_get, Contains}
 use Rattle.std.specs.Char.{IsScalar, encode_utf8}
 use Rattle.memchr.specs.Find.{OccursAt}
 use Rattle.rx_sets.specs.Sets.{Range}

@@ -9,7 +9,7 @@ ghost use Rattle.rx_literals.specs.Beginnings.{BeginsWith};
 ghost use Rattle.rx_literals.specs.Needles.{OneOccursAt};
 ghost use Rattle.rx_literals.specs.Ways.{GoesOn, LeadsTo, StandFor, branches, readings};
 
-use crate::first_bytes::FirstBytes;
+use crate::first_bytes::{FirstBytes, is_common};
 use crate::members::few_members;
 use crate::prefilter::Prefilter;
 use memchr::arch::all::is_prefix;
@@ -31,6 +31,9 @@ const LONG: usize = 60;
 
 /// A literal with so many bytes isn't made longer where several ways lead on.
 const ENOUGH: usize = 3;
+
+/// The same of one that is the only one: it is looked for faster than several are.
+const ENOUGH_ALONE: usize = 2;
 
 /// So many literals may begin with a byte that is common in texts.
 const FEW: usize = 3;
@@ -86,12 +89,21 @@ impl Beginnings {
         Ok(true)
     }
 
-    /// Whether so many ways may be followed behind a literal with this length.
-    fn has_room(&self, len: usize, ways: usize) -> bool {
+    /// Whether so many ways may be followed behind a literal, which stands apart from the list.
+    fn has_room(&self, literal: &String, ways: usize) -> bool {
         if ways <= 1 {
-            return len <= LONG;
+            return literal.len() <= LONG;
         }
-        len < ENOUGH && self.list.len().saturating_add(ways) <= BEGINNINGS
+        let enough = if self.list.is_empty() {
+            ENOUGH_ALONE
+        } else {
+            ENOUGH
+        };
+        let most = match literal.as_bytes().first() {
+            Some(byte) if is_common(*byte) => FEW,
+            _ => BEGINNINGS,
+        };
+        literal.len() < enough && self.list.len().saturating_add(ways) <= most
     }
 
     /// Follows empty edges to these states, if there is room. It answers whether it did.
@@ -99,7 +111,7 @@ impl Beginnings {
         ensures { OnOk result (GoesOn (Some (pass states.now)) beginning self.old.list.items
             self.new.list.items) }
     {
-        if !self.has_room(beginning.literal.len(), states.len()) {
+        if !self.has_room(&beginning.literal, states.len()) {
             return self.leave(beginning);
         }
         for state in states {
@@ -138,7 +150,7 @@ impl Beginnings {
             self.new.list.items) }
     {
         match few_members(self.alloc, ranges)? {
-            Some(characters) if self.has_room(beginning.literal.len(), characters.len()) => {
+            Some(characters) if self.has_room(&beginning.literal, characters.len()) => {
                 self.read(&beginning.literal, &characters, next)?;
                 Ok(true)
             }
@@ -310,9 +322,9 @@ impl Prefilter {
     /// Read are the characters at the beginning of a pattern, also in groups, between looks, and
     /// where they are repeated at least once. Where there are branches, or a set with at most four
     /// members, or a part that may be missing, each way is followed, until a literal has three
-    /// bytes; there are at most 16 literals, each of at most 64 bytes. Of several each has two
-    /// bytes or more, and they begin with at most three bytes, of which none is common in texts, or
-    /// one is and there are at most three literals.
+    /// bytes, or the only one two; there are at most 16 literals, each of at most 64 bytes. Of
+    /// several each has two bytes or more, and they begin with at most three bytes, of which none
+    /// is common in texts, or one is and there are at most three literals.
     ///
     /// It takes time for at most 256 states, and memory for the literals.
     pub fn from_program(

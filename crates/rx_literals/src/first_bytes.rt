@@ -10,7 +10,7 @@ use memchr::{memchr, memchr2, memchr3};
 const COMMON: &[u8] = b" etaoinsr";
 
 /// Whether a byte is common in texts.
-fn is_common(byte: u8) -> bool {
+pub(crate) fn is_common(byte: u8) -> bool {
     COMMON.contains(&byte)
 }
 

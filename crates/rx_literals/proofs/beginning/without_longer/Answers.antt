@@ -1,4 +1,4 @@
-use Rattle.std.proofs.Common.{String, Global, string_bytes, List, length, arith}
+use Rattle.std.proofs.Common.{String, Global, string_bytes, arith}
 use Rattle.rx_literals.proofs.KeptLaws.{left_on, kept_stand}
 use Rattle.rx_literals.proofs.MapLaws.{nothing}
 use Rattle.rx_literals.proofs.beginning.without_longer.Goals as goal

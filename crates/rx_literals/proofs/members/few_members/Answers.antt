@@ -1,4 +1,3 @@
-use Rattle.std.proofs.Common.{true}
 use Rattle.rx_literals.proofs.MapLaws.{has_more}
 use Rattle.rx_literals.proofs.members.few_members.Goals as goal
 

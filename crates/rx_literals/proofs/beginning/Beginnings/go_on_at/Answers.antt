@@ -1,4 +1,4 @@
-use Rattle.std.proofs.Common.{◌≡◌, Some, refl, sym, subst, ap}
+use Rattle.std.proofs.Common.{Some, refl, sym, subst}
 use Rattle.rx_program.specs.Programs.{node_of}
 use Rattle.rx_literals.proofs.WayLaws.{GoesTo, on_ok, goes_on_there, goes_on_by}
 use Rattle.rx_literals.proofs.beginning.Beginnings.go_on_at.Goals as goal

@@ -1,6 +1,6 @@
 use Rattle.std.proofs.Common.{[], ◌∷◌}
 use Rattle.rx_program.specs.Programs.{characters_of}
-use Rattle.rx_literals.proofs.WayLaws.{leads_on, leads_same}
+use Rattle.rx_literals.proofs.WayLaws.{leads_on}
 use Rattle.rx_literals.proofs.beginning.Beginnings.of.Goals as goal
 
 pub loop-preserved : goal.loop-preserved

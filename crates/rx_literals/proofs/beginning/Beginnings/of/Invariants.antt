@@ -1,6 +1,6 @@
 use Rattle.std.proofs.Common.{[], ◌∷◌}
 use Rattle.rx_program.specs.Programs.{characters_of}
-use Rattle.rx_literals.specs.Ways.{Stem, LeadsTo}
+use Rattle.rx_literals.specs.Ways.{LeadsTo}
 use Rattle.rx_literals.proofs.beginning.Beginnings.of.Given as goal
 
 abbrev pub invariant-loop : goal.invariant-loop

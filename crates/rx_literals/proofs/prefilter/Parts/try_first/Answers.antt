@@ -1,5 +1,4 @@
-use Rattle.std.proofs.Common.{◌≤◌, ◌<◌, ◌+◌, ℕ, None, length, arith}
-use Rattle.rx_literals.specs.Needles.{FoundAt}
+use Rattle.std.proofs.Common.{arith}
 use Rattle.rx_literals.proofs.FirstLaws.{found_first, found_nowhere, none_up_to}
 use Rattle.rx_literals.proofs.prefilter.Parts.try_first.Goals as goal
 

@@ -1,4 +1,4 @@
-use Rattle.std.proofs.Common.{◌≡◌, String, Global, string_bytes, List, ℕ, map, ap, sym, subst}
+use Rattle.std.proofs.Common.{String, Global, string_bytes, List, ℕ, map, sym, subst}
 use Rattle.rx_program.specs.Programs.{characters_of}
 use Rattle.rx_literals.specs.Ways.{Stem, StandFor}
 use Rattle.rx_literals.proofs.KeptLaws.{stand_on}
