@@ -1,10 +1,12 @@
-"""Needles of prefilters in contents that lie in pieces, on bin/search-driver, against a plain model; and which literal
-the matches of a pattern begin with."""
+"""Needles of prefilters in contents that lie in pieces, on bin/search-driver, against a plain model; which literals the
+matches of a pattern begin with; and what the engines find of such patterns, against Python's regular expressions."""
 import itertools
 import random
+import re
 
 from driver import NO_MEMORY, WANT, Case, Settings, check_memory, line_of, problems, written
 from harness import short, test
+from test_automata import Wanted, compared
 
 CUTS = ["0", "1", "2", "3", "1.0.2.0.4"]  # how haystacks are cut
 
@@ -29,36 +31,73 @@ HAYSTACKS += [b"xabcdefgh", b"abcdefgabcdefgh", b"a" + b"b" * 70, b"b" * 63]
 REFUSED = [[], [b""], [b"a", b""], [b"a"] * 17, [b"a" * 65]]
 ACCEPTED = [[b"a"] * 16, [b"a" * 64]]
 
-# Patterns, and the literal that their matches begin with, if there is one. What is repeated at least once, groups, looks
-# and no item go on with it; sets of several members, what may be missing, and alternations end it.
+# Patterns, and the literals that their matches begin with, if there are some. What is repeated at least once, groups,
+# looks and no item go on with them; a branch, a set of at most four members, and what may be missing are followed each
+# way, up to three bytes, or two where a literal is the only one.
 BEGINNINGS = [
-    ("let", "let"),
-    ("xyz+", "xyz"),
-    ("fn \\w+", "fn "),
-    ("(a)(?:b(?<n>c))d*e", "abc"),
-    ("^ab$", "ab"),
-    ("\\bfoo\\b", "foo"),
-    ("(?:)ab", "ab"),
-    ("\\x{E9}t", "ét"),
-    ("a[b]c", "abc"),
-    ("a[bc]d", "a"),
-    ("(ab)+c", "ab"),
-    ("a{3}b", "aaab"),
-    ("(?:ab|ac)", None),
-    ("a(?:b|c)", "a"),
-    ("a?b", None),
-    ("a*b", None),
-    ("(?i)ab", None),
-    ("(?i)1b", "1"),
-    ("", None),
-    (".a", None),
-    ("\\d", None),
-    ("a|b", None),
-    ("[^a]", None),
-    ("x{0}ab", "ab"),
-    ("a" * 100, "a" * 61),
-    ("🐸" * 30, "🐸" * 16),
+    ("let", ["let"]),
+    ("xyz+", ["xyz"]),
+    ("fn \\w+", ["fn "]),
+    ("(a)(?:b(?<n>c))d*e", ["abc"]),
+    ("^ab$", ["ab"]),
+    ("\\bfoo\\b", ["foo"]),
+    ("(?:)ab", ["ab"]),
+    ("\\x{E9}t", ["ét"]),
+    ("a[b]c", ["abc"]),
+    ("a[bc]d", ["abd", "acd"]),
+    ("(ab)+c", ["ab"]),
+    ("ab[cd]", ["ab"]),
+    ("é[ab]", ["é"]),
+    ("e[a-d]x", ["e"]),
+    ("x(ab)+c", ["xab"]),
+    ("a{3}b", ["aaab"]),
+    ("(?:ab|ac)", ["ab", "ac"]),
+    ("a(?:b|c)", ["ab", "ac"]),
+    ("a?b", []),
+    ("a*b", []),
+    ("xa?b", ["xab", "xb"]),
+    ("(?i)xb", ["XB", "Xb", "xB", "xb"]),
+    ("(?i)ab", []),
+    ("(?i)1b", ["1B", "1b"]),
+    ("(?i)foo", ["FOO", "FOo", "FoO", "Foo", "fOO", "fOo", "foO", "foo"]),
+    ("(?i)ks", ["KS", "Ks", "Kſ", "kS", "ks", "kſ", "\u212a"]),
+    ("", []),
+    (".a", []),
+    ("\\d", []),
+    ("a|b", []),
+    ("[^a]", []),
+    ("x{0}ab", ["ab"]),
+    ("a" * 100, ["a" * 61]),
+    ("🐸" * 30, ["🐸" * 16]),
+    ("foo|bar|baz", ["foo", "bar", "baz"]),
+    ("(?:foo|ba(?:r|z))\\d", ["foo", "bar", "baz"]),
+    ("foo|foobar", ["foo"]),
+    ("foobar|foo", ["foo"]),
+    ("foo(?:bar|qux)", ["foo"]),
+    ("ab+", ["ab"]),
+    ("foo|", []),
+    ("(?:foo|\\d)x", []),
+    ("foo|b", []),
+    ("if|for", ["if", "for"]),
+    ("if|else", []),
+    ("ab|cd|xf", ["ab", "cd", "xf"]),
+    ("ab|cd|ef|gh", []),
+    ("[bc]{2}d", ["bbd", "bcd", "cbd", "ccd"]),
+    ("[ab]{2}c", []),
+    ("x[a-d]", ["xa", "xb", "xc", "xd"]),
+    ("x[a-e]", ["x"]),
+    ("x[ace-f]", ["xa", "xc", "xe", "xf"]),
+    ("[a-e]x", []),
+    ("[b-d]x", ["bx", "cx", "dx"]),
+    ("\\bfoo|^bar$", ["foo", "bar"]),
+    ("(?:foo){0,2}bar", ["foo", "bar"]),
+    ("foo|[^\\s\\S]", ["foo"]),
+    # Of 16 literals at most, these are made longer first.
+    ("[xy][a-d][a-d]", ["xaa", "xab", "xac", "xad", "xba", "xbb", "xbc", "xbd", "xc", "xd", "ya", "yb", "yc", "yd"]),
 ]
+
+# Words of patterns at random. All of them begin with few bytes.
+WORDS = ["x", "xy", "foo", "fob", "bar", "yb", "é", "éa", "[xy]b", "f[a-c]", "f[^f]", "x?b", "b*y", "(?i:fo)", "(?i:é)x"]
 
 
 def at(needles, bytes_, place):
@@ -109,18 +148,30 @@ def refused():
 
 
 def beginnings():
-    """A pattern's literal is found where it stands, and not where its last character is missing."""
+    """Each of a pattern's literals is found where it stands, and not where its last character is missing."""
     for pattern, told in BEGINNINGS:
         fields = [written(pattern), *Settings().fields(), 3]
         name = f"the beginning of {pattern[:20]!r}"
-        if told is None:
+        if not told:
             yield Case(name, line_of("beginning", *fields, b"ab".hex(), 0, 2), "none")
-            continue
-        literal = told.encode()
-        haystack = literal[:-1] + literal
-        yield Case(
-            name, line_of("beginning", *fields, haystack.hex(), 0, len(haystack)), model([literal], haystack, 0, 999)
-        )
+        literals = [literal.encode() for literal in told]
+        for literal in literals:
+            haystack = literal[:-1] + literal + b"a"
+            answer = model(literals, haystack, 0, 999)
+            yield Case(name, line_of("beginning", *fields, haystack.hex(), 0, len(haystack)), answer)
+
+
+def searches_at_random():
+    """Searches whose matches perhaps begin with one of few literals, in pieces."""
+    chance = random.Random(39)
+    for _ in range(1500):
+        words = ["".join(chance.choices(WORDS, k=chance.randint(1, 2))) for _ in range(chance.randint(1, 3))]
+        pattern = f"(?:{'|'.join(words)})" + chance.choice(["", "", "b", "\\b", "(?:x|$)", "y+"])
+        haystack = "".join(chance.choices("xybfaoFOéÉ ", k=chance.randint(0, 40)))
+        matches = re.finditer(pattern, haystack)
+        places = [len(haystack[:at].encode()) for at in range(len(haystack) + 1)]
+        spans = [(places[match.start()], places[match.end()]) for match in matches]
+        yield Wanted(pattern, haystack.encode(), [[span] for span in spans], chance.choice((0, 1, 2, 3)))
 
 
 def test_all():
@@ -133,5 +184,8 @@ def test_all():
     for name, cases in parts:
         cases = list(cases)
         test(f"{len(cases)} {name}", problems(cases))
+    wrong, told = compared(searches_at_random())
+    test(f"searches for what begins with literals: {told}", wrong)
     check_memory(find([b"ab", b"b"], b"aab", "1", 0, 3), [WANT])
-    check_memory(next(beginnings()), NO_MEMORY)
+    for pattern in ("let", "(?i)xb", "foo|bar|baz"):
+        check_memory(next(case for case in beginnings() if repr(pattern) in case.name), NO_MEMORY)

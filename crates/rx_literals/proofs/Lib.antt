@@ -6,4 +6,7 @@ pub mod SliceLaws
 pub mod ScanLaws
 pub mod LowLaws
 pub mod SkipLaws
+pub mod FirstLaws
 pub mod WayLaws
+pub mod KeptLaws
+pub mod MapLaws

@@ -1,4 +1,5 @@
 pub mod Needles
+pub mod FirstBytes
 pub mod Prefilters
 pub mod Beginnings
 pub mod Ways

@@ -3,10 +3,12 @@ use Rattle.std.specs.Prelude.{◌≡◌, ℕ, ◌≤◌, List, [], ◌∷◌, le
 use Rattle.rx_literals.specs.declared.prefilter.Searcher.{Searcher}
 use Rattle.rx_literals.specs.declared.prefilter.Searcher.TheVariants as searcher
 use Rattle.rx_literals.specs.Needles.{AreNeedles}
+use Rattle.rx_literals.specs.FirstBytes.{BeginAmong}
 
 -- a searcher finds these needles
 abbrev pub Searches : Searcher → List (List ℕ) → Type 0
 Searches (searcher.One finder) needles = needles ≡ finder ∷ []
+Searches (searcher.First first) needles = BeginAmong first needles
 Searches searcher.Several needles = Unit {0}
 
 -- the needles are such, none is longer than is known, and this finds them

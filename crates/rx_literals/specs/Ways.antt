@@ -1,40 +1,59 @@
--- Nodes that lead one way, and the literal that is read on it.
-use Rattle.std.specs.Prelude.{◌≡◌, ℕ, ◌+◌, Bool, true, List, [], ◌∷◌, length, take, Option, Some}
-use Rattle.std.specs.Char.{IsScalar}
+-- Where nodes lead, and what is read on the way.
+use Rattle.std.specs.Prelude.{◌≡◌, ℕ, ◌+◌, Bool, true, List, ◌∷◌, ◌++◌, length, take, map, Option, slice_get, Contains}
+use Rattle.std.specs.Char.{IsScalar, encode_utf8}
 use Rattle.memchr.specs.Find.{OccursAt}
 use Rattle.rx_sets.specs.Sets.{Range}
 use Rattle.rx_utf8.specs.Automata.{is_in}
 use Rattle.rx_walks.specs.Looks.{Look}
 use Rattle.rx_walks.specs.Paths.{Path}
 use Rattle.rx_walks.specs.Finds.{Search, IsInside}
-use Rattle.rx_walks.specs.Programs.{Node, pass, note, look, set, Program}
+use Rattle.rx_walks.specs.Programs.{Node, Program}
 use Rattle.rx_walks.specs.ProgramFinds.{highest, machine_of}
-use Rattle.rx_literals.specs.declared.beginning.Way.{Way}
-use Rattle.rx_literals.specs.declared.beginning.Way.TheVariants as way
+use Rattle.rx_literals.specs.Needles.{OneOccursAt}
 
--- its one edge is an empty one to this node, if a look that it asks for holds
-abbrev pub GoesTo : Option (Node Look (List Range)) → ℕ → Type 0
-GoesTo (Some (pass (q ∷ []))) r = q ≡ r
-GoesTo (Some (note slot q)) r = q ≡ r
-GoesTo (Some (look asked q)) r = q ≡ r
-GoesTo _ r = ⊥
+-- a literal, and the node that a match goes on from behind it
+pub record Stem : Type 0 where
+  pub literal : List ℕ
+  pub node : ℕ
 
--- its one edge is one over this character to this node
-abbrev pub Reads : Option (Node Look (List Range)) → ℕ → ℕ → Type 0
-Reads (Some (set ranges q)) c r =
-    (q ≡ r) × ((d : ℕ) → IsScalar d → is_in ranges d ≡ true → d ≡ c)
-Reads _ c r = ⊥
+-- P holds of one of these
+pub data OneOf {X : Type 0} (P : X → Type 0) : List X → Type 0 where
+  this_one : {x : X} {xs : List X} → P x → OneOf P (x ∷ xs)
+  other_one : {x : X} {xs : List X} → OneOf P xs → OneOf P (x ∷ xs)
 
--- where a node leads; nothing is said of one that may lead several ways
-abbrev pub IsWay : Option (Node Look (List Range)) → Way → Type 0
-IsWay here (way.Goes r) = GoesTo here r
-IsWay here (way.Reads c r) = Reads here c r
-IsWay here way.Ends = Unit {0}
+-- in a search a path from a place to the end of a match reads the literal of a stem, and goes on
+-- from its node
+abbrev pub Takes : Program Look (List Range) → (ℕ → Bool) → Search → ℕ → ℕ → ℕ → Stem → Type 0
+Takes p is_word s i pattern e stem =
+    OccursAt (take (highest s) s.content) stem.literal i
+    × Path (machine_of is_in is_word p s) stem.node (i + length stem.literal) pattern e
 
--- each path from the start node, at a place of a search, to the end of a match begins with the
--- literal, and goes on from this node
-abbrev pub Leads : Program Look (List Range) → List ℕ → ℕ → Type 0
-Leads p literal q = (is_word : ℕ → Bool) (s : Search) (i pattern e : ℕ) → IsInside s i
-    → Path (machine_of is_in is_word p s) p.start i pattern e
-    → OccursAt (take (highest s) s.content) literal i
-    × Path (machine_of is_in is_word p s) q (i + length literal) pattern e
+-- each path that takes one of these stems takes one of those
+abbrev pub LeadsTo : Program Look (List Range) → List Stem → List Stem → Type 0
+LeadsTo p stems others = (is_word : ℕ → Bool) (s : Search) (i pattern e : ℕ) → IsInside s i
+    → OneOf (Takes p is_word s i pattern e) stems
+    → OneOf (Takes p is_word s i pattern e) others
+
+-- where this is the node of a stem, which stood beside others, all of them lead to these
+abbrev pub GoesOn : Option (Node Look (List Range)) → Stem → List Stem → List Stem → Type 0
+GoesOn here stem others stems = (p : Program Look (List Range)) → slice_get p.nodes stem.node ≡ here
+    → LeadsTo p (stem ∷ others) stems
+
+-- these characters are all members of a set, and maybe more
+abbrev pub HasMembers : List Range → List ℕ → Type 0
+HasMembers ranges characters =
+    (c : ℕ) → IsScalar c → is_in ranges c ≡ true → Contains characters c
+
+-- a stem for each of several nodes
+abbrev pub branches : List ℕ → List ℕ → List Stem
+branches literal nodes = map (λ node. record { literal = literal; node = node }) nodes
+
+-- a stem for each character that is read in front of a node
+abbrev pub readings : List ℕ → List ℕ → ℕ → List Stem
+readings literal characters node =
+    map (λ c. record { literal = literal ++ encode_utf8 c; node = node }) characters
+
+-- wherever one of these needles occurs, one of those does
+abbrev pub StandFor : List (List ℕ) → List (List ℕ) → Type 0
+StandFor needles others = (bytes : List ℕ) (i : ℕ) → OneOccursAt bytes i others
+    → OneOccursAt bytes i needles

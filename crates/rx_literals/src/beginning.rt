@@ -1,132 +1,332 @@
-//! The literal that the matches of a program begin with.
+//! The literals that the matches of a program begin with.
 
-ghost use Rattle.std.specs.Prelude.{◌≡◌, ℕ, [], ◌∷◌, Some, true, slice_get, string_bytes, IfOk, IfSome, OnOk};
-ghost use Rattle.std.specs.Char.{IsScalar};
+ghost use Rattle.std.specs.Prelude.{◌≡◌, ◌++◌, ℕ, List, [], ◌∷◌, Some, map, string_bytes, IfOk, IsTrue, OnOk};
 ghost use Rattle.std.specs.Option.{ForSome};
-ghost use Rattle.rx_utf8.specs.Automata.{is_in};
-ghost use Rattle.rx_walks.specs.Programs.{set};
+ghost use Rattle.memchr.specs.Find.{OccursAt};
+ghost use Rattle.rx_walks.specs.Programs.{pass, set};
 ghost use Rattle.rx_program.specs.Programs.{characters_of, node_of};
 ghost use Rattle.rx_literals.specs.Beginnings.{BeginsWith};
-ghost use Rattle.rx_literals.specs.Ways.{IsWay, Leads};
+ghost use Rattle.rx_literals.specs.Needles.{OneOccursAt};
+ghost use Rattle.rx_literals.specs.Ways.{GoesOn, LeadsTo, StandFor, branches, readings};
 
+use crate::first_bytes::{FirstBytes, is_common};
+use crate::members::few_members;
 use crate::prefilter::Prefilter;
+use memchr::arch::all::is_prefix;
 use rx_program::{Program, State};
-use rx_sets::{Range, from_ordinal};
+use rx_sets::Range;
 use rx_util::{MatchKind, StateID};
 use std::alloc::{AllocError, Global};
+use std::collections::VecDeque;
+use std::marker::Model;
 
 /// How many states are passed at most.
 const STEPS: usize = 256;
 
+/// How many beginnings there are at most.
+const BEGINNINGS: usize = 16;
+
 /// A literal with more bytes isn't made longer.
 const LONG: usize = 60;
 
-/// Where a state leads.
-#[derive(Clone, Copy, Debug)]
-pub(crate) enum Way {
-    /// By an empty edge to one state alone.
-    Goes(StateID),
-    /// Over one character alone, to a state.
-    Reads(char, StateID),
-    /// To no state, or maybe several ways.
-    Ends,
-}
+/// A literal with so many bytes isn't made longer where several ways lead on.
+const ENOUGH: usize = 3;
 
-/// The member of a set that has one, by its ranges.
-fn only_member(ranges: &[Range]) -> Option<char>
-    ensures { IfSome result (λ c. (d : ℕ) → IsScalar d → is_in ranges.now d ≡ true → d ≡ c) }
-{
-    if ranges.len() != 1 || ranges[0].0 != ranges[0].1 {
-        return None;
-    }
-    from_ordinal(ranges[0].0)
-}
+/// The same of one that is the only one: it is looked for faster than several are.
+const ENOUGH_ALONE: usize = 2;
 
-/// Where a state that reads one of these characters leads.
-fn way_over(ranges: &[Range], next: StateID) -> Way
-    ensures { IsWay (Some (set ranges.now next)) result }
-{
-    match only_member(ranges) {
-        Some(c) => Way::Reads(c, next),
-        None => Way::Ends,
-    }
-}
+/// So many literals may begin with a byte that is common in texts.
+const FEW: usize = 3;
 
-/// Where a state leads.
-fn way_of(state: &State) -> Way
-    ensures { IsWay (Some (node_of state.now)) result }
-{
-    match state {
-        State::Empty(next) => Way::Goes(*next),
-        State::Look(_, next) => Way::Goes(*next),
-        State::Capture(_, next) => Way::Goes(*next),
-        State::Ranges(automaton, next) => way_over(automaton.ranges(), *next),
-        State::BinaryUnion(_, _) | State::Union(_) | State::Match(_) => Way::Ends,
-    }
-}
-
-/// Where the state with this number leads.
-fn way_from(program: &Program, at: StateID) -> Way
-    ensures { IsWay (slice_get (characters_of program.now).nodes at) result }
-{
-    match program.states().get(at.as_usize()) {
-        Some(state) => way_of(state),
-        None => Way::Ends,
-    }
-}
-
-/// The literal that each match begins with, as far as it was read, and the state behind it.
+/// A literal that matches begin with, as far as it was read, and the state behind it. Contracts see
+/// it as a stem.
 #[derive(Drop)]
 struct Beginning {
     literal: String,
     at: StateID,
 }
 
-impl Beginning {
-    /// Goes on from the state, and answers whether it leads one way.
-    fn step(&mut self, program: &Program) -> Result<bool, AllocError>
-        ensures { OnOk result
-            (Leads (characters_of program.now) (string_bytes self.old.literal) self.old.at
-            → Leads (characters_of program.now) (string_bytes self.new.literal) self.new.at) }
+impl Model for Beginning {
+    ghost use Rattle.std.specs.Prelude.{string_bytes};
+    ghost use Rattle.rx_literals.specs.Ways.{Stem};
+
+    ghost Value = { Stem };
+
+    ghost view = { λ b. record { literal = string_bytes b.literal; node = b.at } };
+}
+
+/// Beginnings, of which each match has one.
+#[derive(Drop)]
+struct Beginnings {
+    alloc: Global,
+    list: VecDeque<Beginning>,
+}
+
+impl Beginnings {
+    /// Puts one behind the others.
+    fn put(&mut self, literal: String, at: StateID) -> Result<(), AllocError>
+        ensures { OnOk result (self.new.list.items ≡ self.old.list.items
+            ++ record { literal = string_bytes literal; node = at } ∷ []) }
     {
-        match way_from(program, self.at) {
-            Way::Goes(next) => {
-                self.at = next;
-                Ok(true)
-            }
-            Way::Reads(c, next) if self.literal.len() <= LONG => {
-                self.literal.push(c)?;
-                self.at = next;
-                Ok(true)
-            }
-            _ => Ok(false),
+        self.list.push_back(Beginning { literal, at })?;
+        Ok(())
+    }
+
+    /// Leaves a beginning as it is, and answers that it doesn't lead on.
+    fn leave(&mut self, beginning: Beginning) -> Result<bool, AllocError>
+        ensures { OnOk result (self.new.list.items ≡ self.old.list.items ++ beginning ∷ []) }
+    {
+        self.list.push_back(beginning)?;
+        Ok(false)
+    }
+
+    /// Follows an empty edge to this state alone, and answers that it leads on.
+    fn go_to(&mut self, beginning: Beginning, next: StateID) -> Result<bool, AllocError>
+        ensures { OnOk result (self.new.list.items ≡ self.old.list.items
+            ++ record { literal = beginning.literal; node = next } ∷ []) }
+    {
+        self.put(beginning.literal, next)?;
+        Ok(true)
+    }
+
+    /// Whether so many ways may be followed behind a literal, which stands apart from the list.
+    fn has_room(&self, literal: &String, ways: usize) -> bool {
+        if ways <= 1 {
+            return literal.len() <= LONG;
         }
+        let enough = if self.list.is_empty() {
+            ENOUGH_ALONE
+        } else {
+            ENOUGH
+        };
+        let most = match literal.as_bytes().first() {
+            Some(byte) if is_common(*byte) => FEW,
+            _ => BEGINNINGS,
+        };
+        literal.len() < enough && self.list.len().saturating_add(ways) <= most
+    }
+
+    /// Follows empty edges to these states, if there is room. It answers whether it did.
+    fn branch(&mut self, beginning: Beginning, states: &[StateID]) -> Result<bool, AllocError>
+        ensures { OnOk result (GoesOn (Some (pass states.now)) beginning self.old.list.items
+            self.new.list.items) }
+    {
+        if !self.has_room(&beginning.literal, states.len()) {
+            return self.leave(beginning);
+        }
+        for state in states {
+            let literal = beginning.literal.clone()?;
+            self.put(literal, *state)?;
+        }
+        Ok(true)
+    }
+
+    /// Reads each of these characters.
+    fn read(
+        &mut self,
+        literal: &String,
+        characters: &[char],
+        next: StateID,
+    ) -> Result<(), AllocError>
+        ensures { OnOk result (self.new.list.items ≡ self.old.list.items
+            ++ readings (string_bytes literal.now) characters.now next) }
+    {
+        for c in characters {
+            let mut longer = literal.clone()?;
+            longer.push(*c)?;
+            self.put(longer, next)?;
+        }
+        Ok(())
+    }
+
+    /// Reads each member of a set, if they are few and there is room. It answers whether it did.
+    fn read_set(
+        &mut self,
+        beginning: Beginning,
+        ranges: &[Range],
+        next: StateID,
+    ) -> Result<bool, AllocError>
+        ensures { OnOk result (GoesOn (Some (set ranges.now next)) beginning self.old.list.items
+            self.new.list.items) }
+    {
+        match few_members(self.alloc, ranges)? {
+            Some(characters) if self.has_room(&beginning.literal, characters.len()) => {
+                self.read(&beginning.literal, &characters, next)?;
+                Ok(true)
+            }
+            _ => self.leave(beginning),
+        }
+    }
+
+    /// Goes on from a beginning, at whose end this state stands, and answers whether it leads on.
+    fn go_on_at(&mut self, state: &State, beginning: Beginning) -> Result<bool, AllocError>
+        ensures { OnOk result (GoesOn (Some (node_of state.now)) beginning self.old.list.items
+            self.new.list.items) }
+    {
+        match state {
+            State::Empty(next) => self.go_to(beginning, *next),
+            State::Look(_, next) => self.go_to(beginning, *next),
+            State::Capture(_, next) => self.go_to(beginning, *next),
+            State::Ranges(automaton, next) => self.read_set(beginning, automaton.ranges(), *next),
+            State::BinaryUnion(first, second) => self.branch(beginning, &[*first, *second]),
+            State::Union(alternates) => self.branch(beginning, alternates),
+            State::Match(_) => self.leave(beginning),
+        }
+    }
+
+    /// Goes on from a beginning, and answers whether it leads on.
+    fn go_on(&mut self, program: &Program, beginning: Beginning) -> Result<bool, AllocError>
+        ensures { OnOk result (LeadsTo (characters_of program.now)
+            (beginning ∷ self.old.list.items) self.new.list.items) }
+    {
+        match program.states().get(beginning.at.as_usize()) {
+            Some(state) => self.go_on_at(state, beginning),
+            None => self.leave(beginning),
+        }
+    }
+
+    /// Goes on from the first one, and answers whether it leads on.
+    fn step(&mut self, program: &Program) -> Result<bool, AllocError>
+        ensures { OnOk result (LeadsTo (characters_of program.now) self.old.list.items
+            self.new.list.items) }
+    {
+        match self.list.pop_front() {
+            Some(beginning) => self.go_on(program, beginning),
+            None => Ok(false),
+        }
+    }
+
+    /// What the matches of a program begin with, as far as it is read.
+    fn of(alloc: Global, program: &Program) -> Result<Beginnings, AllocError>
+        ensures { IfOk result (λ beginnings. LeadsTo (characters_of program.now)
+            (record { literal = []; node = program.now.start } ∷ []) beginnings.list.items) }
+    {
+        let mut beginnings = Beginnings {
+            alloc,
+            list: VecDeque::new(alloc),
+        };
+        beginnings.put(String::new(alloc), program.start())?;
+        let mut ended: usize = 0;
+        for _ in 0..STEPS {
+            if beginnings.step(program)? {
+                ended = 0;
+            } else {
+                ended = ended.saturating_add(1);
+            }
+            if ended >= beginnings.list.len() {
+                return Ok(beginnings);
+            }
+        }
+        Ok(beginnings)
+    }
+
+    /// The literals.
+    fn literals(self) -> Result<Vec<String>, AllocError>
+        ensures { IfOk result (λ literals. map (λ literal. string_bytes literal) literals.items
+            ≡ map (λ stem. stem.literal) self.list.items) }
+    {
+        let mut literals = Vec::new(self.alloc);
+        let mut list = self.list;
+        while let Some(beginning) = list.pop_front() {
+            literals.push(beginning.literal)?;
+        }
+        Ok(literals)
     }
 }
 
-/// The literal that each match begins with; it may be empty.
-fn leading_literal(alloc: Global, program: &Program) -> Result<String, AllocError>
-    ensures { IfOk result
-        (λ literal. BeginsWith (string_bytes literal ∷ []) (characters_of program.now)) }
+/// Whether a literal begins with another one.
+fn begins_with(literal: &String, other: &String) -> bool
+    ensures { IsTrue result → OccursAt (string_bytes literal.now) (string_bytes other.now) 0 }
 {
-    let mut beginning = Beginning {
-        literal: String::new(alloc),
-        at: program.start(),
-    };
-    for _ in 0..STEPS {
-        if !beginning.step(program)? {
-            return Ok(beginning.literal);
+    is_prefix(literal.as_bytes(), other.as_bytes())
+}
+
+/// Whether what begins with a literal begins with one of these too.
+fn begins_with_one(literals: &[String], literal: &String) -> bool
+    ensures { IsTrue result → (bytes : List ℕ) (i : ℕ) → OccursAt bytes (string_bytes literal.now) i
+        → OneOccursAt bytes i (map (λ other. string_bytes other) literals.now) }
+{
+    for other in literals {
+        if begins_with(literal, other) {
+            return true;
         }
     }
-    Ok(beginning.literal)
+    false
+}
+
+/// Keeps a literal beside these, unless it begins with one of them.
+fn keep(kept: &mut Vec<String>, literal: String) -> Result<(), AllocError>
+    ensures { OnOk result (StandFor (map (λ other. string_bytes other) kept.new.items)
+        (string_bytes literal ∷ map (λ other. string_bytes other) kept.old.items)) }
+{
+    if begins_with_one(kept, &literal) {
+        return Ok(());
+    }
+    kept.push(literal)?;
+    Ok(())
+}
+
+/// The literals, the last one first, without those that begin with a later one.
+fn without_longer(alloc: Global, mut literals: Vec<String>) -> Result<Vec<String>, AllocError>
+    ensures { IfOk result (λ kept. StandFor (map (λ literal. string_bytes literal) kept.items)
+        (map (λ literal. string_bytes literal) literals.items)) }
+{
+    let mut kept = Vec::new(alloc);
+    while let Some(literal) = literals.pop() {
+        keep(&mut kept, literal)?;
+    }
+    Ok(kept)
+}
+
+/// A prefilter of these literals, if it pays to look for them.
+fn prefilter_of(
+    alloc: Global,
+    kind: MatchKind,
+    literals: &[String],
+) -> Result<Option<Prefilter>, AllocError>
+    ensures { IfOk result (λ made. ForSome made
+        (λ prefilter. prefilter ≡ map (λ literal. string_bytes literal) literals.now)) }
+{
+    let mut needles = Vec::new(alloc);
+    for literal in literals {
+        needles.push(literal.as_bytes())?;
+    }
+    if !pay(&needles) {
+        return Ok(None);
+    }
+    Prefilter::new(alloc, kind, &needles)
+}
+
+/// Whether it pays to look for these needles, before an engine is asked: for one alone, and for
+/// several that have two bytes or more and begin with few bytes, of which none is common in texts,
+/// or one is and there are at most three needles.
+fn pay(needles: &[&[u8]]) -> bool {
+    if needles.len() == 1 {
+        return true;
+    }
+    match FirstBytes::of(needles) {
+        Some(first) => {
+            needles.iter().all(|needle| needle.len() >= 2)
+                && !first.are_common()
+                && (needles.len() <= FEW || !first.has_common())
+        }
+        None => false,
+    }
 }
 
 impl Prefilter {
-    /// A prefilter of what each match of a program begins with, and `None` where nothing is found
-    /// that all of them do. For now it is one literal: characters that stand alone at the beginning
-    /// of a pattern, also in groups, between looks, and where they are repeated at least once; a
-    /// set with several members ends it, and so does what may be left out or has branches. It takes
-    /// time for at most 256 states, and memory for 64 bytes.
+    /// A prefilter of what each match of a program begins with: of one literal, or of several, if
+    /// each match begins with one of them. `None` where matches may begin with nothing that is read
+    /// from the program, or where it wouldn't pay to look for it.
+    ///
+    /// Read are the characters at the beginning of a pattern, also in groups, between looks, and
+    /// where they are repeated at least once. Where there are branches, or a set with at most four
+    /// members, or a part that may be missing, each way is followed, until a literal has three
+    /// bytes, or the only one two; there are at most 16 literals, each of at most 64 bytes. Of
+    /// several each has two bytes or more, and they begin with at most three bytes, of which none
+    /// is common in texts, or one is and there are at most three literals.
+    ///
+    /// It takes time for at most 256 states, and memory for the literals.
     pub fn from_program(
         alloc: Global,
         kind: MatchKind,
@@ -135,7 +335,10 @@ impl Prefilter {
         ensures { IfOk result (λ made. ForSome made
             (λ prefilter. BeginsWith prefilter (characters_of program.now))) }
     {
-        let literal = leading_literal(alloc, program)?;
-        Prefilter::new(alloc, kind, &[literal.as_bytes()])
+        let beginnings = Beginnings::of(alloc, program)?;
+        let literals = beginnings.literals()?;
+        let kept = without_longer(alloc, literals)?;
+        let shortest = without_longer(alloc, kept)?;
+        prefilter_of(alloc, kind, &shortest)
     }
 }

@@ -2,8 +2,10 @@
 #![tactic(auto)]
 
 mod beginning;
+mod first_bytes;
 pub mod laws;
 pub mod literal;
+mod members;
 mod prefilter;
 
 pub use prefilter::Prefilter;

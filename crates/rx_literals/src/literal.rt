@@ -120,7 +120,9 @@ fn find_in_piece<C: Cursor>(prefilter: &Prefilter, input: &mut Input<C>) -> Opti
 /// needle in the prefilter's order that does there, as where it lies; `None` where there is none.
 /// The content and what is asked for stay as they are. It asks for no memory.
 ///
-/// Where there is one needle it takes time in proportion to the span's bytes and pieces.
+/// Where there is one needle it takes time in proportion to the span's bytes and pieces; where
+/// there are several, also for each needle at each place where a needle's first byte stands, and if
+/// they have more than three first bytes at each place.
 pub fn find<C: Cursor>(prefilter: &Prefilter, input: &mut Input<C>) -> Option<Span>
     ensures found { FoundInSpan prefilter.now input.old result }
     ensures same { IsSameContent input.old.cursor input.new.cursor }

@@ -2,8 +2,10 @@
 
 ghost use Rattle.std.specs.Prelude.{◌≡◌, ◌≤◌, ◌<◌, ◌↔◌, ℕ, All, IfOk, IsTrue, List, MatchOption, [], ◌∷◌, length, map};
 ghost use Rattle.rx_literals.specs.Needles.{AreNeedles, FoundAt, FoundBetween, IsNeedle};
+ghost use Rattle.rx_literals.specs.FirstBytes.{BeginAmong};
 ghost use Rattle.rx_literals.specs.Prefilters.{Searches, AreParts};
 
+use crate::first_bytes::FirstBytes;
 use memchr::arch::all::is_prefix;
 use memchr::memmem::Finder;
 use rx_util::{MatchKind, Span};
@@ -22,6 +24,8 @@ const NEEDLE_LEN: usize = 64;
 pub(crate) enum Searcher {
     /// There is one.
     One(Finder<'static>),
+    /// There may be more, which begin with few bytes.
+    First(FirstBytes),
     /// There may be more: each place is tried.
     Several,
 }
@@ -101,7 +105,10 @@ fn searcher_of(alloc: Global, needles: &[&[u8]]) -> Result<Searcher, AllocError>
     if needles.len() == 1 {
         return Ok(Searcher::One(Finder::new(needles[0]).into_owned(alloc)?));
     }
-    Ok(Searcher::Several)
+    match FirstBytes::of(needles) {
+        Some(first) => Ok(Searcher::First(first)),
+        None => Ok(Searcher::Several),
+    }
 }
 
 /// Where a needle, which mustn't be empty, lies in `hay` first.
@@ -160,6 +167,22 @@ impl Parts {
         None
     }
 
+    /// The least place of `hay` at which a needle lies, by trying those with one of the bytes that
+    /// the needles begin with.
+    fn try_first(&self, first: &FirstBytes, hay: &[u8]) -> Option<Span>
+        requires { BeginAmong first.now self.now }
+        ensures { FoundBetween hay.now self.now 0 (length hay.now) result }
+    {
+        let mut from = 0;
+        while let Some(at) = first.find_from(hay, from) {
+            if let Some(found) = self.find_at(hay, at) {
+                return Some(found);
+            }
+            from = at + 1;
+        }
+        None
+    }
+
     /// A law, for the proof alone: the needles are such as a prefilter may look for.
     fn needles_are_lawful(&self)
         ensures { AreNeedles self.now }
@@ -173,6 +196,7 @@ impl Parts {
     {
         match &self.searcher {
             Searcher::One(finder) => find_one(finder, hay),
+            Searcher::First(first) => self.try_first(first, hay),
             Searcher::Several => self.try_each(hay),
         }
     }

@@ -44,7 +44,7 @@
 //! - `moved,CUT,HAYSTACK,AT,START,END`: where a position is once a span is set.
 //! - `literal,NEEDLES,CUT,HAYSTACK,START,END`: what is found of needles, which are parted by dots,
 //!   in a span, and at its start; a dash stands for no needle.
-//! - `beginning,PATTERN,SETTINGS,CUT,HAYSTACK,START,END`: the same of the literal that the matches
+//! - `beginning,PATTERN,SETTINGS,CUT,HAYSTACK,START,END`: the same of the literals that the matches
 //!   of a pattern begin with.
 #![tactic(auto)]
 

@@ -1,6 +1,8 @@
 use Rattle.std.proofs.Common.{◌≡◌, ◌∷◌, [], ℕ, List, length, sym, subst, ◌∙◌}
 use Rattle.rx_literals.specs.declared.prefilter.Searcher.{Searcher}
 use Rattle.rx_literals.specs.declared.prefilter.Searcher.TheVariants as searcher
+use Rattle.rx_literals.specs.declared.first_bytes.FirstBytes.{FirstBytes}
+use Rattle.rx_literals.specs.FirstBytes.{BeginAmong}
 use Rattle.rx_literals.specs.Needles.{FoundBetween}
 use Rattle.rx_literals.specs.Prefilters.{Searches}
 use Rattle.rx_literals.proofs.SliceLaws.{only_needle}
@@ -16,3 +18,10 @@ pub returns-in-One : goal.returns-in-One
 returns-in-One c =
     let one : c.args.self.now ≡ c.in-One.finder ∷ [] = sym c.self.view_is ∙ one_by c.self.inside.searcher c.in-One.finder _ c.in-One.is c.self.invariant.searches in
     subst (λ needles. FoundBetween c.args.hay.now needles 0 (length c.args.hay.now) c.find_one.result) (sym one) c.find_one.ensures
+
+first_by : (s : Searcher) (first : FirstBytes) (needles : List (List ℕ)) → s ≡ searcher.First first → Searches s needles → BeginAmong first needles
+first_by s first needles is searches = subst (λ x. Searches x needles) is searches
+
+pub try_first-requires : goal.try_first-requires
+try_first-requires c =
+    subst (λ needles. BeginAmong c.in-First.first needles) c.self.view_is (first_by c.self.inside.searcher c.in-First.first _ c.in-First.is c.self.invariant.searches)

@@ -1,0 +1,95 @@
+//! The bytes that needles begin with, where there are few.
+
+ghost use Rattle.std.specs.Prelude.{◌≡◌, ◌≤◌, ℕ, All, true, length, slice_index, map, IfSome};
+ghost use Rattle.memchr.specs.Find.{IsFirst, IsFirstByte, Passes};
+ghost use Rattle.rx_literals.specs.FirstBytes.{BeginAmong, is_among};
+
+use memchr::{memchr, memchr2, memchr3};
+
+/// Letters that are common in texts.
+const COMMON: &[u8] = b" etaoinsr";
+
+/// Whether a byte is common in texts.
+pub(crate) fn is_common(byte: u8) -> bool {
+    COMMON.contains(&byte)
+}
+
+/// One byte or more with which needles begin: as many as `memchr` looks for at once.
+#[derive(Clone, Copy, Debug)]
+pub(crate) enum FirstBytes {
+    One(u8),
+    Two(u8, u8),
+    Three(u8, u8, u8),
+}
+
+impl FirstBytes {
+    /// These bytes and one more, which may be among them; `None` where they would be four.
+    fn with(self, byte: u8) -> Option<FirstBytes>
+        ensures has { IfSome result (λ more. is_among more byte ≡ true) }
+        ensures keeps { IfSome result (λ more. (x : ℕ) → is_among self x ≡ true
+            → is_among more x ≡ true) }
+    {
+        match self {
+            FirstBytes::One(a) if a == byte => Some(self),
+            FirstBytes::One(a) => Some(FirstBytes::Two(a, byte)),
+            FirstBytes::Two(a, b) if a == byte || b == byte => Some(self),
+            FirstBytes::Two(a, b) => Some(FirstBytes::Three(a, b, byte)),
+            FirstBytes::Three(a, b, c) if a == byte || b == byte || c == byte => Some(self),
+            FirstBytes::Three(_, _, _) => None,
+        }
+    }
+
+    /// The bytes that these needles begin with; `None` where there are more than three, or no
+    /// needle, or an empty one.
+    pub(crate) fn of(needles: &[&[u8]]) -> Option<FirstBytes>
+        ensures { IfSome result (λ first. BeginAmong first (map (λ needle. needle.now) needles.now)) }
+    {
+        let mut first = FirstBytes::One(*needles.first()?.first()?);
+        for needle in needles {
+            first = first.with(*needle.first()?)?;
+        }
+        Some(first)
+    }
+
+    /// Whether one of them is common in texts.
+    pub(crate) fn has_common(&self) -> bool {
+        match *self {
+            FirstBytes::One(a) => is_common(a),
+            FirstBytes::Two(a, b) => is_common(a) || is_common(b),
+            FirstBytes::Three(a, b, c) => is_common(a) || is_common(b) || is_common(c),
+        }
+    }
+
+    /// Whether more than one of them is common in texts.
+    pub(crate) fn are_common(&self) -> bool {
+        match *self {
+            FirstBytes::One(_) => false,
+            FirstBytes::Two(a, b) => is_common(a) && is_common(b),
+            FirstBytes::Three(a, b, c) => {
+                (is_common(a) && (is_common(b) || is_common(c))) || (is_common(b) && is_common(c))
+            }
+        }
+    }
+
+    /// The first place of `hay` at which one of them stands.
+    fn find(&self, hay: &[u8]) -> Option<usize>
+        ensures { IsFirstByte (is_among self.now) hay.now result }
+    {
+        match *self {
+            FirstBytes::One(a) => memchr(a, hay),
+            FirstBytes::Two(a, b) => memchr2(a, b, hay),
+            FirstBytes::Three(a, b, c) => memchr3(a, b, c, hay),
+        }
+    }
+
+    /// The first place of `hay` from one on at which one of them stands.
+    pub(crate) fn find_from(&self, hay: &[u8], from: usize) -> Option<usize>
+        requires { from ≤ length hay.now }
+        ensures { IsFirst (Passes (is_among self.now) hay.now) from (length hay.now) result }
+    {
+        match self.find(&hay[from..]) {
+            Some(further) => Some(from + further),
+            None => None,
+        }
+    }
+}
