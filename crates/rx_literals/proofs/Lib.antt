@@ -7,3 +7,5 @@ pub mod ScanLaws
 pub mod LowLaws
 pub mod SkipLaws
 pub mod WayLaws
+pub mod SpellingLaws
+pub mod LiteralLaws

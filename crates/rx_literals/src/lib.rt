@@ -2,6 +2,7 @@
 #![tactic(auto)]
 
 mod beginning;
+mod exact;
 pub mod laws;
 pub mod literal;
 mod prefilter;
