@@ -1,5 +1,5 @@
 """Needles of prefilters in contents that lie in pieces, on bin/search-driver, against a plain model; and which literal
-the matches of a pattern begin with."""
+the matches of a pattern begin with, or are."""
 import itertools
 import random
 
@@ -60,6 +60,36 @@ BEGINNINGS = [
     ("🐸" * 30, "🐸" * 16),
 ]
 
+# Patterns, and the literal that each of their matches is, if there is one: characters that stand alone, with nothing
+# besides, of at most 64 bytes.
+WHOLES = [
+    ("let", "let"),
+    ("e", "e"),
+    ("(?:)a", None),
+    ("(?:a)b", "ab"),
+    ("(?:ab)", "ab"),
+    ("[a]b", "ab"),
+    ("\\x{E9}t🐸", "ét🐸"),
+    ("a{3}b", "aaab"),
+    ("(?i)1", "1"),
+    ("(?i)a", None),
+    ("(a)", None),
+    ("a(b)", None),
+    ("^a", None),
+    ("a$", None),
+    ("a\\b", None),
+    ("a+", None),
+    ("ab?", None),
+    ("a|b", None),
+    ("[ab]", None),
+    (".", None),
+    ("", None),
+    ("a" * 64, "a" * 64),
+    ("a" * 65, None),
+    ("🐸" * 16, "🐸" * 16),
+    ("🐸" * 17, None),
+]
+
 
 def at(needles, bytes_, place):
     """What is found at a place: the first needle that lies there."""
@@ -108,19 +138,17 @@ def refused():
         yield Case(f"{len(needles)} needles", line_of("literal", told, 0, b"b".hex(), 0, 1), answer)
 
 
-def beginnings():
+def read_from(word, patterns):
     """A pattern's literal is found where it stands, and not where its last character is missing."""
-    for pattern, told in BEGINNINGS:
+    for pattern, told in patterns:
         fields = [written(pattern), *Settings().fields(), 3]
-        name = f"the beginning of {pattern[:20]!r}"
+        name = f"the {word} of {pattern[:20]!r}"
         if told is None:
-            yield Case(name, line_of("beginning", *fields, b"ab".hex(), 0, 2), "none")
+            yield Case(name, line_of(word, *fields, b"ab".hex(), 0, 2), "none")
             continue
         literal = told.encode()
         haystack = literal[:-1] + literal
-        yield Case(
-            name, line_of("beginning", *fields, haystack.hex(), 0, len(haystack)), model([literal], haystack, 0, 999)
-        )
+        yield Case(name, line_of(word, *fields, haystack.hex(), 0, len(haystack)), model([literal], haystack, 0, 999))
 
 
 def test_all():
@@ -128,10 +156,12 @@ def test_all():
         ("finds of needles in pieces and spans", found()),
         ("finds of needles at random", at_random()),
         ("lists that are no needles, or are", refused()),
-        ("patterns with what they begin with", beginnings()),
+        ("patterns with what they begin with", read_from("beginning", BEGINNINGS)),
+        ("patterns with the literal that they are", read_from("whole", WHOLES)),
     ]
     for name, cases in parts:
         cases = list(cases)
         test(f"{len(cases)} {name}", problems(cases))
     check_memory(find([b"ab", b"b"], b"aab", "1", 0, 3), [WANT])
-    check_memory(next(beginnings()), NO_MEMORY)
+    check_memory(next(read_from("beginning", BEGINNINGS)), NO_MEMORY)
+    check_memory(next(read_from("whole", WHOLES)), NO_MEMORY)

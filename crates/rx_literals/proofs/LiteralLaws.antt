@@ -1,5 +1,5 @@
 -- What a program finds whose matches are one literal.
-use Rattle.std.proofs.Common.{◌≡◌, ℕ, ◌+◌, ◌<◌, ◌≤◌, Bool, false, true, IsTrue, List, [], ◌∷◌, take, length, Option, Some, None, refl, sym, ap, subst, ◌∙◌, arith, inl, inr}
+use Rattle.std.proofs.Common.{◌≡◌, ℕ, ◌+◌, ◌<◌, ◌≤◌, Bool, true, IsTrue, List, [], ◌∷◌, take, length, Option, Some, None, refl, sym, ap, subst, ◌∙◌, arith, inl}
 use Rattle.std.proofs.lemmas.List.{length-take, get_or-take}
 use Rattle.std.proofs.lemmas.List.Elements.{All-head, All-same}
 use Rattle.memchr.specs.Find.{OccursAt}
@@ -8,12 +8,12 @@ use Rattle.rx_utf8.specs.Automata.{is_in}
 use Rattle.rx_util.specs.declared.search.Span.{Span}
 use Rattle.rx_walks.specs.Looks.{Look}
 use Rattle.rx_walks.specs.Machines.{Machine, Outcome}
-use Rattle.rx_walks.specs.Finds.{Search, Anchoring, unanchored, anchored, IsInside, IsPossible, Counts, IsFind, not_found, is_found, is_anchored}
+use Rattle.rx_walks.specs.Finds.{Search, unanchored, anchored, IsInside, IsPossible, Counts, IsFind, not_found, is_found, is_anchored}
 use Rattle.rx_walks.specs.Programs.{Program, Notes, fresh_notes}
 use Rattle.rx_walks.specs.ProgramFinds.{ProgramFinds, machine_of, highest, start_node, IfStarts}
 use Rattle.rx_literals.specs.Needles.{AreNeedles, IsNeedle, FoundAt, no_needle, this_needle, other_needle, FoundBetween, nowhere, at_least_place}
 use Rattle.rx_literals.specs.Beginnings.{FirstNeedle}
-use Rattle.rx_literals.specs.Literals.{FindsLiteral, MatchesOnly, literal_match, within, IsLiteralOf, LiesInSlice, LiteralsAreFound, LiteralsFind}
+use Rattle.rx_literals.specs.Literals.{FindsLiteral, MatchesOnly, literal_match, within, IsLiteralOf, LiesInSlice, LiteralsFind}
 use Rattle.rx_literals.proofs.SkipLaws.{occurs_in_more}
 
 -- one needle alone: what is found at a place tells whether it occurs there

@@ -1,6 +1,6 @@
 -- Walks of a program over a literal that stands alone.
-use Rattle.std.proofs.Common.{◌≡◌, ℕ, zero, suc, ◌+◌, ◌<◌, ◌≤◌, Bool, true, List, [], ◌∷◌, ◌++◌, take, drop, length, drop-drop, Option, Some, None, slice_get, refl, sym, ap, ap₂, subst, ◌∙◌, arith, length-append, append_assoc, cond, inl, inr}
-use Rattle.std.specs.Char.{IsScalar, len_utf8, encode_utf8}
+use Rattle.std.proofs.Common.{◌≡◌, ℕ, zero, suc, ◌+◌, ◌≤◌, Bool, true, List, [], ◌∷◌, ◌++◌, take, drop, length, drop-drop, Some, None, slice_get, refl, sym, ap, subst, ◌∙◌, arith, length-append, append_assoc, cond, inl}
+use Rattle.std.specs.Char.{len_utf8, encode_utf8}
 use Rattle.std.proofs.lemmas.Bool.{cases_eq}
 use Rattle.std.proofs.lemmas.Bool.Decides.{nat_tests}
 use Rattle.std.proofs.lemmas.List.{length-take}
@@ -10,21 +10,20 @@ use Rattle.memchr.specs.Find.{OccursAt}
 use Rattle.memchr.proofs.lemmas.MatchLemmas.{OccursAt-split, OccursAt-from_part}
 use Rattle.rx_sets.specs.Sets.{Range}
 use Rattle.rx_utf8.specs.Automata.{is_in}
-use Rattle.rx_util.specs.declared.search.Span.{Span}
 use Rattle.rx_walks.specs.Looks.{Look}
 use Rattle.rx_walks.specs.Characters.{len_if, first_character}
-use Rattle.rx_walks.specs.Machines.{Machine, Move, Outcome, goes, reads, ends}
+use Rattle.rx_walks.specs.Machines.{Machine, Outcome, goes, reads, ends}
 use Rattle.rx_walks.specs.Paths.{Path, at_end, by_edge, by_read}
 use Rattle.rx_walks.specs.Walks.{Walk, ended, went, took, IsLeast, Reaches}
 use Rattle.rx_walks.specs.Finds.{Search, IsInside}
-use Rattle.rx_walks.specs.Programs.{Node, match, note, set, Program, Haystack, Notes, fresh_notes, put_note, note_at, only_if, is_within, by_character, left_from, read_up_to}
+use Rattle.rx_walks.specs.Programs.{match, note, set, Program, Haystack, Notes, fresh_notes, put_note, note_at, only_if, is_within, by_character, left_from, read_up_to}
 use Rattle.rx_walks.specs.ProgramFinds.{first_by, haystack_of, holds_in, highest, lowest, machine_of}
 use Rattle.rx_walks.proofs.CharacterLaws.{member_stands, stands_first}
 use Rattle.rx_walks.proofs.PathLaws.{path_has_walk}
 use Rattle.rx_program.proofs.NoteLaws.{only_edge, read_not_ends, read_not_goes, ends_by, goes_by, reads_by, same_edges}
 use Rattle.rx_literals.specs.Literals.{IsLiteralOf, MatchesOnly, literal_match}
 use Rattle.rx_literals.specs.Spellings.{IsOnlyMember, ReadsOnly, GoesOver, Spells, NotesEnd}
-use Rattle.rx_literals.proofs.WayLaws.{occurs_longer, read_takes, leads_first}
+use Rattle.rx_literals.proofs.WayLaws.{occurs_longer, read_takes}
 
 only_first : (r c to : ℕ) → slice_get (r ∷ []) c ≡ Some to → c ≡ 0
 only_first r zero to e = refl

@@ -1,5 +1,5 @@
 -- Programs whose matches are one literal, and what that tells of a search.
-use Rattle.std.specs.Prelude.{◌≡◌, ℕ, ◌+◌, ◌<◌, ◌≤◌, ◌↔◌, Bool, List, [], ◌∷◌, length, take, Option, Some, None}
+use Rattle.std.specs.Prelude.{◌≡◌, ℕ, ◌+◌, ◌<◌, ◌≤◌, ◌↔◌, Bool, List, [], ◌∷◌, length, take, Some, None}
 use Rattle.memchr.specs.Find.{OccursAt}
 use Rattle.rx_sets.specs.Sets.{Range}
 use Rattle.rx_utf8.specs.Automata.{is_in}

@@ -34,8 +34,8 @@ pub record GoesOver (is_word : ℕ → Bool) (p : Program Look (List Range)) (s 
   pub walk : Walk (machine_of is_in is_word p s) seen (record { start = i; noted = (0, i) ∷ [] }) q
       (i + length literal) others t
 
--- each walk from the start node, at a place of a search, goes so; and each path from the node, behind
--- the literal, is the rest of one from the start node
+-- each walk from the start node, at a place of a search, goes so; and each path from the node,
+-- behind the literal, is the rest of one from the start node
 pub record Spells (p : Program Look (List Range)) (literal : List ℕ) (q : ℕ) : Type 0 where
   pub onward : (is_word : ℕ → Bool) (s : Search) (i : ℕ) (choices : List ℕ) (t : Outcome Notes)
       → IsInside s i

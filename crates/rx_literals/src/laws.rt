@@ -15,9 +15,9 @@ pub fn matches_come_behind()
     ensures { MatchesComeBehind }
 {}
 
-/// Where a program's matches are one literal, it finds that literal's match where the literal occurs
-/// first in a search's span, or at the span's start if the search is anchored, as long as it lies in
-/// the slice; and nothing where it doesn't occur.
+/// Where a program's matches are one literal, it finds that literal's match where the literal
+/// occurs first in a search's span, or at the span's start if the search is anchored, as long as it
+/// lies in the slice; and nothing where it doesn't occur.
 pub fn literals_find()
     ensures { LiteralsFind }
 {}
