@@ -22,7 +22,7 @@ from test_searches import SECOND, asked_at_random, listed
 from walks import Search, spelled
 
 SIZES = (0, 1, 2, 3)  # how many bytes a piece has; 0: all are one piece
-RANDOM_CASES, IN_ONE_RUN = 20_000, 500
+RANDOM_CASES, LITERAL_CASES, IN_ONE_RUN = 20_000, 2_000, 500
 CAPACITIES = (0, 700, None)  # of caches, in bytes; none: as it is by default
 
 # An automaton all of whose states are made before may have so many of these that it takes long to make.
@@ -156,6 +156,37 @@ def at_random(count=RANDOM_CASES):
         yield Wanted(spelled(tree), haystack, matches, *how, is_dense)
 
 
+def literal_matches(literal, haystack, slice_, span, anchored):
+    """Where a literal lies in a slice and a span, one match after the other; each begins where the search for it does, if
+    that is anchored."""
+    high, place = min(slice_[1], span[1], len(haystack)), span[0]
+    while True:
+        found = haystack.find(literal, max(place, slice_[0]), high) if place <= high else -1
+        if found < 0 or (anchored and found != place):
+            return
+        place = found + len(literal)
+        yield [(found, place)]
+
+
+def literals(count=LITERAL_CASES):
+    """Searches for patterns that are one literal, or nearly so, in haystacks that it nearly fills, with characters that
+    are cut: a regex answers them by the literal alone."""
+    chance = random.Random(38)
+    parts = [b"a", b"b", "é".encode(), b"\xc3", "🐸".encode()]
+    for _ in range(count):
+        text = "".join(chance.choices("abé🐸", k=chance.randint(1, 4)))
+        literal = text.encode()
+        likely = [literal, literal[:-1], *parts]
+        haystack = b"".join(chance.choice(likely) for _ in range(chance.randint(0, 6)))
+        asked = chance.choice([None, asked_at_random(chance, len(haystack))])
+        everything = (0, len(haystack)), (0, len(haystack)), False
+        matches = list(literal_matches(literal, haystack, *(asked or everything)))
+        if asked and asked[2] and chance.random() < 0.2:
+            matches, asked = [], (*asked[:2], SECOND)
+        pattern = chance.choice([text, text, f"(?:{text})", "".join(f"[{letter}]" for letter in text)])
+        yield Wanted(pattern, haystack, matches, chance.choice((0, 1, 2, 3, 5)), asked, chance.choice((0, 2)))
+
+
 # Patterns, haystacks and what is answered with a cache that has room for two states: each letter leads to another one,
 # and so does the end, and when they would be taken out for the fourth time it gives up.
 IN_LITTLE_ROOM = [
@@ -198,8 +229,8 @@ def in_long_contents():
 
 
 def test_all():
-    wrong, how = compared(itertools.chain(table(), at_random()))
-    test(f"searches of the table, and {RANDOM_CASES} at random, by each engine: {how}", wrong)
+    wrong, how = compared(itertools.chain(table(), at_random(), literals()))
+    test(f"searches of the table, {RANDOM_CASES} at random, {LITERAL_CASES} for literals, by each engine: {how}", wrong)
     told = [automaton("lazy", *told, capacity=0, answer=answer) for *told, answer in IN_LITTLE_ROOM]
     test(f"{len(told)} searches with a cache that has room for two states", problems(told))
     if library() is not None:

@@ -1,5 +1,5 @@
 """Needles of prefilters in contents that lie in pieces, on bin/search-driver, against a plain model; which literals the
-matches of a pattern begin with; and what the engines find of such patterns, against Python's regular expressions."""
+matches of a pattern begin with, or are; and what the engines find of such patterns, against Python's regular expressions."""
 import itertools
 import random
 import re
@@ -99,6 +99,36 @@ BEGINNINGS = [
 # Words of patterns at random. All of them begin with few bytes.
 WORDS = ["x", "xy", "foo", "fob", "bar", "yb", "é", "éa", "[xy]b", "f[a-c]", "f[^f]", "x?b", "b*y", "(?i:fo)", "(?i:é)x"]
 
+# Patterns, and the one literal that each of their matches is, if there is one: characters that stand alone, with nothing
+# besides, of at most 64 bytes.
+WHOLES = [
+    ("let", ["let"]),
+    ("e", ["e"]),
+    ("(?:)a", []),
+    ("(?:a)b", ["ab"]),
+    ("(?:ab)", ["ab"]),
+    ("[a]b", ["ab"]),
+    ("\\x{E9}t🐸", ["ét🐸"]),
+    ("a{3}b", ["aaab"]),
+    ("(?i)1", ["1"]),
+    ("(?i)a", []),
+    ("(a)", []),
+    ("a(b)", []),
+    ("^a", []),
+    ("a$", []),
+    ("a\\b", []),
+    ("a+", []),
+    ("ab?", []),
+    ("a|b", []),
+    ("[ab]", []),
+    (".", []),
+    ("", []),
+    ("a" * 64, ["a" * 64]),
+    ("a" * 65, []),
+    ("🐸" * 16, ["🐸" * 16]),
+    ("🐸" * 17, []),
+]
+
 
 def at(needles, bytes_, place):
     """What is found at a place: the first needle that lies there."""
@@ -147,18 +177,18 @@ def refused():
         yield Case(f"{len(needles)} needles", line_of("literal", told, 0, b"b".hex(), 0, 1), answer)
 
 
-def beginnings():
+def read_from(word, patterns):
     """Each of a pattern's literals is found where it stands, and not where its last character is missing."""
-    for pattern, told in BEGINNINGS:
+    for pattern, told in patterns:
         fields = [written(pattern), *Settings().fields(), 3]
-        name = f"the beginning of {pattern[:20]!r}"
+        name = f"the {word} of {pattern[:20]!r}"
         if not told:
-            yield Case(name, line_of("beginning", *fields, b"ab".hex(), 0, 2), "none")
+            yield Case(name, line_of(word, *fields, b"ab".hex(), 0, 2), "none")
         literals = [literal.encode() for literal in told]
         for literal in literals:
             haystack = literal[:-1] + literal + b"a"
             answer = model(literals, haystack, 0, 999)
-            yield Case(name, line_of("beginning", *fields, haystack.hex(), 0, len(haystack)), answer)
+            yield Case(name, line_of(word, *fields, haystack.hex(), 0, len(haystack)), answer)
 
 
 def searches_at_random():
@@ -179,7 +209,8 @@ def test_all():
         ("finds of needles in pieces and spans", found()),
         ("finds of needles at random", at_random()),
         ("lists that are no needles, or are", refused()),
-        ("patterns with what they begin with", beginnings()),
+        ("patterns with what they begin with", read_from("beginning", BEGINNINGS)),
+        ("patterns with the literal that they are", read_from("whole", WHOLES)),
     ]
     for name, cases in parts:
         cases = list(cases)
@@ -188,4 +219,5 @@ def test_all():
     test(f"searches for what begins with literals: {told}", wrong)
     check_memory(find([b"ab", b"b"], b"aab", "1", 0, 3), [WANT])
     for pattern in ("let", "(?i)xb", "foo|bar|baz"):
-        check_memory(next(case for case in beginnings() if repr(pattern) in case.name), NO_MEMORY)
+        check_memory(next(case for case in read_from("beginning", BEGINNINGS) if repr(pattern) in case.name), NO_MEMORY)
+    check_memory(next(read_from("whole", WHOLES)), NO_MEMORY)

@@ -1,5 +1,5 @@
 -- What a prefilter tells of where a match may begin.
-use Rattle.std.proofs.Common.{◌≡◌, ℕ, ◌<◌, ◌≤◌, Bool, false, List, Option, Some, None, refl, sym, ap₂, subst, arith}
+use Rattle.std.proofs.Common.{◌≡◌, ℕ, ◌≤◌, Bool, false, List, Option, Some, None, refl, ap₂, subst, arith}
 use Rattle.unicode.specs.Perl.{is_word_char}
 use Rattle.rx_util.specs.declared.search.Anchored.{Anchored}
 use Rattle.rx_util.specs.declared.search.Anchored.TheVariants.{No, Yes, Pattern}
@@ -10,13 +10,12 @@ use Rattle.rx_input.specs.Inputs.{Asked, InputState, HasSpan}
 use Rattle.rx_walks.specs.Finds.{Search, unanchored, from_place_on}
 use Rattle.rx_steps.specs.Searching.{anchoring_of, search_of}
 use Rattle.rx_program.specs.Programs.{ByteProgram, characters_of}
-use Rattle.rx_chunk.specs.Engines.{Finds}
+use Rattle.rx_chunk.specs.Engines.{Engine, Finds}
 use Rattle.rx_literals.specs.Needles.{AreNeedles, FoundAt, FoundBetween, nowhere, at_least_place}
 use Rattle.rx_literals.specs.Beginnings.{BeginsWith, FirstNeedle, MatchesComeBehind, NoNeedleNoMatch}
 use Rattle.rx_literals.proofs.NeedleLaws.{found_start}
-use Rattle.regex_cursor.specs.declared.engines.meta.strategy.Left.{Left}
-use Rattle.regex_cursor.specs.declared.engines.meta.strategy.Left.TheVariants.{Nothing, UpTo, All}
-use Rattle.regex_cursor.specs.Strategies.{BeginsFrom, IsLeft}
+use Rattle.regex_cursor.specs.declared.engines.meta.left.Start.{Start}
+use Rattle.regex_cursor.specs.Strategies.{BeginsFrom, IsStart}
 
 pub is_free : (a : Anchored) → is_anchored a ≡ false → anchoring_of a ≡ unanchored
 is_free No e = refl
@@ -39,12 +38,6 @@ module _ (p : ByteProgram) (needles : List (List ℕ)) (s : Search) (begins : Be
   pub begins_nowhere : AreNeedles needles → NoNeedleNoMatch → FirstNeedle needles s None → Finds p s None
   begins_nowhere are law first = law needles (characters_of p) is_word_char s are begins free first
 
--- what is left from there on is left of all
-pub left_from : (p : ByteProgram) (s : Search) (place : ℕ) (left : Left) → BeginsFrom p s place → IsLeft p (from_place_on s place) left → IsLeft p s left
-left_from p s place Nothing begins left = begins.finds None left
-left_from p s place (UpTo end) begins left = record { found = left.found; finds = begins.finds (Some left.found) left.finds; end_is = left.end_is }
-left_from p s place All begins left = tt
-
 abbrev search_by : Bool → List ℕ → Asked → Search
 search_by utf8_empty content asked = record {
   content = content;
@@ -62,3 +55,7 @@ start_search utf8_empty i k place has = ap₂ (search_by utf8_empty) has.same.co
 
 pub same_search : (utf8_empty : Bool) (i j : InputState) → IsSameContent i.cursor j.cursor → j.asked ≡ i.asked → search_of utf8_empty j ≡ search_of utf8_empty i
 same_search utf8_empty i j same asked = ap₂ (search_by utf8_empty) same.content asked
+
+-- of a cache's engines it is told where the match may begin of its regex
+pub start_of : (vm re : Engine) (i : InputState) (start : Start) → vm ≡ re → IsStart vm.program (search_of vm.utf8_empty i) start → IsStart re.program (search_of re.utf8_empty i) start
+start_of vm re i start same told = subst (λ (e : Engine). IsStart e.program (search_of e.utf8_empty i) start) same told

@@ -1,35 +1,39 @@
--- What is found in a span that is cut at the end of the match is what is found in the whole one.
-use Rattle.std.proofs.Common.{◌≡◌, ℕ, ◌≤◌, Bool, false, List, length, replicate, Option, Some, None, is_some, refl, sym, ap, ap₂, subst, ◌∙◌, arith}
-use Rattle.std.proofs.lemmas.Option.{same_Some}
+-- What is found in a part of a search's span, and what that tells of the span.
+use Rattle.std.proofs.Common.{◌≡◌, ℕ, zero, suc, ◌+◌, ◌<◌, ◌≤◌, ◌^◌, Bool, false, true, IsTrue, List, [], ◌∷◌, length, replicate, Option, Some, None, SomeIff, is_some, cond, set, refl, sym, ap, ap₂, subst, ◌∙◌, arith, inl, inr}
+use Rattle.std.proofs.lemmas.Bool.{cases_lt, ne_eqb}
 use Rattle.std.proofs.lemmas.List.{length-replicate}
 use Rattle.unicode.specs.Perl.{is_word_char}
 use Rattle.rx_sets.specs.Sets.{Range}
 use Rattle.rx_utf8.specs.Automata.{is_in}
+use Rattle.rx_util.specs.declared.search.Span.{Span}
 use Rattle.rx_util.specs.Captured.{Captured, nothing_noted}
 use Rattle.rx_util.specs.Groups.{Groups}
 use Rattle.rx_util.specs.Search.{Found}
-use Rattle.rx_input.specs.Cursors.{IsSameContent}
-use Rattle.rx_input.specs.Inputs.{Asked, InputState, HasSpan}
+use Rattle.rx_input.specs.Cursors.{CursorState, IsLawful, IsSameContent}
+use Rattle.rx_input.specs.Inputs.{Asked, InputState, IsSpan}
 use Rattle.rx_input.specs.Searchers.{EndsInside}
 use Rattle.rx_walks.specs.Looks as walks
-use Rattle.rx_walks.specs.Machines.{Outcome}
-use Rattle.rx_walks.specs.Programs.{Program, Notes}
-use Rattle.rx_walks.specs.Finds.{Search, IsInside, up_to_place}
-use Rattle.rx_walks.specs.ProgramFinds.{end_of}
-use Rattle.rx_walks.specs.Iterating.{nothing, at_once, passed}
-use Rattle.rx_walks.specs.Laws.{FindsAtMostOne, FindsLieInside, FindsStayInCutSpans}
+use Rattle.rx_walks.specs.Programs.{Program, Notes, slot_of}
+use Rattle.rx_walks.specs.Finds.{Search}
+use Rattle.rx_walks.specs.Iterating.{nothing}
+use Rattle.rx_walks.specs.Laws.{FindsAtMostOne, FindsExist, FindsLieInside, FindsStayInCutSpans}
 use Rattle.rx_program.specs.Programs.{ByteProgram, characters_of}
 use Rattle.rx_steps.specs.Threads.{Slots}
-use Rattle.rx_steps.specs.Searching.{IsAnswer, anchoring_of, search_of}
+use Rattle.rx_steps.specs.Searching.{IsAnswer, anchoring_of, answer_slots, search_of, slots_from}
+use Rattle.rx_literals.specs.Literals.{FindsLiteral, literal_match, within}
 use Rattle.rx_chunk.specs.Engines.{Engine, Finds, IsFound, TellsMatch, TellsSlots, TellsWhether}
 use Rattle.rx_chunk.specs.Searches.{TellsWhole}
-use Rattle.rx_chunk.specs.Iterating.{ComesNext, EndsAhead, HasNotedNext, IsFoundNext}
-use Rattle.regex_cursor.specs.declared.engines.meta.strategy.Left.{Left}
-use Rattle.regex_cursor.specs.Strategies.{FindsUpTo, IsLeft}
+use Rattle.rx_chunk.specs.Iterating.{EndsAhead, HasNotedNext, IsFoundNext, is_last_end}
+use Rattle.regex_cursor.specs.declared.engines.meta.left.Left.{Left}
+use Rattle.regex_cursor.specs.declared.engines.meta.left.Part.{Part}
+use Rattle.regex_cursor.specs.Strategies.{HoldsFind, HoldsNext, IsLeft, IsPart, IsPartLeft}
 
 -- the laws of rx_walks, as calls of them tell them
 abbrev pub OneLaw : Type 0
 OneLaw = (member : List Range → ℕ → Bool) (is_word : ℕ → Bool) (c : Program walks.Look (List Range)) → FindsAtMostOne member is_word c
+
+abbrev pub ExistLaw : Type 0
+ExistLaw = (member : List Range → ℕ → Bool) (is_word : ℕ → Bool) (c : Program walks.Look (List Range)) → FindsExist member is_word c
 
 abbrev pub InsideLaw : Type 0
 InsideLaw = (member : List Range → ℕ → Bool) (is_word : ℕ → Bool) (c : Program walks.Look (List Range)) → FindsLieInside member is_word c
@@ -50,77 +54,78 @@ search_by utf8_empty content asked = record {
   utf8_empty = utf8_empty;
 }
 
-abbrev cut_to : ℕ → Asked → Asked
-cut_to end a = record a { span = record a.span { end = end } }
+abbrev cut_to : Span → Asked → Asked
+cut_to span a = record a { span = span }
 
 -- an input of which the same was asked as of another one, and whose span is cut
-pub cut_asked : (i j k : InputState) (end : ℕ) → j.asked ≡ i.asked → HasSpan j k (record j.asked.span { end = end }) → k.asked ≡ record i.asked { span = record i.asked.span { end = end } }
-cut_asked i j k end asked has = has.asked_is ∙ ap (cut_to end) asked
+pub cut_asked : (i j k : InputState) (span : Span) → j.asked ≡ i.asked → k.asked ≡ record j.asked { span = span } → k.asked ≡ record i.asked { span = span }
+cut_asked i j k span asked cut = cut ∙ ap (cut_to span) asked
 
-pub cut_search : (utf8_empty : Bool) (i j k : InputState) (end : ℕ) → IsSameContent i.cursor j.cursor → j.asked ≡ i.asked → HasSpan j k (record j.asked.span { end = end })
-    → search_of utf8_empty k ≡ up_to_place (search_of utf8_empty i) end
-cut_search utf8_empty i j k end same asked has = ap₂ (search_by utf8_empty) (has.same.content ∙ same.content) (cut_asked i j k end asked has)
+pub cut_search : (utf8_empty : Bool) (i j k : InputState) (span : Span) → IsSameContent i.cursor j.cursor → j.asked ≡ i.asked → IsSameContent j.cursor k.cursor → k.asked ≡ record j.asked { span = span }
+    → search_of utf8_empty k ≡ within (search_of utf8_empty i) span
+cut_search utf8_empty i j k span same asked same' cut = ap₂ (search_by utf8_empty) (same'.content ∙ same.content) (cut_asked i j k span asked cut)
 
 -- what ends in the cut span ends in the whole one
-pub whole_inside : (i k : InputState) (end at : ℕ) → k.asked ≡ record i.asked { span = record i.asked.span { end = end } } → end ≤ i.asked.span.end → EndsInside k at → EndsInside i at
-whole_inside i k end at asked near ends = record {
-  behind_start = omega (arith, ap (λ (a : Asked). a.span.start) asked, ends.behind_start);
-  before_end = omega (arith, ap (λ (a : Asked). a.span.end) asked, ends.before_end, near);
+pub whole_inside : (i k : InputState) (span : Span) (at : ℕ) → k.asked ≡ record i.asked { span = span } → i.asked.span.start ≤ span.start → span.end ≤ i.asked.span.end → EndsInside k at → EndsInside i at
+whole_inside i k span at asked from to ends = record {
+  behind_start = omega (arith, ap (λ (a : Asked). a.span.start) asked, ends.behind_start, from);
+  before_end = omega (arith, ap (λ (a : Asked). a.span.end) asked, ends.before_end, to);
   fits = ends.fits;
 }
 
--- the end of the match lies in the span
-pub up_to_inside : (p : ByteProgram) (s : Search) (end : ℕ) → InsideLaw → FindsUpTo p s end → IsInside s end
-up_to_inside p s end inside up = subst (λ e. IsInside s e) up.end_is (inside is_in is_word_char (characters_of p) s up.found up.finds).found.inside
+-- the span of which a part was searched
+pub whole_is_span : (p : ByteProgram) (utf8_empty : Bool) (i j : InputState) (part whole : Span) → HoldsFind p (search_of utf8_empty i) part → j.asked ≡ i.asked → whole ≡ j.asked.span → IsSpan whole
+whole_is_span p utf8_empty i j part whole holds asked is =
+    let same : whole ≡ i.asked.span = is ∙ ap (λ (a : Asked). a.span) asked in
+    omega (arith, ap (λ (x : Span). x.start) same, ap (λ (x : Span). x.end) same, holds.behind, holds.ordered, holds.before)
 
 -- ---- what is found
 
-module _ (p : ByteProgram) (s : Search) (end : ℕ) (cut : CutLaw) (one : OneLaw) (up : FindsUpTo p s end) where
-  there : Finds p (up_to_place s end) (Some up.found)
-  there = subst (λ e. Finds p (up_to_place s e) (Some up.found)) up.end_is (cut is_in is_word_char (characters_of p) s up.found up.finds)
+module _ (p : ByteProgram) (s : Search) (part : Span) (holds : HoldsFind p s part) where
+  pub whole_answer : (pattern : Option ℕ) (slots : Slots) → IsAnswer p (within s part) pattern slots → IsAnswer p s pattern slots
+  whole_answer pattern slots answer = record { found = answer.found; finds = holds.finds answer.found answer.finds; pattern_is = answer.pattern_is; slots_are = answer.slots_are }
 
-  same_out : (out : Option (Outcome Notes)) → Finds p (up_to_place s end) out → out ≡ Some up.found
-  same_out out finds = one is_in is_word_char (characters_of p) (up_to_place s end) out (Some up.found) finds there
+  pub whole_found : (found : Option Found) → IsFound p (within s part) found → IsFound p s found
+  whole_found found is = (is.0, holds.finds is.0 is.1, is.2)
 
-  pub whole_find : (out : Option (Outcome Notes)) → Finds p (up_to_place s end) out → Finds p s out
-  whole_find out finds = subst (λ o. Finds p s o) (sym (same_out out finds)) up.finds
+  pub whole_whether : (is_there : Bool) → TellsWhether p (within s part) is_there → TellsWhether p s is_there
+  whole_whether is_there told = (told.0, holds.finds told.0 told.1, told.2)
 
-  pub whole_answer : (pattern : Option ℕ) (slots : Slots) → IsAnswer p (up_to_place s end) pattern slots → IsAnswer p s pattern slots
-  whole_answer pattern slots answer = record { found = answer.found; finds = whole_find answer.found answer.finds; pattern_is = answer.pattern_is; slots_are = answer.slots_are }
-
-  pub whole_found : (found : Option Found) → IsFound p (up_to_place s end) found → IsFound p s found
-  whole_found found is = (is.0, whole_find is.0 is.1, is.2)
-
-  -- of an input whose span is cut there it is told what is told of the whole one
-  whole_whether : (is_there : Bool) → TellsWhether p (up_to_place s end) is_there → TellsWhether p s is_there
-  whole_whether is_there told = (told.0, whole_find told.0 told.1, told.2)
-
-  pub whole_match : (utf8_empty : Bool) (i k : InputState) (found : Option Found) → k.asked ≡ record i.asked { span = record i.asked.span { end = end } }
-      → search_of utf8_empty k ≡ up_to_place s end → TellsMatch k.asked.earliest p (search_of utf8_empty k) found → TellsMatch i.asked.earliest p s found
+  -- of an input whose span is cut to the part it is told what is told of the whole one
+  pub whole_match : (utf8_empty : Bool) (i k : InputState) (found : Option Found) → k.asked ≡ record i.asked { span = part }
+      → search_of utf8_empty k ≡ within s part → TellsMatch k.asked.earliest p (search_of utf8_empty k) found → TellsMatch i.asked.earliest p s found
   whole_match utf8_empty i k found asked search tells =
-      let told : TellsMatch i.asked.earliest p (up_to_place s end) found = subst (λ x. TellsMatch i.asked.earliest p x found) search (subst (λ (a : Asked). TellsMatch a.earliest p (search_of utf8_empty k) found) asked tells) in
+      let told : TellsMatch i.asked.earliest p (within s part) found = subst (λ x. TellsMatch i.asked.earliest p x found) search (subst (λ (a : Asked). TellsMatch a.earliest p (search_of utf8_empty k) found) asked tells) in
       record { whether = whole_whether (is_some found) told.whether; exact = λ e. whole_found found (told.exact e) }
 
-  pub whole_slots : (utf8_empty : Bool) (i k : InputState) (pattern : Option ℕ) (slots : Slots) → k.asked ≡ record i.asked { span = record i.asked.span { end = end } }
-      → search_of utf8_empty k ≡ up_to_place s end → TellsSlots k.asked.earliest p (search_of utf8_empty k) pattern slots → TellsSlots i.asked.earliest p s pattern slots
+  pub whole_slots : (utf8_empty : Bool) (i k : InputState) (pattern : Option ℕ) (slots : Slots) → k.asked ≡ record i.asked { span = part }
+      → search_of utf8_empty k ≡ within s part → TellsSlots k.asked.earliest p (search_of utf8_empty k) pattern slots → TellsSlots i.asked.earliest p s pattern slots
   whole_slots utf8_empty i k pattern slots asked search tells =
-      let told : TellsSlots i.asked.earliest p (up_to_place s end) pattern slots = subst (λ x. TellsSlots i.asked.earliest p x pattern slots) search (subst (λ (a : Asked). TellsSlots a.earliest p (search_of utf8_empty k) pattern slots) asked tells) in
+      let told : TellsSlots i.asked.earliest p (within s part) pattern slots = subst (λ x. TellsSlots i.asked.earliest p x pattern slots) search (subst (λ (a : Asked). TellsSlots a.earliest p (search_of utf8_empty k) pattern slots) asked tells) in
       record { whether = whole_whether (is_some pattern) told.whether; exact = λ e. whole_answer pattern slots (told.exact e) }
 
-  -- what comes next, where the last match didn't end there
-  module _ (last : Option ℕ) (apart : last ≡ Some end → ⊥) where
-    whole_next : {out : Option (Outcome Notes)} → ComesNext p (up_to_place s end) last out → ComesNext p s last out
-    whole_next (nothing finds) = nothing (whole_find None finds)
-    whole_next (at_once {t = t} finds not) = at_once (whole_find (Some t) finds) not
-    whole_next (passed {t = t} finds empty further) =
-        let same : t ≡ up.found = same_Some t up.found (same_out (Some t) finds) in
-        absurd (apart (empty.1 ∙ ap (λ e. Some e) (ap (λ (x : Outcome Notes). end_of x) same ∙ up.end_is)))
+  -- where it ends
+  pub whole_ahead : (last : Option ℕ) (at : ℕ) → EndsAhead last (within s part) at → EndsAhead last s at
+  whole_ahead last at ahead = record {
+    on = omega (arith, ahead.on, holds.behind);
+    further = λ told. elim (cases_lt s.start part.start) [
+      | inl below ↦ omega (arith, below, ahead.on)
+      | inr above ↦
+          let same : s.start ≡ part.start = omega (arith, above, holds.behind) in
+          let far = ahead.further (subst (λ x. is_last_end last x ≡ true) same told) in
+          omega (arith, same, far)
+    ];
+    in_span = omega (arith, ahead.in_span, holds.before);
+    in_content = ahead.in_content;
+  }
 
-    pub whole_found_next : (found : Option Found) → IsFoundNext p (up_to_place s end) last found → IsFoundNext p s last found
-    whole_found_next found is = (is.0, whole_next is.1, is.2)
+-- ---- what comes next
 
-    pub whole_noted_next : (caps : Captured) → HasNotedNext p (up_to_place s end) last caps → HasNotedNext p s last caps
-    whole_noted_next caps noted = record { out = noted.out; comes = whole_next noted.comes; noted = noted.noted; match_is = noted.match_is }
+pub whole_found_next : (p : ByteProgram) (s : Search) (last : Option ℕ) (part : Span) → HoldsNext p s last part → (found : Option Found) → IsFoundNext p (within s part) last found → IsFoundNext p s last found
+whole_found_next p s last part next found is = (is.0, next.comes is.0 is.1, is.2)
+
+pub whole_noted_next : (p : ByteProgram) (s : Search) (last : Option ℕ) (part : Span) → HoldsNext p s last part → (caps : Captured) → HasNotedNext p (within s part) last caps → HasNotedNext p s last caps
+whole_noted_next p s last part next caps noted = record { out = noted.out; comes = next.comes noted.out noted.comes; noted = noted.noted; match_is = noted.match_is }
 
 -- nothing comes next
 pub nothing_comes : (p : ByteProgram) (s : Search) (last : Option ℕ) (caps : Captured) (groups : Groups) (n : ℕ) → Finds p s None → caps ≡ nothing_noted groups n → HasNotedNext p s last caps
@@ -132,23 +137,17 @@ nothing_comes p s last caps groups n finds is =
       match_is = refl;
     })
 
--- where it ends
-pub whole_ahead : (p : ByteProgram) (s : Search) (end : ℕ) (last : Option ℕ) (at : ℕ) → InsideLaw → FindsUpTo p s end → EndsAhead last (up_to_place s end) at → EndsAhead last s at
-whole_ahead p s end last at inside up ahead = record {
-  on = ahead.on;
-  further = ahead.further;
-  in_span = omega (arith, ahead.in_span, (up_to_inside p s end inside up).3);
-  in_content = ahead.in_content;
-}
+-- ---- what is told
 
--- ---- what the automaton tells
+-- of a cache that was made for a regex it is told what is left of a search for that
+pub left_of : (re made_for : Engine) (i : InputState) (left : Left) → made_for ≡ re → IsLeft made_for.program (search_of made_for.utf8_empty i) left → IsLeft re.program (search_of re.utf8_empty i) left
+left_of re made_for i left made told = subst (λ (e : Engine). IsLeft e.program (search_of e.utf8_empty i) left) made told
 
--- of a cache that was made for a regex the automaton told what is left of a search for that
-pub told_of : (re made_for : Engine) (i : InputState) (left : Left) → made_for ≡ re → IsLeft made_for.program (search_of made_for.utf8_empty i) left → IsLeft re.program (search_of re.utf8_empty i) left
-told_of re made_for i left made told = subst (λ (e : Engine). IsLeft e.program (search_of e.utf8_empty i) left) made told
+pub part_of : (re made_for : Engine) (i : InputState) (part : Option Part) → made_for ≡ re → IsPartLeft made_for.program (search_of made_for.utf8_empty i) part → IsPartLeft re.program (search_of re.utf8_empty i) part
+part_of re made_for i part made told = subst (λ (e : Engine). IsPartLeft e.program (search_of e.utf8_empty i) part) made told
 
 -- nothing is found
-none_there : (p : ByteProgram) (s : Search) → Finds p s None → TellsWhether p s false
+pub none_there : (p : ByteProgram) (s : Search) → Finds p s None → TellsWhether p s false
 none_there p s finds = (None, finds, (λ e. e, λ e. e))
 
 pub no_match_told : (p : ByteProgram) (s : Search) (earliest : Bool) → Finds p s None → TellsMatch earliest p s None
@@ -167,3 +166,74 @@ nothing_whole e i caps groups n finds is =
       ordered = λ span some. absurd (cc some);
       inside = λ found some. absurd (cc some);
     })
+
+-- there is a match in a part
+pub match_there : (p : ByteProgram) (s : Search) (part : Part) → IsPart p s part → IsTrue part.has_match → TellsWhether p s true
+match_there p s part is has = let up = is.match has in (Some up.found, is.holds.finds (Some up.found) up.finds, (λ e. e, λ e. e))
+
+-- ---- a literal
+
+pub literal_there : (p : ByteProgram) (s : Search) (span : Span) → FindsLiteral (characters_of p) is_word_char s span → TellsWhether p s true
+literal_there p s span literal = (Some (literal_match span), literal.finds, (λ e. e, λ e. e))
+
+pub literal_told : (p : ByteProgram) (s : Search) (earliest : Bool) (span : Span) (found : Found) → found.pattern ≡ 0 → found.span ≡ span → FindsLiteral (characters_of p) is_word_char s span → TellsMatch earliest p s (Some found)
+literal_told p s earliest span found pattern at literal = record {
+  whether = literal_there p s span literal;
+  exact = λ e. (Some (literal_match span), literal.finds, ap₂ (λ k (x : Span). Some (record { pattern = k; span = x })) pattern at);
+}
+
+slots_length : (first n : ℕ) (notes : Notes) → length (slots_from first n notes) ≡ n
+slots_length first zero notes = refl
+slots_length first (suc n) notes = ap suc (slots_length (suc first) n notes)
+
+pub literal_slots_told : (p : ByteProgram) (s : Search) (earliest : Bool) (span : Span) (slots : Slots) (n : ℕ) → slots ≡ answer_slots n (Some (literal_match span)) → FindsLiteral (characters_of p) is_word_char s span
+    → TellsSlots earliest p s (Some 0) slots
+literal_slots_told p s earliest span slots n is literal =
+    let len : length slots ≡ n = ap (λ xs. length xs) is ∙ slots_length 0 n (literal_match span).notes in
+    record {
+      whether = literal_there p s span literal;
+      exact = λ e. record { found = Some (literal_match span); finds = literal.finds; pattern_is = refl; slots_are = is ∙ ap (λ k. answer_slots k (Some (literal_match span))) (sym len) };
+    }
+
+-- its places fit slots
+pub literal_fits : (p : ByteProgram) (utf8_empty : Bool) (i : InputState) (c : CursorState) (span : Span) → InsideLaw → IsSameContent i.cursor c → IsLawful c → FindsLiteral (characters_of p) is_word_char (search_of utf8_empty i) span
+    → (span.start < 2 ^ 63) × (span.end < 2 ^ 63)
+literal_fits p utf8_empty i c span inside same lawful literal =
+    let at = (inside is_in is_word_char (characters_of p) (search_of utf8_empty i) (literal_match span) literal.finds).found.inside in
+    let end : span.end ≤ length i.cursor.content = at.4 in
+    let long : length c.content ≡ length i.cursor.content = ap length same.content in
+    (omega (arith, end, long, lawful.bound, literal.some), omega (arith, end, long, lawful.bound))
+
+-- ---- the literal's match as slots have it
+
+-- a place that fits a slot
+pub some_given : (o : Option ℕ) (place : ℕ) → place < 2 ^ 63 → SomeIff o (place + 1 < 2 ^ 64) place → o ≡ Some place
+some_given None place low given = absurd (given (omega (arith, low)))
+some_given (Some x) place low given = ap Some given.1
+
+none_at : (slot start end : ℕ) → 2 ≤ slot → slot_of (record { start = start; noted = (1, end) ∷ (0, start) ∷ [] }) slot ≡ None
+none_at slot start end above =
+    ap₂ (λ b c. cond b (Some end) (cond c (Some start) None)) (ne_eqb slot 1 (λ e. omega (arith, e, above))) (ne_eqb slot 0 (λ e. omega (arith, e, above)))
+
+none_further : (first n start end : ℕ) → 2 ≤ first → slots_from first n (record { start = start; noted = (1, end) ∷ (0, start) ∷ [] }) ≡ replicate n None
+none_further first zero start end above = refl
+none_further first (suc n) start end above = ap₂ (λ x xs. x ∷ xs) (none_at first start end above) (none_further (suc first) n start end (omega (arith, above)))
+
+module _ (n : ℕ) (span : Span) (slots : Slots) (none : slots ≡ replicate n None) where
+  abbrev Wanted : ℕ → Slots
+  Wanted k = answer_slots k (Some (literal_match span))
+
+  pub no_slot : n ≡ 0 → slots ≡ Wanted n
+  no_slot is = none ∙ ap (λ k. replicate k None) is ∙ sym (ap Wanted is)
+
+  pub one_slot : (a : Option ℕ) → n ≡ 1 → a ≡ Some span.start → set slots 0 a ≡ Wanted n
+  one_slot a is start = ap₂ (λ xs b. set xs 0 b) (none ∙ ap (λ k. replicate k None) is) start ∙ sym (ap Wanted is)
+
+pub two_slots : (n : ℕ) (span : Span) (slots : Slots) (a b : Option ℕ) → slots ≡ replicate n None → 2 ≤ n → a ≡ Some span.start → b ≡ Some span.end
+    → set (set slots 0 a) 1 b ≡ answer_slots n (Some (literal_match span))
+two_slots zero span slots a b none two start end = absurd (omega (arith, two))
+two_slots (suc zero) span slots a b none two start end = absurd (omega (arith, two))
+two_slots (suc (suc n)) span slots a b none two start end =
+    ap (λ xs. set (set xs 0 a) 1 b) none
+    ∙ ap₂ (λ x y. x ∷ y ∷ replicate n None) start end
+    ∙ sym (ap (λ xs. Some span.start ∷ Some span.end ∷ xs) (none_further 2 n span.start span.end (omega arith)))

@@ -1,5 +1,7 @@
 -- The engines of a regex, what searches by them keep, and what one of them leaves to the other.
-use Rattle.std.specs.Prelude.{◌≡◌, ℕ, ◌≤◌, List, Option, Some, None, IfSome}
+use Rattle.std.specs.Prelude.{◌≡◌, ℕ, ◌≤◌, IsTrue, List, Option, Some, None, IfSome}
+use Rattle.unicode.specs.Perl.{is_word_char}
+use Rattle.rx_util.specs.declared.search.Span.{Span}
 use Rattle.rx_walks.specs.Finds.{Search, from_place_on}
 use Rattle.rx_walks.specs.Machines.{Outcome}
 use Rattle.rx_walks.specs.Programs.{Notes}
@@ -10,11 +12,16 @@ use Rattle.rx_dfa.specs.Closed.{IsClosedOf}
 use Rattle.rx_dfa.specs.Dfas.{DfaView, IsDfaOf}
 use Rattle.rx_program.specs.Programs.{ByteProgram, characters_of}
 use Rattle.rx_literals.specs.Beginnings.{BeginsWith}
+use Rattle.rx_literals.specs.Literals.{FindsLiteral, IsLiteralOf, within}
 use Rattle.rx_chunk.specs.Engines.{Engine, Finds}
-use Rattle.regex_cursor.specs.declared.engines.meta.strategy.Left.{Left}
-use Rattle.regex_cursor.specs.declared.engines.meta.strategy.Left.TheVariants.{Nothing, UpTo, All}
-use Rattle.regex_cursor.specs.declared.engines.meta.strategy.Start.{Start}
-use Rattle.regex_cursor.specs.declared.engines.meta.strategy.Start.TheVariants as start
+use Rattle.rx_chunk.specs.Iterating.{ComesNext}
+use Rattle.regex_cursor.specs.declared.engines.meta.left.Part.{Part}
+use Rattle.regex_cursor.specs.declared.engines.meta.left.Told.TheVariants as told
+use Rattle.regex_cursor.specs.declared.engines.meta.left.Told.{Told}
+use Rattle.regex_cursor.specs.declared.engines.meta.left.Left.TheVariants as left
+use Rattle.regex_cursor.specs.declared.engines.meta.left.Left.{Left}
+use Rattle.regex_cursor.specs.declared.engines.meta.left.Start.TheVariants as start
+use Rattle.regex_cursor.specs.declared.engines.meta.left.Start.{Start}
 
 -- what is searched for, the automaton of its program, perhaps all states of that, and perhaps
 -- needles of which one begins each match
@@ -23,6 +30,8 @@ pub record Engines : Type 0 where
   pub dfa : DfaView
   pub closed : Option automata.CacheView
   pub prefilter : Option (List (List ℕ))
+  -- or the needle that each match is
+  pub literal : Option (List (List ℕ))
 
 -- all search for the same
 pub record AreEngines (e : Engines) : Type 0 where
@@ -31,6 +40,7 @@ pub record AreEngines (e : Engines) : Type 0 where
   pub closed : IfSome e.closed (IsClosedOf e.vm.program e.dfa)
   pub prefilter : IfSome e.prefilter
       (λ needles. BeginsWith needles (characters_of e.vm.program))
+  pub literal : IfSome e.literal (λ needles. IsLiteralOf needles (characters_of e.vm.program))
 
 -- caches for searches by each
 pub record AreCachesOf (e : Engines) (vm : steps.CacheView) (automaton : automata.CacheView)
@@ -44,11 +54,40 @@ pub record FindsUpTo (p : ByteProgram) (s : Search) (end : ℕ) : Type 0 where
   pub finds : Finds p s (Some found)
   pub end_is : end_of found ≡ end
 
--- what is left of a search once the automaton was asked
+-- what the automaton tells of a search
+abbrev pub IsTold : ByteProgram → Search → Told → Type 0
+IsTold p s told.NoMatch = Finds p s None
+IsTold p s (told.EndsAt end) = FindsUpTo p s end
+IsTold p s told.Unknown = Unit {0}
+
+-- a part of a search's span, in which that is found which is found in the span
+pub record HoldsFind (p : ByteProgram) (s : Search) (span : Span) : Type 0 where
+  pub behind : s.start ≤ span.start
+  pub ordered : span.start ≤ span.end
+  pub before : span.end ≤ s.end
+  pub finds : (out : Option (Outcome Notes)) → Finds p (within s span) out → Finds p s out
+
+-- such a part, and whether it is known that a match is found, which ends where the part does
+pub record IsPart (p : ByteProgram) (s : Search) (part : Part) : Type 0 where
+  pub holds : HoldsFind p s part.span
+  pub match : IsTrue part.has_match → FindsUpTo p (within s part.span) part.span.end
+
+-- what is left of a search for the PikeVM
 abbrev pub IsLeft : ByteProgram → Search → Left → Type 0
-IsLeft p s Nothing = Finds p s None
-IsLeft p s (UpTo end) = FindsUpTo p s end
-IsLeft p s All = Unit {0}
+IsLeft p s left.Nothing = Finds p s None
+IsLeft p s (left.Match span) = FindsLiteral (characters_of p) is_word_char s span
+IsLeft p s (left.In part) = IsPart p s part
+
+-- the part in which a match lies, if there is one
+abbrev pub IsPartLeft : ByteProgram → Search → Option Part → Type 0
+IsPartLeft p s None = Finds p s None
+IsPartLeft p s (Some part) = IsPart p s part
+
+-- and in which comes next what comes next in the span, where the last match ended at `last`
+pub record HoldsNext (p : ByteProgram) (s : Search) (last : Option ℕ) (span : Span) : Type 0 where
+  pub holds : HoldsFind p s span
+  pub comes : (out : Option (Outcome Notes)) → ComesNext p (within s span) last out
+      → ComesNext p s last out
 
 -- where the match may begin that is found: from a place on that is found which is found from the
 -- span's start on
@@ -57,8 +96,8 @@ pub record BeginsFrom (p : ByteProgram) (s : Search) (place : ℕ) : Type 0 wher
   pub before : place ≤ s.end
   pub finds : (out : Option (Outcome Notes)) → Finds p (from_place_on s place) out → Finds p s out
 
--- what a prefilter tells of a search
+-- what a literal tells of a search
 abbrev pub IsStart : ByteProgram → Search → Start → Type 0
-IsStart p s start.Anywhere = Unit {0}
-IsStart p s (start.From place) = BeginsFrom p s place
 IsStart p s start.Nowhere = Finds p s None
+IsStart p s (start.At span) = FindsLiteral (characters_of p) is_word_char s span
+IsStart p s (start.From place) = BeginsFrom p s place

@@ -10,3 +10,5 @@ pub mod FirstLaws
 pub mod WayLaws
 pub mod KeptLaws
 pub mod MapLaws
+pub mod SpellingLaws
+pub mod LiteralLaws

@@ -20,7 +20,7 @@ use Rattle.rx_literals.proofs.NeedleLaws.{found_start}
 use Rattle.rx_literals.proofs.LowLaws.{least_from}
 
 -- a needle that occurs in bytes that are cut occurs in all
-occurs_in_more : (content needle : List ℕ) (n m i : ℕ) → n ≤ m → OccursAt (take n content) needle i → OccursAt (take m content) needle i
+pub occurs_in_more : (content needle : List ℕ) (n m i : ℕ) → n ≤ m → OccursAt (take n content) needle i → OccursAt (take m content) needle i
 occurs_in_more content needle n m i fewer occurs = record {
   fits = omega (arith, occurs.fits, length-take n content, length-take m content, fewer);
   reads = λ j below.

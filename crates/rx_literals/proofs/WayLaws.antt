@@ -59,7 +59,7 @@ GoesTo (Some (note slot q)) r = q ≡ r
 GoesTo (Some (look asked q)) r = q ≡ r
 GoesTo _ r = ⊥
 
-read_takes : {to j' : ℕ} (r j : ℕ) (o : Option ℕ) → read_up_to r j o ≡ reads to j' → (k : ℕ) × (o ≡ Some k) × (j' ≡ j + k) × (to ≡ r)
+pub read_takes : {to j' : ℕ} (r j : ℕ) (o : Option ℕ) → read_up_to r j o ≡ reads to j' → (k : ℕ) × (o ≡ Some k) × (j' ≡ j + k) × (to ≡ r)
 read_takes r j None e = absurd (cc e)
 read_takes r j (Some k) e = (k, refl, cc e, cc e)
 
@@ -137,7 +137,7 @@ module _ (is_word : ℕ → Bool) (p : Program Look (List Range)) (s : Search) (
       }
 
 -- a literal goes on with what stands behind it
-occurs_longer : (bytes literal more rest : List ℕ) (i : ℕ) → OccursAt bytes literal i → drop (i + length literal) bytes ≡ more ++ rest → OccursAt bytes (literal ++ more) i
+pub occurs_longer : (bytes literal more rest : List ℕ) (i : ℕ) → OccursAt bytes literal i → drop (i + length literal) bytes ≡ more ++ rest → OccursAt bytes (literal ++ more) i
 occurs_longer bytes literal more rest i occurs behind =
     let whole : drop i bytes ≡ (literal ++ more) ++ rest = OccursAt-split bytes literal i occurs ∙ ap (λ xs. literal ++ xs) behind ∙ sym (append_assoc literal more rest) in
     let long : length bytes - (i + length literal) ≡ length more + length rest = sym (length-drop (i + length literal) bytes) ∙ ap length behind ∙ length-append more rest in

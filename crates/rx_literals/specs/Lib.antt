@@ -2,4 +2,6 @@ pub mod Needles
 pub mod FirstBytes
 pub mod Prefilters
 pub mod Beginnings
+pub mod Literals
+pub mod Spellings
 pub mod Ways

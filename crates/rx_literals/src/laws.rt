@@ -2,6 +2,7 @@
 //! is the law, proved.
 
 ghost use Rattle.rx_literals.specs.Beginnings.{MatchesComeBehind, NoNeedleNoMatch};
+ghost use Rattle.rx_literals.specs.Literals.{LiteralsFind};
 
 /// Where no needle is found in a search's span, a program whose matches begin with the needles
 /// finds nothing, unless the search is anchored.
@@ -12,4 +13,11 @@ pub fn no_needle_no_match()
 /// Where a needle is found, the program finds what it finds from there on.
 pub fn matches_come_behind()
     ensures { MatchesComeBehind }
+{}
+
+/// Where a program's matches are one literal, it finds that literal's match where the literal
+/// occurs first in a search's span, or at the span's start if the search is anchored, as long as it
+/// lies in the slice; and nothing where it doesn't occur.
+pub fn literals_find()
+    ensures { LiteralsFind }
 {}

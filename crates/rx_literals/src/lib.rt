@@ -2,6 +2,7 @@
 #![tactic(auto)]
 
 mod beginning;
+mod exact;
 mod first_bytes;
 pub mod laws;
 pub mod literal;

@@ -9,7 +9,7 @@ use hex::FromHexError;
 use rx_grammar::parse;
 use rx_input::{ChunkCursor, Input};
 use rx_literals::{Prefilter, literal};
-use rx_program::compile;
+use rx_program::{Program, compile};
 use rx_util::{MatchKind, Span};
 use std::alloc::{AllocError, Global};
 
@@ -58,11 +58,22 @@ pub fn found(alloc: Global, fields: &Fields) -> Result<String, Fault> {
     tell(alloc, prefilter, fields, 0)
 }
 
-/// What is found of what the matches of a pattern begin with.
-pub fn beginning(alloc: Global, fields: &Fields) -> Result<String, Fault> {
+/// The program of the pattern of a line.
+fn program_of(alloc: Global, fields: &Fields) -> Result<Program, Fault> {
     let pattern = fields.pattern(alloc)?;
     let hir = parse(alloc, &pattern, &fields.settings())?;
-    let program = compile(alloc, &[&hir], b'\n', None)?;
+    Ok(compile(alloc, &[&hir], b'\n', None)?)
+}
+
+/// What is found of what the matches of a pattern are, if they are one literal.
+pub fn whole(alloc: Global, fields: &Fields) -> Result<String, Fault> {
+    let prefilter = Prefilter::of_literal(alloc, &program_of(alloc, fields)?)?;
+    tell(alloc, prefilter, fields, SETTINGS)
+}
+
+/// What is found of what the matches of a pattern begin with.
+pub fn beginning(alloc: Global, fields: &Fields) -> Result<String, Fault> {
+    let program = program_of(alloc, fields)?;
     let prefilter = Prefilter::from_program(alloc, MatchKind::LeftmostFirst, &program)?;
     tell(alloc, prefilter, fields, SETTINGS)
 }

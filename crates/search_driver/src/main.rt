@@ -46,6 +46,7 @@
 //!   in a span, and at its start; a dash stands for no needle.
 //! - `beginning,PATTERN,SETTINGS,CUT,HAYSTACK,START,END`: the same of the literals that the matches
 //!   of a pattern begin with.
+//! - `whole,PATTERN,SETTINGS,CUT,HAYSTACK,START,END`: and of the one that they are.
 #![tactic(auto)]
 
 mod automata;
@@ -87,6 +88,7 @@ fn answer(alloc: Global, line: &str) -> Result<String, Fault> {
         "moved" => inputs::moved(alloc, &fields),
         "literal" => literals::found(alloc, &fields),
         "beginning" => literals::beginning(alloc, &fields),
+        "whole" => literals::whole(alloc, &fields),
         _ => Err(Fault::Line),
     }
 }

@@ -8,7 +8,7 @@ use crate::haystacks::{Asked, ask, haystack, input, pieces};
 use crate::ropes;
 use crate::searches::{ASKED, CUT, HAYSTACK, tell};
 use regex_cursor::engines::meta::{Cache, Regex};
-use regex_cursor::{Captures, Cursor, Input, Match, MatchError, Span};
+use regex_cursor::{Captures, Cursor, Input, Match, MatchError, NonMaxUsize, Span};
 use std::alloc::{AllocError, Global};
 
 /// Where it stands which part of a rope is searched, and where a cursor over it is made.
@@ -182,6 +182,17 @@ fn found_or_again<C: Cursor>(
     }
 }
 
+/// From one place to another, if both are noted.
+fn span_between(start: Option<NonMaxUsize>, end: Option<NonMaxUsize>) -> Option<Span> {
+    match (start, end) {
+        (Some(start), Some(end)) => Some(Span {
+            start: start.get(),
+            end: end.get(),
+        }),
+        _ => None,
+    }
+}
+
 /// The match that is found with a cache, as each of three calls must tell it.
 fn found_with<C: Cursor>(
     re: &Regex,
@@ -195,8 +206,10 @@ fn found_with<C: Cursor>(
     re.search_captures_with(cache, input, caps)?;
     let found = caps.get_group(0);
     let searched = re.search_with(cache, input)?.map(|found| found.span());
-    let pattern = re.search_slots_with(cache, input, &mut [None; 1])?;
-    if searched == found && pattern.is_some() == found.is_some() {
+    let mut slots = [None; 3];
+    let pattern = re.search_slots_with(cache, input, &mut slots)?;
+    let noted = span_between(slots[0], slots[1]);
+    if searched == found && noted == found && pattern.is_some() == found.is_some() {
         Ok(found)
     } else {
         Err(Fault::Differs)

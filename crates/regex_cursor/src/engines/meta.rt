@@ -6,6 +6,7 @@ mod captures_matches;
 mod dense;
 mod find_matches;
 mod finder;
+mod left;
 mod regex;
 mod split;
 mod split_n;

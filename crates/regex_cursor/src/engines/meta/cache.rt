@@ -5,13 +5,16 @@ ghost use Rattle.rx_util.specs.declared.search.MatchError.{MatchError};
 ghost use Rattle.rx_input.specs.Cursors.{IsSameContent};
 ghost use Rattle.rx_walks.specs.Finds.{from_place_on};
 ghost use Rattle.regex_cursor.specs.Regexes.{IsCacheOf, search_by};
-ghost use Rattle.regex_cursor.specs.Strategies.{AreCachesOf, IsLeft};
+ghost use Rattle.regex_cursor.specs.Strategies.{AreCachesOf, IsLeft, IsTold};
 
+use super::left::{Left, Start, Told, put_back};
 use super::regex::Regex;
-use super::strategy::{Left, Start, Strategy, put_back};
+use super::strategy::Strategy;
 use rx_chunk::pikevm;
 use rx_input::{Cursor, Input};
+use rx_sets::CharacterSet;
 use rx_util::{HalfMatch, MatchError};
+use rx_walks::laws::{finds_exist, finds_lie_inside};
 use std::alloc::{AllocError, Global};
 use std::marker::Model;
 use std::rc::Rc;
@@ -66,9 +69,9 @@ impl Kept {
     }
 
     /// As `Cache::ask_automaton`.
-    fn ask<C: Cursor>(&mut self, input: &mut Input<C>) -> Result<Left, MatchError>
+    fn ask<C: Cursor>(&mut self, input: &mut Input<C>) -> Result<Told, MatchError>
         requires serve { AreCachesOf self.old.strategy.value self.old.vm self.old.automaton }
-        ensures left { IfOk result (IsLeft self.old.strategy.value.vm.program
+        ensures told { IfOk result (IsTold self.old.strategy.value.vm.program
             (search_by self.old.strategy.value.vm input.old)) }
         ensures serve { AreCachesOf self.new.strategy.value self.new.vm self.new.automaton }
         ensures same_strategy { self.new.strategy ≡ self.old.strategy }
@@ -78,16 +81,16 @@ impl Kept {
     {
         let wants_less = input.get_earliest() || input.get_anchored().is_anchored();
         if wants_less || !self.pays() {
-            return Ok(Left::All);
+            return Ok(Told::Unknown);
         }
         let answer = self.strategy.search_half(&mut self.automaton, input);
         let bytes = bytes_of(&answer, input);
         self.passed = self.passed.saturating_add(bytes);
         match answer {
-            Ok(Some(half)) => Ok(Left::UpTo(half.offset())),
-            Ok(None) => Ok(Left::Nothing),
+            Ok(Some(half)) => Ok(Told::EndsAt(half.offset())),
+            Ok(None) => Ok(Told::NoMatch),
             Err(MatchError::Memory) => Err(MatchError::Memory),
-            Err(_) => Ok(Left::All),
+            Err(_) => Ok(Told::Unknown),
         }
     }
 }
@@ -168,8 +171,8 @@ impl Cache {
         &self.kept.strategy
     }
 
-    /// Asks what is left of a search: the literal that each match begins with is looked for first,
-    /// if one is known, and the automaton is asked from there on. The one error is `Memory`.
+    /// Asks what is left of a search: the literal that each match is or begins with is looked for
+    /// first, if one is known, and the automaton is asked from there on. The one error is `Memory`.
     pub(super) fn ask<C: Cursor>(&mut self, input: &mut Input<C>) -> Result<Left, MatchError>
         ensures left { IfOk result
             (IsLeft self.old.program (search_by self.old input.old)) }
@@ -178,10 +181,16 @@ impl Cache {
         ensures same { IsSameContent input.old.cursor input.new.cursor }
         ensures refused { IfErr result (λ error. error ≡ MatchError.Memory) }
     {
+        if input.is_done() {
+            // Laws, for the proof alone.
+            finds_exist::<CharacterSet>();
+            finds_lie_inside::<CharacterSet>();
+            return Ok(Left::Nothing);
+        }
         match self.strategy().first_start(input) {
-            Start::Anywhere => self.ask_automaton(input),
-            Start::From(place) => self.ask_from(place, input),
             Start::Nowhere => Ok(Left::Nothing),
+            Start::At(span) => Ok(Left::Match(span)),
+            Start::From(place) => self.ask_from(place, input),
         }
     }
 
@@ -200,19 +209,23 @@ impl Cache {
         ensures same { IsSameContent input.old.cursor input.new.cursor }
         ensures refused { IfErr result (λ error. error ≡ MatchError.Memory) }
     {
-        let span = input.get_span();
+        let whole = input.get_span();
         input.set_start(place);
-        let left = self.ask_automaton(input);
-        put_back(input, span);
-        left
+        let rest = input.get_span();
+        let answer = self.ask_automaton(input);
+        put_back(input, whole);
+        match answer {
+            Ok(told) => Ok(told.left_in(rest)),
+            Err(error) => Err(error),
+        }
     }
 
-    /// Asks the automaton what is left of a search: nothing, where there is no match; else what
-    /// comes before the end of the match; or all, where it can't tell, or where it would come to
-    /// more than the search needs. The one refusal is `Memory`.
-    fn ask_automaton<C: Cursor>(&mut self, input: &mut Input<C>) -> Result<Left, MatchError>
-        ensures left { IfOk result
-            (IsLeft self.old.program (search_by self.old input.old)) }
+    /// Asks the automaton what it tells of a search: that there is no match, or where the match
+    /// ends; or nothing, where it can't tell, or where it would come to more than the search
+    /// needs. The one refusal is `Memory`.
+    fn ask_automaton<C: Cursor>(&mut self, input: &mut Input<C>) -> Result<Told, MatchError>
+        ensures told { IfOk result
+            (IsTold self.old.program (search_by self.old input.old)) }
         ensures same_regex { self.new ≡ self.old }
         ensures asked { input.new.asked ≡ input.old.asked }
         ensures same { IsSameContent input.old.cursor input.new.cursor }

@@ -1,23 +1,23 @@
 //! The engines of a regex, and how it chooses among them: a literal that each match begins with is
 //! looked for first, then the automaton is asked, and what it leaves is searched by the PikeVM.
 
-ghost use Rattle.std.specs.Prelude.{◌≡◌, ℕ, ◌≤◌, IfOk, IfErr, OnOk, OnErr, None, Some, length, replicate};
+ghost use Rattle.std.specs.Prelude.{◌≡◌, ℕ, ◌≤◌, IfOk, IfErr, OnOk, OnErr, None, length};
 ghost use Rattle.std.specs.Option.{ForSome};
 ghost use Rattle.rx_util.specs.declared.search.MatchError.{MatchError};
-ghost use Rattle.rx_util.specs.Captured.{group_span, match_found, nothing_noted};
+ghost use Rattle.rx_util.specs.Captured.{group_span, match_found};
 ghost use Rattle.rx_input.specs.Cursors.{IsSameContent};
-ghost use Rattle.rx_input.specs.Inputs.{IsSpan};
-ghost use Rattle.rx_walks.specs.Finds.{Search};
-ghost use Rattle.rx_program.specs.Programs.{ByteProgram};
 ghost use Rattle.rx_dfa.specs.Caches as automata;
 ghost use Rattle.rx_dfa.specs.Searching.{IsHalfAnswer};
 ghost use Rattle.rx_chunk.specs.Engines.{TellsWhether};
 ghost use Rattle.rx_chunk.specs.Iterating.{EndsAhead, HasNotedNext, IsFoundNext, StartsFrom};
 ghost use Rattle.regex_cursor.specs.Regexes.{HoldsMatches, IsCacheOf, TellsMatch, TellsSlots, TellsWhole, search_by};
-ghost use Rattle.regex_cursor.specs.Strategies.{AreEngines, IsLeft, IsStart};
+ghost use Rattle.regex_cursor.specs.Strategies.{AreEngines, IsStart};
 
 use super::cache::Cache;
 use super::dense::closed_of;
+use super::left::{
+    Left, Start, clear_slots, match_in, note_nothing, put_back, put_match, start_of_literal,
+};
 use rx_chunk::pikevm::{self, PikeVM};
 use rx_dfa::{Closed, Dfa, try_search_fwd};
 use rx_input::{Cursor, Input};
@@ -25,48 +25,13 @@ use rx_literals::laws::{matches_come_behind, no_needle_no_match};
 use rx_literals::{Prefilter, literal};
 use rx_program::Program;
 use rx_sets::CharacterSet;
-use rx_util::{Captures, HalfMatch, Match, MatchError, MatchKind, NonMaxUsize, PatternID, Span};
-use rx_walks::laws::{finds_at_most_one, finds_lie_inside, finds_stay_in_cut_spans};
+use rx_util::{Captures, HalfMatch, Match, MatchError, MatchKind, NonMaxUsize, PatternID};
+use rx_walks::laws::finds_lie_inside;
 use std::alloc::{AllocError, Global};
 use std::marker::Model;
 
 /// How many bytes the states of an automaton may take in a cache, about.
 const CACHE_CAPACITY: usize = 2_097_152;
-
-/// What is left of a search for the PikeVM once the automaton was asked.
-#[derive(Clone, Copy, Debug)]
-pub(super) enum Left {
-    /// Nothing: there is no match.
-    Nothing,
-    /// The span up to this place, at which the match ends.
-    UpTo(usize),
-    /// All of the span: the automaton told nothing.
-    All,
-}
-
-impl Left {
-    /// What is left where a match may be passed over that ends at `last_match_end`: then all is.
-    fn behind(self, last_match_end: Option<usize>) -> Left
-        ensures left { (p : ByteProgram) (s : Search) → IsLeft p s self → IsLeft p s result }
-        ensures behind { (end : ℕ) → result ≡ Left.UpTo end → last_match_end ≡ Some end → ⊥ }
-    {
-        match self {
-            Left::UpTo(end) if last_match_end == Some(end) => Left::All,
-            left => left,
-        }
-    }
-}
-
-/// Where in the span of a search a match may begin.
-#[derive(Clone, Copy, Debug)]
-pub(super) enum Start {
-    /// Anywhere: it isn't known.
-    Anywhere,
-    /// From this place on.
-    From(usize),
-    /// Nowhere: there is no match.
-    Nowhere,
-}
 
 /// The engines of a regex, which it shares with its clones and its caches.
 #[derive(Debug, Drop)]
@@ -77,6 +42,8 @@ pub(super) struct Strategy {
     closed: Option<Closed>,
     // Of a literal that each match begins with, if one is known.
     prefilter: Option<Prefilter>,
+    // Of the literal that each match is, if that is known.
+    literal: Option<Prefilter>,
 }
 
 impl Model for Strategy {
@@ -89,6 +56,7 @@ impl Model for Strategy {
       dfa = s.dfa;
       closed = s.closed;
       prefilter = s.prefilter;
+      literal = s.literal;
     } };
 
     ghost invariant = { λ s. AreEngines (record {
@@ -96,12 +64,13 @@ impl Model for Strategy {
       dfa = s.dfa;
       closed = s.closed;
       prefilter = s.prefilter;
+      literal = s.literal;
     }) };
 }
 
 impl Strategy {
     /// A PikeVM, the automaton of its program, with all its states where they are few, and a
-    /// literal that each match begins with, if one is known. `utf8_empty` is as the PikeVM has it.
+    /// literal that each match begins with or is, if one is known. `utf8_empty` is as the PikeVM has it.
     /// It takes time in proportion to the program's states and the ranges of their automata.
     pub(super) fn new(alloc: Global, vm: PikeVM, utf8_empty: bool) -> Result<Strategy, AllocError>
         requires { utf8_empty ≡ vm.utf8_empty }
@@ -111,11 +80,13 @@ impl Strategy {
         let closed = closed_of(alloc, vm.program(), &dfa)?;
         let kind = MatchKind::LeftmostFirst;
         let prefilter = Prefilter::from_program(alloc, kind, vm.program())?;
+        let literal = Prefilter::of_literal(alloc, vm.program())?;
         Ok(Strategy {
             vm,
             dfa,
             closed,
             prefilter,
+            literal,
         })
     }
 
@@ -161,9 +132,24 @@ impl Strategy {
         }
     }
 
-    /// Where a match may begin, by the literal that each match begins with: it is looked for unless
-    /// the search is anchored. The position may move.
+    /// Where the match lies, or where it may begin, by the literal that each match is or begins
+    /// with. The span must not be done. The position may move.
     pub(super) fn first_start<C: Cursor>(&self, input: &mut Input<C>) -> Start
+        requires { input.old.asked.span.start ≤ input.old.asked.span.end }
+        ensures start { IsStart self.now.vm.program (search_by self.now.vm input.old) result }
+        ensures asked { input.new.asked ≡ input.old.asked }
+        ensures same { IsSameContent input.old.cursor input.new.cursor }
+    {
+        match &self.literal {
+            Some(needle) => start_of_literal(needle, input),
+            None => self.first_beginning(input),
+        }
+    }
+
+    /// Where a match may begin, by the literal that each match begins with, which is looked for
+    /// unless the search is anchored.
+    fn first_beginning<C: Cursor>(&self, input: &mut Input<C>) -> Start
+        requires { input.old.asked.span.start ≤ input.old.asked.span.end }
         ensures start { IsStart self.now.vm.program (search_by self.now.vm input.old) result }
         ensures asked { input.new.asked ≡ input.old.asked }
         ensures same { IsSameContent input.old.cursor input.new.cursor }
@@ -179,33 +165,9 @@ impl Strategy {
                     None => Start::Nowhere,
                 }
             }
-            _ => Start::Anywhere,
+            _ => Start::From(input.start()),
         }
     }
-}
-
-/// Gives an input back the span that was cut.
-pub(super) fn put_back<C: Cursor>(input: &mut Input<C>, span: Span)
-    requires { IsSpan span }
-    ensures same { IsSameContent input.old.cursor input.new.cursor }
-    ensures asked { input.new.asked ≡ record input.old.asked { span = span } }
-{
-    input.set_span(span);
-}
-
-/// Puts none into each slot.
-fn clear_slots(slots: &mut [Option<NonMaxUsize>])
-    ensures { slots.new ≡ replicate (length slots.old) None }
-{
-    slots.fill(None);
-}
-
-/// Notes that nothing is found.
-fn note_nothing(caps: &mut Captures)
-    ensures { caps.new ≡ nothing_noted caps.old.groups (length caps.old.slots) }
-{
-    caps.set_pattern(None);
-    clear_slots(caps.slots_mut());
 }
 
 /// Whether there is a match. The cache must be one for the engine, and still is one afterwards. The
@@ -225,8 +187,14 @@ pub(super) fn is_match<C: Cursor>(
 {
     match cache.ask(input)? {
         Left::Nothing => Ok(false),
-        Left::UpTo(_) => Ok(true),
-        Left::All => pikevm::is_match(vm, &mut cache.kept.vm, input),
+        Left::Match(_) => Ok(true),
+        Left::In(part) if part.has_match => Ok(true),
+        Left::In(part) => {
+            let whole = part.cut(input);
+            let yes = pikevm::is_match(vm, &mut cache.kept.vm, input);
+            put_back(input, whole);
+            yes
+        }
     }
 }
 
@@ -244,18 +212,13 @@ pub(super) fn find<C: Cursor>(
     ensures same { IsSameContent input.old.cursor input.new.cursor }
     ensures refused { IfErr result (λ error. error ≡ MatchError.Memory) }
 {
-    // Laws, for the proof alone.
-    finds_at_most_one::<CharacterSet>();
-    finds_lie_inside::<CharacterSet>();
-    finds_stay_in_cut_spans::<CharacterSet>();
     match cache.ask(input)? {
         Left::Nothing => Ok(None),
-        Left::All => pikevm::find(vm, &mut cache.kept.vm, input),
-        Left::UpTo(end) => {
-            let span = input.get_span();
-            input.set_end(end);
+        Left::Match(span) => Ok(Some(match_in(span))),
+        Left::In(part) => {
+            let whole = part.cut(input);
             let found = pikevm::find(vm, &mut cache.kept.vm, input);
-            put_back(input, span);
+            put_back(input, whole);
             found
         }
     }
@@ -277,21 +240,22 @@ pub(super) fn search_slots<C: Cursor>(
     ensures same { IsSameContent input.old.cursor input.new.cursor }
     ensures refused { IfErr result (λ error. error ≡ MatchError.Memory) }
 {
-    // Laws, for the proof alone.
-    finds_at_most_one::<CharacterSet>();
-    finds_lie_inside::<CharacterSet>();
-    finds_stay_in_cut_spans::<CharacterSet>();
     match cache.ask(input)? {
         Left::Nothing => {
             clear_slots(slots);
             Ok(None)
         }
-        Left::All => pikevm::search_slots(vm, &mut cache.kept.vm, input, slots),
-        Left::UpTo(end) => {
-            let span = input.get_span();
-            input.set_end(end);
+        Left::Match(span) => {
+            // A law, for the proof alone.
+            finds_lie_inside::<CharacterSet>();
+            let _at = input.position(); // tells how long the content may be
+            put_match(slots, span);
+            Ok(Some(PatternID::ZERO))
+        }
+        Left::In(part) => {
+            let whole = part.cut(input);
             let found = pikevm::search_slots(vm, &mut cache.kept.vm, input, slots);
-            put_back(input, span);
+            put_back(input, whole);
             found
         }
     }
@@ -319,22 +283,16 @@ pub(super) fn search<C: Cursor>(
     ensures same { IsSameContent input.old.cursor input.new.cursor }
     ensures refused { IfErr result (λ error. error ≡ MatchError.Memory) }
 {
-    // Laws, for the proof alone.
-    finds_at_most_one::<CharacterSet>();
-    finds_lie_inside::<CharacterSet>();
-    finds_stay_in_cut_spans::<CharacterSet>();
     caps.set_pattern(None);
-    match cache.ask(input)? {
-        Left::Nothing => {
+    match cache.ask(input)?.part() {
+        None => {
             note_nothing(caps);
             Ok(())
         }
-        Left::All => pikevm::search(vm, &mut cache.kept.vm, input, caps),
-        Left::UpTo(end) => {
-            let span = input.get_span();
-            input.set_end(end);
+        Some(part) => {
+            let whole = part.cut(input);
             let told = pikevm::search(vm, &mut cache.kept.vm, input, caps);
-            put_back(input, span);
+            put_back(input, whole);
             told
         }
     }
@@ -358,18 +316,13 @@ pub(super) fn find_next<C: Cursor>(
     ensures same { (start : ℕ) × StartsFrom input.old input.new start }
     ensures refused { IfErr result (λ error. error ≡ MatchError.Memory) }
 {
-    // Laws, for the proof alone.
-    finds_at_most_one::<CharacterSet>();
-    finds_lie_inside::<CharacterSet>();
-    finds_stay_in_cut_spans::<CharacterSet>();
-    match cache.ask(input)?.behind(last_match_end) {
-        Left::Nothing => Ok(None),
-        Left::All => pikevm::find_next(vm, &mut cache.kept.vm, input, last_match_end),
-        Left::UpTo(end) => {
-            let span = input.get_span();
-            input.set_end(end);
+    match cache.ask(input)?.part() {
+        None => Ok(None),
+        Some(part) => {
+            let next = part.behind(last_match_end, input.get_span());
+            let whole = next.cut(input);
             let found = pikevm::find_next(vm, &mut cache.kept.vm, input, last_match_end);
-            put_back(input, span);
+            put_back(input, whole);
             found
         }
     }
@@ -401,22 +354,17 @@ pub(super) fn search_next<C: Cursor>(
     ensures same { (start : ℕ) × StartsFrom input.old input.new start }
     ensures refused { IfErr result (λ error. error ≡ MatchError.Memory) }
 {
-    // Laws, for the proof alone.
-    finds_at_most_one::<CharacterSet>();
-    finds_lie_inside::<CharacterSet>();
-    finds_stay_in_cut_spans::<CharacterSet>();
     caps.set_pattern(None);
-    match cache.ask(input)?.behind(last_match_end) {
-        Left::Nothing => {
+    match cache.ask(input)?.part() {
+        None => {
             note_nothing(caps);
             Ok(())
         }
-        Left::All => pikevm::search_next(vm, &mut cache.kept.vm, input, caps, last_match_end),
-        Left::UpTo(end) => {
-            let span = input.get_span();
-            input.set_end(end);
+        Some(part) => {
+            let next = part.behind(last_match_end, input.get_span());
+            let whole = next.cut(input);
             let told = pikevm::search_next(vm, &mut cache.kept.vm, input, caps, last_match_end);
-            put_back(input, span);
+            put_back(input, whole);
             told
         }
     }

@@ -1,53 +1,54 @@
-use Rattle.std.proofs.Common.{◌≡◌, length, ap, subst, ◌∙◌, arith}
-use Rattle.rx_util.specs.declared.search.Span.{Span}
-use Rattle.rx_input.specs.Inputs.{Asked}
-use Rattle.rx_walks.specs.Finds.{up_to_place}
+use Rattle.std.proofs.Common.{length, subst}
 use Rattle.rx_steps.specs.Searching.{search_of}
 use Rattle.rx_chunk.proofs.EngineLaws.{if_ok}
-use Rattle.regex_cursor.specs.Strategies.{FindsUpTo, IsLeft}
-use Rattle.regex_cursor.specs.declared.engines.meta.strategy.Left.TheVariants.{Nothing, UpTo}
-use Rattle.regex_cursor.proofs.StrategyLaws.{told_of, cut_asked, cut_search, up_to_inside, no_slots_told, whole_slots}
+use Rattle.regex_cursor.specs.Strategies.{IsLeft}
+use Rattle.regex_cursor.specs.declared.engines.meta.left.Left.TheVariants.{Nothing, Match, In}
+use Rattle.regex_cursor.proofs.StrategyLaws.{left_of, cut_asked, cut_search, whole_is_span, no_slots_told, literal_fits, literal_slots_told, whole_slots}
 use Rattle.regex_cursor.proofs.engines.meta.strategy.search_slots.Goals as goal
 
-pub set_end-requires : goal.set_end-requires
-set_end-requires g c =
+pub put_match-requires : goal.put_match-requires
+put_match-requires g c =
     let i = c.args.input.now in
-    let p = c.args.vm.now.program in
-    let s = search_of c.args.vm.now.utf8_empty i in
-    let end = c.in-UpTo.end in
-    let up : FindsUpTo p s end = told_of c.args.vm.now c.args.cache.now i (UpTo end) c.requires.made.same (subst (λ left. IsLeft c.args.cache.now.program (search_of c.args.cache.now.utf8_empty i) left) c.in-UpTo.is c.in_ok-ask.ensures.left) in
-    let start : c.ask.new.input.asked.span.start ≡ i.asked.span.start = ap (λ (a : Asked). a.span.start) c.in_ok-ask.ensures.asked in
-    omega (arith, start, (up_to_inside p s end c.finds_lie_inside.ensures up).2)
+    let re = c.args.vm.now in
+    let literal = left_of re c.args.cache.now i (Match c.in-Match.span) c.requires.made.same (subst (λ left. IsLeft c.args.cache.now.program (search_of c.args.cache.now.utf8_empty i) left) c.in-Match.is c.in_ok-ask.ensures.left) in
+    let fits = literal_fits re.program re.utf8_empty i c.ask.new.input.cursor c.in-Match.span c.finds_lie_inside.ensures c.in_ok-ask.ensures.same c.position-at.ensures.holds.lawful literal in
+    record { start = fits.0; end = fits.1 }
+
+pub cut-whole-requires : goal.cut-whole-requires
+cut-whole-requires g c =
+    let is = left_of c.args.vm.now c.args.cache.now c.args.input.now (In c.in-In.part) c.requires.made.same (subst (λ left. IsLeft c.args.cache.now.program (search_of c.args.cache.now.utf8_empty c.args.input.now) left) c.in-In.is c.in_ok-ask.ensures.left) in
+    is.holds.ordered
 
 pub put_back-requires : goal.put_back-requires
 put_back-requires g c =
     let i = c.args.input.now in
-    let p = c.args.vm.now.program in
-    let s = search_of c.args.vm.now.utf8_empty i in
-    let end = c.in-UpTo.end in
-    let up : FindsUpTo p s end = told_of c.args.vm.now c.args.cache.now i (UpTo end) c.requires.made.same (subst (λ left. IsLeft c.args.cache.now.program (search_of c.args.cache.now.utf8_empty i) left) c.in-UpTo.is c.in_ok-ask.ensures.left) in
-    let span : c.get_span-span.result ≡ i.asked.span = c.get_span-span.ensures ∙ ap (λ (a : Asked). a.span) c.in_ok-ask.ensures.asked in
-    let within = up_to_inside p s end c.finds_lie_inside.ensures up in
-    omega (arith, ap (λ (x : Span). x.start) span, ap (λ (x : Span). x.end) span, within.2, within.3)
+    let re = c.args.vm.now in
+    let is = left_of re c.args.cache.now i (In c.in-In.part) c.requires.made.same (subst (λ left. IsLeft c.args.cache.now.program (search_of c.args.cache.now.utf8_empty i) left) c.in-In.is c.in_ok-ask.ensures.left) in
+    whole_is_span re.program re.utf8_empty i c.ask.new.input c.in-In.part.span c.cut-whole.result is.holds c.in_ok-ask.ensures.asked c.cut-whole.ensures.whole
 
-pub returns-in-UpTo-clause-answer : goal.returns-in-UpTo-clause-answer
-returns-in-UpTo-clause-answer g c =
+pub returns-in-In-clause-answer : goal.returns-in-In-clause-answer
+returns-in-In-clause-answer g c =
     let i = c.args.input.now in
-    let p = c.args.vm.now.program in
-    let s = search_of c.args.vm.now.utf8_empty i in
-    let end = c.in-UpTo.end in
-    let up : FindsUpTo p s end = told_of c.args.vm.now c.args.cache.now i (UpTo end) c.requires.made.same (subst (λ left. IsLeft c.args.cache.now.program (search_of c.args.cache.now.utf8_empty i) left) c.in-UpTo.is c.in_ok-ask.ensures.left) in
-    let search : search_of c.args.vm.now.utf8_empty c.set_end.new.self ≡ up_to_place s end = cut_search c.args.vm.now.utf8_empty i c.ask.new.input c.set_end.new.self end c.in_ok-ask.ensures.same c.in_ok-ask.ensures.asked c.set_end.ensures in
-    let asked = cut_asked i c.ask.new.input c.set_end.new.self end c.in_ok-ask.ensures.asked c.set_end.ensures in
+    let re = c.args.vm.now in
+    let part = c.in-In.part.span in
+    let is = left_of re c.args.cache.now i (In c.in-In.part) c.requires.made.same (subst (λ left. IsLeft c.args.cache.now.program (search_of c.args.cache.now.utf8_empty i) left) c.in-In.is c.in_ok-ask.ensures.left) in
+    let k = c.cut-whole.new.input in
+    let search = cut_search re.utf8_empty i c.ask.new.input k part c.in_ok-ask.ensures.same c.in_ok-ask.ensures.asked c.cut-whole.ensures.same c.cut-whole.ensures.asked in
+    let asked = cut_asked i c.ask.new.input k part c.in_ok-ask.ensures.asked c.cut-whole.ensures.asked in
     let slots = c.search_slots-found.new.slots in
     if_ok c.search_slots-found.result
-    (λ pattern is. whole_slots p s end c.finds_stay_in_cut_spans.ensures c.finds_at_most_one.ensures up c.args.vm.now.utf8_empty i c.set_end.new.self pattern slots asked search is)
+    (λ pattern told. whole_slots re.program (search_of re.utf8_empty i) part is.holds re.utf8_empty i k pattern slots asked search told)
     c.search_slots-found.ensures.answer
+
+pub returns-in-Match-clause-answer : goal.returns-in-Match-clause-answer
+returns-in-Match-clause-answer g c =
+    let i = c.args.input.now in
+    let re = c.args.vm.now in
+    let literal = left_of re c.args.cache.now i (Match c.in-Match.span) c.requires.made.same (subst (λ left. IsLeft c.args.cache.now.program (search_of c.args.cache.now.utf8_empty i) left) c.in-Match.is c.in_ok-ask.ensures.left) in
+    literal_slots_told re.program (search_of re.utf8_empty i) i.asked.earliest c.in-Match.span c.put_match.new.slots (length c.args.slots.now) c.put_match.ensures literal
 
 pub returns-in-Nothing-clause-answer : goal.returns-in-Nothing-clause-answer
 returns-in-Nothing-clause-answer g c =
     let i = c.args.input.now in
-    let none = told_of c.args.vm.now c.args.cache.now i Nothing c.requires.made.same (subst (λ left. IsLeft c.args.cache.now.program (search_of c.args.cache.now.utf8_empty i) left) c.in-Nothing.is c.in_ok-ask.ensures.left) in
-    let p = c.args.vm.now.program in
-    let s = search_of c.args.vm.now.utf8_empty i in
-    no_slots_told p s i.asked.earliest c.clear_slots.new.slots (length c.args.slots.now) none c.clear_slots.ensures
+    let none = left_of c.args.vm.now c.args.cache.now i Nothing c.requires.made.same (subst (λ left. IsLeft c.args.cache.now.program (search_of c.args.cache.now.utf8_empty i) left) c.in-Nothing.is c.in_ok-ask.ensures.left) in
+    no_slots_told c.args.vm.now.program (search_of c.args.vm.now.utf8_empty i) i.asked.earliest c.clear_slots.new.slots (length c.args.slots.now) none c.clear_slots.ensures

@@ -1,0 +1,139 @@
+-- What is left of a search by what was told of it.
+use Rattle.std.proofs.Common.{◌≡◌, ℕ, ◌<◌, ◌≤◌, Bool, false, true, IsTrue, nat_lt, Option, Some, None, refl, sym, ap, ap₂, subst, ◌∙◌, arith}
+use Rattle.std.proofs.lemmas.Bool.{ltb-true}
+use Rattle.std.proofs.lemmas.Option.{same_Some}
+use Rattle.unicode.specs.Perl.{is_word_char}
+use Rattle.rx_utf8.specs.Automata.{is_in}
+use Rattle.rx_util.specs.declared.search.Span.{Span}
+use Rattle.rx_walks.specs.Machines.{Outcome}
+use Rattle.rx_walks.specs.Programs.{Notes}
+use Rattle.rx_walks.specs.Finds.{Search, from_place_on, up_to_place}
+use Rattle.rx_walks.specs.ProgramFinds.{end_of}
+use Rattle.rx_walks.specs.Iterating.{nothing, at_once, passed}
+use Rattle.rx_program.specs.Programs.{ByteProgram, characters_of}
+use Rattle.rx_literals.specs.Literals.{FindsLiteral, literal_match, within}
+use Rattle.rx_chunk.specs.Engines.{Finds}
+use Rattle.rx_chunk.specs.Iterating.{ComesNext}
+use Rattle.regex_cursor.specs.declared.engines.meta.left.Left.{Left}
+use Rattle.regex_cursor.specs.declared.engines.meta.left.Left.TheVariants.{Nothing, Match, In}
+use Rattle.regex_cursor.specs.declared.engines.meta.left.Part.{Part}
+use Rattle.regex_cursor.specs.Strategies.{BeginsFrom, FindsUpTo, HoldsFind, HoldsNext, IsLeft, IsPart}
+use Rattle.regex_cursor.proofs.StrategyLaws.{CutLaw, ExistLaw, InsideLaw, OneLaw}
+
+not_known : IsTrue false → ⊥
+not_known e = let told : false ≡ true = e in absurd (cc told)
+
+module _ (p : ByteProgram) (s : Search) where
+  -- all of the span
+  same_search : (span : Span) → s.start ≡ span.start → s.end ≡ span.end → within s span ≡ s
+  same_search span start end = ap₂ (λ a b. within s (record { start = a; end = b })) (sym start) (sym end)
+
+  pub all_holds : (span : Span) → s.start ≡ span.start → s.end ≡ span.end → span.start ≤ span.end → HoldsFind p s span
+  all_holds span start end ordered = record {
+    behind = omega (arith, start);
+    ordered = ordered;
+    before = omega (arith, end);
+    finds = λ out finds. subst (λ x. Finds p x out) (same_search span start end) finds;
+  }
+
+  pub all_left : (span : Span) → s.start ≡ span.start → s.end ≡ span.end → span.start ≤ span.end → IsPart p s (record { span = span; has_match = false })
+  all_left span start end ordered = record { holds = all_holds span start end ordered; match = λ e. absurd (not_known e) }
+
+  -- up to the end of the match that is found
+  pub up_to_left : OneLaw → InsideLaw → CutLaw → (start end : ℕ) → s.start ≡ start → FindsUpTo p s end → IsPart p s (record { span = record { start = start; end = end }; has_match = true })
+  up_to_left one inside cut start end same up =
+      let t = up.found in
+      let lies = inside is_in is_word_char (characters_of p) s t up.finds in
+      let at = lies.found.inside in
+      let cut_there : Finds p (up_to_place s end) (Some t) = subst (λ e. Finds p (up_to_place s e) (Some t)) up.end_is (cut is_in is_word_char (characters_of p) s t up.finds) in
+      let there : Finds p (within s (record { start = start; end = end })) (Some t) = subst (λ x. Finds p (within s (record { start = x; end = end })) (Some t)) same cut_there in
+      record {
+        holds = record {
+          behind = omega (arith, same);
+          ordered = omega (arith, same, at.2, up.end_is);
+          before = omega (arith, at.3, up.end_is);
+          finds = λ out finds. subst (λ o. Finds p s o) (sym (one is_in is_word_char (characters_of p) (within s (record { start = start; end = end })) out (Some t) finds there)) up.finds;
+        };
+        match = λ e. record { found = t; finds = there; end_is = up.end_is };
+      }
+
+  -- the span that the literal takes
+  pub literal_left : OneLaw → InsideLaw → (span : Span) → FindsLiteral (characters_of p) is_word_char s span → IsPart p s (record { span = span; has_match = true })
+  literal_left one inside span literal =
+      let t = literal_match span in
+      let lies = inside is_in is_word_char (characters_of p) s t literal.finds in
+      record {
+        holds = record {
+          behind = lies.found.possible.0.2;
+          ordered = omega (arith, literal.some);
+          before = lies.found.inside.3;
+          finds = λ out finds. subst (λ o. Finds p s o) (sym (one is_in is_word_char (characters_of p) (within s span) out (Some t) finds literal.alone)) literal.finds;
+        };
+        match = λ e. record { found = t; finds = literal.alone; end_is = refl };
+      }
+
+  -- ---- what comes next
+
+  pub all_next : (last : Option ℕ) (whole : Span) (part : Part) → s.start ≡ whole.start → s.end ≡ whole.end → IsPart p s part → HoldsNext p s last whole
+  all_next last whole part start end is = record {
+    holds = all_holds whole start end (omega (arith, start, end, is.holds.behind, is.holds.ordered, is.holds.before));
+    comes = λ out comes. subst (λ x. ComesNext p x last out) (same_search whole start end) comes;
+  }
+
+  module _ (one : OneLaw) (inside : InsideLaw) (last : Option ℕ) (part : Part) (is : IsPart p s part) (none : (t : Outcome Notes) → Finds p (within s part.span) (Some t) → last ≡ Some (end_of t) → ⊥) where
+    next_comes : (out : Option (Outcome Notes)) → ComesNext p (within s part.span) last out → ComesNext p s last out
+    next_comes out (nothing finds) = nothing (is.holds.finds None finds)
+    next_comes out (at_once {t = t} finds not) = at_once (is.holds.finds (Some t) finds) not
+    next_comes out (passed {t = t} finds empty further) = absurd (none t finds empty.1)
+
+    pub part_next : HoldsNext p s last part.span
+    part_next = record { holds = is.holds; comes = next_comes }
+
+  -- no match in the part ends there
+  pub none_ends : OneLaw → InsideLaw → (last : Option ℕ) (part : Part) (may : Bool) → IsPart p s part → may ≡ false
+      → (IsTrue part.has_match → last ≡ Some part.span.end → IsTrue may) → ((end : ℕ) → part.has_match ≡ false → last ≡ Some end → part.span.start ≤ end → IsTrue may)
+      → (t : Outcome Notes) → Finds p (within s part.span) (Some t) → last ≡ Some (end_of t) → ⊥
+  none_ends one inside last part may is not known unknown t finds ends_ = by part.has_match refl
+    where
+      never : IsTrue may → ⊥
+      never e = let told : may ≡ true = e in absurd (cc (told, not))
+
+      by : (b : Bool) → part.has_match ≡ b → ⊥
+      by true has =
+          let up = is.match has in
+          let same : t ≡ up.found = same_Some t up.found (one is_in is_word_char (characters_of p) (within s part.span) (Some t) (Some up.found) finds up.finds) in
+          never (known has (ends_ ∙ ap Some (ap (λ (x : Outcome Notes). end_of x) same ∙ up.end_is)))
+      by false has =
+          let lies = inside is_in is_word_char (characters_of p) (within s part.span) t finds in
+          never (unknown (end_of t) has ends_ (omega (arith, lies.found.possible.0.2, lies.found.ordered)))
+
+  -- ---- from a place on
+
+  pub left_from : (place : ℕ) (left : Left) → BeginsFrom p s place → IsLeft p (from_place_on s place) left → IsLeft p s left
+  left_from place Nothing begins left = begins.finds None left
+  left_from place (Match span) begins left = record { some = left.some; finds = begins.finds (Some (literal_match span)) left.finds; alone = left.alone }
+  left_from place (In part) begins left = record {
+    holds = record {
+      behind = omega (arith, left.holds.behind, begins.behind);
+      ordered = left.holds.ordered;
+      before = left.holds.before;
+      finds = λ out finds. begins.finds out (left.holds.finds out finds);
+    };
+    match = left.match;
+  }
+
+  pub from_start : s.start ≤ s.end → BeginsFrom p s s.start
+  from_start ordered = record { behind = omega arith; before = ordered; finds = λ out finds. finds }
+
+  -- a span that is done has no match
+  pub none_done : ExistLaw → InsideLaw → s.end < s.start → Finds p s None
+  none_done exist inside done = let there = exist is_in is_word_char (characters_of p) s in by there.0 there.1
+    where
+      by : (out : Option (Outcome Notes)) → Finds p s out → Finds p s None
+      by None finds = finds
+      by (Some t) finds =
+          let at = (inside is_in is_word_char (characters_of p) s t finds).found.inside in
+          absurd (omega (arith, at.2, at.3, done))
+
+pub done_span : (start end : ℕ) (b : Bool) → b ≡ nat_lt end start → b ≡ true → end < start
+done_span start end b is told = ltb-true end start (sym is ∙ told)

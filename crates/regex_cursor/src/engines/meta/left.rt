@@ -1,0 +1,260 @@
+//! What one engine tells of a search, and what it leaves of it to the next one.
+
+ghost use Rattle.std.specs.Prelude.{◌≡◌, ◌<◌, ◌≤◌, ◌^◌, ℕ, Bool, IsTrue, None, Some, false, length, replicate};
+ghost use Rattle.unicode.specs.Perl.{is_word_char};
+ghost use Rattle.rx_util.specs.declared.search.Span.{Span};
+ghost use Rattle.rx_util.specs.Captured.{nothing_noted};
+ghost use Rattle.rx_input.specs.Cursors.{IsSameContent};
+ghost use Rattle.rx_input.specs.Inputs.{IsSpan};
+ghost use Rattle.rx_walks.specs.Finds.{Search};
+ghost use Rattle.rx_steps.specs.Searching.{answer_slots, search_of};
+ghost use Rattle.rx_program.specs.Programs.{ByteProgram, characters_of};
+ghost use Rattle.rx_literals.specs.Literals.{FindsLiteral, IsLiteralOf, literal_match};
+ghost use Rattle.rx_chunk.specs.Engines.{Finds};
+ghost use Rattle.regex_cursor.specs.Strategies.{HoldsNext, IsLeft, IsPart, IsPartLeft, IsStart, IsTold};
+
+use rx_input::{Cursor, Input};
+use rx_literals::laws::literals_find;
+use rx_literals::{Prefilter, literal};
+use rx_sets::CharacterSet;
+use rx_util::{Anchored, Captures, Match, NonMaxUsize, PatternID, Span};
+use rx_walks::laws::{finds_at_most_one, finds_lie_inside, finds_stay_in_cut_spans};
+
+/// What a literal tells of a search whose span isn't done.
+#[derive(Clone, Copy, Debug)]
+pub(super) enum Start {
+    /// There is no match.
+    Nowhere,
+    /// The match takes this span, and has no groups besides: it is the literal.
+    At(Span),
+    /// A match begins at this place or behind it.
+    From(usize),
+}
+
+/// What the automaton tells of a search.
+#[derive(Clone, Copy, Debug)]
+pub(super) enum Told {
+    /// There is no match.
+    NoMatch,
+    /// There is a match, and it ends at this place.
+    EndsAt(usize),
+    /// Nothing.
+    Unknown,
+}
+
+/// A part of a search's span, in which that is found which is found in the span.
+#[derive(Clone, Copy, Debug)]
+pub(super) struct Part {
+    pub(super) span: Span,
+    /// Whether it is known that there is a match, which then ends where the part does.
+    pub(super) has_match: bool,
+}
+
+/// What is left of a search for the PikeVM.
+#[derive(Clone, Copy, Debug)]
+pub(super) enum Left {
+    /// Nothing: there is no match.
+    Nothing,
+    /// Nothing: the match takes this span, and has no groups besides.
+    Match(Span),
+    /// To search in this part of the span.
+    In(Part),
+}
+
+impl Told {
+    /// What is left of a search of this span.
+    pub(super) fn left_in(self, span: Span) -> Left
+        requires { span.start ≤ span.end }
+        ensures { (p : ByteProgram) (s : Search) → s.start ≡ span.start → s.end ≡ span.end
+            → IsTold p s self → IsLeft p s result }
+    {
+        // Laws, for the proof alone.
+        finds_at_most_one::<CharacterSet>();
+        finds_lie_inside::<CharacterSet>();
+        finds_stay_in_cut_spans::<CharacterSet>();
+        match self {
+            Told::NoMatch => Left::Nothing,
+            Told::EndsAt(end) => Left::In(Part {
+                span: Span {
+                    start: span.start,
+                    end,
+                },
+                has_match: true,
+            }),
+            Told::Unknown => Left::In(Part {
+                span,
+                has_match: false,
+            }),
+        }
+    }
+}
+
+impl Left {
+    /// The part in which a match lies, if there is one.
+    pub(super) fn part(self) -> Option<Part>
+        ensures { (p : ByteProgram) (s : Search) → IsLeft p s self → IsPartLeft p s result }
+    {
+        // Laws, for the proof alone.
+        finds_at_most_one::<CharacterSet>();
+        finds_lie_inside::<CharacterSet>();
+        match self {
+            Left::Nothing => None,
+            Left::Match(span) => Some(Part {
+                span,
+                has_match: true,
+            }),
+            Left::In(part) => Some(part),
+        }
+    }
+}
+
+impl Part {
+    /// Whether a match in it may end where the last match did, if there was one.
+    fn may_end_at(self, last_match_end: Option<usize>) -> bool
+        ensures known { IsTrue self.has_match → last_match_end ≡ Some self.span.end
+            → IsTrue result }
+        ensures unknown { (end : ℕ) → self.has_match ≡ false → last_match_end ≡ Some end
+            → self.span.start ≤ end → IsTrue result }
+    {
+        match last_match_end {
+            None => false,
+            Some(end) if self.has_match => end == self.span.end,
+            Some(end) => self.span.start <= end,
+        }
+    }
+
+    /// The part to search for what comes next where the last match, if there was one, ended at
+    /// `last_match_end`: all of the search's span, where an empty match may have to be passed over.
+    pub(super) fn behind(self, last_match_end: Option<usize>, whole: Span) -> Part
+        ensures { (p : ByteProgram) (s : Search) → s.start ≡ whole.start → s.end ≡ whole.end
+            → IsPart p s self → HoldsNext p s last_match_end result.span }
+    {
+        // Laws, for the proof alone.
+        finds_at_most_one::<CharacterSet>();
+        finds_lie_inside::<CharacterSet>();
+        if self.may_end_at(last_match_end) {
+            Part {
+                span: whole,
+                has_match: false,
+            }
+        } else {
+            self
+        }
+    }
+
+    /// Makes the part an input's span, and answers the span that it had.
+    pub(super) fn cut<C: Cursor>(self, input: &mut Input<C>) -> Span
+        requires { self.span.start ≤ self.span.end }
+        ensures whole { result ≡ input.old.asked.span }
+        ensures same { IsSameContent input.old.cursor input.new.cursor }
+        ensures asked { input.new.asked ≡ record input.old.asked { span = self.span } }
+    {
+        let whole = input.get_span();
+        put_back(input, self.span);
+        whole
+    }
+}
+
+/// Gives an input this span, as where it had been cut.
+pub(super) fn put_back<C: Cursor>(input: &mut Input<C>, span: Span)
+    requires { IsSpan span }
+    ensures same { IsSameContent input.old.cursor input.new.cursor }
+    ensures asked { input.new.asked ≡ record input.old.asked { span = span } }
+{
+    input.set_span(span);
+}
+
+/// Whether a span lies in another one.
+fn lies_in(span: Span, slice: Span) -> bool
+    ensures from { IsTrue result → slice.start ≤ span.start }
+    ensures to { IsTrue result → span.end ≤ slice.end }
+{
+    slice.start <= span.start && span.end <= slice.end
+}
+
+/// Where the match lies by what was found of the literal that it is. Where that isn't in the slice
+/// nothing is known of it.
+fn start_at<C: Cursor>(found: Option<Span>, input: &Input<C>) -> Start
+    requires { input.now.asked.span.start ≤ input.now.asked.span.end }
+    ensures { (p : ByteProgram) (s : Search) → s.start ≡ input.now.asked.span.start
+        → s.end ≡ input.now.asked.span.end
+        → (found ≡ None → Finds p s None)
+        → ((span : Span) → found ≡ Some span → input.now.asked.slice.start ≤ span.start
+        → span.end ≤ input.now.asked.slice.end
+        → FindsLiteral (characters_of p) is_word_char s span)
+        → IsStart p s result }
+{
+    match found {
+        None => Start::Nowhere,
+        Some(span) if lies_in(span, input.get_slice()) => Start::At(span),
+        Some(_) => Start::From(input.start()),
+    }
+}
+
+/// Where the match lies of a program whose matches are a literal, which is looked for in the span,
+/// or at its start if the search is anchored. The span must not be done. The position may move.
+pub(super) fn start_of_literal<C: Cursor>(needle: &Prefilter, input: &mut Input<C>) -> Start
+    requires { input.old.asked.span.start ≤ input.old.asked.span.end }
+    ensures start { (p : ByteProgram) (utf8_empty : Bool)
+        → IsLiteralOf needle.now (characters_of p)
+        → IsStart p (search_of utf8_empty input.old) result }
+    ensures asked { input.new.asked ≡ input.old.asked }
+    ensures same { IsSameContent input.old.cursor input.new.cursor }
+{
+    // Laws, for the proof alone.
+    literals_find();
+    needle.needles_are_lawful();
+    match input.get_anchored() {
+        Anchored::No => {
+            let found = literal::find(needle, input);
+            start_at(found, input)
+        }
+        Anchored::Yes => {
+            let found = literal::prefix(needle, input);
+            start_at(found, input)
+        }
+        Anchored::Pattern(_) => Start::From(input.start()),
+    }
+}
+
+/// The match of the first pattern that takes a span.
+pub(super) fn match_in(span: Span) -> Match
+    requires { span.start ≤ span.end }
+    ensures pattern { result.pattern ≡ 0 }
+    ensures span { result.span ≡ span }
+{
+    Match::new(PatternID::ZERO, span)
+}
+
+/// Puts none into each slot.
+pub(super) fn clear_slots(slots: &mut [Option<NonMaxUsize>])
+    ensures { slots.new ≡ replicate (length slots.old) None }
+{
+    slots.fill(None);
+}
+
+/// Puts the places of a match that takes a span, and has no groups besides, into the slots.
+pub(super) fn put_match(slots: &mut [Option<NonMaxUsize>], span: Span)
+    requires start { span.start < 2 ^ 63 }
+    requires end { span.end < 2 ^ 63 }
+    ensures { slots.new ≡ answer_slots (length slots.old) (Some (literal_match span)) }
+{
+    clear_slots(slots);
+    let len = slots.len();
+    if len == 0 {
+        return;
+    }
+    slots[0] = NonMaxUsize::new(span.start);
+    if len == 1 {
+        return;
+    }
+    slots[1] = NonMaxUsize::new(span.end);
+}
+
+/// Notes that nothing is found.
+pub(super) fn note_nothing(caps: &mut Captures)
+    ensures { caps.new ≡ nothing_noted caps.old.groups (length caps.old.slots) }
+{
+    caps.set_pattern(None);
+    clear_slots(caps.slots_mut());
+}

@@ -1,0 +1,153 @@
+//! The literal that the matches of a program are.
+
+ghost use Rattle.std.specs.Prelude.{◌≡◌, [], ◌∷◌, IfOk, IfSome, IsTrue, OnOk, Some, slice_get, string_bytes};
+ghost use Rattle.std.specs.Option.{ForSome};
+ghost use Rattle.rx_walks.specs.Programs.{match, note};
+ghost use Rattle.rx_program.specs.Programs.{characters_of, node_of};
+ghost use Rattle.rx_literals.specs.Literals.{IsLiteralOf};
+ghost use Rattle.rx_literals.specs.Spellings.{IsOnlyMember, NotesEnd, ReadsOnly, Spells};
+
+use crate::prefilter::Prefilter;
+use rx_program::{Program, State};
+use rx_sets::{Range, from_ordinal};
+use rx_util::{MatchKind, PatternID, StateID};
+use std::alloc::{AllocError, Global};
+
+/// How many characters a literal has at most: a needle has no more bytes.
+const CHARACTERS: usize = 64;
+
+/// The member of a set that has one, by its ranges.
+fn only_member(ranges: &[Range]) -> Option<char>
+    ensures { IfSome result (IsOnlyMember ranges.now) }
+{
+    if ranges.len() != 1 || ranges[0].0 != ranges[0].1 {
+        return None;
+    }
+    from_ordinal(ranges[0].0)
+}
+
+/// The character that the state with this number reads, if it reads that one alone, and the state
+/// to which it leads.
+fn read_at(program: &Program, at: StateID) -> Option<(char, StateID)>
+    ensures { IfSome result (λ read. ReadsOnly
+        (slice_get (characters_of program.now).nodes at) read.0 read.1) }
+{
+    match program.states().get(at.as_usize()) {
+        Some(State::Ranges(automaton, next)) => {
+            let c = only_member(automaton.ranges())?;
+            Some((c, *next))
+        }
+        _ => None,
+    }
+}
+
+/// The state to which the state with this number leads, if it notes a place in this slot.
+fn behind_note(program: &Program, at: StateID, slot: usize) -> Option<StateID>
+    ensures { IfSome result (λ next. slice_get (characters_of program.now).nodes at
+        ≡ Some (note slot next)) }
+{
+    match program.states().get(at.as_usize()) {
+        Some(State::Capture(noted, next)) if *noted == slot => Some(*next),
+        _ => None,
+    }
+}
+
+/// Whether a match of the first pattern ends at the state with this number.
+fn is_match(program: &Program, at: StateID) -> bool
+    ensures { IsTrue result → slice_get (characters_of program.now).nodes at ≡ Some (match 0) }
+{
+    match program.states().get(at.as_usize()) {
+        Some(State::Match(pattern)) => *pattern == PatternID::ZERO,
+        _ => false,
+    }
+}
+
+/// Whether the end is noted at the state with this number, and behind it the match ends.
+fn notes_end(program: &Program, at: StateID) -> bool
+    ensures { IsTrue result → NotesEnd (characters_of program.now) at }
+{
+    match behind_note(program, at, 1) {
+        Some(last) => is_match(program, last),
+        None => false,
+    }
+}
+
+/// The literal over which each walk goes from the start, as far as it was read, and the state
+/// behind it.
+#[derive(Drop)]
+struct Spelling {
+    literal: String,
+    at: StateID,
+}
+
+impl Spelling {
+    /// Goes on from the state, and answers whether it reads one character alone.
+    fn step(&mut self, program: &Program) -> Result<bool, AllocError>
+        ensures { OnOk result
+            (Spells (characters_of program.now) (string_bytes self.old.literal) self.old.at
+            → Spells (characters_of program.now) (string_bytes self.new.literal) self.new.at) }
+    {
+        match read_at(program, self.at) {
+            Some(read) => {
+                self.literal.push(read.0)?;
+                self.at = read.1;
+                Ok(true)
+            }
+            None => Ok(false),
+        }
+    }
+}
+
+/// The literal that walks go over from the start on, and the state behind it; `None` where they
+/// don't note first where they begin.
+fn spelled(alloc: Global, program: &Program) -> Result<Option<Spelling>, AllocError>
+    ensures { IfOk result (λ spelled. IfSome spelled (λ spelling.
+        Spells (characters_of program.now) (string_bytes spelling.literal) spelling.at)) }
+{
+    let at = match behind_note(program, program.start(), 0) {
+        Some(at) => at,
+        None => return Ok(None),
+    };
+    let mut spelling = Spelling {
+        literal: String::new(alloc),
+        at,
+    };
+    for _ in 0..CHARACTERS {
+        if !spelling.step(program)? {
+            return Ok(Some(spelling));
+        }
+    }
+    Ok(Some(spelling))
+}
+
+/// The literal that each match is; `None` where that isn't found.
+fn only_literal(alloc: Global, program: &Program) -> Result<Option<String>, AllocError>
+    ensures { IfOk result (λ made. IfSome made
+        (λ literal. IsLiteralOf (string_bytes literal ∷ []) (characters_of program.now))) }
+{
+    let spelling = match spelled(alloc, program)? {
+        Some(spelling) => spelling,
+        None => return Ok(None),
+    };
+    if !notes_end(program, spelling.at) {
+        return Ok(None);
+    }
+    Ok(Some(spelling.literal))
+}
+
+impl Prefilter {
+    /// A prefilter of the literal that each match of a program is, and `None` where that isn't
+    /// found: the pattern must be characters that stand alone, one after the other, with no group,
+    /// look or repetition, and have at most 64 bytes. It takes time for at most 67 states.
+    pub fn of_literal(alloc: Global, program: &Program) -> Result<Option<Prefilter>, AllocError>
+        ensures { IfOk result (λ made. ForSome made
+            (λ prefilter. IsLiteralOf prefilter (characters_of program.now))) }
+    {
+        match only_literal(alloc, program)? {
+            Some(literal) => {
+                Prefilter::new(alloc, MatchKind::LeftmostFirst, &[literal.as_bytes()])
+            }
+            None => Ok(None),
+        }
+    }
+}
