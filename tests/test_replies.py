@@ -1,6 +1,7 @@
 """What bin/rope-search answers: the examples of docs/protocol.md and longer ones, from a file, from a pipe
 in pieces, cut short, and command by command."""
 import os
+import random
 import re
 import select
 import subprocess
@@ -278,6 +279,40 @@ def test_ample_memory():
     test("the first session a thousand times over", differences(run(FIRST * 1_000), answer(FIRST)[0] * 1_000, 0))
 
 
+# Patterns whose matches begin with literals, or with none that is known; each with what is put into lines.
+BEGINNINGS = [
+    ("xyz", "xyz"), ("xyz+", "xyzz"), ("^xyz", "xyz"), ("xyz$", "xyz"), ("(?m)^xyz$", "xyz"), ("\\bxy(z)?", "xy"),
+    ("xy|xyz", "xyz"), ("xyz|abc", "abcxyz"), ("(?i)xYz", "XyZ"), ("é🐸.", "é🐸é"), ("x\\ny", "x\ny"), ("x[^a]?", "x\r\ny"),
+    ("a{3}b*", "aaab"), ("x\\r", "x\r"), ("[xy]z", "yz"), ("z*", "z"),
+]
+
+
+def lines_far_apart():
+    """Commands over texts of some thousand lines, for each of these patterns: what its matches begin with lies in each
+    line, in few of them or in none, over the ends of chunks and of lines, and lines come and go."""
+    maker = random.Random(41)
+    for number, (pattern, literal) in enumerate(BEGINNINGS):
+        for gap in (1, 12, 300, 5_000):
+            lines = []
+            for _ in range(2_000):
+                line = "".join(maker.choice("ab -é") for _ in range(maker.choice((0, 1, 7, 30))))
+                if maker.randrange(gap) == 0:
+                    line = line[:4] + literal + line[4:]
+                lines.append(line + maker.choice(("\n", "\n", "\n", "\r\n", "\r")))
+            text = "".join(lines)
+            data = with_payload("text", text) + with_payload("pattern", pattern) + b"list\n"
+            for _ in range(4):
+                first = maker.randrange(1_900)
+                payload = (literal + "\n" + maker.choice(lines) * maker.choice((0, 3, 30))).encode()
+                data += spelled("edit", (first, 0, first + maker.choice((0, 1, 40)), 0, len(payload)), payload) + b"list\n"
+            yield f"lines with {pattern!r} about every {gap}", data + b"undo\nlist\nnext 900 0\n"
+
+
+def test_lines_far_apart():
+    for name, data in lines_far_apart():
+        test(name, differences(run(data), *answer(data)))
+
+
 def read_past(line, before=b""):
     """A command line, the number of which is a payload one byte over the limit, and `print`: they lie in a file with a
     hole. Answers the run."""
@@ -363,6 +398,7 @@ def test_arguments():
 def test_all():
     test_examples(examples_of_page())
     test_ample_memory()
+    test_lines_far_apart()
     test_long_text()
     test_conversation()
     test_arguments()

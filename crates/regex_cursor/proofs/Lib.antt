@@ -1,3 +1,4 @@
+pub mod BetweenLaws
 mod FewLaws
 pub mod OrderLaws
 pub mod ShowingLaws

@@ -54,7 +54,7 @@ search-is re content from input utf8 asks =
       earliest = false;
     }) u) utf8
 
-program-is : (text : List ℕ) (re : Engine) → (built : IsRegexOf text re) → characters_of re.program ≡ program_for built.tree
+pub program-is : (text : List ℕ) (re : Engine) → (built : IsRegexOf text re) → characters_of re.program ≡ program_for built.tree
 program-is text re built = built.of_tree.program ∙ ap (λ t. program_of (built.tree ∷ []) t) built.line_terminator
 
 -- what its program finds for an input is what the tree has there

@@ -1,9 +1,9 @@
 -- What a pattern's text spells, and what a search for it finds over a whole content: the words of
 -- the crates below, for crates that stand on this one.
-use Rattle.std.specs.Prelude.{◌≡◌, ℕ, false, true, List, [], ◌∷◌, length, Option}
+use Rattle.std.specs.Prelude.{◌≡◌, ℕ, ◌≤◌, false, true, List, [], ◌∷◌, length, Option, None}
 use Rattle.unicode.specs.Perl.{is_word_char}
 use Rattle.rx_util.specs.declared.search.Anchored.TheVariants.{No}
-pub use Rattle.rx_input.specs.Inputs.{Asked, InputState}
+pub use Rattle.rx_input.specs.Inputs.{Asked, InputState, between}
 use Rattle.rx_utf8.specs.Automata.{is_in}
 use Rattle.rx_sets.specs.Sets.{Range}
 use Rattle.rx_grammar.specs.Grammar.{Spells}
@@ -73,6 +73,11 @@ pub record AsksFrom (content : List ℕ) (from : ℕ) (input : InputState) : Typ
 abbrev pub TreeFinds : Tree → List ℕ → ℕ → Option FoundMatch → Type 0
 TreeFinds tree content from found =
     ProgramFinds is_in is_word_char (program_for tree) (search_from content from) found
+
+-- no part of a content from one place up to another has a match of the tree, searched by itself
+abbrev pub HasNoMatchBetween : Tree → List ℕ → ℕ → ℕ → Type 0
+HasNoMatchBetween tree content from to =
+    (start end : ℕ) → from ≤ start → end ≤ to → TreeFinds tree (between start end content) 0 None
 
 -- its matches in a content, one after the other: the first is found from the content's start, each
 -- further one from the end of the one before, or one place on where an empty match is found there

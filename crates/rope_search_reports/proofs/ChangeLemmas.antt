@@ -63,7 +63,7 @@ gap-next before before' gap after after' k is =
     ∙ sym (ap (take (k - 1)) (rear before (gap ++ after)))
 
 -- a list in three parts
-dropped : {A : Type 0} (xs : List A) (i j : ℕ) → i ≤ j → drop i (take j xs) ≡ take (j - i) (drop i xs)
+pub dropped : {A : Type 0} (xs : List A) (i j : ℕ) → i ≤ j → drop i (take j xs) ≡ take (j - i) (drop i xs)
 dropped xs i j l =
     let sum : j ≡ i + (j - i) = omega (arith, l) in
     ap (λ n. drop i (take n xs)) sum ∙ drop-take i (j - i) xs
@@ -74,7 +74,7 @@ taken xs (suc i) zero l = absurd (omega (arith, l))
 taken [] (suc i) (suc j) l = refl
 taken (x ∷ xs) (suc i) (suc j) l = ap (λ ys. x ∷ ys) (taken xs i j (omega (arith, l)))
 
-two : {A : Type 0} (xs : List A) (i j : ℕ) → i ≤ j → take j xs ≡ take i xs ++ take (j - i) (drop i xs)
+pub two : {A : Type 0} (xs : List A) (i j : ℕ) → i ≤ j → take j xs ≡ take i xs ++ take (j - i) (drop i xs)
 two xs i j l = sym (take-append-drop i (take j xs)) ∙ ap (λ ys. ys ++ drop i (take j xs)) (taken xs i j l) ∙ ap (λ ys. take i xs ++ ys) (dropped xs i j l)
 
 three : {A : Type 0} (xs : List A) (a b c : ℕ) → a ≤ b → b ≤ c → take c xs ≡ take a xs ++ take (b - a) (drop a xs) ++ take (c - b) (drop b xs)

@@ -73,7 +73,7 @@ break-last (c ∷ d ∷ []) behind is = is
 break-last (c ∷ d ∷ e ∷ es) behind is = is
 
 -- where the line behind the last one would start
-past-last : (text : List ℕ) (line : ℕ) → line + 1 ≡ line_count text → line_start text (line + 1) ≡ byte_len text
+pub past-last : (text : List ℕ) (line : ℕ) → line + 1 ≡ line_count text → line_start text (line + 1) ≡ byte_len text
 past-last text line is_last =
     let all = byte_len text in
     let ends = break_ends is_break text in

@@ -1,18 +1,27 @@
 //! The report of a text: its lines, each searched by itself.
-ghost use Rattle.std.specs.Prelude.{◌≡◌, ◌+◌, ◌-◌, ◌^◌, ◌<◌, ◌≤◌, ℕ, List, take, drop, IfOk, IfErr};
+ghost use Rattle.std.specs.Prelude.{◌≡◌, ◌+◌, ◌-◌, ◌^◌, ◌<◌, ◌≤◌, ℕ, List, take, drop, IfOk, IfErr, OnOk};
 ghost use Rattle.str_indices.specs.Text.{breaks};
 ghost use Rattle.ropey.specs.Chunks.{is_break, text_of};
 ghost use Rattle.ropey_walk.specs.Slices.{slice_text};
 ghost use Rattle.rope_search_reports.specs.Text.{line_count};
 ghost use Rattle.rope_search_reports.specs.Report.{line_texts, AreRows, IsReport, match_count};
-ghost use Rattle.rope_search_reports.specs.Drafts.{IsLine};
+ghost use Rattle.rope_search_reports.specs.Drafts.{AddsRows, IsLine, lines_between};
 ghost use Rattle.rope_search_reports.specs.Ticks.{MakesAtMost};
 
 use crate::laws;
-use crate::rows::{Finder, Lines, Row, search_line};
+use crate::rows::{Finder, Lines, Row, pass_over, search_line};
 use rope_search_io::Fault;
 use ropey::{Rope, RopeSlice};
 use std::alloc::Global;
+
+/// How many lines are searched before it is asked where a match may begin.
+const FEW: usize = 8;
+
+/// And at most, where asking doesn't pay.
+const MOST: usize = 1_024;
+
+/// To ask where a match may begin takes about as long as searching so many lines of usual length.
+const PAYS: usize = 16;
 
 /// A line's text: the line without the break that ends it, where it has one. `O(log n)`.
 fn without_break(line: RopeSlice<'_>) -> RopeSlice<'_>
@@ -32,9 +41,9 @@ fn without_break(line: RopeSlice<'_>) -> RopeSlice<'_>
     line.slice(..len - 1)
 }
 
-/// Returns the report of a text and a finder's pattern: a row for each line, from the first, each
-/// searched where it lies. At most a row a line is counted. Time is linear in the text, times the
-/// pattern's weight.
+/// Returns the report of a text and a finder's pattern: a row for each line, from the first, made
+/// as `rows_of_lines` does. At most a row a line is counted. Time is linear in the text, times the
+/// pattern's weight for the lines that are searched.
 ///
 /// Errors: `Fault::Memory`; the finder serves on.
 pub fn report_of(
@@ -55,9 +64,57 @@ pub fn report_of(
     rows_of_lines(tick, alloc, finder, text, 0, text.len_lines())
 }
 
-/// Returns the rows of lines `first..end` of a text, each searched by itself, where it lies. At
-/// most a row for each of them is counted. Requires `first <= end` and `end <= len_lines()`. Time
-/// is `O(log n)` and linear in these lines, times the pattern's weight.
+/// Adds the rows of lines `first..end` of a text behind others, each line searched by itself, where
+/// it lies. At most a row for each of them is counted.
+///
+/// Errors: `Fault::Memory`; the finder serves on.
+fn push_rows(
+    tick: &mut Lines,
+    finder: &mut Finder,
+    text: &Rope,
+    rows: &mut Vec<Row>,
+    first: usize,
+    end: usize,
+) -> Result<(), Fault>
+    requires ordered { first ≤ end }
+    requires within { end ≤ line_count (text_of text.now) }
+    ensures rows { OnOk result (AddsRows finder.old
+        (lines_between (text_of text.now) first end) rows.old.items rows.new.items) }
+    ensures fault { IfErr result (λ fault. fault ≡ Fault.Memory) }
+    ensures finder { finder.new ≡ finder.old }
+    ensures count { MakesAtMost (end - first) tick.old tick.new }
+{
+    // Laws, for the proof alone.
+    laws::places();
+    let mut lines = text.lines_at(first);
+    for _line_idx in first..end {
+        let Some(line) = lines.next() else {
+            unreachable!()
+        };
+        rows.push(search_line(tick, finder, without_break(line))?)?;
+    }
+    Ok(())
+}
+
+/// How many lines are searched before it is asked again where a match may begin, by how many there
+/// were last time and how many were then passed over: twice as many where asking costs more than
+/// searching these would have.
+fn lines_before_asking(last: usize, passed: usize) -> usize
+    requires { 1 ≤ last }
+    ensures { 1 ≤ result }
+{
+    if passed < PAYS {
+        last.saturating_mul(2).min(MOST)
+    } else {
+        FEW
+    }
+}
+
+/// Returns the rows of lines `first..end` of a text, each searched by itself, where it lies, or
+/// passed over where it lies behind the first few and before the next place at which a match may
+/// begin, by the literals that each match begins with. At most a row for each of them is counted.
+/// Requires `first <= end` and `end <= len_lines()`. Time is `O(log n)` and linear in these lines,
+/// times the pattern's weight for those that are searched.
 ///
 /// Errors: `Fault::Memory`; the finder serves on.
 pub fn rows_of_lines(
@@ -76,15 +133,14 @@ pub fn rows_of_lines(
     ensures finder { finder.new ≡ finder.old }
     ensures count { MakesAtMost (end - first) tick.old tick.new }
 {
-    // Laws, for the proof alone.
-    laws::places();
     let mut rows = Vec::new(alloc);
-    let mut lines = text.lines_at(first);
-    for _line_idx in first..end {
-        let Some(line) = lines.next() else {
-            unreachable!()
-        };
-        rows.push(search_line(tick, finder, without_break(line))?)?;
+    let mut line_idx = first;
+    let mut few = FEW;
+    while line_idx < end {
+        let stop = line_idx + few.min(end - line_idx);
+        push_rows(tick, finder, text, &mut rows, line_idx, stop)?;
+        line_idx = pass_over(tick, finder, text, &mut rows, stop, end)?;
+        few = lines_before_asking(few, line_idx - stop);
     }
     Ok(rows)
 }

@@ -1,17 +1,20 @@
 //! Patterns made ready to search, what their searches find in a line or in a whole text, and the
 //! count of these searches.
-ghost use Rattle.std.specs.Prelude.{◌≡◌, ◌+◌, ◌-◌, ◌^◌, ◌<◌, ◌≤◌, ◌⊎◌, ℕ, List, length, min, chars, IfOk, IfErr, Err};
+ghost use Rattle.std.specs.Prelude.{◌≡◌, ◌+◌, ◌-◌, ◌^◌, ◌<◌, ◌≤◌, ◌⊎◌, ◌++◌, ℕ, List, [], length, min, chars, replicate, IfOk, IfErr, IfSome, OnOk, Err};
 ghost use Rattle.std.specs.Str.{IsCharBoundary};
+ghost use Rattle.str_indices.specs.Text.{byte_len};
 ghost use Rattle.ropey.specs.Chunks.{text_of};
 ghost use Rattle.ropey_walk.specs.Comparing.{slice_bytes};
 ghost use Rattle.ropey_walk.specs.Slices.{slice_text};
 ghost use Rattle.regex_cursor.specs.Regexes.{IsCacheOf, IsRegexOf};
-ghost use Rattle.rope_search_reports.specs.Text.{bytes_of};
+ghost use Rattle.rope_search_reports.specs.Text.{bytes_of, line_count};
 ghost use Rattle.rope_search_reports.specs.Pattern.{IsPattern, IsTooHeavy, SpellsNone, Finds, pattern_limit};
 ghost use Rattle.rope_search_reports.specs.Report.{IsRow};
 ghost use Rattle.rope_search_reports.specs.Matches.{AreGroups};
 ghost use Rattle.rope_search_reports.specs.Replacement.{AreMatchesIn};
 ghost use Rattle.rope_search_reports.specs.Finders.{IsRowOf};
+ghost use Rattle.rope_search_reports.specs.Drafts.{AddsRows, AreBare, HasNoneBetween, lines_between};
+ghost use Rattle.rope_search_reports.specs.Ticks.{MakesAtMost};
 
 use crate::columns::column_at;
 use crate::laws;
@@ -69,13 +72,13 @@ impl Lines {
         self.wholes
     }
 
-    /// Counts one row more.
-    fn add_row(&mut self)
-        ensures count { self.new.count ≡ min (self.old.count + 1) (2 ^ 64 - 1) }
+    /// Counts so many rows more.
+    fn add_rows(&mut self, rows: usize)
+        ensures count { self.new.count ≡ min (self.old.count + rows) (2 ^ 64 - 1) }
         ensures wholes { self.new.wholes ≡ self.old.wholes }
     {
         let count = &mut self.count;
-        *count = count.saturating_add(1);
+        *count = count.saturating_add(rows as u64);
     }
 
     /// Counts one search of a whole text more.
@@ -148,11 +151,27 @@ impl Finder {
             pattern: PatternText::new(pattern),
         })
     }
+
+    /// A place of a text, from `start` up to `end`, before which nothing matches: no part of the text
+    /// between `start` and there has a match, searched by itself. That is told by the literals that
+    /// each match begins with, and by no search; `None` where no such literals are known. Time is
+    /// `O(log n)`, and linear in the text up to the place.
+    fn no_match_before(&self, text: &Rope, start: usize, end: usize) -> Option<usize>
+        requires ordered { start ≤ end }
+        requires within { end ≤ byte_len (text_of text.now) }
+        ensures no_match { IfSome result (λ place.
+            HasNoneBetween self.now (bytes_of (text_of text.now)) start place) }
+        ensures within { IfSome result (λ place. place ≤ end) }
+    {
+        let mut input = input_from(text.slice(..), start);
+        input.set_end(end);
+        self.regex.no_match_before(&mut input)
+    }
 }
 
 /// The matches of a pattern in one line, from the left: where each starts and where it ends, in
-/// UTF-16 code units from the line's start. Only `search_line` makes one, and it can't be copied,
-/// so each one was counted.
+/// UTF-16 code units from the line's start. Only `search_line` and `pass_over` make any, which they
+/// count, and none can be copied.
 #[derive(Drop)]
 pub struct Row {
     matches: Vec<(usize, usize)>,
@@ -219,9 +238,87 @@ pub fn search_line(tick: &mut Lines, finder: &mut Finder, line: RopeSlice<'_>) -
     ensures count { tick.new.count ≡ min (tick.old.count + 1) (2 ^ 64 - 1) }
     ensures wholes { tick.new.wholes ≡ tick.old.wholes }
 {
-    tick.add_row();
+    tick.add_rows(1);
     let matches = columns_in(finder.alloc, &finder.regex, &mut finder.cache, line)?;
     Ok(Row { matches })
+}
+
+/// Adds the rows of so many lines in which nothing matches behind others. All of them are counted,
+/// also after an error.
+///
+/// Errors: `Fault::Memory`.
+fn push_bare(
+    tick: &mut Lines,
+    alloc: Global,
+    rows: &mut Vec<Row>,
+    count: usize,
+) -> Result<(), Fault>
+    ensures rows { OnOk result (rows.new.items ≡ rows.old.items ++ replicate count []) }
+    ensures fault { IfErr result (λ fault. fault ≡ Fault.Memory) }
+    ensures count { tick.new.count ≡ min (tick.old.count + count) (2 ^ 64 - 1) }
+    ensures wholes { tick.new.wholes ≡ tick.old.wholes }
+{
+    tick.add_rows(count);
+    for _row_idx in 0..count {
+        rows.push(Row {
+            matches: Vec::new(alloc),
+        })?;
+    }
+    Ok(())
+}
+
+/// The line, from `line_idx` on and up to `end`, before which no line has a match, as far as the
+/// literals tell that each match begins with. `O(log n)`, and time is linear in the text up to it.
+fn next_line(finder: &Finder, text: &Rope, line_idx: usize, end: usize) -> usize
+    requires ordered { line_idx ≤ end }
+    requires within { end ≤ line_count (text_of text.now) }
+    ensures ordered { line_idx ≤ result }
+    ensures within { result ≤ end }
+    ensures bare { AreBare finder.now (text_of text.now) line_idx result }
+{
+    // Laws, for the proof alone.
+    laws::places();
+    str_indices::laws::to_byte_idx_is_monotone();
+    regex_cursor::laws::finds_of_trees();
+    if line_idx == end {
+        return end;
+    }
+    let from = text.line_to_byte(line_idx);
+    let to = text.line_to_byte(end);
+    match finder.no_match_before(text, from, to) {
+        Some(place) => text.byte_to_line(place).min(end).max(line_idx),
+        None => line_idx,
+    }
+}
+
+/// Passes over the lines from `line_idx` on, and up to `end`, before the one in which a match may
+/// begin next, as far as the literals tell that each match begins with. Their rows, which have no
+/// match, come behind others, and all of them are counted. Returns the line that it came to. Time
+/// is `O(log n)`, and linear in the text up to that line.
+///
+/// Errors: `Fault::Memory`; the rows may be counted all the same.
+pub(crate) fn pass_over(
+    tick: &mut Lines,
+    finder: &Finder,
+    text: &Rope,
+    rows: &mut Vec<Row>,
+    line_idx: usize,
+    end: usize,
+) -> Result<usize, Fault>
+    requires ordered { line_idx ≤ end }
+    requires within { end ≤ line_count (text_of text.now) }
+    ensures ordered { IfOk result (λ next. line_idx ≤ next) }
+    ensures within { IfOk result (λ next. next ≤ end) }
+    ensures rows { IfOk result (λ next. AddsRows finder.now
+        (lines_between (text_of text.now) line_idx next) rows.old.items rows.new.items) }
+    ensures count { IfOk result (λ next. tick.new.count
+        ≡ min (tick.old.count + (next - line_idx)) (2 ^ 64 - 1)) }
+    ensures most { MakesAtMost (end - line_idx) tick.old tick.new }
+    ensures fault { IfErr result (λ fault. fault ≡ Fault.Memory) }
+{
+    let next = next_line(finder, text, line_idx, end);
+    push_bare(tick, finder.alloc, rows, next - line_idx)?;
+    Ok(next)
 }
 
 /// Returns the first match in a whole text from a byte index on, as the byte indices of its start

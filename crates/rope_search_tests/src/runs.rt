@@ -179,6 +179,26 @@ fn a_letter_in_ten_thousand_lines(rt: HostRuntime) -> Result<(), Fail> {
     Ok(())
 }
 
+/// Each line has a row that is counted, also where it is passed over since it has none of a literal.
+#[test]
+fn matches_a_thousand_lines_apart(rt: HostRuntime) -> Result<(), Fail> {
+    let mut input = Vec::new(rt.alloc());
+    input.extend_from_slice(b"text 33027\n")?;
+    for line_idx in 0..3_003 {
+        if line_idx % 1_001 == 0 {
+            input.extend_from_slice(b"a match\r\n")?;
+        } else {
+            input.extend_from_slice(b"some line\r\n")?;
+        }
+    }
+    input.extend_from_slice(b"pattern 5\nmatchlist\n")?;
+    let outcome = run_once(&rt, input.as_slice(), Limits::default(), AMPLE)?;
+    assert!(rt; outcome.rows == 3_004);
+    let reply = b"ok\nok\nm 0 2 7\nm 1001 2 7\nm 2002 2 7\nok 3\n".as_slice();
+    assert!(rt; outcome.sink.written() == reply);
+    Ok(())
+}
+
 /// For each match as many as what takes its place has lines, also where a CR LF is parted or made,
 /// and none where there is no match.
 #[test]

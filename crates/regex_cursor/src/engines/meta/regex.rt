@@ -1,6 +1,6 @@
 //! A regular expression that is searched for.
 
-ghost use Rattle.std.specs.Prelude.{◌≡◌, ◌+◌, ◌<◌, ◌≤◌, ◌^◌, IfErr, IfOk, None, OnErr, OnOk, length};
+ghost use Rattle.std.specs.Prelude.{◌≡◌, ◌+◌, ◌<◌, ◌≤◌, ◌^◌, ℕ, List, IfErr, IfOk, IfSome, None, OnErr, OnOk, length};
 ghost use Rattle.std.specs.Iterator.{size};
 ghost use Rattle.rx_input.specs.Cursors.{IsSameContent};
 ghost use Rattle.rx_util.specs.declared.search.MatchError.{MatchError};
@@ -10,6 +10,7 @@ ghost use Rattle.regex_cursor.specs.Capturing as capturing;
 ghost use Rattle.regex_cursor.specs.Splitting as splitting;
 ghost use Rattle.regex_cursor.specs.SplittingFew as few;
 ghost use Rattle.regex_cursor.specs.Iterating.{GivesAll, left_of, matches_from, matches_left, regex_of};
+ghost use Rattle.regex_cursor.specs.Patterns.{HasNoMatchBetween};
 ghost use Rattle.regex_cursor.specs.Regexes.{HasRoom, HoldsMatches, IsCacheOf, IsRefusedAsRegex, IsRegex, IsRegexOf, TellsMatch, TellsSlots, TellsWhether, TellsWhole, search_by};
 
 use super::builder::Builder;
@@ -21,6 +22,8 @@ use super::split_n::SplitN;
 use super::strategy::{self, Strategy};
 use rx_chunk::pikevm::PikeVM;
 use rx_input::{Cursor, Input};
+use rx_literals::laws::no_needle_no_match;
+use rx_literals::literal;
 use rx_program::BuildError;
 use rx_util::{Captures, GroupInfo, Match, MatchError, NonMaxUsize, PatternID};
 use std::alloc::{AllocError, Global};
@@ -313,6 +316,32 @@ impl Regex {
         ensures refused { IfErr result (λ error. error ≡ MatchError.Memory) }
     {
         strategy::search_slots(self.vm(), cache, input, slots)
+    }
+
+    /// Returns a place of the input's span up to which no match lies, told by the literals that each
+    /// match begins with: in the content from the span's start up to there no part, searched by
+    /// itself, has a match. It is where the first of these literals lies in the span, or the span's
+    /// end. `None` where no such literals are known. Span, slice, anchoring and `earliest` of the
+    /// input stay as they are. It asks for no memory.
+    ///
+    /// Where there is one literal, it takes time in proportion to the bytes and pieces up to the
+    /// place.
+    pub fn no_match_before<C: Cursor>(&self, input: &mut Input<C>) -> Option<usize>
+        ensures no_match { (text : List ℕ) → (built : IsRegexOf text self.now)
+            → IfSome result (λ place. HasNoMatchBetween built.tree input.old.cursor.content
+            input.old.asked.span.start place) }
+        ensures within { IfSome result (λ place. place ≤ input.old.asked.span.end) }
+        ensures asked { input.new.asked ≡ input.old.asked }
+        ensures same { IsSameContent input.old.cursor input.new.cursor }
+    {
+        // A law, for the proof alone.
+        no_needle_no_match();
+        let prefilter = self.strategy.prefilter()?;
+        prefilter.needles_are_lawful();
+        match literal::find(prefilter, input) {
+            Some(span) => Some(span.start),
+            None => Some(input.end()),
+        }
     }
 
     /// Returns captures with slots for all groups, in which nothing is noted. The one error is

@@ -1,11 +1,13 @@
 //! The engines of a regex, and how it chooses among them: a literal that each match begins with is
 //! looked for first, then the automaton is asked, and what it leaves is searched by the PikeVM.
 
-ghost use Rattle.std.specs.Prelude.{◌≡◌, ℕ, ◌≤◌, IfOk, IfErr, OnOk, OnErr, None, length};
+ghost use Rattle.std.specs.Prelude.{◌≡◌, ℕ, ◌≤◌, IfOk, IfErr, IfSome, OnOk, OnErr, None, length};
 ghost use Rattle.std.specs.Option.{ForSome};
 ghost use Rattle.rx_util.specs.declared.search.MatchError.{MatchError};
 ghost use Rattle.rx_util.specs.Captured.{group_span, match_found};
 ghost use Rattle.rx_input.specs.Cursors.{IsSameContent};
+ghost use Rattle.rx_program.specs.Programs.{characters_of};
+ghost use Rattle.rx_literals.specs.Beginnings.{BeginsWith};
 ghost use Rattle.rx_dfa.specs.Caches as automata;
 ghost use Rattle.rx_dfa.specs.Searching.{IsHalfAnswer};
 ghost use Rattle.rx_chunk.specs.Engines.{TellsWhether};
@@ -110,6 +112,14 @@ impl Strategy {
         ensures { result.now ≡ self.now.vm.program }
     {
         self.vm.program()
+    }
+
+    /// The prefilter of what each match begins with, if one is known.
+    pub(super) fn prefilter(&self) -> Option<&Prefilter>
+        ensures begins { IfSome result
+            (λ needles. BeginsWith needles.now (characters_of self.now.vm.program)) }
+    {
+        self.prefilter.as_ref()
     }
 
     /// Where the match ends, by the automaton. The cache must be one for it, and still is one

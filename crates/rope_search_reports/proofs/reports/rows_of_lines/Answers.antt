@@ -1,46 +1,45 @@
-use Rattle.std.proofs.Common.{◌≡◌, ℕ, ◌+◌, ◌-◌, ◌≤◌, List, drop, refl, ap, sym, subst, ◌∙◌, arith, length-drop}
+use Rattle.std.proofs.Common.{◌+◌, ◌-◌, ◌≤◌, sym, subst, ◌∙◌, refl, arith}
 use Rattle.ropey.specs.Chunks.{text_of}
-use Rattle.ropey.specs.Iter.{lines_of}
-use Rattle.ropey_walk.specs.Slices.{slice_pieces, slice_text}
-use Rattle.rope_search_reports.specs.Report.{line_texts, IsRow}
-use Rattle.rope_search_reports.proofs.LineLemmas.{lines-counted}
-use Rattle.rope_search_reports.proofs.PartLemmas.{AreLines, lines-are, lines-from}
-use Rattle.rope_search_reports.proofs.DraftLemmas.{RowsSoFar, RowsSoFar-start, RowsSoFar-some, RowsSoFar-more}
+use Rattle.rope_search_reports.specs.Drafts.{AddsRows, lines_between}
+use Rattle.rope_search_reports.specs.Report.{AreRows}
+use Rattle.rope_search_reports.specs.Ticks.{MakesAtMost}
+use Rattle.rope_search_reports.proofs.BareLemmas.{rows-start, rows-step, at-most}
 use Rattle.rope_search_reports.proofs.reports.rows_of_lines.Goals as goal
 
 pub loop-line_idx-init : goal.loop-line_idx-init
 loop-line_idx-init c =
-    let pattern = c.args.finder.now in
-    let ticks = c.args.tick.now in
-    let owns = drop c.args.first (line_texts (text_of c.args.text.now)) in
-    let ahead : c.lines_at-lines.result.ahead ≡ drop c.args.first (lines_of c.args.text.now) = ap (λ place. place.ahead) c.lines_at-lines.ensures in
-    let lines : AreLines c.lines_at-lines.result.ahead owns =
-    subst (λ ls. AreLines ls owns) (sym ahead) (lines-from c.args.first (lines_of c.args.text.now) (line_texts (text_of c.args.text.now)) (lines-are c.places.ensures c.args.text.now)) in
-    let none : 0 ≡ c.args.first - c.args.first = omega arith in
-    let P : ℕ → List (List (ℕ × ℕ)) → Type 0 = λ count rows. RowsSoFar pattern owns c.lines_at-lines.result.ahead count rows ticks ticks in (
-      subst (λ count. P count c.new-rows.result.items) none (subst (P 0) (sym c.new-rows.ensures.items) (RowsSoFar-start pattern owns c.lines_at-lines.result.ahead ticks lines)),
+    let text = text_of c.args.text.now in (
+      subst (AreRows c.args.finder.now (lines_between text c.args.first c.args.first)) (sym c.new-rows.ensures.items) (rows-start c.args.finder.now text c.args.first),
       refl,
+      record { made = omega arith; no_whole = refl },
+      omega arith,
+      c.requires.ordered,
+      omega arith,
     )
-
-pub unreachable-requires : goal.unreachable-requires
-unreachable-requires c =
-    let all = line_texts (text_of c.args.text.now) in
-    RowsSoFar-some _ _ _ _ _ _ _ c.loop-line_idx.invariant.0
-    (omega (arith, c.loop-line_idx-test.true, c.requires.within, length-drop c.args.first all, lines-counted (text_of c.args.text.now), c.loop-line_idx.auto._line_idx))
-    c.in_default.ensures.steps.0
 
 pub loop-line_idx-preserved : goal.loop-line_idx-preserved
 loop-line_idx-preserved c =
     let pattern = c.args.finder.now in
-    let owns = drop c.args.first (line_texts (text_of c.args.text.now)) in
-    let line = slice_pieces c.in-Some.line in
-    let row_is : IsRow pattern (slice_text c.without_break.result) c.in_ok-search_line.field-0 =
-    subst (λ p. IsRow p (slice_text c.without_break.result) c.in_ok-search_line.field-0) c.loop-line_idx.invariant.1 c.in_ok-search_line.ensures.row in
-    let ticks : c.search_line.new.tick.count ≤ c.loop-line_idx.tick.count + 1 = omega (arith, c.search_line.ensures.count) in
-    let one_more : c.loop-line_idx._line_idx - c.args.first + 1 ≡ c.loop-line_idx._line_idx + 1 - c.args.first = omega (arith, c.loop-line_idx.auto._line_idx) in
-    let P : ℕ → Type 0 = λ count. RowsSoFar pattern owns c.next.new.self.ahead count c.push.new.self.items c.args.tick.now c.search_line.new.tick in (
-      subst P one_more (RowsSoFar-more pattern owns c.loop-line_idx.lines.ahead c.next.new.self.ahead (c.loop-line_idx._line_idx - c.args.first) c.loop-line_idx.rows.items
-          c.push.new.self.items c.in_ok-search_line.field-0 c.args.tick.now c.loop-line_idx.tick c.search_line.new.tick line (slice_text c.without_break.result)
-          c.loop-line_idx.invariant.0 c.in-Some.ensures.steps.0 c.without_break.ensures row_is c.in_ok-push.ensures.items ticks c.search_line.ensures.wholes),
-      c.search_line.ensures.finder ∙ c.loop-line_idx.invariant.1,
+    let text = text_of c.args.text.now in
+    let at = c.loop-line_idx.line_idx in
+    let stop = at + c.min.result in
+    let next = c.in_ok-line_idx.line_idx in
+    let is = c.loop-line_idx.invariant.1 in
+    let behind = c.loop-line_idx.invariant.3 in
+    let low : at ≤ stop = omega arith in
+    let high = c.in_ok-line_idx.ensures.ordered in
+    let searched : AddsRows pattern (lines_between text at stop) c.loop-line_idx.rows.items c.push_rows.new.rows.items =
+    subst (λ p. AddsRows p (lines_between text at stop) c.loop-line_idx.rows.items c.push_rows.new.rows.items) is c.in_ok-push_rows.ensures.rows in
+    let passed : AddsRows pattern (lines_between text stop next) c.push_rows.new.rows.items c.pass_over.new.rows.items =
+    subst (λ p. AddsRows p (lines_between text stop next) c.push_rows.new.rows.items c.pass_over.new.rows.items) (c.push_rows.ensures.finder ∙ is) c.in_ok-line_idx.ensures.rows in
+    let made : MakesAtMost (stop - c.args.first) c.args.tick.now c.push_rows.new.tick =
+    at-most (at - c.args.first) (stop - at) (stop - c.args.first) c.args.tick.now c.loop-line_idx.tick c.push_rows.new.tick c.loop-line_idx.invariant.2 c.push_rows.ensures.count (omega (arith, behind, low)) in
+    let more : MakesAtMost (next - stop) c.push_rows.new.tick c.pass_over.new.tick =
+    record { made = omega (arith, c.in_ok-line_idx.ensures.count); no_whole = c.pass_over.ensures.most.no_whole } in (
+      rows-step pattern text c.args.first at stop next c.loop-line_idx.rows.items c.push_rows.new.rows.items c.pass_over.new.rows.items behind low high c.loop-line_idx.invariant.0 searched passed,
+      c.push_rows.ensures.finder ∙ is,
+      at-most (stop - c.args.first) (next - stop) (next - c.args.first) c.args.tick.now c.push_rows.new.tick c.pass_over.new.tick made more (omega (arith, behind, low, high)),
+      omega (arith, behind, low, high),
+      c.in_ok-line_idx.ensures.within,
+      c.lines_before_asking-few.ensures,
     )

@@ -1,0 +1,73 @@
+-- A part of a content in which no needle occurs has no match.
+use Rattle.std.proofs.Common.{◌≡◌, ℕ, ◌+◌, ◌<◌, ◌≤◌, List, length, take, get_or, Option, Some, None, refl, sym, ap, subst, ◌∙◌, arith, length-drop}
+use Rattle.std.proofs.lemmas.List.{length-take, get_or-take, get_or-drop, take_all}
+use Rattle.unicode.specs.Perl.{is_word_char}
+use Rattle.rx_util.specs.declared.search.Span.{Span}
+use Rattle.rx_input.specs.Inputs.{between}
+use Rattle.rx_program.specs.Programs.{characters_of}
+use Rattle.rx_literals.specs.Needles.{AreNeedles, FoundAt, no_needle, this_needle, other_needle, FoundBetween, nowhere, at_least_place}
+use Rattle.rx_literals.specs.Beginnings.{BeginsWith, NoNeedleNoMatch}
+use Rattle.rx_literals.proofs.NeedleLaws.{found_start}
+use Rattle.regex_cursor.specs.Patterns.{HasNoMatchBetween, TreeFinds, program_for, search_from}
+use Rattle.regex_cursor.specs.Regexes.{Engine, IsRegexOf}
+use Rattle.regex_cursor.proofs.PatternLemmas.{program-is}
+
+-- a place of a part of a content is a place of the content, which may be cut behind that part
+part_reads : (content : List ℕ) (start end cut i : ℕ) → end ≤ cut → start + i < end → get_or (take cut content) (start + i) 0 ≡ get_or (between start end content) i 0
+part_reads content start end cut i within low =
+    get_or-take cut content (start + i) 0 (omega (arith, low, within))
+    ∙ sym (get_or-take end content (start + i) 0 low)
+    ∙ sym (get_or-drop start (take end content) i 0)
+
+-- so where no needle occurs in the content, none does in the part
+none_in : (content : List ℕ) (start end cut i : ℕ) {needles : List (List ℕ)} {out : Option Span} → end ≤ cut → i < length (between start end content)
+    → FoundAt (take cut content) (start + i) needles out → out ≡ None → FoundAt (between start end content) i needles None
+none_in content start end cut i within below no_needle e = no_needle
+none_in content start end cut i within below (this_needle occurs) e = absurd (cc e)
+none_in content start end cut i within below (other_needle {needle = needle} absent found) e =
+    let left = length-drop start (take end content) in
+    let taken = length-take end content in
+    let longer = length-take cut content in
+    other_needle (λ occurs. absent (record {
+      fits = omega (arith, occurs.fits, below, left, taken, longer, within);
+      reads = λ j inside.
+          let low : start + (i + j) < end = omega (arith, occurs.fits, inside, below, left, taken) in
+          let same : start + i + j ≡ start + (i + j) = omega arith in
+          ap (λ k. get_or (take cut content) k 0) same ∙ part_reads content start end cut (i + j) within low ∙ occurs.reads j inside;
+    })) (none_in content start end cut i within below found e)
+
+-- ---- where none is found
+
+abbrev NoneUpTo : List ℕ → List (List ℕ) → ℕ → ℕ → Type 0
+NoneUpTo bytes needles from place = (i : ℕ) → from ≤ i → i < place → FoundAt bytes i needles None
+
+pub none_at_all : {bytes : List ℕ} {needles : List (List ℕ)} {from to : ℕ} {out : Option Span} → FoundBetween bytes needles from to out → out ≡ None → NoneUpTo bytes needles from to
+none_at_all (nowhere none) e = none
+none_at_all (at_least_place i low high here before) e = absurd (cc e)
+
+pub none_before : {bytes : List ℕ} {needles : List (List ℕ)} {from to : ℕ} {out : Option Span} {span : Span} → FoundBetween bytes needles from to out → out ≡ Some span → NoneUpTo bytes needles from span.start
+none_before (nowhere none) e = absurd (cc e)
+none_before {bytes} {needles} (at_least_place i low high here before) e =
+    let start = found_start (subst (λ o. FoundAt bytes i needles o) e here) in
+    λ j from below. before j from (omega (arith, below, start))
+
+pub found_within : {bytes : List ℕ} {needles : List (List ℕ)} {from to : ℕ} {out : Option Span} {span : Span} → FoundBetween bytes needles from to out → out ≡ Some span → span.start ≤ to
+found_within (nowhere none) e = absurd (cc e)
+found_within {bytes} {needles} (at_least_place i low high here before) e =
+    let start = found_start (subst (λ o. FoundAt bytes i needles o) e here) in omega (arith, high, start)
+
+-- ---- what that tells of a regex whose matches begin with the needles
+
+module _ (text : List ℕ) (re : Engine) (built : IsRegexOf text re) (needles : List (List ℕ)) (begins : BeginsWith needles (characters_of re.program)) (are : AreNeedles needles) (law : NoNeedleNoMatch) where
+  none_there : (part : List ℕ) → ((i : ℕ) → i < length part → FoundAt part i needles None) → TreeFinds built.tree part 0 None
+  none_there part none =
+      let of_tree : BeginsWith needles (program_for built.tree) = subst (λ p. BeginsWith needles p) (program-is text re built) begins in
+      let whole : take (length part) part ≡ part = take_all (length part) part (omega arith) in
+      law needles (program_for built.tree) is_word_char (search_from part 0) are of_tree refl
+      (nowhere (λ i low below. subst (λ bytes. FoundAt bytes i needles None) (sym whole) (none i below)))
+
+  pub none_between : (content : List ℕ) (from place cut : ℕ) → place ≤ cut → NoneUpTo (take cut content) needles from place → HasNoMatchBetween built.tree content from place
+  none_between content from place cut within none start end behind before =
+      none_there (between start end content) (λ i below.
+      let inside : start + i < place = omega (arith, below, length-drop start (take end content), length-take end content, before) in
+      none_in content start end cut i (omega (arith, before, within)) below (none (start + i) (omega (arith, behind)) inside) refl)

@@ -1,0 +1,34 @@
+use Rattle.std.proofs.Common.{◌≡◌, refl, sym, ap, subst, ◌∙◌, arith}
+use Rattle.rx_input.specs.Inputs.{Asked}
+use Rattle.rx_program.specs.Programs.{characters_of}
+use Rattle.rx_literals.specs.Beginnings.{BeginsWith}
+use Rattle.regex_cursor.specs.Patterns.{HasNoMatchBetween}
+use Rattle.regex_cursor.specs.Regexes.{Engine}
+use Rattle.regex_cursor.specs.Strategies.{Engines}
+use Rattle.regex_cursor.proofs.BetweenLaws.{none_at_all, none_before, found_within, none_between}
+use Rattle.regex_cursor.proofs.engines.meta.regex.Regex.no_match_before.Goals as goal
+
+pub returns-in-Some-clause-no_match : goal.returns-in-Some-clause-no_match
+returns-in-Some-clause-no_match g c = λ text built.
+    let i = c.args.input.now in
+    let needles = c.in_ok-prefilter.prefilter.now in
+    let vm : c.deref.result.now.vm ≡ c.args.self.now = ap (λ (e : Engines). e.vm) c.deref.ensures ∙ c.self.view_is in
+    let begins : BeginsWith needles (characters_of c.args.self.now.program) =
+    subst (λ (e : Engine). BeginsWith needles (characters_of e.program)) vm c.in_ok-prefilter.ensures.begins in
+    none_between text c.args.self.now built needles begins c.needles_are_lawful.ensures c.no_needle_no_match.ensures i.cursor.content i.asked.span.start c.in-Some.span.start i.asked.span.end
+    (found_within c.in-Some.ensures.found refl) (none_before c.in-Some.ensures.found refl)
+
+pub returns-in-Some-clause-within : goal.returns-in-Some-clause-within
+returns-in-Some-clause-within g c = found_within c.in-Some.ensures.found refl
+
+pub returns-in-None-clause-no_match : goal.returns-in-None-clause-no_match
+returns-in-None-clause-no_match g c = λ text built.
+    let i = c.args.input.now in
+    let needles = c.in_ok-prefilter.prefilter.now in
+    let vm : c.deref.result.now.vm ≡ c.args.self.now = ap (λ (e : Engines). e.vm) c.deref.ensures ∙ c.self.view_is in
+    let begins : BeginsWith needles (characters_of c.args.self.now.program) =
+    subst (λ (e : Engine). BeginsWith needles (characters_of e.program)) vm c.in_ok-prefilter.ensures.begins in
+    let place : c.end.result ≡ i.asked.span.end = c.end.ensures ∙ ap (λ (a : Asked). a.span.end) c.in-None.ensures.asked in
+    subst (λ n. HasNoMatchBetween built.tree i.cursor.content i.asked.span.start n) (sym place)
+    (none_between text c.args.self.now built needles begins c.needles_are_lawful.ensures c.no_needle_no_match.ensures i.cursor.content i.asked.span.start i.asked.span.end i.asked.span.end
+    (omega arith) (none_at_all c.in-None.ensures.found refl))
