@@ -267,10 +267,6 @@ def test_all():
     test(f"{EDITS} edits of {LINES} lines under it", edited_under_heaviest().problems())
     test(f"a match replaced in {LINES} lines", replaced_in_lines(LINES, "(e) 5000\n").problems())
     test("a match replaced in each line", replaced_in_lines(LINES // 10, r"\n", r"e", r"(?m)e(.*)$").problems())
-    for seed in range(SESSIONS // SESSIONS_IN_RUN):
-        for kind, weights in (("of all kinds", OF_ALL_KINDS), ("back and forward", BACK_AND_FORWARD)):
-            name = f"{SESSIONS_IN_RUN} sessions at random {kind}, by seed {seed}"
-            test(name, some_sessions(seed, SESSIONS_IN_RUN, weights).problems())
     for length in range(5):
         texts = [text for text in texts_of(length) if len(text) == length]
         name = f"the {len(texts)} texts of {length} characters over CR, LF, VT and a"
