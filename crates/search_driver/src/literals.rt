@@ -67,7 +67,8 @@ fn program_of(alloc: Global, fields: &Fields) -> Result<Program, Fault> {
 
 /// What is found of what the matches of a pattern are, if they are one literal.
 pub fn whole(alloc: Global, fields: &Fields) -> Result<String, Fault> {
-    let prefilter = Prefilter::of_literal(alloc, &program_of(alloc, fields)?)?;
+    let program = program_of(alloc, fields)?;
+    let prefilter = Prefilter::of_literal(alloc, &program)?;
     tell(alloc, prefilter, fields, SETTINGS)
 }
 
