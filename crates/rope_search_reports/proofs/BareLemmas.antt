@@ -105,6 +105,16 @@ bare-added pattern text first end rows rows' low high bare is =
       behind = is;
     }
 
+-- rows of lines, and then those of the lines behind them
+pub adds-joined : (pattern text : List ℕ) (first mid end : ℕ) (rows rows' rows'' : List (List (ℕ × ℕ))) → first ≤ mid → mid ≤ end → AddsRows pattern (lines_between text first mid) rows rows'
+    → AddsRows pattern (lines_between text mid end) rows' rows'' → AddsRows pattern (lines_between text first end) rows rows''
+adds-joined pattern text first mid end rows rows' rows'' low high one other = record {
+  made = one.made ++ other.made;
+  are = subst (λ ls. AreRows pattern ls (one.made ++ other.made)) (lines-joined text first mid end low high)
+      (AreRows-join pattern (lines_between text first mid) (lines_between text mid end) one.made other.made one.are other.are);
+  behind = other.behind ∙ ap (λ rs. rs ++ other.made) one.behind ∙ append_assoc rows one.made other.made;
+}
+
 pub rows-start : (pattern text : List ℕ) (first : ℕ) → AreRows pattern (lines_between text first first) []
 rows-start pattern text first =
     let none : 0 ≡ first - first = omega arith in

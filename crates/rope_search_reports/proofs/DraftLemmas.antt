@@ -1,5 +1,5 @@
 -- The rows of lines, made one after the other.
-use Rattle.std.proofs.Common.{◌≡◌, ℕ, ◌+◌, ◌<◌, ◌≤◌, List, [], ◌∷◌, ◌++◌, length, take, refl, sym, ap, subst, ◌∙◌, arith, append-nil, append_assoc, length-append}
+use Rattle.std.proofs.Common.{◌≡◌, ℕ, ◌+◌, ◌-◌, ◌^◌, ◌<◌, ◌≤◌, min, List, [], ◌∷◌, ◌++◌, length, take, refl, sym, ap, subst, ◌∙◌, arith, append-nil, append_assoc, length-append}
 use Rattle.std.proofs.Math.Seq.{take-append_seam}
 use Rattle.ropey.specs.Chunks.{text_of}
 use Rattle.rope_search_reports.specs.Ticks.{Ticks}
@@ -20,6 +20,7 @@ pub record RowsSoFar (pattern : List ℕ) (owns : List (List ℕ)) (ahead : List
   pub behind : rows ≡ before ++ made
   pub lines : AreLines ahead left
   pub ticks : new.count ≤ old.count + count
+  pub least : min (old.count + count) (2 ^ 64 - 1) ≤ new.count
   pub wholes : new.wholes ≡ old.wholes
 
 pub RowsSoFar-start : (pattern : List ℕ) (owns : List (List ℕ)) (ahead : List (List (List ℕ))) (before : List (List (ℕ × ℕ))) (ticks : Ticks) → AreLines ahead owns → RowsSoFar pattern owns ahead 0 before before ticks ticks
@@ -33,6 +34,7 @@ RowsSoFar-start pattern owns ahead before ticks lines = record {
   behind = sym (append-nil before);
   lines = lines;
   ticks = omega arith;
+  least = omega arith;
   wholes = refl;
 }
 
@@ -54,11 +56,12 @@ first-of line after ahead left lines e = by left (subst (λ (ls : List (List (Li
 pub RowsSoFar-more : (pattern : List ℕ) (owns : List (List ℕ)) (ahead after : List (List (List ℕ))) (count : ℕ) (before rows rows' : List (List (ℕ × ℕ))) (row : List (ℕ × ℕ))
     (old mid new : Ticks) (line : List (List ℕ)) (shown : List ℕ)
     → RowsSoFar pattern owns ahead count before rows old mid → ahead ≡ line ∷ after → ((own : List ℕ) → IsLine (text_of line) own → shown ≡ own) → IsRow pattern shown row
-    → rows' ≡ rows ++ row ∷ [] → new.count ≤ mid.count + 1 → new.wholes ≡ mid.wholes → RowsSoFar pattern owns after (count + 1) before rows' old new
+    → rows' ≡ rows ++ row ∷ [] → new.count ≡ min (mid.count + 1) (2 ^ 64 - 1) → new.wholes ≡ mid.wholes → RowsSoFar pattern owns after (count + 1) before rows' old new
 RowsSoFar-more pattern owns ahead after count before rows rows' row old mid new line shown sofar next own_is is rows_are ticks wholes =
     let first = first-of line after ahead sofar.left sofar.lines next in
     let counted = sofar.counted in
     let so_many = sofar.ticks in
+    let so_few = sofar.least in
     let row_is = subst (λ l. IsRow pattern l row) (own_is first.own first.is) is in
     record {
       done = sofar.done ++ first.own ∷ [];
@@ -70,6 +73,7 @@ RowsSoFar-more pattern owns ahead after count before rows rows' row old mid new 
       behind = rows_are ∙ ap (λ rs. rs ++ row ∷ []) sofar.behind ∙ append_assoc before sofar.made (row ∷ []);
       lines = first.lines;
       ticks = omega (arith, so_many, ticks);
+      least = omega (arith, so_few, ticks);
       wholes = wholes ∙ sofar.wholes;
     }
 

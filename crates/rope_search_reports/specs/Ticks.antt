@@ -1,5 +1,5 @@
 -- What is counted of searches.
-use Rattle.std.specs.Prelude.{◌≡◌, ◌+◌, ◌≤◌, ℕ}
+use Rattle.std.specs.Prelude.{◌≡◌, ◌+◌, ◌-◌, ◌^◌, ◌≤◌, ℕ, min}
 
 -- how many rows were made, and how many whole texts were searched
 pub record Ticks : Type 0 where
@@ -8,6 +8,12 @@ pub record Ticks : Type 0 where
 
 -- at most so many rows were made, and no whole text was searched
 pub record MakesAtMost (rows : ℕ) (old new : Ticks) : Type 0 where
+  pub made : new.count ≤ old.count + rows
+  pub no_whole : new.wholes ≡ old.wholes
+
+-- so many rows were made, as far as the count goes, and no whole text was searched
+pub record MakesAsMany (rows : ℕ) (old new : Ticks) : Type 0 where
+  pub least : min (old.count + rows) (2 ^ 64 - 1) ≤ new.count
   pub made : new.count ≤ old.count + rows
   pub no_whole : new.wholes ≡ old.wholes
 

@@ -6,7 +6,7 @@ ghost use Rattle.ropey_walk.specs.Slices.{slice_text};
 ghost use Rattle.rope_search_reports.specs.Text.{line_count};
 ghost use Rattle.rope_search_reports.specs.Report.{line_texts, AreRows, IsReport, match_count};
 ghost use Rattle.rope_search_reports.specs.Drafts.{AddsRows, IsLine, lines_between};
-ghost use Rattle.rope_search_reports.specs.Ticks.{MakesAtMost};
+ghost use Rattle.rope_search_reports.specs.Ticks.{MakesAsMany, MakesAtMost};
 
 use crate::laws;
 use crate::rows::{Finder, Lines, Row, pass_over, search_line};
@@ -65,10 +65,10 @@ pub fn report_of(
 }
 
 /// Adds the rows of lines `first..end` of a text behind others, each line searched by itself, where
-/// it lies. At most a row for each of them is counted.
+/// it lies. A row for each of them is counted, or for fewer after an error.
 ///
 /// Errors: `Fault::Memory`; the finder serves on.
-fn push_rows(
+pub(crate) fn push_rows(
     tick: &mut Lines,
     finder: &mut Finder,
     text: &Rope,
@@ -83,6 +83,7 @@ fn push_rows(
     ensures fault { IfErr result (λ fault. fault ≡ Fault.Memory) }
     ensures finder { finder.new ≡ finder.old }
     ensures count { MakesAtMost (end - first) tick.old tick.new }
+    ensures each { OnOk result (MakesAsMany (end - first) tick.old tick.new) }
 {
     // Laws, for the proof alone.
     laws::places();
@@ -113,8 +114,9 @@ fn lines_before_asking(last: usize, passed: usize) -> usize
 /// Returns the rows of lines `first..end` of a text, each searched by itself, where it lies, or
 /// passed over where it lies behind the first few and before the next place at which a match may
 /// begin, by the literals that each match begins with. At most a row for each of them is counted.
-/// Requires `first <= end` and `end <= len_lines()`. Time is `O(log n)` and linear in these lines,
-/// times the pattern's weight for those that are searched.
+/// Requires `first <= end` and `end <= len_lines()`. Time is linear in these lines, times the
+/// pattern's weight for those that are searched, and `O(log n)` each time that it is asked where a
+/// match may begin.
 ///
 /// Errors: `Fault::Memory`; the finder serves on.
 pub fn rows_of_lines(

@@ -14,11 +14,12 @@ ghost use Rattle.rope_search_reports.specs.Matches.{AreGroups};
 ghost use Rattle.rope_search_reports.specs.Replacement.{AreMatchesIn};
 ghost use Rattle.rope_search_reports.specs.Finders.{IsRowOf};
 ghost use Rattle.rope_search_reports.specs.Drafts.{AddsRows, AreBare, HasNoneBetween, lines_between};
-ghost use Rattle.rope_search_reports.specs.Ticks.{MakesAtMost};
+ghost use Rattle.rope_search_reports.specs.Ticks.{MakesAsMany, MakesAtMost};
 
 use crate::columns::column_at;
 use crate::laws;
 use crate::pattern_text::PatternText;
+use crate::reports::push_rows;
 use crate::searching::{Groups, all_groups, find, find_next, input_from};
 use regex_cursor::BuildError;
 use regex_cursor::engines::meta::{Cache, Regex};
@@ -30,8 +31,8 @@ use std::marker::Model;
 /// How many bytes a pattern has at most.
 pub const PATTERN_LEN: usize = 65_536;
 
-/// Counts the rows that were made, each by a search of one line, and the searches of whole texts.
-/// Both counts begin at 0 and stay at `u64::MAX`. It is made of the runtime alone and can't be
+/// Counts the rows that were made, each by a search of one line or as that line was passed over, and
+/// the searches of whole texts. Both counts begin at 0 and stay at `u64::MAX`. It is made of the runtime alone and can't be
 /// copied, so what is handed one counts in it.
 #[derive(Drop)]
 pub struct Lines {
@@ -268,7 +269,8 @@ fn push_bare(
 }
 
 /// The line, from `line_idx` on and up to `end`, before which no line has a match, as far as the
-/// literals tell that each match begins with. `O(log n)`, and time is linear in the text up to it.
+/// literals tell that each match begins with. Time is `O(log n)`, and linear in the text up to where
+/// the first of them lies, or up to line `end`.
 fn next_line(finder: &Finder, text: &Rope, line_idx: usize, end: usize) -> usize
     requires ordered { line_idx ≤ end }
     requires within { end ≤ line_count (text_of text.now) }
@@ -292,14 +294,15 @@ fn next_line(finder: &Finder, text: &Rope, line_idx: usize, end: usize) -> usize
 }
 
 /// Passes over the lines from `line_idx` on, and up to `end`, before the one in which a match may
-/// begin next, as far as the literals tell that each match begins with. Their rows, which have no
-/// match, come behind others, and all of them are counted. Returns the line that it came to. Time
-/// is `O(log n)`, and linear in the text up to that line.
+/// begin next, as far as the literals tell that each match begins with, and searches that one, if it
+/// isn't `end`. The rows of these lines come behind others. Each of them is counted, so no line is
+/// looked through that isn't. Returns the line behind the last one. Time is `O(log n)`, linear in the
+/// lines that are passed over, and that of a search for the last one.
 ///
-/// Errors: `Fault::Memory`; the rows may be counted all the same.
+/// Errors: `Fault::Memory`; the finder serves on, and the rows may be counted all the same.
 pub(crate) fn pass_over(
     tick: &mut Lines,
-    finder: &Finder,
+    finder: &mut Finder,
     text: &Rope,
     rows: &mut Vec<Row>,
     line_idx: usize,
@@ -308,16 +311,19 @@ pub(crate) fn pass_over(
     requires ordered { line_idx ≤ end }
     requires within { end ≤ line_count (text_of text.now) }
     ensures ordered { IfOk result (λ next. line_idx ≤ next) }
+    ensures further { IfOk result (λ next. line_idx < end → line_idx < next) }
     ensures within { IfOk result (λ next. next ≤ end) }
-    ensures rows { IfOk result (λ next. AddsRows finder.now
+    ensures rows { IfOk result (λ next. AddsRows finder.old
         (lines_between (text_of text.now) line_idx next) rows.old.items rows.new.items) }
-    ensures count { IfOk result (λ next. tick.new.count
-        ≡ min (tick.old.count + (next - line_idx)) (2 ^ 64 - 1)) }
+    ensures each { IfOk result (λ next. MakesAsMany (next - line_idx) tick.old tick.new) }
     ensures most { MakesAtMost (end - line_idx) tick.old tick.new }
+    ensures finder { finder.new ≡ finder.old }
     ensures fault { IfErr result (λ fault. fault ≡ Fault.Memory) }
 {
-    let next = next_line(finder, text, line_idx, end);
-    push_bare(tick, finder.alloc, rows, next - line_idx)?;
+    let found = next_line(finder, text, line_idx, end);
+    push_bare(tick, finder.alloc, rows, found - line_idx)?;
+    let next = found + (end - found).min(1);
+    push_rows(tick, finder, text, rows, found, next)?;
     Ok(next)
 }
 

@@ -122,7 +122,8 @@ fn find_in_piece<C: Cursor>(prefilter: &Prefilter, input: &mut Input<C>) -> Opti
 ///
 /// Where there is one needle it takes time in proportion to the span's bytes and pieces; where
 /// there are several, also for each needle at each place where a needle's first byte stands, and if
-/// they have more than three first bytes at each place.
+/// they have more than three first bytes at each place. At the last places of a piece, fewer than
+/// the longest needle has bytes, each needle is tried too.
 pub fn find<C: Cursor>(prefilter: &Prefilter, input: &mut Input<C>) -> Option<Span>
     ensures found { FoundInSpan prefilter.now input.old result }
     ensures same { IsSameContent input.old.cursor input.new.cursor }

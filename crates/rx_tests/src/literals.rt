@@ -1,5 +1,6 @@
-//! An example of prefilters.
+//! Examples of prefilters, and of what a regex tells by the literals that its matches begin with.
 
+use regex_cursor::engines::meta::Regex;
 use regex_cursor::{ChunkCursor, Input, MatchKind, Prefilter, Span, literal};
 use std::test::Fail;
 
@@ -28,5 +29,16 @@ fn clone_of_a_prefilter(rt: HostRuntime) -> Result<(), Fail> {
         assert!(rt; found == Some(Span { start: 0, end: 4 }));
     }
     assert!(rt; Prefilter::new(rt.alloc(), MatchKind::LeftmostFirst, &[])?.is_none());
+    Ok(())
+}
+
+/// How far nothing matches: to the first of the literals, to the end, or it isn't known.
+#[test]
+fn no_match_before(rt: HostRuntime) -> Result<(), Fail> {
+    let frogs = Regex::new(rt.alloc(), "frog|toad")?;
+    assert!(rt; frogs.no_match_before(&mut Input::new("a toad")) == Some(2));
+    assert!(rt; frogs.no_match_before(&mut Input::new("a newt")) == Some(6));
+    let digits = Regex::new(rt.alloc(), "[0-9]")?;
+    assert!(rt; digits.no_match_before(&mut Input::new("a newt")).is_none());
     Ok(())
 }

@@ -1,4 +1,4 @@
-//! The engines of a regex, and how it chooses among them: a literal that each match begins with is
+//! The engines of a regex, and how it chooses among them: the literals that matches begin with are
 //! looked for first, then the automaton is asked, and what it leaves is searched by the PikeVM.
 
 ghost use Rattle.std.specs.Prelude.{◌≡◌, ℕ, ◌≤◌, IfOk, IfErr, IfSome, OnOk, OnErr, None, length};
@@ -42,7 +42,7 @@ pub(super) struct Strategy {
     dfa: Dfa,
     // Where program and automaton are small.
     closed: Option<Closed>,
-    // Of a literal that each match begins with, if one is known.
+    // Of the literals of which each match begins with one, if they are known.
     prefilter: Option<Prefilter>,
     // Of the literal that each match is, if that is known.
     literal: Option<Prefilter>,
@@ -71,9 +71,10 @@ impl Model for Strategy {
 }
 
 impl Strategy {
-    /// A PikeVM, the automaton of its program, with all its states where they are few, and a
-    /// literal that each match begins with or is, if one is known. `utf8_empty` is as the PikeVM has it.
-    /// It takes time in proportion to the program's states and the ranges of their automata.
+    /// A PikeVM, the automaton of its program, with all its states where they are few, and the
+    /// literals that matches begin with, or the one that they are, if these are known. `utf8_empty`
+    /// is as the PikeVM has it. It takes time in proportion to the program's states and the ranges
+    /// of their automata.
     pub(super) fn new(alloc: Global, vm: PikeVM, utf8_empty: bool) -> Result<Strategy, AllocError>
         requires { utf8_empty ≡ vm.utf8_empty }
         ensures { IfOk result (λ strategy. strategy.vm ≡ vm) }
@@ -142,8 +143,8 @@ impl Strategy {
         }
     }
 
-    /// Where the match lies, or where it may begin, by the literal that each match is or begins
-    /// with. The span must not be done. The position may move.
+    /// Where the match lies, by the literal that each match is, or where it may begin, by those that
+    /// matches begin with. The span must not be done. The position may move.
     pub(super) fn first_start<C: Cursor>(&self, input: &mut Input<C>) -> Start
         requires { input.old.asked.span.start ≤ input.old.asked.span.end }
         ensures start { IsStart self.now.vm.program (search_by self.now.vm input.old) result }
@@ -156,8 +157,8 @@ impl Strategy {
         }
     }
 
-    /// Where a match may begin, by the literal that each match begins with, which is looked for
-    /// unless the search is anchored.
+    /// Where a match may begin, by the literals that matches begin with, which are looked for unless
+    /// the search is anchored.
     fn first_beginning<C: Cursor>(&self, input: &mut Input<C>) -> Start
         requires { input.old.asked.span.start ≤ input.old.asked.span.end }
         ensures start { IsStart self.now.vm.program (search_by self.now.vm input.old) result }

@@ -34,11 +34,10 @@ loop-line_idx-preserved c =
     let line = slice_pieces c.in-Some.line in
     let row_is : IsRow pattern (slice_text c.without_break.result) c.in_ok-search_line.field-0 =
     subst (λ p. IsRow p (slice_text c.without_break.result) c.in_ok-search_line.field-0) c.loop-line_idx.invariant.1 c.in_ok-search_line.ensures.row in
-    let ticks : c.search_line.new.tick.count ≤ c.loop-line_idx.tick.count + 1 = omega (arith, c.search_line.ensures.count) in
     let one_more : c.loop-line_idx._line_idx - c.args.first + 1 ≡ c.loop-line_idx._line_idx + 1 - c.args.first = omega (arith, c.loop-line_idx.auto._line_idx) in
     let P : ℕ → Type 0 = λ count. RowsSoFar pattern owns c.next.new.self.ahead count c.args.rows.now.items c.push.new.self.items c.args.tick.now c.search_line.new.tick in (
       subst P one_more (RowsSoFar-more pattern owns c.loop-line_idx.lines.ahead c.next.new.self.ahead (c.loop-line_idx._line_idx - c.args.first) c.args.rows.now.items c.loop-line_idx.rows.items
           c.push.new.self.items c.in_ok-search_line.field-0 c.args.tick.now c.loop-line_idx.tick c.search_line.new.tick line (slice_text c.without_break.result)
-          c.loop-line_idx.invariant.0 c.in-Some.ensures.steps.0 c.without_break.ensures row_is c.in_ok-push.ensures.items ticks c.search_line.ensures.wholes),
+          c.loop-line_idx.invariant.0 c.in-Some.ensures.steps.0 c.without_break.ensures row_is c.in_ok-push.ensures.items c.search_line.ensures.count c.search_line.ensures.wholes),
       c.search_line.ensures.finder ∙ c.loop-line_idx.invariant.1,
     )

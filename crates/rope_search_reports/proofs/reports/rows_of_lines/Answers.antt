@@ -35,9 +35,9 @@ loop-line_idx-preserved c =
     let made : MakesAtMost (stop - c.args.first) c.args.tick.now c.push_rows.new.tick =
     at-most (at - c.args.first) (stop - at) (stop - c.args.first) c.args.tick.now c.loop-line_idx.tick c.push_rows.new.tick c.loop-line_idx.invariant.2 c.push_rows.ensures.count (omega (arith, behind, low)) in
     let more : MakesAtMost (next - stop) c.push_rows.new.tick c.pass_over.new.tick =
-    record { made = omega (arith, c.in_ok-line_idx.ensures.count); no_whole = c.pass_over.ensures.most.no_whole } in (
+    record { made = c.in_ok-line_idx.ensures.each.made; no_whole = c.in_ok-line_idx.ensures.each.no_whole } in (
       rows-step pattern text c.args.first at stop next c.loop-line_idx.rows.items c.push_rows.new.rows.items c.pass_over.new.rows.items behind low high c.loop-line_idx.invariant.0 searched passed,
-      c.push_rows.ensures.finder ∙ is,
+      c.pass_over.ensures.finder ∙ c.push_rows.ensures.finder ∙ is,
       at-most (stop - c.args.first) (next - stop) (next - c.args.first) c.args.tick.now c.push_rows.new.tick c.pass_over.new.tick made more (omega (arith, behind, low, high)),
       omega (arith, behind, low, high),
       c.in_ok-line_idx.ensures.within,
