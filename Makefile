@@ -4,7 +4,8 @@
 # make check    while one works and before a commit: lays out, proves and tests what changed and all that
 #               stands on it, over the work that earlier runs kept, with the programs, and the gate's
 #               edits of the files that changed. CRATES='NAME ..' names more crates
-# make test     the gate: every proof and test from nothing, then the tests of the built programs
+# make test     the gate: every proof and test, with nothing taken from out/ (what passed on this machine, rt
+#               doesn't prove again), then the tests of the built programs
 # make edits    tries each edit of code that the prover must refuse: those of crates/NAME/must-fail,
 #               which the gate tries too, and those of crates/NAME/must-fail-more. CRATES='NAME ..'
 #               names some crates, or files as NAME/src/FILE, JOBS=N tries N crates at a time
@@ -68,7 +69,7 @@ edits:
 
 bin/bench: $(program) bench/build $(shell find bench/program -type f)
 	@:$(need_rt)
-	@echo '$@ is built once it is proved: some minutes'
+	@echo '$@ is built once it is proved: some ten minutes, once its libraries are'
 	@mkdir -p bench/out && { RT='$(RT)' bench/build > bench/out/rt.log 2>&1 || { tail -n 40 bench/out/rt.log; false; }; }
 
 bench: $(program) bin/bench

@@ -23,7 +23,7 @@ class Client:
         self.child = subprocess.Popen([program], stdin=subprocess.PIPE, stdout=subprocess.PIPE)
 
     def ask(self, command):
-        """Gives the program one command, with its payload, and answers the whole reply."""
+        """Gives the program one command, with its payload, and answers the whole reply: an empty one if it has ended."""
         self.child.stdin.write(command)
         self.child.stdin.flush()
         return read_reply(self.child.stdout)

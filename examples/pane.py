@@ -254,6 +254,8 @@ class Pane:
 
 
 def main(path, program=PROGRAM):
+    if not os.path.exists(program):
+        sys.exit(f"there is no {program}: make builds bin/rope-search")
     with open(path, "rb") as file:
         data = file.read()
     search, before = Client(program), termios.tcgetattr(0)
