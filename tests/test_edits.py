@@ -150,6 +150,13 @@ def texts_of(most, characters=SMALL):
         yield from map("".join, itertools.product(characters, repeat=length))
 
 
+def small_texts():
+    """All texts of at most 4 characters, by their length, and what they are called."""
+    for length in range(5):
+        texts = [text for text in texts_of(length) if len(text) == length]
+        yield f"the {len(texts)} texts of {length} characters over CR, LF, VT and a", texts
+
+
 def edits_of(text, pattern):
     """The text under a pattern with each edit of it: what is listed is what the pattern, set anew, lists, also after
     `undo` and `redo`, and what was listed before is listed after `undo`."""
@@ -267,16 +274,7 @@ def test_all():
     test(f"{EDITS} edits of {LINES} lines under it", edited_under_heaviest().problems())
     test(f"a match replaced in {LINES} lines", replaced_in_lines(LINES, "(e) 5000\n").problems())
     test("a match replaced in each line", replaced_in_lines(LINES // 10, r"\n", r"e", r"(?m)e(.*)$").problems())
-    for length in range(5):
-        texts = [text for text in texts_of(length) if len(text) == length]
-        name = f"the {len(texts)} texts of {length} characters over CR, LF, VT and a"
+    for name, texts in small_texts():
         for pattern in SMALL_PATTERNS:
             wrong = (wrong for text in texts for wrong in edits_of(text, pattern).problems())
             test(f"{name}, each edit under {pattern}", wrong)
-        for pattern in REPLACED_PATTERNS:
-            wrong = (wrong for text in texts for wrong in replacements_in(text, pattern).problems())
-            test(f"{name}, each replacement under {pattern!r}", wrong)
-        wrong = (wrong for text in texts for wrong in turned_under(text, TURNED_PATTERNS).problems())
-        test(f"{name}, each edit undone under other patterns", wrong)
-        test(f"{name}, next from each position", (wrong for text in texts for wrong in nexts_of(text).problems()))
-        test(f"{name}, all positions", (wrong for text in texts for wrong in positions_around(text).problems()))
