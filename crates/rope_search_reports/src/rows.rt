@@ -31,9 +31,9 @@ use std::marker::Model;
 /// How many bytes a pattern has at most.
 pub const PATTERN_LEN: usize = 65_536;
 
-/// Counts the rows that were made, each by a search of one line or as that line was passed over, and
-/// the searches of whole texts. Both counts begin at 0 and stay at `u64::MAX`. It is made of the runtime alone and can't be
-/// copied, so what is handed one counts in it.
+/// Counts the rows that were made, each by a search of one line or as that line was passed over,
+/// and the searches of whole texts. Both counts begin at 0 and stay at `u64::MAX`. It is made of
+/// the runtime alone and can't be copied, so what is handed one counts in it.
 #[derive(Drop)]
 pub struct Lines {
     count: u64,
@@ -153,10 +153,10 @@ impl Finder {
         })
     }
 
-    /// A place of a text, from `start` up to `end`, before which nothing matches: no part of the text
-    /// between `start` and there has a match, searched by itself. That is told by the literals that
-    /// each match begins with, and by no search; `None` where no such literals are known. Time is
-    /// `O(log n)`, and linear in the text up to the place.
+    /// A place of a text, from `start` up to `end`, before which nothing matches: no part of the
+    /// text between `start` and there has a match, searched by itself. That is told by the literals
+    /// that each match begins with, and by no search; `None` where no such literals are known. Time
+    /// is `O(log n)`, and linear in the text up to the place.
     fn no_match_before(&self, text: &Rope, start: usize, end: usize) -> Option<usize>
         requires ordered { start ≤ end }
         requires within { end ≤ byte_len (text_of text.now) }
@@ -269,8 +269,8 @@ fn push_bare(
 }
 
 /// The line, from `line_idx` on and up to `end`, before which no line has a match, as far as the
-/// literals tell that each match begins with. Time is `O(log n)`, and linear in the text up to where
-/// the first of them lies, or up to line `end`.
+/// literals tell that each match begins with. Time is `O(log n)`, and linear in the text up to
+/// where the first of them lies, or up to line `end`.
 fn next_line(finder: &Finder, text: &Rope, line_idx: usize, end: usize) -> usize
     requires ordered { line_idx ≤ end }
     requires within { end ≤ line_count (text_of text.now) }
@@ -294,10 +294,10 @@ fn next_line(finder: &Finder, text: &Rope, line_idx: usize, end: usize) -> usize
 }
 
 /// Passes over the lines from `line_idx` on, and up to `end`, before the one in which a match may
-/// begin next, as far as the literals tell that each match begins with, and searches that one, if it
-/// isn't `end`. The rows of these lines come behind others. Each of them is counted, so no line is
-/// looked through that isn't. Returns the line behind the last one. Time is `O(log n)`, linear in the
-/// lines that are passed over, and that of a search for the last one.
+/// begin next, as far as the literals tell that each match begins with, and searches that one, if
+/// it isn't `end`. The rows of these lines come behind others. Each of them is counted, so no line
+/// is looked through that isn't. Returns the line behind the last one. Time is `O(log n)`, linear
+/// in the lines that are passed over, and that of a search for the last one.
 ///
 /// Errors: `Fault::Memory`; the finder serves on, and the rows may be counted all the same.
 pub(crate) fn pass_over(

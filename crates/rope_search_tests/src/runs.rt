@@ -179,7 +179,8 @@ fn a_letter_in_ten_thousand_lines(rt: HostRuntime) -> Result<(), Fail> {
     Ok(())
 }
 
-/// Each line has a row that is counted, also where it is passed over since it has none of a literal.
+/// Each line has a row that is counted, also where it is passed over since it has none of a
+/// literal.
 #[test]
 fn matches_a_thousand_lines_apart(rt: HostRuntime) -> Result<(), Fail> {
     let mut input = Vec::new(rt.alloc());

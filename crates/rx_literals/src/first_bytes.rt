@@ -42,7 +42,8 @@ impl FirstBytes {
     /// The bytes that these needles begin with; `None` where there are more than three, or no
     /// needle, or an empty one.
     pub(crate) fn of(needles: &[&[u8]]) -> Option<FirstBytes>
-        ensures { IfSome result (λ first. BeginAmong first (map (λ needle. needle.now) needles.now)) }
+        ensures { IfSome result
+            (λ first. BeginAmong first (map (λ needle. needle.now) needles.now)) }
     {
         let mut first = FirstBytes::One(*needles.first()?.first()?);
         for needle in needles {

@@ -172,7 +172,8 @@ impl Cache {
     }
 
     /// Asks what is left of a search: the literals that matches are or begin with are looked for
-    /// first, if these are known, and the automaton is asked from there on. The one error is `Memory`.
+    /// first, if these are known, and the automaton is asked from there on. The one error is
+    /// `Memory`.
     pub(super) fn ask<C: Cursor>(&mut self, input: &mut Input<C>) -> Result<Left, MatchError>
         ensures left { IfOk result
             (IsLeft self.old.program (search_by self.old input.old)) }

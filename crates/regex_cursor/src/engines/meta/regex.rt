@@ -318,11 +318,11 @@ impl Regex {
         strategy::search_slots(self.vm(), cache, input, slots)
     }
 
-    /// Returns a place of the input's span up to which no match lies, told by the literals that each
-    /// match begins with: in the content from the span's start up to there no part, searched by
-    /// itself, has a match. It is where the first of these literals lies in the span, or the span's
-    /// end, which may lie behind the content's. `None` where no such literals are known. Span, slice, anchoring and `earliest` of the
-    /// input stay as they are. It asks for no memory.
+    /// Returns a place of the input's span up to which no match lies, told by the literals that
+    /// each match begins with: in the content from the span's start up to there no part, searched
+    /// by itself, has a match. It is where the first of these literals lies in the span, or the
+    /// span's end, which may lie behind the content's. `None` where no such literals are known.
+    /// Span, slice, anchoring and `earliest` of the input stay as they are. It asks for no memory.
     ///
     /// Where there is one literal, it takes time in proportion to the bytes and pieces up to the
     /// place.

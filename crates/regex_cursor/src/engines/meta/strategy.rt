@@ -143,8 +143,8 @@ impl Strategy {
         }
     }
 
-    /// Where the match lies, by the literal that each match is, or where it may begin, by those that
-    /// matches begin with. The span must not be done. The position may move.
+    /// Where the match lies, by the literal that each match is, or where it may begin, by those
+    /// that matches begin with. The span must not be done. The position may move.
     pub(super) fn first_start<C: Cursor>(&self, input: &mut Input<C>) -> Start
         requires { input.old.asked.span.start ≤ input.old.asked.span.end }
         ensures start { IsStart self.now.vm.program (search_by self.now.vm input.old) result }
@@ -157,8 +157,8 @@ impl Strategy {
         }
     }
 
-    /// Where a match may begin, by the literals that matches begin with, which are looked for unless
-    /// the search is anchored.
+    /// Where a match may begin, by the literals that matches begin with, which are looked for
+    /// unless the search is anchored.
     fn first_beginning<C: Cursor>(&self, input: &mut Input<C>) -> Start
         requires { input.old.asked.span.start ≤ input.old.asked.span.end }
         ensures start { IsStart self.now.vm.program (search_by self.now.vm input.old) result }
