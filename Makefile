@@ -4,9 +4,9 @@
 # make check    while one works and before a commit: lays out, proves and tests what changed and all that
 #               stands on it, over the work that earlier runs kept, with the programs, and the gate's
 #               edits of the files that changed. CRATES='NAME ..' names more crates
-# make test     the gate: every proof and test, with nothing taken from out/ (what passed on this machine, rt
-#               doesn't prove again), then the tests of the built programs
-# make edits    tries each edit of code that the prover must refuse: those of crates/NAME/must-fail,
+# make test     the gate: every proof and test, in a copy with nothing taken from out/, the edits that
+#               must be refused, then the tests of the built programs
+# make edits    tries each edit of code that the prover must refuse: those of crates/NAME/must-fail-gate,
 #               which the gate tries too, and those of crates/NAME/must-fail-more. CRATES='NAME ..'
 #               names some crates, or files as NAME/src/FILE, JOBS=N tries N crates at a time
 # make bench    measures texts, reports, edits, ropes, patterns and searches. TOPICS='NAME ..' names some
