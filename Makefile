@@ -17,7 +17,7 @@
 RT ?= rt
 program := bin/rope-search
 # It, and those that only tests take.
-programs := $(program) bin/rope-driver bin/search-driver
+programs := $(program) bin/run-driver bin/rope-driver bin/search-driver
 session := examples/first.session
 sources := crates.txt $(shell find crates -name out -prune -o -type f \
 	\( -name '*.rt' -o -name '*.antt' \) -print 2>/dev/null)
@@ -34,6 +34,7 @@ news := sed -unE -e 's/^rt: chose .* for (.*)/\1/p' -e 's/^so far: ([0-9]+ of [0
 all: $(program)
 
 $(program): crate := rope_search_cli
+bin/run-driver: crate := run_driver
 bin/rope-driver: crate := rope_driver
 bin/search-driver: crate := search_driver
 minutes := some minutes

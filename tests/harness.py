@@ -13,6 +13,7 @@ import threading
 TOP = os.path.dirname(os.path.dirname(os.path.abspath(__file__)))
 PROGRAM = os.path.abspath(os.environ.get("ROPE_SEARCH") or os.path.join(TOP, "bin", "rope-search"))
 ROPE_PROGRAM = os.path.abspath(os.environ.get("ROPE_DRIVER") or os.path.join(TOP, "bin", "rope-driver"))
+RUN_PROGRAM = os.path.abspath(os.environ.get("RUN_DRIVER") or os.path.join(TOP, "bin", "run-driver"))
 SEARCH_PROGRAM = os.path.abspath(os.environ.get("SEARCH_DRIVER") or os.path.join(TOP, "bin", "search-driver"))
 ROOM = tempfile.mkdtemp(prefix="rope-search-")  # the one folder that tests write in
 atexit.register(shutil.rmtree, ROOM, ignore_errors=True)

@@ -183,10 +183,10 @@ class Buffer:
 
 
 class Session:
-    """Buffers, of which one is chosen."""
+    """Buffers, of which one is chosen, and how many bytes a text may have."""
 
-    def __init__(self):
-        self.buffers, self.chosen = [Buffer()], 0
+    def __init__(self, limit=TEXT_LIMIT):
+        self.buffers, self.chosen, self.limit = [Buffer()], 0, limit
 
     @property
     def buffer(self):
@@ -224,10 +224,10 @@ class Session:
         lengths = [len(payload)]
         if word == "edit":
             lengths.append(len(self.buffer.edited(*numbers[:4], "").encode()))
-        if word == "replace" and len(payload) <= TEXT_LIMIT:
+        if word == "replace" and len(payload) <= self.limit:
             parts = parts_replaced(self.buffer.text, self.buffer.pattern, payload.decode())
             lengths = [len(part.encode()) for part in parts]
-        return b"size" if sum(lengths) > TEXT_LIMIT else None
+        return b"size" if sum(lengths) > self.limit else None
 
     def carry_out(self, word, numbers, payload):
         """The reply to a command that isn't refused."""
@@ -258,6 +258,19 @@ class Session:
             self.chosen = numbers[0]
         return b"ok\n"
 
+    def cost(self, command):
+        """How many rows a command may make at most, and how often it may search a whole text: rows for the lines of what
+        an edit inserts and of what takes the place of each match, and else for all lines of the text that it leads to,
+        where there is a pattern then."""
+        (word, numbers, payload), buffer = command, self.buffer
+        wholes = int(word in ("next", "replace"))
+        if self.refusal(*command) or (buffer.pattern is None and word != "pattern"):
+            return 0, wholes
+        texts = {"undo": lambda: [buffer.texts[buffer.at - 1]], "redo": lambda: [buffer.texts[buffer.at + 1]],
+                 "text": lambda: [payload.decode()], "edit": lambda: [payload.decode()], "pattern": lambda: [buffer.text],
+                 "replace": lambda: parts_replaced(buffer.text, buffer.pattern, payload.decode())[1::2]}
+        return sum(len(lines_of(text)) for text in texts.get(word, list)()), wholes
+
     def reply(self, command, lacks_memory=False):
         """The reply to a command, where memory is refused to it or not."""
         if lacks_memory:
@@ -267,10 +280,20 @@ class Session:
         return b"error %b\n" % refusal if refusal else self.carry_out(*command)
 
 
-def replies(commands, refused=frozenset()):
+def replies(commands, refused=frozenset(), limit=TEXT_LIMIT):
     """The replies to the commands, where memory is refused to those whose places are in `refused`."""
-    session = Session()
+    session = Session(limit)
     return [session.reply(command, place in refused) for place, command in enumerate(commands)]
+
+
+def costs(commands, limit=TEXT_LIMIT):
+    """How many rows the commands may make at most, and how often they may search a whole text, together."""
+    session, rows, wholes = Session(limit), 0, 0
+    for command in commands:
+        more = session.cost(command)
+        rows, wholes = rows + more[0], wholes + more[1]
+        session.reply(command)
+    return rows, wholes
 
 
 def takers(commands):

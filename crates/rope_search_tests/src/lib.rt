@@ -1,5 +1,5 @@
-//! Tests of `rope_search` and the crates below it: an example of each public type, what is counted,
-//! and sources and sinks that are made up.
+//! Tests of `rope_search` and the crates below it: an example of each public type, and sources and
+//! sinks that are made up.
 #![tactic(auto)]
 
 #[cfg(test)]
@@ -12,5 +12,3 @@ mod examples;
 mod io_examples;
 #[cfg(test)]
 mod report_examples;
-#[cfg(test)]
-mod runs;

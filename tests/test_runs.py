@@ -1,0 +1,287 @@
+"""Runs over memory, by bin/run-driver: how many rows they make and how often they search a whole text, with small
+limits on texts, in small reads and writes, and with calls that fail. The head of crates/run_driver/src/main.rt says how rows
+are spelled; what is due is worked out by the model of the protocol, or written out."""
+from dataclasses import dataclass, replace
+from itertools import combinations_with_replacement, product
+
+from harness import RUN_PROGRAM, differences, end_of, open_input, short, start, test
+from protocol import CLOSING, TEXT_LIMIT, costs, positions_of, read_commands, replies, spelled
+from test_replies import MORE_EXAMPLES, examples_of_page
+
+BATCH = 5_000  # how many rows go into one run of the driver
+ENDINGS = {"input": "Input", "command": "Command", "cut": "Cut"}
+LONG = 400  # an input of more bytes isn't cut, or failed at, after each of them
+
+
+@dataclass(frozen=True)
+class Run:
+    """A run of an input: how many bytes a text may have, how many a read and a write move at most, which of these calls
+    fails, and how many bytes there is room for."""
+
+    data: bytes
+    limit: int = TEXT_LIMIT
+    read: int = 4096
+    write: int = 4096
+    failed_read: object = ""
+    failed_write: object = ""
+    room: int = 1 << 20
+
+    def line(self):
+        calls = (self.limit, self.read, self.write, self.failed_read, self.failed_write, self.room)
+        return ",".join(["run", self.data.hex(), *map(str, calls)]) + "\n"
+
+
+@dataclass(frozen=True)
+class Outcome:
+    """How a run ended, the rows that it made, how often it searched a whole text, and what it wrote."""
+
+    ending: str
+    rows: int
+    wholes: int
+    written: bytes
+
+    @staticmethod
+    def of(answer):
+        """What an answer tells, or None where it is why there is none."""
+        words = answer.split(" ")
+        return Outcome(words[0], int(words[1]), int(words[2]), bytes.fromhex(words[3])) if len(words) == 4 else None
+
+
+def outcomes(runs):
+    """What came of runs, each with what is wrong where there is no answer."""
+    runs = list(runs)
+    for first in range(0, len(runs), BATCH):
+        batch = runs[first : first + BATCH]
+        with open_input("".join(run.line() for run in batch).encode()) as given:
+            ended = end_of(start(program=RUN_PROGRAM, stdin=given))
+        told = ended.out.decode(errors="replace").split("\n")
+        wrong = differences(ended, ended.out, 0) + ([] if len(told) == len(batch) + 1 else ["answers are missing"])
+        for run, answer in zip(batch, told + [""] * len(batch)):
+            yield run, Outcome.of(answer)
+        if wrong:
+            yield batch[0], None
+
+
+def problems(runs, wrong_with):
+    """What is wrong with runs, by what a call finds wrong with each and its outcome."""
+    for run, outcome in outcomes(runs):
+        for wrong in wrong_with(run, outcome) if outcome else ["there is no answer"]:
+            yield f"{short(run.data)} {replace(run, data=b'')}: {wrong}"
+
+
+def due(run):
+    """The ending and the text that the model gives, and its bounds of rows and searches of whole texts."""
+    commands, ending = read_commands(run.data)
+    written = b"".join(replies(commands, limit=run.limit)) + CLOSING[ending]
+    return ENDINGS[ending], written, costs(commands, run.limit)
+
+
+def wrong_with(run, outcome):
+    """A run in which no call fails is that of the model, within its bounds."""
+    ending, written, (rows, wholes) = due(run)
+    if (outcome.ending, outcome.written) != (ending, written):
+        yield f"{outcome.ending} with {short(outcome.written)}, not {ending} with {short(written)}"
+    if outcome.rows > rows or outcome.wholes > wholes:
+        yield f"{outcome.rows} rows and {outcome.wholes} searches, more than {rows} and {wholes}"
+
+
+def wrong_with_failed_read(run, outcome):
+    """A byte a read: where the one that fails was needed, the replies to all commands read whole are written."""
+    before = run.data[: run.failed_read - 1]
+    commands, ending = read_commands(before)
+    if run.failed_read > len(run.data) + 1 or ending == "command":
+        yield from wrong_with(run, outcome)
+    elif (outcome.ending, outcome.written) != ("Read", b"".join(replies(commands))):
+        yield f"{outcome.ending} with {short(outcome.written)}"
+    elif outcome.rows > costs(commands)[0]:
+        yield f"{outcome.rows} rows"
+
+
+def wrong_with_failed_write(run, outcome):
+    """A byte a write, and a flush at the end: what was taken before the one that fails is a front of all."""
+    _, written, (rows, _) = due(run)
+    if run.failed_write > len(written) + 1:
+        yield from wrong_with(run, outcome)
+    elif (outcome.ending, outcome.written) != ("Write", written[: run.failed_write - 1]):
+        yield f"{outcome.ending} with {short(outcome.written)}, not a front of {short(written)}"
+    elif outcome.rows > rows:
+        yield f"{outcome.rows} rows, more than {rows}"
+
+
+def wrong_with_room(run, outcome):
+    """Where all that is written doesn't find room, a front of it does."""
+    ending, written, _ = due(run)
+    wanted = (ending, written) if len(written) <= run.room else ("Write", outcome.written)
+    if (outcome.ending, outcome.written) != wanted or not written.startswith(outcome.written):
+        yield f"{outcome.ending} with {short(outcome.written)}"
+
+
+def test_worked(inputs):
+    """Every worked input: in reads and writes of few bytes, cut after each byte, and with each call failing in turn."""
+    for data in inputs:
+        name = short(data[:60]) + (f".. ({len(data)} bytes)" if len(data) > 60 else "")
+        steps = [Run(data, read=read, write=write) for read, write in ((1, 1), (2, 3), (4096, 1), (3, 4096))]
+        test(f"{name} over memory, within its rows", problems(steps, wrong_with))
+        written = len(due(steps[0])[1])
+        if max(len(data), written) > LONG:
+            continue
+        cut = (Run(data[:length], read=1, write=1) for length in range(len(data)))
+        test(f"{name} over memory, cut after each of its bytes", problems(cut, wrong_with))
+        reads = (Run(data, read=1, failed_read=call) for call in range(1, len(data) + 4))
+        test(f"{name} over memory, each read failing", problems(reads, wrong_with_failed_read))
+        writes = (Run(data, write=1, failed_write=call) for call in range(1, written + 4))
+        test(f"{name} over memory, each write failing", problems(writes, wrong_with_failed_write))
+        rooms = (Run(data, room=room) for room in range(0, written + 2))
+        test(f"{name} over memory, with little room", problems(rooms, wrong_with_room))
+
+
+# Inputs, with the rows that they make and how often they search a whole text, exactly.
+ROWS = [
+    ("text 7\na🐸b\npattern 1\nblist\n".encode(), 2, 0),
+    # Without a pattern nothing is searched, and for what is no pattern neither.
+    (b"text 2\nabfork\nuse 1\nprint\nfork\nlist\n", 0, 0),
+    (b"pattern 2\na(pattern 1\n\xffpattern 1\nalist\n", 1, 0),
+    # A text that is set later is searched too.
+    ("text 9\nab\r\nba\u2028pattern 1\natext 1\naoff\noff\n".encode(), 3, 0),
+    (b"pattern 5\nabcdetext 3\na\nalist\nundo\n", 3, 0),
+    (b"text 3\na\nbpattern 1\nbedit 1 0 1 1 3\nb\nb", 4, 0),
+    # Of a text to which one goes back or forward the lines that come back are searched, and no others.
+    (b"text 7\na\nb\na\nbpattern 1\nbedit 2 0 2 1 1\nbundo\nredo\n", 7, 0),
+    (b"text 7\na\nb\na\nbpattern 1\nbedit 0 1 2 0 0\nundo\nredo\n", 9, 0),
+    (b"text 5\nx\rb\nypattern 1\nyedit 1 0 1 1 0\nundo\nredo\n", 6, 0),
+    (b"text 3\na\nbedit 1 0 1 1 1\ncpattern 1\nbundo\noff\nredo\npattern 1\nbundo\n", 6, 0),
+    # A line for each match that is replaced, and a line of many matches once.
+    (b"text 7\na\nb\na\nbpattern 1\nbreplace 1\ncundo\nredo\n", 10, 1),
+    (b"text 4\nbbbbpattern 1\nbreplace 2\nccundo\nredo\n", 4, 1),
+    (b"text 3\na\nbpattern 1\ncreplace 1\ndundo\nredo\n", 2, 1),
+    # A search of a whole text makes no row; one that is refused for its position is none.
+    (b"text 3\nabapattern 3\n\\b.next 0 1\nnext 0 3\nnext 0 4\nlist\n", 1, 2),
+    # Each line has a row that is counted, also where it is passed over since it has none of a literal.
+    (spelled("text", (33_027,), b"".join(b"some line\r\n" if line % 1_001 else b"a match\r\n" for line in range(3_003)))
+     + b"pattern 5\nmatchlist\n", 3_004, 0),
+]
+
+
+def test_rows():
+    for data, rows, wholes in ROWS:
+        def wrong_rows(run, outcome, made=(rows, wholes)):
+            yield from wrong_with(run, outcome)
+            if (outcome.rows, outcome.wholes) != made:
+                yield f"{outcome.rows} rows and {outcome.wholes} searches, not {made}"
+        test(f"{short(data[:60])} makes {rows} rows", problems([Run(data)], wrong_rows))
+
+
+LINES = spelled("text", (99_990,), b"some line\n" * 9_999) + b"pattern 4\nline"
+ONE_MATCH = spelled("text", (99_995,), b"some line\n" * 5_000 + b"match" + b"some line\n" * 4_999) + b"pattern 5\nmatch"
+
+# What stands before a command, the command, the most rows that it makes, and how often it searches the whole text.
+LAST = [
+    # A CR and an LF meet at the front of an edit, at its back, at both, and where it leaves nothing between them.
+    (b"text 5\nx\rb\nypattern 1\ny", b"edit 1 0 1 1 0\n", 1, 0),
+    (b"text 5\nx\rb\nypattern 1\ny", b"edit 1 0 1 1 2\n\n\r", 3, 0),
+    (b"text 3\nx\rypattern 1\ny", b"edit 1 0 1 0 1\n\n", 2, 0),
+    (b"text 3\nb\nypattern 1\ny", b"edit 0 1 0 1 1\n\r", 2, 0),
+    (LINES, b"edit 5000 5 5000 5 1\nx", 1, 0),
+    # Of a replacement, for each match as many as what takes its place has lines.
+    (b"text 4\na\r\nbpattern 1\n\n", b"replace 0\n", 1, 1),
+    (b"text 5\na\rx\nypattern 1\nx", b"replace 0\n", 1, 1),
+    (b"text 4\na\r\nbpattern 2\n\r\n", b"replace 2\n\n\r", 3, 1),
+    (b"text 1\napattern 1\nb", b"replace 1\nc", 0, 1),
+    (b"text 2\nabpattern 2\nx*", b"replace 1\n-", 3, 1),
+    (b"text 5\na\nb\napattern 1\na", b"replace 3\n$0\n", 4, 1),
+    (b"text 5\na\nb\napattern 1\n\n", b"replace 1\n\r", 4, 1),
+    (ONE_MATCH, b"replace 1\nz", 1, 1),
+]
+
+
+def wrong_last(pairs):
+    """What is wrong with the last commands of inputs: each is run without it and with it."""
+    runs = [Run(data) for before, last, _, _ in pairs for data in (before, before + last)]
+    told = [outcome for _, outcome in outcomes(runs)]
+    for (before, last, rows, wholes), first, both in zip(pairs, told[::2], told[1::2]):
+        if not first or not both:
+            yield f"{short(before)} {short(last)}: there is no answer"
+        elif not 0 <= both.rows - first.rows <= rows or both.wholes - first.wholes != wholes:
+            yield f"{short(before)} {short(last)}: {both.rows - first.rows} rows, {both.wholes - first.wholes} searches"
+
+
+def test_last():
+    for pair in LAST:
+        test(f"{short(pair[1])} behind {short(pair[0][:60])} makes at most {pair[2]} rows", wrong_last([pair]))
+
+
+def texts(letters, longest):
+    return ["".join(text) for length in range(longest + 1) for text in product(letters, repeat=length)]
+
+
+def rows_of_last(before, last):
+    """How many rows the last command of an input may make."""
+    return costs(read_commands(before + last)[0])[0] - costs(read_commands(before)[0])[0]
+
+
+def small_edits(letters, longest, longest_inserted):
+    """Every edit of every small text under a pattern, with the most rows that it makes."""
+    for text in texts(letters, longest):
+        before = spelled("text", (len(text),), text.encode()) + b"pattern 1\na"
+        spans = combinations_with_replacement(positions_of(text), 2)
+        for (first, last), inserted in product(spans, texts(letters, longest_inserted)):
+            command = spelled("edit", (*first, *last, len(inserted)), inserted.encode())
+            yield before, command, rows_of_last(before, command), 0
+
+
+def small_replacements(letters, longest):
+    """Every replacement by small templates in every small text, with the most rows that it makes."""
+    patterns, templates = ("\n", "\r", "a", "", "\r\n"), ("", "\n", "\r", "$0\r", "\r\n")
+    for text, pattern, template in product(texts(letters, longest), patterns, templates):
+        before = spelled("text", (len(text),), text.encode()) + spelled("pattern", (len(pattern),), pattern.encode())
+        command = spelled("replace", (len(template),), template.encode())
+        yield before, command, rows_of_last(before, command), 1
+
+
+def test_small_texts():
+    edits = list(small_edits("\r\na", 3, 2))
+    test(f"{len(edits)} edits of small texts make no more rows than they may", wrong_last(edits))
+    replacements = list(small_replacements("\r\na", 4))
+    test(f"{len(replacements)} replacements in small texts make no more rows than they may", wrong_last(replacements))
+
+
+# A limit on texts, an input, and what it is answered.
+LIMITS = [
+    (4, b"text 5\nabcdeprint\n", b"error size\ntext 0\n\n"),
+    (4, b"text 4\nabcdprint\n", b"ok\ntext 4\nabcd\n"),
+    (4, b"text 2\nabtext 5\nabcdeprint\n", b"ok\nerror size\ntext 2\nab\n"),
+    (4, b"text 3\nabcedit 0 1 0 2 3\nxyzedit 0 1 0 2 2\nxyprint\n", b"ok\nerror size\nok\ntext 4\naxyc\n"),
+    (4, b"text 5\n\xff\xff\xff\xff\xfftext 5\nabcde", b"error utf8\nerror size\n"),
+    # A pattern may have more bytes than a text.
+    (4, b"pattern 5\nabcde", b"ok\n"),
+    # The limit holds for templates, and for the text that replacing makes.
+    (4, b"text 3\nabcpattern 0\nreplace 1\n-print\n", b"ok\nok\nerror size\ntext 3\nabc\n"),
+    (4, b"text 3\nabcpattern 1\nbreplace 4\n$0$0print\nundo\nreplace 6\n$0$0$0",
+     b"ok\nok\nok 1\ntext 4\nabbc\nok\nerror size\n"),
+    (4, b"text 2\nabreplace 5\n$0$0$pattern 1\nxreplace 5\n$0$0$replace 1\n$",
+     b"ok\nerror none\nok\nerror size\nok 0\n"),
+    # Nothing of these texts is kept. Each character is cut at each place.
+    (2, "text 10\naé🐸せ".encode(), b"error size\n"),
+    (2, b"text 4\n\xf0\x9f\x90\xc3", b"error utf8\n"),
+    (2, b"text 3\nab\xc3", b"error utf8\n"),
+    (2, b"text 4\nab\xc3\xa9", b"error size\n"),
+    (0, b"text 0\nedit 0 0 0 0 1\naprint\nfork\n", b"ok\nerror size\ntext 0\n\nok 1\n"),
+]
+
+
+def test_limits():
+    for limit, data, out in LIMITS:
+        def wrong_answer(run, outcome, wanted=out):
+            yield from wrong_with(run, outcome)
+            if outcome.written != wanted:
+                yield f"{short(outcome.written)}, not {short(wanted)}"
+        runs = (Run(data, limit, read=step, write=step) for step in (1, 2, 3, 4, 5, 4096))
+        test(f"{short(data)} where texts have {limit} bytes at most", problems(runs, wrong_answer))
+
+
+def test_all():
+    test_worked([data for data, _, _ in examples_of_page() + MORE_EXAMPLES])
+    test_rows()
+    test_last()
+    test_small_texts()
+    test_limits()
