@@ -259,17 +259,23 @@ class Session:
         return b"ok\n"
 
     def cost(self, command):
-        """How many rows a command may make at most, and how often it may search a whole text: rows for the lines of what
-        an edit inserts and of what takes the place of each match, and else for all lines of the text that it leads to,
-        where there is a pattern then."""
-        (word, numbers, payload), buffer = command, self.buffer
+        """How many rows a command may make at most, and how often it may search a whole text: rows for the lines of
+        what an edit inserts and of what takes the place of each match, and else for all lines of the text that it leads
+        to, where there is a pattern then."""
+        (word, _, payload), buffer = command, self.buffer
         wholes = int(word in ("next", "replace"))
         if self.refusal(*command) or (buffer.pattern is None and word != "pattern"):
             return 0, wholes
-        texts = {"undo": lambda: [buffer.texts[buffer.at - 1]], "redo": lambda: [buffer.texts[buffer.at + 1]],
-                 "text": lambda: [payload.decode()], "edit": lambda: [payload.decode()], "pattern": lambda: [buffer.text],
-                 "replace": lambda: parts_replaced(buffer.text, buffer.pattern, payload.decode())[1::2]}
-        return sum(len(lines_of(text)) for text in texts.get(word, list)()), wholes
+        texts = []
+        if word in ("text", "edit"):
+            texts = [payload.decode()]
+        elif word == "pattern":
+            texts = [buffer.text]
+        elif word in ("undo", "redo"):
+            texts = [buffer.texts[buffer.at + (1 if word == "redo" else -1)]]
+        elif word == "replace":
+            texts = parts_replaced(buffer.text, buffer.pattern, payload.decode())[1::2]
+        return sum(len(lines_of(text)) for text in texts), wholes
 
     def reply(self, command, lacks_memory=False):
         """The reply to a command, where memory is refused to it or not."""
