@@ -103,8 +103,8 @@ class Client:
         self.close()
 
     def ask(self, sent):
-        """Gives the program one command, with its payload, and answers the whole reply. Raises ValueError for what isn't
-        one command, which isn't sent, and Ended."""
+        """Gives the program one command, with its payload, and answers the whole reply. Raises Ended, and ValueError
+        for what isn't one command, which isn't sent."""
         check(sent)
         if self.child.stdin.closed:
             raise Ended("the program has ended before", self.child.returncode)
@@ -120,8 +120,8 @@ class Client:
             raise Ended(self.message or "the program ended before the whole reply", status, reply) from None
 
     def close(self):
-        """Ends the session, if the program hasn't ended by itself, and answers its exit status. What it wrote to standard
-        error is its `message` then."""
+        """Ends the session, if the program hasn't ended by itself, and answers its exit status. What it wrote to
+        standard error is its `message` then."""
         if not self.child.stdin.closed:
             self.child.stdin.close()
             try:

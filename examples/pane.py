@@ -9,14 +9,14 @@ arrows          move the file, also sideways; PageUp, PageDown by a screen, Home
 Alt-C, Alt-W    letters in either case; whole words alone
 Ctrl-R          asks for a template, in which $0 stands for the match and $1 to $9 for its groups; Enter puts what it
                 stands for in the place of all matches, Escape goes back
-Tab             goes to the text, to where the match is, and back. There what is typed or pasted is put in, Backspace and
-                Delete take away, Enter breaks the line, arrows, Home and End move
+Tab             goes to the text, to where the match is, and back. There what is typed or pasted is put in,
+                Backspace and Delete take away, Enter breaks the line, arrows, Home and End move
 Ctrl-Z, Ctrl-Y  undo and redo, and go to what changed
 Ctrl-S          writes the file, once it has asked
 Escape          leaves, and asks before if the text isn't saved; Ctrl-C leaves at once
 
-Matches are those of the report: of each line by itself. Where there is none, Enter looks for one that goes over lines. All
-replaced are those of the whole text, which may be others: docs/protocol.md tells how.
+Matches are those of the report: of each line by itself. Where there is none, Enter looks for one that goes over
+lines. All replaced are those of the whole text, which may be others: docs/protocol.md tells how.
 """
 import os
 import signal

@@ -1,5 +1,5 @@
-"""The client of examples/client.py: whole replies, in time in proportion to their length, and what it tells of a child that
-ends, doesn't answer, or would wait for more."""
+"""The client of examples/client.py: whole replies, in time in proportion to their length, and what it tells of a child
+that ends, doesn't answer, or would wait for more."""
 import io
 import os
 import random
@@ -97,14 +97,16 @@ def test_replies():
 def test_commands():
     with Client(PROGRAM) as search:
         wrong = []
-        for sent in (b"print", b"", b"text 5\nabc", b"text 2\nabc", b"list\nlist\n", b"undo\nx", b"text 1x\na", b"use 0 1\na"):
+        sendings = [b"print", b"", b"text 5\nabc", b"text 2\nabc", b"list\nlist\n", b"undo\nx", b"text 1x\na", b"use 0\na"]
+        for sent in sendings:
             try:
                 wrong.append(f"{sent!r} is answered {search.ask(sent)!r}")
             except ValueError:
                 pass
         test("what isn't one whole command is refused", wrong)
         replies = [search.ask(command(b"text", "é\n".encode())), search.ask(command(b"edit 0 1 0 1", b"x"))]
-        replies += [search.ask(b"text 00000000000000000003\nabc"), search.ask(b"print\n"), search.ask(command(b"text", b"\xff"))]
+        replies += [search.ask(b"text 00000000000000000003\nabc"), search.ask(b"print\n")]
+        replies += [search.ask(command(b"text", b"\xff"))]
         due = [b"ok\n", b"ok\n", b"ok\n", b"text 3\nabc\n", b"error utf8\n"]
         test("and isn't sent: all others are answered", [] if replies == due else [f"they are answered {replies}"])
     test("a session that is closed has ended with 0", [] if search.close() == 0 else [f"with {search.close()}"])
@@ -135,7 +137,8 @@ def test_endings():
     search = Client(PROGRAM)
     reply = search.ask(b"jump\n")
     test("a line that is no command is answered", [] if reply == b"error command\n" else [f"{reply!r}"])
-    test("and ends the program, which is told with its status", wrong_ending(lambda: search.ask(b"print\n"), 2, "ended"))
+    wrong = wrong_ending(lambda: search.ask(b"print\n"), 2, "ended")
+    test("and ends the program, which is told with its status", wrong)
     text = "".join(f"{number:7}x\n" for number in range(MATCHES)).encode()
     for name, asked in (("list", b"list\n"), ("print", b"print\n")):
         search = Client(PROGRAM)
@@ -150,8 +153,8 @@ def test_endings():
         test("and is closed", [] if search.close() == -signal.SIGKILL else [f"with {search.close()}"])
     cut = program("cut", "read line; printf 'm 0 1 2\\nm 0 3'; echo 'no more' >&2; exit 7")
     test("a child's message is told", wrong_ending(lambda: Client(cut).ask(b"list\n"), 7, "no more", b"m 0 1 2\nm 0 3"))
-    silent, part = "while read -r line; do :; done", "printf 'm 0 1 2\\n'"
-    for name, lines in (("reads nothing", "exec sleep 1000"), ("tells nothing", silent), ("tells a part", f"{part}; {silent}")):
+    silent, part = "while read -r line; do :; done", "printf 'm 0 1 2\\n'; while read -r line; do :; done"
+    for name, lines in (("reads nothing", "exec sleep 1000"), ("tells nothing", silent), ("tells a part", part)):
         search = Client(program("silent", lines), timeout=0.3)
         wrong = wrong_ending(lambda: search.ask(command(b"text", bytes(100_000))), -signal.SIGKILL, "within 0.3 s")
         test(f"a child that {name} is stopped once its time is over", wrong)
@@ -163,11 +166,9 @@ def wrong_sessions(seed):
     for _ in range(300):
         position = b"%d %d" % (chance.randint(0, 3), chance.randint(0, 3))
         payload = "".join(chance.choice("ab\r\n🐸.*(") for _ in range(chance.randint(0, 4))).encode()
-        sent.append(chance.choice([
-            command(b"text", payload), command(b"pattern", payload), command(b"replace", payload), b"list\n", b"undo\n", b"print\n",
-            command(b"edit %b %b" % (position, position), payload), b"next %b\n" % position, b"fork\n", b"redo\n", b"off\n",
-            b"use %d\n" % chance.randint(0, 2),
-        ]))
+        words = chance.choice([b"text", b"pattern", b"replace", b"edit %b %b" % (position, position)])
+        plain = [b"list", b"undo", b"redo", b"print", b"off", b"fork", b"use 0", b"use 1", b"next %b" % position]
+        sent.append(chance.choice([command(words, payload), chance.choice(plain) + b"\n"]))
         told.append(search.ask(sent[-1]))
     status = search.close()
     ended = run(b"".join(sent))
@@ -178,4 +179,5 @@ def test_all():
     test_replies()
     test_commands()
     test_endings()
-    test("sessions at random are answered as by one run", [wrong for seed in range(5) for wrong in wrong_sessions(seed)])
+    wrong = [wrong for seed in range(5) for wrong in wrong_sessions(seed)]
+    test("sessions at random are answered as by one run", wrong)

@@ -30,8 +30,36 @@ def test_demo():
         test("README.md shows the demo's session", [] if block in file.read() else ["it shows another"])
 
 
+def test_by_hand():
+    """README.md has the session as a line for a shell."""
+    with open(os.path.join(TOP, "README.md"), encoding="utf-8") as file:
+        lines = re.findall(r"^    (printf '%b' (?:.*\\\n)*.*) \| bin/rope-search$", file.read(), re.MULTILINE)
+    test("README.md has a line for a shell", [] if len(lines) == 1 else [f"it has {len(lines)}"])
+    for shell in ("sh", "bash"):
+        sent = subprocess.run([shell, "-c", lines[0]], stdout=subprocess.PIPE).stdout
+        with open(os.path.join(TOP, "examples", "first.session"), "rb") as file:
+            test(f"it is the demo's session by {shell}", [] if sent == file.read() else [f"it sends {sent!r}"])
+
+
+def names_of(tree, front=""):
+    """The paths that a tree of `use` names."""
+    first, brace, inside = re.sub(r"\s", "", tree).partition("{")
+    if not brace:
+        return {front + first.replace("::self", "")} - {front}
+    parts, depth = [""], 0
+    for character in inside[:-1]:
+        depth += (character == "{") - (character == "}")
+        parts = parts + [""] if character == "," and depth == 0 else parts[:-1] + [parts[-1] + character]
+    return {name.replace("::self", "") for part in parts if part for name in names_of(part, front + first)}
+
+
+def used_in(code):
+    """The paths that the lines `use` of code name."""
+    return {name for tree in re.findall(r"^use ([^;]*);", code, re.MULTILINE) for name in names_of(tree)}
+
+
 def test_code():
-    """Each block of code of a page stands in a test that the gate runs."""
+    """Each block of code of a page stands in a test that the gate runs, which takes the same names into use."""
 
     def bare(text):
         return "\n".join(line.strip() for line in text.splitlines())
@@ -40,13 +68,17 @@ def test_code():
         with open(path, encoding="utf-8") as file:
             return file.read()
 
-    tests = [bare(read(path)) for path in glob.glob(os.path.join(TOP, "crates", "*_tests", "src", "*.rt"))]
+    def stands_in(block, code):
+        body = re.sub(r"\A(?:use [^;]*;\n)+\n", "", block)
+        return bare(body) in bare(code) and used_in(block) <= used_in(code)
+
+    tests = [read(path) for path in glob.glob(os.path.join(TOP, "crates", "*_tests", "src", "*.rt"))]
     for form in ("*.md", "docs/*.md", "crates/*/README.md"):
         for path in sorted(glob.glob(os.path.join(TOP, form))):
             name = os.path.relpath(path, TOP)
             blocks = re.findall(r"```rust\n(.*?)\n```", read(path), re.DOTALL)
             for block in blocks:
-                stands = any(bare(block) in lines for lines in tests)
+                stands = any(stands_in(block, code) for code in tests)
                 test(f"{name}: {block.splitlines()[0]!r} is in a test", [] if stands else ["it is in none"])
             if name == "README.md":
                 test("README.md has code", [] if len(blocks) >= 2 else [f"{len(blocks)} blocks"])
@@ -54,4 +86,5 @@ def test_code():
 
 def test_all():
     test_demo()
+    test_by_hand()
     test_code()

@@ -1,5 +1,4 @@
-"""The search pane of examples/: its parts beside the model and the program, and all of it in a terminal of its own; in tmux,
-where there is one, over a text of 100,000 lines."""
+"""The search pane of examples/: its parts beside the model and the program, and all of it in a terminal of its own."""
 import fcntl
 import os
 import pty
@@ -28,14 +27,16 @@ TEXT = "A frog 🐸 and a toad.\nNo toad here is green.\r\n" + "\n" * 40 + "the 
 
 # What terminals send for keys, as xterm, the Linux console, rxvt, screen and PuTTY do, and their names.
 SENT = [
-    ("\x1b[A", "up"), ("\x1bOA", "up"), ("\x1b[1;2A", "up"), ("\x1b[1;5B", "down"), ("\x1b[1;2C", "right"), ("\x1b[1;3D", "left"),
-    ("\x1b[5~", "page up"), ("\x1b[6~", "page down"), ("\x1b[6;5~", "page down"), ("\x1b[3~", "delete"), ("\x1b[3;2~", "delete"),
-    ("\x1b[H", "home"), ("\x1bOH", "home"), ("\x1b[1~", "home"), ("\x1b[7~", "home"), ("\x1b[F", "end"), ("\x1bOF", "end"),
-    ("\x1b[4~", "end"), ("\x1b[8~", "end"), ("\x1bOR", "f3"), ("\x1b[13~", "f3"), ("\x1b[[C", "f3"), ("\x1b[1;2R", "shift-f3"),
-    ("\x1b[25~", "shift-f3"), ("\x1b[Z", "shift-tab"), ("\x1bOP", "unknown"), ("\x1b[15~", "unknown"), ("\x1b[2~", "unknown"),
-    ("\x1b[24;2~", "unknown"), ("\x1b[[A", "unknown"), ("\x1b[<0;1;2M", "unknown"), ("\x1b[27;5;9~", "unknown"), ("\x1b[97;5u", "unknown"),
-    ("\x1bx", "alt-x"), ("\x1bC", "alt-c"), ("\x1b\x1b[A", "up"), ("\t", "tab"), ("\r", "enter"), ("\x7f", "backspace"),
-    ("\x10", "ctrl-p"), ("\x13", "ctrl-s"), ("\x1a", "ctrl-z"), ("é", "é"), ("🐸", "🐸"),
+    *((sent, "up") for sent in ("\x1b[A", "\x1bOA", "\x1b[1;2A", "\x1b\x1b[A")),
+    ("\x1b[1;5B", "down"), ("\x1b[1;2C", "right"), ("\x1b[1;3D", "left"), ("\x1b[5~", "page up"),
+    ("\x1b[6~", "page down"), ("\x1b[6;5~", "page down"), ("\x1b[3~", "delete"), ("\x1b[3;2~", "delete"),
+    *((sent, "home") for sent in ("\x1b[H", "\x1bOH", "\x1b[1~", "\x1b[7~")),
+    *((sent, "end") for sent in ("\x1b[F", "\x1bOF", "\x1b[4~", "\x1b[8~")),
+    ("\x1bOR", "f3"), ("\x1b[13~", "f3"), ("\x1b[[C", "f3"), ("\x1b[1;2R", "shift-f3"), ("\x1b[25~", "shift-f3"),
+    *((sent, "unknown") for sent in ("\x1bOP", "\x1b[15~", "\x1b[2~", "\x1b[24;2~", "\x1b[[A", "\x1b[<0;1;2M")),
+    ("\x1b[Z", "shift-tab"), ("\x1b[97;5u", "unknown"),
+    ("\x1bx", "alt-x"), ("\x1bC", "alt-c"), ("\t", "tab"), ("\r", "enter"), ("\x7f", "backspace"), ("\x10", "ctrl-p"),
+    ("\x13", "ctrl-s"), ("\x1a", "ctrl-z"), ("é", "é"), ("🐸", "🐸"),
     ("\x1b[200~a\tb\rc\r\nd\x1b[A\x1b[201~", "a\tb\nc\nd\x1b[A"),
 ]
 
@@ -72,10 +73,12 @@ def test_keys():
     test("pasted text is one, wherever it is cut", wrong)
 
 
+# Lines, from which cell on and in how many cells they are seen, and what is seen of them.
 SHOWN = [
-    ("ab漢字c", 0, 4, "ab漢"), ("ab漢字c", 0, 3, "ab "), ("ab漢字c", 3, 3, " 字"), ("ab漢字c", 3, 4, " 字c"), ("ab漢字c", 2, 9, "漢字c"),
-    ("a\tb", 0, 20, "a       b"), ("a\tb", 3, 4, "    "), ("a\tb", 3, 9, "     b"), ("e\u0301漢", 0, 2, "e\u0301 "), ("e\u0301b", 1, 2, "b"),
-    ("a\x1b[31m\x00", 0, 9, "a·[31m·"), ("🐸🐸", 1, 2, "  "), ("🐸🐸", 0, 3, "🐸 "), ("plain", 2, 2, "ai"), ("", 0, 5, ""), ("x", 5, 5, ""),
+    ("ab漢字c", 0, 4, "ab漢"), ("ab漢字c", 0, 3, "ab "), ("ab漢字c", 3, 3, " 字"), ("ab漢字c", 3, 4, " 字c"),
+    ("ab漢字c", 2, 9, "漢字c"), ("a\tb", 0, 20, "a       b"), ("a\tb", 3, 4, "    "), ("a\tb", 3, 9, "     b"),
+    ("e\u0301漢", 0, 2, "e\u0301 "), ("e\u0301b", 1, 2, "b"), ("a\x1b[31m\x00", 0, 9, "a·[31m·"), ("🐸🐸", 1, 2, "  "),
+    ("🐸🐸", 0, 3, "🐸 "), ("plain", 2, 2, "ai"), ("", 0, 5, ""), ("x", 5, 5, ""),
 ]
 
 
@@ -123,10 +126,26 @@ def wrong_changes(seed):
 
 def test_clamping():
     text, wrong = Text("a🐸b\r\n\nend"), []
-    for asked, due in [((0, 1), (0, 1)), ((0, 2), (0, 1)), ((0, 4), (0, 4)), ((0, 5), (0, 4)), ((0, 99), (0, 4)), ((1, 7), (1, 0)),
-                       ((2, 3), (2, 3)), ((2, 4), (2, 3)), ((3, 0), (2, 3)), ((2**31 - 1, 0), (2, 3))]:
+    rows = [((0, 1), (0, 1)), ((0, 2), (0, 1)), ((0, 4), (0, 4)), ((0, 5), (0, 4)), ((0, 99), (0, 4)), ((1, 7), (1, 0))]
+    rows += [((2, 3), (2, 3)), ((2, 4), (2, 3)), ((3, 0), (2, 3)), ((2**31 - 1, 0), (2, 3))]
+    for asked, due in rows:
         wrong += [] if text.clamped(*asked) == due else [f"{asked} is taken for {text.clamped(*asked)}"]
     test("positions are clamped as the Language Server Protocol says", wrong)
+
+
+def change_at_random(chance, document):
+    """Does something with a document, if it can be done."""
+    places = positions_of(document.text.whole())
+    first, last = sorted(chance.choice(places) for _ in range(2))
+    text, template = text_at_random(chance), chance.choice(["", "$0$0", "\n", "x"])
+    pattern = chance.choice(["a", "a*", "^", "\\s", "a\\nb|b", "🐸|$", "(", ""])
+    try:
+        chance.choice([
+            lambda: document.edit(first, last, text), lambda: document.edit(first, first, text), document.undo,
+            document.redo, lambda: document.replace(template), lambda: document.set_pattern(pattern),
+        ])()
+    except Refused:
+        pass
 
 
 def wrong_documents(seed):
@@ -135,23 +154,14 @@ def wrong_documents(seed):
     with Client(PROGRAM) as client:
         document = Document(client, text_at_random(chance, 30))
         for _ in range(60):
-            places = positions_of(document.text.whole())
-            first, last = sorted(chance.choice(places) for _ in range(2))
-            try:
-                chance.choice([
-                    lambda: document.edit(first, last, text_at_random(chance)), lambda: document.edit(first, first, text_at_random(chance)),
-                    document.undo, document.redo, lambda: document.replace(chance.choice(["", "$0$0", "\n", "x"])),
-                    lambda: document.set_pattern(chance.choice(["a", "a*", "^", "\\s", "a\\nb|b", "🐸|$", "(", ""])),
-                ])()
-            except Refused:
-                pass
-            text, rows, has_pattern = document.text.whole(), document.rows, document.has_pattern
+            change_at_random(chance, document)
+            text, rows = document.text.whole(), document.rows
             if client.ask(b"print\n") != b"text %d\n%b\n" % (len(text.encode()), text.encode()):
                 yield f"seed {seed}: it has the text {text!r}"
             told = [b"m %d %d %d\n" % (line, *match) for line, row in enumerate(rows) for match in row]
-            due = client.ask(b"list\n")
-            if due != (b"".join(told) + b"ok %d\n" % document.count if has_pattern else b"error none\n") or len(told) != document.count:
-                yield f"seed {seed}: of {text!r} it has the rows {rows}, not {due!r}"
+            told = b"".join(told) + b"ok %d\n" % document.count if document.has_pattern else b"error none\n"
+            if told != client.ask(b"list\n") or document.count != sum(map(len, rows)):
+                yield f"seed {seed}: of {text!r} it has the rows {rows}, and {document.count} matches"
 
 
 class Pane:
@@ -165,7 +175,8 @@ class Pane:
         self.resize(ROWS, COLUMNS)
         self.settings = termios.tcgetattr(self.terminal)
         files = {"stdin": self.terminal, "stdout": self.terminal, "stderr": self.terminal}
-        self.process = subprocess.Popen([sys.executable, PANE, self.path, program], cwd=ROOM, start_new_session=True, **files)
+        command = [sys.executable, PANE, self.path, program]
+        self.process = subprocess.Popen(command, cwd=ROOM, start_new_session=True, **files)
         self.out = b""
 
     def resize(self, rows, columns):
@@ -227,20 +238,25 @@ def test_typing(asked):
     wrong = asked("\rt🐸\x1b[D\x1b[Co", "     2  t🐸o\x1b7ad.", "     3  No \x1b[7mtoad\x1b[27m")
     test("Enter breaks the line, and arrows go over characters of two code units", wrong)
     test("Backspace at a line's start joins it with the one before", asked("\x7f\x7f\x7f\x7f", f"{front}ol\x1b7ad."))
-    test("Delete takes away what stands behind", asked("\x1b[3~", f"{front}ol\x1b7d.") + asked("\x1a", f"{front}ola\x1b7d."))
+    wrong = asked("\x1b[3~", f"{front}ol\x1b7d.") + asked("\x1a", f"{front}ola\x1b7d.")
+    test("Delete takes away what stands behind", wrong)
     asked("\x1b[D", f"{front}ol\x1b7ad.")
     wrong = asked("\x1a" * 4, "     2  t🐸o\x1b7ad.") + asked("\x1a" * 16, f"{front}\x1b7{toad}", "2 matches")
     test("Ctrl-Z undoes edits, and goes to what changed", wrong)
     test("and tells where there is none left", asked("\x1a", "nothing to undo"))
     wrong = asked("\x19" * 4, f"{front}old \x1b7{toad}") + asked("\x1a" * 4, f"{front}\x1b7{toad}")
     test("Ctrl-Y does them again", wrong)
-    wrong = asked("\x1b[200~x\ty\rz\x1b[201~", f"{front}x       y", f"     2  z\x1b7{toad}") + asked("\x1a", f"{front}\x1b7{toad}")
+    wrong = asked("\x1b[200~x\ty\rz\x1b[201~", f"{front}x       y", f"     2  z\x1b7{toad}")
+    wrong += asked("\x1a", f"{front}\x1b7{toad}")
     test("what is pasted is one edit, tabs and breaks in it", wrong)
-    wrong = asked("\x1b[H\x1b[5~\x1b[1;2C\x1b[2~\x1bOP\x1bx\x1b[97;5u!", "     1  A!\x1b7 frog") + asked("\x1a", "     1  A\x1b7 frog")
+    wrong = asked("\x1b[H\x1b[5~\x1b[1;2C\x1b[2~\x1bOP\x1bx\x1b[97;5u!", "     1  A!\x1b7 frog")
+    wrong += asked("\x1a", "     1  A\x1b7 frog")
     test("keys that stand for nothing put nothing in", wrong)
-    wrong = asked("\x1b[B\x1b[F", "     2  No \x1b[7mtoad\x1b[27m here is green.\x1b7") + asked("\rend", "     3  end\x1b7")
+    wrong = asked("\x1b[B\x1b[F", "     2  No \x1b[7mtoad\x1b[27m here is green.\x1b7")
+    wrong += asked("\rend", "     3  end\x1b7")
     test("Home and End go to a line's start and end", wrong + asked("\x1b[H", "     3  \x1b7end"))
-    wrong = asked("\x1a" * 4, "     2  No \x1b[7mtoad") + asked("\x1b[A\t\r", "search: t\\w+d\x1b7", "     2  No \x1b[4m\x1b[7mtoad")
+    wrong = asked("\x1a" * 4, "     2  No \x1b[7mtoad")
+    wrong += asked("\x1b[A\t\r", "search: t\\w+d\x1b7", "     2  No \x1b[4m\x1b[7mtoad")
     test("Tab goes back to the search, and Enter on from there", wrong)
 
 
@@ -268,7 +284,8 @@ def test_searching(asked):
     wrong = asked("\x1b[Z", "2 of 2", second) + asked("\x10", "1 of 2", first) + asked("\x1b[1;2R", "2 of 2", second)
     test("Shift-Tab, Ctrl-P and Shift-F3 go to the one before, and from the first one to the last", wrong)
     wrong = asked("\x1b[B", "\x1b[2H\x1b[K     2  ") + asked("\x1b[A", "\x1b[2H\x1b[K     1  ")
-    wrong += asked("\x1b[6~", "\x1b[2H\x1b[K    12  ") + asked("\x1b[F", "    44  ") + asked("\x1b[5~", "\x1b[2H\x1b[K    23  ")
+    wrong += asked("\x1b[6~", "\x1b[2H\x1b[K    12  ") + asked("\x1b[F", "    44  ")
+    wrong += asked("\x1b[5~", "\x1b[2H\x1b[K    23  ")
     test("Up, Down, PageUp, PageDown, Home and End move the file", wrong + asked("\x1b[H", "\x1b[2H\x1b[K     1  "))
 
 
@@ -299,7 +316,8 @@ def test_choices():
     asked = pane.asked
     pane.shows(b"     4  end")
     whole, word = "\x1b[7mToad\x1b[27m", "\x1b[7mtoad\x1b[27m"
-    wrong = asked("toad", "2 matches", f"     1  Toad {word}s") + asked("\x1bc", "any case   3 matches", f"     1  {whole} {word}s")
+    wrong = asked("toad", "2 matches", f"     1  Toad {word}s")
+    wrong += asked("\x1bc", "any case   3 matches", f"     1  {whole} {word}s")
     test("Alt-C takes letters in either case", wrong)
     wrong = asked("\x1bw", "any case   whole words   1 match\x1b", f"     1  {whole} toads")
     wrong += asked("\x1bc", "search: toad\x1b7   whole words   0 matches") + asked("\x1bc", "1 match\x1b")
@@ -308,9 +326,11 @@ def test_choices():
     test("and what isn't a pattern by itself stays none", wrong + asked("\x7f" * 4 + "\x1bw\x1bc", "2 matches"))
     wrong = asked("\r\r", "2 of 2", f"     2  {'x' * 36}\x1b[4m{word}\x1b[24m\x1b[")
     test("a match behind the right edge is scrolled to", wrong + asked("\r", "1 of 2", f"     1  Toad \x1b[4m{word}"))
-    wrong = asked("\x1b[C", "\x1b[3H\x1b[K     2  " + "x" * 72 + "\x1b[", "\x1b[2H\x1b[K     1  \x1b[3H") + asked("\x1b[D", "     1  Toad")
+    wrong = asked("\x1b[C", "\x1b[3H\x1b[K     2  " + "x" * 72 + "\x1b[", "\x1b[2H\x1b[K     1  \x1b[3H")
+    wrong += asked("\x1b[D", "     1  Toad")
     test("Left and Right move the file sideways", wrong)
-    wrong = asked("\x15b\\ne", "0 matches") + asked("\r", "0 matches, and one over lines", "a\x1b[4mb\x1b[24m\x1b[", "\x1b[4me\x1b[24mnd")
+    wrong = asked("\x15b\\ne", "0 matches")
+    wrong += asked("\r", "0 matches, and one over lines", "a\x1b[4mb\x1b[24m\x1b[", "\x1b[4me\x1b[24mnd")
     test("where no line has a match, Enter goes to one over lines", wrong)
     wrong = asked("\x15\\s+$", "0 matches") + asked("\x12\r", "replaced: 1 (0 were marked: docs/protocol.md)")
     test("it is told where others are replaced than were marked", wrong)
@@ -335,7 +355,8 @@ def test_saving():
     asked = pane.asked
     pane.shows(b"     4  d")
     wrong = asked("\t\x1b[Fx", "éx") + asked("\x13", f"overwrite {pane.path}? y or n") + asked("n", "search: ")
-    test("Ctrl-S asks, and writes nothing where the answer is no", wrong + ([] if read(pane.path) == text else ["it did"]))
+    wrong += [] if read(pane.path) == text else ["it did"]
+    test("Ctrl-S asks, and writes nothing where the answer is no", wrong)
     wrong = asked("\x1b[B\x1b[F\r", "     4  c") + asked("\x13y", "saved")
     found = read(pane.path)
     wrong += [] if found == "éx\r\nb\r\rc\nd".encode() else [f"it wrote {found!r}"]
@@ -376,8 +397,8 @@ def test_ended():
     pane.shows(b"     1  a frog")
     os.kill(pane.children()[0], signal.SIGKILL)
     pane.type("x")
-    told = list(pane.end(1))
-    test("where it can't be begun anew, the pane leaves, and says so", told + ([] if b"(status 3)" in pane.out else ["it doesn't"]))
+    wrong = list(pane.end(1)) + ([] if b"(status 3)" in pane.out else ["it doesn't"])
+    test("where it can't be begun anew, the pane leaves, and says so", wrong)
 
 
 def test_refusals():
@@ -397,13 +418,13 @@ def test_refusals():
         os.close(control)
         return ended.returncode, ended.stderr.decode()
 
-    here = os.path.abspath(__file__)
+    here, false, ended = os.path.abspath(__file__), "/bin/false", "the program ended before the whole reply"
     for name, due, *arguments in [
         ("no file", "usage: examples/pane.py FILE [PROGRAM]\n"),
         ("a file that isn't there", "pane.py: nowhere: No such file or directory\n", "nowhere"),
         ("a folder", f"pane.py: {ROOM}: Is a directory\n", ROOM),
         ("no program", "pane.py: there is no nowhere: make builds bin/rope-search\n", here, "nowhere"),
-        ("a program that ends", "pane.py: /bin/false: the program ended before the whole reply (status 1)\n", here, "/bin/false"),
+        ("a program that ends", f"pane.py: {false}: {ended} (status 1)\n", here, false),
         ("a program that is none", f"pane.py: {ROOM}: [Errno 13] Permission denied: '{ROOM}'\n", here, ROOM),
     ]:
         found = told_of(*arguments)
@@ -425,16 +446,18 @@ def test_large():
     pane = Pane(b"a\x1b[31mb\n")
     shown = pane.shows("     1  a·[31mb".encode())
     pane.type("\x1b")
-    test("the pane gives the terminal no control characters of a file", ([] if shown else ["it does"]) + list(pane.end()))
+    wrong = ([] if shown else ["it does"]) + list(pane.end())
+    test("the pane gives the terminal no control characters of a file", wrong)
 
 
 def test_all():
     test_keys()
     test_screen()
-    test("300 texts keep their lines through 30 changes each", [wrong for seed in range(300) for wrong in wrong_changes(seed)])
+    wrong = [wrong for seed in range(300) for wrong in wrong_changes(seed)]
+    test("300 texts keep their lines through 30 changes each", wrong)
     test_clamping()
-    name = "20 documents have the program's text and rows after 60 changes each"
-    test(name, [wrong for seed in range(20) for wrong in wrong_documents(seed)])
+    wrong = [wrong for seed in range(20) for wrong in wrong_documents(seed)]
+    test("20 documents have the program's text and rows after 60 changes each", wrong)
     test_pane()
     test_choices()
     test_saving()

@@ -1,5 +1,5 @@
-"""The search pane in tmux, a terminal that draws: what is on the screen after each key, over a text of 100,000 lines, and how
-much the program was asked for it. Where there is no tmux, that is told, and nothing is tested."""
+"""The search pane in tmux, a terminal that draws: what is on the screen after each key, over a text of 100,000 lines,
+and how much the program was asked for it. Where there is no tmux, that is told, and nothing is tested."""
 import os
 import shutil
 import subprocess
@@ -38,8 +38,9 @@ class Tmux:
     def ask(self, *words):
         environment = {name: value for name, value in os.environ.items() if name != "TMUX"}
         environment.update(LC_ALL="C.UTF-8", TERM="xterm-256color")
-        return subprocess.run(["tmux", "-S", self.socket, "-f", "/dev/null", "-u", *words], env=environment,
-                              stdin=subprocess.DEVNULL, stdout=subprocess.PIPE, stderr=subprocess.STDOUT).stdout.decode()
+        files = {"stdin": subprocess.DEVNULL, "stdout": subprocess.PIPE, "stderr": subprocess.STDOUT}
+        words = ["tmux", "-S", self.socket, "-f", "/dev/null", "-u", *words]
+        return subprocess.run(words, env=environment, **files).stdout.decode()
 
     def rows(self):
         """What is on the screen; `\\x1b[7m` and `\\x1b[4m` stand before what is in reverse video and underlined."""
@@ -145,7 +146,8 @@ def test_text(tmux):
         (["Down", "Down", "Down", "End"], (4, "     4   漢字 漢字 漢字 漢字 漢字"), (1, "     1")),
     ]
     test("keys that edit are answered, with little asked for", wrong_answers(tmux, steps))
-    test("the cursor is behind the line, which is scrolled to", [] if tmux.cursor() == (33, 4) else [f"{tmux.cursor()}"])
+    cursor = tmux.cursor()
+    test("the cursor is behind the line, which is scrolled to", [] if cursor == (33, 4) else [f"{cursor}"])
     wrong = tmux.asked(["F3", "NPage", "NPage", "Home", "y"], (5, "    35  y    34 a "))
     wrong += tmux.asked(["PPage", "PPage", "PPage"], (1, "     1       0 a "))
     test("an undo goes to what it changed", wrong + tmux.asked(["C-z"], (8, "    35      34 a ")))
@@ -177,7 +179,8 @@ def test_all():
         test_search(tmux)
         test_text(tmux)
         test_all_matches(tmux)
-        test("no key put anything else into the text", tmux.asked(["C-s", "y"], (0, "saved")) + wrong_file(tmux.path, text))
+        wrong = tmux.asked(["C-s", "y"], (0, "saved")) + wrong_file(tmux.path, text)
+        test("no key put anything else into the text", wrong)
         tmux.asked(["Escape"])
         test("Escape ends it", [] if "no server" in tmux.ended() else ["it goes on"])
     finally:

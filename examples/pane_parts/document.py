@@ -1,8 +1,8 @@
 """A text and its matches, kept beside the program, so that neither is asked for again after an edit.
 
-The program has the text in buffer 0, with its history. The text is kept here too, and changed by what was sent. The rows
-of lines that a change brings are told by buffer 1, under the same pattern, which is given these lines alone: each line is
-searched by itself, so its row depends on no other."""
+The program has the text in buffer 0, with its history. The text is kept here too, and changed by what was sent. The
+rows of lines that a change brings are told by buffer 1, under the same pattern, which is given these lines alone: each
+line is searched by itself, so its row depends on no other."""
 import bisect
 import itertools
 import operator
@@ -168,8 +168,8 @@ class Document:
         return sum(map(len, self.rows[:line])) + bisect.bisect_left(self.rows[line], match) + 1
 
     def find_over_lines(self, line, column):
-        """The first match of the whole text at a position or behind it, as two positions, or none. It may go over lines,
-        which no row tells."""
+        """The first match of the whole text at a position or behind it, as two positions, or none. It may go over
+        lines, which no row tells."""
         numbers = self.ask(b"next %d %d\n" % (line, column)).split()[1:]
         numbers = tuple(map(int, numbers)) if len(numbers) == 4 else None
         return numbers and (numbers[:2], numbers[2:])

@@ -11,11 +11,13 @@ MOMENT = 0.05  # seconds in which the rest of a key's sequence comes, if it was 
 Key = namedtuple("Key", "name text")
 
 PASTE, PASTE_END = "\x1b[200~", "\x1b[201~"
-SEQUENCE = re.compile(r"\x1b\x1b?(?:\[\[[A-E]|\[(?P<numbers>[0-9;:]*)[0-?]*[ -/]*(?P<end>[@-Z\\-~])|O[0-9;]*(?P<short>[@-~]))")
+SEQUENCE = re.compile(
+    r"\x1b\x1b?(?:\[\[[A-E]|\[(?P<numbers>[0-9;:]*)[0-?]*[ -/]*(?P<end>[@-Z\\-~])|O[0-9;]*(?P<short>[@-~]))"
+)
 UNFINISHED = re.compile(r"\x1b\x1b?(?:\[\[?|\[[0-?]+[ -/]*|O[0-9;]*)?\Z")
 ENDS = {"A": "up", "B": "down", "C": "right", "D": "left", "H": "home", "F": "end", "R": "f3", "Z": "shift-tab"}
-NUMBERS = {"1": "home", "3": "delete", "4": "end", "5": "page up", "6": "page down", "7": "home", "8": "end", "13": "f3"}
-NUMBERS["25"] = "shift-f3"
+NUMBERS = {"1": "home", "3": "delete", "4": "end", "5": "page up", "6": "page down", "7": "home", "8": "end"}
+NUMBERS.update({"13": "f3", "25": "shift-f3"})
 CONTROLS = {"\r": "enter", "\n": "enter", "\t": "tab", "\x7f": "backspace", "\x08": "backspace", "\x1b": "escape"}
 
 

@@ -70,8 +70,8 @@ class Pane:
             self.refused = TOLD.get(str(refused), f"error {refused}")
 
     def follow(self):
-        """Takes the pattern, once nothing more was typed meanwhile, and shows a match of it: where none is in sight, the
-        one that comes next."""
+        """Takes the pattern, once nothing more was typed meanwhile, and shows a match of it: where none is in sight,
+        the one that comes next."""
         if self.spelled() != self.asked:
             self.set_pattern()
             rows = self.document.rows
@@ -90,8 +90,8 @@ class Pane:
         return f"{count} match{'es' * (count != 1)}" + ", and one over lines" * bool(self.found)
 
     def go_to_match(self, is_back):
-        """Goes to the match behind the one that was gone to, or before it, or else that is nearest to the cursor; from the
-        last one to the first."""
+        """Goes to the match behind the one that was gone to, or before it, or else that is nearest to the cursor; from
+        the last one to the first, and back."""
         if self.spelled() != self.asked:
             self.set_pattern()
         rows = self.document.rows
@@ -309,7 +309,7 @@ class Pane:
         elif key.name == "escape" and self.mode != "template":
             self.ask_to_leave()
         else:
-            {"text": self.type_into_text, "template": self.type_into_template}.get(self.mode, self.type_into_search)(key)
+            getattr(self, f"type_into_{self.mode}")(key)
 
     # ---- drawing
 
@@ -346,6 +346,6 @@ class Pane:
             out += f"\x1b[{row + 2}H\x1b[K"
             if line < len(lines):
                 cursor = self.place[1] if self.mode == "text" and line == self.place[0] and not self.question else None
-                text, matches = self.document.text.line(line), self.document.rows[line]
-                out += f"{line + 1:{self.front()}}  {screen.marked(text, self.left, width, matches, self.found_in(line), cursor)}"
+                text, marks = self.document.text.line(line), (self.document.rows[line], self.found_in(line), cursor)
+                out += f"{line + 1:{self.front()}}  {screen.marked(text, self.left, width, *marks)}"
         print(out, end="\x1b8", flush=True)

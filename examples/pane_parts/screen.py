@@ -43,8 +43,8 @@ def cell_of(line, column):
 
 
 def seen(line, left, width):
-    """What is seen of a line in so many cells from a cell on: for each character its column and what stands for it. Of a
-    wide one of which a part would stand outside, blanks."""
+    """What is seen of a line in so many cells from a cell on: for each character its column and what stands for it. Of
+    a wide one of which a part would stand outside, blanks."""
     if is_plain(line):
         yield from enumerate(line[left : left + width], left)
         return
@@ -57,8 +57,8 @@ def seen(line, left, width):
 
 
 def marked(line, left, width, matches, found, cursor):
-    """What is seen of a line, with its matches in reverse video and the match that was gone to underlined. At the cursor's
-    column, if it is in this line, the terminal is told to keep the place."""
+    """What is seen of a line, with its matches in reverse video and the match that was gone to underlined. At the
+    cursor's column, if it is in this line, the terminal is told to keep the place."""
     out, style, is_kept = "", (False, False), cursor is None
     for column, text in seen(line, left, width):
         at = bisect.bisect_right(matches, (column, float("inf"))) - 1

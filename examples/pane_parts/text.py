@@ -1,5 +1,5 @@
-"""A text as an editor keeps it: its lines, with positions as the program has them, a line and a column, both from 0, where
-columns count UTF-16 code units."""
+"""A text as an editor keeps it: its lines, with positions as the program has them, a line and a column, both from 0,
+where columns count UTF-16 code units."""
 import io
 
 BREAKS = "\r\n"  # CR and LF, and CR LF as one
@@ -50,8 +50,8 @@ class Text:
         return self.lines[number].rstrip(BREAKS)
 
     def clamped(self, line, column):
-        """The position that a client of the Language Server Protocol means: a column behind the line's end is its end, one
-        inside a character that character's start, and a line that there isn't the text's end."""
+        """The position that a client of the Language Server Protocol means: a column behind the line's end is its end,
+        one inside a character that character's start, and a line that there isn't the text's end."""
         if line >= len(self.lines):
             line, column = len(self.lines) - 1, units(self.lines[-1])
         text = self.line(line)
