@@ -434,6 +434,14 @@ def test_refusals():
 
 
 def test_large():
+    pane = Pane(b"a\n" * 1000)
+    pane.shows(b"     1  a")
+    wrong = pane.asked("\\n\x1b[F", "  1000  a") + pane.asked("\x12\r", "replaced: 1000 (0 were marked", "     1  aaaa")
+    wrong += pane.asked("\x1a", "     1  a\x1b") + pane.asked("\x15a", "1000 matches")
+    test("what is shown is moved where its lines are gone", wrong)
+    pane.type("\x03")
+    test("and it leaves", pane.end())
+
     pane = Pane("".join(f"line {number} é\n" for number in range(50000)).encode())
     pane.shows(b"     1  line")
     for key in "line 4":

@@ -154,10 +154,15 @@ class Pane:
         if cell < self.left or max(cell, min(last, cell + width - 1)) >= self.left + width:
             self.left = 0 if last < width else max(0, cell - width // 2)
 
+    def lines_of(self, key):
+        """How many lines a key moves by."""
+        height, _ = self.size()
+        return {"up": -1, "down": 1, "page up": -height, "page down": height}.get(key, 0)
+
     def move_file(self, key):
         """Moves what is shown."""
         height, width = self.size()
-        lines = {"up": -1, "down": 1, "page up": -height, "page down": height}.get(key, 0)
+        lines = self.lines_of(key)
         last = len(self.document.text.lines) - 1
         self.top = {"home": 0, "end": max(0, last - height + 1)}.get(key, max(0, min(self.top + lines, last)))
         self.left = max(0, self.left + {"left": -width // 2, "right": width // 2}.get(key, 0))
@@ -165,13 +170,14 @@ class Pane:
     # ---- changes
 
     def changed(self, change):
-        """Makes a change, and tells if it was refused."""
+        """Makes a change, and tells if it was refused. Lines that are shown, and the cursor, may be gone then."""
         try:
             answer = change()
         except Refused as refused:
             self.told = f"error {refused}"
             return None
-        self.found = None
+        text = self.document.text
+        self.top, self.place, self.found = min(self.top, len(text.lines) - 1), text.clamped(*self.place), None
         return answer
 
     def edit(self, first, last, text):
@@ -185,7 +191,6 @@ class Pane:
         if self.document.has_pattern:
             shown = self.document.count
             count = self.changed(lambda: self.document.replace(self.template))
-            self.place = self.document.text.clamped(*self.place)
             if count is not None:
                 other = f" ({shown} were marked: docs/protocol.md)" if count != shown else ""
                 self.told = f"replaced: {count}{other}, matches: {self.document.count}"
@@ -215,12 +220,10 @@ class Pane:
     def move(self, key):
         """Moves the cursor by a key."""
         text, (line, column) = self.document.text, self.place
-        height, _ = self.size()
-        lines = {"up": -1, "down": 1, "page up": -height, "page down": height}.get(key, 0)
-        if lines:
+        if self.lines_of(key):
             if key.startswith("page"):
                 self.move_file(key)
-            place = text.clamped(min(max(0, line + lines), len(text.lines) - 1), column)
+            place = text.clamped(min(max(0, line + self.lines_of(key)), len(text.lines) - 1), column)
         else:
             to = {"right": text.behind, "left": text.before, "home": lambda *_: (line, 0)}
             to["end"] = lambda *_: (line, units(text.line(line)))
@@ -263,6 +266,9 @@ class Pane:
         self.mode = "search" if self.mode == "text" else "text"
         self.go(self.place_shown())
 
+    def ask_for_template(self):
+        self.mode, self.template = "template", ""
+
     def ask_to_save(self):
         why = ", which has changed since it was read" if stamp_of(self.path) != self.stamp else ""
         self.question = f"overwrite {self.path}{why}? y or n ", self.save
@@ -281,33 +287,33 @@ class Pane:
         if key.text in ("y", "Y"):
             do()
 
-    def choose(self, key):
-        """Alt-C and Alt-W."""
-        if key == "alt-c":
-            self.folds = not self.folds
-        else:
-            self.words = not self.words
+    def always(self, key):
+        """What a key does wherever one types, or none."""
+        if key in ("shift-tab", "ctrl-p", "shift-f3"):
+            return lambda: self.go_to_match(True)
+        return {
+            "f3": lambda: self.go_to_match(False),
+            "tab": self.change_mode,
+            "alt-c": lambda: setattr(self, "folds", not self.folds),
+            "alt-w": lambda: setattr(self, "words", not self.words),
+            "ctrl-r": self.ask_for_template,
+            "ctrl-z": lambda: self.undo_or_redo(self.document.undo),
+            "ctrl-y": lambda: self.undo_or_redo(self.document.redo),
+            "ctrl-s": self.ask_to_save,
+            "escape": None if self.mode == "template" else self.ask_to_leave,
+        }.get(key)
 
     def take(self, key):
         """Does what a key says."""
-        always = {
-            "ctrl-z": lambda: self.undo_or_redo(self.document.undo),
-            "ctrl-y": lambda: self.undo_or_redo(self.document.redo),
-            "ctrl-s": self.ask_to_save, "tab": self.change_mode, "alt-c": lambda: self.choose("alt-c"),
-            "alt-w": lambda: self.choose("alt-w"), "f3": lambda: self.go_to_match(False),
-        }
-        always.update(dict.fromkeys(("shift-tab", "ctrl-p", "shift-f3"), lambda: self.go_to_match(True)))
         self.told = ""
         if key.name == "ctrl-c":
             self.leave()
-        elif self.question:
+        if self.question:
             self.answer(key)
-        elif key.name in always:
-            always[key.name]()
-        elif key.name == "ctrl-r":
-            self.mode, self.template = "template", ""
-        elif key.name == "escape" and self.mode != "template":
-            self.ask_to_leave()
+            return
+        do = self.always(key.name)
+        if do:
+            do()
         else:
             getattr(self, f"type_into_{self.mode}")(key)
 
