@@ -6,7 +6,7 @@
 The program is PROGRAM, or bin/rope-search where that has been built: it is proved, and gets one command
 after the other. Where there is neither, rt runs it over the whole session, compiled with checks and with
 nothing proved, which needs no more than a minute; RT names another command than rt. What is sent stands
-behind '>', a payload on lines of its own.
+behind '>', a payload on lines of its own: the last of them is empty where the payload ends with LF.
 """
 import io
 import os
@@ -14,12 +14,11 @@ import subprocess
 import sys
 
 sys.dont_write_bytecode = True
-from client import PROGRAM, Client, read_reply
+from client import PAYLOADS, PROGRAM, Client, Ended, read_reply
 
 TOP = os.path.dirname(os.path.dirname(os.path.abspath(__file__)))
 FIRST = os.path.join(TOP, "examples", "first.session")
 RT = os.environ.get("RT") or "rt"
-PAYLOADS = (b"text", b"edit", b"pattern", b"replace")  # the words of commands that have one
 
 
 def commands(file):
@@ -29,19 +28,28 @@ def commands(file):
         yield line + (file.read(int(numbers[-1])) if word in PAYLOADS else b"")
 
 
+def lines_sent(command):
+    """A command's line, and the lines of its payload, if it has one."""
+    line, _, payload = command.decode().partition("\n")
+    return [line, *payload.split("\n")] if payload else [line]
+
+
 def show(session, ask):
     """Shows each command with what `ask` answers to it."""
     with open(session, "rb") as file:
         for command in commands(file):
-            for sent in command.decode().splitlines():
-                print(">", sent)
+            for line in lines_sent(command):
+                print(">", line)
             print(ask(command).decode(), end="", flush=True)
 
 
 def show_proved(session, program):
     """Shows what the proved program answers, command by command; returns its status."""
-    search = Client(program)
-    show(session, search.ask)
+    with Client(program) as search:
+        try:
+            show(session, search.ask)
+        except (Ended, ValueError) as error:
+            print(error, file=sys.stderr)
     return search.close()
 
 
@@ -53,7 +61,10 @@ def show_tried(session):
         ran = subprocess.run([RT, "try"], cwd=crate, stdin=file, stdout=subprocess.PIPE, stderr=subprocess.PIPE)
     if ran.stdout:
         replies = io.BytesIO(ran.stdout)
-        show(session, lambda command: read_reply(replies))
+        try:
+            show(session, lambda command: read_reply(replies))
+        except EOFError as error:
+            print(error.args[0].decode(errors="replace"), end="")
     if ran.returncode != 0:
         print(ran.stderr.decode(errors="replace"), end="", file=sys.stderr)
     return ran.returncode

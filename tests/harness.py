@@ -54,10 +54,10 @@ def library(name, what):
     return None if problems else made
 
 
-def example_rows(page, form):
-    """The rows of the table of examples of a page of docs/, as matches of this form."""
+def example_rows(page, form, section="Examples"):
+    """The rows of the table in a section of a page of docs/, as matches of this form."""
     with open(os.path.join(TOP, "docs", page), encoding="utf-8") as file:
-        lines = file.read().split("\n## Examples\n")[1].split("\n## ")[0].split("\n")
+        lines = file.read().split(f"\n## {section}\n")[1].split("\n## ")[0].split("\n")
     rows = []
     for row in [line for line in lines if line.startswith("|")][2:]:
         found = re.fullmatch(form, row)

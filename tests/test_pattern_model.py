@@ -12,7 +12,7 @@ from pattern_model import pattern_weight, tree_of
 from protocol import WEIGHT_LIMIT, refused_pattern
 from random_patterns import Maker
 from test_edits import PATTERNS, REFUSED_PATTERNS
-from test_patterns import LARGE, MOST, REFUSED, TREES, WEIGHTS, examples, set_of, tree_of as told_tree
+from test_patterns import LARGE, MOST, REFUSED, TREES, WEIGHTS, examples, set_of, tree_of as told_tree, tried
 from test_regexes import rows
 from test_searches import VECTORS, listed
 from walks import Empty, Group, Look, Repeat, Search, Set, below, spelled
@@ -62,6 +62,13 @@ def wrong_rows():
     for pattern in REFUSED:
         if tree_of(pattern):
             yield f"{pattern!r} spells {spelling(pattern)}"
+    for patterns, trees, instead in tried():
+        for pattern, due in zip(patterns, trees):
+            if spelling(pattern) != due:
+                yield f"{pattern!r} spells {spelling(pattern)}, not {due}"
+        for pattern in instead:
+            if tree_of(pattern) is None:
+                yield f"{pattern!r}, which is advised, is none"
 
 
 def wrong_reasons():

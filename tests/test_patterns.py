@@ -2,7 +2,7 @@
 which are refused and why, and that each refused request for memory is told."""
 import re
 
-from driver import OUTSIDE, PATTERN_WANT, TOO_DEEP, TOO_LONG, Settings, about, answers, check_memory, problems
+from driver import OUTSIDE, PATTERN_WANT, TOO_DEEP, TOO_LONG, Settings, about, answers, check_memory, problems, search
 from harness import example_rows, short, test
 from memory import library
 
@@ -158,6 +158,32 @@ IN_NEED = [
 ]
 
 
+LITERAL = "".join(map(chr, range(0x80))) + "é🐸"  # a text with every sign that means something in patterns
+# What patterns to write find in a text, as what is tried means in other dialects.
+MEANT = [
+    (r"[^\W\d_]", "aé1_ 漢", "0-1 1-3 6-9"),
+    (r"[ \t]", "a \t\n", "1-2 2-3"),
+    (r"[^ \t]", "a \n", "0-1 2-3"),
+    (r"\r\n|[\r\n]", "\r\n\n\rx", "0-2 2-3 3-4"),
+    (r"[^\r\n]", "a\r\n", "0-1"),
+    (r"\n?\z", "a\n", "1-2"),
+    (r"\bfoo\b", "foo food", "0-3"),
+    (r"a\.b", "axb a.b", "4-7"),
+    (r"\{a: 1}", "{a: 1}", "0-6"),
+    (r"if \(x\) \{", "if (x) {", "0-8"),
+    (r"[\w.-]", "a.-+", "0-1 1-2 2-3"),
+    (r"[^\s\S]", "a\n", ""),
+    (r"(?s:.)", "a\n", "0-1 1-2"),
+    (r"[a-wyz]", "wxy", "0-1 2-3"),
+    (r".*\.rs", "lib.rs", "0-6"),
+    (r"C\+\+", "C C++", "2-5"),
+    (r"f\(x\)", "fx f(x)", "3-7"),
+    (r"\u{1F438}", "🐸", "0-4"),
+    (r"(?i)foo", "FoO", "0-3"),
+    (r"[\n\v\f\r]", "\n\v\f\r", "0-1 1-2 2-3 3-4"),
+]
+
+
 def set_of(ranges):
     """A set as the page writes it, of ranges of scalar values, which are numbered without surrogates."""
 
@@ -196,6 +222,29 @@ def examples():
     """The rows of the page, each as a pattern and its tree, or None where it is outside the grammar."""
     rows = example_rows("patterns.md", r"\| (?:`(.+)`|nothing) \| (?:`(.+)`|outside) \|")
     return [((row[1] or "").replace("\\|", "|"), Settings(), row[2]) for row in rows]
+
+
+def tried():
+    """The rows of the page on other dialects: the patterns that are tried, what they spell here, None for what is
+    refused, and the patterns to write in their place."""
+    found = []
+    for row in example_rows("patterns.md", r"\| (`.+`) \| (refused|`.+`) \| (.+) \|", "What other dialects have"):
+        cells = [re.findall("`(.+?)`", cell.replace("\\|", "|")) for cell in row.groups()]
+        found.append((cells[0], cells[1] or [None] * len(cells[0]), cells[2]))
+    return found
+
+
+def wrong_advice():
+    """What is wrong with the patterns to write: each has to be one, and those of MEANT find what the tried ones mean
+    elsewhere."""
+    advised = [pattern for _, _, instead in tried() for pattern in instead]
+    told, wrong = answers([about("parse", pattern) for pattern in advised])
+    wrong += [f"{pattern!r} is refused" for pattern, answer in zip(advised, told) if answer == OUTSIDE]
+    wrong += [f"{pattern!r} isn't on the page" for pattern, _, _ in MEANT if pattern not in advised]
+    by_hand = "".join("\\" * (character in "\\.+*?()|[{^$") + character for character in LITERAL)
+    literals = [(pattern, f"a{LITERAL}", f"1-{1 + len(LITERAL.encode())}") for pattern in (by_hand, re.escape(LITERAL))]
+    yield from wrong
+    yield from problems([search(pattern, text.encode(), found) for pattern, text, found in MEANT + literals])
 
 
 def wrong_trees(rows):
@@ -245,6 +294,9 @@ def test_all():
     rows = examples()
     test(f"the page of patterns has its examples ({len(rows)})", [] if len(rows) >= 40 else ["fewer than 40"])
     test(f"{len(rows)} patterns of the page spell what it says", wrong_trees(rows))
+    rows = [(pattern, Settings(), tree) for patterns, trees, _ in tried() for pattern, tree in zip(patterns, trees)]
+    test(f"{len(rows)} patterns of other dialects spell what the page says, or are refused", wrong_trees(rows))
+    test("what the page advises in their place", wrong_advice())
     rows = [(pattern, Settings(), tree) for pattern, tree in TREES] + TREES_UNDER
     test(f"{len(rows)} further patterns spell what is told", wrong_trees(rows))
     rows = [(pattern, Settings(), None) for pattern in REFUSED]

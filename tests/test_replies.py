@@ -270,6 +270,26 @@ def test_examples(examples):
             test(f"{name} cut after each of its bytes", cuts(data))
 
 
+def counts_of(text, pattern, template):
+    """How many matches of a pattern are listed, and how many are replaced, in a text; none where that isn't answered."""
+    commands = with_payload("text", text) + with_payload("pattern", pattern)
+    told = run(commands + b"list\n" + with_payload("replace", template)).out
+    return [int(count) for count in re.findall(rb"^ok (\d+)$", told, re.MULTILINE)]
+
+
+def test_side_by_side():
+    """The rows of the page on what is listed and what is replaced."""
+    form = r"\| `(.+)` \| `(.+)` \| (\d) \| (\d) \| (?:`(.+?)`(?: with `(.+)`)?|none: .+) \|"
+    rows, wrong = example_rows("protocol.md", form, "Line by line, or the whole text"), []
+    for row in rows:
+        text, patterns = bytes_of(row[1]).decode(), [cell and cell.replace("\\|", "|") for cell in (row[2], row[5])]
+        found, due = counts_of(text, patterns[0], ""), [int(row[3]), int(row[4])]
+        wrong += [] if found == due else [f"{row[0]}: {found}"]
+        found = counts_of(text, patterns[1], row[6] or "") if patterns[1] else [0, 0]
+        wrong += [] if len(found) == 2 and found[0] == found[1] else [f"{row[0]}: {found} by the second pattern"]
+    test("what is listed and what is replaced, side by side", wrong if len(rows) >= 5 else ["there are fewer than 5 rows"])
+
+
 def test_ample_memory():
     text = "".join(f"line {number}: wörter, 🐸\n" for number in range(20000)).encode()
     data = b"text %d\n" % len(text) + text + b"fork\nprint\nuse 1\nprint\n" * 3 + b"text 0\nprint\n"
@@ -397,6 +417,7 @@ def test_arguments():
 
 def test_all():
     test_examples(examples_of_page())
+    test_side_by_side()
     test_ample_memory()
     test_lines_far_apart()
     test_long_text()
