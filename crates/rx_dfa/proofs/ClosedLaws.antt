@@ -5,6 +5,7 @@ use Rattle.std.proofs.lemmas.Option.{slice_get_within}
 use Rattle.rx_util.specs.Search.{HalfFound}
 use Rattle.rx_walks.specs.Finds.{unanchored, anchored, anchored_pattern, Search}
 use Rattle.rx_program.specs.Programs.{ByteProgram}
+use Rattle.rx_dfa.specs.declared.automaton.Automaton.{Automaton}
 use Rattle.rx_dfa.specs.declared.states.AutomatonState.{AutomatonState}
 use Rattle.rx_dfa.specs.declared.states.Starting.{Starting}
 use Rattle.rx_dfa.specs.declared.states.Starting.TheVariants.{Never, Once, Always}
@@ -15,6 +16,7 @@ use Rattle.rx_dfa.specs.States.{ahead_of_end}
 use Rattle.rx_dfa.specs.Dfas.{DfaView, IsDfaOf, ahead_at, ahead_in, column_count}
 use Rattle.rx_dfa.specs.Caches.{CacheView, IsCacheOf, IsEntry, KeepNumbers, LeadsTo}
 use Rattle.rx_dfa.specs.Searching.{StartsSo}
+use Rattle.rx_dfa.specs.Tables.{IsBeginning, StartsFrom}
 use Rattle.rx_dfa.specs.Closed.{AreKnown, Grows, HasAllStarts, HasOneFirst, HasStarts, HasStartsFrom, IsClosedOf, IsKnownAt}
 use Rattle.rx_dfa.proofs.ClassLaws.{same_or_not}
 use Rattle.rx_dfa.proofs.PassLaws.{byte_in_class}
@@ -133,10 +135,19 @@ starts_by_patterns p dfa states all each anchored q starts = let same : Some p.s
 starts_by_patterns p dfa states all each (anchored_pattern k) q starts = each k q starts
 
 -- the state in which a search begins is there
-pub one_first : (states : List AutomatonState) (s : Search) (q i : ℕ) (behind : Behind) (starting : Starting) (met : Option HalfFound) → HasStarts states q behind → StartsSo s q i starting met → HasOneFirst states starting behind
-one_first states s q i behind Never met has so = has.never
-one_first states s q i behind (Once r) met has so = subst (λ k. HasOneFirst states (Once k) behind) (sym so.0) has.once
-one_first states s q i behind (Always r) met has so = subst (λ k. HasOneFirst states (Always k) behind) (sym so.0) has.always
+pub one_first : (states : List AutomatonState) (q : ℕ) (behind : Behind) (starting : Starting) → HasStarts states q behind → StartsFrom q starting → HasOneFirst states starting behind
+one_first states q behind Never has from = has.never
+one_first states q behind (Once r) has from = subst (λ k. HasOneFirst states (Once k) behind) (sym from) has.once
+one_first states q behind (Always r) has from = subst (λ k. HasOneFirst states (Always k) behind) (sym from) has.always
+
+pub begins_there : (a : Automaton) (table : CacheView) (starting : Starting) (behind : Behind) → IsClosedOf a.program.now a.dfa.now table → IsBeginning a starting behind → HasOneFirst table.states starting behind
+begins_there a table starting behind closed begins =
+    one_first table.states begins.start behind starting (subst (λ z. HasStarts table.states begins.start z) (sym begins.behind_is) (closed.starts begins.anchoring begins.start begins.starts begins.byte begins.may_be)) begins.starting_is
+
+pub starts_from : (s : Search) (q i : ℕ) (starting : Starting) (met : Option HalfFound) → StartsSo s q i starting met → StartsFrom q starting
+starts_from s q i Never met so = tt
+starts_from s q i (Once r) met so = so.0
+starts_from s q i (Always r) met so = so.0
 
 -- ---- the columns of the end
 

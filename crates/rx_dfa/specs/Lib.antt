@@ -6,5 +6,6 @@ pub mod Dfas
 pub mod Caches
 pub mod Passing
 pub mod Closed
+pub mod Tables
 pub mod Hybrid
 pub mod Dense

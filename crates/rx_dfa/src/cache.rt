@@ -4,15 +4,18 @@ ghost use Rattle.std.specs.Prelude.{◌≡◌, ◌⊎◌, ◌+◌, ◌*◌, ◌<
 ghost use Rattle.rx_util.specs.declared.search.MatchError.{MatchError};
 ghost use Rattle.rx_dfa.specs.declared.states.AutomatonState.{AutomatonState};
 ghost use Rattle.rx_dfa.specs.Behind.{quits};
-ghost use Rattle.rx_dfa.specs.Dfas.{IsDfaOf, ahead_in, column_count};
-ghost use Rattle.rx_dfa.specs.Caches.{IsCacheOf, IsEntryTo, HasFirst, HasStepped, IsBare, IsSameState, KeepNumbers};
+ghost use Rattle.rx_dfa.specs.Dfas.{ahead_in, column_count};
+ghost use Rattle.rx_dfa.specs.Caches.{IsCacheOf, IsEntryTo, HasFirst, IsBare, IsSameState, KeepNumbers};
 ghost use Rattle.rx_dfa.specs.Closed.{HasOneFirst};
 ghost use Rattle.rx_dfa.specs.States.{IsFirstState, IsStateOf, IsStep};
+ghost use Rattle.rx_dfa.specs.Tables.{HasStepped, IsCacheBy};
 
-use crate::behind::{Behind, quits_at};
+use crate::automaton::Automaton;
+use crate::behind::Behind;
 use crate::dfa::Dfa;
 use crate::maker::Maker;
 use crate::states::{Ahead, AutomatonState, Starting};
+use crate::table::Table;
 use rx_program::Program;
 use rx_steps::Node;
 use rx_util::MatchError;
@@ -196,13 +199,12 @@ impl Cache {
     /// Adds a state, and tells its number. Where it is refused, no state is left.
     pub(crate) fn add(
         &mut self,
-        program: &Program,
-        dfa: &Dfa,
+        automaton: &Automaton,
         state: AutomatonState,
     ) -> Result<usize, MatchError>
-        requires made { IsCacheOf program.now dfa.now self.old }
-        requires state { IsStateOf program.now state }
-        ensures made { IsCacheOf program.now dfa.now self.new }
+        requires made { IsCacheBy automaton.now self.old }
+        requires state { IsStateOf automaton.now.program.now state }
+        ensures made { IsCacheBy automaton.now self.new }
         ensures number { IfOk result (λ number.
             slice_get self.new.states number ≡ Some state) }
         ensures kept { OnOk result (KeepNumbers self.old.states self.new.states) }
@@ -225,22 +227,22 @@ impl Cache {
     }
 
     /// Whether a further state fits: beside one state another one always does.
-    fn has_room(&self, dfa: &Dfa, state: &AutomatonState) -> bool {
-        self.states.len() < 2 || self.used.saturating_add(self.size_of(state)) <= dfa.capacity
+    fn has_room(&self, automaton: &Automaton, state: &AutomatonState) -> bool {
+        self.states.len() < 2
+            || self.used.saturating_add(self.size_of(state)) <= automaton.dfa.capacity()
     }
 
     /// The number of a state, which is added where it isn't found, and whether all others were
     /// taken out for it. Where the cache was cleared too often in this search, it gives up.
     pub(crate) fn number_of(
         &mut self,
-        program: &Program,
-        dfa: &Dfa,
+        automaton: &Automaton,
         state: AutomatonState,
         at: usize,
     ) -> Result<(usize, bool), MatchError>
-        requires made { IsCacheOf program.now dfa.now self.old }
-        requires state { IsStateOf program.now state }
-        ensures made { IsCacheOf program.now dfa.now self.new }
+        requires made { IsCacheBy automaton.now self.old }
+        requires state { IsStateOf automaton.now.program.now state }
+        ensures made { IsCacheBy automaton.now self.new }
         ensures number { IfOk result (λ told. (x : AutomatonState)
             × (slice_get self.new.states told.0 ≡ Some x) × IsSameState state x) }
         ensures kept { IfOk result (λ told. told.1 ≡ false
@@ -251,8 +253,8 @@ impl Cache {
         if let Some(number) = self.find(&state) {
             return Ok((number, false));
         }
-        if self.has_room(dfa, &state) {
-            let number = self.add(program, dfa, state)?;
+        if self.has_room(automaton, &state) {
+            let number = self.add(automaton, state)?;
             return Ok((number, false));
         }
         if self.cleared >= CLEARS {
@@ -261,7 +263,7 @@ impl Cache {
         self.cleared += 1;
         self.clear_count = self.clear_count.saturating_add(1);
         self.clear();
-        let number = self.add(program, dfa, state)?;
+        let number = self.add(automaton, state)?;
         Ok((number, true))
     }
 }
@@ -390,89 +392,102 @@ impl Cache {
     /// `Memory`.
     pub(crate) fn next_state(
         &mut self,
-        program: &Program,
-        dfa: &Dfa,
+        automaton: &Automaton,
         number: usize,
         ahead: &Ahead,
     ) -> Result<AutomatonState, MatchError>
-        requires made { IsCacheOf program.now dfa.now self.old }
+        requires made { IsCacheBy automaton.now self.old }
         requires number { number < length self.old.states }
         ensures step { IfOk result (λ next. (x : AutomatonState)
             → slice_get self.old.states number ≡ Some x
-            → IsStep program.now dfa.now.asked x ahead.now next) }
-        ensures state { IfOk result (λ next. IsStateOf program.now next) }
-        ensures made { IsCacheOf program.now dfa.now self.new }
+            → IsStep automaton.now.program.now automaton.now.dfa.now.asked x ahead.now next) }
+        ensures state { IfOk result (λ next. IsStateOf automaton.now.program.now next) }
+        ensures made { IsCacheBy automaton.now self.new }
         ensures states { self.new.states ≡ self.old.states }
         ensures table { self.new.table ≡ self.old.table }
         ensures refused { IfErr result (λ error. error ≡ MatchError.Memory) }
     {
         let state = &self.states[number];
-        self.maker.next_state(program, dfa.asked, state, ahead)
+        self.maker.next_state(automaton, state, ahead)
     }
 
     /// Makes the step from a state in a column, and enters it: the number of the next state, and
     /// none where a search can't go on.
     fn make_step(
         &mut self,
-        program: &Program,
-        dfa: &Dfa,
+        automaton: &Automaton,
         number: usize,
         column: usize,
         at: usize,
     ) -> Result<Option<usize>, MatchError>
-        requires dfa { IsDfaOf program.now dfa.now }
-        requires made { IsCacheOf program.now dfa.now self.old }
+        requires made { IsCacheBy automaton.now self.old }
         requires number { number < length self.old.states }
         requires column { column < self.old.width }
-        ensures made { IsCacheOf program.now dfa.now self.new }
+        ensures made { IsCacheBy automaton.now self.new }
         ensures step { IfOk result (λ next. (x : AutomatonState)
             → slice_get self.old.states number ≡ Some x
-            → HasStepped program.now dfa.now self.new.states x (ahead_in dfa.now column) next) }
+            → HasStepped automaton.now self.new.states x column next) }
         ensures refused { IfErr result (λ error.
             (error ≡ MatchError.Memory) ⊎ (error ≡ MatchError.GaveUp at)) }
     {
-        let ahead = dfa.ahead(column);
-        if quits_at(dfa.asked, ahead.seen) {
+        let ahead = automaton.dfa.ahead(column);
+        if automaton.dfa.quits_at(ahead.seen) {
             self.set_entry(number, column, QUIT);
             return Ok(None);
         }
-        let state = self.next_state(program, dfa, number, &ahead)?;
-        let (next, was_cleared) = self.number_of(program, dfa, state, at)?;
+        let state = self.next_state(automaton, number, &ahead)?;
+        let (next, was_cleared) = self.number_of(automaton, state, at)?;
         if !was_cleared {
             let entry = self.entry_to(next);
             self.set_entry(number, column, entry);
         }
         Ok(Some(next))
     }
+}
 
-    /// Where a column leads from a state: the number of the next state, and none where a search
-    /// can't go on.
-    pub(crate) fn step(
+impl Table for Cache {
+    ghost is_whole = { false };
+
+    ghost shown = { λ cache. cache };
+
+    fn known(&self) -> &Cache {
+        self
+    }
+
+    fn step(
         &mut self,
-        program: &Program,
-        dfa: &Dfa,
+        automaton: &Automaton,
         number: usize,
         column: usize,
         at: usize,
-    ) -> Result<Option<usize>, MatchError>
-        requires dfa { IsDfaOf program.now dfa.now }
-        requires made { IsCacheOf program.now dfa.now self.old }
-        requires number { number < length self.old.states }
-        requires column { column < self.old.width }
-        ensures made { IsCacheOf program.now dfa.now self.new }
-        ensures step { IfOk result (λ next. (x : AutomatonState)
-            → slice_get self.old.states number ≡ Some x
-            → HasStepped program.now dfa.now self.new.states x (ahead_in dfa.now column) next) }
-        ensures refused { IfErr result (λ error.
-            (error ≡ MatchError.Memory) ⊎ (error ≡ MatchError.GaveUp at)) }
-    {
+    ) -> Result<Option<usize>, MatchError> {
         let entry = self.entry(number, column);
         if entry == UNKNOWN {
-            return self.make_step(program, dfa, number, column, at);
+            return self.make_step(automaton, number, column, at);
         }
         if entry == QUIT {
             return Ok(None);
         }
         Ok(Some(self.number_at(entry)))
+    }
+
+    fn first(
+        &mut self,
+        automaton: &Automaton,
+        starting: Starting,
+        side: Behind,
+        at: usize,
+    ) -> Result<usize, MatchError> {
+        self.cleared = 0;
+        if let Some(number) = self.kept_first(&starting, &side) {
+            return Ok(number);
+        }
+        let state = AutomatonState::first(automaton.program.allocator(), starting, side);
+        let number = match self.number_of(automaton, state, at) {
+            Ok((number, _)) => number,
+            Err(error) => return Err(error),
+        };
+        self.keep_first(&starting, &side, number);
+        Ok(number)
     }
 }

@@ -1,9 +1,12 @@
 //! Automata of programs.
 
-ghost use Rattle.std.specs.Prelude.{◌≡◌, ◌<◌, length, IfOk};
+ghost use Rattle.std.specs.Prelude.{◌≡◌, ◌<◌, None, Some, true, false, length, slice_get, IfOk, IfSome};
+ghost use Rattle.rx_dfa.specs.Behind.{quits};
+ghost use Rattle.rx_dfa.specs.Classes.{class_of};
 ghost use Rattle.rx_dfa.specs.States.{ahead_of_end};
 ghost use Rattle.rx_dfa.specs.Dfas.{IsDfaOf, column_count, ahead_in};
 
+use crate::behind::{byte_that_quits, quits_at};
 use crate::classes::ByteClasses;
 use crate::states::Ahead;
 use rx_program::Program;
@@ -56,6 +59,58 @@ impl Dfa {
             utf8_empty,
             capacity,
         })
+    }
+
+    /// Which looks the program asks for.
+    pub(crate) fn asked(&self) -> AskedLooks
+        ensures { result ≡ self.now.asked }
+    {
+        self.asked
+    }
+
+    /// About how much room its states may take, in bytes.
+    pub(crate) fn capacity(&self) -> usize
+        ensures { result ≡ self.now.capacity }
+    {
+        self.capacity
+    }
+
+    /// Whether empty matches inside a character are passed over.
+    pub(crate) fn utf8_empty(&self) -> bool
+        ensures { result ≡ self.now.utf8_empty }
+    {
+        self.utf8_empty
+    }
+
+    /// The column of a byte.
+    #[inline(always)]
+    pub(crate) fn class(&self, byte: u8) -> usize
+        ensures { result ≡ class_of self.now.classes byte }
+    {
+        self.classes.class(byte)
+    }
+
+    /// Whether a search can't go on before this byte, or none.
+    pub(crate) fn quits_at(&self, seen: Option<u8>) -> bool
+        ensures { result ≡ quits self.now.asked seen }
+    {
+        quits_at(self.asked, seen)
+    }
+
+    /// The byte, if a search can't go on before it.
+    pub(crate) fn byte_that_quits(&self, seen: Option<u8>) -> Option<u8>
+        ensures none { result ≡ None → quits self.now.asked seen ≡ false }
+        ensures some { IfSome result
+            (λ b. (seen ≡ Some b) × (quits self.now.asked (Some b) ≡ true)) }
+    {
+        byte_that_quits(self.asked, seen)
+    }
+
+    /// A byte of a column, and none at the end of the slice.
+    pub(crate) fn byte(&self, column: usize) -> Option<u8>
+        ensures { result ≡ slice_get self.now.classes.bytes column }
+    {
+        self.classes.byte(column)
     }
 
     /// How many columns a table has: one for each class, and two for the end of the slice.

@@ -1,6 +1,7 @@
 //! Automata whose states are lists of threads.
 #![tactic(auto)]
 
+mod automaton;
 mod behind;
 mod cache;
 mod classes;
@@ -13,6 +14,7 @@ mod maker;
 mod scan;
 mod search;
 mod states;
+mod table;
 
 pub use cache::Cache;
 pub use closed::Closed;

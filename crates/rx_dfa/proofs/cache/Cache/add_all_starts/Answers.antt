@@ -5,7 +5,7 @@ use Rattle.rx_dfa.proofs.cache.Cache.add_all_starts.Goals as goal
 
 pub returns-clause-starts : goal.returns-clause-starts
 returns-clause-starts c =
-    let p = c.args.program.now in
-    let dfa = c.args.dfa.now in
+    let p = c.args.automaton.now.program.now in
+    let dfa = c.args.automaton.now.dfa.now in
     let states = c.add_sides.new.self.states in
     starts_by_patterns p dfa states (subst (λ q. HasStartsFrom p dfa states q) c.start.ensures c.in_ok-add_sides.ensures.starts) (λ k q at. starts_from_still p dfa c.add_patterns.new.self.states states q c.in_ok-add_sides.ensures.kept (c.in_ok-add_patterns.ensures.starts k q at))

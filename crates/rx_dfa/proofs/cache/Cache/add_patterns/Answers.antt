@@ -10,8 +10,8 @@ loop-start-init c = record { made = c.requires.made; starts = λ k q lt at. absu
 
 pub loop-start-preserved : goal.loop-start-preserved
 loop-start-preserved c =
-    let p = c.args.program.now in
-    let dfa = c.args.dfa.now in
+    let p = c.args.automaton.now.program.now in
+    let dfa = c.args.automaton.now.dfa.now in
     let states = c.add_sides.new.self.states in
     let index = c.loop-start.start-index in
     record {
@@ -26,4 +26,4 @@ loop-start-preserved c =
     }
 
 pub returns-clause-starts : goal.returns-clause-starts
-returns-clause-starts c = λ k q at. c.loop-start.invariant.starts k q (omega (arith, slice_get_within c.args.program.now.patterns k q at, c.loop-start-test.false, ap (λ xs. length xs) c.patterns-start-items.ensures)) at
+returns-clause-starts c = λ k q at. c.loop-start.invariant.starts k q (omega (arith, slice_get_within c.args.automaton.now.program.now.patterns k q at, c.loop-start-test.false, ap (λ xs. length xs) c.patterns-start-items.ensures)) at

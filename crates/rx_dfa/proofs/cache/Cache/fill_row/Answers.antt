@@ -10,8 +10,8 @@ loop-column-init c = record { made = c.requires.made; number = c.requires.number
 
 pub loop-column-preserved : goal.loop-column-preserved
 loop-column-preserved c =
-    let p = c.args.program.now in
-    let dfa = c.args.dfa.now in
+    let p = c.args.automaton.now.program.now in
+    let dfa = c.args.automaton.now.dfa.now in
     let old = c.loop-column.self in
     let new = c.fill.new.self in
     let was = c.loop-column.invariant in
@@ -28,4 +28,4 @@ loop-column-preserved c =
 pub returns-clause-known : goal.returns-clause-known
 returns-clause-known c =
     let is = c.loop-column.invariant in
-    known_more c.loop-column.self c.args.number (column_count c.args.dfa.now) (sym is.made.width) is.before (λ column lt. is.row column (omega (arith, lt, c.loop-column-test.false, c.column_count-column-end.ensures)))
+    known_more c.loop-column.self c.args.number (column_count c.args.automaton.now.dfa.now) (sym is.made.width) is.before (λ column lt. is.row column (omega (arith, lt, c.loop-column-test.false, c.column_count-column-end.ensures)))

@@ -1,7 +1,10 @@
 use Rattle.std.proofs.Common.{sym, subst}
 use Rattle.rx_dfa.specs.Caches.{CacheView}
 use Rattle.rx_dfa.specs.Closed.{HasOneFirst}
+use Rattle.rx_dfa.proofs.ClosedLaws.{begins_there}
 use Rattle.rx_dfa.proofs.closed.Closed.first.Goals as goal
 
 pub unreachable-requires : goal.unreachable-requires
-unreachable-requires c = c.find_first.ensures.none c.in-None.is (subst (λ (v : CacheView). HasOneFirst v.states c.args.starting.now c.args.side.now) (sym c.self.view_is) c.requires)
+unreachable-requires c =
+    let has = begins_there c.args.automaton.now c.args.self.now c.args.starting.now c.args.side.now c.requires.closed c.requires.begins in
+    c.find_first.ensures.none c.in-None.is (subst (λ (v : CacheView). HasOneFirst v.states c.args.starting.now c.args.side.now) (sym c.self.view_is) has)

@@ -7,8 +7,8 @@ use Rattle.rx_dfa.proofs.closed.Closed.step.Goals as goal
 
 pub returns : goal.returns
 returns c = λ x stands.
-    let p = c.args.program.now in
-    let dfa = c.args.dfa.now in
+    let p = c.args.automaton.now.program.now in
+    let dfa = c.args.automaton.now.dfa.now in
     let cache = c.self.inside.cache in
     let view : cache ≡ c.args.self.now = c.self.view_is in
     subst (λ v. LeadsTo p dfa v.states x (ahead_in dfa c.args.column) c.number_at.result) view
