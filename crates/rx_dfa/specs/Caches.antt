@@ -3,6 +3,7 @@ use Rattle.std.specs.Prelude.{◌≡◌, ℕ, ◌+◌, ◌*◌, ◌<◌, true, f
 use Rattle.rx_program.specs.Programs.{ByteProgram}
 use Rattle.rx_steps.specs.Nodes.{widths_of}
 use Rattle.rx_steps.specs.Alike.{AreBare}
+use Rattle.rx_dfa.specs.declared.cache.TheConstants.{ENDS, QUIT, STOPS, UNKNOWN}
 use Rattle.rx_dfa.specs.declared.states.Ahead.{Ahead}
 use Rattle.rx_dfa.specs.declared.states.AutomatonState.{AutomatonState}
 use Rattle.rx_dfa.specs.declared.behind.Behind.{Behind}
@@ -28,30 +29,30 @@ pub record LeadsTo (p : ByteProgram) (dfa : DfaView) (states : List AutomatonSta
   pub told : quits dfa.asked ahead.seen ≡ false
 
 -- what an entry says of a state and what stands ahead: nothing; that a search can't go on; or where
--- the row of the next state begins, with the highest bit set where an end is met, and with the two
--- highest ones where a search has to look at that state
+-- the row of the next state begins, from `ENDS` on where an end is met, and from `STOPS` on where a
+-- search has to look at that state
 pub data IsEntry (p : ByteProgram) (dfa : DfaView) (width : ℕ) (states : List AutomatonState)
     (x : AutomatonState) (ahead : Ahead) (entry : ℕ) : Type 0 where
-  unknown : entry ≡ 4294967295 → IsEntry p dfa width states x ahead entry
-  quit : entry ≡ 4294967294 → quits dfa.asked ahead.seen ≡ true
+  unknown : entry ≡ UNKNOWN → IsEntry p dfa width states x ahead entry
+  quit : entry ≡ QUIT → quits dfa.asked ahead.seen ≡ true
       → IsEntry p dfa width states x ahead entry
   plain : {number : ℕ} (to : LeadsTo p dfa states x ahead number) → entry ≡ number * width
-      → entry < 2147483648 → to.next.ended ≡ None → IsEntry p dfa width states x ahead entry
+      → entry < ENDS → to.next.ended ≡ None → IsEntry p dfa width states x ahead entry
   ends : {number : ℕ} (to : LeadsTo p dfa states x ahead number)
-      → entry ≡ 2147483648 + number * width → entry < 3221225472 → IsSome to.next.ended
+      → entry ≡ ENDS + number * width → entry < STOPS → IsSome to.next.ended
       → IsEntry p dfa width states x ahead entry
   over : {number : ℕ} → LeadsTo p dfa states x ahead number
-      → entry ≡ 3221225472 + number * width → entry < 4294967294
+      → entry ≡ STOPS + number * width → entry < QUIT
       → IsEntry p dfa width states x ahead entry
 
 -- an entry leads to this state, or tells nothing
 pub data IsEntryTo (width : ℕ) (y : AutomatonState) (number entry : ℕ) : Type 0 where
-  unknown_to : entry ≡ 4294967295 → IsEntryTo width y number entry
-  plain_to : entry ≡ number * width → entry < 2147483648 → y.ended ≡ None
+  unknown_to : entry ≡ UNKNOWN → IsEntryTo width y number entry
+  plain_to : entry ≡ number * width → entry < ENDS → y.ended ≡ None
       → IsEntryTo width y number entry
-  ends_to : entry ≡ 2147483648 + number * width → entry < 3221225472 → IsSome y.ended
+  ends_to : entry ≡ ENDS + number * width → entry < STOPS → IsSome y.ended
       → IsEntryTo width y number entry
-  over_to : entry ≡ 3221225472 + number * width → entry < 4294967294
+  over_to : entry ≡ STOPS + number * width → entry < QUIT
       → IsEntryTo width y number entry
 
 -- a step came to a state, or can't be made

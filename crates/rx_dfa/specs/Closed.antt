@@ -6,6 +6,7 @@ use Rattle.rx_walks.specs.Finds.{Anchoring, Search}
 use Rattle.rx_walks.specs.ProgramFinds.{start_node}
 use Rattle.rx_program.specs.Programs.{ByteProgram, characters_of}
 use Rattle.rx_steps.specs.declared.asked.AskedLooks.{AskedLooks}
+use Rattle.rx_dfa.specs.declared.cache.TheConstants.{UNKNOWN}
 use Rattle.rx_dfa.specs.declared.states.AutomatonState.{AutomatonState}
 use Rattle.rx_dfa.specs.declared.states.Starting.{Starting}
 use Rattle.rx_dfa.specs.declared.states.Starting.TheVariants.{Never, Once, Always}
@@ -19,7 +20,7 @@ use Rattle.rx_dfa.specs.Passing.{IsRefusal}
 pub record IsKnownAt (table : List ℕ) (place : ℕ) : Type 0 where
   pub entry : ℕ
   pub stands : slice_get table place ≡ Some entry
-  pub known : entry ≡ 4294967295 → ⊥
+  pub known : entry ≡ UNKNOWN → ⊥
 
 -- of so many states, from the first on, each entry is known: of each class, and at the end
 abbrev pub AreKnown : CacheView → ℕ → Type 0

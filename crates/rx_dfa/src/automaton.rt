@@ -15,7 +15,7 @@ pub(crate) struct Automaton<'a> {
 }
 
 impl<'a> Automaton<'a> {
-    /// The side on which this byte of a slice stands, or none, as far as the program's looks tell it.
+    /// The side on which this byte of a slice stands, or none, as far as the program's looks tell.
     pub(crate) fn side(&self, behind: Option<u8>) -> Behind
         ensures { result ≡ behind_of self.now.dfa.now.asked self.now.program.now.line_terminator
             behind }

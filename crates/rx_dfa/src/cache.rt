@@ -85,7 +85,7 @@ fn kept_at(starting: &Starting, behind: &Behind) -> usize {
 
 /// Adds a row of which nothing is known.
 fn push_row(table: &mut Vec<u32>, width: usize) -> Result<(), AllocError>
-    ensures { OnOk result (table.new.items ≡ table.old.items ++ replicate width 4294967295) }
+    ensures { OnOk result (table.new.items ≡ table.old.items ++ replicate width UNKNOWN) }
 {
     for _ in 0..width {
         table.push(UNKNOWN)?;
@@ -179,7 +179,7 @@ impl Cache {
     /// be left.
     fn push_state(&mut self, state: AutomatonState) -> Result<(), AllocError>
         ensures table { OnOk result
-            (self.new.table ≡ self.old.table ++ replicate self.old.width 4294967295) }
+            (self.new.table ≡ self.old.table ++ replicate self.old.width UNKNOWN) }
         ensures states { OnOk result (self.new.states ≡ self.old.states ++ state ∷ []) }
         ensures widths { self.new.widths ≡ self.old.widths }
         ensures width { self.new.width ≡ self.old.width }
@@ -209,7 +209,7 @@ impl Cache {
             slice_get self.new.states number ≡ Some state) }
         ensures kept { OnOk result (KeepNumbers self.old.states self.new.states) }
         ensures table { OnOk result
-            (self.new.table ≡ self.old.table ++ replicate self.old.width 4294967295) }
+            (self.new.table ≡ self.old.table ++ replicate self.old.width UNKNOWN) }
         ensures refused { IfErr result (λ error. error ≡ MatchError.Memory) }
     {
         let number = self.states.len();
@@ -371,11 +371,11 @@ impl Cache {
     /// The state from which a row begins that an entry leads to.
     pub(crate) fn number_at(&self, entry: u32) -> usize
         requires { 0 < self.now.width }
-        ensures plain { (number : ℕ) → entry ≡ number * self.now.width → entry < 2147483648
+        ensures plain { (number : ℕ) → entry ≡ number * self.now.width → entry < ENDS
             → result ≡ number }
-        ensures ends { (number : ℕ) → entry ≡ 2147483648 + number * self.now.width
-            → entry < 3221225472 → result ≡ number }
-        ensures over { (number : ℕ) → entry ≡ 3221225472 + number * self.now.width
+        ensures ends { (number : ℕ) → entry ≡ ENDS + number * self.now.width
+            → entry < STOPS → result ≡ number }
+        ensures over { (number : ℕ) → entry ≡ STOPS + number * self.now.width
             → result ≡ number }
     {
         let row = if entry >= STOPS {

@@ -50,7 +50,8 @@ fn new_cache(alloc: Global, program: &Program, dfa: &Dfa) -> Result<Cache, Alloc
 
 impl Closed {
     /// The states and steps of a program's automaton. There are none where it has more states than
-    /// `state_limit`, or they take more room than about `size_limit`, in bytes. It takes the steps of the walks from each state before each class of bytes.
+    /// `state_limit`, or they take more room than about `size_limit`, in bytes. It takes the steps
+    /// of the walks from each state before each class of bytes.
     pub fn new(
         alloc: Global,
         program: &Program,

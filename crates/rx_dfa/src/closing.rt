@@ -95,9 +95,9 @@ impl Cache {
         requires is { IsAutomaton automaton.now }
         requires made { IsCacheBy automaton.now self.old }
         ensures made { IsCacheBy automaton.now self.new }
-        ensures starts { OnOk result ((k q : ℕ) → slice_get automaton.now.program.now.patterns k ≡ Some q
-            → HasStartsFrom automaton.now.program.now
-            automaton.now.dfa.now self.new.states q) }
+        ensures starts { OnOk result ((k q : ℕ)
+            → slice_get automaton.now.program.now.patterns k ≡ Some q
+            → HasStartsFrom automaton.now.program.now automaton.now.dfa.now self.new.states q) }
     {
         for start in automaton.program.patterns() {
             self.add_sides(automaton, *start)?;
@@ -135,8 +135,8 @@ impl Cache {
         ensures grows { OnOk result (Grows self.old self.new) }
         ensures entry { IfOk result (λ entry. (x : AutomatonState)
             → slice_get self.old.states number ≡ Some x
-            → IsEntry automaton.now.program.now automaton.now.dfa.now self.new.width self.new.states x
-            (ahead_in automaton.now.dfa.now column) entry) }
+            → IsEntry automaton.now.program.now automaton.now.dfa.now self.new.width
+            self.new.states x (ahead_in automaton.now.dfa.now column) entry) }
     {
         let ahead = automaton.dfa.ahead(column);
         if automaton.dfa.quits_at(ahead.seen) {

@@ -19,10 +19,10 @@ use std::marker::Model;
 /// whether empty matches inside a character are passed over, and that room.
 #[derive(Debug, Drop)]
 pub struct Dfa {
-    pub(crate) asked: AskedLooks,
-    pub(crate) classes: ByteClasses,
-    pub(crate) utf8_empty: bool,
-    pub(crate) capacity: usize,
+    asked: AskedLooks,
+    classes: ByteClasses,
+    utf8_empty: bool,
+    capacity: usize,
 }
 
 impl Model for Dfa {

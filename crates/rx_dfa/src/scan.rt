@@ -129,7 +129,8 @@ fn pass<T: Table>(
     ensures table { IsTable T.is_whole automaton.now (T.shown table.new) }
     ensures passed { IfOk result (λ next. (x : AutomatonState)
         → slice_get (T.shown table.old).states number ≡ Some x
-        → HasPassed automaton.now (T.shown table.new).states x (byte ∷ []) at met.old next met.new) }
+        → HasPassed automaton.now (T.shown table.new).states x (byte ∷ []) at met.old
+        next met.new) }
     ensures number { IfOk result (λ next. next < length (T.shown table.new).states) }
     ensures refused { IfErr result (IsRefusalAmong T.is_whole automaton.now at (byte ∷ [])) }
 {

@@ -126,8 +126,8 @@ fn first_starting<C: Cursor>(input: &Input<C>, start: StateID) -> Starting
     }
 }
 
-/// The byte of the slice before the place at which an input stands, where the slice starts before it
-/// and the piece that is shown has it.
+/// The byte of the slice before the place at which an input stands, where the slice starts before
+/// it and the piece that is shown has it.
 fn byte_shown_behind<C: Cursor>(input: &Input<C>) -> Option<u8>
     requires { input.now.asked.slice.start < input.now.position }
     ensures { IfSome result (λ byte. (utf8_empty : Bool)
