@@ -16,7 +16,7 @@ use Rattle.rx_dfa.specs.declared.states.AutomatonState.{AutomatonState}
 use Rattle.rx_dfa.specs.Behind.{behind_of, quits}
 use Rattle.rx_dfa.specs.Classes.{byte_of, class_of, continues}
 use Rattle.rx_dfa.specs.States.{ahead_of, ahead_of_end, place_of_step, started, start_at, IsStep, EndsSo}
-use Rattle.rx_dfa.specs.Dfas.{DfaView, IsDfaOf, ahead_at, ahead_in, column_count}
+use Rattle.rx_dfa.specs.Alphabets.{AlphabetView, IsAlphabetOf, ahead_at, ahead_in, column_count}
 use Rattle.rx_dfa.specs.Searching.{AreAskedBy, HasReached, IsBehind, IsHalfAnswer, byte_after, met_after}
 use Rattle.rx_dfa.specs.Passing.{IsLastColumn}
 use Rattle.rx_dfa.specs.Tables.{IsAutomaton}
@@ -48,21 +48,21 @@ ends_unread law p asked utf8_empty x y b bare step =
     }
 
 -- a byte is seen, in whose class the end is told
-pub byte_tells : ((p : ByteProgram) → StepsAreAlike p) → ((p : ByteProgram) → EndsAreMetUnread p) → (a : Automaton) (s : Search) (i b : ℕ) → IsAutomaton a → a.dfa.now.utf8_empty ≡ s.utf8_empty → b < 256 → highest s ≤ i → byte_after s i ≡ Some b → quits a.dfa.now.asked (Some b) ≡ false
-    → IsLastColumn a s i (class_of a.dfa.now.classes b)
+pub byte_tells : ((p : ByteProgram) → StepsAreAlike p) → ((p : ByteProgram) → EndsAreMetUnread p) → (a : Automaton) (s : Search) (i b : ℕ) → IsAutomaton a → a.alphabet.now.utf8_empty ≡ s.utf8_empty → b < 256 → highest s ≤ i → byte_after s i ≡ Some b → quits a.alphabet.now.asked (Some b) ≡ false
+    → IsLastColumn a s i (class_of a.alphabet.now.classes b)
 byte_tells alike unread a s i b made same low last seen told =
-    let r = byte_of a.dfa.now.classes b in
+    let r = byte_of a.alphabet.now.classes b in
     let class = made.classes b low in
-    let at = byte_in_class a.program.now a.dfa.now b made low in
-    let is_last = class_of a.dfa.now.classes b == length a.dfa.now.classes.bytes in
+    let at = byte_in_class a.program.now a.alphabet.now b made low in
+    let is_last = class_of a.alphabet.now.classes b == length a.alphabet.now.classes.bytes in
     record {
       inside = omega (arith, class.has_class);
-      goes_on = subst (λ o. quits a.dfa.now.asked (ahead_at a.dfa.now.utf8_empty is_last o).seen ≡ false) (sym at) (quits_alike a.program.now a.dfa.now.asked r b class.alike ∙ told);
+      goes_on = subst (λ o. quits a.alphabet.now.asked (ahead_at a.alphabet.now.utf8_empty is_last o).seen ≡ false) (sym at) (quits_alike a.program.now a.alphabet.now.asked r b class.alike ∙ told);
       tells = λ x y bare step.
-          let by_class : IsStep a.program.now a.dfa.now.asked x (ahead_of a.dfa.now.utf8_empty r) y = subst (λ o. IsStep a.program.now a.dfa.now.asked x (ahead_at a.dfa.now.utf8_empty is_last o) y) at step in
-          let itself = step_alike alike a.program.now a.dfa.now.asked a.dfa.now.utf8_empty x y r b made.asked bare class.alike by_class in
+          let by_class : IsStep a.program.now a.alphabet.now.asked x (ahead_of a.alphabet.now.utf8_empty r) y = subst (λ o. IsStep a.program.now a.alphabet.now.asked x (ahead_at a.alphabet.now.utf8_empty is_last o) y) at step in
+          let itself = step_alike alike a.program.now a.alphabet.now.asked a.alphabet.now.utf8_empty x y r b made.asked bare class.alike by_class in
           record {
-            ahead = ahead_unread a.dfa.now.utf8_empty b;
+            ahead = ahead_unread a.alphabet.now.utf8_empty b;
             read = refl;
             here = record {
               read = none_read a.program.now s i last;
@@ -70,27 +70,27 @@ byte_tells alike unread a s i b made same low last seen told =
               told = told;
               may_begin = subst (λ u. IsTrue (not u || not (continues b)) ↔ May s i) (sym same) (may_begin_is s i b (byte_there s i b seen).0);
             };
-            ends = ends_unread unread a.program.now a.dfa.now.asked a.dfa.now.utf8_empty x y b bare itself;
+            ends = ends_unread unread a.program.now a.alphabet.now.asked a.alphabet.now.utf8_empty x y b bare itself;
           };
     }
 
 -- the slice ends there
-pub end_tells : (a : Automaton) (s : Search) (i column : ℕ) (may_begin : Bool) → column < column_count a.dfa.now → ahead_in a.dfa.now column ≡ ahead_of_end may_begin → (IsTrue may_begin ↔ May s i) → highest s ≤ i → byte_after s i ≡ None → IsLastColumn a s i column
+pub end_tells : (a : Automaton) (s : Search) (i column : ℕ) (may_begin : Bool) → column < column_count a.alphabet.now → ahead_in a.alphabet.now column ≡ ahead_of_end may_begin → (IsTrue may_begin ↔ May s i) → highest s ≤ i → byte_after s i ≡ None → IsLastColumn a s i column
 end_tells a s i column may_begin inside is may last seen = record {
   inside = inside;
-  goes_on = ap (λ (z : Ahead). quits a.dfa.now.asked z.seen) is;
+  goes_on = ap (λ (z : Ahead). quits a.alphabet.now.asked z.seen) is;
   tells = λ x y bare step. record {
     ahead = ahead_of_end may_begin;
     read = refl;
     here = record { read = none_read a.program.now s i last; seen = seen; told = refl; may_begin = may };
-    ends = record { next = y; step = subst (λ z. IsStep a.program.now a.dfa.now.asked x z y) is step; ended_is = refl };
+    ends = record { next = y; step = subst (λ z. IsStep a.program.now a.alphabet.now.asked x z y) is step; ended_is = refl };
   };
 }
 
 -- the answer by the end that is told in the last column
-pub last_answers : Laws → (a : Automaton) (s : Search) (q i column : ℕ) (x : AutomatonState) (ended : Option ℕ) (met : Option HalfFound) → IsByteProgram a.program.now → KeepingLaw → start_node (characters_of a.program.now) s.anchoring ≡ Some q → AreAskedBy a.program.now.states a.dfa.now.asked
-    → AreBare x.threads.threads → IsInside s i → i ≡ highest s → IsLastColumn a s i column → IsBehind a.program.now a.dfa.now.asked s i x → EndsSo a.program.now a.dfa.now.asked x (ahead_in a.dfa.now column) ended → HasReached a.program.now s q i x met → IsHalfAnswer a.program.now s (met_after i ended met)
+pub last_answers : Laws → (a : Automaton) (s : Search) (q i column : ℕ) (x : AutomatonState) (ended : Option ℕ) (met : Option HalfFound) → IsByteProgram a.program.now → KeepingLaw → start_node (characters_of a.program.now) s.anchoring ≡ Some q → AreAskedBy a.program.now.states a.alphabet.now.asked
+    → AreBare x.threads.threads → IsInside s i → i ≡ highest s → IsLastColumn a s i column → IsBehind a.program.now a.alphabet.now.asked s i x → EndsSo a.program.now a.alphabet.now.asked x (ahead_in a.alphabet.now column) ended → HasReached a.program.now s q i x met → IsHalfAnswer a.program.now s (met_after i ended met)
 last_answers laws a s q i column x ended met reads law starts are bare inside last is behind told reached =
     let meets = is.tells x told.next bare told.step in
-    let whole = end_answers laws a.program.now a.dfa.now.asked s q i x meets.ends.next meets.ahead met reads law starts are bare inside last meets.read behind meets.here meets.ends.step reached in
+    let whole = end_answers laws a.program.now a.alphabet.now.asked s q i x meets.ends.next meets.ahead met reads law starts are bare inside last meets.read behind meets.here meets.ends.step reached in
     subst (λ o. IsHalfAnswer a.program.now s (met_after i o met)) (sym meets.ends.ended_is ∙ sym told.ended_is) whole

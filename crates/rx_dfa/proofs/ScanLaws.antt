@@ -22,7 +22,7 @@ use Rattle.rx_dfa.specs.declared.behind.Behind.TheVariants.{Edge, Byte}
 use Rattle.rx_dfa.specs.declared.states.AutomatonState.{AutomatonState}
 use Rattle.rx_dfa.specs.Behind.{behind_of, quits, is_word_ascii}
 use Rattle.rx_dfa.specs.States.{IsStateOf}
-use Rattle.rx_dfa.specs.Dfas.{DfaView}
+use Rattle.rx_dfa.specs.Alphabets.{AlphabetView}
 use Rattle.rx_dfa.specs.Caches.{CacheView, IsCacheOf}
 use Rattle.rx_dfa.specs.Searching.{AreAskedBy, StartsSo, HasReached, IsBehind, IsHalfAnswer, byte_before}
 use Rattle.rx_dfa.specs.Passing as passing
@@ -108,11 +108,11 @@ lacks_among false a at b e (inr is) = subst (λ r. IsRefusalAmong false a at (b 
 
 pub lacks_there : (is_whole : Bool) (a : Automaton) (s : Search) (i at : ℕ) (e : MatchError) → IsInside s i → at ≡ i → IsLack is_whole at e → IsRefusalBy is_whole a s e
 lacks_there true a s i at e inside here lack = absurd lack
-lacks_there false a s i at e inside here (inl is) = subst (λ r. IsRefusal a.dfa.now.asked s r) (sym is) tt
-lacks_there false a s i at e inside here (inr is) = subst (λ r. IsRefusal a.dfa.now.asked s r) (sym is) (subst (λ k. IsInside s k) (sym here) inside)
+lacks_there false a s i at e inside here (inl is) = subst (λ r. IsRefusal a.alphabet.now.asked s r) (sym is) tt
+lacks_there false a s i at e inside here (inr is) = subst (λ r. IsRefusal a.alphabet.now.asked s r) (sym is) (subst (λ k. IsInside s k) (sym here) inside)
 
 -- a byte before which a search can't go on
-pub quit_there : (is_whole : Bool) (a : Automaton) (s : Search) (b i : ℕ) → IsRefusal a.dfa.now.asked s (Quit b i) → IsRefusalBy is_whole a s (Quit b i)
+pub quit_there : (is_whole : Bool) (a : Automaton) (s : Search) (b i : ℕ) → IsRefusal a.alphabet.now.asked s (Quit b i) → IsRefusalBy is_whole a s (Quit b i)
 quit_there true a s b i why = why
 quit_there false a s b i why = why
 
@@ -154,7 +154,7 @@ first_there s i n bytes there = record {
   low = there.low;
 }
 
-pub stands_on : Laws → (a : Automaton) (s : Search) (q i n : ℕ) (bytes : List ℕ) (states states' : List AutomatonState) (number number' : ℕ) (met met' : Option HalfFound) → AreAskedBy a.program.now.states a.dfa.now.asked → a.dfa.now.utf8_empty ≡ s.utf8_empty
+pub stands_on : Laws → (a : Automaton) (s : Search) (q i n : ℕ) (bytes : List ℕ) (states states' : List AutomatonState) (number number' : ℕ) (met met' : Option HalfFound) → AreAskedBy a.program.now.states a.alphabet.now.asked → a.alphabet.now.utf8_empty ≡ s.utf8_empty
     → StandThere s i bytes → n ≤ length bytes → ((x : AutomatonState) → slice_get states number ≡ Some x → HasPassed a states' x (take n bytes) i met number' met') → StandsAt a s q i states number met → StandsAt a s q (i + n) states' number' met'
 stands_on laws a s q i n bytes states states' number number' met met' are same there le passed at =
     let on = passed at.state at.stands in
@@ -164,13 +164,13 @@ stands_on laws a s q i n bytes states states' number number' met met' are same t
       state = on.next;
       stands = on.stands;
       reached = subst (λ k. HasReached a.program.now s q (i + k) on.next met') far reached.0;
-      behind = subst (λ k. IsBehind a.program.now a.dfa.now.asked s (i + k) on.next) far reached.1;
+      behind = subst (λ k. IsBehind a.program.now a.alphabet.now.asked s (i + k) on.next) far reached.1;
     }
 
-pub state_at : (p : ByteProgram) (dfa : DfaView) (cache : CacheView) (number : ℕ) (x : AutomatonState) → IsCacheOf p dfa cache → slice_get cache.states number ≡ Some x → IsStateOf p x
-state_at p dfa cache number x made stands = subst (λ y. IsStateOf p y) (get_or_from_slice_get cache.states number x x stands) (made.states number x (slice_get_within cache.states number x stands))
+pub state_at : (p : ByteProgram) (alphabet : AlphabetView) (cache : CacheView) (number : ℕ) (x : AutomatonState) → IsCacheOf p alphabet cache → slice_get cache.states number ≡ Some x → IsStateOf p x
+state_at p alphabet cache number x made stands = subst (λ y. IsStateOf p y) (get_or_from_slice_get cache.states number x x stands) (made.states number x (slice_get_within cache.states number x stands))
 
-pub cache_in : (is_whole : Bool) (a : Automaton) (table : CacheView) → IsTable is_whole a table → IsCacheOf a.program.now a.dfa.now table
+pub cache_in : (is_whole : Bool) (a : Automaton) (table : CacheView) → IsTable is_whole a table → IsCacheOf a.program.now a.alphabet.now table
 cache_in false a table made = made
 cache_in true a table closed = closed.made
 

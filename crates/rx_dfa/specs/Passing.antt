@@ -17,13 +17,13 @@ use Rattle.rx_dfa.specs.declared.states.Starting.TheVariants.{Never}
 use Rattle.rx_dfa.specs.Behind.{quits}
 use Rattle.rx_dfa.specs.declared.states.Ahead.{Ahead}
 use Rattle.rx_dfa.specs.States.{ahead_of, EndsSo, IsStep}
-use Rattle.rx_dfa.specs.Dfas.{ahead_in, column_count}
+use Rattle.rx_dfa.specs.Alphabets.{ahead_in, column_count}
 use Rattle.rx_dfa.specs.Caches.{CacheView}
 use Rattle.rx_dfa.specs.Searching.{met_after, HasReached, IsAhead, IsBehind}
 
 -- what an input asks for of a search by an automaton
 abbrev pub search_by : Automaton → InputState → Search
-search_by a input = search_of a.dfa.now.utf8_empty input
+search_by a input = search_of a.alphabet.now.utf8_empty input
 
 -- from a place on these bytes lead from a state, with this end met last, to a state
 pub data Passes (a : Automaton) : List ℕ → ℕ → AutomatonState → Option HalfFound → AutomatonState
@@ -31,8 +31,8 @@ pub data Passes (a : Automaton) : List ℕ → ℕ → AutomatonState → Option
   none : {i : ℕ} {x : AutomatonState} {met : Option HalfFound} → Passes a [] i x met x met
   more : {b i : ℕ} {bytes : List ℕ} {x y z : AutomatonState} {met met' : Option HalfFound}
       → AreBare x.threads.threads
-      → IsStep a.program.now a.dfa.now.asked x (ahead_of a.dfa.now.utf8_empty b) y
-      → quits a.dfa.now.asked (Some b) ≡ false
+      → IsStep a.program.now a.alphabet.now.asked x (ahead_of a.alphabet.now.utf8_empty b) y
+      → quits a.alphabet.now.asked (Some b) ≡ false
       → Passes a bytes (i + 1) y (met_after i y.ended met) z met'
       → Passes a (b ∷ bytes) i x met z met'
 
@@ -93,7 +93,7 @@ pub record StandsAt (a : Automaton) (s : Search) (q i : ℕ) (states : List Auto
   pub state : AutomatonState
   pub stands : slice_get states number ≡ Some state
   pub reached : HasReached a.program.now s q i state met
-  pub behind : IsBehind a.program.now a.dfa.now.asked s i state
+  pub behind : IsBehind a.program.now a.alphabet.now.asked s i state
 
 -- from a place on these bytes stand in the content, none of them behind the last place
 pub record StandThere (s : Search) (i : ℕ) (bytes : List ℕ) : Type 0 where
@@ -112,11 +112,11 @@ pub record MeetsEnd (p : ByteProgram) (asked : AskedLooks) (s : Search) (i : ℕ
 -- in this column a search can go on, and the step in it tells the end that is met at the place,
 -- where no byte is read
 pub record IsLastColumn (a : Automaton) (s : Search) (i column : ℕ) : Type 0 where
-  pub inside : column < column_count a.dfa.now
-  pub goes_on : quits a.dfa.now.asked (ahead_in a.dfa.now column).seen ≡ false
+  pub inside : column < column_count a.alphabet.now
+  pub goes_on : quits a.alphabet.now.asked (ahead_in a.alphabet.now column).seen ≡ false
   pub tells : (x y : AutomatonState) → AreBare x.threads.threads
-      → IsStep a.program.now a.dfa.now.asked x (ahead_in a.dfa.now column) y
-      → MeetsEnd a.program.now a.dfa.now.asked s i x y.ended
+      → IsStep a.program.now a.alphabet.now.asked x (ahead_in a.alphabet.now column) y
+      → MeetsEnd a.program.now a.alphabet.now.asked s i x y.ended
 
 -- why a search answers nothing: there was no memory; it met a byte of the slice before which it
 -- can't go on; or it gave up at a place inside

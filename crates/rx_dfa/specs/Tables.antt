@@ -11,29 +11,29 @@ use Rattle.rx_dfa.specs.declared.states.AutomatonState.{AutomatonState}
 use Rattle.rx_dfa.specs.declared.states.Starting.{Starting}
 use Rattle.rx_dfa.specs.declared.states.Starting.TheVariants.{Never, Once, Always}
 use Rattle.rx_dfa.specs.Behind.{behind_of, quits}
-use Rattle.rx_dfa.specs.Dfas.{IsDfaOf, ahead_in}
+use Rattle.rx_dfa.specs.Alphabets.{IsAlphabetOf, ahead_in}
 use Rattle.rx_dfa.specs.Caches as caches
 use Rattle.rx_dfa.specs.Caches.{CacheView, IsCacheOf}
-use Rattle.rx_dfa.specs.Closed.{IsClosedOf, IsQuit, MayBeByte}
+use Rattle.rx_dfa.specs.DenseTables.{IsClosedOf, IsQuit, MayBeByte}
 use Rattle.rx_dfa.specs.Passing.{IsRefusal}
 
--- it is the automaton of the program
+-- the alphabet is the program's
 abbrev pub IsAutomaton : Automaton → Type 0
-IsAutomaton a = IsDfaOf a.program.now a.dfa.now
+IsAutomaton a = IsAlphabetOf a.program.now a.alphabet.now
 
 -- a cache of an automaton
 abbrev pub IsCacheBy : Automaton → CacheView → Type 0
-IsCacheBy a cache = IsCacheOf a.program.now a.dfa.now cache
+IsCacheBy a cache = IsCacheOf a.program.now a.alphabet.now cache
 
 -- a table of an automaton, in which some states and steps are known, or all
 abbrev pub IsTable : Bool → Automaton → CacheView → Type 0
 IsTable false a table = IsCacheBy a table
-IsTable true a table = IsClosedOf a.program.now a.dfa.now table
+IsTable true a table = IsClosedOf a.program.now a.alphabet.now table
 
 -- a step in a column came to a state, or can't be made
 abbrev pub HasStepped : Automaton → List AutomatonState → AutomatonState → ℕ → Option ℕ → Type 0
 HasStepped a states x column next =
-    caches.HasStepped a.program.now a.dfa.now states x (ahead_in a.dfa.now column) next
+    caches.HasStepped a.program.now a.alphabet.now states x (ahead_in a.alphabet.now column) next
 
 -- from this state of the program walks start, if they do
 abbrev pub StartsFrom : ℕ → Starting → Type 0
@@ -49,7 +49,7 @@ pub record IsBeginning (a : Automaton) (starting : Starting) (behind : Behind) :
   pub starting_is : StartsFrom start starting
   pub byte : Option ℕ
   pub may_be : MayBeByte byte
-  pub behind_is : behind ≡ behind_of a.dfa.now.asked a.program.now.line_terminator byte
+  pub behind_is : behind ≡ behind_of a.alphabet.now.asked a.program.now.line_terminator byte
 
 -- why a table has no step at a place, or no first state: there was no memory, or no room; nothing
 -- lacks where all is known
@@ -61,12 +61,12 @@ IsLack true at e = ⊥
 abbrev pub IsRefusalAmong : Bool → Automaton → ℕ → List ℕ → MatchError → Type 0
 IsRefusalAmong is_whole a at bytes error.Memory = is_whole ≡ false
 IsRefusalAmong is_whole a at bytes (error.Quit b i) =
-    (at ≤ i) × (slice_get bytes (i - at) ≡ Some b) × (quits a.dfa.now.asked (Some b) ≡ true)
+    (at ≤ i) × (slice_get bytes (i - at) ≡ Some b) × (quits a.alphabet.now.asked (Some b) ≡ true)
 IsRefusalAmong is_whole a at bytes (error.GaveUp i) =
     (is_whole ≡ false) × (at ≤ i) × (i < at + length bytes)
 IsRefusalAmong is_whole a at bytes (error.UnsupportedAnchored mode) = ⊥
 
--- why a search answers nothing
+-- why a search by a table answers nothing
 abbrev pub IsRefusalBy : Bool → Automaton → Search → MatchError → Type 0
-IsRefusalBy false a s e = IsRefusal a.dfa.now.asked s e
-IsRefusalBy true a s e = IsQuit a.dfa.now.asked s e
+IsRefusalBy false a s e = IsRefusal a.alphabet.now.asked s e
+IsRefusalBy true a s e = IsQuit a.alphabet.now.asked s e

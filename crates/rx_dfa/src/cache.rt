@@ -4,15 +4,15 @@ ghost use Rattle.std.specs.Prelude.{◌≡◌, ◌⊎◌, ◌+◌, ◌*◌, ◌<
 ghost use Rattle.rx_util.specs.declared.search.MatchError.{MatchError};
 ghost use Rattle.rx_dfa.specs.declared.states.AutomatonState.{AutomatonState};
 ghost use Rattle.rx_dfa.specs.Behind.{quits};
-ghost use Rattle.rx_dfa.specs.Dfas.{ahead_in, column_count};
+ghost use Rattle.rx_dfa.specs.Alphabets.{ahead_in, column_count};
 ghost use Rattle.rx_dfa.specs.Caches.{IsCacheOf, IsEntryTo, HasFirst, IsBare, IsSameState, KeepNumbers};
-ghost use Rattle.rx_dfa.specs.Closed.{HasOneFirst};
+ghost use Rattle.rx_dfa.specs.DenseTables.{HasOneFirst};
 ghost use Rattle.rx_dfa.specs.States.{IsFirstState, IsStateOf, IsStep};
 ghost use Rattle.rx_dfa.specs.Tables.{HasStepped, IsCacheBy};
 
+use crate::alphabet::Alphabet;
 use crate::automaton::Automaton;
 use crate::behind::Behind;
-use crate::dfa::Dfa;
 use crate::maker::Maker;
 use crate::states::{Ahead, AutomatonState, Starting};
 use crate::table::Table;
@@ -95,13 +95,13 @@ fn push_row(table: &mut Vec<u32>, width: usize) -> Result<(), AllocError>
 
 impl Cache {
     /// A cache for searches by an automaton of a program. The one refusal is `Memory`.
-    pub fn new(alloc: Global, program: &Program, dfa: &Dfa) -> Result<Cache, MatchError>
-        ensures made { IfOk result (λ cache. IsCacheOf program.now dfa.now cache) }
+    pub fn new(alloc: Global, program: &Program, alphabet: &Alphabet) -> Result<Cache, MatchError>
+        ensures made { IfOk result (λ cache. IsCacheOf program.now alphabet.now cache) }
         ensures refused { IfErr result (λ error. error ≡ MatchError.Memory) }
     {
         Ok(Cache {
             maker: Maker::new(alloc, program)?,
-            width: dfa.column_count(),
+            width: alphabet.column_count(),
             table: Vec::new(alloc),
             states: Vec::new(alloc),
             numbers: HashMap::new(alloc),
@@ -114,13 +114,13 @@ impl Cache {
 
     /// Makes the cache one for searches by this automaton, of which it knows nothing yet. The one
     /// refusal is `Memory`; the cache is then as it was.
-    pub fn reset(&mut self, program: &Program, dfa: &Dfa) -> Result<(), MatchError>
-        ensures made { OnOk result (IsCacheOf program.now dfa.now self.new) }
+    pub fn reset(&mut self, program: &Program, alphabet: &Alphabet) -> Result<(), MatchError>
+        ensures made { OnOk result (IsCacheOf program.now alphabet.now self.new) }
         ensures kept { OnErr result (self.new ≡ self.old) }
         ensures refused { IfErr result (λ error. error ≡ MatchError.Memory) }
     {
         self.maker = Maker::new(self.maker.allocator(), program)?;
-        self.width = dfa.column_count();
+        self.width = alphabet.column_count();
         self.clear();
         self.clear_count = 0;
         Ok(())
@@ -229,7 +229,7 @@ impl Cache {
     /// Whether a further state fits: beside one state another one always does.
     fn has_room(&self, automaton: &Automaton, state: &AutomatonState) -> bool {
         self.states.len() < 2
-            || self.used.saturating_add(self.size_of(state)) <= automaton.dfa.capacity()
+            || self.used.saturating_add(self.size_of(state)) <= automaton.alphabet.capacity()
     }
 
     /// The number of a state, which is added where it isn't found, and whether all others were
@@ -400,7 +400,7 @@ impl Cache {
         requires number { number < length self.old.states }
         ensures step { IfOk result (λ next. (x : AutomatonState)
             → slice_get self.old.states number ≡ Some x
-            → IsStep automaton.now.program.now automaton.now.dfa.now.asked x ahead.now next) }
+            → IsStep automaton.now.program.now automaton.now.alphabet.now.asked x ahead.now next) }
         ensures state { IfOk result (λ next. IsStateOf automaton.now.program.now next) }
         ensures made { IsCacheBy automaton.now self.new }
         ensures states { self.new.states ≡ self.old.states }
@@ -430,8 +430,8 @@ impl Cache {
         ensures refused { IfErr result (λ error.
             (error ≡ MatchError.Memory) ⊎ (error ≡ MatchError.GaveUp at)) }
     {
-        let ahead = automaton.dfa.ahead(column);
-        if automaton.dfa.quits_at(ahead.seen) {
+        let ahead = automaton.alphabet.ahead(column);
+        if automaton.alphabet.quits_at(ahead.seen) {
             self.set_entry(number, column, QUIT);
             return Ok(None);
         }

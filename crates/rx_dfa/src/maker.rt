@@ -93,7 +93,7 @@ impl Maker {
         requires made { self.old.stepper.widths ≡ widths_of automaton.now.program.now }
         requires state { IsStateOf automaton.now.program.now state.now }
         ensures step { IfOk result (λ next. IsStep automaton.now.program.now
-            automaton.now.dfa.now.asked state.now ahead.now next) }
+            automaton.now.alphabet.now.asked state.now ahead.now next) }
         ensures state { IfOk result (λ next. IsStateOf automaton.now.program.now next) }
         ensures made { self.new.stepper.widths ≡ self.old.stepper.widths }
         ensures refused { IfErr result (λ error. error ≡ MatchError.Memory) }

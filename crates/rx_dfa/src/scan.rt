@@ -83,12 +83,12 @@ impl Cache {
     {
         // A law, for the proof alone.
         steps_are_alike();
-        let dfa = automaton.dfa;
+        let alphabet = automaton.alphabet;
         let mut row = first * self.width;
         let mut len = 0_usize;
         let mut end = None;
         for byte in bytes {
-            let next = self.table[row + dfa.class(*byte)];
+            let next = self.table[row + alphabet.class(*byte)];
             if next < ENDS {
                 row = next as usize;
                 len += 1;
@@ -136,7 +136,7 @@ fn pass<T: Table>(
 {
     // A law, for the proof alone.
     steps_are_alike();
-    let column = automaton.dfa.class(byte);
+    let column = automaton.alphabet.class(byte);
     match table.step(automaton, number, column, at) {
         Ok(Some(next)) => {
             *met = table.known().met_behind(next, at, *met);

@@ -12,16 +12,16 @@ ghost use Rattle.rx_dfa.specs.declared.states.AutomatonState.{AutomatonState};
 ghost use Rattle.rx_dfa.specs.Behind.{quits};
 ghost use Rattle.rx_dfa.specs.States.{EndsSo};
 ghost use Rattle.rx_dfa.specs.Classes.{class_of};
-ghost use Rattle.rx_dfa.specs.Dfas.{IsDfaOf, ahead_in, column_count};
+ghost use Rattle.rx_dfa.specs.Alphabets.{IsAlphabetOf, ahead_in, column_count};
 ghost use Rattle.rx_dfa.specs.Caches.{IsCacheOf};
 ghost use Rattle.rx_dfa.specs.Passing.{IsLastColumn, StandThere, StandsAt, IsRefusal, search_by};
 ghost use Rattle.rx_dfa.specs.Searching.{StartsSo, IsHalfAnswer, byte_before, byte_after};
 ghost use Rattle.rx_dfa.specs.Tables.{IsAutomaton, IsLack, IsRefusalBy, IsTable};
 
+use crate::alphabet::Alphabet;
 use crate::automaton::Automaton;
 use crate::behind::may_be_byte;
 use crate::cache::Cache;
-use crate::dfa::Dfa;
 use crate::scan::scan;
 use crate::states::{Starting, last_met};
 use crate::table::Table;
@@ -84,11 +84,11 @@ fn may_begin<C: Cursor>(input: &Input<C>, utf8_empty: bool) -> bool
 }
 
 /// The class of a byte that is seen.
-fn seen_class(dfa: &Dfa, byte: u8) -> usize
-    ensures class { result ≡ class_of dfa.now.classes byte }
+fn seen_class(alphabet: &Alphabet, byte: u8) -> usize
+    ensures class { result ≡ class_of alphabet.now.classes byte }
     ensures byte { byte < 256 }
 {
-    dfa.class(byte)
+    alphabet.class(byte)
 }
 
 /// The column in which a state is told the end that it meets where an input stands, at the last
@@ -97,17 +97,17 @@ fn last_column<C: Cursor>(automaton: &Automaton, input: &Input<C>, seen: Option<
     requires { IsAutomaton automaton.now }
     ensures { input.now.position ≡ highest (search_by automaton.now input.now)
         → seen ≡ byte_after (search_by automaton.now input.now) input.now.position
-        → quits automaton.now.dfa.now.asked seen ≡ false
+        → quits automaton.now.alphabet.now.asked seen ≡ false
         → IsLastColumn automaton.now (search_by automaton.now input.now) input.now.position
         result }
 {
     // Laws, for the proof alone.
     steps_are_alike();
     ends_are_met_unread();
-    let dfa = automaton.dfa;
+    let alphabet = automaton.alphabet;
     match seen {
-        Some(byte) => seen_class(dfa, byte),
-        None => dfa.end_column(may_begin(input, dfa.utf8_empty())),
+        Some(byte) => seen_class(alphabet, byte),
+        None => alphabet.end_column(may_begin(input, alphabet.utf8_empty())),
     }
 }
 
@@ -224,14 +224,14 @@ fn last_end<T: Table>(
 ) -> Result<Option<PatternID>, MatchError>
     requires table { IsTable T.is_whole automaton.now (T.shown table.old) }
     requires number { number < length (T.shown table.old).states }
-    requires column { column < column_count automaton.now.dfa.now }
-    requires goes_on { quits automaton.now.dfa.now.asked
-        (ahead_in automaton.now.dfa.now column).seen ≡ false }
+    requires column { column < column_count automaton.now.alphabet.now }
+    requires goes_on { quits automaton.now.alphabet.now.asked
+        (ahead_in automaton.now.alphabet.now column).seen ≡ false }
     ensures table { IsTable T.is_whole automaton.now (T.shown table.new) }
     ensures step { IfOk result (λ ended. (x : AutomatonState)
         → slice_get (T.shown table.old).states number ≡ Some x
-        → EndsSo automaton.now.program.now automaton.now.dfa.now.asked x
-        (ahead_in automaton.now.dfa.now column) ended) }
+        → EndsSo automaton.now.program.now automaton.now.alphabet.now.asked x
+        (ahead_in automaton.now.alphabet.now column) ended) }
     ensures refused { IfErr result (IsLack T.is_whole at) }
 {
     match table.step(automaton, number, column, at) {
@@ -274,7 +274,7 @@ fn finish<T: Table, C: Cursor>(
     program_is_searched_keeping::<CharacterSet, Option<NonMaxUsize>>();
     let at = input.position();
     let seen = byte_seen(input);
-    if let Some(byte) = automaton.dfa.byte_that_quits(seen) {
+    if let Some(byte) = automaton.alphabet.byte_that_quits(seen) {
         return Err(MatchError::Quit { byte, offset: at });
     }
     let column = last_column(automaton, input, seen);
@@ -345,8 +345,8 @@ fn start<T: Table, C: Cursor>(
         (IsRefusalBy T.is_whole automaton.now (search_by automaton.now input.old)) }
 {
     let at = input.position();
-    let behind = byte_behind(input, automaton.dfa.asked().any);
-    if let Some(byte) = automaton.dfa.byte_that_quits(behind) {
+    let behind = byte_behind(input, automaton.alphabet.asked().any);
+    if let Some(byte) = automaton.alphabet.byte_that_quits(behind) {
         return Err(MatchError::Quit {
             byte,
             offset: at - 1,
@@ -403,20 +403,20 @@ pub(crate) fn search<T: Table, C: Cursor>(
 /// side by side where it isn't.
 pub fn try_search_fwd<C: Cursor>(
     program: &Program,
-    dfa: &Dfa,
+    alphabet: &Alphabet,
     cache: &mut Cache,
     input: &mut Input<C>,
 ) -> Result<Option<HalfMatch>, MatchError>
-    requires dfa { IsDfaOf program.now dfa.now }
-    requires made { IsCacheOf program.now dfa.now cache.old }
+    requires alphabet { IsAlphabetOf program.now alphabet.now }
+    requires made { IsCacheOf program.now alphabet.now cache.old }
     ensures answer { IfOk result
-        (IsHalfAnswer program.now (search_of dfa.now.utf8_empty input.old)) }
-    ensures made { IsCacheOf program.now dfa.now cache.new }
+        (IsHalfAnswer program.now (search_of alphabet.now.utf8_empty input.old)) }
+    ensures made { IsCacheOf program.now alphabet.now cache.new }
     ensures same { IsSameContent input.old.cursor input.new.cursor }
     ensures asked { input.new.asked ≡ input.old.asked }
     ensures refused { IfErr result
-        (IsRefusal dfa.now.asked (search_of dfa.now.utf8_empty input.old)) }
+        (IsRefusal alphabet.now.asked (search_of alphabet.now.utf8_empty input.old)) }
 {
-    let automaton = Automaton { program, dfa };
+    let automaton = Automaton { program, alphabet };
     search(cache, &automaton, input)
 }

@@ -2,7 +2,7 @@
 
 ghost use Rattle.std.specs.Prelude.{◌≡◌, ◌<◌, ℕ, Bool, Some, length, slice_get, IfOk, IfErr};
 ghost use Rattle.rx_dfa.specs.declared.states.AutomatonState.{AutomatonState};
-ghost use Rattle.rx_dfa.specs.Dfas.{column_count};
+ghost use Rattle.rx_dfa.specs.Alphabets.{column_count};
 ghost use Rattle.rx_dfa.specs.Caches.{CacheView, HasFirst};
 ghost use Rattle.rx_dfa.specs.Tables.{HasStepped, IsBeginning, IsLack, IsTable};
 
@@ -36,7 +36,7 @@ pub(crate) trait Table {
     ) -> Result<Option<usize>, MatchError>
         requires table { IsTable is_whole automaton.now (shown self.old) }
         requires number { number < length (shown self.old).states }
-        requires column { column < column_count automaton.now.dfa.now }
+        requires column { column < column_count automaton.now.alphabet.now }
         ensures table { IsTable is_whole automaton.now (shown self.new) }
         ensures step { IfOk result (λ next. (x : AutomatonState)
             → slice_get (shown self.old).states number ≡ Some x

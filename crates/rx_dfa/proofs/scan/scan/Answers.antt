@@ -17,7 +17,7 @@ loop-len-init g c = record {
 pub run-there-requires-clause-made : goal.run-there-requires-clause-made
 run-there-requires-clause-made g c =
     let a = c.args.automaton.now in
-    subst (λ v. IsCacheOf a.program.now a.dfa.now v) (sym c.known-known.ensures) (cache_in g.T.Table.is_whole a (g.T.Table.shown c.loop-len.table) c.loop-len.invariant.table)
+    subst (λ v. IsCacheOf a.program.now a.alphabet.now v) (sym c.known-known.ensures) (cache_in g.T.Table.is_whole a (g.T.Table.shown c.loop-len.table) c.loop-len.invariant.table)
 
 pub run-there-requires-clause-first : goal.run-there-requires-clause-first
 run-there-requires-clause-first g c = subst (λ (v : CacheView). c.loop-len.number < length v.states) (sym c.known-known.ensures) c.loop-len.invariant.number

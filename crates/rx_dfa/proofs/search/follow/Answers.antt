@@ -28,7 +28,7 @@ returns-then-is_over-clause-answer g c = λ q starts at.
 
 pub finish-requires-clause-last : goal.finish-requires-clause-last
 finish-requires-clause-last g c =
-    let b = c.args.automaton.now.dfa.now.utf8_empty in
+    let b = c.args.automaton.now.alphabet.now.utf8_empty in
     let here = c.loop-met.input in
     let same = same_search b here c.args.input.now c.loop-met.invariant.same.content c.loop-met.invariant.asked in
     c.is_at_last.ensures.last c.if-is_at_last.true b (subst (λ x. IsInside x here.position) (sym same) c.loop-met.invariant.inside)
@@ -39,7 +39,7 @@ returns-then-is_at_last-clause-answer g c =
     let p = a.program.now in
     let here = c.loop-met.input in
     let states = (g.T.Table.shown c.loop-met.table).states in
-    let same = same_search a.dfa.now.utf8_empty here c.args.input.now c.loop-met.invariant.same.content c.loop-met.invariant.asked in
+    let same = same_search a.alphabet.now.utf8_empty here c.args.input.now c.loop-met.invariant.same.content c.loop-met.invariant.asked in
     if_ok c.finish.result (λ found told q starts at. subst (λ x. IsHalfAnswer p x found) same
     (told q (subst (λ z. start_node (characters_of p) (anchoring_of z) ≡ Some q) (sym (ap (λ x. x.anchored) c.loop-met.invariant.asked)) starts)
     (subst (λ x. StandsAt a x q here.position states c.loop-met.number c.loop-met.met) (sym same) (c.loop-met.invariant.stands q at)))) c.finish.ensures.answer
@@ -47,7 +47,7 @@ returns-then-is_at_last-clause-answer g c =
 pub loop-met-smaller : goal.loop-met-smaller
 loop-met-smaller g c =
     let a = c.args.automaton.now in
-    let b = a.dfa.now.utf8_empty in
+    let b = a.alphabet.now.utf8_empty in
     let content = c.args.input.now.cursor.content in
     let here = c.loop-met.input in
     let there = c.pass_piece.new.input in

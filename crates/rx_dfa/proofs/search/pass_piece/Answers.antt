@@ -15,7 +15,7 @@ returns-in-Err-clause-refused g c =
     let input = c.args.input.now in
     let s = search_by a input in
     let bytes = c.bytes_ahead.result.now in
-    let there = c.bytes_ahead.ensures.stand a.dfa.now.utf8_empty c.requires.inside in
+    let there = c.bytes_ahead.ensures.stand a.alphabet.now.utf8_empty c.requires.inside in
     refused_there b a s input.position bytes c.in-Err.error there c.requires.inside.4 (subst (λ i. IsRefusalAmong b a i bytes c.in-Err.error) c.position-at.ensures.position c.in-Err.ensures.refused)
 
 pub returns-in-Ok-clause-number : goal.returns-in-Ok-clause-number
@@ -33,7 +33,7 @@ returns-in-Ok-clause-stands g c = λ q at.
     let new = (g.T.Table.shown c.scan.new.table).states in
     let bytes = c.bytes_ahead.result.now in
     let n = c.in-Ok.passed in
-    let there = c.bytes_ahead.ensures.stand a.dfa.now.utf8_empty c.requires.inside in
+    let there = c.bytes_ahead.ensures.stand a.alphabet.now.utf8_empty c.requires.inside in
     let long = content_long s input.position bytes there c.requires.inside.4 in
     let laws : Laws = record { alike = c.steps_are_alike.ensures; end = c.steps_end.ensures; one_byte = c.one_byte_tells.ensures; first = c.first_character_stands.ensures; last = c.last_character_stands.ensures } in
     let far : input.position + n ≡ c.move_to.new.self.position = omega (arith, c.move_to.ensures.position_is, c.position-at.ensures.position, long, c.in-Ok.ensures.within) in
@@ -46,7 +46,7 @@ pub returns-in-Ok-clause-inside : goal.returns-in-Ok-clause-inside
 returns-in-Ok-clause-inside g c =
     let a = c.args.automaton.now in
     let input = c.args.input.now in
-    let there = c.bytes_ahead.ensures.stand a.dfa.now.utf8_empty c.requires.inside in
+    let there = c.bytes_ahead.ensures.stand a.alphabet.now.utf8_empty c.requires.inside in
     let long = content_long (search_by a input) input.position c.bytes_ahead.result.now there c.requires.inside.4 in
     let far : input.position + c.in-Ok.passed ≡ c.move_to.new.self.position = omega (arith, c.move_to.ensures.position_is, c.position-at.ensures.position, long, c.in-Ok.ensures.within) in
     let inside = c.requires.inside in
@@ -56,7 +56,7 @@ pub returns-in-Ok-clause-on : goal.returns-in-Ok-clause-on
 returns-in-Ok-clause-on g c = λ lt.
     let a = c.args.automaton.now in
     let input = c.args.input.now in
-    let there = c.bytes_ahead.ensures.stand a.dfa.now.utf8_empty c.requires.inside in
+    let there = c.bytes_ahead.ensures.stand a.alphabet.now.utf8_empty c.requires.inside in
     let long = content_long (search_by a input) input.position c.bytes_ahead.result.now there c.requires.inside.4 in
-    let some = c.in-Ok.ensures.some (c.bytes_ahead.ensures.some a.dfa.now.utf8_empty c.requires.inside lt) in
+    let some = c.in-Ok.ensures.some (c.bytes_ahead.ensures.some a.alphabet.now.utf8_empty c.requires.inside lt) in
     omega (arith, some, c.move_to.ensures.position_is, c.position-at.ensures.position, long, c.in-Ok.ensures.within)

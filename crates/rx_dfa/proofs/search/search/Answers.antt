@@ -28,7 +28,7 @@ returns-then-not-enter-clause-answer g c =
     let s = search_by a c.args.input.now in
     let starts : start_node (characters_of p) (anchoring_of c.args.input.now.asked.anchored) ≡ Some c.in-Some.first =
     subst (λ z. start_node (characters_of p) (anchoring_of z) ≡ Some c.in-Some.first) c.get_anchored.ensures (sym c.start_state.ensures ∙ c.in-Some.is) in
-    half_of_none p s [] (none_inside p s c.in-Some.first [] c.walks_are_those_of_characters.ensures.reads c.program_is_searched_keeping.ensures starts (λ j inside. c.enter.ensures.none c.if-not-enter.true a.dfa.now.utf8_empty j inside) refl)
+    half_of_none p s [] (none_inside p s c.in-Some.first [] c.walks_are_those_of_characters.ensures.reads c.program_is_searched_keeping.ensures starts (λ j inside. c.enter.ensures.none c.if-not-enter.true a.alphabet.now.utf8_empty j inside) refl)
 
 pub start-requires-clause-start : goal.start-requires-clause-start
 start-requires-clause-start g c =
@@ -40,7 +40,7 @@ start-requires-clause-start g c =
 pub start-requires-clause-inside : goal.start-requires-clause-inside
 start-requires-clause-inside g c =
     let a = c.args.automaton.now in
-    let b = a.dfa.now.utf8_empty in
+    let b = a.alphabet.now.utf8_empty in
     let old = c.args.input.now in
     let new = c.enter.new.input in
     let same : search_by a new ≡ search_by a old = same_search b new old c.enter.ensures.same.same.content c.enter.ensures.same.asked_is in
@@ -49,7 +49,7 @@ start-requires-clause-inside g c =
 pub start-requires-clause-first : goal.start-requires-clause-first
 start-requires-clause-first g c =
     let a = c.args.automaton.now in
-    let b = a.dfa.now.utf8_empty in
+    let b = a.alphabet.now.utf8_empty in
     let old = c.args.input.now in
     let new = c.enter.new.input in
     let same : search_by a new ≡ search_by a old = same_search b new old c.enter.ensures.same.same.content c.enter.ensures.same.asked_is in
@@ -58,7 +58,7 @@ start-requires-clause-first g c =
 pub returns-clause-answer : goal.returns-clause-answer
 returns-clause-answer g c =
     let a = c.args.automaton.now in
-    let b = a.dfa.now.utf8_empty in
+    let b = a.alphabet.now.utf8_empty in
     let old = c.args.input.now in
     let new = c.enter.new.input in
     let same : search_by a new ≡ search_by a old = same_search b new old c.enter.ensures.same.same.content c.enter.ensures.same.asked_is in
@@ -67,7 +67,7 @@ returns-clause-answer g c =
 pub returns-clause-refused : goal.returns-clause-refused
 returns-clause-refused g c =
     let a = c.args.automaton.now in
-    let b = a.dfa.now.utf8_empty in
+    let b = a.alphabet.now.utf8_empty in
     let old = c.args.input.now in
     let new = c.enter.new.input in
     let same : search_by a new ≡ search_by a old = same_search b new old c.enter.ensures.same.same.content c.enter.ensures.same.asked_is in

@@ -7,7 +7,7 @@ use Rattle.rx_steps.proofs.FollowLaws.{if_ok}
 use Rattle.rx_steps.proofs.OverLaws.{same_search}
 use Rattle.rx_dfa.specs.Passing.{StandsAt, search_by}
 use Rattle.rx_dfa.specs.Searching.{StartsSo, IsHalfAnswer, byte_before}
-use Rattle.rx_dfa.proofs.ClosedLaws.{starts_from}
+use Rattle.rx_dfa.proofs.DenseLaws.{starts_from}
 use Rattle.rx_dfa.proofs.InputLaws.{known_behind, before_there}
 use Rattle.rx_dfa.proofs.ScanLaws.{behind_is, lacks_there, quit_there, reached_first}
 use Rattle.rx_dfa.proofs.search.start.Goals as goal
@@ -15,7 +15,7 @@ use Rattle.rx_dfa.proofs.search.start.Goals as goal
 pub overflow_sub-result : goal.overflow_sub-result
 overflow_sub-result g c =
     let a = c.args.automaton.now in
-    let b = a.dfa.now.utf8_empty in
+    let b = a.alphabet.now.utf8_empty in
     let s = search_by a c.args.input.now in
     let i = c.args.input.now.position in
     let inside = c.requires.inside in
@@ -26,7 +26,7 @@ overflow_sub-result g c =
 pub returns-in-Some-clause-refused : goal.returns-in-Some-clause-refused
 returns-in-Some-clause-refused g c =
     let a = c.args.automaton.now in
-    let b = a.dfa.now.utf8_empty in
+    let b = a.alphabet.now.utf8_empty in
     let s = search_by a c.args.input.now in
     let i = c.args.input.now.position in
     let inside = c.requires.inside in
@@ -42,7 +42,7 @@ returns-in-Some-clause-refused g c =
 pub first-requires-clause-begins : goal.first-requires-clause-begins
 first-requires-clause-begins g c =
     let a = c.args.automaton.now in
-    let b = a.dfa.now.utf8_empty in
+    let b = a.alphabet.now.utf8_empty in
     let q = c.args.start in
     let old = c.args.input.now in
     let new = c.byte_behind-behind.new.input in
@@ -74,8 +74,8 @@ pub returns-in-Ok-clause-answer : goal.returns-in-Ok-clause-answer
 returns-in-Ok-clause-answer g c =
     let a = c.args.automaton.now in
     let p = a.program.now in
-    let dfa = a.dfa.now in
-    let b = dfa.utf8_empty in
+    let alphabet = a.alphabet.now in
+    let b = alphabet.utf8_empty in
     let q = c.args.start in
     let old = c.args.input.now in
     let new = c.byte_behind-behind.new.input in
@@ -95,7 +95,7 @@ returns-in-Ok-clause-answer g c =
       state = x;
       stands = found.stands;
       reached = reached_first p s q i x first found.first.threads (subst (λ z. StartsSo s q i z None) (sym found.first.starting_is) (c.first_starting-starting.ensures b first));
-      behind = behind_is p dfa.asked s i x byte c.requires.is.asked
+      behind = behind_is p alphabet.asked s i x byte c.requires.is.asked
           (λ e. c.byte_behind-behind.ensures.asked (any ∙ e) b c.requires.inside ∙ ap₂ (λ z k. byte_before z k) (sym same) (sym moved.position_is))
           (λ e. c.byte_behind-behind.ensures.unasked (any ∙ e))
           (found.first.behind_is ∙ c.side-side.ensures) (c.byte_that_quits.ensures.none c.in_default.is);

@@ -1,7 +1,7 @@
 use Rattle.std.proofs.Common.{◌-◌}
 use Rattle.rx_dfa.specs.Tables.{IsCacheBy}
 use Rattle.rx_dfa.specs.Caches.{KeepNumbers}
-use Rattle.rx_dfa.specs.Closed.{AreKnown}
+use Rattle.rx_dfa.specs.DenseTables.{AreKnown}
 use Rattle.rx_dfa.proofs.cache.Cache.close.Given as goal
 
 -- all steps from the states so far are known

@@ -1,7 +1,7 @@
 use Rattle.std.proofs.Common.{ℕ, ◌+◌, ◌*◌, ◌<◌, length}
 use Rattle.rx_dfa.specs.Tables.{IsCacheBy}
 use Rattle.rx_dfa.specs.Caches.{KeepNumbers}
-use Rattle.rx_dfa.specs.Closed.{AreKnown, IsKnownAt}
+use Rattle.rx_dfa.specs.DenseTables.{AreKnown, IsKnownAt}
 use Rattle.rx_dfa.proofs.cache.Cache.fill_row.Given as goal
 
 -- the entries of the row so far are known

@@ -22,7 +22,7 @@ overflow_add-row c =
     let cache = c.args.self.now in
     let byte = get_or c.args.bytes.now c.loop-byte.byte-index 0 in
     let low : byte < 256 = omega (arith, (c.type_inv.bytes c.loop-byte.byte-index).fits) in
-    let column : c.class.result ≡ class_of c.args.automaton.now.dfa.now.classes byte = c.class.ensures in
+    let column : c.class.result ≡ class_of c.args.automaton.now.alphabet.now.classes byte = c.class.ensures in
     let len : length c.self.inside.table.items ≡ length cache.table = ap (λ (v : CacheView). length v.table) c.self.view_is in
     let here = there_is cache.states c.args.first c.requires.first in
     let inside = entry_inside c.args.automaton.now cache here.0 (take c.loop-byte.len c.args.bytes.now) c.args.at c.loop-byte.row byte c.args.met.now c.loop-byte.end c.requires.is c.requires.made low (c.loop-byte.invariant.running here.0 here.1) in
@@ -33,7 +33,7 @@ index-next-requires c =
     let cache = c.args.self.now in
     let byte = get_or c.args.bytes.now c.loop-byte.byte-index 0 in
     let low : byte < 256 = omega (arith, (c.type_inv.bytes c.loop-byte.byte-index).fits) in
-    let column : c.class.result ≡ class_of c.args.automaton.now.dfa.now.classes byte = c.class.ensures in
+    let column : c.class.result ≡ class_of c.args.automaton.now.alphabet.now.classes byte = c.class.ensures in
     let len : length c.self.inside.table.items ≡ length cache.table = ap (λ (v : CacheView). length v.table) c.self.view_is in
     let table = c.self.inside.table in
     let long : vec_len table ≡ length table.items = grind (arith, common_steps) in
@@ -48,15 +48,15 @@ loop-byte-preserved-then-next-lt-ENDS c =
     let row = c.loop-byte.row in
     let byte = get_or bytes c.loop-byte.byte-index 0 in
     let low : byte < 256 = omega (arith, (c.type_inv.bytes c.loop-byte.byte-index).fits) in
-    let column : c.class.result ≡ class_of c.args.automaton.now.dfa.now.classes byte = c.class.ensures in
+    let column : c.class.result ≡ class_of c.args.automaton.now.alphabet.now.classes byte = c.class.ensures in
     let len : length c.self.inside.table.items ≡ length cache.table = ap (λ (v : CacheView). length v.table) c.self.view_is in
     let table = c.self.inside.table in
     let here = there_is cache.states c.args.first c.requires.first in
     let inside = entry_inside c.args.automaton.now cache here.0 (take c.loop-byte.len bytes) c.args.at row byte c.args.met.now c.loop-byte.end c.requires.is c.requires.made low (c.loop-byte.invariant.running here.0 here.1) in
     let read : slice_get table.items (row + c.class.result) ≡ Some c.index-next.result.now =
     slice_get_read table.items (length table.items) (row + c.class.result) c.index-next.result.now refl (omega (arith, inside, column, len)) c.index-next.ensures in
-    let entry : slice_get cache.table (row + class_of c.args.automaton.now.dfa.now.classes byte) ≡ Some c.index-next.result.now =
-    sym (ap (λ (v : CacheView). slice_get v.table (row + class_of c.args.automaton.now.dfa.now.classes byte)) c.self.view_is) ∙ sym (ap (λ k. slice_get table.items (row + k)) column) ∙ read in
+    let entry : slice_get cache.table (row + class_of c.args.automaton.now.alphabet.now.classes byte) ≡ Some c.index-next.result.now =
+    sym (ap (λ (v : CacheView). slice_get v.table (row + class_of c.args.automaton.now.alphabet.now.classes byte)) c.self.view_is) ∙ sym (ap (λ k. slice_get table.items (row + k)) column) ∙ read in
     let at : slice_get bytes c.loop-byte.len ≡ Some byte = ap (λ k. slice_get bytes k) c.loop-byte.invariant.len ∙ slice_get-get_or bytes c.loop-byte.byte-index 0 c.loop-byte-test.true in
     record {
       running = λ x stands. run_on c.steps_are_alike.ensures c.args.automaton.now cache x bytes c.loop-byte.len c.args.at row byte c.index-next.result.now c.args.met.now c.loop-byte.end c.requires.is c.requires.made low at entry (omega (arith, c.if-next-lt-ENDS.true)) (c.loop-byte.invariant.running x stands);
@@ -70,15 +70,15 @@ loop-byte-preserved c =
     let row = c.loop-byte.row in
     let byte = get_or bytes c.loop-byte.byte-index 0 in
     let low : byte < 256 = omega (arith, (c.type_inv.bytes c.loop-byte.byte-index).fits) in
-    let column : c.class.result ≡ class_of c.args.automaton.now.dfa.now.classes byte = c.class.ensures in
+    let column : c.class.result ≡ class_of c.args.automaton.now.alphabet.now.classes byte = c.class.ensures in
     let len : length c.self.inside.table.items ≡ length cache.table = ap (λ (v : CacheView). length v.table) c.self.view_is in
     let table = c.self.inside.table in
     let here = there_is cache.states c.args.first c.requires.first in
     let inside = entry_inside c.args.automaton.now cache here.0 (take c.loop-byte.len bytes) c.args.at row byte c.args.met.now c.loop-byte.end c.requires.is c.requires.made low (c.loop-byte.invariant.running here.0 here.1) in
     let read : slice_get table.items (row + c.class.result) ≡ Some c.index-next.result.now =
     slice_get_read table.items (length table.items) (row + c.class.result) c.index-next.result.now refl (omega (arith, inside, column, len)) c.index-next.ensures in
-    let entry : slice_get cache.table (row + class_of c.args.automaton.now.dfa.now.classes byte) ≡ Some c.index-next.result.now =
-    sym (ap (λ (v : CacheView). slice_get v.table (row + class_of c.args.automaton.now.dfa.now.classes byte)) c.self.view_is) ∙ sym (ap (λ k. slice_get table.items (row + k)) column) ∙ read in
+    let entry : slice_get cache.table (row + class_of c.args.automaton.now.alphabet.now.classes byte) ≡ Some c.index-next.result.now =
+    sym (ap (λ (v : CacheView). slice_get v.table (row + class_of c.args.automaton.now.alphabet.now.classes byte)) c.self.view_is) ∙ sym (ap (λ k. slice_get table.items (row + k)) column) ∙ read in
     let at : slice_get bytes c.loop-byte.len ≡ Some byte = ap (λ k. slice_get bytes k) c.loop-byte.invariant.len ∙ slice_get-get_or bytes c.loop-byte.byte-index 0 c.loop-byte-test.true in
     record {
       running = λ x stands. run_notes c.steps_are_alike.ensures c.args.automaton.now cache x bytes c.loop-byte.len c.args.at row byte c.index-next.result.now (c.index-next.result.now - 2147483648) c.args.met.now c.loop-byte.end c.requires.is c.requires.made low at entry

@@ -1,10 +1,10 @@
-//! Automata of programs.
+//! The alphabet of a program's automaton.
 
 ghost use Rattle.std.specs.Prelude.{◌≡◌, ◌<◌, None, Some, true, false, length, slice_get, IfOk, IfSome};
 ghost use Rattle.rx_dfa.specs.Behind.{quits};
 ghost use Rattle.rx_dfa.specs.Classes.{class_of};
 ghost use Rattle.rx_dfa.specs.States.{ahead_of_end};
-ghost use Rattle.rx_dfa.specs.Dfas.{IsDfaOf, column_count, ahead_in};
+ghost use Rattle.rx_dfa.specs.Alphabets.{IsAlphabetOf, column_count, ahead_in};
 
 use crate::behind::{byte_that_quits, quits_at};
 use crate::classes::ByteClasses;
@@ -14,21 +14,22 @@ use rx_steps::AskedLooks;
 use std::alloc::{AllocError, Global};
 use std::marker::Model;
 
-/// What the automaton of a program has to know of it, and how much room its states may take in a
-/// cache, about, in bytes. Contracts see the looks that the program asks for, its classes of bytes,
-/// whether empty matches inside a character are passed over, and that room.
+/// What a program can tell apart of what stands at a place: what its automaton has to know of it;
+/// and how much room its states may take in a cache, about, in bytes. Contracts see the looks that
+/// the program asks for, its classes of bytes, whether empty matches inside a character are passed
+/// over, and that room.
 #[derive(Debug, Drop)]
-pub struct Dfa {
+pub struct Alphabet {
     asked: AskedLooks,
     classes: ByteClasses,
     utf8_empty: bool,
     capacity: usize,
 }
 
-impl Model for Dfa {
-    ghost use Rattle.rx_dfa.specs.Dfas.{DfaView};
+impl Model for Alphabet {
+    ghost use Rattle.rx_dfa.specs.Alphabets.{AlphabetView};
 
-    ghost Value = { DfaView };
+    ghost Value = { AlphabetView };
 
     ghost view = { λ d. record {
       asked = d.asked;
@@ -38,8 +39,8 @@ impl Model for Dfa {
     } };
 }
 
-impl Dfa {
-    /// The automaton of a program. `utf8_empty` passes over empty matches inside a character. It
+impl Alphabet {
+    /// The alphabet of a program. `utf8_empty` passes over empty matches inside a character. It
     /// takes time in proportion to the program's states and the ranges of their automata, and a few
     /// hundred bytes.
     pub fn new(
@@ -47,13 +48,13 @@ impl Dfa {
         program: &Program,
         utf8_empty: bool,
         capacity: usize,
-    ) -> Result<Dfa, AllocError>
-        ensures made { IfOk result (λ dfa. IsDfaOf program.now dfa) }
-        ensures utf8_empty { IfOk result (λ dfa. dfa.utf8_empty ≡ utf8_empty) }
+    ) -> Result<Alphabet, AllocError>
+        ensures made { IfOk result (λ alphabet. IsAlphabetOf program.now alphabet) }
+        ensures utf8_empty { IfOk result (λ alphabet. alphabet.utf8_empty ≡ utf8_empty) }
     {
         let asked = AskedLooks::of(program.states());
         let classes = ByteClasses::new(alloc, program, asked)?;
-        Ok(Dfa {
+        Ok(Alphabet {
             asked,
             classes,
             utf8_empty,

@@ -4,16 +4,16 @@ ghost use Rattle.std.specs.Prelude.{◌≡◌, ◌<◌, ◌≤◌, true, Some, l
 ghost use Rattle.rx_input.specs.Cursors.{IsSameContent};
 ghost use Rattle.rx_steps.specs.Searching.{search_of};
 ghost use Rattle.rx_dfa.specs.declared.states.AutomatonState.{AutomatonState};
-ghost use Rattle.rx_dfa.specs.Dfas.{IsDfaOf, column_count};
+ghost use Rattle.rx_dfa.specs.Alphabets.{IsAlphabetOf, column_count};
 ghost use Rattle.rx_dfa.specs.Caches.{HasFirst, IsCacheOf};
-ghost use Rattle.rx_dfa.specs.Closed.{IsClosedOf, IsQuit};
+ghost use Rattle.rx_dfa.specs.DenseTables.{IsClosedOf, IsQuit};
 ghost use Rattle.rx_dfa.specs.Searching.{IsHalfAnswer};
 ghost use Rattle.rx_dfa.specs.Tables.{HasStepped, IsBeginning, IsTable};
 
+use crate::alphabet::Alphabet;
 use crate::automaton::Automaton;
 use crate::behind::Behind;
 use crate::cache::{Cache, QUIT};
-use crate::dfa::Dfa;
 use crate::search::search;
 use crate::states::Starting;
 use crate::table::Table;
@@ -26,11 +26,11 @@ use std::marker::Model;
 /// What searches by an automaton go by where all its states and steps are made. Contracts see it as
 /// a cache.
 #[derive(Debug, Drop)]
-pub struct Closed {
+pub struct DenseTable {
     cache: Cache,
 }
 
-impl Model for Closed {
+impl Model for DenseTable {
     ghost use Rattle.rx_dfa.specs.Caches.{CacheView};
 
     ghost Value = { CacheView };
@@ -39,37 +39,37 @@ impl Model for Closed {
 }
 
 /// A cache for searches by an automaton of a program.
-fn new_cache(alloc: Global, program: &Program, dfa: &Dfa) -> Result<Cache, AllocError>
-    ensures { IfOk result (IsCacheOf program.now dfa.now) }
+fn new_cache(alloc: Global, program: &Program, alphabet: &Alphabet) -> Result<Cache, AllocError>
+    ensures { IfOk result (IsCacheOf program.now alphabet.now) }
 {
-    match Cache::new(alloc, program, dfa) {
+    match Cache::new(alloc, program, alphabet) {
         Ok(cache) => Ok(cache),
         Err(_) => Err(AllocError),
     }
 }
 
-impl Closed {
+impl DenseTable {
     /// The states and steps of a program's automaton. There are none where it has more states than
     /// `state_limit`, or they take more room than about `size_limit`, in bytes. It takes the steps
     /// of the walks from each state before each class of bytes.
     pub fn new(
         alloc: Global,
         program: &Program,
-        dfa: &Dfa,
+        alphabet: &Alphabet,
         state_limit: usize,
         size_limit: usize,
-    ) -> Result<Option<Closed>, AllocError>
-        requires { IsDfaOf program.now dfa.now }
-        ensures made { IfOk result (λ closed. IfSome closed (IsClosedOf program.now dfa.now)) }
+    ) -> Result<Option<DenseTable>, AllocError>
+        requires { IsAlphabetOf program.now alphabet.now }
+        ensures made { IfOk result (λ closed. IfSome closed (IsClosedOf program.now alphabet.now)) }
         ensures limit { IfOk result (λ closed. IfSome closed
             (λ c. length c.states ≤ state_limit)) }
     {
-        let automaton = Automaton { program, dfa };
-        let mut cache = new_cache(alloc, program, dfa)?;
+        let automaton = Automaton { program, alphabet };
+        let mut cache = new_cache(alloc, program, alphabet)?;
         cache.add_all_starts(&automaton)?;
         let is_closed = cache.close(&automaton, state_limit, size_limit)?;
         if is_closed {
-            Ok(Some(Closed { cache }))
+            Ok(Some(DenseTable { cache }))
         } else {
             Ok(None)
         }
@@ -92,7 +92,7 @@ impl Closed {
     fn step(&self, automaton: &Automaton, number: usize, column: usize) -> Option<usize>
         requires closed { IsTable true automaton.now self.now }
         requires number { number < length self.now.states }
-        requires column { column < column_count automaton.now.dfa.now }
+        requires column { column < column_count automaton.now.alphabet.now }
         ensures { (x : AutomatonState) → slice_get self.now.states number ≡ Some x
             → HasStepped automaton.now self.now.states x column result }
     {
@@ -124,31 +124,31 @@ impl Closed {
     pub fn try_search_fwd<C: Cursor>(
         &self,
         program: &Program,
-        dfa: &Dfa,
+        alphabet: &Alphabet,
         input: &mut Input<C>,
     ) -> Result<Option<HalfMatch>, MatchError>
-        requires dfa { IsDfaOf program.now dfa.now }
-        requires closed { IsClosedOf program.now dfa.now self.now }
+        requires alphabet { IsAlphabetOf program.now alphabet.now }
+        requires closed { IsClosedOf program.now alphabet.now self.now }
         ensures answer { IfOk result
-            (IsHalfAnswer program.now (search_of dfa.now.utf8_empty input.old)) }
+            (IsHalfAnswer program.now (search_of alphabet.now.utf8_empty input.old)) }
         ensures same { IsSameContent input.old.cursor input.new.cursor }
         ensures asked { input.new.asked ≡ input.old.asked }
         ensures refused { IfErr result
-            (IsQuit dfa.now.asked (search_of dfa.now.utf8_empty input.old)) }
+            (IsQuit alphabet.now.asked (search_of alphabet.now.utf8_empty input.old)) }
     {
-        let automaton = Automaton { program, dfa };
+        let automaton = Automaton { program, alphabet };
         let mut table = self;
         search(&mut table, &automaton, input)
     }
 }
 
-impl Table for &Closed {
+impl Table for &DenseTable {
     ghost is_whole = { true };
 
     ghost shown = { λ closed. closed.now };
 
     fn known(&self) -> &Cache {
-        Closed::cache(self)
+        DenseTable::cache(self)
     }
 
     fn step(
@@ -158,7 +158,7 @@ impl Table for &Closed {
         column: usize,
         _at: usize,
     ) -> Result<Option<usize>, MatchError> {
-        Ok(Closed::step(self, automaton, number, column))
+        Ok(DenseTable::step(self, automaton, number, column))
     }
 
     fn first(
@@ -168,6 +168,6 @@ impl Table for &Closed {
         side: Behind,
         _at: usize,
     ) -> Result<usize, MatchError> {
-        Ok(Closed::first(self, automaton, &starting, &side))
+        Ok(DenseTable::first(self, automaton, &starting, &side))
     }
 }

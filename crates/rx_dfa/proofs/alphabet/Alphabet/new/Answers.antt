@@ -1,6 +1,6 @@
 use Rattle.std.proofs.Common.{subst}
 use Rattle.rx_dfa.specs.Searching.{AreAskedBy}
-use Rattle.rx_dfa.proofs.dfa.Dfa.new.Goals as goal
+use Rattle.rx_dfa.proofs.alphabet.Alphabet.new.Goals as goal
 
 pub returns-clause-made : goal.returns-clause-made
 returns-clause-made c = record {

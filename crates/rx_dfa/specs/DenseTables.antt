@@ -12,7 +12,7 @@ use Rattle.rx_dfa.specs.declared.states.Starting.{Starting}
 use Rattle.rx_dfa.specs.declared.states.Starting.TheVariants.{Never, Once, Always}
 use Rattle.rx_dfa.specs.declared.behind.Behind.{Behind}
 use Rattle.rx_dfa.specs.Behind.{behind_of}
-use Rattle.rx_dfa.specs.Dfas.{DfaView}
+use Rattle.rx_dfa.specs.Alphabets.{AlphabetView}
 use Rattle.rx_dfa.specs.Caches.{CacheView, HasFirst, IsCacheOf, KeepNumbers}
 use Rattle.rx_dfa.specs.Passing.{IsRefusal}
 
@@ -49,19 +49,19 @@ MayBeByte None = Unit {0}
 MayBeByte (Some b) = b < 256
 
 -- whatever stands before
-abbrev pub HasStartsFrom : ByteProgram → DfaView → List AutomatonState → ℕ → Type 0
-HasStartsFrom p dfa states q = (byte : Option ℕ) → MayBeByte byte
-    → HasStarts states q (behind_of dfa.asked p.line_terminator byte)
+abbrev pub HasStartsFrom : ByteProgram → AlphabetView → List AutomatonState → ℕ → Type 0
+HasStartsFrom p alphabet states q = (byte : Option ℕ) → MayBeByte byte
+    → HasStarts states q (behind_of alphabet.asked p.line_terminator byte)
 
 -- from wherever walks of a search start
-abbrev pub HasAllStarts : ByteProgram → DfaView → List AutomatonState → Type 0
-HasAllStarts p dfa states = (anchoring : Anchoring) (q : ℕ)
-    → start_node (characters_of p) anchoring ≡ Some q → HasStartsFrom p dfa states q
+abbrev pub HasAllStarts : ByteProgram → AlphabetView → List AutomatonState → Type 0
+HasAllStarts p alphabet states = (anchoring : Anchoring) (q : ℕ)
+    → start_node (characters_of p) anchoring ≡ Some q → HasStartsFrom p alphabet states q
 
 -- the states in which searches begin are there, and of each state each entry is known
-pub record IsClosedOf (p : ByteProgram) (dfa : DfaView) (cache : CacheView) : Type 0 where
-  pub made : IsCacheOf p dfa cache
-  pub starts : HasAllStarts p dfa cache.states
+pub record IsClosedOf (p : ByteProgram) (alphabet : AlphabetView) (cache : CacheView) : Type 0 where
+  pub made : IsCacheOf p alphabet cache
+  pub starts : HasAllStarts p alphabet cache.states
   pub known : AreKnown cache (length cache.states)
 
 -- why a search by one answers nothing: it met a byte of the slice before which it can't go on

@@ -1,8 +1,8 @@
 use Rattle.std.proofs.Common.{sym, subst}
 use Rattle.rx_dfa.specs.Caches.{CacheView}
-use Rattle.rx_dfa.specs.Closed.{HasOneFirst}
-use Rattle.rx_dfa.proofs.ClosedLaws.{begins_there}
-use Rattle.rx_dfa.proofs.closed.Closed.first.Goals as goal
+use Rattle.rx_dfa.specs.DenseTables.{HasOneFirst}
+use Rattle.rx_dfa.proofs.DenseLaws.{begins_there}
+use Rattle.rx_dfa.proofs.dense_table.DenseTable.first.Goals as goal
 
 pub unreachable-requires : goal.unreachable-requires
 unreachable-requires c =

@@ -2,9 +2,9 @@
 
 ghost use Rattle.std.specs.Prelude.{◌≡◌, ◌+◌, ◌*◌, ◌<◌, ◌≤◌, ℕ, true, Some, length, slice_get, IfOk, OnOk};
 ghost use Rattle.rx_dfa.specs.declared.states.AutomatonState.{AutomatonState};
-ghost use Rattle.rx_dfa.specs.Dfas.{ahead_in, column_count};
+ghost use Rattle.rx_dfa.specs.Alphabets.{ahead_in, column_count};
 ghost use Rattle.rx_dfa.specs.Caches.{IsEntry, IsSameState, KeepNumbers};
-ghost use Rattle.rx_dfa.specs.Closed.{AreKnown, Grows, HasAllStarts, HasOneFirst, HasStarts, HasStartsFrom, IsKnownAt};
+ghost use Rattle.rx_dfa.specs.DenseTables.{AreKnown, Grows, HasAllStarts, HasOneFirst, HasStarts, HasStartsFrom, IsKnownAt};
 ghost use Rattle.rx_dfa.specs.States.{IsStateOf};
 ghost use Rattle.rx_dfa.specs.Tables.{IsAutomaton, IsCacheBy};
 
@@ -80,11 +80,11 @@ impl Cache {
         requires made { IsCacheBy automaton.now self.old }
         ensures made { IsCacheBy automaton.now self.new }
         ensures starts { OnOk result (HasStartsFrom automaton.now.program.now
-            automaton.now.dfa.now self.new.states start) }
+            automaton.now.alphabet.now self.new.states start) }
         ensures kept { OnOk result (KeepNumbers self.old.states self.new.states) }
     {
-        for column in 0..automaton.dfa.column_count() {
-            let side = automaton.side(automaton.dfa.byte(column));
+        for column in 0..automaton.alphabet.column_count() {
+            let side = automaton.side(automaton.alphabet.byte(column));
             self.add_starts(automaton, start, side)?;
         }
         Ok(())
@@ -97,7 +97,8 @@ impl Cache {
         ensures made { IsCacheBy automaton.now self.new }
         ensures starts { OnOk result ((k q : ℕ)
             → slice_get automaton.now.program.now.patterns k ≡ Some q
-            → HasStartsFrom automaton.now.program.now automaton.now.dfa.now self.new.states q) }
+            → HasStartsFrom automaton.now.program.now automaton.now.alphabet.now
+            self.new.states q) }
     {
         for start in automaton.program.patterns() {
             self.add_sides(automaton, *start)?;
@@ -111,7 +112,7 @@ impl Cache {
         requires made { IsCacheBy automaton.now self.old }
         ensures made { IsCacheBy automaton.now self.new }
         ensures starts { OnOk result (HasAllStarts automaton.now.program.now
-            automaton.now.dfa.now self.new.states) }
+            automaton.now.alphabet.now self.new.states) }
     {
         self.add_patterns(automaton)?;
         self.add_sides(automaton, automaton.program.start())?;
@@ -130,16 +131,16 @@ impl Cache {
     ) -> Result<u32, AllocError>
         requires made { IsCacheBy automaton.now self.old }
         requires number { number < length self.old.states }
-        requires column { column < column_count automaton.now.dfa.now }
+        requires column { column < column_count automaton.now.alphabet.now }
         ensures made { IsCacheBy automaton.now self.new }
         ensures grows { OnOk result (Grows self.old self.new) }
         ensures entry { IfOk result (λ entry. (x : AutomatonState)
             → slice_get self.old.states number ≡ Some x
-            → IsEntry automaton.now.program.now automaton.now.dfa.now self.new.width
-            self.new.states x (ahead_in automaton.now.dfa.now column) entry) }
+            → IsEntry automaton.now.program.now automaton.now.alphabet.now self.new.width
+            self.new.states x (ahead_in automaton.now.alphabet.now column) entry) }
     {
-        let ahead = automaton.dfa.ahead(column);
-        if automaton.dfa.quits_at(ahead.seen) {
+        let ahead = automaton.alphabet.ahead(column);
+        if automaton.alphabet.quits_at(ahead.seen) {
             return Ok(QUIT);
         }
         let state = match self.next_state(automaton, number, &ahead) {
@@ -159,7 +160,7 @@ impl Cache {
     ) -> Result<(), AllocError>
         requires made { IsCacheBy automaton.now self.old }
         requires number { number < length self.old.states }
-        requires column { column < column_count automaton.now.dfa.now }
+        requires column { column < column_count automaton.now.alphabet.now }
         ensures made { IsCacheBy automaton.now self.new }
         ensures grows { OnOk result (Grows self.old self.new) }
         ensures known { OnOk result
@@ -182,7 +183,7 @@ impl Cache {
         ensures known { OnOk result (AreKnown self.new (number + 1)) }
         ensures kept { OnOk result (KeepNumbers self.old.states self.new.states) }
     {
-        for column in 0..automaton.dfa.column_count() {
+        for column in 0..automaton.alphabet.column_count() {
             self.fill(automaton, number, column)?;
         }
         Ok(())
