@@ -16,7 +16,7 @@ use Rattle.rx_dfa.specs.declared.states.AutomatonState.{AutomatonState}
 use Rattle.rx_dfa.specs.Behind.{behind_of, quits}
 use Rattle.rx_dfa.specs.Classes.{byte_of, class_of, continues}
 use Rattle.rx_dfa.specs.States.{ahead_of, ahead_of_end, place_of_step, started, start_at, IsStep, EndsSo}
-use Rattle.rx_dfa.specs.Alphabets.{AlphabetView, IsAlphabetOf, ahead_at, ahead_in, column_count}
+use Rattle.rx_dfa.specs.Alphabets.{ahead_at, ahead_in, column_count}
 use Rattle.rx_dfa.specs.Searching.{AreAskedBy, HasReached, IsBehind, IsHalfAnswer, byte_after, met_after}
 use Rattle.rx_dfa.specs.Passing.{IsLastColumn}
 use Rattle.rx_dfa.specs.Tables.{IsAutomaton}

@@ -19,7 +19,6 @@ use Rattle.rx_dfa.specs.Classes.{continues}
 use Rattle.rx_dfa.specs.Behind.{behind_of, quits}
 use Rattle.rx_dfa.specs.States.{ahead_of, IsStep}
 use Rattle.rx_dfa.specs.Searching.{AreAskedBy, met_after, HasReached, byte_before, byte_after, IsBehind, IsAhead}
-use Rattle.rx_dfa.specs.Alphabets.{AlphabetView}
 use Rattle.rx_dfa.specs.Passing.{Passes, none, more, StandThere}
 use Rattle.rx_dfa.proofs.ClassLaws.{below_or_not}
 use Rattle.rx_dfa.proofs.LoopLaws.{Laws, May, place_passed}

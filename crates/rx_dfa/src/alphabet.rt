@@ -1,6 +1,6 @@
 //! The alphabet of a program's automaton.
 
-ghost use Rattle.std.specs.Prelude.{◌≡◌, ◌<◌, None, Some, true, false, length, slice_get, IfOk, IfSome};
+ghost use Rattle.std.specs.Prelude.{◌≡◌, ◌<◌, None, Some, true, false, slice_get, IfOk, IfSome};
 ghost use Rattle.rx_dfa.specs.Behind.{quits};
 ghost use Rattle.rx_dfa.specs.Classes.{class_of};
 ghost use Rattle.rx_dfa.specs.States.{ahead_of_end};

@@ -1,10 +1,9 @@
 //! The states of an automaton that searches have come to, and the table of the steps between them.
 
-ghost use Rattle.std.specs.Prelude.{◌≡◌, ◌⊎◌, ◌+◌, ◌*◌, ◌<◌, ◌≤◌, ◌++◌, ◌∷◌, [], ℕ, true, false, None, Some, length, replicate, set, slice_get, All, IfSome, IfOk, IfErr, OnOk, OnErr};
+ghost use Rattle.std.specs.Prelude.{◌≡◌, ◌⊎◌, ◌+◌, ◌*◌, ◌<◌, ◌++◌, ◌∷◌, [], ℕ, true, false, None, Some, length, replicate, set, slice_get, All, IfSome, IfOk, IfErr, OnOk, OnErr};
 ghost use Rattle.rx_util.specs.declared.search.MatchError.{MatchError};
 ghost use Rattle.rx_dfa.specs.declared.states.AutomatonState.{AutomatonState};
-ghost use Rattle.rx_dfa.specs.Behind.{quits};
-ghost use Rattle.rx_dfa.specs.Alphabets.{ahead_in, column_count};
+ghost use Rattle.rx_dfa.specs.Alphabets.{column_count};
 ghost use Rattle.rx_dfa.specs.Caches.{IsCacheOf, IsEntryTo, HasFirst, IsBare, IsSameState, KeepNumbers};
 ghost use Rattle.rx_dfa.specs.DenseTables.{HasOneFirst};
 ghost use Rattle.rx_dfa.specs.States.{IsFirstState, IsStateOf, IsStep};

@@ -1,6 +1,6 @@
 //! Bytes that lie in one piece.
 
-ghost use Rattle.std.specs.Prelude.{◌≡◌, ◌+◌, ◌/◌, ◌<◌, ◌≤◌, ◌^◌, ◌∷◌, [], ℕ, true, Option, Some, length, take, slice_get, IfOk, IfErr};
+ghost use Rattle.std.specs.Prelude.{◌≡◌, ◌+◌, ◌/◌, ◌<◌, ◌≤◌, ◌^◌, ◌∷◌, [], true, Option, Some, length, take, slice_get, IfOk, IfErr};
 ghost use Rattle.rx_util.specs.Search.{HalfFound};
 ghost use Rattle.rx_dfa.specs.declared.scan.PassedEnd.{PassedEnd};
 ghost use Rattle.rx_dfa.specs.declared.states.AutomatonState.{AutomatonState};

@@ -1,10 +1,8 @@
-use Rattle.std.proofs.Common.{◌≡◌, ◌-◌, ◌<◌, ◌∷◌, [], true, length, Some, slice_get, sym, ap, subst, ◌∙◌, arith}
+use Rattle.std.proofs.Common.{◌≡◌, ◌-◌, ◌<◌, ◌∷◌, [], true, length, Some, slice_get, sym, ap, subst, arith}
 use Rattle.std.proofs.lemmas.Option.{slice_get_within}
-use Rattle.rx_dfa.specs.declared.states.AutomatonState.{AutomatonState}
 use Rattle.rx_dfa.specs.Behind.{quits}
 use Rattle.rx_dfa.specs.Alphabets.{ahead_in}
 use Rattle.rx_dfa.specs.Caches.{CacheView, LeadsTo}
-use Rattle.rx_dfa.specs.Searching.{met_after}
 use Rattle.rx_dfa.specs.Tables.{HasStepped}
 use Rattle.rx_dfa.proofs.TableLaws.{there_is}
 use Rattle.rx_dfa.proofs.PassLaws.{quits_by, one_passed}

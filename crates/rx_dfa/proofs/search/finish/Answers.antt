@@ -1,4 +1,4 @@
-use Rattle.std.proofs.Common.{◌≡◌, false, Some, slice_get, arith, sym, ap, subst, ◌∙◌}
+use Rattle.std.proofs.Common.{◌≡◌, Some, slice_get, arith, sym, ap, subst, ◌∙◌}
 use Rattle.rx_dfa.specs.Passing.{IsLastColumn, search_by}
 use Rattle.rx_dfa.specs.Searching.{IsHalfAnswer, met_after}
 use Rattle.rx_dfa.proofs.LoopLaws.{Laws}
@@ -14,8 +14,9 @@ returns-in-Some-clause-refused g c =
     let s = search_by a c.args.input.now in
     let told = c.in-Some.ensures.some in
     let there = byte_there s i c.in-Some.byte (sym (c.byte_seen-seen.ensures a.alphabet.now.utf8_empty) ∙ told.0) in
+    let stands : slice_get s.content c.position-at.result ≡ Some c.in-Some.byte = ap (λ k. slice_get s.content k) c.position-at.ensures.position ∙ there.0 in
     quit_there g.T.Table.is_whole a s c.in-Some.byte c.position-at.result (
-      ap (λ k. slice_get s.content k) c.position-at.ensures.position ∙ there.0,
+      stands,
       omega (arith, c.requires.inside.0, c.position-at.ensures.position),
       omega (arith, there.1, c.position-at.ensures.position),
       told.1,

@@ -1,4 +1,4 @@
-use Rattle.std.proofs.Common.{◌≡◌, ◌-◌, false, None, Some, slice_get, sym, ap, ap₂, subst, ◌∙◌, arith}
+use Rattle.std.proofs.Common.{◌≡◌, ◌-◌, None, Some, slice_get, sym, ap, ap₂, subst, ◌∙◌, arith}
 use Rattle.std.proofs.lemmas.Option.{slice_get_within}
 use Rattle.rx_walks.specs.ProgramFinds.{start_node, lowest}
 use Rattle.rx_program.specs.Programs.{characters_of}
@@ -32,8 +32,9 @@ returns-in-Some-clause-refused g c =
     let inside = c.requires.inside in
     let before = known_behind c.asked.result.any s i c.in-Some.byte c.byte_behind-behind.result (λ e. c.byte_behind-behind.ensures.asked e b inside) c.byte_behind-behind.ensures.unasked c.in-Some.ensures.some.0 in
     let there = before_there s i c.in-Some.byte inside.0 inside.4 before in
+    let stands : slice_get s.content (c.position-at.result - 1) ≡ Some c.in-Some.byte = ap (λ k. slice_get s.content (k - 1)) c.position-at.ensures.position ∙ there.1 in
     quit_there g.T.Table.is_whole a s c.in-Some.byte (c.position-at.result - 1) (
-      ap (λ k. slice_get s.content (k - 1)) c.position-at.ensures.position ∙ there.1,
+      stands,
       omega (arith, there.0, c.position-at.ensures.position),
       omega (arith, there.0, inside.1, c.position-at.ensures.position),
       c.in-Some.ensures.some.1,

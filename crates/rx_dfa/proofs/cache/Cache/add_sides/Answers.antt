@@ -1,4 +1,4 @@
-use Rattle.std.proofs.Common.{slice_get, ap, subst, ◌∙◌, arith}
+use Rattle.std.proofs.Common.{ap, subst, ◌∙◌, arith}
 use Rattle.rx_dfa.specs.Behind.{behind_of}
 use Rattle.rx_dfa.specs.DenseTables.{HasStarts}
 use Rattle.rx_dfa.proofs.TableLaws.{keep_all}
