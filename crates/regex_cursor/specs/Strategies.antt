@@ -8,8 +8,8 @@ use Rattle.rx_walks.specs.Programs.{Notes}
 use Rattle.rx_walks.specs.ProgramFinds.{end_of}
 use Rattle.rx_steps.specs.Caches as steps
 use Rattle.rx_dfa.specs.Caches as automata
-use Rattle.rx_dfa.specs.Closed.{IsClosedOf}
-use Rattle.rx_dfa.specs.Dfas.{DfaView, IsDfaOf}
+use Rattle.rx_dfa.specs.DenseTables.{IsClosedOf}
+use Rattle.rx_dfa.specs.Alphabets.{AlphabetView, IsAlphabetOf}
 use Rattle.rx_program.specs.Programs.{ByteProgram, characters_of}
 use Rattle.rx_literals.specs.Beginnings.{BeginsWith}
 use Rattle.rx_literals.specs.Literals.{FindsLiteral, IsLiteralOf, within}
@@ -27,7 +27,7 @@ use Rattle.regex_cursor.specs.declared.engines.meta.left.Start.{Start}
 -- needles of which one begins each match
 pub record Engines : Type 0 where
   pub vm : Engine
-  pub dfa : DfaView
+  pub dfa : AlphabetView
   pub closed : Option automata.CacheView
   pub prefilter : Option (List (List ℕ))
   -- or the needle that each match is
@@ -35,7 +35,7 @@ pub record Engines : Type 0 where
 
 -- all search for the same
 pub record AreEngines (e : Engines) : Type 0 where
-  pub dfa : IsDfaOf e.vm.program e.dfa
+  pub dfa : IsAlphabetOf e.vm.program e.dfa
   pub utf8_empty : e.dfa.utf8_empty ≡ e.vm.utf8_empty
   pub closed : IfSome e.closed (IsClosedOf e.vm.program e.dfa)
   pub prefilter : IfSome e.prefilter

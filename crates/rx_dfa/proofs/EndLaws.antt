@@ -10,14 +10,16 @@ use Rattle.rx_steps.specs.declared.asked.AskedLooks.{AskedLooks}
 use Rattle.rx_steps.specs.Alike.{AreBare, StepsAreAlike}
 use Rattle.rx_steps.specs.Unread.{EndsAreMetUnread}
 use Rattle.rx_steps.proofs.AnswerLaws.{KeepingLaw}
+use Rattle.rx_dfa.specs.declared.automaton.Automaton.{Automaton}
 use Rattle.rx_dfa.specs.declared.states.Ahead.{Ahead}
 use Rattle.rx_dfa.specs.declared.states.AutomatonState.{AutomatonState}
 use Rattle.rx_dfa.specs.Behind.{behind_of, quits}
 use Rattle.rx_dfa.specs.Classes.{byte_of, class_of, continues}
 use Rattle.rx_dfa.specs.States.{ahead_of, ahead_of_end, place_of_step, started, start_at, IsStep, EndsSo}
-use Rattle.rx_dfa.specs.Dfas.{DfaView, IsDfaOf, ahead_at, ahead_in, column_count}
+use Rattle.rx_dfa.specs.Alphabets.{ahead_at, ahead_in, column_count}
 use Rattle.rx_dfa.specs.Searching.{AreAskedBy, HasReached, IsBehind, IsHalfAnswer, byte_after, met_after}
 use Rattle.rx_dfa.specs.Passing.{IsLastColumn}
+use Rattle.rx_dfa.specs.Tables.{IsAutomaton}
 use Rattle.rx_dfa.proofs.LoopLaws.{Laws, May, end_answers}
 use Rattle.rx_dfa.proofs.PassLaws.{byte_in_class, quits_alike}
 use Rattle.rx_dfa.proofs.SearchLaws.{byte_there, may_begin_is, none_read}
@@ -46,49 +48,49 @@ ends_unread law p asked utf8_empty x y b bare step =
     }
 
 -- a byte is seen, in whose class the end is told
-pub byte_tells : ((p : ByteProgram) → StepsAreAlike p) → ((p : ByteProgram) → EndsAreMetUnread p) → (p : ByteProgram) (dfa : DfaView) (s : Search) (i b : ℕ) → IsDfaOf p dfa → dfa.utf8_empty ≡ s.utf8_empty → b < 256 → highest s ≤ i → byte_after s i ≡ Some b → quits dfa.asked (Some b) ≡ false
-    → IsLastColumn p dfa s i (class_of dfa.classes b)
-byte_tells alike unread p dfa s i b made same low last seen told =
-    let r = byte_of dfa.classes b in
+pub byte_tells : ((p : ByteProgram) → StepsAreAlike p) → ((p : ByteProgram) → EndsAreMetUnread p) → (a : Automaton) (s : Search) (i b : ℕ) → IsAutomaton a → a.alphabet.now.utf8_empty ≡ s.utf8_empty → b < 256 → highest s ≤ i → byte_after s i ≡ Some b → quits a.alphabet.now.asked (Some b) ≡ false
+    → IsLastColumn a s i (class_of a.alphabet.now.classes b)
+byte_tells alike unread a s i b made same low last seen told =
+    let r = byte_of a.alphabet.now.classes b in
     let class = made.classes b low in
-    let at = byte_in_class p dfa b made low in
-    let is_last = class_of dfa.classes b == length dfa.classes.bytes in
+    let at = byte_in_class a.program.now a.alphabet.now b made low in
+    let is_last = class_of a.alphabet.now.classes b == length a.alphabet.now.classes.bytes in
     record {
       inside = omega (arith, class.has_class);
-      goes_on = subst (λ o. quits dfa.asked (ahead_at dfa.utf8_empty is_last o).seen ≡ false) (sym at) (quits_alike p dfa.asked r b class.alike ∙ told);
+      goes_on = subst (λ o. quits a.alphabet.now.asked (ahead_at a.alphabet.now.utf8_empty is_last o).seen ≡ false) (sym at) (quits_alike a.program.now a.alphabet.now.asked r b class.alike ∙ told);
       tells = λ x y bare step.
-          let by_class : IsStep p dfa.asked x (ahead_of dfa.utf8_empty r) y = subst (λ o. IsStep p dfa.asked x (ahead_at dfa.utf8_empty is_last o) y) at step in
-          let itself = step_alike alike p dfa.asked dfa.utf8_empty x y r b made.asked bare class.alike by_class in
+          let by_class : IsStep a.program.now a.alphabet.now.asked x (ahead_of a.alphabet.now.utf8_empty r) y = subst (λ o. IsStep a.program.now a.alphabet.now.asked x (ahead_at a.alphabet.now.utf8_empty is_last o) y) at step in
+          let itself = step_alike alike a.program.now a.alphabet.now.asked a.alphabet.now.utf8_empty x y r b made.asked bare class.alike by_class in
           record {
-            ahead = ahead_unread dfa.utf8_empty b;
+            ahead = ahead_unread a.alphabet.now.utf8_empty b;
             read = refl;
             here = record {
-              read = none_read p s i last;
+              read = none_read a.program.now s i last;
               seen = seen;
               told = told;
               may_begin = subst (λ u. IsTrue (not u || not (continues b)) ↔ May s i) (sym same) (may_begin_is s i b (byte_there s i b seen).0);
             };
-            ends = ends_unread unread p dfa.asked dfa.utf8_empty x y b bare itself;
+            ends = ends_unread unread a.program.now a.alphabet.now.asked a.alphabet.now.utf8_empty x y b bare itself;
           };
     }
 
 -- the slice ends there
-pub end_tells : (p : ByteProgram) (dfa : DfaView) (s : Search) (i column : ℕ) (may_begin : Bool) → column < column_count dfa → ahead_in dfa column ≡ ahead_of_end may_begin → (IsTrue may_begin ↔ May s i) → highest s ≤ i → byte_after s i ≡ None → IsLastColumn p dfa s i column
-end_tells p dfa s i column may_begin inside is may last seen = record {
+pub end_tells : (a : Automaton) (s : Search) (i column : ℕ) (may_begin : Bool) → column < column_count a.alphabet.now → ahead_in a.alphabet.now column ≡ ahead_of_end may_begin → (IsTrue may_begin ↔ May s i) → highest s ≤ i → byte_after s i ≡ None → IsLastColumn a s i column
+end_tells a s i column may_begin inside is may last seen = record {
   inside = inside;
-  goes_on = ap (λ (a : Ahead). quits dfa.asked a.seen) is;
+  goes_on = ap (λ (z : Ahead). quits a.alphabet.now.asked z.seen) is;
   tells = λ x y bare step. record {
     ahead = ahead_of_end may_begin;
     read = refl;
-    here = record { read = none_read p s i last; seen = seen; told = refl; may_begin = may };
-    ends = record { next = y; step = subst (λ a. IsStep p dfa.asked x a y) is step; ended_is = refl };
+    here = record { read = none_read a.program.now s i last; seen = seen; told = refl; may_begin = may };
+    ends = record { next = y; step = subst (λ z. IsStep a.program.now a.alphabet.now.asked x z y) is step; ended_is = refl };
   };
 }
 
 -- the answer by the end that is told in the last column
-pub last_answers : Laws → (p : ByteProgram) (dfa : DfaView) (s : Search) (q i column : ℕ) (x : AutomatonState) (ended : Option ℕ) (met : Option HalfFound) → IsByteProgram p → KeepingLaw → start_node (characters_of p) s.anchoring ≡ Some q → AreAskedBy p.states dfa.asked
-    → AreBare x.threads.threads → IsInside s i → i ≡ highest s → IsLastColumn p dfa s i column → IsBehind p dfa.asked s i x → EndsSo p dfa.asked x (ahead_in dfa column) ended → HasReached p s q i x met → IsHalfAnswer p s (met_after i ended met)
-last_answers laws p dfa s q i column x ended met reads law starts are bare inside last is behind told reached =
+pub last_answers : Laws → (a : Automaton) (s : Search) (q i column : ℕ) (x : AutomatonState) (ended : Option ℕ) (met : Option HalfFound) → IsByteProgram a.program.now → KeepingLaw → start_node (characters_of a.program.now) s.anchoring ≡ Some q → AreAskedBy a.program.now.states a.alphabet.now.asked
+    → AreBare x.threads.threads → IsInside s i → i ≡ highest s → IsLastColumn a s i column → IsBehind a.program.now a.alphabet.now.asked s i x → EndsSo a.program.now a.alphabet.now.asked x (ahead_in a.alphabet.now column) ended → HasReached a.program.now s q i x met → IsHalfAnswer a.program.now s (met_after i ended met)
+last_answers laws a s q i column x ended met reads law starts are bare inside last is behind told reached =
     let meets = is.tells x told.next bare told.step in
-    let whole = end_answers laws p dfa.asked s q i x meets.ends.next meets.ahead met reads law starts are bare inside last meets.read behind meets.here meets.ends.step reached in
-    subst (λ o. IsHalfAnswer p s (met_after i o met)) (sym meets.ends.ended_is ∙ sym told.ended_is) whole
+    let whole = end_answers laws a.program.now a.alphabet.now.asked s q i x meets.ends.next meets.ahead met reads law starts are bare inside last meets.read behind meets.here meets.ends.step reached in
+    subst (λ o. IsHalfAnswer a.program.now s (met_after i o met)) (sym meets.ends.ended_is ∙ sym told.ended_is) whole

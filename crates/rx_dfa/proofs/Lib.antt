@@ -9,4 +9,4 @@ pub mod SearchLaws
 pub mod InputLaws
 pub mod ScanLaws
 pub mod EndLaws
-pub mod ClosedLaws
+pub mod DenseLaws

@@ -13,7 +13,7 @@ use Rattle.rx_dfa.specs.declared.behind.Behind.{Behind}
 use Rattle.rx_dfa.specs.declared.states.Starting.{Starting}
 use Rattle.rx_dfa.specs.States.{place_of_step, started, start_at, starting_after, IsFirstState, IsStateOf, IsStep}
 use Rattle.rx_steps.specs.Nodes.{widths_of}
-use Rattle.rx_dfa.specs.Dfas.{DfaView, column_count, ahead_in}
+use Rattle.rx_dfa.specs.Alphabets.{AlphabetView, column_count, ahead_in}
 use Rattle.rx_dfa.specs.Caches.{CacheView, LeadsTo, IsEntry, unknown, quit, plain, ends, over, IsEntryTo, unknown_to, plain_to, ends_to, over_to, AreEntries, HasFirst, IsCacheOf, IsBare, IsSameState, KeepNumbers}
 use Rattle.rx_dfa.proofs.ClassLaws.{below_or_not, same_or_not}
 
@@ -94,29 +94,29 @@ same_cell w (suc n) c (suc n') c' lt lt' e =
 
 -- ---- states that keep their numbers
 
-leads_still : (p : ByteProgram) (dfa : DfaView) (states states' : List AutomatonState) (x : AutomatonState) (ahead : Ahead) (number : ℕ) → KeepNumbers states states' → LeadsTo p dfa states x ahead number → LeadsTo p dfa states' x ahead number
-leads_still p dfa states states' x ahead number keep to = record { next = to.next; stands = keep number to.next to.stands; step = to.step; told = to.told }
+leads_still : (p : ByteProgram) (alphabet : AlphabetView) (states states' : List AutomatonState) (x : AutomatonState) (ahead : Ahead) (number : ℕ) → KeepNumbers states states' → LeadsTo p alphabet states x ahead number → LeadsTo p alphabet states' x ahead number
+leads_still p alphabet states states' x ahead number keep to = record { next = to.next; stands = keep number to.next to.stands; step = to.step; told = to.told }
 
-entry_still : (p : ByteProgram) (dfa : DfaView) (w : ℕ) (states states' : List AutomatonState) (x : AutomatonState) (ahead : Ahead) (entry : ℕ) → KeepNumbers states states' → IsEntry p dfa w states x ahead entry → IsEntry p dfa w states' x ahead entry
+entry_still : (p : ByteProgram) (alphabet : AlphabetView) (w : ℕ) (states states' : List AutomatonState) (x : AutomatonState) (ahead : Ahead) (entry : ℕ) → KeepNumbers states states' → IsEntry p alphabet w states x ahead entry → IsEntry p alphabet w states' x ahead entry
 unfolding leads_still
-entry_still p dfa w states states' x ahead entry keep (unknown e) = unknown e
-entry_still p dfa w states states' x ahead entry keep (quit e is) = quit e is
-entry_still p dfa w states states' x ahead entry keep (plain {number} to e below none) = plain (leads_still p dfa states states' x ahead number keep to) e below none
-entry_still p dfa w states states' x ahead entry keep (ends {number} to e below some) = ends (leads_still p dfa states states' x ahead number keep to) e below some
-entry_still p dfa w states states' x ahead entry keep (over {number} to e below) = over (leads_still p dfa states states' x ahead number keep to) e below
+entry_still p alphabet w states states' x ahead entry keep (unknown e) = unknown e
+entry_still p alphabet w states states' x ahead entry keep (quit e is) = quit e is
+entry_still p alphabet w states states' x ahead entry keep (plain {number} to e below none) = plain (leads_still p alphabet states states' x ahead number keep to) e below none
+entry_still p alphabet w states states' x ahead entry keep (ends {number} to e below some) = ends (leads_still p alphabet states states' x ahead number keep to) e below some
+entry_still p alphabet w states states' x ahead entry keep (over {number} to e below) = over (leads_still p alphabet states states' x ahead number keep to) e below
 
 -- ---- a state is added
 
 keep_first : (states : List AutomatonState) (z : AutomatonState) → KeepNumbers states (states ++ z ∷ [])
 keep_first states z number x e = get_first states (z ∷ []) number x e
 
-entries_more : (p : ByteProgram) (dfa : DfaView) (w : ℕ) (states : List AutomatonState) (table : List ℕ) (z : AutomatonState) → length table ≡ length states * w → AreEntries p dfa w states table
-    → AreEntries p dfa w (states ++ z ∷ []) (table ++ replicate w 4294967295)
-entries_more p dfa w states table z rows entries number column entry x stands in_row is = elim (below_or_not number (length states)) [
+entries_more : (p : ByteProgram) (alphabet : AlphabetView) (w : ℕ) (states : List AutomatonState) (table : List ℕ) (z : AutomatonState) → length table ≡ length states * w → AreEntries p alphabet w states table
+    → AreEntries p alphabet w (states ++ z ∷ []) (table ++ replicate w 4294967295)
+entries_more p alphabet w states table z rows entries number column entry x stands in_row is = elim (below_or_not number (length states)) [
   | inl lt ↦
       let here : slice_get states number ≡ Some x = sym (get_front states (z ∷ []) number lt) ∙ stands in
       let inside : number * w + column < length table = omega (arith, row_room number w (length states) lt, in_row, rows) in
-      entry_still p dfa w states (states ++ z ∷ []) x (ahead_in dfa column) entry (keep_first states z)
+      entry_still p alphabet w states (states ++ z ∷ []) x (ahead_in alphabet column) entry (keep_first states z)
       (entries number column entry x here in_row (sym (get_front table (replicate w 4294967295) (number * w + column) inside) ∙ is))
   | inr ge ↦
       let past : length table ≤ number * w + column = omega (arith, rows_rise number w (length states) ge, rows) in
@@ -124,9 +124,9 @@ entries_more p dfa w states table z rows entries number column entry x stands in
       unknown (get_repeated w 4294967295 behind.0 entry (sym behind.1 ∙ is))
 ]
 
-pub cache_more : (p : ByteProgram) (dfa : DfaView) (cache after : CacheView) (z : AutomatonState) → IsCacheOf p dfa cache → IsStateOf p z → after.table ≡ cache.table ++ replicate cache.width 4294967295 → after.states ≡ cache.states ++ z ∷ []
-    → after.widths ≡ cache.widths → after.width ≡ cache.width → IsCacheOf p dfa after
-cache_more p dfa cache after z made state table states widths width = record {
+pub cache_more : (p : ByteProgram) (alphabet : AlphabetView) (cache after : CacheView) (z : AutomatonState) → IsCacheOf p alphabet cache → IsStateOf p z → after.table ≡ cache.table ++ replicate cache.width 4294967295 → after.states ≡ cache.states ++ z ∷ []
+    → after.widths ≡ cache.widths → after.width ≡ cache.width → IsCacheOf p alphabet after
+cache_more p alphabet cache after z made state table states widths width = record {
   widths = widths ∙ made.widths;
   width = width ∙ made.width;
   states = subst (All (IsStateOf p)) (sym states) (All-append (IsStateOf p) cache.states (z ∷ []) made.states (All-cons (IsStateOf p) z [] state (All-nil (IsStateOf p))));
@@ -136,9 +136,9 @@ cache_more p dfa cache after z made state table states widths width = record {
       ap length table ∙ length-append cache.table (replicate cache.width 4294967295)
       ∙ omega (arith, made.rows, length-replicate {A = ℕ} cache.width 4294967295, suc-mul (length cache.states) cache.width)
       ∙ sym (ap (λ n. n * after.width) (ap length states ∙ one ∙ more) ∙ ap (λ w. suc (length cache.states) * w) width);
-  entries = subst (λ xs. AreEntries p dfa after.width xs after.table) (sym states)
-      (subst (λ t. AreEntries p dfa after.width (cache.states ++ z ∷ []) t) (sym table)
-      (subst (λ w. AreEntries p dfa w (cache.states ++ z ∷ []) (cache.table ++ replicate cache.width 4294967295)) (sym width) (entries_more p dfa cache.width cache.states cache.table z made.rows made.entries)));
+  entries = subst (λ xs. AreEntries p alphabet after.width xs after.table) (sym states)
+      (subst (λ t. AreEntries p alphabet after.width (cache.states ++ z ∷ []) t) (sym table)
+      (subst (λ w. AreEntries p alphabet w (cache.states ++ z ∷ []) (cache.table ++ replicate cache.width 4294967295)) (sym width) (entries_more p alphabet cache.width cache.states cache.table z made.rows made.entries)));
 }
 
 pub kept_more : (before after : List AutomatonState) (z : AutomatonState) → after ≡ before ++ z ∷ [] → KeepNumbers before after
@@ -147,8 +147,8 @@ kept_more before after z e = subst (λ xs. KeepNumbers before xs) (sym e) (keep_
 pub stands_last : (before after : List AutomatonState) (z : AutomatonState) (number : ℕ) → after ≡ before ++ z ∷ [] → number ≡ length before → slice_get after number ≡ Some z
 stands_last before after z number e f = ap (λ xs. slice_get xs number) e ∙ ap (λ k. slice_get (before ++ z ∷ []) k) f ∙ get_last before z
 
-pub cache_none : (p : ByteProgram) (dfa : DfaView) (after : CacheView) → after.widths ≡ widths_of p → after.width ≡ column_count dfa → after.table ≡ [] → after.states ≡ [] → IsCacheOf p dfa after
-cache_none p dfa after widths width table states = record {
+pub cache_none : (p : ByteProgram) (alphabet : AlphabetView) (after : CacheView) → after.widths ≡ widths_of p → after.width ≡ column_count alphabet → after.table ≡ [] → after.states ≡ [] → IsCacheOf p alphabet after
+cache_none p alphabet after widths width table states = record {
   widths = widths;
   width = width;
   states = subst (All (IsStateOf p)) (sym states) (All-nil (IsStateOf p));
@@ -161,41 +161,41 @@ cache_none p dfa after widths width table states = record {
 }
 
 -- no state, and no row
-pub cache_empty : (p : ByteProgram) (dfa : DfaView) (cache after : CacheView) → IsCacheOf p dfa cache → after.widths ≡ cache.widths → after.width ≡ cache.width → after.table ≡ [] → after.states ≡ [] → IsCacheOf p dfa after
-cache_empty p dfa cache after made widths width table states = cache_none p dfa after (widths ∙ made.widths) (width ∙ made.width) table states
+pub cache_empty : (p : ByteProgram) (alphabet : AlphabetView) (cache after : CacheView) → IsCacheOf p alphabet cache → after.widths ≡ cache.widths → after.width ≡ cache.width → after.table ≡ [] → after.states ≡ [] → IsCacheOf p alphabet after
+cache_empty p alphabet cache after made widths width table states = cache_none p alphabet after (widths ∙ made.widths) (width ∙ made.width) table states
 
 -- ---- an entry is set
 
-entries_set : (p : ByteProgram) (dfa : DfaView) (w : ℕ) (states : List AutomatonState) (table : List ℕ) (number column entry : ℕ) (x : AutomatonState) → slice_get states number ≡ Some x → column < w → IsEntry p dfa w states x (ahead_in dfa column) entry
-    → AreEntries p dfa w states table → AreEntries p dfa w states (set table (number * w + column) entry)
-entries_set p dfa w states table number column entry x stands in_row right entries number' column' entry' x' stands' in_row' is = elim (same_or_not (number' * w + column') (number * w + column)) [
+entries_set : (p : ByteProgram) (alphabet : AlphabetView) (w : ℕ) (states : List AutomatonState) (table : List ℕ) (number column entry : ℕ) (x : AutomatonState) → slice_get states number ≡ Some x → column < w → IsEntry p alphabet w states x (ahead_in alphabet column) entry
+    → AreEntries p alphabet w states table → AreEntries p alphabet w states (set table (number * w + column) entry)
+entries_set p alphabet w states table number column entry x stands in_row right entries number' column' entry' x' stands' in_row' is = elim (same_or_not (number' * w + column') (number * w + column)) [
   | inr other ↦ entries number' column' entry' x' stands' in_row' (sym (get_other table (number * w + column) (number' * w + column') entry other) ∙ is)
   | inl e ↦
       let cell = same_cell w number' column' number column in_row' in_row e in
       let same_state : x ≡ x' = the_same stands (ap (λ k. slice_get states k) (sym cell.0) ∙ stands') in
       let same_entry : entry' ≡ entry = get_set table (number * w + column) entry entry' (ap (λ k. slice_get (set table (number * w + column) entry) k) (sym e) ∙ is) in
-      subst (λ k. IsEntry p dfa w states x' (ahead_in dfa column') k) (sym same_entry)
-      (subst (λ k. IsEntry p dfa w states x' (ahead_in dfa k) entry) (sym cell.1) (subst (λ y. IsEntry p dfa w states y (ahead_in dfa column) entry) same_state right))
+      subst (λ k. IsEntry p alphabet w states x' (ahead_in alphabet column') k) (sym same_entry)
+      (subst (λ k. IsEntry p alphabet w states x' (ahead_in alphabet k) entry) (sym cell.1) (subst (λ y. IsEntry p alphabet w states y (ahead_in alphabet column) entry) same_state right))
 ]
 
-pub cache_set : (p : ByteProgram) (dfa : DfaView) (cache after : CacheView) (number column entry : ℕ) (x : AutomatonState) → IsCacheOf p dfa cache → slice_get cache.states number ≡ Some x → column < cache.width
-    → IsEntry p dfa cache.width cache.states x (ahead_in dfa column) entry → after.table ≡ set cache.table (number * cache.width + column) entry → after.states ≡ cache.states → after.widths ≡ cache.widths → after.width ≡ cache.width → IsCacheOf p dfa after
-cache_set p dfa cache after number column entry x made stands in_row right table states widths width = record {
+pub cache_set : (p : ByteProgram) (alphabet : AlphabetView) (cache after : CacheView) (number column entry : ℕ) (x : AutomatonState) → IsCacheOf p alphabet cache → slice_get cache.states number ≡ Some x → column < cache.width
+    → IsEntry p alphabet cache.width cache.states x (ahead_in alphabet column) entry → after.table ≡ set cache.table (number * cache.width + column) entry → after.states ≡ cache.states → after.widths ≡ cache.widths → after.width ≡ cache.width → IsCacheOf p alphabet after
+cache_set p alphabet cache after number column entry x made stands in_row right table states widths width = record {
   widths = widths ∙ made.widths;
   width = width ∙ made.width;
   states = subst (All (IsStateOf p)) (sym states) made.states;
   rows = ap length table ∙ length-set cache.table (number * cache.width + column) entry ∙ made.rows ∙ ap (λ w. length cache.states * w) (sym width) ∙ ap (λ xs. length xs * after.width) (sym states);
-  entries = subst (λ xs. AreEntries p dfa after.width xs after.table) (sym states)
-      (subst (λ t. AreEntries p dfa after.width cache.states t) (sym table)
-      (subst (λ w. AreEntries p dfa w cache.states (set cache.table (number * cache.width + column) entry)) (sym width)
-      (entries_set p dfa cache.width cache.states cache.table number column entry x stands in_row right made.entries)));
+  entries = subst (λ xs. AreEntries p alphabet after.width xs after.table) (sym states)
+      (subst (λ t. AreEntries p alphabet after.width cache.states t) (sym table)
+      (subst (λ w. AreEntries p alphabet w cache.states (set cache.table (number * cache.width + column) entry)) (sym width)
+      (entries_set p alphabet cache.width cache.states cache.table number column entry x stands in_row right made.entries)));
 }
 
 -- ---- steps
 
 -- a step to the state that is made is one to each that is the same
-pub step_same : (p : ByteProgram) (dfa : DfaView) (x y z : AutomatonState) (ahead : Ahead) → IsStep p dfa.asked x ahead y → IsSameState y z → IsStep p dfa.asked x ahead z
-step_same p dfa x y z ahead step same = record {
+pub step_same : (p : ByteProgram) (alphabet : AlphabetView) (x y z : AutomatonState) (ahead : Ahead) → IsStep p alphabet.asked x ahead y → IsSameState y z → IsStep p alphabet.asked x ahead z
+step_same p alphabet x y z ahead step same = record {
   next = step.next;
   slots = step.slots;
   list = subst (λ o. IsNextList p (place_of_step p.line_terminator x ahead) (x.threads.threads ++ started (start_at x.starting ahead.may_begin)) step.next o step.slots) (sym same.ended) step.list;
@@ -205,20 +205,20 @@ step_same p dfa x y z ahead step same = record {
 }
 
 -- the entry that leads to a state that a step has come to
-pub entry_right : (p : ByteProgram) (dfa : DfaView) (w : ℕ) (states : List AutomatonState) (x : AutomatonState) (ahead : Ahead) (number entry : ℕ) (to : LeadsTo p dfa states x ahead number) → IsEntryTo w to.next number entry → IsEntry p dfa w states x ahead entry
-entry_right p dfa w states x ahead number entry to (unknown_to e) = unknown e
-entry_right p dfa w states x ahead number entry to (plain_to e below none) = plain to e below none
-entry_right p dfa w states x ahead number entry to (ends_to e below some) = ends to e below some
-entry_right p dfa w states x ahead number entry to (over_to e below) = over to e below
+pub entry_right : (p : ByteProgram) (alphabet : AlphabetView) (w : ℕ) (states : List AutomatonState) (x : AutomatonState) (ahead : Ahead) (number entry : ℕ) (to : LeadsTo p alphabet states x ahead number) → IsEntryTo w to.next number entry → IsEntry p alphabet w states x ahead entry
+entry_right p alphabet w states x ahead number entry to (unknown_to e) = unknown e
+entry_right p alphabet w states x ahead number entry to (plain_to e below none) = plain to e below none
+entry_right p alphabet w states x ahead number entry to (ends_to e below some) = ends to e below some
+entry_right p alphabet w states x ahead number entry to (over_to e below) = over to e below
 
 -- what an entry leads to
-pub entry_steps : (p : ByteProgram) (dfa : DfaView) (w : ℕ) (states : List AutomatonState) (x : AutomatonState) (ahead : Ahead) (entry at : ℕ) → (entry ≡ 4294967295 → ⊥) → (entry ≡ 4294967294 → ⊥) → ((number : ℕ) → entry ≡ number * w → entry < 2147483648 → at ≡ number)
-    → ((number : ℕ) → entry ≡ 2147483648 + number * w → entry < 3221225472 → at ≡ number) → ((number : ℕ) → entry ≡ 3221225472 + number * w → at ≡ number) → IsEntry p dfa w states x ahead entry → LeadsTo p dfa states x ahead at
-entry_steps p dfa w states x ahead entry at known goes plain_at ends_at over_at (unknown e) = absurd (known e)
-entry_steps p dfa w states x ahead entry at known goes plain_at ends_at over_at (quit e is) = absurd (goes e)
-entry_steps p dfa w states x ahead entry at known goes plain_at ends_at over_at (plain {number} to e below none) = subst (λ k. LeadsTo p dfa states x ahead k) (sym (plain_at number e below)) to
-entry_steps p dfa w states x ahead entry at known goes plain_at ends_at over_at (ends {number} to e below some) = subst (λ k. LeadsTo p dfa states x ahead k) (sym (ends_at number e below)) to
-entry_steps p dfa w states x ahead entry at known goes plain_at ends_at over_at (over {number} to e below) = subst (λ k. LeadsTo p dfa states x ahead k) (sym (over_at number e)) to
+pub entry_steps : (p : ByteProgram) (alphabet : AlphabetView) (w : ℕ) (states : List AutomatonState) (x : AutomatonState) (ahead : Ahead) (entry at : ℕ) → (entry ≡ 4294967295 → ⊥) → (entry ≡ 4294967294 → ⊥) → ((number : ℕ) → entry ≡ number * w → entry < 2147483648 → at ≡ number)
+    → ((number : ℕ) → entry ≡ 2147483648 + number * w → entry < 3221225472 → at ≡ number) → ((number : ℕ) → entry ≡ 3221225472 + number * w → at ≡ number) → IsEntry p alphabet w states x ahead entry → LeadsTo p alphabet states x ahead at
+entry_steps p alphabet w states x ahead entry at known goes plain_at ends_at over_at (unknown e) = absurd (known e)
+entry_steps p alphabet w states x ahead entry at known goes plain_at ends_at over_at (quit e is) = absurd (goes e)
+entry_steps p alphabet w states x ahead entry at known goes plain_at ends_at over_at (plain {number} to e below none) = subst (λ k. LeadsTo p alphabet states x ahead k) (sym (plain_at number e below)) to
+entry_steps p alphabet w states x ahead entry at known goes plain_at ends_at over_at (ends {number} to e below some) = subst (λ k. LeadsTo p alphabet states x ahead k) (sym (ends_at number e below)) to
+entry_steps p alphabet w states x ahead entry at known goes plain_at ends_at over_at (over {number} to e below) = subst (λ k. LeadsTo p alphabet states x ahead k) (sym (over_at number e)) to
 
 pub all_bare : (p : ByteProgram) (states : List AutomatonState) → All (IsStateOf p) states → All IsBare states
 all_bare p states all = λ k d lt. (all k d lt).bare
@@ -238,9 +238,9 @@ pub keep_all : (states : List AutomatonState) → KeepNumbers states states
 keep_all states number x e = e
 
 -- a step to a state that is made leads to the state that is found for it
-pub leads_to_found : (p : ByteProgram) (dfa : DfaView) (states : List AutomatonState) (x made : AutomatonState) (ahead : Ahead) (number : ℕ) → IsStep p dfa.asked x ahead made → quits dfa.asked ahead.seen ≡ false
-    → (y : AutomatonState) × (slice_get states number ≡ Some y) × IsSameState made y → LeadsTo p dfa states x ahead number
-leads_to_found p dfa states x made ahead number step told (y, stands, same) = record { next = y; stands = stands; step = step_same p dfa x made y ahead step same; told = told }
+pub leads_to_found : (p : ByteProgram) (alphabet : AlphabetView) (states : List AutomatonState) (x made : AutomatonState) (ahead : Ahead) (number : ℕ) → IsStep p alphabet.asked x ahead made → quits alphabet.asked ahead.seen ≡ false
+    → (y : AutomatonState) × (slice_get states number ≡ Some y) × IsSameState made y → LeadsTo p alphabet states x ahead number
+leads_to_found p alphabet states x made ahead number step told (y, stands, same) = record { next = y; stands = stands; step = step_same p alphabet x made y ahead step same; told = told }
 
 pub there_is : {A : Type 0} (xs : List A) (k : ℕ) → k < length xs → (x : A) × (slice_get xs k ≡ Some x)
 there_is [] k lt = absurd (omega (arith, lt))
@@ -249,22 +249,22 @@ there_is (x ∷ xs) (suc k) lt = there_is xs k (omega (arith, lt))
 
 -- ---- a step is entered
 
-pub quit_set : (p : ByteProgram) (dfa : DfaView) (cache after : CacheView) (number column : ℕ) → IsCacheOf p dfa cache → number < length cache.states → column < cache.width → quits dfa.asked (ahead_in dfa column).seen ≡ true
-    → after.table ≡ set cache.table (number * cache.width + column) 4294967294 → after.states ≡ cache.states → after.widths ≡ cache.widths → after.width ≡ cache.width → IsCacheOf p dfa after
-quit_set p dfa cache after number column made lt in_row told table states widths width =
+pub quit_set : (p : ByteProgram) (alphabet : AlphabetView) (cache after : CacheView) (number column : ℕ) → IsCacheOf p alphabet cache → number < length cache.states → column < cache.width → quits alphabet.asked (ahead_in alphabet column).seen ≡ true
+    → after.table ≡ set cache.table (number * cache.width + column) 4294967294 → after.states ≡ cache.states → after.widths ≡ cache.widths → after.width ≡ cache.width → IsCacheOf p alphabet after
+quit_set p alphabet cache after number column made lt in_row told table states widths width =
     let here = there_is cache.states number lt in
-    cache_set p dfa cache after number column 4294967294 here.0 made here.1 in_row (quit refl told) table states widths width
+    cache_set p alphabet cache after number column 4294967294 here.0 made here.1 in_row (quit refl told) table states widths width
 
-pub step_set : (p : ByteProgram) (dfa : DfaView) (cache after : CacheView) (number column next entry : ℕ) (x : AutomatonState) → IsCacheOf p dfa cache → slice_get cache.states number ≡ Some x → column < cache.width
-    → LeadsTo p dfa cache.states x (ahead_in dfa column) next → ((y : AutomatonState) → slice_get cache.states next ≡ Some y → IsEntryTo cache.width y next entry)
-    → after.table ≡ set cache.table (number * cache.width + column) entry → after.states ≡ cache.states → after.widths ≡ cache.widths → after.width ≡ cache.width → IsCacheOf p dfa after
-step_set p dfa cache after number column next entry x made stands in_row to is_to table states widths width =
-    cache_set p dfa cache after number column entry x made stands in_row (entry_right p dfa cache.width cache.states x (ahead_in dfa column) next entry to (is_to to.next to.stands)) table states widths width
+pub step_set : (p : ByteProgram) (alphabet : AlphabetView) (cache after : CacheView) (number column next entry : ℕ) (x : AutomatonState) → IsCacheOf p alphabet cache → slice_get cache.states number ≡ Some x → column < cache.width
+    → LeadsTo p alphabet cache.states x (ahead_in alphabet column) next → ((y : AutomatonState) → slice_get cache.states next ≡ Some y → IsEntryTo cache.width y next entry)
+    → after.table ≡ set cache.table (number * cache.width + column) entry → after.states ≡ cache.states → after.widths ≡ cache.widths → after.width ≡ cache.width → IsCacheOf p alphabet after
+step_set p alphabet cache after number column next entry x made stands in_row to is_to table states widths width =
+    cache_set p alphabet cache after number column entry x made stands in_row (entry_right p alphabet cache.width cache.states x (ahead_in alphabet column) next entry to (is_to to.next to.stands)) table states widths width
 
 -- before what stands there a search can't go on
-pub entry_quits : (p : ByteProgram) (dfa : DfaView) (w : ℕ) (states : List AutomatonState) (x : AutomatonState) (ahead : Ahead) (entry : ℕ) → entry ≡ 4294967294 → IsEntry p dfa w states x ahead entry → quits dfa.asked ahead.seen ≡ true
-entry_quits p dfa w states x ahead entry is (unknown e) = absurd (omega (arith, is, e))
-entry_quits p dfa w states x ahead entry is (quit e told) = told
-entry_quits p dfa w states x ahead entry is (plain to e below none) = absurd (omega (arith, is, below))
-entry_quits p dfa w states x ahead entry is (ends to e below some) = absurd (omega (arith, is, below))
-entry_quits p dfa w states x ahead entry is (over to e below) = absurd (omega (arith, is, below))
+pub entry_quits : (p : ByteProgram) (alphabet : AlphabetView) (w : ℕ) (states : List AutomatonState) (x : AutomatonState) (ahead : Ahead) (entry : ℕ) → entry ≡ 4294967294 → IsEntry p alphabet w states x ahead entry → quits alphabet.asked ahead.seen ≡ true
+entry_quits p alphabet w states x ahead entry is (unknown e) = absurd (omega (arith, is, e))
+entry_quits p alphabet w states x ahead entry is (quit e told) = told
+entry_quits p alphabet w states x ahead entry is (plain to e below none) = absurd (omega (arith, is, below))
+entry_quits p alphabet w states x ahead entry is (ends to e below some) = absurd (omega (arith, is, below))
+entry_quits p alphabet w states x ahead entry is (over to e below) = absurd (omega (arith, is, below))

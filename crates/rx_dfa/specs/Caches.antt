@@ -3,13 +3,14 @@ use Rattle.std.specs.Prelude.{◌≡◌, ℕ, ◌+◌, ◌*◌, ◌<◌, true, f
 use Rattle.rx_program.specs.Programs.{ByteProgram}
 use Rattle.rx_steps.specs.Nodes.{widths_of}
 use Rattle.rx_steps.specs.Alike.{AreBare}
+use Rattle.rx_dfa.specs.declared.cache.TheConstants.{ENDS, QUIT, STOPS, UNKNOWN}
 use Rattle.rx_dfa.specs.declared.states.Ahead.{Ahead}
 use Rattle.rx_dfa.specs.declared.states.AutomatonState.{AutomatonState}
 use Rattle.rx_dfa.specs.declared.behind.Behind.{Behind}
 use Rattle.rx_dfa.specs.declared.states.Starting.{Starting}
 use Rattle.rx_dfa.specs.Behind.{quits}
 use Rattle.rx_dfa.specs.States.{IsFirstState, IsStateOf, IsStep}
-use Rattle.rx_dfa.specs.Dfas.{DfaView, column_count, ahead_in}
+use Rattle.rx_dfa.specs.Alphabets.{AlphabetView, column_count, ahead_in}
 
 -- how many nodes each state is of the program that a cache was made for; how many entries a row
 -- has, the rows one after the other; and the state of each row
@@ -20,60 +21,60 @@ pub record CacheView : Type 0 where
   pub states : List AutomatonState
 
 -- the state with this number is one to which a state leads
-pub record LeadsTo (p : ByteProgram) (dfa : DfaView) (states : List AutomatonState)
+pub record LeadsTo (p : ByteProgram) (alphabet : AlphabetView) (states : List AutomatonState)
     (x : AutomatonState) (ahead : Ahead) (number : ℕ) : Type 0 where
   pub next : AutomatonState
   pub stands : slice_get states number ≡ Some next
-  pub step : IsStep p dfa.asked x ahead next
-  pub told : quits dfa.asked ahead.seen ≡ false
+  pub step : IsStep p alphabet.asked x ahead next
+  pub told : quits alphabet.asked ahead.seen ≡ false
 
 -- what an entry says of a state and what stands ahead: nothing; that a search can't go on; or where
--- the row of the next state begins, with the highest bit set where an end is met, and with the two
--- highest ones where a search has to look at that state
-pub data IsEntry (p : ByteProgram) (dfa : DfaView) (width : ℕ) (states : List AutomatonState)
-    (x : AutomatonState) (ahead : Ahead) (entry : ℕ) : Type 0 where
-  unknown : entry ≡ 4294967295 → IsEntry p dfa width states x ahead entry
-  quit : entry ≡ 4294967294 → quits dfa.asked ahead.seen ≡ true
-      → IsEntry p dfa width states x ahead entry
-  plain : {number : ℕ} (to : LeadsTo p dfa states x ahead number) → entry ≡ number * width
-      → entry < 2147483648 → to.next.ended ≡ None → IsEntry p dfa width states x ahead entry
-  ends : {number : ℕ} (to : LeadsTo p dfa states x ahead number)
-      → entry ≡ 2147483648 + number * width → entry < 3221225472 → IsSome to.next.ended
-      → IsEntry p dfa width states x ahead entry
-  over : {number : ℕ} → LeadsTo p dfa states x ahead number
-      → entry ≡ 3221225472 + number * width → entry < 4294967294
-      → IsEntry p dfa width states x ahead entry
+-- the row of the next state begins, from `ENDS` on where an end is met, and from `STOPS` on where a
+-- search has to look at that state
+pub data IsEntry (p : ByteProgram) (alphabet : AlphabetView) (width : ℕ)
+    (states : List AutomatonState) (x : AutomatonState) (ahead : Ahead) (entry : ℕ) : Type 0 where
+  unknown : entry ≡ UNKNOWN → IsEntry p alphabet width states x ahead entry
+  quit : entry ≡ QUIT → quits alphabet.asked ahead.seen ≡ true
+      → IsEntry p alphabet width states x ahead entry
+  plain : {number : ℕ} (to : LeadsTo p alphabet states x ahead number) → entry ≡ number * width
+      → entry < ENDS → to.next.ended ≡ None → IsEntry p alphabet width states x ahead entry
+  ends : {number : ℕ} (to : LeadsTo p alphabet states x ahead number)
+      → entry ≡ ENDS + number * width → entry < STOPS → IsSome to.next.ended
+      → IsEntry p alphabet width states x ahead entry
+  over : {number : ℕ} → LeadsTo p alphabet states x ahead number
+      → entry ≡ STOPS + number * width → entry < QUIT
+      → IsEntry p alphabet width states x ahead entry
 
 -- an entry leads to this state, or tells nothing
 pub data IsEntryTo (width : ℕ) (y : AutomatonState) (number entry : ℕ) : Type 0 where
-  unknown_to : entry ≡ 4294967295 → IsEntryTo width y number entry
-  plain_to : entry ≡ number * width → entry < 2147483648 → y.ended ≡ None
+  unknown_to : entry ≡ UNKNOWN → IsEntryTo width y number entry
+  plain_to : entry ≡ number * width → entry < ENDS → y.ended ≡ None
       → IsEntryTo width y number entry
-  ends_to : entry ≡ 2147483648 + number * width → entry < 3221225472 → IsSome y.ended
+  ends_to : entry ≡ ENDS + number * width → entry < STOPS → IsSome y.ended
       → IsEntryTo width y number entry
-  over_to : entry ≡ 3221225472 + number * width → entry < 4294967294
+  over_to : entry ≡ STOPS + number * width → entry < QUIT
       → IsEntryTo width y number entry
 
 -- a step came to a state, or can't be made
-abbrev pub HasStepped : ByteProgram → DfaView → List AutomatonState → AutomatonState → Ahead
+abbrev pub HasStepped : ByteProgram → AlphabetView → List AutomatonState → AutomatonState → Ahead
     → Option ℕ → Type 0
-HasStepped p dfa states x ahead None = quits dfa.asked ahead.seen ≡ true
-HasStepped p dfa states x ahead (Some number) = LeadsTo p dfa states x ahead number
+HasStepped p alphabet states x ahead None = quits alphabet.asked ahead.seen ≡ true
+HasStepped p alphabet states x ahead (Some number) = LeadsTo p alphabet states x ahead number
 
 -- each entry of each row is right
-abbrev pub AreEntries : ByteProgram → DfaView → ℕ → List AutomatonState → List ℕ → Type 0
-AreEntries p dfa width states table = (number column entry : ℕ) (x : AutomatonState)
+abbrev pub AreEntries : ByteProgram → AlphabetView → ℕ → List AutomatonState → List ℕ → Type 0
+AreEntries p alphabet width states table = (number column entry : ℕ) (x : AutomatonState)
     → slice_get states number ≡ Some x → column < width
     → slice_get table (number * width + column) ≡ Some entry
-    → IsEntry p dfa width states x (ahead_in dfa column) entry
+    → IsEntry p alphabet width states x (ahead_in alphabet column) entry
 
 -- a cache of an automaton of a program
-pub record IsCacheOf (p : ByteProgram) (dfa : DfaView) (cache : CacheView) : Type 0 where
+pub record IsCacheOf (p : ByteProgram) (alphabet : AlphabetView) (cache : CacheView) : Type 0 where
   pub widths : cache.widths ≡ widths_of p
-  pub width : cache.width ≡ column_count dfa
+  pub width : cache.width ≡ column_count alphabet
   pub states : All (IsStateOf p) cache.states
   pub rows : length cache.table ≡ length cache.states * cache.width
-  pub entries : AreEntries p dfa cache.width cache.states cache.table
+  pub entries : AreEntries p alphabet cache.width cache.states cache.table
 
 -- the state with this number is one in which a search stands at its first place
 pub record HasFirst (states : List AutomatonState) (starting : Starting) (behind : Behind)

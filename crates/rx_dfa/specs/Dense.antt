@@ -1,13 +1,13 @@
 -- Engines that search by closed automata.
 use Rattle.std.specs.Prelude.{◌≡◌}
 use Rattle.rx_chunk.specs.Engines.{Engine}
-use Rattle.rx_dfa.specs.Dfas.{DfaView, IsDfaOf}
+use Rattle.rx_dfa.specs.Alphabets.{AlphabetView, IsAlphabetOf}
 use Rattle.rx_dfa.specs.Caches.{CacheView}
-use Rattle.rx_dfa.specs.Closed.{IsClosedOf}
+use Rattle.rx_dfa.specs.DenseTables.{IsClosedOf}
 
 -- an automaton, and all its states and steps
 pub record AutomatonView : Type 0 where
-  pub dfa : DfaView
+  pub dfa : AlphabetView
   pub closed : CacheView
 
 -- an engine, and the automaton of its program
@@ -17,6 +17,6 @@ pub record DenseView : Type 0 where
 
 -- they pass over the same empty matches, and the automaton is closed
 pub record IsDense (re : DenseView) : Type 0 where
-  pub dfa : IsDfaOf re.engine.program re.automaton.dfa
+  pub dfa : IsAlphabetOf re.engine.program re.automaton.dfa
   pub utf8_empty : re.automaton.dfa.utf8_empty ≡ re.engine.utf8_empty
   pub closed : IsClosedOf re.engine.program re.automaton.dfa re.automaton.closed

@@ -3,16 +3,16 @@ use Rattle.std.specs.Prelude.{◌≡◌, ℕ, List, Some, slice_get}
 use Rattle.std.specs.Borrow.{Bor}
 use Rattle.rx_program.specs.declared.error.BuildError.{BuildError}
 use Rattle.rx_chunk.specs.Engines.{Engine, IsBuiltOf, IsRefused, by_default}
-use Rattle.rx_dfa.specs.Dfas.{DfaView, IsDfaOf}
+use Rattle.rx_dfa.specs.Alphabets.{AlphabetView, IsAlphabetOf}
 
 -- an engine, and the automaton of its program
 pub record HybridView : Type 0 where
   pub engine : Engine
-  pub dfa : DfaView
+  pub dfa : AlphabetView
 
 -- they pass over the same empty matches
 pub record IsHybrid (re : HybridView) : Type 0 where
-  pub dfa : IsDfaOf re.engine.program re.dfa
+  pub dfa : IsAlphabetOf re.engine.program re.dfa
   pub utf8_empty : re.dfa.utf8_empty ≡ re.engine.utf8_empty
 
 -- it was built of the first pattern, under default settings

@@ -2,9 +2,10 @@ pub mod Classes
 pub mod Behind
 pub mod States
 pub mod Searching
-pub mod Dfas
+pub mod Alphabets
 pub mod Caches
 pub mod Passing
-pub mod Closed
+pub mod DenseTables
+pub mod Tables
 pub mod Hybrid
 pub mod Dense

@@ -53,7 +53,8 @@ pub record IsStateOf (p : ByteProgram) (x : AutomatonState) : Type 0 where
   pub bare : AreBare x.threads.threads
   pub threads : All (IsThreadOf p.states) x.threads.threads
 
--- the state in which a search stands at its first place, where walks start so and this stands before
+-- the state in which a search stands at its first place, where walks start so and this stands
+-- before
 pub record IsFirstState (starting : Starting) (behind : Behind) (x : AutomatonState) : Type 0 where
   pub threads : x.threads.threads ≡ []
   pub starting_is : x.starting ≡ starting

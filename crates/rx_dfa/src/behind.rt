@@ -1,7 +1,7 @@
 //! What looks have to know of a place: by one byte on each side, or none.
 
 ghost use Rattle.std.specs.Prelude.{◌≡◌, ◌<◌, true, false, Some, None, IfSome};
-ghost use Rattle.rx_dfa.specs.Closed.{MayBeByte};
+ghost use Rattle.rx_dfa.specs.DenseTables.{MayBeByte};
 ghost use Rattle.rx_dfa.specs.Behind.{is_word_ascii, behind_of, looks_of, quits, ends_line_at, is_word_at, starts_line, was_word, is_start, is_end};
 
 use rx_steps::{AskedLooks, Looks};

@@ -1,18 +1,20 @@
 //! The states of an automaton that searches have come to, and the table of the steps between them.
 
-ghost use Rattle.std.specs.Prelude.{◌≡◌, ◌⊎◌, ◌+◌, ◌*◌, ◌<◌, ◌≤◌, ◌++◌, ◌∷◌, [], ℕ, true, false, None, Some, length, replicate, set, slice_get, All, IfSome, IfOk, IfErr, OnOk, OnErr};
+ghost use Rattle.std.specs.Prelude.{◌≡◌, ◌⊎◌, ◌+◌, ◌*◌, ◌<◌, ◌++◌, ◌∷◌, [], ℕ, true, false, None, Some, length, replicate, set, slice_get, All, IfSome, IfOk, IfErr, OnOk, OnErr};
 ghost use Rattle.rx_util.specs.declared.search.MatchError.{MatchError};
 ghost use Rattle.rx_dfa.specs.declared.states.AutomatonState.{AutomatonState};
-ghost use Rattle.rx_dfa.specs.Behind.{quits};
-ghost use Rattle.rx_dfa.specs.Dfas.{IsDfaOf, ahead_in, column_count};
-ghost use Rattle.rx_dfa.specs.Caches.{IsCacheOf, IsEntryTo, HasFirst, HasStepped, IsBare, IsSameState, KeepNumbers};
-ghost use Rattle.rx_dfa.specs.Closed.{HasOneFirst};
+ghost use Rattle.rx_dfa.specs.Alphabets.{column_count};
+ghost use Rattle.rx_dfa.specs.Caches.{IsCacheOf, IsEntryTo, HasFirst, IsBare, IsSameState, KeepNumbers};
+ghost use Rattle.rx_dfa.specs.DenseTables.{HasOneFirst};
 ghost use Rattle.rx_dfa.specs.States.{IsFirstState, IsStateOf, IsStep};
+ghost use Rattle.rx_dfa.specs.Tables.{HasStepped, IsCacheBy};
 
-use crate::behind::{Behind, quits_at};
-use crate::dfa::Dfa;
+use crate::alphabet::Alphabet;
+use crate::automaton::Automaton;
+use crate::behind::Behind;
 use crate::maker::Maker;
 use crate::states::{Ahead, AutomatonState, Starting};
+use crate::table::Table;
 use rx_program::Program;
 use rx_steps::Node;
 use rx_util::MatchError;
@@ -82,7 +84,7 @@ fn kept_at(starting: &Starting, behind: &Behind) -> usize {
 
 /// Adds a row of which nothing is known.
 fn push_row(table: &mut Vec<u32>, width: usize) -> Result<(), AllocError>
-    ensures { OnOk result (table.new.items ≡ table.old.items ++ replicate width 4294967295) }
+    ensures { OnOk result (table.new.items ≡ table.old.items ++ replicate width UNKNOWN) }
 {
     for _ in 0..width {
         table.push(UNKNOWN)?;
@@ -92,13 +94,13 @@ fn push_row(table: &mut Vec<u32>, width: usize) -> Result<(), AllocError>
 
 impl Cache {
     /// A cache for searches by an automaton of a program. The one refusal is `Memory`.
-    pub fn new(alloc: Global, program: &Program, dfa: &Dfa) -> Result<Cache, MatchError>
-        ensures made { IfOk result (λ cache. IsCacheOf program.now dfa.now cache) }
+    pub fn new(alloc: Global, program: &Program, alphabet: &Alphabet) -> Result<Cache, MatchError>
+        ensures made { IfOk result (λ cache. IsCacheOf program.now alphabet.now cache) }
         ensures refused { IfErr result (λ error. error ≡ MatchError.Memory) }
     {
         Ok(Cache {
             maker: Maker::new(alloc, program)?,
-            width: dfa.column_count(),
+            width: alphabet.column_count(),
             table: Vec::new(alloc),
             states: Vec::new(alloc),
             numbers: HashMap::new(alloc),
@@ -111,13 +113,13 @@ impl Cache {
 
     /// Makes the cache one for searches by this automaton, of which it knows nothing yet. The one
     /// refusal is `Memory`; the cache is then as it was.
-    pub fn reset(&mut self, program: &Program, dfa: &Dfa) -> Result<(), MatchError>
-        ensures made { OnOk result (IsCacheOf program.now dfa.now self.new) }
+    pub fn reset(&mut self, program: &Program, alphabet: &Alphabet) -> Result<(), MatchError>
+        ensures made { OnOk result (IsCacheOf program.now alphabet.now self.new) }
         ensures kept { OnErr result (self.new ≡ self.old) }
         ensures refused { IfErr result (λ error. error ≡ MatchError.Memory) }
     {
         self.maker = Maker::new(self.maker.allocator(), program)?;
-        self.width = dfa.column_count();
+        self.width = alphabet.column_count();
         self.clear();
         self.clear_count = 0;
         Ok(())
@@ -176,7 +178,7 @@ impl Cache {
     /// be left.
     fn push_state(&mut self, state: AutomatonState) -> Result<(), AllocError>
         ensures table { OnOk result
-            (self.new.table ≡ self.old.table ++ replicate self.old.width 4294967295) }
+            (self.new.table ≡ self.old.table ++ replicate self.old.width UNKNOWN) }
         ensures states { OnOk result (self.new.states ≡ self.old.states ++ state ∷ []) }
         ensures widths { self.new.widths ≡ self.old.widths }
         ensures width { self.new.width ≡ self.old.width }
@@ -196,18 +198,17 @@ impl Cache {
     /// Adds a state, and tells its number. Where it is refused, no state is left.
     pub(crate) fn add(
         &mut self,
-        program: &Program,
-        dfa: &Dfa,
+        automaton: &Automaton,
         state: AutomatonState,
     ) -> Result<usize, MatchError>
-        requires made { IsCacheOf program.now dfa.now self.old }
-        requires state { IsStateOf program.now state }
-        ensures made { IsCacheOf program.now dfa.now self.new }
+        requires made { IsCacheBy automaton.now self.old }
+        requires state { IsStateOf automaton.now.program.now state }
+        ensures made { IsCacheBy automaton.now self.new }
         ensures number { IfOk result (λ number.
             slice_get self.new.states number ≡ Some state) }
         ensures kept { OnOk result (KeepNumbers self.old.states self.new.states) }
         ensures table { OnOk result
-            (self.new.table ≡ self.old.table ++ replicate self.old.width 4294967295) }
+            (self.new.table ≡ self.old.table ++ replicate self.old.width UNKNOWN) }
         ensures refused { IfErr result (λ error. error ≡ MatchError.Memory) }
     {
         let number = self.states.len();
@@ -225,22 +226,22 @@ impl Cache {
     }
 
     /// Whether a further state fits: beside one state another one always does.
-    fn has_room(&self, dfa: &Dfa, state: &AutomatonState) -> bool {
-        self.states.len() < 2 || self.used.saturating_add(self.size_of(state)) <= dfa.capacity
+    fn has_room(&self, automaton: &Automaton, state: &AutomatonState) -> bool {
+        self.states.len() < 2
+            || self.used.saturating_add(self.size_of(state)) <= automaton.alphabet.capacity()
     }
 
     /// The number of a state, which is added where it isn't found, and whether all others were
     /// taken out for it. Where the cache was cleared too often in this search, it gives up.
     pub(crate) fn number_of(
         &mut self,
-        program: &Program,
-        dfa: &Dfa,
+        automaton: &Automaton,
         state: AutomatonState,
         at: usize,
     ) -> Result<(usize, bool), MatchError>
-        requires made { IsCacheOf program.now dfa.now self.old }
-        requires state { IsStateOf program.now state }
-        ensures made { IsCacheOf program.now dfa.now self.new }
+        requires made { IsCacheBy automaton.now self.old }
+        requires state { IsStateOf automaton.now.program.now state }
+        ensures made { IsCacheBy automaton.now self.new }
         ensures number { IfOk result (λ told. (x : AutomatonState)
             × (slice_get self.new.states told.0 ≡ Some x) × IsSameState state x) }
         ensures kept { IfOk result (λ told. told.1 ≡ false
@@ -251,8 +252,8 @@ impl Cache {
         if let Some(number) = self.find(&state) {
             return Ok((number, false));
         }
-        if self.has_room(dfa, &state) {
-            let number = self.add(program, dfa, state)?;
+        if self.has_room(automaton, &state) {
+            let number = self.add(automaton, state)?;
             return Ok((number, false));
         }
         if self.cleared >= CLEARS {
@@ -261,7 +262,7 @@ impl Cache {
         self.cleared += 1;
         self.clear_count = self.clear_count.saturating_add(1);
         self.clear();
-        let number = self.add(program, dfa, state)?;
+        let number = self.add(automaton, state)?;
         Ok((number, true))
     }
 }
@@ -369,11 +370,11 @@ impl Cache {
     /// The state from which a row begins that an entry leads to.
     pub(crate) fn number_at(&self, entry: u32) -> usize
         requires { 0 < self.now.width }
-        ensures plain { (number : ℕ) → entry ≡ number * self.now.width → entry < 2147483648
+        ensures plain { (number : ℕ) → entry ≡ number * self.now.width → entry < ENDS
             → result ≡ number }
-        ensures ends { (number : ℕ) → entry ≡ 2147483648 + number * self.now.width
-            → entry < 3221225472 → result ≡ number }
-        ensures over { (number : ℕ) → entry ≡ 3221225472 + number * self.now.width
+        ensures ends { (number : ℕ) → entry ≡ ENDS + number * self.now.width
+            → entry < STOPS → result ≡ number }
+        ensures over { (number : ℕ) → entry ≡ STOPS + number * self.now.width
             → result ≡ number }
     {
         let row = if entry >= STOPS {
@@ -390,89 +391,102 @@ impl Cache {
     /// `Memory`.
     pub(crate) fn next_state(
         &mut self,
-        program: &Program,
-        dfa: &Dfa,
+        automaton: &Automaton,
         number: usize,
         ahead: &Ahead,
     ) -> Result<AutomatonState, MatchError>
-        requires made { IsCacheOf program.now dfa.now self.old }
+        requires made { IsCacheBy automaton.now self.old }
         requires number { number < length self.old.states }
         ensures step { IfOk result (λ next. (x : AutomatonState)
             → slice_get self.old.states number ≡ Some x
-            → IsStep program.now dfa.now.asked x ahead.now next) }
-        ensures state { IfOk result (λ next. IsStateOf program.now next) }
-        ensures made { IsCacheOf program.now dfa.now self.new }
+            → IsStep automaton.now.program.now automaton.now.alphabet.now.asked x ahead.now next) }
+        ensures state { IfOk result (λ next. IsStateOf automaton.now.program.now next) }
+        ensures made { IsCacheBy automaton.now self.new }
         ensures states { self.new.states ≡ self.old.states }
         ensures table { self.new.table ≡ self.old.table }
         ensures refused { IfErr result (λ error. error ≡ MatchError.Memory) }
     {
         let state = &self.states[number];
-        self.maker.next_state(program, dfa.asked, state, ahead)
+        self.maker.next_state(automaton, state, ahead)
     }
 
     /// Makes the step from a state in a column, and enters it: the number of the next state, and
     /// none where a search can't go on.
     fn make_step(
         &mut self,
-        program: &Program,
-        dfa: &Dfa,
+        automaton: &Automaton,
         number: usize,
         column: usize,
         at: usize,
     ) -> Result<Option<usize>, MatchError>
-        requires dfa { IsDfaOf program.now dfa.now }
-        requires made { IsCacheOf program.now dfa.now self.old }
+        requires made { IsCacheBy automaton.now self.old }
         requires number { number < length self.old.states }
         requires column { column < self.old.width }
-        ensures made { IsCacheOf program.now dfa.now self.new }
+        ensures made { IsCacheBy automaton.now self.new }
         ensures step { IfOk result (λ next. (x : AutomatonState)
             → slice_get self.old.states number ≡ Some x
-            → HasStepped program.now dfa.now self.new.states x (ahead_in dfa.now column) next) }
+            → HasStepped automaton.now self.new.states x column next) }
         ensures refused { IfErr result (λ error.
             (error ≡ MatchError.Memory) ⊎ (error ≡ MatchError.GaveUp at)) }
     {
-        let ahead = dfa.ahead(column);
-        if quits_at(dfa.asked, ahead.seen) {
+        let ahead = automaton.alphabet.ahead(column);
+        if automaton.alphabet.quits_at(ahead.seen) {
             self.set_entry(number, column, QUIT);
             return Ok(None);
         }
-        let state = self.next_state(program, dfa, number, &ahead)?;
-        let (next, was_cleared) = self.number_of(program, dfa, state, at)?;
+        let state = self.next_state(automaton, number, &ahead)?;
+        let (next, was_cleared) = self.number_of(automaton, state, at)?;
         if !was_cleared {
             let entry = self.entry_to(next);
             self.set_entry(number, column, entry);
         }
         Ok(Some(next))
     }
+}
 
-    /// Where a column leads from a state: the number of the next state, and none where a search
-    /// can't go on.
-    pub(crate) fn step(
+impl Table for Cache {
+    ghost is_whole = { false };
+
+    ghost shown = { λ cache. cache };
+
+    fn known(&self) -> &Cache {
+        self
+    }
+
+    fn step(
         &mut self,
-        program: &Program,
-        dfa: &Dfa,
+        automaton: &Automaton,
         number: usize,
         column: usize,
         at: usize,
-    ) -> Result<Option<usize>, MatchError>
-        requires dfa { IsDfaOf program.now dfa.now }
-        requires made { IsCacheOf program.now dfa.now self.old }
-        requires number { number < length self.old.states }
-        requires column { column < self.old.width }
-        ensures made { IsCacheOf program.now dfa.now self.new }
-        ensures step { IfOk result (λ next. (x : AutomatonState)
-            → slice_get self.old.states number ≡ Some x
-            → HasStepped program.now dfa.now self.new.states x (ahead_in dfa.now column) next) }
-        ensures refused { IfErr result (λ error.
-            (error ≡ MatchError.Memory) ⊎ (error ≡ MatchError.GaveUp at)) }
-    {
+    ) -> Result<Option<usize>, MatchError> {
         let entry = self.entry(number, column);
         if entry == UNKNOWN {
-            return self.make_step(program, dfa, number, column, at);
+            return self.make_step(automaton, number, column, at);
         }
         if entry == QUIT {
             return Ok(None);
         }
         Ok(Some(self.number_at(entry)))
+    }
+
+    fn first(
+        &mut self,
+        automaton: &Automaton,
+        starting: Starting,
+        side: Behind,
+        at: usize,
+    ) -> Result<usize, MatchError> {
+        self.cleared = 0;
+        if let Some(number) = self.kept_first(&starting, &side) {
+            return Ok(number);
+        }
+        let state = AutomatonState::first(automaton.program.allocator(), starting, side);
+        let number = match self.number_of(automaton, state, at) {
+            Ok((number, _)) => number,
+            Err(error) => return Err(error),
+        };
+        self.keep_first(&starting, &side, number);
+        Ok(number)
     }
 }

@@ -5,12 +5,12 @@ ghost use Rattle.rx_util.specs.declared.search.MatchError.{MatchError};
 ghost use Rattle.rx_input.specs.Cursors.{IsSameContent};
 ghost use Rattle.rx_steps.specs.Searching.{search_of};
 ghost use Rattle.rx_chunk.specs.Engines.{IsBuiltOf, IsRefused, by_default};
-ghost use Rattle.rx_dfa.specs.Closed.{IsClosedOf, IsQuit};
-ghost use Rattle.rx_dfa.specs.Dfas.{IsDfaOf};
+ghost use Rattle.rx_dfa.specs.DenseTables.{IsClosedOf, IsQuit};
+ghost use Rattle.rx_dfa.specs.Alphabets.{IsAlphabetOf};
 ghost use Rattle.rx_dfa.specs.Searching.{IsHalfAnswer};
 
-use crate::closed::Closed;
-use crate::dfa::Dfa;
+use crate::alphabet::Alphabet;
+use crate::dense_table::DenseTable;
 use rx_chunk::pikevm::PikeVM;
 use rx_input::{Cursor, Input};
 use rx_program::{BuildError, Program};
@@ -22,8 +22,8 @@ use std::rc::Rc;
 /// An automaton, with all its states and steps.
 #[derive(Debug, Drop)]
 struct Automaton {
-    dfa: Dfa,
-    closed: Closed,
+    dfa: Alphabet,
+    closed: DenseTable,
 }
 
 impl Model for Automaton {
@@ -54,11 +54,11 @@ impl Model for Regex {
 }
 
 /// All states and steps of a program's automaton. As many states as can't be counted have no room.
-fn closed_of(alloc: Global, program: &Program, dfa: &Dfa) -> Result<Closed, AllocError>
-    requires { IsDfaOf program.now dfa.now }
+fn closed_of(alloc: Global, program: &Program, dfa: &Alphabet) -> Result<DenseTable, AllocError>
+    requires { IsAlphabetOf program.now dfa.now }
     ensures { IfOk result (IsClosedOf program.now dfa.now) }
 {
-    match Closed::new(alloc, program, dfa, usize::MAX, usize::MAX)? {
+    match DenseTable::new(alloc, program, dfa, usize::MAX, usize::MAX)? {
         Some(closed) => Ok(closed),
         None => Err(AllocError),
     }
@@ -66,12 +66,12 @@ fn closed_of(alloc: Global, program: &Program, dfa: &Dfa) -> Result<Closed, Allo
 
 /// The automaton of an engine's program, to be shared by an engine and its clones.
 fn shared_automaton(alloc: Global, vm: &PikeVM) -> Result<Rc<Automaton>, AllocError>
-    ensures dfa { IfOk result (λ automaton. IsDfaOf vm.now.program automaton.value.dfa) }
+    ensures dfa { IfOk result (λ automaton. IsAlphabetOf vm.now.program automaton.value.dfa) }
     ensures utf8_empty { IfOk result (λ automaton. automaton.value.dfa.utf8_empty ≡ true) }
     ensures closed { IfOk result (λ automaton.
         IsClosedOf vm.now.program automaton.value.dfa automaton.value.closed) }
 {
-    let dfa = Dfa::new(alloc, vm.program(), true, usize::MAX)?;
+    let dfa = Alphabet::new(alloc, vm.program(), true, usize::MAX)?;
     let closed = closed_of(alloc, vm.program(), &dfa)?;
     Ok(Rc::new(alloc, Automaton { dfa, closed })?)
 }

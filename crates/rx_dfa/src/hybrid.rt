@@ -7,12 +7,12 @@ ghost use Rattle.rx_input.specs.Cursors.{IsSameContent};
 ghost use Rattle.rx_steps.specs.Searching.{search_of};
 ghost use Rattle.rx_chunk.specs.Engines.{IsBuiltOf, IsRefused, by_default};
 ghost use Rattle.rx_dfa.specs.Caches.{IsCacheOf};
-ghost use Rattle.rx_dfa.specs.Dfas.{IsDfaOf};
+ghost use Rattle.rx_dfa.specs.Alphabets.{IsAlphabetOf};
 ghost use Rattle.rx_dfa.specs.Hybrid.{IsBuiltOfFirst, IsFirstRefused};
 ghost use Rattle.rx_dfa.specs.Passing.{IsRefusal};
 ghost use Rattle.rx_dfa.specs.Searching.{IsHalfAnswer};
 
-use crate::dfa::Dfa;
+use crate::alphabet::Alphabet;
 use crate::{cache as states, search};
 use rx_chunk::pikevm::PikeVM;
 use rx_input::{Cursor, Input};
@@ -30,7 +30,7 @@ const CAPACITY: usize = 2_097_152;
 #[derive(Debug, Drop)]
 pub struct Regex {
     vm: PikeVM,
-    dfa: Rc<Dfa>,
+    dfa: Rc<Alphabet>,
 }
 
 impl Model for Regex {
@@ -44,11 +44,11 @@ impl Model for Regex {
 }
 
 /// The automaton of an engine's program, to be shared by an engine and its clones.
-fn shared_dfa(alloc: Global, vm: &PikeVM, capacity: usize) -> Result<Rc<Dfa>, AllocError>
-    ensures made { IfOk result (λ dfa. IsDfaOf vm.now.program dfa.value) }
+fn shared_dfa(alloc: Global, vm: &PikeVM, capacity: usize) -> Result<Rc<Alphabet>, AllocError>
+    ensures made { IfOk result (λ dfa. IsAlphabetOf vm.now.program dfa.value) }
     ensures utf8_empty { IfOk result (λ dfa. dfa.value.utf8_empty ≡ true) }
 {
-    let dfa = Dfa::new(alloc, vm.program(), true, capacity)?;
+    let dfa = Alphabet::new(alloc, vm.program(), true, capacity)?;
     Ok(Rc::new(alloc, dfa)?)
 }
 

@@ -1,20 +1,22 @@
 //! Automata whose states are lists of threads.
 #![tactic(auto)]
 
+mod alphabet;
+mod automaton;
 mod behind;
 mod cache;
 mod classes;
-mod closed;
-mod closing;
 pub mod dense;
-mod dfa;
+mod dense_table;
+mod determinize;
 pub mod hybrid;
 mod maker;
 mod scan;
 mod search;
 mod states;
+mod table;
 
+pub use alphabet::Alphabet;
 pub use cache::Cache;
-pub use closed::Closed;
-pub use dfa::Dfa;
+pub use dense_table::DenseTable;
 pub use search::try_search_fwd;

@@ -6,10 +6,10 @@ ghost use Rattle.rx_steps.specs.Nodes.{widths_of};
 ghost use Rattle.rx_steps.specs.Alike.{AreBare};
 ghost use Rattle.rx_dfa.specs.States.{started, place_of_step, IsStateOf, IsStep};
 
-use crate::behind::Behind;
+use crate::automaton::Automaton;
 use crate::states::{Ahead, AutomatonState};
 use rx_program::Program;
-use rx_steps::{AskedLooks, Node, Place, Stepper, ThreadList};
+use rx_steps::{Node, Place, Stepper, ThreadList};
 use rx_util::{MatchError, NonMaxUsize, StateID};
 use std::alloc::{AllocError, Global};
 
@@ -86,18 +86,19 @@ impl Maker {
     /// The state to which a state leads before what stands ahead. The one refusal is `Memory`.
     pub(crate) fn next_state(
         &mut self,
-        program: &Program,
-        asked: AskedLooks,
+        automaton: &Automaton,
         state: &AutomatonState,
         ahead: &Ahead,
     ) -> Result<AutomatonState, MatchError>
-        requires made { self.old.stepper.widths ≡ widths_of program.now }
-        requires state { IsStateOf program.now state.now }
-        ensures step { IfOk result (λ next. IsStep program.now asked state.now ahead.now next) }
-        ensures state { IfOk result (λ next. IsStateOf program.now next) }
+        requires made { self.old.stepper.widths ≡ widths_of automaton.now.program.now }
+        requires state { IsStateOf automaton.now.program.now state.now }
+        ensures step { IfOk result (λ next. IsStep automaton.now.program.now
+            automaton.now.alphabet.now.asked state.now ahead.now next) }
+        ensures state { IfOk result (λ next. IsStateOf automaton.now.program.now next) }
         ensures made { self.new.stepper.widths ≡ self.old.stepper.widths }
         ensures refused { IfErr result (λ error. error ≡ MatchError.Memory) }
     {
+        let program = automaton.program;
         let start = state.starting.at(ahead.may_begin);
         self.begin(&state.threads, start)?;
         let place = place_of(state, program.line_terminator(), ahead);
@@ -111,7 +112,7 @@ impl Maker {
         Ok(AutomatonState {
             threads,
             starting: state.starting.after(&ended),
-            behind: Behind::of(asked, program.line_terminator(), ahead.read),
+            behind: automaton.side(ahead.read),
             ended,
         })
     }

@@ -83,7 +83,8 @@ impl Ahead {
     }
 }
 
-/// The match whose end was met last, once a place is passed at which this pattern's was met, or none.
+/// The match whose end was met last, once a place is passed at which that of this pattern was met,
+/// or none.
 pub(crate) fn last_met(
     at: usize,
     ended: &Option<PatternID>,
@@ -159,13 +160,6 @@ impl AutomatonState {
             && self.starting == *starting
             && self.behind == *behind
             && self.ended.is_none()
-    }
-
-    /// The match whose end was met last, once the place before is passed.
-    pub(crate) fn met_after(&self, at: usize, met: Option<HalfMatch>) -> Option<HalfMatch>
-        ensures { result ≡ met_after at self.now.ended met }
-    {
-        last_met(at, &self.ended, met)
     }
 
     /// Whether no walk lives, and none will start.

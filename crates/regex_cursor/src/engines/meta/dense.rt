@@ -1,10 +1,10 @@
 //! Automata all of whose states are made with a regex: those of few states.
 
 ghost use Rattle.std.specs.Prelude.{IfOk, IfSome};
-ghost use Rattle.rx_dfa.specs.Closed.{IsClosedOf};
-ghost use Rattle.rx_dfa.specs.Dfas.{IsDfaOf};
+ghost use Rattle.rx_dfa.specs.DenseTables.{IsClosedOf};
+ghost use Rattle.rx_dfa.specs.Alphabets.{IsAlphabetOf};
 
-use rx_dfa::{Closed, Dfa};
+use rx_dfa::{Alphabet, DenseTable};
 use rx_program::{Program, State};
 use std::alloc::{AllocError, Global};
 
@@ -33,13 +33,13 @@ fn state_count(program: &Program) -> usize {
 pub(super) fn closed_of(
     alloc: Global,
     program: &Program,
-    dfa: &Dfa,
-) -> Result<Option<Closed>, AllocError>
-    requires { IsDfaOf program.now dfa.now }
+    dfa: &Alphabet,
+) -> Result<Option<DenseTable>, AllocError>
+    requires { IsAlphabetOf program.now dfa.now }
     ensures { IfOk result (λ closed. IfSome closed (IsClosedOf program.now dfa.now)) }
 {
     if state_count(program) > DFA_STATE_LIMIT {
         return Ok(None);
     }
-    Closed::new(alloc, program, dfa, DFA_STATE_LIMIT, DFA_SIZE_LIMIT)
+    DenseTable::new(alloc, program, dfa, DFA_STATE_LIMIT, DFA_SIZE_LIMIT)
 }

@@ -21,7 +21,7 @@ use super::left::{
     Left, Start, clear_slots, match_in, note_nothing, put_back, put_match, start_of_literal,
 };
 use rx_chunk::pikevm::{self, PikeVM};
-use rx_dfa::{Closed, Dfa, try_search_fwd};
+use rx_dfa::{Alphabet, DenseTable, try_search_fwd};
 use rx_input::{Cursor, Input};
 use rx_literals::laws::{matches_come_behind, no_needle_no_match};
 use rx_literals::{Prefilter, literal};
@@ -39,9 +39,9 @@ const CACHE_CAPACITY: usize = 2_097_152;
 #[derive(Debug, Drop)]
 pub(super) struct Strategy {
     vm: PikeVM,
-    dfa: Dfa,
+    dfa: Alphabet,
     // Where program and automaton are small.
-    closed: Option<Closed>,
+    closed: Option<DenseTable>,
     // Of the literals of which each match begins with one, if they are known.
     prefilter: Option<Prefilter>,
     // Of the literal that each match is, if that is known.
@@ -79,7 +79,7 @@ impl Strategy {
         requires { utf8_empty ≡ vm.utf8_empty }
         ensures { IfOk result (λ strategy. strategy.vm ≡ vm) }
     {
-        let dfa = Dfa::new(alloc, vm.program(), utf8_empty, CACHE_CAPACITY)?;
+        let dfa = Alphabet::new(alloc, vm.program(), utf8_empty, CACHE_CAPACITY)?;
         let closed = closed_of(alloc, vm.program(), &dfa)?;
         let kind = MatchKind::LeftmostFirst;
         let prefilter = Prefilter::from_program(alloc, kind, vm.program())?;
@@ -101,7 +101,7 @@ impl Strategy {
     }
 
     /// The automaton.
-    pub(super) fn dfa(&self) -> &Dfa
+    pub(super) fn dfa(&self) -> &Alphabet
         ensures dfa { result.now ≡ self.now.dfa }
         ensures engines { AreEngines self.now }
     {

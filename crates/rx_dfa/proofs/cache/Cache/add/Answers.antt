@@ -8,8 +8,8 @@ pub returns-in-Ok-clause-made : goal.returns-in-Ok-clause-made
 returns-in-Ok-clause-made c =
     let before = c.args.self.now in
     let after = c.push_state.new.self in
-    subst (λ v. IsCacheOf c.args.program.now c.args.dfa.now v) (sym c.self-in-Ok.view_is)
-    (cache_more c.args.program.now c.args.dfa.now before after c.args.state c.requires.made c.requires.state c.in-Ok.ensures.table c.in-Ok.ensures.states c.push_state.ensures.widths c.push_state.ensures.width)
+    subst (λ v. IsCacheOf c.args.automaton.now.program.now c.args.automaton.now.alphabet.now v) (sym c.self-in-Ok.view_is)
+    (cache_more c.args.automaton.now.program.now c.args.automaton.now.alphabet.now before after c.args.state c.requires.made c.requires.state c.in-Ok.ensures.table c.in-Ok.ensures.states c.push_state.ensures.widths c.push_state.ensures.width)
 
 pub returns-in-Ok-clause-number : goal.returns-in-Ok-clause-number
 returns-in-Ok-clause-number c =

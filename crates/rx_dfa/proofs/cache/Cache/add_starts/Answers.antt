@@ -1,4 +1,4 @@
-use Rattle.rx_dfa.proofs.ClosedLaws.{starts_three}
+use Rattle.rx_dfa.proofs.DenseLaws.{starts_three}
 use Rattle.rx_dfa.proofs.cache.Cache.add_starts.Goals as goal
 
 pub returns-clause-starts : goal.returns-clause-starts

@@ -2,7 +2,7 @@ use Rattle.std.proofs.Common.{◌≡◌, ◌≤◌, length, ap, arith, vec_len}
 use Rattle.std.proofs.lemmas.Grind.{common_steps}
 use Rattle.rx_dfa.specs.Caches.{CacheView}
 use Rattle.rx_dfa.proofs.TableLaws.{keep_all}
-use Rattle.rx_dfa.proofs.ClosedLaws.{known_all}
+use Rattle.rx_dfa.proofs.DenseLaws.{known_all}
 use Rattle.rx_dfa.proofs.cache.Cache.close.Goals as goal
 
 pub loop-number-init : goal.loop-number-init

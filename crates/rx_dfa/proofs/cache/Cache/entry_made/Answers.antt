@@ -1,12 +1,12 @@
-use Rattle.std.proofs.Common.{◌≡◌, true, false, refl, sym, ap, ap₂, subst, ◌∙◌}
+use Rattle.std.proofs.Common.{◌≡◌, true, false, refl, sym, ap, subst, ◌∙◌}
 use Rattle.std.proofs.lemmas.Option.{slice_get_within}
 use Rattle.rx_dfa.specs.declared.states.Ahead.{Ahead}
 use Rattle.rx_dfa.specs.Behind.{quits}
 use Rattle.rx_dfa.specs.Caches.{quit}
 use Rattle.rx_dfa.specs.States.{IsStep}
-use Rattle.rx_dfa.specs.Dfas.{DfaView, ahead_in}
+use Rattle.rx_dfa.specs.Alphabets.{ahead_in}
 use Rattle.rx_dfa.proofs.TableLaws.{entry_right, leads_to_found}
-use Rattle.rx_dfa.proofs.ClosedLaws.{grows_both, grows_none, grows_same}
+use Rattle.rx_dfa.proofs.DenseLaws.{grows_both, grows_none, grows_same}
 use Rattle.rx_dfa.proofs.cache.Cache.entry_made.Goals as goal
 
 pub returns-then-quits_at-clause-grows : goal.returns-then-quits_at-clause-grows
@@ -14,9 +14,9 @@ returns-then-quits_at-clause-grows c = grows_none c.args.self.now
 
 pub returns-then-quits_at-clause-entry : goal.returns-then-quits_at-clause-entry
 returns-then-quits_at-clause-entry c = λ x stands.
-    let dfa = c.args.dfa.now in
-    let told : quits dfa.asked (ahead_in dfa c.args.column).seen ≡ true =
-    sym (ap₂ (λ asked (y : Ahead). quits asked y.seen) (ap (λ (v : DfaView). v.asked) c.dfa.view_is) c.ahead-ahead.ensures) ∙ sym c.quits_at.ensures ∙ c.if-quits_at.true in
+    let alphabet = c.args.automaton.now.alphabet.now in
+    let told : quits alphabet.asked (ahead_in alphabet c.args.column).seen ≡ true =
+    sym (ap (λ (y : Ahead). quits alphabet.asked y.seen) c.ahead-ahead.ensures) ∙ sym c.quits_at.ensures ∙ c.if-quits_at.true in
     quit refl told
 
 pub entry_to-requires-clause-next : goal.entry_to-requires-clause-next
@@ -29,12 +29,12 @@ returns-clause-grows c = grows_both c.args.self.now c.next_state.new.self c.foun
 
 pub returns-clause-entry : goal.returns-clause-entry
 returns-clause-entry c = λ x stands.
-    let p = c.args.program.now in
-    let dfa = c.args.dfa.now in
+    let p = c.args.automaton.now.program.now in
+    let alphabet = c.args.automaton.now.alphabet.now in
     let cache = c.found_or_added.new.self in
-    let ahead = ahead_in dfa c.args.column in
-    let told : quits dfa.asked ahead.seen ≡ false =
-    sym (ap₂ (λ asked (y : Ahead). quits asked y.seen) (ap (λ (v : DfaView). v.asked) c.dfa.view_is) c.ahead-ahead.ensures) ∙ sym c.quits_at.ensures ∙ c.if-quits_at.false in
-    let step = subst (λ y. IsStep p dfa.asked x y c.in-Ok.state) c.ahead-ahead.ensures (c.in-Ok.ensures.step x stands) in
-    let to = leads_to_found p dfa cache.states x c.in-Ok.state ahead c.in_ok-next.next step told c.in_ok-next.ensures.number in
-    entry_right p dfa cache.width cache.states x ahead c.in_ok-next.next c.entry_to.result to (c.entry_to.ensures to.next to.stands)
+    let ahead = ahead_in alphabet c.args.column in
+    let told : quits alphabet.asked ahead.seen ≡ false =
+    sym (ap (λ (y : Ahead). quits alphabet.asked y.seen) c.ahead-ahead.ensures) ∙ sym c.quits_at.ensures ∙ c.if-quits_at.false in
+    let step = subst (λ y. IsStep p alphabet.asked x y c.in-Ok.state) c.ahead-ahead.ensures (c.in-Ok.ensures.step x stands) in
+    let to = leads_to_found p alphabet cache.states x c.in-Ok.state ahead c.in_ok-next.next step told c.in_ok-next.ensures.number in
+    entry_right p alphabet cache.width cache.states x ahead c.in_ok-next.next c.entry_to.result to (c.entry_to.ensures to.next to.stands)

@@ -1,8 +1,8 @@
 use Rattle.std.proofs.Common.{sym, arith}
 use Rattle.std.proofs.lemmas.Option.{slice_get_within}
-use Rattle.rx_dfa.specs.Dfas.{column_count}
+use Rattle.rx_dfa.specs.Alphabets.{column_count}
 use Rattle.rx_dfa.proofs.TableLaws.{keep_all, there_is}
-use Rattle.rx_dfa.proofs.ClosedLaws.{known_grown, known_more, row_more}
+use Rattle.rx_dfa.proofs.DenseLaws.{known_grown, known_more, row_more}
 use Rattle.rx_dfa.proofs.cache.Cache.fill_row.Goals as goal
 
 pub loop-column-init : goal.loop-column-init
@@ -10,8 +10,8 @@ loop-column-init c = record { made = c.requires.made; number = c.requires.number
 
 pub loop-column-preserved : goal.loop-column-preserved
 loop-column-preserved c =
-    let p = c.args.program.now in
-    let dfa = c.args.dfa.now in
+    let p = c.args.automaton.now.program.now in
+    let alphabet = c.args.automaton.now.alphabet.now in
     let old = c.loop-column.self in
     let new = c.fill.new.self in
     let was = c.loop-column.invariant in
@@ -21,11 +21,11 @@ loop-column-preserved c =
       made = c.fill.ensures.made;
       number = slice_get_within new.states c.args.number here.0 (grows.numbers c.args.number here.0 here.1);
       kept = λ number x e. grows.numbers number x (was.kept number x e);
-      before = known_grown p dfa old new c.args.number was.made c.fill.ensures.made grows was.before;
-      row = row_more p dfa old new c.args.number c.loop-column.column was.made c.fill.ensures.made grows was.row c.in_ok-fill.ensures.known;
+      before = known_grown p alphabet old new c.args.number was.made c.fill.ensures.made grows was.before;
+      row = row_more p alphabet old new c.args.number c.loop-column.column was.made c.fill.ensures.made grows was.row c.in_ok-fill.ensures.known;
     }
 
 pub returns-clause-known : goal.returns-clause-known
 returns-clause-known c =
     let is = c.loop-column.invariant in
-    known_more c.loop-column.self c.args.number (column_count c.args.dfa.now) (sym is.made.width) is.before (λ column lt. is.row column (omega (arith, lt, c.loop-column-test.false, c.column_count-column-end.ensures)))
+    known_more c.loop-column.self c.args.number (column_count c.args.automaton.now.alphabet.now) (sym is.made.width) is.before (λ column lt. is.row column (omega (arith, lt, c.loop-column-test.false, c.column_count-column-end.ensures)))

@@ -1,6 +1,6 @@
 use Rattle.std.proofs.Common.{replicate}
 use Rattle.rx_dfa.proofs.TableLaws.{found_new}
-use Rattle.rx_dfa.proofs.ClosedLaws.{grows_none, grows_added}
+use Rattle.rx_dfa.proofs.DenseLaws.{grows_none, grows_added}
 use Rattle.rx_dfa.proofs.cache.Cache.found_or_added.Goals as goal
 
 pub returns-in-Some-clause-grows : goal.returns-in-Some-clause-grows

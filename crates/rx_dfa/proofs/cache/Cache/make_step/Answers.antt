@@ -1,9 +1,9 @@
-use Rattle.std.proofs.Common.{◌≡◌, true, false, slice_get, sym, ap, ap₂, subst, ◌∙◌, arith}
+use Rattle.std.proofs.Common.{◌≡◌, true, false, slice_get, sym, ap, subst, ◌∙◌, arith}
 use Rattle.std.proofs.lemmas.Option.{slice_get_within}
 use Rattle.rx_dfa.specs.declared.states.Ahead.{Ahead}
 use Rattle.rx_dfa.specs.Behind.{quits}
 use Rattle.rx_dfa.specs.States.{IsStep}
-use Rattle.rx_dfa.specs.Dfas.{DfaView, ahead_in}
+use Rattle.rx_dfa.specs.Alphabets.{ahead_in}
 use Rattle.rx_dfa.specs.Caches.{CacheView, IsCacheOf, LeadsTo}
 use Rattle.rx_dfa.proofs.TableLaws.{there_is, quit_set, step_set, leads_to_found}
 use Rattle.rx_dfa.proofs.cache.Cache.make_step.Goals as goal
@@ -11,10 +11,10 @@ use Rattle.rx_dfa.proofs.cache.Cache.make_step.Goals.{then-not-was_cleared, else
 
 pub returns-then-quits_at-clause-made : goal.returns-then-quits_at-clause-made
 returns-then-quits_at-clause-made c =
-    let dfa = c.args.dfa.now in
-    let told : quits dfa.asked (ahead_in dfa c.args.column).seen ≡ true =
-    sym (ap₂ (λ asked (y : Ahead). quits asked y.seen) (ap (λ (v : DfaView). v.asked) c.dfa.view_is) c.ahead-ahead.ensures) ∙ sym c.quits_at.ensures ∙ c.if-quits_at.true in
-    quit_set c.args.program.now dfa c.args.self.now c.set_entry.new.self c.args.number c.args.column c.requires.made c.requires.number c.requires.column told
+    let alphabet = c.args.automaton.now.alphabet.now in
+    let told : quits alphabet.asked (ahead_in alphabet c.args.column).seen ≡ true =
+    sym (ap (λ (y : Ahead). quits alphabet.asked y.seen) c.ahead-ahead.ensures) ∙ sym c.quits_at.ensures ∙ c.if-quits_at.true in
+    quit_set c.args.automaton.now.program.now alphabet c.args.self.now c.set_entry.new.self c.args.number c.args.column c.requires.made c.requires.number c.requires.column told
     c.set_entry.ensures.table c.set_entry.ensures.states c.set_entry.ensures.widths c.set_entry.ensures.width
 
 pub entry_to-entry-requires-clause-next : goal.entry_to-entry-requires-clause-next
@@ -30,37 +30,37 @@ set_entry-requires-then-not-was_cleared-clause-number c =
 
 pub returns-clause-made : goal.returns-clause-made
 returns-clause-made c =
-    let p = c.args.program.now in
-    let dfa = c.args.dfa.now in
+    let p = c.args.automaton.now.program.now in
+    let alphabet = c.args.automaton.now.alphabet.now in
     let cache = c.number_of.new.self in
     let made = c.in_ok-next.ensures.made in
     elim c.if-not-was_cleared.branch [
       | then-not-was_cleared w ↦
           let here = there_is c.args.self.now.states c.args.number c.requires.number in
           let still = c.in_ok-next.ensures.kept w.if-not-was_cleared.true c.args.number here.0 (ap (λ xs. slice_get xs c.args.number) c.next_state.ensures.states ∙ here.1) in
-          let told : quits dfa.asked (ahead_in dfa c.args.column).seen ≡ false =
-          sym (ap₂ (λ asked (y : Ahead). quits asked y.seen) (ap (λ (v : DfaView). v.asked) c.dfa.view_is) c.ahead-ahead.ensures) ∙ sym c.quits_at.ensures ∙ c.if-quits_at.false in
-          let step = subst (λ y. IsStep p dfa.asked here.0 y c.in_ok-state.state) c.ahead-ahead.ensures (c.in_ok-state.ensures.step here.0 here.1) in
-          let to = leads_to_found p dfa cache.states here.0 c.in_ok-state.state (ahead_in dfa c.args.column) c.in_ok-next.next step told c.in_ok-next.ensures.number in
+          let told : quits alphabet.asked (ahead_in alphabet c.args.column).seen ≡ false =
+          sym (ap (λ (y : Ahead). quits alphabet.asked y.seen) c.ahead-ahead.ensures) ∙ sym c.quits_at.ensures ∙ c.if-quits_at.false in
+          let step = subst (λ y. IsStep p alphabet.asked here.0 y c.in_ok-state.state) c.ahead-ahead.ensures (c.in_ok-state.ensures.step here.0 here.1) in
+          let to = leads_to_found p alphabet cache.states here.0 c.in_ok-state.state (ahead_in alphabet c.args.column) c.in_ok-next.next step told c.in_ok-next.ensures.number in
           let entered = w.set_entry-then-not-was_cleared in
-          subst (λ v. IsCacheOf p dfa v) (sym w.self-is)
-          (step_set p dfa cache entered.new.self c.args.number c.args.column c.in_ok-next.next w.entry_to-entry.result here.0 made still (omega (arith, c.requires.column, c.requires.made.width, made.width)) to
+          subst (λ v. IsCacheOf p alphabet v) (sym w.self-is)
+          (step_set p alphabet cache entered.new.self c.args.number c.args.column c.in_ok-next.next w.entry_to-entry.result here.0 made still (omega (arith, c.requires.column, c.requires.made.width, made.width)) to
           w.entry_to-entry.ensures entered.ensures.table entered.ensures.states entered.ensures.widths entered.ensures.width)
-      | else-not-was_cleared w ↦ subst (λ v. IsCacheOf p dfa v) (sym w.self-is) made
+      | else-not-was_cleared w ↦ subst (λ v. IsCacheOf p alphabet v) (sym w.self-is) made
     ]
 
 pub returns-clause-step : goal.returns-clause-step
 returns-clause-step c = λ x stands.
-    let p = c.args.program.now in
-    let dfa = c.args.dfa.now in
+    let p = c.args.automaton.now.program.now in
+    let alphabet = c.args.automaton.now.alphabet.now in
     let cache = c.number_of.new.self in
-    let told : quits dfa.asked (ahead_in dfa c.args.column).seen ≡ false =
-    sym (ap₂ (λ asked (y : Ahead). quits asked y.seen) (ap (λ (v : DfaView). v.asked) c.dfa.view_is) c.ahead-ahead.ensures) ∙ sym c.quits_at.ensures ∙ c.if-quits_at.false in
-    let step = subst (λ y. IsStep p dfa.asked x y c.in_ok-state.state) c.ahead-ahead.ensures (c.in_ok-state.ensures.step x stands) in
-    let to : LeadsTo p dfa cache.states x (ahead_in dfa c.args.column) c.in_ok-next.next =
-    leads_to_found p dfa cache.states x c.in_ok-state.state (ahead_in dfa c.args.column) c.in_ok-next.next step told c.in_ok-next.ensures.number in
+    let told : quits alphabet.asked (ahead_in alphabet c.args.column).seen ≡ false =
+    sym (ap (λ (y : Ahead). quits alphabet.asked y.seen) c.ahead-ahead.ensures) ∙ sym c.quits_at.ensures ∙ c.if-quits_at.false in
+    let step = subst (λ y. IsStep p alphabet.asked x y c.in_ok-state.state) c.ahead-ahead.ensures (c.in_ok-state.ensures.step x stands) in
+    let to : LeadsTo p alphabet cache.states x (ahead_in alphabet c.args.column) c.in_ok-next.next =
+    leads_to_found p alphabet cache.states x c.in_ok-state.state (ahead_in alphabet c.args.column) c.in_ok-next.next step told c.in_ok-next.ensures.number in
     let same : c.if-not-was_cleared.self.states ≡ cache.states = elim c.if-not-was_cleared.branch [
       | then-not-was_cleared w ↦ ap (λ (v : CacheView). v.states) w.self-is ∙ w.set_entry-then-not-was_cleared.ensures.states
       | else-not-was_cleared w ↦ ap (λ (v : CacheView). v.states) w.self-is
     ] in
-    subst (λ xs. LeadsTo p dfa xs x (ahead_in dfa c.args.column) c.in_ok-next.next) (sym same) to
+    subst (λ xs. LeadsTo p alphabet xs x (ahead_in alphabet c.args.column) c.in_ok-next.next) (sym same) to

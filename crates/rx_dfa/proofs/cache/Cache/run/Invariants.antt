@@ -6,6 +6,6 @@ use Rattle.rx_dfa.proofs.cache.Cache.run.Given as goal
 -- the bytes so far lead to the row
 abbrev pub invariant-loop-byte : goal.invariant-loop-byte
 invariant-loop-byte l = record {
-  running : (x : AutomatonState) → slice_get l.self.states l.first ≡ Some x → IsRunning l.program l.dfa l.self.width l.self.states x (take l.len l.bytes) l.at l.fn.met l.row l.end;
+  running : (x : AutomatonState) → slice_get l.self.states l.first ≡ Some x → IsRunning l.automaton l.self (record { first = x; at = l.at; met = l.fn.met; bytes = take l.len l.bytes; row = l.row; end = l.end });
   len : l.len ≡ l.byte-index;
 }

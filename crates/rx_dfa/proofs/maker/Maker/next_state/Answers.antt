@@ -1,5 +1,4 @@
 use Rattle.std.proofs.Common.{◌++◌, List, ap, subst, ◌∙◌}
-use Rattle.rx_dfa.specs.Behind.{behind_of}
 use Rattle.rx_dfa.specs.States.{started, start_at, place_of_step}
 use Rattle.rx_steps.specs.Threads.{Thread}
 use Rattle.rx_steps.specs.Lists.{IsNextList}
@@ -7,7 +6,7 @@ use Rattle.rx_dfa.proofs.maker.Maker.next_state.Goals as goal
 
 pub returns-clause-step : goal.returns-clause-step
 returns-clause-step c =
-    let p = c.args.program.now in
+    let p = c.args.automaton.now.program.now in
     let x = c.args.state.now in
     let ahead = c.args.ahead.now in
     let next = c.next_list.new.next.threads in
@@ -22,5 +21,5 @@ returns-clause-step c =
           (subst (λ (threads : List Thread). IsNextList p c.place_of-place.result threads next ended slots) from c.in_ok-ended.ensures.list);
       thins = c.in_ok-thin.ensures.thin;
       starting = c.after.ensures;
-      behind = c.of.ensures ∙ ap (λ t. behind_of c.args.asked t ahead.read) c.line_terminator-2.ensures;
+      behind = c.side.ensures;
     }

@@ -1,9 +1,0 @@
-use Rattle.std.proofs.Common.{subst}
-use Rattle.rx_dfa.specs.Searching.{AreAskedBy}
-use Rattle.rx_dfa.proofs.dfa.Dfa.new.Goals as goal
-
-pub returns-clause-made : goal.returns-clause-made
-returns-clause-made c = record {
-  asked = subst (λ states. AreAskedBy states c.of-asked.result) c.states.ensures.states (record { any = c.of-asked.ensures.any; lines = c.of-asked.ensures.lines; words = c.of-asked.ensures.words });
-  classes = c.in_ok-classes.ensures;
-}

@@ -1,0 +1,34 @@
+-- The alphabet of a program's automaton.
+use Rattle.std.specs.Prelude.{ℕ, ◌+◌, ◌==◌, Bool, Option, None, Some, length, slice_get}
+use Rattle.rx_program.specs.Programs.{ByteProgram}
+use Rattle.rx_steps.specs.declared.asked.AskedLooks.{AskedLooks}
+use Rattle.rx_dfa.specs.declared.states.Ahead.{Ahead}
+use Rattle.rx_dfa.specs.Classes.{ByteClassesView, AreClassesOf}
+use Rattle.rx_dfa.specs.States.{ahead_of, ahead_of_end}
+use Rattle.rx_dfa.specs.Searching.{AreAskedBy}
+
+-- what an automaton has to know of a program: which looks it asks for, its classes of bytes, and
+-- whether empty matches inside a character are passed over; and how much room its states may take
+pub record AlphabetView : Type 0 where
+  pub asked : AskedLooks
+  pub classes : ByteClassesView
+  pub utf8_empty : Bool
+  pub capacity : ℕ
+
+pub record IsAlphabetOf (p : ByteProgram) (alphabet : AlphabetView) : Type 0 where
+  pub asked : AreAskedBy p.states alphabet.asked
+  pub classes : AreClassesOf p alphabet.asked alphabet.classes
+
+-- the columns of a table are the classes, and behind them two for the end of the slice: where a
+-- match may begin, and where none may
+abbrev pub column_count : AlphabetView → ℕ
+column_count alphabet = length alphabet.classes.bytes + 2
+
+-- what stands ahead of this byte, or at the end
+abbrev pub ahead_at : Bool → Bool → Option ℕ → Ahead
+ahead_at utf8_empty may_begin None = ahead_of_end may_begin
+ahead_at utf8_empty may_begin (Some b) = ahead_of utf8_empty b
+
+abbrev pub ahead_in : AlphabetView → ℕ → Ahead
+ahead_in alphabet column = ahead_at alphabet.utf8_empty (column == length alphabet.classes.bytes)
+    (slice_get alphabet.classes.bytes column)

@@ -1,0 +1,70 @@
+-- Automata that are closed: every state to which a search may come is there, with all its steps.
+use Rattle.std.specs.Prelude.{◌≡◌, ℕ, ◌+◌, ◌*◌, ◌<◌, List, length, Option, Some, None, slice_get}
+use Rattle.rx_util.specs.declared.search.MatchError.{MatchError}
+use Rattle.rx_util.specs.declared.search.MatchError.TheVariants as error
+use Rattle.rx_walks.specs.Finds.{Anchoring, Search}
+use Rattle.rx_walks.specs.ProgramFinds.{start_node}
+use Rattle.rx_program.specs.Programs.{ByteProgram, characters_of}
+use Rattle.rx_steps.specs.declared.asked.AskedLooks.{AskedLooks}
+use Rattle.rx_dfa.specs.declared.cache.TheConstants.{UNKNOWN}
+use Rattle.rx_dfa.specs.declared.states.AutomatonState.{AutomatonState}
+use Rattle.rx_dfa.specs.declared.states.Starting.{Starting}
+use Rattle.rx_dfa.specs.declared.states.Starting.TheVariants.{Never, Once, Always}
+use Rattle.rx_dfa.specs.declared.behind.Behind.{Behind}
+use Rattle.rx_dfa.specs.Behind.{behind_of}
+use Rattle.rx_dfa.specs.Alphabets.{AlphabetView}
+use Rattle.rx_dfa.specs.Caches.{CacheView, HasFirst, IsCacheOf, KeepNumbers}
+use Rattle.rx_dfa.specs.Passing.{IsRefusal}
+
+-- the entry at this place of a table is known
+pub record IsKnownAt (table : List ℕ) (place : ℕ) : Type 0 where
+  pub entry : ℕ
+  pub stands : slice_get table place ≡ Some entry
+  pub known : entry ≡ UNKNOWN → ⊥
+
+-- of so many states, from the first on, each entry is known: of each class, and at the end
+abbrev pub AreKnown : CacheView → ℕ → Type 0
+AreKnown cache count = (number column : ℕ) → number < count → column < cache.width
+    → IsKnownAt cache.table (number * cache.width + column)
+
+-- states keep their numbers, and what is known stays known
+pub record Grows (before after : CacheView) : Type 0 where
+  pub numbers : KeepNumbers before.states after.states
+  pub entries : (place : ℕ) → IsKnownAt before.table place → IsKnownAt after.table place
+
+-- a state is there in which a search stands at its first place, where walks start so and this
+-- stands before
+abbrev pub HasOneFirst : List AutomatonState → Starting → Behind → Type 0
+HasOneFirst states starting behind = (number : ℕ) × HasFirst states starting behind number
+
+-- however walks start from this state of the program, where this stands before
+pub record HasStarts (states : List AutomatonState) (q : ℕ) (behind : Behind) : Type 0 where
+  pub never : HasOneFirst states Never behind
+  pub once : HasOneFirst states (Once q) behind
+  pub always : HasOneFirst states (Always q) behind
+
+-- this is none, or a byte
+abbrev pub MayBeByte : Option ℕ → Type 0
+MayBeByte None = Unit {0}
+MayBeByte (Some b) = b < 256
+
+-- whatever stands before
+abbrev pub HasStartsFrom : ByteProgram → AlphabetView → List AutomatonState → ℕ → Type 0
+HasStartsFrom p alphabet states q = (byte : Option ℕ) → MayBeByte byte
+    → HasStarts states q (behind_of alphabet.asked p.line_terminator byte)
+
+-- from wherever walks of a search start
+abbrev pub HasAllStarts : ByteProgram → AlphabetView → List AutomatonState → Type 0
+HasAllStarts p alphabet states = (anchoring : Anchoring) (q : ℕ)
+    → start_node (characters_of p) anchoring ≡ Some q → HasStartsFrom p alphabet states q
+
+-- the states in which searches begin are there, and of each state each entry is known
+pub record IsClosedOf (p : ByteProgram) (alphabet : AlphabetView) (cache : CacheView) : Type 0 where
+  pub made : IsCacheOf p alphabet cache
+  pub starts : HasAllStarts p alphabet cache.states
+  pub known : AreKnown cache (length cache.states)
+
+-- why a search by one answers nothing: it met a byte of the slice before which it can't go on
+abbrev pub IsQuit : AskedLooks → Search → MatchError → Type 0
+IsQuit asked s (error.Quit b i) = IsRefusal asked s (error.Quit b i)
+IsQuit asked s _ = ⊥

@@ -1,0 +1,72 @@
+-- Tables by which searches by an automaton go, and why they answer nothing.
+use Rattle.std.specs.Prelude.{◌≡◌, ℕ, ◌+◌, ◌-◌, ◌<◌, ◌≤◌, ◌⊎◌, Bool, true, false, List, length, Option, Some, slice_get}
+use Rattle.rx_util.specs.declared.search.MatchError.{MatchError}
+use Rattle.rx_util.specs.declared.search.MatchError.TheVariants as error
+use Rattle.rx_walks.specs.Finds.{Anchoring, Search}
+use Rattle.rx_walks.specs.ProgramFinds.{start_node}
+use Rattle.rx_program.specs.Programs.{characters_of}
+use Rattle.rx_dfa.specs.declared.automaton.Automaton.{Automaton}
+use Rattle.rx_dfa.specs.declared.behind.Behind.{Behind}
+use Rattle.rx_dfa.specs.declared.states.AutomatonState.{AutomatonState}
+use Rattle.rx_dfa.specs.declared.states.Starting.{Starting}
+use Rattle.rx_dfa.specs.declared.states.Starting.TheVariants.{Never, Once, Always}
+use Rattle.rx_dfa.specs.Behind.{behind_of, quits}
+use Rattle.rx_dfa.specs.Alphabets.{IsAlphabetOf, ahead_in}
+use Rattle.rx_dfa.specs.Caches as caches
+use Rattle.rx_dfa.specs.Caches.{CacheView, IsCacheOf}
+use Rattle.rx_dfa.specs.DenseTables.{IsClosedOf, IsQuit, MayBeByte}
+use Rattle.rx_dfa.specs.Passing.{IsRefusal}
+
+-- the alphabet is the program's
+abbrev pub IsAutomaton : Automaton → Type 0
+IsAutomaton a = IsAlphabetOf a.program.now a.alphabet.now
+
+-- a cache of an automaton
+abbrev pub IsCacheBy : Automaton → CacheView → Type 0
+IsCacheBy a cache = IsCacheOf a.program.now a.alphabet.now cache
+
+-- a table of an automaton, in which some states and steps are known, or all
+abbrev pub IsTable : Bool → Automaton → CacheView → Type 0
+IsTable false a table = IsCacheBy a table
+IsTable true a table = IsClosedOf a.program.now a.alphabet.now table
+
+-- a step in a column came to a state, or can't be made
+abbrev pub HasStepped : Automaton → List AutomatonState → AutomatonState → ℕ → Option ℕ → Type 0
+HasStepped a states x column next =
+    caches.HasStepped a.program.now a.alphabet.now states x (ahead_in a.alphabet.now column) next
+
+-- from this state of the program walks start, if they do
+abbrev pub StartsFrom : ℕ → Starting → Type 0
+StartsFrom q Never = Unit {0}
+StartsFrom q (Once r) = r ≡ q
+StartsFrom q (Always r) = r ≡ q
+
+-- a search may begin so
+pub record IsBeginning (a : Automaton) (starting : Starting) (behind : Behind) : Type 0 where
+  pub anchoring : Anchoring
+  pub start : ℕ
+  pub starts : start_node (characters_of a.program.now) anchoring ≡ Some start
+  pub starting_is : StartsFrom start starting
+  pub byte : Option ℕ
+  pub may_be : MayBeByte byte
+  pub behind_is : behind ≡ behind_of a.alphabet.now.asked a.program.now.line_terminator byte
+
+-- why a table has no step at a place, or no first state: there was no memory, or no room; nothing
+-- lacks where all is known
+abbrev pub IsLack : Bool → ℕ → MatchError → Type 0
+IsLack false at e = (e ≡ error.Memory) ⊎ (e ≡ error.GaveUp at)
+IsLack true at e = ⊥
+
+-- why bytes that stand from a place on weren't all passed
+abbrev pub IsRefusalAmong : Bool → Automaton → ℕ → List ℕ → MatchError → Type 0
+IsRefusalAmong is_whole a at bytes error.Memory = is_whole ≡ false
+IsRefusalAmong is_whole a at bytes (error.Quit b i) =
+    (at ≤ i) × (slice_get bytes (i - at) ≡ Some b) × (quits a.alphabet.now.asked (Some b) ≡ true)
+IsRefusalAmong is_whole a at bytes (error.GaveUp i) =
+    (is_whole ≡ false) × (at ≤ i) × (i < at + length bytes)
+IsRefusalAmong is_whole a at bytes (error.UnsupportedAnchored mode) = ⊥
+
+-- why a search by a table answers nothing
+abbrev pub IsRefusalBy : Bool → Automaton → Search → MatchError → Type 0
+IsRefusalBy false a s e = IsRefusal a.alphabet.now.asked s e
+IsRefusalBy true a s e = IsQuit a.alphabet.now.asked s e

@@ -1,0 +1,145 @@
+//! The alphabet of a program's automaton.
+
+ghost use Rattle.std.specs.Prelude.{◌≡◌, ◌<◌, None, Some, true, false, slice_get, IfOk, IfSome};
+ghost use Rattle.rx_dfa.specs.Behind.{quits};
+ghost use Rattle.rx_dfa.specs.Classes.{class_of};
+ghost use Rattle.rx_dfa.specs.States.{ahead_of_end};
+ghost use Rattle.rx_dfa.specs.Alphabets.{IsAlphabetOf, column_count, ahead_in};
+
+use crate::behind::{byte_that_quits, quits_at};
+use crate::classes::ByteClasses;
+use crate::states::Ahead;
+use rx_program::Program;
+use rx_steps::AskedLooks;
+use std::alloc::{AllocError, Global};
+use std::marker::Model;
+
+/// What a program can tell apart of what stands at a place: what its automaton has to know of it;
+/// and how much room its states may take in a cache, about, in bytes. Contracts see the looks that
+/// the program asks for, its classes of bytes, whether empty matches inside a character are passed
+/// over, and that room.
+#[derive(Debug, Drop)]
+pub struct Alphabet {
+    asked: AskedLooks,
+    classes: ByteClasses,
+    utf8_empty: bool,
+    capacity: usize,
+}
+
+impl Model for Alphabet {
+    ghost use Rattle.rx_dfa.specs.Alphabets.{AlphabetView};
+
+    ghost Value = { AlphabetView };
+
+    ghost view = { λ d. record {
+      asked = d.asked;
+      classes = d.classes;
+      utf8_empty = d.utf8_empty;
+      capacity = d.capacity;
+    } };
+}
+
+impl Alphabet {
+    /// The alphabet of a program. `utf8_empty` passes over empty matches inside a character. It
+    /// takes time in proportion to the program's states and the ranges of their automata, and a few
+    /// hundred bytes.
+    pub fn new(
+        alloc: Global,
+        program: &Program,
+        utf8_empty: bool,
+        capacity: usize,
+    ) -> Result<Alphabet, AllocError>
+        ensures made { IfOk result (λ alphabet. IsAlphabetOf program.now alphabet) }
+        ensures utf8_empty { IfOk result (λ alphabet. alphabet.utf8_empty ≡ utf8_empty) }
+    {
+        let asked = AskedLooks::of(program.states());
+        let classes = ByteClasses::new(alloc, program, asked)?;
+        Ok(Alphabet {
+            asked,
+            classes,
+            utf8_empty,
+            capacity,
+        })
+    }
+
+    /// Which looks the program asks for.
+    pub(crate) fn asked(&self) -> AskedLooks
+        ensures { result ≡ self.now.asked }
+    {
+        self.asked
+    }
+
+    /// About how much room its states may take, in bytes.
+    pub(crate) fn capacity(&self) -> usize
+        ensures { result ≡ self.now.capacity }
+    {
+        self.capacity
+    }
+
+    /// Whether empty matches inside a character are passed over.
+    pub(crate) fn utf8_empty(&self) -> bool
+        ensures { result ≡ self.now.utf8_empty }
+    {
+        self.utf8_empty
+    }
+
+    /// The column of a byte.
+    #[inline(always)]
+    pub(crate) fn class(&self, byte: u8) -> usize
+        ensures { result ≡ class_of self.now.classes byte }
+    {
+        self.classes.class(byte)
+    }
+
+    /// Whether a search can't go on before this byte, or none.
+    pub(crate) fn quits_at(&self, seen: Option<u8>) -> bool
+        ensures { result ≡ quits self.now.asked seen }
+    {
+        quits_at(self.asked, seen)
+    }
+
+    /// The byte, if a search can't go on before it.
+    pub(crate) fn byte_that_quits(&self, seen: Option<u8>) -> Option<u8>
+        ensures none { result ≡ None → quits self.now.asked seen ≡ false }
+        ensures some { IfSome result
+            (λ b. (seen ≡ Some b) × (quits self.now.asked (Some b) ≡ true)) }
+    {
+        byte_that_quits(self.asked, seen)
+    }
+
+    /// A byte of a column, and none at the end of the slice.
+    pub(crate) fn byte(&self, column: usize) -> Option<u8>
+        ensures { result ≡ slice_get self.now.classes.bytes column }
+    {
+        self.classes.byte(column)
+    }
+
+    /// How many columns a table has: one for each class, and two for the end of the slice.
+    pub(crate) fn column_count(&self) -> usize
+        ensures { result ≡ column_count self.now }
+    {
+        self.classes.column_count()
+    }
+
+    /// The column for the end of the slice, where a match may begin or not.
+    pub(crate) fn end_column(&self, may_begin: bool) -> usize
+        ensures inside { result < column_count self.now }
+        ensures end { ahead_in self.now result ≡ ahead_of_end may_begin }
+    {
+        if may_begin {
+            self.classes.column_count() - 2
+        } else {
+            self.classes.column_count() - 1
+        }
+    }
+
+    /// What stands ahead in a column.
+    pub(crate) fn ahead(&self, column: usize) -> Ahead
+        ensures { result ≡ ahead_in self.now column }
+    {
+        match self.classes.byte(column) {
+            Some(byte) => Ahead::of(self.utf8_empty, byte),
+            None => Ahead::of_end(column == self.classes.column_count() - 2),
+        }
+    }
+}

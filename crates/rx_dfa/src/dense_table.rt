@@ -1,0 +1,173 @@
+//! Automata all of whose states and steps are made at once. A search takes no memory.
+
+ghost use Rattle.std.specs.Prelude.{◌≡◌, ◌<◌, ◌≤◌, true, Some, length, slice_get, IfSome, IfOk, IfErr};
+ghost use Rattle.rx_input.specs.Cursors.{IsSameContent};
+ghost use Rattle.rx_steps.specs.Searching.{search_of};
+ghost use Rattle.rx_dfa.specs.declared.states.AutomatonState.{AutomatonState};
+ghost use Rattle.rx_dfa.specs.Alphabets.{IsAlphabetOf, column_count};
+ghost use Rattle.rx_dfa.specs.Caches.{HasFirst, IsCacheOf};
+ghost use Rattle.rx_dfa.specs.DenseTables.{IsClosedOf, IsQuit};
+ghost use Rattle.rx_dfa.specs.Searching.{IsHalfAnswer};
+ghost use Rattle.rx_dfa.specs.Tables.{HasStepped, IsBeginning, IsTable};
+
+use crate::alphabet::Alphabet;
+use crate::automaton::Automaton;
+use crate::behind::Behind;
+use crate::cache::{Cache, QUIT};
+use crate::search::search;
+use crate::states::Starting;
+use crate::table::Table;
+use rx_input::{Cursor, Input};
+use rx_program::Program;
+use rx_util::{HalfMatch, MatchError};
+use std::alloc::{AllocError, Global};
+use std::marker::Model;
+
+/// What searches by an automaton go by where all its states and steps are made. Contracts see it as
+/// a cache.
+#[derive(Debug, Drop)]
+pub struct DenseTable {
+    cache: Cache,
+}
+
+impl Model for DenseTable {
+    ghost use Rattle.rx_dfa.specs.Caches.{CacheView};
+
+    ghost Value = { CacheView };
+
+    ghost view = { λ c. c.cache };
+}
+
+/// A cache for searches by an automaton of a program.
+fn new_cache(alloc: Global, program: &Program, alphabet: &Alphabet) -> Result<Cache, AllocError>
+    ensures { IfOk result (IsCacheOf program.now alphabet.now) }
+{
+    match Cache::new(alloc, program, alphabet) {
+        Ok(cache) => Ok(cache),
+        Err(_) => Err(AllocError),
+    }
+}
+
+impl DenseTable {
+    /// The states and steps of a program's automaton. There are none where it has more states than
+    /// `state_limit`, or they take more room than about `size_limit`, in bytes. It takes the steps
+    /// of the walks from each state before each class of bytes.
+    pub fn new(
+        alloc: Global,
+        program: &Program,
+        alphabet: &Alphabet,
+        state_limit: usize,
+        size_limit: usize,
+    ) -> Result<Option<DenseTable>, AllocError>
+        requires { IsAlphabetOf program.now alphabet.now }
+        ensures made { IfOk result (λ closed. IfSome closed (IsClosedOf program.now alphabet.now)) }
+        ensures limit { IfOk result (λ closed. IfSome closed
+            (λ c. length c.states ≤ state_limit)) }
+    {
+        let automaton = Automaton { program, alphabet };
+        let mut cache = new_cache(alloc, program, alphabet)?;
+        cache.add_all_starts(&automaton)?;
+        let is_closed = cache.close(&automaton, state_limit, size_limit)?;
+        if is_closed {
+            Ok(Some(DenseTable { cache }))
+        } else {
+            Ok(None)
+        }
+    }
+
+    /// About how many bytes its states take: a count that no contract fixes.
+    pub fn memory_usage(&self) -> usize {
+        self.cache.memory_usage()
+    }
+
+    /// The states and the steps between them.
+    fn cache(&self) -> &Cache
+        ensures { result.now ≡ self.now }
+    {
+        &self.cache
+    }
+
+    /// Where a column leads from a state: the number of the next state, and none where a search
+    /// can't go on.
+    fn step(&self, automaton: &Automaton, number: usize, column: usize) -> Option<usize>
+        requires closed { IsTable true automaton.now self.now }
+        requires number { number < length self.now.states }
+        requires column { column < column_count automaton.now.alphabet.now }
+        ensures { (x : AutomatonState) → slice_get self.now.states number ≡ Some x
+            → HasStepped automaton.now self.now.states x column result }
+    {
+        let entry = self.cache.entry(number, column);
+        if entry == QUIT {
+            return None;
+        }
+        Some(self.cache.number_at(entry))
+    }
+
+    /// The number of the state in which a search stands at its first place.
+    fn first(&self, automaton: &Automaton, starting: &Starting, side: &Behind) -> usize
+        requires closed { IsTable true automaton.now self.now }
+        requires begins { IsBeginning automaton.now starting.now side.now }
+        ensures { HasFirst self.now.states starting.now side.now result }
+    {
+        if let Some(number) = self.cache.kept_first(starting, side) {
+            return number;
+        }
+        match self.cache.find_first(starting, side) {
+            Some(number) => number,
+            None => unreachable!(),
+        }
+    }
+
+    /// Searches forward: answers the pattern and the end of the match that the program finds. The
+    /// one refusal is `Quit`, with a byte of 128 or more of the slice, where the program asks for
+    /// looks of words. It takes a look-up in a table for each byte, and no memory.
+    pub fn try_search_fwd<C: Cursor>(
+        &self,
+        program: &Program,
+        alphabet: &Alphabet,
+        input: &mut Input<C>,
+    ) -> Result<Option<HalfMatch>, MatchError>
+        requires alphabet { IsAlphabetOf program.now alphabet.now }
+        requires closed { IsClosedOf program.now alphabet.now self.now }
+        ensures answer { IfOk result
+            (IsHalfAnswer program.now (search_of alphabet.now.utf8_empty input.old)) }
+        ensures same { IsSameContent input.old.cursor input.new.cursor }
+        ensures asked { input.new.asked ≡ input.old.asked }
+        ensures refused { IfErr result
+            (IsQuit alphabet.now.asked (search_of alphabet.now.utf8_empty input.old)) }
+    {
+        let automaton = Automaton { program, alphabet };
+        let mut table = self;
+        search(&mut table, &automaton, input)
+    }
+}
+
+impl Table for &DenseTable {
+    ghost is_whole = { true };
+
+    ghost shown = { λ closed. closed.now };
+
+    fn known(&self) -> &Cache {
+        DenseTable::cache(self)
+    }
+
+    fn step(
+        &mut self,
+        automaton: &Automaton,
+        number: usize,
+        column: usize,
+        _at: usize,
+    ) -> Result<Option<usize>, MatchError> {
+        Ok(DenseTable::step(self, automaton, number, column))
+    }
+
+    fn first(
+        &mut self,
+        automaton: &Automaton,
+        starting: Starting,
+        side: Behind,
+        _at: usize,
+    ) -> Result<usize, MatchError> {
+        Ok(DenseTable::first(self, automaton, &starting, &side))
+    }
+}

@@ -1,0 +1,225 @@
+//! Makes all states to which searches may come, and all steps between them.
+
+ghost use Rattle.std.specs.Prelude.{◌≡◌, ◌+◌, ◌*◌, ◌<◌, ◌≤◌, ℕ, true, Some, length, slice_get, IfOk, OnOk};
+ghost use Rattle.rx_dfa.specs.declared.states.AutomatonState.{AutomatonState};
+ghost use Rattle.rx_dfa.specs.Alphabets.{ahead_in, column_count};
+ghost use Rattle.rx_dfa.specs.Caches.{IsEntry, IsSameState, KeepNumbers};
+ghost use Rattle.rx_dfa.specs.DenseTables.{AreKnown, Grows, HasAllStarts, HasOneFirst, HasStarts, HasStartsFrom, IsKnownAt};
+ghost use Rattle.rx_dfa.specs.States.{IsStateOf};
+ghost use Rattle.rx_dfa.specs.Tables.{IsAutomaton, IsCacheBy};
+
+use crate::automaton::Automaton;
+use crate::behind::Behind;
+use crate::cache::{Cache, QUIT, UNKNOWN};
+use crate::states::{AutomatonState, Starting};
+use rx_util::StateID;
+use std::alloc::AllocError;
+
+impl Cache {
+    /// The number of a state, which is added where it isn't found, however much room it takes.
+    fn found_or_added(
+        &mut self,
+        automaton: &Automaton,
+        state: AutomatonState,
+    ) -> Result<usize, AllocError>
+        requires made { IsCacheBy automaton.now self.old }
+        requires state { IsStateOf automaton.now.program.now state }
+        ensures made { IsCacheBy automaton.now self.new }
+        ensures number { IfOk result (λ number. (x : AutomatonState)
+            × (slice_get self.new.states number ≡ Some x) × IsSameState state x) }
+        ensures grows { OnOk result (Grows self.old self.new) }
+    {
+        if let Some(number) = self.find(&state) {
+            return Ok(number);
+        }
+        match self.add(automaton, state) {
+            Ok(number) => Ok(number),
+            Err(_) => Err(AllocError),
+        }
+    }
+
+    /// Adds a state in which a search stands at its first place.
+    fn add_first(
+        &mut self,
+        automaton: &Automaton,
+        starting: Starting,
+        side: Behind,
+    ) -> Result<(), AllocError>
+        requires made { IsCacheBy automaton.now self.old }
+        ensures made { IsCacheBy automaton.now self.new }
+        ensures first { OnOk result (HasOneFirst self.new.states starting side) }
+        ensures kept { OnOk result (KeepNumbers self.old.states self.new.states) }
+    {
+        let state = AutomatonState::first(automaton.program.allocator(), starting, side);
+        let number = self.found_or_added(automaton, state)?;
+        self.keep_first(&starting, &side, number);
+        Ok(())
+    }
+
+    /// Adds those in which walks start from a state of the program, where this stands before.
+    fn add_starts(
+        &mut self,
+        automaton: &Automaton,
+        start: StateID,
+        side: Behind,
+    ) -> Result<(), AllocError>
+        requires made { IsCacheBy automaton.now self.old }
+        ensures made { IsCacheBy automaton.now self.new }
+        ensures starts { OnOk result (HasStarts self.new.states start side) }
+        ensures kept { OnOk result (KeepNumbers self.old.states self.new.states) }
+    {
+        self.add_first(automaton, Starting::Never, side)?;
+        self.add_first(automaton, Starting::Once(start), side)?;
+        self.add_first(automaton, Starting::Always(start), side)?;
+        Ok(())
+    }
+
+    /// Adds them for whatever may stand before.
+    fn add_sides(&mut self, automaton: &Automaton, start: StateID) -> Result<(), AllocError>
+        requires is { IsAutomaton automaton.now }
+        requires made { IsCacheBy automaton.now self.old }
+        ensures made { IsCacheBy automaton.now self.new }
+        ensures starts { OnOk result (HasStartsFrom automaton.now.program.now
+            automaton.now.alphabet.now self.new.states start) }
+        ensures kept { OnOk result (KeepNumbers self.old.states self.new.states) }
+    {
+        for column in 0..automaton.alphabet.column_count() {
+            let side = automaton.side(automaton.alphabet.byte(column));
+            self.add_starts(automaton, start, side)?;
+        }
+        Ok(())
+    }
+
+    /// Adds those in which walks start from the state from which those of a pattern do.
+    fn add_patterns(&mut self, automaton: &Automaton) -> Result<(), AllocError>
+        requires is { IsAutomaton automaton.now }
+        requires made { IsCacheBy automaton.now self.old }
+        ensures made { IsCacheBy automaton.now self.new }
+        ensures starts { OnOk result ((k q : ℕ)
+            → slice_get automaton.now.program.now.patterns k ≡ Some q
+            → HasStartsFrom automaton.now.program.now automaton.now.alphabet.now
+            self.new.states q) }
+    {
+        for start in automaton.program.patterns() {
+            self.add_sides(automaton, *start)?;
+        }
+        Ok(())
+    }
+
+    /// Adds all states in which searches begin.
+    pub(crate) fn add_all_starts(&mut self, automaton: &Automaton) -> Result<(), AllocError>
+        requires is { IsAutomaton automaton.now }
+        requires made { IsCacheBy automaton.now self.old }
+        ensures made { IsCacheBy automaton.now self.new }
+        ensures starts { OnOk result (HasAllStarts automaton.now.program.now
+            automaton.now.alphabet.now self.new.states) }
+    {
+        self.add_patterns(automaton)?;
+        self.add_sides(automaton, automaton.program.start())?;
+        Ok(())
+    }
+}
+
+impl Cache {
+    /// The entry of a state in a column, with the state to which it leads, or one of which nothing
+    /// is known, if there is no room for where that state's row begins.
+    fn entry_made(
+        &mut self,
+        automaton: &Automaton,
+        number: usize,
+        column: usize,
+    ) -> Result<u32, AllocError>
+        requires made { IsCacheBy automaton.now self.old }
+        requires number { number < length self.old.states }
+        requires column { column < column_count automaton.now.alphabet.now }
+        ensures made { IsCacheBy automaton.now self.new }
+        ensures grows { OnOk result (Grows self.old self.new) }
+        ensures entry { IfOk result (λ entry. (x : AutomatonState)
+            → slice_get self.old.states number ≡ Some x
+            → IsEntry automaton.now.program.now automaton.now.alphabet.now self.new.width
+            self.new.states x (ahead_in automaton.now.alphabet.now column) entry) }
+    {
+        let ahead = automaton.alphabet.ahead(column);
+        if automaton.alphabet.quits_at(ahead.seen) {
+            return Ok(QUIT);
+        }
+        let state = match self.next_state(automaton, number, &ahead) {
+            Ok(state) => state,
+            Err(_) => return Err(AllocError),
+        };
+        let next = self.found_or_added(automaton, state)?;
+        Ok(self.entry_to(next))
+    }
+
+    /// Enters the step from a state in a column.
+    fn fill(
+        &mut self,
+        automaton: &Automaton,
+        number: usize,
+        column: usize,
+    ) -> Result<(), AllocError>
+        requires made { IsCacheBy automaton.now self.old }
+        requires number { number < length self.old.states }
+        requires column { column < column_count automaton.now.alphabet.now }
+        ensures made { IsCacheBy automaton.now self.new }
+        ensures grows { OnOk result (Grows self.old self.new) }
+        ensures known { OnOk result
+            (IsKnownAt self.new.table (number * self.new.width + column)) }
+    {
+        let entry = self.entry_made(automaton, number, column)?;
+        if entry == UNKNOWN {
+            return Err(AllocError);
+        }
+        self.set_entry(number, column, entry);
+        Ok(())
+    }
+
+    /// Enters all steps from a state, where those from the states before it are known.
+    fn fill_row(&mut self, automaton: &Automaton, number: usize) -> Result<(), AllocError>
+        requires made { IsCacheBy automaton.now self.old }
+        requires number { number < length self.old.states }
+        requires known { AreKnown self.old number }
+        ensures made { IsCacheBy automaton.now self.new }
+        ensures known { OnOk result (AreKnown self.new (number + 1)) }
+        ensures kept { OnOk result (KeepNumbers self.old.states self.new.states) }
+    {
+        for column in 0..automaton.alphabet.column_count() {
+            self.fill(automaton, number, column)?;
+        }
+        Ok(())
+    }
+
+    /// Whether there are at most so many states, in about so much room, in bytes.
+    fn is_within(&self, state_limit: usize, size_limit: usize) -> bool
+        ensures { result ≡ true → length self.now.states ≤ state_limit }
+    {
+        self.states.len() <= state_limit && self.used <= size_limit
+    }
+
+    /// Makes all states to which searches come, and enters all steps, unless there are more states
+    /// than so many, or they take more room than about so much: then it tells false.
+    pub(crate) fn close(
+        &mut self,
+        automaton: &Automaton,
+        state_limit: usize,
+        size_limit: usize,
+    ) -> Result<bool, AllocError>
+        requires made { IsCacheBy automaton.now self.old }
+        ensures made { IsCacheBy automaton.now self.new }
+        ensures kept { OnOk result (KeepNumbers self.old.states self.new.states) }
+        ensures known { IfOk result (λ is_closed. is_closed ≡ true
+            → AreKnown self.new (length self.new.states)) }
+        ensures limit { IfOk result (λ is_closed. is_closed ≡ true
+            → length self.new.states ≤ state_limit) }
+    {
+        let mut number = 0;
+        while number < self.states.len() {
+            if !self.is_within(state_limit, size_limit) {
+                return Ok(false);
+            }
+            self.fill_row(automaton, number)?;
+            number += 1;
+        }
+        Ok(self.is_within(state_limit, size_limit))
+    }
+}
