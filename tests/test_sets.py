@@ -8,7 +8,7 @@ import itertools
 import re
 import unicodedata
 
-from driver import EVERY_CHARACTER, about, answers, search
+from driver import EVERY_CHARACTER, Case, Settings, about, answers, line_of, problems, search, written
 from harness import short, test
 from walks import is_digit, is_space, is_word
 
@@ -68,6 +68,7 @@ JUDGED = [
     ("(?i:k)", lambda c: c in "kK\u212a"),
     ("[^\\s\\S]", lambda c: False),
 ]
+PATTERNS = [pattern for pattern, _ in JUDGED]
 # Sets of which each member is searched for by itself, also in bytes that are no UTF-8.
 SINGLE = ["\\w", "\\W", ".", "(?s:.)", "[^a]", "[\\x{D7FF}-\\x{E000}]"]
 
@@ -166,6 +167,42 @@ def wrong_singles(haystack):
     return wrong + more_wrong
 
 
+def read_back(pattern, haystack):
+    """A case of a set that is read back from each place of every scalar value, or of these bytes."""
+    told = haystack if haystack == EVERY_CHARACTER else haystack.hex()
+    return Case(f"{pattern!r} back", line_of("back", written(pattern), *Settings().fields(), None, told))
+
+
+def wrong_back(patterns, haystack):
+    """What is wrong with sets that are read back: at each place the member is taken whose UTF-8 stands last before it."""
+    text = EVERY if haystack == EVERY_CHARACTER else haystack.decode("utf-8", "surrogateescape")
+    places = offsets(text)
+    lens = [b"%d" % (end - start) for start, end in zip(places, places[1:])]
+    spelled, wrong = answers([about("parse", pattern) for pattern in patterns])
+    cases = [read_back(pattern, haystack) for pattern in patterns]
+    told, more_wrong = answers(cases)
+    for case, answer, ranges in zip(cases, told, map(code_points, spelled)):
+        members, due = members_of(ranges), bytearray(b"0" * (places[-1] + 1))
+        for c, end, length in zip(text, places[1:], lens):
+            if members[ord(c)]:
+                due[end : end + 1] = length
+        if answer.encode() != due:
+            at = next(at for at, (digit, wanted) in enumerate(zip(answer.encode() + b"?", due)) if digit != wanted)
+            wrong.append(f"{case.name}: {answer[at : at + 9]}, not {due[at : at + 9].decode()}, at byte {at}")
+    return wrong + more_wrong
+
+
+def cut_and_changed():
+    """Each scalar value's UTF-8 without its first byte, and with a byte changed, which goes round; parted by line feeds."""
+    rows = []
+    for c in EVERY:
+        spelling, code = c.encode(), ord(c)
+        changed = bytearray(spelling)
+        changed[code % len(spelling)] = (changed[code % len(spelling)] + code // 4 % 255 + 1) % 256
+        rows += [spelling[1:], bytes(changed)]
+    return SEPARATOR.join(rows)
+
+
 def first_and_second_bytes():
     """Bytes with each first and second byte, parted by line feeds."""
     thirds = [0x7F, 0x80, 0xBF, 0xC0]
@@ -188,3 +225,8 @@ def test_all():
     test(f"members of {len(SINGLE)} sets one by one in every scalar value", wrong_singles(EVERY_CHARACTER))
     test("the same in bytes with each first and second byte", wrong_singles(first_and_second_bytes()))
     test("the same in 400,000 bytes at random", wrong_singles(bytes_at_random()))
+    test(f"{len(JUDGED)} sets are read back from each place of every scalar value", wrong_back(PATTERNS, EVERY_CHARACTER))
+    test("the same of bytes with each first and second byte", wrong_back(PATTERNS, first_and_second_bytes()))
+    test("the same of 400,000 bytes at random", wrong_back(PATTERNS, bytes_at_random()))
+    test("the same of every scalar value cut, and with a byte changed", wrong_back(SINGLE, cut_and_changed()))
+    test(f"automata of {len(SIZES)} sets and their reverses have so many states and ranges", problems(map(size_case, SIZES)))

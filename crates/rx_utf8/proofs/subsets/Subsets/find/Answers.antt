@@ -1,0 +1,9 @@
+use Rattle.std.proofs.Common.{◌≡◌, ◌∙◌, sym}
+use Rattle.rx_utf8.proofs.ListLaws.{known_at}
+use Rattle.rx_utf8.proofs.subsets.Subsets.find.Goals as goal
+
+pub returns-then-eq-clause-set : goal.returns-then-eq-clause-set
+returns-then-eq-clause-set c =
+    known_at c.args.self.now.sets.items c.deref.result.now c.in_ok-number.field-0.now c.in_ok-known.known.now c.as_slice.result.now
+    c.deref.ensures.value c.in_ok-known.ensures.lookup.1 c.in_ok-known.ensures.lookup.3.0 c.as_slice.ensures.value
+    ∙ c.if-eq.ensures
