@@ -8,7 +8,8 @@ import itertools
 import re
 import unicodedata
 
-from driver import EVERY_CHARACTER, Case, Settings, about, answers, line_of, problems, search, written
+from driver import EVERY_CHARACTER, NO_MEMORY, Case, Settings
+from driver import about, answers, check_memory, line_of, problems, search, written
 from harness import short, test
 from walks import is_digit, is_space, is_word
 
@@ -71,6 +72,19 @@ JUDGED = [
 PATTERNS = [pattern for pattern, _ in JUDGED]
 # Sets of which each member is searched for by itself, also in bytes that are no UTF-8.
 SINGLE = ["\\w", "\\W", ".", "(?s:.)", "[^a]", "[\\x{D7FF}-\\x{E000}]"]
+
+# How many states and ranges of bytes a set's automaton has, and how many its reverse, as a subset construction by hand
+# has them: it asks each byte of each set of states.
+SIZES = [
+    ("a", "4 4 4 4"),
+    ("é", "5 5 5 7"),
+    (".", "8 17 6 15"),
+    ("[^a]", "8 17 6 15"),
+    ("(?s:.)", "8 16 6 14"),
+    ("(?i:k)", "6 8 6 12"),
+    ("[é-せ]", "8 13 8 21"),
+    ("[\\x{D7FF}-\\x{E000}]", "8 9 8 14"),
+]
 
 EVERY = "".join(map(chr, [*range(0xD800), *range(0xE000, LAST + 1)]))
 KNOWN = [c for c in EVERY if unicodedata.category(c) != "Cn"]
@@ -174,7 +188,7 @@ def read_back(pattern, haystack):
 
 
 def wrong_back(patterns, haystack):
-    """What is wrong with sets that are read back: at each place the member is taken whose UTF-8 stands last before it."""
+    """What is wrong with sets that are read back: from each place the member is taken whose UTF-8 stands last there."""
     text = EVERY if haystack == EVERY_CHARACTER else haystack.decode("utf-8", "surrogateescape")
     places = offsets(text)
     lens = [b"%d" % (end - start) for start, end in zip(places, places[1:])]
@@ -193,7 +207,7 @@ def wrong_back(patterns, haystack):
 
 
 def cut_and_changed():
-    """Each scalar value's UTF-8 without its first byte, and with a byte changed, which goes round; parted by line feeds."""
+    """Each scalar value's UTF-8 without its first byte, and with a byte changed, in turn; parted by line feeds."""
     rows = []
     for c in EVERY:
         spelling, code = c.encode(), ord(c)
@@ -225,8 +239,12 @@ def test_all():
     test(f"members of {len(SINGLE)} sets one by one in every scalar value", wrong_singles(EVERY_CHARACTER))
     test("the same in bytes with each first and second byte", wrong_singles(first_and_second_bytes()))
     test("the same in 400,000 bytes at random", wrong_singles(bytes_at_random()))
-    test(f"{len(JUDGED)} sets are read back from each place of every scalar value", wrong_back(PATTERNS, EVERY_CHARACTER))
+    name = f"{len(PATTERNS)} sets are read back from each place of every scalar value"
+    test(name, wrong_back(PATTERNS, EVERY_CHARACTER))
     test("the same of bytes with each first and second byte", wrong_back(PATTERNS, first_and_second_bytes()))
     test("the same of 400,000 bytes at random", wrong_back(PATTERNS, bytes_at_random()))
     test("the same of every scalar value cut, and with a byte changed", wrong_back(SINGLE, cut_and_changed()))
-    test(f"automata of {len(SIZES)} sets and their reverses have so many states and ranges", problems(map(size_case, SIZES)))
+    sizes = [about("sizes", pattern, told) for pattern, told in SIZES]
+    test(f"automata of {len(SIZES)} sets and their reverses have so many states and ranges", problems(sizes))
+    for pattern in ("é", "\\d"):
+        check_memory(read_back(pattern, "aé٣".encode()), NO_MEMORY)

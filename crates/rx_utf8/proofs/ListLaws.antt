@@ -1,8 +1,9 @@
 -- Lists of lists, of which one is changed.
 use Rattle.std.proofs.Common.{◌≡◌, ℕ, zero, suc, ◌+◌, ◌-◌, ◌<◌, ◌≤◌, ◌⊎◌, Bool, true, false, ◌&&◌, ◌||◌, cond, nat_le, nat_lt, List, [], ◌∷◌, ◌++◌, length, get_or, set, drop, take, refl, sym, ap, subst, ◌∙◌, arith, inl, inr}
-use Rattle.std.specs.Prelude.{Vec}
+use Rattle.std.specs.Prelude.{Vec, ◌==◌}
+use Rattle.std.specs.List.{list_any}
 use Rattle.std.proofs.lemmas.Bool.Decides.{nat_tests}
-use Rattle.std.proofs.lemmas.List.{append-nil, length-map}
+use Rattle.std.proofs.lemmas.List.{append-nil}
 use Rattle.rx_walks.specs.Reversed.{has}
 use Rattle.rx_utf8.specs.Blocks.{Extends}
 use Rattle.rx_utf8.specs.Subsets.{lists_of, in_some}
@@ -159,3 +160,10 @@ lists_append (x ∷ xs) ys = ap (λ zs. x.items ∷ zs) (lists_append xs ys)
 pub known_at : {Z : Type 0} (sets list : List (Vec ℕ Z)) (t : ℕ) (known : Vec ℕ Z) (items : List ℕ) → list ≡ sets → t < length list → known ≡ get_or list t known → items ≡ known.items → get_or (lists_of sets) t [] ≡ items
 known_at {Z = Z} sets list t known items same within at is =
     list_at sets t known (omega (arith, within, ap length same)) ∙ ap (λ (x : Vec ℕ Z). x.items) (ap (λ xs. get_or xs t known) (sym same) ∙ sym at) ∙ sym is
+
+pub any_has : (xs : List ℕ) (q : ℕ) → list_any (λ y. y == q) xs ≡ has xs q
+any_has [] q = refl
+any_has (x ∷ xs) q = ap (λ z. (x == q) || z) (any_has xs q)
+
+pub below_from : (a b : ℕ) → true ≡ nat_lt a b → a < b
+below_from a b e = grind (arith, nat_tests)

@@ -1,5 +1,5 @@
 -- The states from which bytes lead to places.
-use Rattle.std.proofs.Common.{◌≡◌, ℕ, zero, suc, ◌+◌, ◌-◌, ◌<◌, ◌≤◌, ◌⊎◌, Bool, true, false, ◌&&◌, ◌||◌, ◌==◌, cond, nat_le, nat_lt, List, [], ◌∷◌, ◌++◌, length, get_or, drop, Option, Some, None, refl, sym, ap, ap₂, subst, ◌∙◌, arith, inl, inr}
+use Rattle.std.proofs.Common.{◌≡◌, ℕ, zero, suc, ◌+◌, ◌-◌, ◌<◌, ◌≤◌, ◌⊎◌, Bool, true, false, ◌&&◌, ◌||◌, ◌==◌, cond, nat_le, List, [], ◌∷◌, ◌++◌, length, get_or, drop, Some, refl, sym, ap, ap₂, subst, ◌∙◌, arith, inl, inr}
 use Rattle.std.specs.Prelude.{Vec}
 use Rattle.std.specs.List.{All}
 use Rattle.std.proofs.lemmas.Bool.Decides.{nat_tests}
@@ -11,7 +11,7 @@ use Rattle.rx_utf8.specs.declared.byte_ranges.ByteRange.{ByteRange}
 use Rattle.rx_utf8.specs.declared.entries.Entry.{Entry}
 use Rattle.rx_utf8.specs.Automata.{look_up, step_in, IsRow, RiseWithin}
 use Rattle.rx_utf8.specs.Subsets.{lists_of, covers, entries_of, entries_from, sources}
-use Rattle.rx_utf8.proofs.RowLaws.{rise_above, rise_below, equal_or_not}
+use Rattle.rx_utf8.proofs.RowLaws.{rise_below, equal_or_not}
 use Rattle.rx_utf8.proofs.ListLaws.{length_lists, list_at}
 
 or_assoc : (a b c : Bool) → ((a || b) || c) ≡ (a || (b || c))
@@ -68,7 +68,7 @@ row_sources T U sub s b q low high (range ∷ row) rise =
     let xs = sources T others b in
     let again = row_sources T U sub s b q (range.last + 1) high row rise.2 in
     let none : covers range b ≡ true → leads_in T (look_up row b) ≡ false = λ e. ap (leads_in T) (rise_below (range.last + 1) high row b rise.2 (below_last range b e)) in
-    ap (λ z. has z q) (pushed_in (λ z. sources T z b) (U range.next) (entry ∷ others) others)
+    ap (λ z. has z q) (pushed_in (λ (z : List Entry). sources T z b) (U range.next) (entry ∷ others) others)
     ∙ one_range (U range.next) (T range.next) (covers range b) xs s q (leads_in T (look_up row b)) (sub range.next) again none
     ∙ ap (λ z. (s == q) && z) (sym (pushed_in (leads_in T) (covers range b) (Some range.next) (look_up row b)))
 
@@ -134,13 +134,31 @@ step_sources T U sub rows rises b q =
     from_none : (n : ℕ) → n - 0 ≡ n
     from_none n = omega arith
 
--- one entry, one row more
-pub sources_next : (into : Place → Bool) (entries : List Entry) (i b : ℕ) (entry : Entry) → i < length entries → entry ≡ get_or entries i entry
-    → sources into (drop i entries) b ≡ cond (into entry.range.next) (cond (covers entry.range b) (entry.source ∷ []) []) [] ++ sources into (drop (i + 1) entries) b
-sources_next into entries i b entry within is = at_drop_more (λ xs. sources into xs b) entries i entry within ∙ ap (λ x. sources into (x ∷ drop (i + 1) entries) b) (sym is)
-
+-- one row, one entry more
 pub entries_next : {Z : Type 0} (into : Place → Bool) (rows : List (Vec ByteRange Z)) (s : ℕ) (row : Vec ByteRange Z) → s < length rows → row ≡ get_or rows s row
     → entries_from into s (drop s (lists_of rows)) ≡ entries_of into s row.items ++ entries_from into (s + 1) (drop (s + 1) (lists_of rows))
 entries_next {Z = Z} into rows s row within is =
     at_drop_more (entries_from into s) (lists_of rows) s [] (omega (arith, within, length_lists rows))
     ∙ ap (λ x. entries_of into s x ++ entries_from into (s + 1) (drop (s + 1) (lists_of rows))) (list_at rows s row within ∙ ap (λ (x : Vec ByteRange Z). x.items) (sym is))
+
+sources_at : (into : Place → Bool) (entries : List Entry) (i b : ℕ) (d : Entry) → i < length entries
+    → sources into (drop i entries) b
+    ≡ cond (into (get_or entries i d).range.next) (cond (covers (get_or entries i d).range b) ((get_or entries i d).source ∷ []) []) [] ++ sources into (drop (i + 1) entries) b
+sources_at into entries i b d within = at_drop_more (λ xs. sources into xs b) entries i d within
+
+pub fill_taken : (into : Place → Bool) (entries : List Entry) (i : ℕ) (d : Entry) (old new : List (List ℕ)) → i < length entries → into (get_or entries i d).range.next ≡ true
+    → ((b : ℕ) → get_or new b [] ≡ get_or old b [] ++ cond (covers (get_or entries i d).range b) ((get_or entries i d).source ∷ []) [])
+    → ((b : ℕ) → get_or old b [] ++ sources into (drop i entries) b ≡ sources into entries b)
+    → (b : ℕ) → get_or new b [] ++ sources into (drop (i + 1) entries) b ≡ sources into entries b
+fill_taken into entries i d old new within is pushed so_far b =
+    let one = cond (covers (get_or entries i d).range b) ((get_or entries i d).source ∷ []) [] in
+    let rest = sources into (drop (i + 1) entries) b in
+    ap (λ xs. xs ++ rest) (pushed b) ∙ append_assoc (get_or old b []) one rest
+    ∙ ap (λ xs. get_or old b [] ++ xs) (sym (sources_at into entries i b d within ∙ ap (λ t. cond t one [] ++ rest) is)) ∙ so_far b
+
+pub fill_left : (into : Place → Bool) (entries : List Entry) (i : ℕ) (d : Entry) (old : List (List ℕ)) → i < length entries → into (get_or entries i d).range.next ≡ false
+    → ((b : ℕ) → get_or old b [] ++ sources into (drop i entries) b ≡ sources into entries b)
+    → (b : ℕ) → get_or old b [] ++ sources into (drop (i + 1) entries) b ≡ sources into entries b
+fill_left into entries i d old within is so_far b =
+    let rest = sources into (drop (i + 1) entries) b in
+    ap (λ xs. get_or old b [] ++ xs) (sym (sources_at into entries i b d within ∙ ap (λ t. cond t (cond (covers (get_or entries i d).range b) ((get_or entries i d).source ∷ []) []) [] ++ rest) is)) ∙ so_far b

@@ -10,7 +10,7 @@ use crate::byte_ranges::ByteRange;
 use std::alloc::{AllocError, Global};
 
 /// A range of bytes that leads on from a state.
-#[derive(Debug, Clone, Copy)]
+#[derive(Clone, Copy)]
 pub(crate) struct Entry {
     /// The state.
     pub(crate) source: usize,

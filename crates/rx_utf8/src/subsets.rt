@@ -173,14 +173,15 @@ impl Maker {
         requires forward { All IsRow (rows_of forward.now) }
         requires states { length self.old.states.items ≡ length forward.now }
         requires lists { length self.old.lists.items ≡ 256 }
-        requires some { 0 < length self.old.subsets.sets.items }
-        requires within { length self.old.rows.items ≤ length self.old.subsets.sets.items }
+        requires some { 0 < length (lists_of self.old.subsets.sets.items) }
+        requires within { length (rows_of self.old.rows.items)
+            ≤ length (lists_of self.old.subsets.sets.items) }
         requires disjoint { All IsRow (rows_of self.old.rows.items) }
         ensures states { OnOk result (length self.new.states.items ≡ length forward.now) }
         ensures lists { OnOk result (length self.new.lists.items ≡ 256) }
         ensures rows { OnOk result (AddsRows (length forward.now) (step_in (rows_of forward.now))
             (lists_of self.old.subsets.sets.items) (rows_of self.old.rows.items)
-            (length self.old.subsets.sets.items)
+            (length (lists_of self.old.subsets.sets.items))
             (lists_of self.new.subsets.sets.items) (rows_of self.new.rows.items)) }
     {
         let from = self.rows.len();
