@@ -62,8 +62,8 @@ one_filled {Z = Z} first byte source from lists base old new within is pushed so
 
     there : get_or (lists_of (set lists byte new)) byte [] ≡ filled_to base source first (byte + 1) byte
     there = set_here lists byte new within ∙ pushed
-      ∙ ap (λ xs. xs ++ source ∷ []) (sym at ∙ so_far byte ∙ ap (λ t. get_or base byte [] ++ cond t (source ∷ []) []) (none_yet first byte) ∙ append-nil (get_or base byte []))
-      ∙ ap (λ t. get_or base byte [] ++ cond t (source ∷ []) []) (sym (now_one first byte from))
+        ∙ ap (λ xs. xs ++ source ∷ []) (sym at ∙ so_far byte ∙ ap (λ t. get_or base byte [] ++ cond t (source ∷ []) []) (none_yet first byte) ∙ append-nil (get_or base byte []))
+        ∙ ap (λ t. get_or base byte [] ++ cond t (source ∷ []) []) (sym (now_one first byte from))
 
     by_place : (b ≡ byte) ⊎ ((b < byte) ⊎ (byte < b)) → get_or (lists_of (set lists byte new)) b [] ≡ filled_to base source first (byte + 1) b
     by_place (inl e) = subst (λ x. get_or (lists_of (set lists byte new)) x [] ≡ filled_to base source first (byte + 1) x) (sym e) there

@@ -46,7 +46,7 @@ pushed_in f false x y = refl
 
 -- one range
 one_range : (u t c : Bool) (xs : List ℕ) (s q : ℕ) (rest : Bool) → (t ≡ true → u ≡ true) → has xs q ≡ ((s == q) && rest) → (c ≡ true → rest ≡ false)
-    → has (cond u (cond t (cond c (s ∷ []) []) [] ++ xs) xs) q ≡ ((s == q) && cond c t rest)
+    → has (cond u (cond t (cond c (s ∷ []) []) [] ++ []) [] ++ xs) q ≡ ((s == q) && cond c t rest)
 one_range true true true xs s q rest sub e none = ap (λ z. (s == q) || z) (e ∙ ap (λ z. (s == q) && z) (none refl)) ∙ or_self (s == q)
 one_range true true false xs s q rest sub e none = e
 one_range true false true xs s q rest sub e none = e ∙ ap (λ z. (s == q) && z) (none refl)
@@ -68,7 +68,7 @@ row_sources T U sub s b q low high (range ∷ row) rise =
     let xs = sources T others b in
     let again = row_sources T U sub s b q (range.last + 1) high row rise.2 in
     let none : covers range b ≡ true → leads_in T (look_up row b) ≡ false = λ e. ap (leads_in T) (rise_below (range.last + 1) high row b rise.2 (below_last range b e)) in
-    ap (λ z. has z q) (pushed_in (λ (z : List Entry). sources T z b) (U range.next) (entry ∷ others) others)
+    ap (λ z. has z q) (sources_append T (cond (U range.next) (entry ∷ []) []) others b ∙ ap (λ z. z ++ xs) (pushed_in (λ (z : List Entry). sources T z b) (U range.next) (entry ∷ []) []))
     ∙ one_range (U range.next) (T range.next) (covers range b) xs s q (leads_in T (look_up row b)) (sub range.next) again none
     ∙ ap (λ z. (s == q) && z) (sym (pushed_in (leads_in T) (covers range b) (Some range.next) (look_up row b)))
 

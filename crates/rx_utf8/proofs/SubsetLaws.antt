@@ -193,7 +193,7 @@ row_added {Z = Z} forward all sets sets' sets'' rows rows' from to t level_end e
 
     reads : RowReads (length forward) (step_in forward) sets'' (length (lists_of sets)) (stands_for (length forward) (lists_of sets) t) row
     reads = row_reads forward all (is_place end states) (is_place level_end level) (stands_for (length forward) (lists_of sets) t) within same sets'' (length (lists_of sets))
-      (omega (arith, high, sizes)) row rises (λ b less. subst (λ k. IsLeadOf sets'' k (sources (is_place end states) (entries_from (is_place level_end level) 0 forward) b) (look_up row b)) (sym sizes) (leads b less))
+        (omega (arith, high, sizes)) row rises (λ b less. subst (λ k. IsLeadOf sets'' k (sources (is_place end states) (entries_from (is_place level_end level) 0 forward) b) (look_up row b)) (sym sizes) (leads b less))
 
 -- The levels that are made: whatever rows are added, the first state reads back if each state without
 -- a row reads the bytes that are left.
@@ -242,8 +242,8 @@ module _ (n : ℕ) (step : Automaton) (more : ℕ) (sets sets' : List (List ℕ)
     some = omega (arith, made.some, level.sets_kept.0);
     within = omega (arith, level.added, level.sets_kept.0);
     reads = λ m back low same each. made.reads m back (omega (arith, low, level.sets_kept.0))
-      (λ s b below. same s b (omega (arith, below, level.rows_kept.0)) ∙ ap (λ row. look_up row b) (level.rows_kept.1 s below))
-      (λ t from below b. subst (λ o. LeadsBack m step (λ next s. ReadsBack m step back more next s) (stands_for n sets t) b o) (sym (same t b (omega (arith, below, level.added))))
+        (λ s b below. same s b (omega (arith, below, level.rows_kept.0)) ∙ ap (λ row. look_up row b) (level.rows_kept.1 s below))
+        (λ t from below b. subst (λ o. LeadsBack m step (λ next s. ReadsBack m step back more next s) (stands_for n sets t) b o) (sym (same t b (omega (arith, below, level.added))))
         (row_leads m back low (λ t' from' below'. each t' (omega (arith, from', level.added)) below') (stands_for n sets t) b (look_up (get_or rows' t []) b) (level.reads t from below b)));
     never = λ s b e. by_row s b e (within_or_past s (length rows));
     disjoint = level.disjoint;

@@ -50,8 +50,8 @@ pub record IsReader (reader : Reader) : Type 0 where
   pub disjoint : All IsRow reader.rows
 
 -- the automaton reads the set's characters backwards: given the bytes of any content from the last
--- one back it takes the member whose UTF-8 stands last there, and nothing else. No byte leads to its
--- first state, and each of its rows has disjoint ranges
+-- one back it takes the member whose UTF-8 stands last there, and nothing else. No byte leads to
+-- its first state, and each of its rows has disjoint ranges
 pub record IsReverseReader (reader : Reader) : Type 0 where
   pub reads_last : ReadsLast (is_in reader.ranges) (step_of reader)
   pub never_returns : NeverReturns (step_of reader)

@@ -1,4 +1,4 @@
--- How an automaton is turned round: states of the new one stand for sets of states of the other one.
+-- How an automaton is turned round: states of the new one stand for sets of the other one's.
 use Rattle.std.specs.Prelude.{◌≡◌, ℕ, ◌+◌, ◌<◌, ◌≤◌, Bool, true, false, ◌&&◌, ◌||◌, nat_le, nat_lt, nat_eq, cond, List, [], ◌∷◌, ◌++◌, Option, Some, None, length, get_or, map, All, Vec}
 use Rattle.rx_utf8.specs.declared.byte_ranges.ByteRange.{ByteRange}
 use Rattle.rx_utf8.specs.declared.entries.Entry.{Entry}
@@ -25,7 +25,7 @@ is_place end states (Some s) = get_or states s false
 abbrev pub entries_of : (Place → Bool) → ℕ → List ByteRange → List Entry
 entries_of into s [] = []
 entries_of into s (range ∷ row) =
-    cond (into range.next) (record { source = s; range = range } ∷ entries_of into s row) (entries_of into s row)
+    cond (into range.next) (record { source = s; range = range } ∷ []) [] ++ entries_of into s row
 
 -- and those of all states from s on
 abbrev pub entries_from : (Place → Bool) → ℕ → List (List ByteRange) → List Entry
@@ -39,10 +39,11 @@ covers range b = nat_le range.first b && nat_le b range.last
 abbrev pub sources : (Place → Bool) → List Entry → ℕ → List ℕ
 sources into [] b = []
 sources into (entry ∷ entries) b =
-    cond (into entry.range.next) (cond (covers entry.range b) (entry.source ∷ []) []) [] ++ sources into entries b
+    cond (into entry.range.next) (cond (covers entry.range b) (entry.source ∷ []) []) []
+    ++ sources into entries b
 
--- what the states stand for: the first one for the end alone, each other one for a set of the states
--- below n
+-- what the states stand for: the first one for the end alone, each other one for a set of the
+-- states below n
 abbrev pub stands_for : ℕ → List (List ℕ) → ℕ → Place → Bool
 stands_for n sets t None = nat_eq t 0
 stands_for n sets t (Some s) = nat_lt s n && has (get_or sets t []) s

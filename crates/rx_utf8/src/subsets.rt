@@ -123,7 +123,7 @@ fn row_back(
         (lists_of subsets.new.sets.items)) }
     ensures leads { IfOk result (λ row. (b : ℕ) → b < 256
         → IsLeadOf (lists_of subsets.new.sets.items) from (get_or (lists_of lists.now) b [])
-            (look_up row.items b)) }
+        (look_up row.items b)) }
     ensures disjoint { IfOk result (λ row. IsRow row.items) }
 {
     let mut row = Vec::new(alloc);

@@ -15,11 +15,11 @@ loop-entry-preserved c =
       | then-is_place+in_ok-push_source w ↦ record {
         len = ap (λ v. length v.items) w.lists-is ∙ w.push_source.ensures.len;
         lists = subst (λ v. (b : ℕ) → get_or (lists_of v.items) b [] ++ sources into (drop (i + 1) entries) b ≡ sources into entries b) (sym w.lists-is)
-          (fill_taken into entries i _ (lists_of c.loop-entry.lists.items) (lists_of w.push_source.new.lists.items) within (sym c.is_place.ensures ∙ w.if-is_place.true) w.in_ok-push_source.ensures.lists inv.lists);
+            (fill_taken into entries i _ (lists_of c.loop-entry.lists.items) (lists_of w.push_source.new.lists.items) within (sym c.is_place.ensures ∙ w.if-is_place.true) w.in_ok-push_source.ensures.lists inv.lists);
       }
       | else-is_place w ↦ record {
         len = ap (λ v. length v.items) w.lists-is ∙ inv.len;
         lists = subst (λ v. (b : ℕ) → get_or (lists_of v.items) b [] ++ sources into (drop (i + 1) entries) b ≡ sources into entries b) (sym w.lists-is)
-          (fill_left into entries i _ (lists_of c.loop-entry.lists.items) within (sym c.is_place.ensures ∙ w.if-is_place.false) inv.lists);
+            (fill_left into entries i _ (lists_of c.loop-entry.lists.items) within (sym c.is_place.ensures ∙ w.if-is_place.false) inv.lists);
       }
     ]

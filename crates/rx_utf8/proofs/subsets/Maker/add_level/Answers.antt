@@ -28,12 +28,12 @@ loop-state-preserved c =
     let whole : Places (length F) old from to (from == 0) level = record {
       end_is = refl;
       states_are = λ s. ap (λ xs. get_or xs s false) c.deref-2.ensures.value ∙ c.set_states.ensures.states s
-        ∙ ap₂ (λ k xs. nat_lt s k && in_some (lists_of (take (to - from) (drop from xs))) s) (c.requires.states ∙ sym count) c.deref.ensures.value;
+          ∙ ap₂ (λ k xs. nat_lt s k && in_some (lists_of (take (to - from) (drop from xs))) s) (c.requires.states ∙ sym count) c.deref.ensures.value;
     } in
     let part : Places (length F) now t (t + 1) (t == 0) states = record {
       end_is = refl;
       states_are = λ s. ap (λ xs. get_or xs s false) c.deref-in-loop-state-3.ensures.value ∙ c.set_states-in-loop-state.ensures.states s
-        ∙ ap₂ (λ k xs. nat_lt s k && in_some (lists_of (take (t + 1 - t) (drop t xs))) s) (c.loop-state.invariant.states ∙ sym count) c.deref-in-loop-state.ensures.value;
+          ∙ ap₂ (λ k xs. nat_lt s k && in_some (lists_of (take (t + 1 - t) (drop t xs))) s) (c.loop-state.invariant.states ∙ sym count) c.deref-in-loop-state.ensures.value;
     } in
     let led = λ (b : ℕ). ap (λ xs. get_or (lists_of xs) b []) c.deref-in-loop-state-4.ensures.value ∙ c.in_ok-set_sources.ensures.lists b
     ∙ ap (λ es. sources (is_place (t == 0) states) es b) (c.deref-in-loop-state-2.ensures.value ∙ c.in_ok-entries.ensures) in
@@ -43,7 +43,7 @@ loop-state-preserved c =
     let pushed : rows_of c.push.new.self.items ≡ rows' ++ row ∷ [] = ap rows_of c.in_ok-push.ensures.items ∙ lists_append c.loop-state.self.rows.items (c.in_ok-row.row ∷ []) in
     record {
       rows = subst (λ xs. AddsRows (length c.args.forward.now) (step_in F) (lists_of old) rows (t + 1) new xs) (sym pushed)
-        (subst (λ k. AddsRows k (step_in F) (lists_of old) rows (t + 1) new (rows' ++ row ∷ [])) count added);
+          (subst (λ k. AddsRows k (step_in F) (lists_of old) rows (t + 1) new (rows' ++ row ∷ [])) count added);
       states = c.set_states-in-loop-state.ensures.len ∙ c.loop-state.invariant.states;
       lists = c.set_sources.ensures.len;
     }
