@@ -85,8 +85,9 @@ impl SetAutomaton {
         Ok(SetAutomaton { set, rows })
     }
 
-    /// The automaton that reads the set's characters backwards. It takes time and memory as the
-    /// notes tell.
+    /// The automaton that reads the set's characters backwards, which is made anew. It takes time
+    /// in proportion to this automaton's ranges, and for each state of its own, of which there are
+    /// at most some four thousand, to those of them that lead into its level.
     pub fn reversed(&self, alloc: Global) -> Result<ReverseAutomaton, AllocError>
         ensures { IfOk result (λ automaton. automaton.ranges ≡ self.now.ranges) }
     {

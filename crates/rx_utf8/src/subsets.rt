@@ -109,30 +109,30 @@ impl Subsets {
     }
 }
 
-/// The row of a state, given by byte the states from which it leads on: it leads to states from
-/// `from` on.
-fn row_back(
-    alloc: Global,
+/// Makes it the row of a state, given by byte the states from which it leads on: it leads to states
+/// from `from` on.
+fn set_row(
+    row: &mut Vec<ByteRange>,
     lists: &[Vec<usize>],
     subsets: &mut Subsets,
     from: usize,
-) -> Result<Vec<ByteRange>, AllocError>
+) -> Result<(), AllocError>
     requires lists { length lists.now ≡ 256 }
     requires from { from ≤ length subsets.old.sets.items }
     ensures kept { OnOk result (Extends (lists_of subsets.old.sets.items)
         (lists_of subsets.new.sets.items)) }
-    ensures leads { IfOk result (λ row. (b : ℕ) → b < 256
+    ensures leads { OnOk result ((b : ℕ) → b < 256
         → IsLeadOf (lists_of subsets.new.sets.items) from (get_or (lists_of lists.now) b [])
-        (look_up row.items b)) }
-    ensures disjoint { IfOk result (λ row. IsRow row.items) }
+            (look_up row.new.items b)) }
+    ensures disjoint { OnOk result (IsRow row.new.items) }
 {
-    let mut row = Vec::new(alloc);
+    row.clear();
     for code in 0..256_u32 {
         if let Some(next) = subsets.lead(from, &lists[code as usize])? {
-            push_byte(&mut row, code as u8, next)?;
+            push_byte(row, code as u8, next)?;
         }
     }
-    Ok(row)
+    Ok(())
 }
 
 /// The rows that are made so far, and what their making needs.
@@ -145,6 +145,8 @@ struct Maker {
     states: Vec<bool>,
     // By byte the states from which it leads into the set.
     lists: Vec<Vec<usize>>,
+    // The row that is being made: it is copied once its length is known.
+    row: Vec<ByteRange>,
 }
 
 impl Maker {
@@ -165,6 +167,7 @@ impl Maker {
             subsets: Subsets::new(alloc)?,
             states: vec![in alloc; false; state_count]?,
             lists,
+            row: Vec::new(alloc),
         })
     }
 
@@ -192,7 +195,8 @@ impl Maker {
         for state in from..to {
             set_states(&mut self.states, &self.subsets.sets[state..state + 1]);
             set_sources(&mut self.lists, &entries, state == 0, &self.states)?;
-            let row = row_back(self.alloc, &self.lists, &mut self.subsets, to)?;
+            set_row(&mut self.row, &self.lists, &mut self.subsets, to)?;
+            let row = self.row.to_vec(self.alloc)?;
             self.rows.push(row)?;
         }
         Ok(())

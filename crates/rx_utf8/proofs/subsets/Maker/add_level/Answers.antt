@@ -11,7 +11,7 @@ loop-state-preserved c =
     let F = rows_of c.args.forward.now in
     let old = c.args.self.now.subsets.sets.items in
     let now = c.loop-state.self.subsets.sets.items in
-    let new = lists_of c.row_back.new.subsets.sets.items in
+    let new = lists_of c.set_row.new.subsets.sets.items in
     let rows = rows_of c.args.self.now.rows.items in
     let rows' = rows_of c.loop-state.self.rows.items in
     let from = c.len-from.result in
@@ -19,7 +19,8 @@ loop-state-preserved c =
     let t = c.loop-state.state in
     let level = c.deref-2.result.now in
     let states = c.deref-in-loop-state-3.result.now in
-    let row = c.in_ok-row.row.items in
+    let row = c.set_row.new.row.items in
+    let copied : c.in_ok-row.row.items ≡ row = search rules in
     let count : length F ≡ length c.args.forward.now = length_lists c.args.forward.now in
     let size : to ≡ length old = search rules in
     let low : from ≤ t = omega arith in
@@ -38,9 +39,9 @@ loop-state-preserved c =
     let led = λ (b : ℕ). ap (λ xs. get_or (lists_of xs) b []) c.deref-in-loop-state-4.ensures.value ∙ c.in_ok-set_sources.ensures.lists b
     ∙ ap (λ es. sources (is_place (t == 0) states) es b) (c.deref-in-loop-state-2.ensures.value ∙ c.in_ok-entries.ensures) in
     let added : AddsRows (length F) (step_in F) (lists_of old) rows (t + 1) new (rows' ++ row ∷ []) =
-    row_added F c.requires.forward old now new rows rows' from to t (from == 0) (t == 0) level states row size low high so_far whole part c.in_ok-row.ensures.kept
-    (λ b less. subst (λ xs. IsLeadOf new to xs (look_up row b)) (led b) (c.in_ok-row.ensures.leads b less)) c.in_ok-row.ensures.disjoint in
-    let pushed : rows_of c.push.new.self.items ≡ rows' ++ row ∷ [] = ap rows_of c.in_ok-push.ensures.items ∙ lists_append c.loop-state.self.rows.items (c.in_ok-row.row ∷ []) in
+    row_added F c.requires.forward old now new rows rows' from to t (from == 0) (t == 0) level states row size low high so_far whole part c.in_ok-set_row.ensures.kept
+    (λ b less. subst (λ xs. IsLeadOf new to xs (look_up row b)) (led b) (c.in_ok-set_row.ensures.leads b less)) c.in_ok-set_row.ensures.disjoint in
+    let pushed : rows_of c.push.new.self.items ≡ rows' ++ row ∷ [] = ap rows_of c.in_ok-push.ensures.items ∙ lists_append c.loop-state.self.rows.items (c.in_ok-row.row ∷ []) ∙ ap (λ xs. rows' ++ xs ∷ []) copied in
     record {
       rows = subst (λ xs. AddsRows (length c.args.forward.now) (step_in F) (lists_of old) rows (t + 1) new xs) (sym pushed)
           (subst (λ k. AddsRows k (step_in F) (lists_of old) rows (t + 1) new (rows' ++ row ∷ [])) count added);

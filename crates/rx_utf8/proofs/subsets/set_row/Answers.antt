@@ -2,8 +2,8 @@ use Rattle.std.proofs.Common.{◌≡◌, ◌<◌, ◌+◌, [], length, get_or, r
 use Rattle.rx_utf8.specs.Subsets.{IsLeadOf, lists_of}
 use Rattle.rx_utf8.proofs.ListLaws.{known_at, kept_on}
 use Rattle.rx_utf8.proofs.SubsetLaws.{Led, led_push, led_skip}
-use Rattle.rx_utf8.proofs.subsets.row_back.Goals.{in-Some+in_ok-push_byte, in_default}
-use Rattle.rx_utf8.proofs.subsets.row_back.Goals as goal
+use Rattle.rx_utf8.proofs.subsets.set_row.Goals.{in-Some+in_ok-push_byte, in_default}
+use Rattle.rx_utf8.proofs.subsets.set_row.Goals as goal
 
 pub loop-code-preserved : goal.loop-code-preserved
 loop-code-preserved c =

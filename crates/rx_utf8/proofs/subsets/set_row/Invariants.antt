@@ -1,7 +1,7 @@
 use Rattle.rx_utf8.specs.Blocks.{Extends}
 use Rattle.rx_utf8.specs.Subsets.{lists_of}
 use Rattle.rx_utf8.proofs.SubsetLaws.{Led}
-use Rattle.rx_utf8.proofs.subsets.row_back.Given as goal
+use Rattle.rx_utf8.proofs.subsets.set_row.Given as goal
 
 -- the row is filled up to the byte
 abbrev pub invariant-loop-code : goal.invariant-loop-code
