@@ -16,6 +16,10 @@
 //! - `groups,PATTERN,SETTINGS`: the names of the groups, a dash for one without a name.
 //! - `compile,PATTERN,SETTINGS,LIMIT`: the states of the program.
 //! - `build,PATTERN,SETTINGS,LIMIT`: how many they are.
+//! - `sizes,PATTERN,SETTINGS,LIMIT`: how many states and ranges of bytes the automaton of the
+//!   pattern's first set has, and how many its reverse.
+//! - `back,PATTERN,SETTINGS,LIMIT,HAYSTACK`: from each place of the haystack back, how many bytes
+//!   that reverse takes, as a digit, which is 0 where it takes none.
 //! - `search,PATTERN,SETTINGS,CUT,HAYSTACK,ASKED,INSIDE,TAKEN`: all matches, with their groups.
 //!   `INSIDE` is 1 where empty matches inside a character are found too; and the haystack is cut to
 //!   the length `TAKEN` first.
@@ -60,6 +64,7 @@ mod regexes;
 mod ropes;
 mod searchers;
 mod searches;
+mod sets;
 mod slots;
 
 use fields::{Fault, Fields};
@@ -75,6 +80,8 @@ fn answer(alloc: Global, line: &str) -> Result<String, Fault> {
         "groups" => patterns::groups(alloc, &fields),
         "compile" => programs::states(alloc, &fields),
         "build" => programs::size(alloc, &fields),
+        "sizes" => sets::sizes(alloc, &fields),
+        "back" => sets::back(alloc, &fields),
         "search" => searches::matches(alloc, &fields),
         "advance" | "advance_half" => searchers::matches(alloc, &fields),
         "slots" => slots::noted(alloc, &fields),
