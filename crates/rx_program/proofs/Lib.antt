@@ -18,3 +18,4 @@ pub mod GroupLaws
 pub mod SeveralLaws
 pub mod TakingLaws
 pub mod EmptyLaws
+pub mod OwnerLaws

@@ -4,5 +4,6 @@ pub mod Errors
 pub mod Programs
 pub mod Jobs
 pub mod Closed
+pub mod Owned
 pub mod Taking
 pub mod Laws

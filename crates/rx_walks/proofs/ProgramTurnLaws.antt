@@ -1,11 +1,18 @@
 -- A program's paths, and those of the program turned round.
-use Rattle.std.proofs.Common.{◌≡◌, ℕ, ◌+◌, ◌-◌, ◌≤◌, Bool, length, Some, slice_get, sym, subst, arith}
+use Rattle.std.proofs.Common.{◌≡◌, ℕ, ◌+◌, ◌-◌, ◌≤◌, ◌↔◌, Bool, length, Some, slice_get, sym, subst, arith}
 use Rattle.rx_walks.specs.Paths.{Path}
-use Rattle.rx_walks.specs.Programs.{Program, Haystack, over_characters}
+use Rattle.rx_walks.specs.Looks.{Look}
+use Rattle.rx_walks.specs.Bytes.{Automaton, over_bytes}
+use Rattle.rx_walks.specs.Laws.{ReadsMembers}
+use Rattle.rx_walks.specs.Refinements.{Refines}
+use Rattle.rx_walks.specs.Programs.{Program, Haystack, fresh_notes, put_note, over_characters}
 use Rattle.rx_walks.specs.ProgramFinds.{first_by}
 use Rattle.rx_walks.proofs.WalkLaws.{same_some}
 use Rattle.rx_walks.specs.Reversed.{mirrored, last_by, back_start, back_program}
 use Rattle.rx_walks.specs.BackLaws.{PathsTurn}
+use Rattle.rx_walks.proofs.AllFindLaws.{paths_agree}
+use Rattle.rx_walks.proofs.ForwardLaws.{number_told, pair_told}
+use Rattle.rx_walks.proofs.ProgramLaws.{bytes_refine}
 use Rattle.rx_walks.proofs.TrailLaws.{path_trail, trail_path}
 use Rattle.rx_walks.proofs.NodeLaws.{indexed_at, length-indexed, below_get, get_below}
 use Rattle.rx_walks.proofs.TurnLaws.{Whole, forth_one, forth_any, back_one, back_any}
@@ -68,7 +75,7 @@ module _ {L S N : Type 0} (put : ℕ → ℕ → N → N) (member : S → ℕ �
       let place : from.place ≡ s = omega (arith, low, from.mirror) in
       subst (λ z. Forth z s t e) node (subst (λ z. Forth from.node z t e) place from.path)
 
-  pub program_turns : PathsTurn put member p h
+  pub program_turns : PathsTurn put member p h (back_program p) Back
   program_turns = record {
     of_any = λ k q s e at low high. (
       (λ one. path_any one.0 k q s e at low high one.1),
@@ -79,3 +86,24 @@ module _ {L S N : Type 0} (put : ℕ → ℕ → N → N) (member : S → ℕ �
       (λ path. one_start k q s t e at low (path_back_one t k r (size - s) e at_t high path)),
     );
   }
+
+-- the same of its bytes
+pub program_turns_in_bytes : {S : Type 0} (member : S → ℕ → Bool) (p : Program Look S) (step : ℕ → Automaton) → ReadsMembers (last_by member) step (back_program p).nodes → (h : Haystack Look) → h.low ≤ length h.content → h.high ≤ length h.content
+    → PathsTurn put_note member p h (back_program p) (λ r i k e. Path (over_bytes put_note step (back_program p).nodes (mirrored h)) (r, 0) i k e)
+program_turns_in_bytes member p step members h low_in high_in =
+    let turns = program_turns put_note member p h low_in high_in in
+    let refines = bytes_refine put_note (last_by member) step (back_program p).nodes (mirrored h) members in
+    record {
+      of_any = λ k q s e at low high. (
+        (λ one. (agree refines (back_program p).start (length h.content - e) k (length h.content - s)).0 ((turns.of_any k q s e at low high).0 one)),
+        (λ path. (turns.of_any k q s e at low high).1 ((agree refines (back_program p).start (length h.content - e) k (length h.content - s)).1 path)),
+      );
+      of_one = λ t k q r s e at at_t low high. (
+        (λ path. (agree refines r (length h.content - e) k (length h.content - s)).0 ((turns.of_one t k q r s e at at_t low high).0 path)),
+        (λ path. (turns.of_one t k q r s e at at_t low high).1 ((agree refines r (length h.content - e) k (length h.content - s)).1 path)),
+      );
+    }
+  where
+    agree : Refines (over_characters put_note (last_by member) (back_program p).nodes (mirrored h)) (over_bytes put_note step (back_program p).nodes (mirrored h)) (λ q. (q, 0)) → (r i k e : ℕ)
+        → Path (over_characters put_note (last_by member) (back_program p).nodes (mirrored h)) r i k e ↔ Path (over_bytes put_note step (back_program p).nodes (mirrored h)) (r, 0) i k e
+    agree refines r i k e = paths_agree r i k e refines number_told pair_told (fresh_notes 0)

@@ -114,26 +114,34 @@ NothingIsFoundOutside member is_word p = (s : Search) → (FitsContent s → ⊥
 -- ---- the program turned round
 
 -- the paths of a program from pattern k's start to a match's end are those of the program turned
--- round from that end to that start, over the content turned round
+-- round from that end to that start, over the content turned round; `Back` tells which those are
 pub record PathsTurn {L S N : Type 0} (put : ℕ → ℕ → N → N) (member : S → ℕ → Bool)
-    (p : Program L S) (h : Haystack L) : Type 0 where
+    (p : Program L S) (h : Haystack L) (turned : Program L S)
+    (Back : ℕ → ℕ → ℕ → ℕ → Type 0) : Type 0 where
   pub of_any : (k q s e : ℕ) → slice_get p.patterns k ≡ Some q
       → s ≤ length h.content → e ≤ length h.content
       → ((t : ℕ) × Path (over_characters put (first_by member) p.nodes h) q s t e)
-      ↔ Path (over_characters put (last_by member) (back_program p).nodes (mirrored h))
-      (back_program p).start (length h.content - e) k (length h.content - s)
+      ↔ Back turned.start (length h.content - e) k (length h.content - s)
   -- where the match is one of pattern t
   pub of_one : (t k q r s e : ℕ) → slice_get p.patterns k ≡ Some q
-      → slice_get (back_program p).patterns t ≡ Some r
+      → slice_get turned.patterns t ≡ Some r
       → s ≤ length h.content → e ≤ length h.content
       → Path (over_characters put (first_by member) p.nodes h) q s t e
-      ↔ Path (over_characters put (last_by member) (back_program p).nodes (mirrored h))
-      r (length h.content - e) k (length h.content - s)
+      ↔ Back r (length h.content - e) k (length h.content - s)
 
 abbrev pub ProgramTurns : {L S N : Type 0} → (ℕ → ℕ → N → N) → (S → ℕ → Bool) → Program L S
     → Haystack L → Type 0
 ProgramTurns put member p h = h.low ≤ length h.content → h.high ≤ length h.content
-    → PathsTurn put member p h
+    → PathsTurn put member p h (back_program p)
+    (λ r i k e. Path (over_characters put (last_by member) (back_program p).nodes (mirrored h)) r i k e)
+
+-- and so are those of its bytes
+abbrev pub ProgramTurnsInBytes : {S : Type 0} → (S → ℕ → Bool) → Program Look S → (ℕ → Automaton)
+    → Type 0
+ProgramTurnsInBytes member p step = ReadsMembers (last_by member) step (back_program p).nodes
+    → (h : Haystack Look) → h.low ≤ length h.content → h.high ≤ length h.content
+    → PathsTurn put_note member p h (back_program p)
+    (λ r i k e. Path (over_bytes put_note step (back_program p).nodes (mirrored h)) (r, 0) i k e)
 
 -- the loop over places of the content turned round, by the bytes of the program turned round, finds
 -- what the program finds back; where an unknown pattern is asked for, there is nothing

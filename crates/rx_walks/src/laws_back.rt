@@ -2,7 +2,7 @@
 //! the law.
 
 ghost use Rattle.rx_walks.specs.Transposed.{ReadsAlike, ReadsOn, TransposedReadsLast};
-ghost use Rattle.rx_walks.specs.BackLaws.{FindsBackAtMostOne, FindsMatchBack, FindsStartBack, FindsStartFirst, NothingIsFoundOutside, OwnersKeepPatterns, PathsAreCut, PathsAreTrails, ProgramIsSearchedBack, ProgramTurns, ReadersFindAll, ReadsTurn};
+ghost use Rattle.rx_walks.specs.BackLaws.{FindsBackAtMostOne, FindsMatchBack, FindsStartBack, FindsStartFirst, NothingIsFoundOutside, OwnersKeepPatterns, PathsAreCut, PathsAreTrails, ProgramIsSearchedBack, ProgramTurns, ProgramTurnsInBytes, ReadersFindAll, ReadsTurn};
 ghost use Rattle.rx_walks.specs.Laws.{IsTold};
 ghost use Rattle.rx_walks.specs.Programs.{Haystack, Node, Program};
 ghost use Rattle.rx_walks.specs.Looks.{Look};
@@ -80,6 +80,12 @@ pub fn finds_start_back<S>()
 pub fn program_turns<L, S, N>()
     ensures { (put : ℕ → ℕ → N → N) (member : S → ℕ → Bool) (p : Program L S) (h : Haystack L)
         → ProgramTurns put member p h }
+{}
+
+/// And so are those of its bytes, where its automata read characters backwards.
+pub fn program_turns_in_bytes<S>()
+    ensures { (member : S → ℕ → Bool) (p : Program Look S) (step : ℕ → Automaton)
+        → ProgramTurnsInBytes member p step }
 {}
 
 /// The loop over places of the content turned round finds what is found back.
