@@ -19,3 +19,5 @@ pub mod SeveralLaws
 pub mod TakingLaws
 pub mod EmptyLaws
 pub mod OwnerLaws
+pub mod ArrivalLaws
+pub mod ReverseLaws

@@ -1,12 +1,9 @@
 -- Whose pattern's each node of a program is.
 use Rattle.std.specs.Prelude.{ℕ, zero, suc, ◌+◌, Bool, nat_lt, cond, List, [], ◌∷◌, Option, Some, None}
-use Rattle.rx_sets.specs.Sets.{Range}
 use Rattle.rx_utf8.specs.Automata.{is_in}
 use Rattle.rx_grammar.specs.Trees.{Tree}
 use Rattle.rx_grammar.specs.Weights.{size_of}
-use Rattle.rx_walks.specs.Looks as walks
 use Rattle.rx_walks.specs.Finds.{Search}
-use Rattle.rx_walks.specs.Programs.{Program}
 use Rattle.rx_walks.specs.Owners.{HasOwners, KeepsPatterns}
 use Rattle.rx_program.specs.Code.{program_of}
 

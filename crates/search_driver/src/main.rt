@@ -16,6 +16,8 @@
 //! - `groups,PATTERN,SETTINGS`: the names of the groups, a dash for one without a name.
 //! - `compile,PATTERN,SETTINGS,LIMIT`: the states of the program.
 //! - `build,PATTERN,SETTINGS,LIMIT`: how many they are.
+//! - `reversed,PATTERN,SETTINGS,LIMIT`: the program turned round: where its walks start, its states,
+//!   and the rows of its automata.
 //! - `search,PATTERN,SETTINGS,CUT,HAYSTACK,ASKED,INSIDE,TAKEN`: all matches, with their groups.
 //!   `INSIDE` is 1 where empty matches inside a character are found too; and the haystack is cut to
 //!   the length `TAKEN` first.
@@ -57,6 +59,7 @@ mod literals;
 mod patterns;
 mod programs;
 mod regexes;
+mod reversed;
 mod ropes;
 mod searchers;
 mod searches;
@@ -75,6 +78,7 @@ fn answer(alloc: Global, line: &str) -> Result<String, Fault> {
         "groups" => patterns::groups(alloc, &fields),
         "compile" => programs::states(alloc, &fields),
         "build" => programs::size(alloc, &fields),
+        "reversed" => reversed::states(alloc, &fields),
         "search" => searches::matches(alloc, &fields),
         "advance" | "advance_half" => searchers::matches(alloc, &fields),
         "slots" => slots::noted(alloc, &fields),

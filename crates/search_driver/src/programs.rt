@@ -12,7 +12,7 @@ use std::rc::Rc;
 const LIMIT: usize = 6;
 
 /// The program of a line's pattern, or the limit that it is above.
-fn compiled(alloc: Global, fields: &Fields) -> Result<Result<Program, usize>, Fault> {
+pub fn compiled(alloc: Global, fields: &Fields) -> Result<Result<Program, usize>, Fault> {
     let hir = spelled(alloc, fields)?;
     let terminator = fields.byte(TERMINATOR).unwrap_or(b'\n');
     match compile(alloc, &[&hir], terminator, fields.number(LIMIT)) {
@@ -65,7 +65,7 @@ fn first_with(program: &Program, automaton: &Rc<SetAutomaton>) -> usize {
 }
 
 /// The sign of a look.
-fn sign_of(look: Look) -> &'static str {
+pub fn sign_of(look: Look) -> &'static str {
     match look {
         Look::Start => "^",
         Look::End => "$",
