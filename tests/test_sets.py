@@ -8,7 +8,8 @@ import itertools
 import re
 import unicodedata
 
-from driver import EVERY_CHARACTER, about, answers, search
+from driver import EVERY_CHARACTER, NO_MEMORY, Case, Settings
+from driver import about, answers, check_memory, line_of, problems, search, written
 from harness import short, test
 from walks import is_digit, is_space, is_word
 
@@ -68,8 +69,22 @@ JUDGED = [
     ("(?i:k)", lambda c: c in "kK\u212a"),
     ("[^\\s\\S]", lambda c: False),
 ]
+PATTERNS = [pattern for pattern, _ in JUDGED]
 # Sets of which each member is searched for by itself, also in bytes that are no UTF-8.
 SINGLE = ["\\w", "\\W", ".", "(?s:.)", "[^a]", "[\\x{D7FF}-\\x{E000}]"]
+
+# How many states and ranges of bytes a set's automaton has, and how many its reverse, as a subset construction by hand
+# has them: it asks each byte of each set of states.
+SIZES = [
+    ("a", "4 4 4 4"),
+    ("é", "5 5 5 7"),
+    (".", "8 17 6 15"),
+    ("[^a]", "8 17 6 15"),
+    ("(?s:.)", "8 16 6 14"),
+    ("(?i:k)", "6 8 6 12"),
+    ("[é-せ]", "8 13 8 21"),
+    ("[\\x{D7FF}-\\x{E000}]", "8 9 8 14"),
+]
 
 EVERY = "".join(map(chr, [*range(0xD800), *range(0xE000, LAST + 1)]))
 KNOWN = [c for c in EVERY if unicodedata.category(c) != "Cn"]
@@ -166,6 +181,42 @@ def wrong_singles(haystack):
     return wrong + more_wrong
 
 
+def read_back(pattern, haystack):
+    """A case of a set that is read back from each place of every scalar value, or of these bytes."""
+    told = haystack if haystack == EVERY_CHARACTER else haystack.hex()
+    return Case(f"{pattern!r} back", line_of("back", written(pattern), *Settings().fields(), None, told))
+
+
+def wrong_back(patterns, haystack):
+    """What is wrong with sets that are read back: from each place the member is taken whose UTF-8 stands last there."""
+    text = EVERY if haystack == EVERY_CHARACTER else haystack.decode("utf-8", "surrogateescape")
+    places = offsets(text)
+    lens = [b"%d" % (end - start) for start, end in zip(places, places[1:])]
+    spelled, wrong = answers([about("parse", pattern) for pattern in patterns])
+    cases = [read_back(pattern, haystack) for pattern in patterns]
+    told, more_wrong = answers(cases)
+    for case, answer, ranges in zip(cases, told, map(code_points, spelled)):
+        members, due = members_of(ranges), bytearray(b"0" * (places[-1] + 1))
+        for c, end, length in zip(text, places[1:], lens):
+            if members[ord(c)]:
+                due[end : end + 1] = length
+        if answer.encode() != due:
+            at = next(at for at, (digit, wanted) in enumerate(zip(answer.encode() + b"?", due)) if digit != wanted)
+            wrong.append(f"{case.name}: {answer[at : at + 9]}, not {due[at : at + 9].decode()}, at byte {at}")
+    return wrong + more_wrong
+
+
+def cut_and_changed():
+    """Each scalar value's UTF-8 without its first byte, and with a byte changed, in turn; parted by line feeds."""
+    rows = []
+    for c in EVERY:
+        spelling, code = c.encode(), ord(c)
+        changed = bytearray(spelling)
+        changed[code % len(spelling)] = (changed[code % len(spelling)] + code // 4 % 255 + 1) % 256
+        rows += [spelling[1:], bytes(changed)]
+    return SEPARATOR.join(rows)
+
+
 def first_and_second_bytes():
     """Bytes with each first and second byte, parted by line feeds."""
     thirds = [0x7F, 0x80, 0xBF, 0xC0]
@@ -188,3 +239,12 @@ def test_all():
     test(f"members of {len(SINGLE)} sets one by one in every scalar value", wrong_singles(EVERY_CHARACTER))
     test("the same in bytes with each first and second byte", wrong_singles(first_and_second_bytes()))
     test("the same in 400,000 bytes at random", wrong_singles(bytes_at_random()))
+    name = f"{len(PATTERNS)} sets are read back from each place of every scalar value"
+    test(name, wrong_back(PATTERNS, EVERY_CHARACTER))
+    test("the same of bytes with each first and second byte", wrong_back(PATTERNS, first_and_second_bytes()))
+    test("the same of 400,000 bytes at random", wrong_back(PATTERNS, bytes_at_random()))
+    test("the same of every scalar value cut, and with a byte changed", wrong_back(SINGLE, cut_and_changed()))
+    sizes = [about("sizes", pattern, told) for pattern, told in SIZES]
+    test(f"automata of {len(SIZES)} sets and their reverses have so many states and ranges", problems(sizes))
+    for pattern in ("é", "\\d"):
+        check_memory(read_back(pattern, "aé٣".encode()), NO_MEMORY)

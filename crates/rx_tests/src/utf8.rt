@@ -22,6 +22,27 @@ fn set_automaton(rt: HostRuntime) -> Result<(), Fail> {
     Ok(())
 }
 
+/// The automaton that reads it backwards is given A9 first.
+#[test]
+fn reverse_automaton(rt: HostRuntime) -> Result<(), Fail> {
+    let alloc = rt.alloc();
+    let sets = AtomSets::new(alloc);
+    let automaton = SetAutomaton::new(alloc, sets.literal(false, '\u{E9}')?)?;
+    let back = automaton.reversed(alloc)?;
+    assert!(rt; back.ranges() == [(0xE9, 0xE9)].as_slice());
+    assert!(rt; back.step(0, 0xC3) == None);
+    match back.step(0, 0xA9) {
+        Some(Some(state)) => {
+            assert!(rt; back.step(state, 0xC3) == Some(None));
+            assert!(rt; back.step(state, b'e') == None);
+        }
+        _ => assert!(rt; false),
+    }
+    assert!(rt; back.row(0).len() == 3);
+    assert!(rt; back.state_count() == 5);
+    Ok(())
+}
+
 /// The ranges of a row: neighbours that lead to one state are joined.
 #[test]
 fn byte_range(rt: HostRuntime) -> Result<(), Fail> {

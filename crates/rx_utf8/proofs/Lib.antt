@@ -6,3 +6,6 @@ pub mod FitLaws
 pub mod TargetLaws
 pub mod StartLaws
 pub mod LengthLaws
+pub mod ListLaws
+pub mod SourceLaws
+pub mod SubsetLaws

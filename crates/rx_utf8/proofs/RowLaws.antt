@@ -71,7 +71,7 @@ rise_front low high (y ∷ xs) x rise = let on = rise_front (y.last + 1) high xs
 one_byte : (b to : ℕ) → (nat_le to b && nat_le b to) ≡ nat_eq b to
 one_byte b to = grind (arith, nat_tests)
 
-equal_or_not : (b to : ℕ) → (b ≡ to) ⊎ ((b < to) ⊎ (to < b))
+pub equal_or_not : (b to : ℕ) → (b ≡ to) ⊎ ((b < to) ⊎ (to < b))
 equal_or_not b to = grind arith
 
 eq_true : (b to : ℕ) → b ≡ to → nat_eq b to ≡ true

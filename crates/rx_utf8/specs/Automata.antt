@@ -4,6 +4,7 @@ use Rattle.rx_utf8.specs.declared.byte_ranges.ByteRange.{ByteRange}
 use Rattle.rx_sets.specs.Sets.{Range, ordinal, in_ranges}
 use Rattle.rx_walks.specs.Characters.{member_len}
 use Rattle.rx_walks.specs.Bytes.{run}
+use Rattle.rx_walks.specs.Transposed.{ReadsLast, NeverReturns}
 
 -- where a byte leads in a row: nowhere (`None`), to the end of a character (`Some None`), or to a
 -- state
@@ -46,4 +47,12 @@ Reads ranges rows = (bytes : List ℕ) → run (step_in rows) 0 bytes ≡ member
 -- the automaton reads the set's characters, and each of its rows has disjoint ranges
 pub record IsReader (reader : Reader) : Type 0 where
   pub reads : Reads reader.ranges reader.rows
+  pub disjoint : All IsRow reader.rows
+
+-- the automaton reads the set's characters backwards: given the bytes of any content from the last
+-- one back it takes the member whose UTF-8 stands last there, and nothing else. No byte leads to
+-- its first state, and each of its rows has disjoint ranges
+pub record IsReverseReader (reader : Reader) : Type 0 where
+  pub reads_last : ReadsLast (is_in reader.ranges) (step_of reader)
+  pub never_returns : NeverReturns (step_of reader)
   pub disjoint : All IsRow reader.rows

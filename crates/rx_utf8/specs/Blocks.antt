@@ -56,10 +56,10 @@ abbrev pub Starts : Automaton → ℕ → (ℕ → Bool) → Type 0
 Starts step n member = (b : ℕ)
     → Fits step n (of_len member (continuation_len b)) (continuation_len b) (lead_bits b) (step 0 b)
 
--- the rows are still there
-abbrev pub Extends : List (List ByteRange) → List (List ByteRange) → Type 0
-Extends rows more = (length rows ≤ length more)
-    × ((s : ℕ) → s < length rows → get_or more s [] ≡ get_or rows s [])
+-- the lists are still there
+abbrev pub Extends : {A : Type 0} → List (List A) → List (List A) → Type 0
+Extends lists more = (length lists ≤ length more)
+    × ((s : ℕ) → s < length lists → get_or more s [] ≡ get_or lists s [])
 
 abbrev pub any_next : Option ℕ → List ByteRange
 any_next t = record { first = 128; last = 191; next = t } ∷ []

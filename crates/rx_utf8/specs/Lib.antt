@@ -2,3 +2,4 @@
 pub mod Automata
 -- the words of the crate's own parts
 pub mod Blocks
+pub mod Subsets

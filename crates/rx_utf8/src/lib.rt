@@ -1,10 +1,14 @@
-//! Automata over bytes that read the UTF-8 of the characters of sets.
+//! Automata over bytes that read the UTF-8 of the characters of sets, forwards and backwards.
 #![tactic(auto)]
 
 mod blocks;
 mod byte_ranges;
 mod code_points;
+mod entries;
+mod reverse_automaton;
 mod set_automaton;
+mod subsets;
 
 pub use byte_ranges::ByteRange;
+pub use reverse_automaton::ReverseAutomaton;
 pub use set_automaton::SetAutomaton;

@@ -7,6 +7,7 @@ ghost use Rattle.rx_utf8.specs.Blocks.{pick, ReadsAll, rows_of};
 use crate::blocks::{prepared, target};
 use crate::byte_ranges::{ByteRange, look_up, push_byte};
 use crate::code_points::{continuation_len, lead_bits, pick, push_shifted, shifted};
+use crate::reverse_automaton::ReverseAutomaton;
 use rx_sets::{CharacterSet, Range};
 use rx_walks::laws::first_character_stands;
 use std::alloc::{AllocError, Global};
@@ -82,6 +83,15 @@ impl SetAutomaton {
     {
         let rows = rows_of_set(alloc, set.ranges())?;
         Ok(SetAutomaton { set, rows })
+    }
+
+    /// The automaton that reads the set's characters backwards, which is made anew. It takes time
+    /// in proportion to this automaton's ranges, and for each state of its own, of which there are
+    /// at most some four thousand, to those of them that lead into its level.
+    pub fn reversed(&self, alloc: Global) -> Result<ReverseAutomaton, AllocError>
+        ensures { IfOk result (λ automaton. automaton.ranges ≡ self.now.ranges) }
+    {
+        ReverseAutomaton::new(alloc, &self.set, &self.rows)
     }
 
     /// The set.

@@ -18,6 +18,10 @@
 //! - `build,PATTERN,SETTINGS,LIMIT`: how many they are.
 //! - `reversed,PATTERN,SETTINGS,LIMIT`: the program turned round: where its walks start, its states,
 //!   and the rows of its automata.
+//! - `sizes,PATTERN,SETTINGS,LIMIT`: how many states and ranges of bytes the automaton of the
+//!   pattern's first set has, and how many its reverse.
+//! - `back,PATTERN,SETTINGS,LIMIT,HAYSTACK`: from each place of the haystack back, how many bytes
+//!   that reverse takes, as a digit, which is 0 where it takes none.
 //! - `search,PATTERN,SETTINGS,CUT,HAYSTACK,ASKED,INSIDE,TAKEN`: all matches, with their groups.
 //!   `INSIDE` is 1 where empty matches inside a character are found too; and the haystack is cut to
 //!   the length `TAKEN` first.
@@ -63,6 +67,7 @@ mod reversed;
 mod ropes;
 mod searchers;
 mod searches;
+mod sets;
 mod slots;
 
 use fields::{Fault, Fields};
@@ -79,6 +84,8 @@ fn answer(alloc: Global, line: &str) -> Result<String, Fault> {
         "compile" => programs::states(alloc, &fields),
         "build" => programs::size(alloc, &fields),
         "reversed" => reversed::states(alloc, &fields),
+        "sizes" => sets::sizes(alloc, &fields),
+        "back" => sets::back(alloc, &fields),
         "search" => searches::matches(alloc, &fields),
         "advance" | "advance_half" => searchers::matches(alloc, &fields),
         "slots" => slots::noted(alloc, &fields),

@@ -1,0 +1,144 @@
+//! The ranges of bytes that lead into places of an automaton, and by byte the states that they lead
+//! from. A place is a state, or the end of a character.
+
+ghost use Rattle.std.specs.Prelude.{ℕ, ◌≡◌, ◌<◌, ◌++◌, [], ◌∷◌, ◌&&◌, ◌||◌, nat_lt, length, get_or, cond, false, OnOk, IfOk};
+ghost use Rattle.rx_walks.specs.Reversed.{has};
+ghost use Rattle.rx_utf8.specs.Blocks.{rows_of};
+ghost use Rattle.rx_utf8.specs.Subsets.{covers, entries_from, entries_of, in_some, is_place, lists_of, sources};
+
+use crate::byte_ranges::ByteRange;
+use std::alloc::{AllocError, Global};
+
+/// A range of bytes that leads on from a state.
+#[derive(Clone, Copy)]
+pub(crate) struct Entry {
+    /// The state.
+    pub(crate) source: usize,
+    /// The bytes, and where they lead.
+    pub(crate) range: ByteRange,
+}
+
+/// Whether it is one of the places: the end, if it is one, and those of the states that are.
+fn is_place(end: bool, states: &[bool], next: Option<usize>) -> bool
+    ensures { result ≡ is_place end states.now next }
+{
+    match next {
+        None => end,
+        Some(state) => match states.get(state) {
+            Some(is_one) => *is_one,
+            None => false,
+        },
+    }
+}
+
+/// Adds the states with these numbers, as far as there are such.
+fn insert(states: &mut Vec<bool>, numbers: &[usize])
+    ensures len { length states.new.items ≡ length states.old.items }
+    ensures states { (s : ℕ) → get_or states.new.items s false ≡ (get_or states.old.items s false
+        || (nat_lt s (length states.old.items) && has numbers.now s)) }
+{
+    for number in numbers {
+        if *number < states.len() {
+            states[*number] = true;
+        }
+    }
+}
+
+/// Makes them the states that are in one of the sets.
+pub(crate) fn set_states(states: &mut Vec<bool>, sets: &[Vec<usize>])
+    ensures len { length states.new.items ≡ length states.old.items }
+    ensures states { (s : ℕ) → get_or states.new.items s false
+        ≡ (nat_lt s (length states.old.items) && in_some (lists_of sets.now) s) }
+{
+    states.fill(false);
+    for set in sets {
+        insert(states, set);
+    }
+}
+
+/// Appends the ranges of a row that lead to one of the places.
+fn push_entries(
+    entries: &mut Vec<Entry>,
+    source: usize,
+    row: &[ByteRange],
+    end: bool,
+    states: &[bool],
+) -> Result<(), AllocError>
+    ensures { OnOk result (entries.new.items
+        ≡ entries.old.items ++ entries_of (is_place end states.now) source row.now) }
+{
+    for range in row {
+        if is_place(end, states, range.next) {
+            entries.push(Entry {
+                source,
+                range: *range,
+            })?;
+        }
+    }
+    Ok(())
+}
+
+/// The ranges of the rows that lead to one of the places.
+pub(crate) fn entries_into(
+    alloc: Global,
+    rows: &[Vec<ByteRange>],
+    end: bool,
+    states: &[bool],
+) -> Result<Vec<Entry>, AllocError>
+    ensures { IfOk result (λ entries. entries.items
+        ≡ entries_from (is_place end states.now) 0 (rows_of rows.now)) }
+{
+    let mut entries = Vec::new(alloc);
+    for source in 0..rows.len() {
+        push_entries(&mut entries, source, &rows[source], end, states)?;
+    }
+    Ok(entries)
+}
+
+/// Empties the lists.
+fn clear(lists: &mut Vec<Vec<usize>>)
+    ensures len { length lists.new.items ≡ length lists.old.items }
+    ensures lists { (b : ℕ) → get_or (lists_of lists.new.items) b [] ≡ [] }
+{
+    for list in lists.iter_mut() {
+        list.clear();
+    }
+}
+
+/// Appends a state to the lists of the bytes that lead on from it.
+fn push_source(
+    lists: &mut Vec<Vec<usize>>,
+    range: ByteRange,
+    source: usize,
+) -> Result<(), AllocError>
+    requires { length lists.old.items ≡ 256 }
+    ensures len { length lists.new.items ≡ 256 }
+    ensures lists { OnOk result ((b : ℕ) → get_or (lists_of lists.new.items) b []
+        ≡ get_or (lists_of lists.old.items) b [] ++ cond (covers range b) (source ∷ []) []) }
+{
+    for byte in usize::from(range.first)..usize::from(range.last) + 1 {
+        lists[byte].push(source)?;
+    }
+    Ok(())
+}
+
+/// Makes the lists those of the states from which each byte leads to one of the places.
+pub(crate) fn set_sources(
+    lists: &mut Vec<Vec<usize>>,
+    entries: &[Entry],
+    end: bool,
+    states: &[bool],
+) -> Result<(), AllocError>
+    requires { length lists.old.items ≡ 256 }
+    ensures len { length lists.new.items ≡ 256 }
+    ensures lists { OnOk result ((b : ℕ) → get_or (lists_of lists.new.items) b []
+        ≡ sources (is_place end states.now) entries.now b) }
+{
+    clear(lists);
+    for entry in entries {
+        if is_place(end, states, entry.range.next) {
+            push_source(lists, entry.range, entry.source)?;
+        }
+    }
+    Ok(())
+}
