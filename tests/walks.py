@@ -297,6 +297,39 @@ class Search:
         walk = next((walk for walk in walks if walk), None)
         return (walk[0], ((has, place),) + walk[1]) if walk and kind == "note" else walk
 
+    def ends(self, place):
+        """The places where walks from the start node at a place end."""
+        ends, seen, left = set(), set(), [(self.program.start, place)] if self.low <= place <= self.high else []
+        while left:
+            pair = left.pop()
+            if pair not in seen:
+                seen.add(pair)
+                kind, edges, has = self.program.nodes[pair[0]]
+                if kind == "match":
+                    ends.add(pair[1])
+                left += self.further(kind, edges, has, pair[1])
+        return ends
+
+    def further(self, kind, edges, has, place):
+        """The pairs of node and place to which the edges of a node lead at a place."""
+        if kind == "look" and not self.holds(has, place):
+            return []
+        if kind == "set":
+            character = first_character(self.content[place : self.high])
+            is_read = character is not None and has(character)
+            return [(edges[0], place + len(character.encode()))] if is_read else []
+        return [(edge, place) for edge in edges]
+
+    def counts(self, start, end):
+        """Whether a match from a start to an end counts: it isn't empty, or may stand there."""
+        return start != end or self.inside or self.content[start : start + 1] not in CONTINUE
+
+    def find_back(self):
+        """The least start of the walks that end where the span ends and count, or None."""
+        end = self.span[1]
+        places = range(self.low, min(end, self.high) + 1)
+        return next((place for place in places if end in self.ends(place) and self.counts(place, end)), None)
+
     def find(self, start):
         """The least walk of the least start that counts, as the places in its slots, or None. Starts are the
         places from `start` on, or that one alone. An empty walk counts at the content's end and before a byte that

@@ -1,7 +1,7 @@
--- The edges of a pattern's program lead to its nodes.
+-- The edges of a pattern's program lead to its nodes, and stay with the pattern.
 use Rattle.std.proofs.Common.{◌≡◌, ℕ, zero, suc, ◌+◌, ◌-◌, ◌*◌, ◌<◌, ◌≤◌, Bool, true, false, List, [], ◌∷◌, ◌++◌, length, Option, Some, None, refl, sym, ap, ap₂, subst, ◌∙◌, arith, length-append}
 use Rattle.std.specs.List.{All}
-use Rattle.std.proofs.lemmas.List.Elements.{All-cons, All-nil, All-append}
+use Rattle.std.proofs.lemmas.List.Elements.{All-cons, All-nil, All-append, All-weaker}
 use Rattle.rx_sets.specs.Sets.{Range}
 use Rattle.rx_grammar.specs.Trees.{Tree, Trees, empty, one_of, look_at, group, concat, alternation, repeated, two, more, numbers_of}
 use Rattle.rx_grammar.specs.Weights.{may_be_empty, size_of, all_sizes_of, repeated_weight}
@@ -79,101 +79,119 @@ mutual
   branches_length slots (more first others) at next =
       omega (arith, length-append (code_of slots first at next) (branches_code slots others (at + size_of first) next), code_length slots first at next, branches_length slots others (at + size_of first) next)
 
+-- an edge leads to a node from one number on and below another
+pub record In (low n r : ℕ) : Type 0 where
+  pub above : low ≤ r
+  pub below : r < n
+
+-- the edges of a node lead there, and its matches are pattern k's
+abbrev pub StaysIn : ℕ → ℕ → ℕ → Node walks.Look (List Range) → Type 0
+StaysIn low n k (match pattern) = pattern ≡ k
+StaysIn low n k (pass nodes) = All (In low n) nodes
+StaysIn low n k (note slot r) = In low n r
+StaysIn low n k (look asked r) = In low n r
+StaysIn low n k (set ranges r) = In low n r
+
 -- edges
-module _ (n : ℕ) where
+module _ (low n p : ℕ) where
+  -- so many nodes from one on lie there
+  pub record Room (at k : ℕ) : Type 0 where
+    pub from : low ≤ at
+    pub room : at + k ≤ n
+
   abbrev Below : List (Node walks.Look (List Range)) → Type 0
-  Below nodes = All (LeadsBelow n) nodes
+  Below nodes = All (StaysIn low n p) nodes
 
-  one_node : (node : Node walks.Look (List Range)) → LeadsBelow n node → Below (node ∷ [])
-  one_node node h = All-cons (LeadsBelow n) node [] h (All-nil (LeadsBelow n))
+  one_node : (node : Node walks.Look (List Range)) → StaysIn low n p node → Below (node ∷ [])
+  one_node node h = All-cons (StaysIn low n p) node [] h (All-nil (StaysIn low n p))
 
-  one_edge : (r : ℕ) → r < n → All (λ r. r < n) (r ∷ [])
-  one_edge r h = All-cons (λ r. r < n) r [] h (All-nil (λ r. r < n))
+  one_edge : (r : ℕ) → In low n r → All (In low n) (r ∷ [])
+  one_edge r h = All-cons (In low n) r [] h (All-nil (In low n))
 
-  two_edges : (r q : ℕ) → r < n → q < n → All (λ r. r < n) (r ∷ q ∷ [])
-  two_edges r q h i = All-cons (λ r. r < n) r (q ∷ []) h (one_edge q i)
+  two_edges : (r q : ℕ) → In low n r → In low n q → All (In low n) (r ∷ q ∷ [])
+  two_edges r q h i = All-cons (In low n) r (q ∷ []) h (one_edge q i)
 
-  fork_below : (g : Bool) (into on : ℕ) → into < n → on < n → LeadsBelow n (fork g into on)
+  fork_below : (g : Bool) (into on : ℕ) → In low n into → In low n on → StaysIn low n p (fork g into on)
   fork_below true into on h i = two_edges into on h i
   fork_below false into on h i = two_edges on into i h
 
-  before : (node : Node walks.Look (List Range)) (nodes : List (Node walks.Look (List Range))) → LeadsBelow n node → Below nodes → Below (node ∷ nodes)
-  before node nodes h all = All-cons (LeadsBelow n) node nodes h all
+  before : (node : Node walks.Look (List Range)) (nodes : List (Node walks.Look (List Range))) → StaysIn low n p node → Below nodes → Below (node ∷ nodes)
+  before node nodes h all = All-cons (StaysIn low n p) node nodes h all
 
   beside : (xs ys : List (Node walks.Look (List Range))) → Below xs → Below ys → Below (xs ++ ys)
-  beside xs ys a b = All-append (LeadsBelow n) xs ys a b
+  beside xs ys a b = All-append (StaysIn low n p) xs ys a b
 
-  entry_below : (k at next : ℕ) (s : ℕ) → 1 ≤ s → at + k * s ≤ n → next < n → entry_of k at next < n
+  entry_below : (k at next : ℕ) (s : ℕ) → 1 ≤ s → Room at (k * s) → In low n next → In low n (entry_of k at next)
   entry_below zero at next s some fits below = below
-  entry_below (suc k) at next s some fits below = omega (arith, some, fits)
+  entry_below (suc k) at next s some fits below = (record { above = omega (arith, some); below = omega (arith, some) })
 
   abbrev Fitting : ℕ → (ℕ → ℕ → Code) → Type 0
-  Fitting s h = (at next : ℕ) → at + s ≤ n → next < n → Below (h at next)
+  Fitting s h = (at next : ℕ) → Room at s → In low n next → Below (h at next)
 
-  copies_below : (s : ℕ) (h : ℕ → ℕ → Code) → 1 ≤ s → Fitting s h → (k at next : ℕ) → at + k * s ≤ n → next < n → Below (copies s h k at next)
-  copies_below s h some fit zero at next fits below = All-nil (LeadsBelow n)
+  copies_below : (s : ℕ) (h : ℕ → ℕ → Code) → 1 ≤ s → Fitting s h → (k at next : ℕ) → Room at (k * s) → In low n next → Below (copies s h k at next)
+  copies_below s h some fit zero at next fits below = All-nil (StaysIn low n p)
   copies_below s h some fit (suc k) at next fits below = beside (h at (entry_of k (at + s) next)) (copies s h k (at + s) next)
-      (fit at (entry_of k (at + s) next) (omega (arith, fits)) (entry_below k (at + s) next s some (omega (arith, fits)) below))
-      (copies_below s h some fit k (at + s) next (omega (arith, fits)) below)
+      (fit at (entry_of k (at + s) next) (record { from = omega arith; room = omega arith }) (entry_below k (at + s) next s some (record { from = omega arith; room = omega arith }) below))
+      (copies_below s h some fit k (at + s) next (record { from = omega arith; room = omega arith }) below)
 
-  optional_below : (g : Bool) (s : ℕ) (h : ℕ → ℕ → Code) → 1 ≤ s → Fitting s h → (k at next : ℕ) → at + k * (1 + s) ≤ n → next < n → Below (optional g s h k at next)
-  optional_below g s h some fit zero at next fits below = All-nil (LeadsBelow n)
-  optional_below g s h some fit (suc k) at next fits below = before (fork g (at + 1) next) _ (fork_below g (at + 1) next (omega (arith, fits, some)) below)
+  optional_below : (g : Bool) (s : ℕ) (h : ℕ → ℕ → Code) → 1 ≤ s → Fitting s h → (k at next : ℕ) → Room at (k * (1 + s)) → In low n next → Below (optional g s h k at next)
+  optional_below g s h some fit zero at next fits below = All-nil (StaysIn low n p)
+  optional_below g s h some fit (suc k) at next fits below = before (fork g (at + 1) next) _ (fork_below g (at + 1) next (record { above = omega (arith, some); below = omega (arith, some) }) below)
       (beside (h (at + 1) (entry_of k (at + 1 + s) next)) (optional g s h k (at + 1 + s) next)
-      (fit (at + 1) (entry_of k (at + 1 + s) next) (omega (arith, fits)) (entry_below k (at + 1 + s) next (1 + s) (omega (arith, some)) (omega (arith, fits)) below))
-      (optional_below g s h some fit k (at + 1 + s) next (omega (arith, fits)) below))
+      (fit (at + 1) (entry_of k (at + 1 + s) next) (record { from = omega arith; room = omega arith }) (entry_below k (at + 1 + s) next (1 + s) (omega (arith, some)) (record { from = omega arith; room = omega arith }) below))
+      (optional_below g s h some fit k (at + 1 + s) next (record { from = omega arith; room = omega arith }) below))
 
-  repetition_below : (g : Bool) (k : ℕ) (most : Option ℕ) (s : ℕ) (may : Bool) (h : ℕ → ℕ → Code) → 1 ≤ s → Fitting s h → (at next : ℕ) → at + repeated_weight k most s may ≤ n → next < n
+  repetition_below : (g : Bool) (k : ℕ) (most : Option ℕ) (s : ℕ) (may : Bool) (h : ℕ → ℕ → Code) → 1 ≤ s → Fitting s h → (at next : ℕ) → Room at (repeated_weight k most s may) → In low n next
       → Below (repetition_code g k most s may h at next)
   repetition_below g k (Some zero) s may h some fit at next fits below = one_node (pass (next ∷ [])) (one_edge next below)
   repetition_below g k (Some (suc m)) s may h some fit at next fits below =
       let on = entry_of (suc m - k) (at + k * s) next in
       beside (copies s h k at on) (optional g s h (suc m - k) (at + k * s) next)
-      (copies_below s h some fit k at on (omega (arith, fits)) (entry_below (suc m - k) (at + k * s) next (1 + s) (omega (arith, some)) (omega (arith, fits)) below))
-      (optional_below g s h some fit (suc m - k) (at + k * s) next (omega (arith, fits)) below)
+      (copies_below s h some fit k at on (record { from = omega arith; room = omega arith }) (entry_below (suc m - k) (at + k * s) next (1 + s) (omega (arith, some)) (record { from = omega arith; room = omega arith }) below))
+      (optional_below g s h some fit (suc m - k) (at + k * s) next (record { from = omega arith; room = omega arith }) below)
   repetition_below g zero None s false h some fit at next fits below =
-      before (fork g (at + 1) next) (h (at + 1) at) (fork_below g (at + 1) next (omega (arith, fits, some)) below) (fit (at + 1) at (omega (arith, fits)) (omega (arith, fits)))
+      before (fork g (at + 1) next) (h (at + 1) at) (fork_below g (at + 1) next (record { above = omega (arith, some); below = omega (arith, some) }) below) (fit (at + 1) at (record { from = omega arith; room = omega arith }) (record { above = omega arith; below = omega arith }))
   repetition_below g zero None s true h some fit at next fits below =
-      before (fork g (at + 1) next) _ (fork_below g (at + 1) next (omega (arith, fits)) below)
-      (beside (h (at + 1) (at + 1 + s)) (fork g (at + 1) next ∷ []) (fit (at + 1) (at + 1 + s) (omega (arith, fits)) (omega (arith, fits)))
-      (one_node (fork g (at + 1) next) (fork_below g (at + 1) next (omega (arith, fits)) below)))
+      before (fork g (at + 1) next) _ (fork_below g (at + 1) next (record { above = omega arith; below = omega arith }) below)
+      (beside (h (at + 1) (at + 1 + s)) (fork g (at + 1) next ∷ []) (fit (at + 1) (at + 1 + s) (record { from = omega arith; room = omega arith }) (record { above = omega arith; below = omega arith }))
+      (one_node (fork g (at + 1) next) (fork_below g (at + 1) next (record { above = omega arith; below = omega arith }) below)))
   repetition_below g (suc k) None s may h some fit at next fits below =
       beside (copies s h (suc k) at (at + suc k * s)) (fork g (at + k * s) next ∷ [])
-      (copies_below s h some fit (suc k) at (at + suc k * s) (omega (arith, fits)) (omega (arith, fits)))
-      (one_node (fork g (at + k * s) next) (fork_below g (at + k * s) next (omega (arith, fits, some)) below))
+      (copies_below s h some fit (suc k) at (at + suc k * s) (record { from = omega arith; room = omega arith }) (record { above = omega arith; below = omega arith }))
+      (one_node (fork g (at + k * s) next) (fork_below g (at + k * s) next (record { above = omega (arith, some); below = omega (arith, some) }) below))
 
-  starts_below : (trees : Trees) (at : ℕ) → at + all_sizes_of trees ≤ n → All (λ r. r < n) (branch_starts trees at)
-  starts_below (two first second) at fits = two_edges at (at + size_of first) (omega (arith, fits, some_nodes first)) (omega (arith, fits, some_nodes second))
+  starts_below : (trees : Trees) (at : ℕ) → Room at (all_sizes_of trees) → All (In low n) (branch_starts trees at)
+  starts_below (two first second) at fits = two_edges at (at + size_of first) (record { above = omega (arith, some_nodes first); below = omega (arith, some_nodes first) }) (record { above = omega (arith, some_nodes second); below = omega (arith, some_nodes second) })
   starts_below (more first others) at fits =
-      All-cons (λ r. r < n) at (branch_starts others (at + size_of first)) (omega (arith, fits, some_nodes first)) (starts_below others (at + size_of first) (omega (arith, fits)))
+      All-cons (In low n) at (branch_starts others (at + size_of first)) (record { above = omega (arith, some_nodes first); below = omega (arith, some_nodes first) }) (starts_below others (at + size_of first) (record { from = omega arith; room = omega arith }))
 
   mutual
-    code_below : (slots : ℕ) (tree : Tree) (at next : ℕ) → at + size_of tree ≤ n → next < n → Below (code_of slots tree at next)
+    pub code_below : (slots : ℕ) (tree : Tree) (at next : ℕ) → Room at (size_of tree) → In low n next → Below (code_of slots tree at next)
     code_below slots empty at next fits below = one_node (pass (next ∷ [])) (one_edge next below)
     code_below slots (one_of ranges) at next fits below = one_node (set ranges next) below
     code_below slots (look_at asked) at next fits below = one_node (look (place_of asked) next) below
-    code_below slots (group number name tree) at next fits below = before (note (slots + 2 * number) (at + 1)) _ (omega (arith, fits))
-        (beside (code_of slots tree (at + 1) (at + 1 + size_of tree)) (note (slots + 2 * number + 1) next ∷ []) (code_below slots tree (at + 1) (at + 1 + size_of tree) (omega (arith, fits)) (omega (arith, fits)))
+    code_below slots (group number name tree) at next fits below = before (note (slots + 2 * number) (at + 1)) _ (record { above = omega arith; below = omega arith })
+        (beside (code_of slots tree (at + 1) (at + 1 + size_of tree)) (note (slots + 2 * number + 1) next ∷ []) (code_below slots tree (at + 1) (at + 1 + size_of tree) (record { from = omega arith; room = omega arith }) (record { above = omega arith; below = omega arith }))
         (one_node (note (slots + 2 * number + 1) next) below))
     code_below slots (concat trees) at next fits below = row_below slots trees at next fits below
     code_below slots (alternation trees) at next fits below =
-        before (pass (branch_starts trees (at + 1))) _ (starts_below trees (at + 1) (omega (arith, fits))) (branches_below slots trees (at + 1) next (omega (arith, fits)) below)
+        before (pass (branch_starts trees (at + 1))) _ (starts_below trees (at + 1) (record { from = omega arith; room = omega arith })) (branches_below slots trees (at + 1) next (record { from = omega arith; room = omega arith }) below)
     code_below slots (repeated rep tree) at next fits below =
         repetition_below rep.greedy rep.min rep.max (size_of tree) (may_be_empty tree) (code_of slots tree) (some_nodes tree) (λ a b. code_below slots tree a b) at next fits below
 
-    row_below : (slots : ℕ) (trees : Trees) (at next : ℕ) → at + all_sizes_of trees ≤ n → next < n → Below (row_code slots trees at next)
+    row_below : (slots : ℕ) (trees : Trees) (at next : ℕ) → Room at (all_sizes_of trees) → In low n next → Below (row_code slots trees at next)
     row_below slots (two first second) at next fits below =
         beside (code_of slots first at (at + size_of first)) (code_of slots second (at + size_of first) next)
-        (code_below slots first at (at + size_of first) (omega (arith, fits)) (omega (arith, fits, some_nodes second))) (code_below slots second (at + size_of first) next (omega (arith, fits)) below)
+        (code_below slots first at (at + size_of first) (record { from = omega arith; room = omega arith }) (record { above = omega (arith, some_nodes second); below = omega (arith, some_nodes second) })) (code_below slots second (at + size_of first) next (record { from = omega arith; room = omega arith }) below)
     row_below slots (more first others) at next fits below =
         beside (code_of slots first at (at + size_of first)) (row_code slots others (at + size_of first) next)
-        (code_below slots first at (at + size_of first) (omega (arith, fits)) (omega (arith, fits, some_row others))) (row_below slots others (at + size_of first) next (omega (arith, fits)) below)
+        (code_below slots first at (at + size_of first) (record { from = omega arith; room = omega arith }) (record { above = omega (arith, some_row others); below = omega (arith, some_row others) })) (row_below slots others (at + size_of first) next (record { from = omega arith; room = omega arith }) below)
 
-    branches_below : (slots : ℕ) (trees : Trees) (at next : ℕ) → at + all_sizes_of trees ≤ n → next < n → Below (branches_code slots trees at next)
+    branches_below : (slots : ℕ) (trees : Trees) (at next : ℕ) → Room at (all_sizes_of trees) → In low n next → Below (branches_code slots trees at next)
     branches_below slots (two first second) at next fits below =
-        beside (code_of slots first at next) (code_of slots second (at + size_of first) next) (code_below slots first at next (omega (arith, fits)) below) (code_below slots second (at + size_of first) next (omega (arith, fits)) below)
+        beside (code_of slots first at next) (code_of slots second (at + size_of first) next) (code_below slots first at next (record { from = omega arith; room = omega arith }) below) (code_below slots second (at + size_of first) next (record { from = omega arith; room = omega arith }) below)
     branches_below slots (more first others) at next fits below =
-        beside (code_of slots first at next) (branches_code slots others (at + size_of first) next) (code_below slots first at next (omega (arith, fits)) below) (branches_below slots others (at + size_of first) next (omega (arith, fits)) below)
+        beside (code_of slots first at next) (branches_code slots others (at + size_of first) next) (code_below slots first at next (record { from = omega arith; room = omega arith }) below) (branches_below slots others (at + size_of first) next (record { from = omega arith; room = omega arith }) below)
 
 -- whole patterns
 abbrev patterns_size : List Tree → ℕ
@@ -190,20 +208,31 @@ patterns_length slots p (tree ∷ trees) at =
     let others = patterns_code (slots + 2 * length (numbers_of tree)) (p + 1) trees (at + 3 + size_of tree) in
     omega (arith, length-append (pattern_code slots p tree at) others, pattern_length slots p tree at, patterns_length (slots + 2 * length (numbers_of tree)) (p + 1) trees (at + 3 + size_of tree))
 
+pub pattern_stays : (slots p : ℕ) (tree : Tree) (at : ℕ) → All (StaysIn at (at + 3 + size_of tree) p) (pattern_code slots p tree at)
+pattern_stays slots p tree at =
+    let n = at + 3 + size_of tree in
+    let code = code_of slots tree (at + 1) (at + 1 + size_of tree) in
+    let inner = code_below at n p slots tree (at + 1) (at + 1 + size_of tree) (record { from = omega arith; room = omega arith }) (record { above = omega arith; below = omega arith }) in
+    let last = before at n p (note (2 * p + 1) (at + 2 + size_of tree)) (match p ∷ []) (record { above = omega arith; below = omega arith }) (one_node at n p (match p) refl) in
+    before at n p (note (2 * p) (at + 1)) _ (record { above = omega arith; below = omega arith }) (beside at n p code _ inner last)
+
+leads_below : (low n m p : ℕ) → n ≤ m → (node : Node walks.Look (List Range)) → StaysIn low n p node → LeadsBelow m node
+leads_below low n m p fits (match pattern) stays = tt
+leads_below low n m p fits (pass nodes) stays = All-weaker (In low n) (λ r. r < m) (λ r inside. omega (arith, inside.below, fits)) nodes stays
+leads_below low n m p fits (note slot r) stays = omega (arith, stays.below, fits)
+leads_below low n m p fits (look asked r) stays = omega (arith, stays.below, fits)
+leads_below low n m p fits (set ranges r) stays = omega (arith, stays.below, fits)
+
 pattern_below : (n slots p : ℕ) (tree : Tree) (at : ℕ) → at + 3 + size_of tree ≤ n → All (LeadsBelow n) (pattern_code slots p tree at)
 pattern_below n slots p tree at fits =
-    let s = size_of tree in
-    let code = code_of slots tree (at + 1) (at + 1 + s) in
-    let end : Code = note (2 * p + 1) (at + 2 + s) ∷ match p ∷ [] in
-    before n (note (2 * p) (at + 1)) (code ++ end) (omega (arith, fits)) (beside n code end (code_below n slots tree (at + 1) (at + 1 + s) (omega (arith, fits)) (omega (arith, fits)))
-    (before n (note (2 * p + 1) (at + 2 + s)) (match p ∷ []) (omega (arith, fits)) (one_node n (match p) tt)))
+    All-weaker (StaysIn at (at + 3 + size_of tree) p) (LeadsBelow n) (λ node stays. leads_below at (at + 3 + size_of tree) n p fits node stays) (pattern_code slots p tree at) (pattern_stays slots p tree at)
 
 patterns_below : (n slots p : ℕ) (trees : List Tree) (at : ℕ) → at + patterns_size trees ≤ n → All (LeadsBelow n) (patterns_code slots p trees at)
 patterns_below n slots p [] at fits = All-nil (LeadsBelow n)
 patterns_below n slots p (tree ∷ trees) at fits =
     let more = slots + 2 * length (numbers_of tree) in
     let on = at + 3 + size_of tree in
-    beside n (pattern_code slots p tree at) (patterns_code more (p + 1) trees on) (pattern_below n slots p tree at (omega (arith, fits))) (patterns_below n more (p + 1) trees on (omega (arith, fits)))
+    All-append (LeadsBelow n) (pattern_code slots p tree at) (patterns_code more (p + 1) trees on) (pattern_below n slots p tree at (omega (arith, fits))) (patterns_below n more (p + 1) trees on (omega (arith, fits)))
 
 all_starts_below : (n : ℕ) (trees : List Tree) (at : ℕ) → at + patterns_size trees ≤ n → All (λ r. r < n) (pattern_starts trees at)
 all_starts_below n [] at fits = All-nil (λ r. r < n)
@@ -238,7 +267,7 @@ several_closed trees terminator =
     let count : length nodes ≡ n = omega (arith, patterns_length slots 0 trees 1) in
     let all : All (λ r. r < n) starts = all_starts_below n trees 1 (omega arith) in
     record {
-      edges = subst (λ n. All (LeadsBelow n) nodes) (sym count) (before n (pass starts) code all (patterns_below n slots 0 trees 1 (omega arith)));
+      edges = subst (λ n. All (LeadsBelow n) nodes) (sym count) (All-cons (LeadsBelow n) (pass starts) code all (patterns_below n slots 0 trees 1 (omega arith)));
       start = omega (arith, count);
       patterns = subst (λ n. All (λ r. r < n) starts) (sym count) all;
     }

@@ -18,3 +18,6 @@ pub mod GroupLaws
 pub mod SeveralLaws
 pub mod TakingLaws
 pub mod EmptyLaws
+pub mod OwnerLaws
+pub mod ArrivalLaws
+pub mod ReverseLaws

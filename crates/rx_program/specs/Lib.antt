@@ -2,7 +2,10 @@ pub mod Code
 pub mod Sizes
 pub mod Errors
 pub mod Programs
+pub mod Reversed
+pub mod Arrivals
 pub mod Jobs
 pub mod Closed
+pub mod Owned
 pub mod Taking
 pub mod Laws

@@ -1,10 +1,10 @@
 //! The automata of a program's sets, each made once and shared.
 
 ghost use Rattle.std.specs.Prelude.{◌≡◌, IsTrue, IfOk};
-ghost use Rattle.rx_utf8.specs.Automata.{IsReader};
+ghost use Rattle.rx_utf8.specs.Automata.{IsReader, IsReverseReader};
 
 use rx_sets::{CharacterSet, Range};
-use rx_utf8::SetAutomaton;
+use rx_utf8::{ReverseAutomaton, SetAutomaton};
 use std::alloc::{AllocError, Global};
 use std::cmp::Ordering;
 use std::rc::Rc;
@@ -64,6 +64,50 @@ impl Automata {
             Err(place) => place,
         };
         let automaton = Rc::new(self.alloc, SetAutomaton::new(self.alloc, set.clone()?)?)?;
+        let _ranges = automaton.ranges(); // tells that the automaton reads its set
+        self.made.insert(place, automaton.clone()?)?;
+        Ok(automaton)
+    }
+}
+
+/// The automata that were turned round so far, by the order of their sets' ranges, as above.
+#[derive(Drop)]
+pub(crate) struct ReverseAutomata {
+    alloc: Global,
+    made: Vec<Rc<ReverseAutomaton>>,
+}
+
+impl ReverseAutomata {
+    /// None is made yet.
+    pub(crate) fn new(alloc: Global) -> ReverseAutomata {
+        ReverseAutomata {
+            alloc,
+            made: Vec::new(alloc),
+        }
+    }
+
+    /// The automaton of the same set that reads backwards.
+    pub(crate) fn automaton(
+        &mut self,
+        forward: &SetAutomaton,
+    ) -> Result<Rc<ReverseAutomaton>, AllocError>
+        ensures ranges { IfOk result (λ automaton. automaton.value.ranges ≡ forward.now.ranges) }
+        ensures reader { IfOk result (λ automaton. IsReverseReader automaton.value) }
+    {
+        let found = self
+            .made
+            .binary_search_by(|automaton| order(automaton.set(), forward.set()));
+        let place = match found {
+            Ok(place) => {
+                let automaton = &self.made[place];
+                if is_same(automaton.ranges(), forward.ranges()) {
+                    return automaton.clone();
+                }
+                place
+            }
+            Err(place) => place,
+        };
+        let automaton = Rc::new(self.alloc, forward.reversed(self.alloc)?)?;
         let _ranges = automaton.ranges(); // tells that the automaton reads its set
         self.made.insert(place, automaton.clone()?)?;
         Ok(automaton)

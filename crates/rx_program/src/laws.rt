@@ -2,8 +2,12 @@
 //! is the law, proved.
 
 ghost use Rattle.rx_program.specs.Closed.{PatternIsClosed, ProgramsAreClosed};
+ghost use Rattle.rx_program.specs.Owned.{ProgramsHaveOwners, ProgramsKeepPatterns};
 ghost use Rattle.rx_program.specs.Taking.{MayBeEmptyIsTold, PathsAreTaken};
 ghost use Rattle.rx_program.specs.Laws.{GroupsAreNotedWhole, MatchesNoteTheirPlaces, ProgramsAreAbovePatterns, ProgramsNoteTheirPlaces};
+
+use rx_sets::CharacterSet;
+use rx_walks::laws_back::owners_keep_patterns;
 
 /// Each edge of a pattern's program leads to one of its nodes, and so do its starts.
 pub fn pattern_is_closed()
@@ -53,3 +57,18 @@ pub fn paths_are_taken()
 pub fn may_be_empty_is_told()
     ensures { MayBeEmptyIsTold }
 {}
+
+/// The edges of the program of patterns stay with their pattern: of each node but the one above the
+/// patterns it is known whose it is.
+pub fn programs_have_owners()
+    ensures { ProgramsHaveOwners }
+{}
+
+/// So in each search of any content each match that a walk from a pattern's start comes to is that
+/// pattern's.
+pub fn programs_keep_patterns()
+    ensures { ProgramsKeepPatterns }
+{
+    programs_have_owners();
+    owners_keep_patterns::<CharacterSet>();
+}

@@ -1,16 +1,21 @@
 -- The greatest end by bytes is that by characters.
-use Rattle.std.proofs.Common.{◌≡◌, ℕ, ◌⊎◌, ◌↔◌, List, [], Option, refl, inl, inr}
+use Rattle.std.proofs.Common.{◌≡◌, ℕ, ◌⊎◌, ◌↔◌, List, [], Option, None, refl, inl, inr}
 use Rattle.std.specs.Str.{IsCharBoundary}
 use Rattle.rx_walks.specs.Machines.{Machine, reads}
 use Rattle.rx_walks.specs.Paths.{Path, at_end, by_edge, by_read}
 use Rattle.rx_walks.specs.Finds.{PatternMatch, Search, CountsAmongAll, IsFindAll, none_at_all, greatest}
-use Rattle.rx_walks.specs.StepsAll.{FindsAll, nowhere, found}
+use Rattle.rx_walks.specs.StepsAll.{FindsAll, nowhere, found, SearchesAll}
 use Rattle.rx_walks.specs.Refinements.{Refines}
-use Rattle.rx_walks.specs.Laws.{Begins}
+use Rattle.rx_walks.specs.Laws.{Begins, ReadsMembers, ReadsWhole}
+use Rattle.rx_walks.specs.Bytes.{Automaton, over_bytes}
+use Rattle.rx_walks.specs.Programs.{Node, Haystack, over_characters}
 use Rattle.rx_walks.proofs.PathLaws.{path_has_walk, walk_reaches, reaches}
 use Rattle.rx_walks.proofs.RefinementLaws.{refined, unrefined}
+use Rattle.rx_walks.proofs.AllSearchLaws.{search_finds_all}
+use Rattle.rx_walks.proofs.ProgramLaws.{bytes_refine}
+use Rattle.rx_walks.proofs.ForwardLaws.{bytes_forward, number_told, pair_told}
 
-path_read : {Q N : Type 0} {m : Machine Q N} {q : Q} {i p e : ℕ} (content : List ℕ) → ((i j : ℕ) (q r : Q) → m.move i q ≡ reads r j → IsCharBoundary content i) → Path m q i p e → (e ≡ i) ⊎ IsCharBoundary content i
+pub path_read : {Q N : Type 0} {m : Machine Q N} {q : Q} {i p e : ℕ} (content : List ℕ) → ((i j : ℕ) (q r : Q) → m.move i q ≡ reads r j → IsCharBoundary content i) → Path m q i p e → (e ≡ i) ⊎ IsCharBoundary content i
 path_read content at_whole (at_end is) = inl refl
 path_read content at_whole (by_edge rs r k is at path) = path_read content at_whole path
 path_read content at_whole (by_read {q = q} {i = i} r j is path) = inr (at_whole i j q r is)
@@ -45,3 +50,11 @@ pub finds_all_unrefined : {C B N : Type 0} {c : Machine C N} {b : Machine B N} {
 finds_all_unrefined q same in_c in_b n (nowhere never) = nowhere (λ a from begun path. never a from begun ((paths_agree q a.start a.pattern a.end same in_c in_b n).0 path))
 finds_all_unrefined q same in_c in_b n (found {a = a} from begun path best) = found from begun ((paths_agree q a.start a.pattern a.end same in_c in_b n).1 path)
     (λ b from' begun' path'. best b from' begun' ((paths_agree q b.start b.pattern b.end same in_c in_b n).0 path'))
+
+-- the loop over places, whatever reads the characters
+pub readers_find_all : {L S N : Type 0} (put : ℕ → ℕ → N → N) (first : S → List ℕ → Option ℕ) (step : ℕ → Automaton) (nodes : List (Node L S)) (h : Haystack L) (s : Search) (fresh : ℕ → N) (q : ℕ) (out : Option PatternMatch)
+    → ReadsMembers first step nodes → ReadsWhole (over_characters put first nodes h) s.content
+    → SearchesAll (over_bytes put step nodes h) (Begins s) (q, 0) s.start [] None out → IsFindAll (over_characters put first nodes h) fresh s q out
+readers_find_all put first step nodes h s fresh q out members whole searches =
+    find_all_from_finds fresh number_told whole
+    (finds_all_unrefined q (bytes_refine put first step nodes h members) number_told pair_told (fresh 0) (search_finds_all (bytes_forward put step nodes h) pair_told (fresh 0) searches))

@@ -9,6 +9,8 @@ use Rattle.std.proofs.Math.Utf8.{encode}
 use Rattle.std.specs.Char.{len_utf8}
 use Rattle.rx_walks.specs.Machines.{Move, ends, goes, reads, Machine, Outcome, IsForward}
 use Rattle.rx_walks.specs.Walks.{Walk, ended, went, took, IsLeast}
+use Rattle.rx_walks.specs.Paths.{Path}
+use Rattle.rx_walks.specs.Trails.{cut_at}
 use Rattle.rx_walks.specs.Characters.{len_if, member_len, StandsFirst}
 use Rattle.rx_walks.specs.Looks.{Look}
 use Rattle.rx_walks.specs.Finds.{Search, up_to_place, IsInside, MayEnd, Counts, IsFind, not_found, is_found}
@@ -17,7 +19,8 @@ use Rattle.rx_walks.specs.ProgramFinds.{first_by, haystack_of, holds_in, machine
 use Rattle.rx_walks.proofs.WalkLaws.{ends_not_goes, goes_not_reads, same_read}
 use Rattle.rx_walks.proofs.CharacterLaws.{member_stands, stands_first}
 use Rattle.rx_walks.proofs.FindLaws.{least_same}
-use Rattle.rx_walks.proofs.ForwardLaws.{characters_forward}
+use Rattle.rx_walks.proofs.ForwardLaws.{characters_forward, number_told}
+use Rattle.rx_walks.proofs.PathLaws.{path_has_walk, walk_reaches, reaches}
 use Rattle.rx_walks.proofs.InsideLaws.{none_there, same_goes, within_high, finds_lie_inside}
 use Rattle.rx_walks.proofs.ExistLaws.{LeastOrNone, characters_least, program_find_exists}
 
@@ -61,9 +64,6 @@ from_place_up_to : (content : List ℕ) (i high : ℕ) → i ≤ high → drop i
 from_place_up_to content i high inside = ap (λ n. drop i (take n content)) (omega (arith, inside)) ∙ drop-take i (high - i) content
 
 -- ---- walks
-
-abbrev cut_at : Haystack Look → ℕ → Haystack Look
-cut_at h high = record h { high = high }
 
 on_from : {Q N : Type 0} {m : Machine Q N} {seen : List Q} {n : N} {q : Q} {i : ℕ} {cs : List ℕ} {t : Outcome N} → IsForward m → Walk m seen n q i cs t → i ≤ t.end
 on_from forward (ended new is) = omega arith
@@ -144,6 +144,19 @@ module _ {S : Type 0} (member : S → ℕ → Bool) (nodes : List (Node Look S))
 
   least_in : {n : Notes} {q i : ℕ} {t : Outcome Notes} → t.end ≤ high → IsLeast (over_characters put_note (first_by member) nodes h) [] n q i t → IsLeast (over_characters put_note (first_by member) nodes (cut_at h high)) [] n q i t
   least_in near one = record { choices = one.choices; walk = walk_in near one.walk; least = λ ds u w. one.least ds u (walk_out w) }
+
+-- ---- paths
+
+module _ {S : Type 0} (member : S → ℕ → Bool) (nodes : List (Node Look S)) (h : Haystack Look) (high : ℕ) (lower : high ≤ h.high) where
+  pub path_in : {q i p e : ℕ} → e ≤ high → Path (over_characters put_note (first_by member) nodes h) q i p e → Path (over_characters put_note (first_by member) nodes (cut_at h high)) q i p e
+  path_in near path =
+      let one = path_has_walk number_told path (fresh_notes 0) in
+      walk_reaches (reaches (walk_in member nodes h high lower (omega (arith, near, one.end_is)) one.walk) one.pattern_is one.end_is)
+
+  pub path_out : {q i p e : ℕ} → Path (over_characters put_note (first_by member) nodes (cut_at h high)) q i p e → Path (over_characters put_note (first_by member) nodes h) q i p e
+  path_out path =
+      let one = path_has_walk number_told path (fresh_notes 0) in
+      walk_reaches (reaches (walk_out member nodes h high lower one.walk) one.pattern_is one.end_is)
 
 -- ---- finds
 

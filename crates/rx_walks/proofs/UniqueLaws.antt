@@ -7,7 +7,7 @@ use Rattle.rx_walks.specs.Programs.{Program, Notes}
 use Rattle.rx_walks.specs.ProgramFinds.{start_node, IfStarts, ProgramFinds, ProgramFindsAll, ProgramMatches, ProgramMatchesAll}
 use Rattle.rx_walks.proofs.FindLaws.{find_unique, matches_unique}
 
-match_is : (a b : PatternMatch) → a.start ≡ b.start → a.pattern ≡ b.pattern → a.end ≡ b.end → a ≡ b
+pub match_is : (a b : PatternMatch) → a.start ≡ b.start → a.pattern ≡ b.pattern → a.end ≡ b.end → a ≡ b
 match_is a b start pattern end =
     ap (λ x. record { start = x; pattern = a.pattern; end = a.end }) start
     ∙ ap (λ x. record { start = b.start; pattern = x; end = a.end }) pattern
@@ -26,7 +26,7 @@ find_all_unique (greatest {a = a} counts best) (none_at_all never) = absurd (nev
 find_all_unique (greatest {a = a} counts best) (greatest {a = b} counts' best') = ap Some (at_least_same a b (best b counts') (best' a counts))
 
 -- where there is a start node
-starts_unique : {A : Type 0} (o : Option ℕ) (finds : ℕ → Option A → Type 0) (out out' : Option A) → ((q : ℕ) → finds q out → finds q out' → out ≡ out') → IfStarts o finds out → IfStarts o finds out' → out ≡ out'
+pub starts_unique : {A : Type 0} (o : Option ℕ) (finds : ℕ → Option A → Type 0) (out out' : Option A) → ((q : ℕ) → finds q out → finds q out' → out ≡ out') → IfStarts o finds out → IfStarts o finds out' → out ≡ out'
 starts_unique None finds out out' one e e' = e ∙ sym e'
 starts_unique (Some q) finds out out' one is is' = one q is is'
 

@@ -16,6 +16,8 @@
 //! - `groups,PATTERN,SETTINGS`: the names of the groups, a dash for one without a name.
 //! - `compile,PATTERN,SETTINGS,LIMIT`: the states of the program.
 //! - `build,PATTERN,SETTINGS,LIMIT`: how many they are.
+//! - `reversed,PATTERN,SETTINGS,LIMIT`: the program turned round: where its walks start, its states,
+//!   and the rows of its automata.
 //! - `sizes,PATTERN,SETTINGS,LIMIT`: how many states and ranges of bytes the automaton of the
 //!   pattern's first set has, and how many its reverse.
 //! - `back,PATTERN,SETTINGS,LIMIT,HAYSTACK`: from each place of the haystack back, how many bytes
@@ -61,6 +63,7 @@ mod literals;
 mod patterns;
 mod programs;
 mod regexes;
+mod reversed;
 mod ropes;
 mod searchers;
 mod searches;
@@ -80,6 +83,7 @@ fn answer(alloc: Global, line: &str) -> Result<String, Fault> {
         "groups" => patterns::groups(alloc, &fields),
         "compile" => programs::states(alloc, &fields),
         "build" => programs::size(alloc, &fields),
+        "reversed" => reversed::states(alloc, &fields),
         "sizes" => sets::sizes(alloc, &fields),
         "back" => sets::back(alloc, &fields),
         "search" => searches::matches(alloc, &fields),

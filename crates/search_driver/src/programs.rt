@@ -65,7 +65,7 @@ fn first_with(program: &Program, automaton: &Rc<SetAutomaton>) -> usize {
 }
 
 /// The sign of a look.
-fn sign_of(look: Look) -> &'static str {
+pub fn sign_of(look: Look) -> &'static str {
     match look {
         Look::Start => "^",
         Look::End => "$",

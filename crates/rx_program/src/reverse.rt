@@ -1,0 +1,260 @@
+//! Programs turned round.
+
+ghost use Rattle.std.specs.Prelude.{ℕ, ◌≡◌, ◌+◌, ◌*◌, ◌<◌, ◌^◌, ◌++◌, [], ◌∷◌, length, map, All, IfOk, IfSome, OnOk};
+ghost use Rattle.rx_walks.specs.Programs.{match, pass};
+ghost use Rattle.rx_walks.specs.Reversed.{arrived, back_program, edge_back, indexed, is_match, is_match_of, those};
+ghost use Rattle.rx_program.specs.Arrivals.{lists_of, unions};
+ghost use Rattle.rx_program.specs.Programs.{characters_of, node_of};
+ghost use Rattle.rx_program.specs.Reversed.{IsReverseByteProgram, ReadsBackwards, ReadsItsSetBack, back_characters_of, back_node_of};
+
+use crate::arrivals::{arrivals, ends, ends_by_pattern};
+use crate::automata::ReverseAutomata;
+use crate::program::Program;
+use crate::reverse_states::ReverseState;
+use crate::states::State;
+use rx_sets::CharacterSet;
+use rx_util::{PatternID, StateID};
+use rx_walks::laws_back::program_turns_in_bytes;
+use std::alloc::{AllocError, Global};
+use std::marker::Model;
+
+/// A program turned round: its walks, over a content that is read from its end back, are those of
+/// the program from where they end to where they start. It comes from `Program::reversed` alone.
+/// Contracts see its states, where walks start, and the byte that ends a line
+/// (`ReverseByteProgram`); `back_characters_of` is the program over characters that it stands for.
+#[derive(Debug, Drop)]
+pub struct ReverseProgram {
+    states: Vec<ReverseState>,
+    start: StateID,
+    patterns: Vec<StateID>,
+    line_terminator: u8,
+}
+
+impl Model for ReverseProgram {
+    ghost use Rattle.std.specs.Prelude.{All};
+    ghost use Rattle.rx_program.specs.Reversed.{ReverseByteProgram, ReadsItsSetBack};
+
+    ghost Value = { ReverseByteProgram };
+
+    ghost view = { λ p. record {
+      states = p.states.items;
+      start = p.start;
+      patterns = p.patterns.items;
+      line_terminator = p.line_terminator;
+    } };
+
+    ghost invariant = { λ p. All ReadsItsSetBack p.states.items };
+}
+
+impl ReverseProgram {
+    /// What its lists take their memory from.
+    pub fn allocator(&self) -> Global {
+        *self.states.allocator()
+    }
+
+    /// The states, by number.
+    pub fn states(&self) -> &[ReverseState]
+        ensures states { result.now ≡ self.now.states }
+        ensures reads { All ReadsItsSetBack result.now }
+    {
+        &self.states
+    }
+
+    /// The state that walks back start from where no pattern is asked for.
+    pub fn start(&self) -> StateID
+        ensures { result ≡ self.now.start }
+    {
+        self.start
+    }
+
+    /// The state that walks back start from of each pattern.
+    pub fn patterns(&self) -> &[StateID]
+        ensures { result.now ≡ self.now.patterns }
+    {
+        &self.patterns
+    }
+
+    /// The byte that ends a line.
+    pub fn line_terminator(&self) -> u8
+        ensures { result ≡ self.now.line_terminator }
+    {
+        self.line_terminator
+    }
+
+    /// A law, for the proof alone: its automata read the characters of their sets from the last
+    /// byte back, and never come back to the state in which they begin.
+    pub fn reads_backwards(&self)
+        ensures { IsReverseByteProgram self.now }
+    {
+        let _states = self.states();
+    }
+}
+
+/// The number of the state at the ends of all matches, of a program with so many states and
+/// patterns; none where a `usize` doesn't tell how many states it has turned round.
+fn first_start(states: usize, patterns: usize) -> Option<usize>
+    ensures start { IfSome result (λ start. start ≡ 2 * states + patterns) }
+    ensures room { IfSome result (λ start. start + patterns + 1 < 2 ^ 64) }
+{
+    let start = states.checked_mul(2)?.checked_add(patterns)?;
+    start.checked_add(patterns)?.checked_add(1)?;
+    Some(start)
+}
+
+/// Appends a state with empty edges for each list of them.
+fn push_unions(
+    alloc: Global,
+    states: &mut Vec<ReverseState>,
+    lists: &[Vec<StateID>],
+) -> Result<(), AllocError>
+    requires { All ReadsItsSetBack states.old.items }
+    ensures nodes { OnOk result (map back_node_of states.new.items
+        ≡ map back_node_of states.old.items ++ unions (lists_of lists.now)) }
+    ensures reads { OnOk result (All ReadsItsSetBack states.new.items) }
+{
+    for list in lists {
+        states.push(ReverseState::union(alloc, list)?)?;
+    }
+    Ok(())
+}
+
+/// Appends for each state one to which walks come back where they came to it.
+fn push_arrivals(
+    alloc: Global,
+    states: &mut Vec<ReverseState>,
+    forward: &[State],
+    patterns: &[StateID],
+) -> Result<(), AllocError>
+    requires room { 2 * length forward.now + length patterns.now < 2 ^ 64 }
+    requires reads { All ReadsItsSetBack states.old.items }
+    ensures nodes { let nodes = map node_of forward.now in
+        OnOk result (map back_node_of states.new.items ≡ map back_node_of states.old.items
+        ++ indexed (λ q node. pass (arrived nodes patterns.now q)) 0 nodes) }
+    ensures reads { OnOk result (All ReadsItsSetBack states.new.items) }
+{
+    let lists = arrivals(alloc, forward, patterns)?;
+    push_unions(alloc, states, &lists)
+}
+
+/// The edges of a state, walked back to it.
+fn edge_back(
+    alloc: Global,
+    automata: &mut ReverseAutomata,
+    state: &State,
+    from: StateID,
+) -> Result<ReverseState, AllocError>
+    ensures node { IfOk result (λ back. back_node_of back ≡ edge_back from (node_of state.now)) }
+    ensures reads { IfOk result ReadsItsSetBack }
+{
+    Ok(match state {
+        State::Ranges(automaton, _) => ReverseState::Ranges(automata.automaton(automaton)?, from),
+        State::Look(look, _) => ReverseState::Look(*look, from),
+        State::Empty(_) => ReverseState::Empty(from),
+        State::BinaryUnion(_, _) => ReverseState::Empty(from),
+        State::Union(_) => ReverseState::Empty(from),
+        State::Capture(_, _) => ReverseState::Empty(from),
+        State::Match(_) => ReverseState::Union(Vec::new(alloc)),
+    })
+}
+
+/// Appends the edges of each state, walked back.
+fn push_edges_back(
+    alloc: Global,
+    states: &mut Vec<ReverseState>,
+    forward: &[State],
+) -> Result<(), AllocError>
+    requires { All ReadsItsSetBack states.old.items }
+    ensures nodes { OnOk result (map back_node_of states.new.items
+        ≡ map back_node_of states.old.items ++ indexed edge_back 0 (map node_of forward.now)) }
+    ensures reads { OnOk result (All ReadsItsSetBack states.new.items) }
+{
+    let mut automata = ReverseAutomata::new(alloc);
+    for from in 0..forward.len() {
+        states.push(edge_back(alloc, &mut automata, &forward[from], StateID::new(from))?)?;
+    }
+    Ok(())
+}
+
+/// Appends for each pattern the state at which its walks back end.
+fn push_matches(states: &mut Vec<ReverseState>, patterns: &[StateID]) -> Result<(), AllocError>
+    requires { All ReadsItsSetBack states.old.items }
+    ensures nodes { OnOk result (map back_node_of states.new.items
+        ≡ map back_node_of states.old.items ++ indexed (λ k start. match k) 0 patterns.now) }
+    ensures reads { OnOk result (All ReadsItsSetBack states.new.items) }
+{
+    for number in 0..patterns.len() {
+        states.push(ReverseState::Match(PatternID::new(number)))?;
+    }
+    Ok(())
+}
+
+/// Appends the states from which walks back start: at the ends of all matches, and at those of each
+/// pattern's.
+fn push_starts(
+    alloc: Global,
+    states: &mut Vec<ReverseState>,
+    forward: &[State],
+    patterns: &[StateID],
+) -> Result<(), AllocError>
+    requires { All ReadsItsSetBack states.old.items }
+    ensures nodes { let nodes = map node_of forward.now in
+        OnOk result (map back_node_of states.new.items ≡ map back_node_of states.old.items
+        ++ (pass (those is_match 0 nodes)
+        ∷ indexed (λ k start. pass (those (is_match_of k) 0 nodes)) 0 patterns.now)) }
+    ensures reads { OnOk result (All ReadsItsSetBack states.new.items) }
+{
+    let all = ends(alloc, forward)?;
+    states.push(ReverseState::union(alloc, &all)?)?;
+    let lists = ends_by_pattern(alloc, forward, patterns.len())?;
+    push_unions(alloc, states, &lists)
+}
+
+/// The numbers from one on, as many as there are patterns.
+fn numbers_from(
+    alloc: Global,
+    first: usize,
+    patterns: &[StateID],
+) -> Result<Vec<StateID>, AllocError>
+    requires { first + length patterns.now < 2 ^ 64 }
+    ensures { IfOk result (λ starts. starts.items ≡ indexed (λ k start. first + k) 0 patterns.now) }
+{
+    let mut starts = Vec::new(alloc);
+    for number in 0..patterns.len() {
+        starts.push(StateID::new(first + number))?;
+    }
+    Ok(starts)
+}
+
+impl Program {
+    /// The program turned round. In each content its walks over bytes, from the content's end back,
+    /// are those of this program, from where they end to where they start: from its start those of
+    /// all patterns, and from each pattern's own those that match this pattern.
+    ///
+    /// It has twice as many states, and two for each pattern and one besides. It takes time and
+    /// memory in proportion to the program, and to the automata of its sets turned round.
+    pub fn reversed(&self) -> Result<ReverseProgram, AllocError>
+        ensures characters { IfOk result (λ back. back_characters_of back
+            ≡ back_program (characters_of self.now)) }
+        ensures reads { IfOk result IsReverseByteProgram }
+        ensures walks { IfOk result (λ back. ReadsBackwards back (characters_of self.now)) }
+    {
+        let alloc = self.allocator();
+        let Some(start) = first_start(self.states().len(), self.patterns().len()) else {
+            return Err(AllocError);
+        };
+        let mut states = Vec::new(alloc);
+        push_arrivals(alloc, &mut states, self.states(), self.patterns())?;
+        push_edges_back(alloc, &mut states, self.states())?;
+        push_matches(&mut states, self.patterns())?;
+        push_starts(alloc, &mut states, self.states(), self.patterns())?;
+        let back = ReverseProgram {
+            states,
+            start: StateID::new(start),
+            patterns: numbers_from(alloc, start + 1, self.patterns())?,
+            line_terminator: self.line_terminator(),
+        };
+        back.reads_backwards();
+        program_turns_in_bytes::<CharacterSet>();
+        Ok(back)
+    }
+}
