@@ -80,10 +80,10 @@ impl Leaves {
         if is_cr_last(text) && self.is_lf_first {
             return Err(Refused::Text);
         }
-        let leaf = Leaf::new(text);
+        let leaf = Leaf::new(alloc, text)?;
         // For its facts alone.
         let _ = leaf.as_str();
-        let node = Rc::new(alloc, Node::from_leaf(alloc, leaf)?)?;
+        let node = Rc::new(alloc, Node::from_leaf(leaf))?;
         self.nodes.insert(0, node)?;
         self.is_lf_first = is_lf_first(text);
         self.bytes += text.len();

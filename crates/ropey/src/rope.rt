@@ -254,8 +254,8 @@ impl Rope {
         Ok(())
     }
 
-    /// Returns how many bytes all chunks have room for, `MAX_BYTES` each, and `usize::MAX` where it
-    /// would be more. Goes over the chunks, in `O(n)`.
+    /// Returns how many bytes all chunks may have, `MAX_BYTES` each, and `usize::MAX` where it would
+    /// be more. A chunk takes no more memory than it has bytes. Goes over the chunks, in `O(n)`.
     pub fn capacity(&self) -> usize
         ensures { result ≡ min (984 * length self.now) (2 ^ 64 - 1) }
     {

@@ -17,7 +17,7 @@ use ropey_tree::edits::replace_in_leaf;
 use ropey_tree::made::Made;
 use ropey_tree::node::{Node, leaf_at};
 use ropey_tree::seams::append;
-use ropey_tree::splits::{Halves, split};
+use ropey_tree::splits::{Halves, halves_at};
 use ropey_tree::visits::Visits;
 use std::alloc::{AllocError, Global};
 use std::rc::Rc;
@@ -121,11 +121,11 @@ fn around(alloc: Global, node: &Rc<Node>, from: usize, to: usize) -> Result<Halv
         (text_of (pieces_in halves.left) ++ text_of (pieces_in halves.right))) }
     ensures place { IfOk result (λ halves. byte_len (text_of (pieces_in halves.left)) ≡ from) }
 {
-    let front = split(alloc, node, from, &mut Visits::new())?;
+    let front = halves_at(alloc, node, from)?;
     if from == to {
         return Ok(front);
     }
-    let back = split(alloc, node, to, &mut Visits::new())?;
+    let back = halves_at(alloc, node, to)?;
     Ok(Halves {
         left: front.left,
         right: back.right,
@@ -186,7 +186,7 @@ pub(crate) fn halves_of(
             right: None,
         }),
         Some(node) => {
-            let halves = split(alloc, node, at, &mut Visits::new())?;
+            let halves = halves_at(alloc, node, at)?;
             Ok(halves)
         }
     }

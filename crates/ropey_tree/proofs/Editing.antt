@@ -1,24 +1,33 @@
 -- Edits inside one leaf.
-use Rattle.std.proofs.Common.{◌≡◌, ℕ, suc, ◌+◌, ◌-◌, ◌*◌, ◌^◌, ◌<◌, ◌≤◌, ◌⊎◌, Bool, true, false, true≢false, ◌&&◌, inl, inr, List, [], ◌∷◌, ◌++◌, length, take, drop, get_or, min, refl, ap, arith, sym, ◌∙◌, subst, append_assoc, length-append, length-take-le, All}
+use Rattle.std.proofs.Common.{◌≡◌, ℕ, suc, ◌+◌, ◌-◌, ◌*◌, ◌^◌, ◌<◌, ◌≤◌, ◌⊎◌, Bool, true, false, true≢false, ◌&&◌, inl, inr, List, [], ◌∷◌, ◌++◌, length, take, drop, get_or, map, cond, min, refl, ap, arith, sym, ◌∙◌, subst, append_assoc, length-append, length-take-le, All}
 use mathlib.Core.Bool.{beq}
 use Rattle.std.proofs.lemmas.List.Elements.{All-head, All-cons, All-nil, All-append, All-get_or}
-use Rattle.std.proofs.lemmas.List.{take-append-drop, length-drop, append-nil}
+use Rattle.std.proofs.lemmas.List.{take-append-drop, length-drop, append-nil, drop-drop}
 use Rattle.std.proofs.lemmas.List.Sums.{sum_by-cons}
 use Rattle.std.specs.Str.{chars, IsUtf8, IsCharBoundary}
-use Rattle.std.proofs.lemmas.Str.{encodes-chars, scalars-chars, chars-append, IsUtf8-take, IsUtf8-drop}
+use Rattle.std.proofs.lemmas.Str.{encodes-chars, length-le-encodes, scalars-chars, chars-append, IsUtf8-take, IsUtf8-drop}
 use Rattle.std.proofs.Math.Nat.{pow-le-pow_right, mul-le-mul_right}
-use Rattle.str_indices.specs.Text.{starts_with_lf, byte_len, ends_with_cr}
-use Rattle.ropey_tree.specs.Counts.{total}
+use Rattle.std.specs.Prelude.{slice_range}
+use Rattle.str_indices.specs.Text.{breaks, units, starts_with_lf, byte_len, ends_with_cr}
+use Rattle.str_indices.specs.Laws.{LosesBreakInCrLf}
+use Rattle.ropey_tree.specs.Breaks.{is_break}
+use Rattle.ropey_tree.specs.Counts.{total, counts_of}
 use Rattle.ropey_tree.specs.Cutting.{IsPiece, IsCutting, IsText, IsBoundaryOf, cuts_cr_lf}
 use Rattle.ropey_tree.specs.NodeView.{NodeView}
-use Rattle.ropey_tree.specs.Nodes.{all_pieces, AreNodes, IsNodeOf, IsInner, inner_view, leaf_view}
+use Rattle.ropey_tree.specs.declared.counts.Counts.{Counts}
+use Rattle.ropey_tree.specs.Nodes.{all_pieces, count_of, AreNodes, IsNodeOf, IsInner, inner_view, leaf_view}
 use Rattle.std.specs.List.{concat}
 use Rattle.ropey_tree.specs.Edits.{IsReplaced, AreOneOrTwo, MayStandFor, IsPieceAt, AreEdited, IsEdited}
-use Rattle.ropey_tree.specs.LeafRow.{IsReplacedBy}
+use Rattle.ropey_tree.specs.LeafRow.{IsReplacedBy, leaves_of, edited_nodes}
+use Rattle.ropey_tree.specs.declared.edits.Leaves.{Leaves}
+use Rattle.ropey_tree.specs.declared.edits.Leaves.TheVariants.{One as OneLeaf, Two as TwoLeaves}
+use Rattle.ropey_tree.specs.declared.edits.Edited.{Edited}
+use Rattle.ropey_tree.specs.declared.edits.Edited.TheVariants.{One as OneNode, Two as TwoNodes}
 use Rattle.ropey_tree.specs.Siblings.{AreSiblings, Packed}
 use Rattle.ropey_tree.proofs.Texts.{byte_len-append}
+use Rattle.ropey_tree.proofs.Totals.{units-le-bytes, breaks-le-bytes}
 use Rattle.ropey_tree.proofs.Pieces.{bytes-append}
-use Rattle.ropey_tree.proofs.Splitting.{between, bytes-concat, starts-append, ends-append}
+use Rattle.ropey_tree.proofs.Splitting.{bytes-concat, starts-append, ends-append}
 use Rattle.ropey_tree.proofs.OverSeams.{same_front}
 use Rattle.ropey_tree.proofs.InRow.{all_pieces-append, all_pieces-one, bytes-take-le, all_pieces-parts, all_pieces-take_more}
 use Rattle.ropey_tree.proofs.Packing.{nodes-left, nodes-right}
@@ -122,25 +131,68 @@ back_bytes bytes at u boundary = ap length (encodes-chars (drop at bytes) (IsUtf
 pub three_chars : (a b c : List ℕ) → IsUtf8 a → IsUtf8 b → chars (a ++ b ++ c) ≡ chars a ++ chars b ++ chars c
 three_chars a b c u v = ap chars (append_assoc a b c) ∙ chars-append a (b ++ c) u ∙ ap (λ t. chars a ++ t) (chars-append b c v) ∙ sym (append_assoc (chars a) (chars b) (chars c))
 
-pub cut_in_three : (bytes leaf : List ℕ) (from to : ℕ) (text : List ℕ) → IsUtf8 bytes → chars bytes ≡ leaf → IsCharBoundary bytes from → IsCharBoundary bytes to → from ≤ to
-    → IsReplaced leaf from to text (chars (take from bytes) ++ text ++ chars (drop to bytes))
-cut_in_three bytes leaf from to text u is starts ends le =
-    let front = IsUtf8-take bytes from u starts in
-    let front_two = IsUtf8-take bytes to u ends in
-    let one : leaf ≡ chars (take from bytes) ++ chars (drop from bytes) = sym is ∙ ap chars (sym (take-append-drop from bytes)) ∙ chars-append (take from bytes) (drop from bytes) front in
-    let two : leaf ≡ chars (take to bytes) ++ chars (drop to bytes) = sym is ∙ ap chars (sym (take-append-drop to bytes)) ∙ chars-append (take to bytes) (drop to bytes) front_two in
-    let len = front_bytes bytes from u starts in
-    let len_two = front_bytes bytes to u ends in
-    let parts = between (chars (take to bytes)) (chars (drop to bytes)) (chars (take from bytes)) (chars (drop from bytes)) (sym two ∙ one) (omega (arith, len, len_two, le)) in
-    record {
-      front = chars (take from bytes);
-      gone = parts.mid;
-      back = chars (drop to bytes);
-      old_is = two ∙ ap (λ t. t ++ chars (drop to bytes)) parts.front_is;
-      new_is = refl;
-      starts = len;
-      ends = ap byte_len (sym parts.front_is) ∙ len_two;
-    }
+pub three_parts : (bytes mid : List ℕ) (from to : ℕ) → IsUtf8 bytes → IsCharBoundary bytes from → from ≤ to → IsUtf8 mid → mid ≡ slice_range bytes from to → chars bytes ≡ chars (take from bytes) ++ chars mid ++ chars (drop to bytes)
+three_parts bytes mid from to u starts le mid_utf8 is =
+    let index : from + (to - from) ≡ to = omega (arith, le) in
+    let behind : drop (to - from) (drop from bytes) ≡ drop to bytes = drop-drop (to - from) from bytes ∙ ap (λ n. drop n bytes) index in
+    let rest : drop from bytes ≡ mid ++ drop to bytes = sym (ap (λ m. m ++ drop to bytes) is ∙ ap (λ t. slice_range bytes from to ++ t) (sym behind) ∙ take-append-drop (to - from) (drop from bytes)) in
+    ap chars (sym (take-append-drop from bytes)) ∙ chars-append (take from bytes) (drop from bytes) (IsUtf8-take bytes from u starts) ∙ ap (λ t. chars (take from bytes) ++ t) (ap chars rest ∙ chars-append mid (drop to bytes) mid_utf8) ∙ sym (append_assoc (chars (take from bytes)) (chars mid) (chars (drop to bytes)))
+
+pub mid_bytes : (bytes mid : List ℕ) (from to : ℕ) → IsUtf8 bytes → IsCharBoundary bytes from → to ≤ length bytes → from ≤ to → IsUtf8 mid → mid ≡ slice_range bytes from to → byte_len (chars (take from bytes) ++ chars mid) ≡ to
+mid_bytes bytes mid from to u starts ends le mid_utf8 is =
+    let len = ap length is ∙ length-take-le (to - from) (drop from bytes) (omega (arith, ends, length-drop from bytes)) in
+    omega (arith, le, len, byte_len-append (chars (take from bytes)) (chars mid), front_bytes bytes from u starts, ap length (encodes-chars mid mid_utf8))
+
+-- a text between two others that gave way to a text
+pub replaced_in : (old front gone back text : List ℕ) (from to : ℕ) → old ≡ front ++ gone ++ back → byte_len front ≡ from → byte_len (front ++ gone) ≡ to → IsReplaced old from to text (front ++ text ++ back)
+replaced_in old front gone back text from to is starts ends = record { front = front; gone = gone; back = back; old_is = is; new_is = refl; starts = starts; ends = ends }
+
+-- ---- what a text between two others counts
+module _ (lines : LosesBreakInCrLf is_break) where
+  pub seams_some : (front mid back : List ℕ) (cr lf : Bool) → ends_with_cr front ≡ cr → starts_with_lf back ≡ lf → 1 ≤ byte_len mid
+      → breaks is_break (front ++ mid ++ back) + (cond (cr && starts_with_lf mid) 1 0 + cond (ends_with_cr mid && lf) 1 0) ≡ breaks is_break front + breaks is_break mid + breaks is_break back
+  seams_some front mid back cr lf cr_is lf_is some =
+      let first : breaks is_break (front ++ mid) + cond (cr && starts_with_lf mid) 1 0 ≡ breaks is_break front + breaks is_break mid =
+      ap (λ b. breaks is_break (front ++ mid) + cond (b && starts_with_lf mid) 1 0) (sym cr_is) ∙ lines front mid in
+      let second : breaks is_break (front ++ mid ++ back) + cond (ends_with_cr mid && lf) 1 0 ≡ breaks is_break (front ++ mid) + breaks is_break back =
+      ap (λ b. breaks is_break (front ++ mid ++ back) + cond (ends_with_cr mid && b) 1 0) (sym lf_is) ∙ ap (λ b. breaks is_break (front ++ mid ++ back) + cond (b && starts_with_lf back) 1 0) (sym (ends-append front mid some)) ∙ lines (front ++ mid) back in
+      omega (arith, first, second)
+
+  pub seams_none : (front mid back : List ℕ) (cr lf : Bool) → ends_with_cr front ≡ cr → starts_with_lf back ≡ lf → mid ≡ []
+      → breaks is_break (front ++ mid ++ back) + cond (cr && lf) 1 0 ≡ breaks is_break front + breaks is_break mid + breaks is_break back
+  seams_none front mid back cr lf cr_is lf_is none =
+      let whole : front ++ mid ++ back ≡ front ++ back = ap (λ m. front ++ m ++ back) none ∙ ap (λ t. t ++ back) (append-nil front) in
+      let zero : breaks is_break mid ≡ 0 = ap (breaks is_break) none in
+      let joined : breaks is_break (front ++ mid ++ back) + cond (cr && lf) 1 0 ≡ breaks is_break front + breaks is_break back =
+      ap (λ t. breaks is_break t + cond (cr && lf) 1 0) whole ∙ ap (λ b. breaks is_break (front ++ back) + cond (b && lf) 1 0) (sym cr_is) ∙ ap (λ b. breaks is_break (front ++ back) + cond (ends_with_cr front && b) 1 0) (sym lf_is) ∙ lines front back in
+      omega (arith, zero, joined)
+
+-- a text of so few bytes counts no more in any measure
+pub record CountsFew (text : List ℕ) (n : ℕ) : Type 0 where
+  pub bytes : byte_len text ≤ n
+  pub chars : length text ≤ n
+  pub units : units text ≤ n
+  pub breaks : breaks is_break text ≤ n
+
+pub counts-few : (text : List ℕ) (n : ℕ) → byte_len text ≤ n → CountsFew text n
+counts-few text n few = record {
+  bytes = few;
+  chars = omega (arith, few, length-le-encodes text);
+  units = omega (arith, few, units-le-bytes text);
+  breaks = omega (arith, few, breaks-le-bytes text);
+}
+
+pub bytes-few : (bytes : List ℕ) (n : ℕ) → IsUtf8 bytes → length bytes ≤ n → CountsFew (chars bytes) n
+bytes-few bytes n u few = counts-few (chars bytes) n (omega (arith, few, ap length (encodes-chars bytes u)))
+
+-- three texts of which the bytes are few
+pub three-few : (a b c : List ℕ) (n : ℕ) → IsUtf8 a → IsUtf8 b → IsUtf8 c → length a + length b + length c ≤ n → CountsFew (chars a ++ chars b ++ chars c) n
+three-few a b c n u v w few =
+    counts-few (chars a ++ chars b ++ chars c) n
+    (omega (arith, few, ap length (encodes-chars a u), ap length (encodes-chars b v), ap length (encodes-chars c w), byte_len-append (chars a ++ chars b) (chars c), byte_len-append (chars a) (chars b)))
+
+pub counts_are : (b c u l : ℕ) (text : List ℕ) → b ≡ byte_len text → c ≡ length text → u ≡ units text → l ≡ breaks is_break text → record { bytes = b; chars = c; units = u; breaks = l } ≡ counts_of text
+counts_are b c u l text eb ec eu el = cc
 
 -- ---- a text in one leaf, or in two
 pub piece_of : (bytes : List ℕ) → IsUtf8 bytes → 1 ≤ length bytes → length bytes ≤ 984 → IsPiece (chars bytes)
@@ -158,16 +210,14 @@ two_cut bytes at u boundary front back whole =
       piece_of (drop at bytes) (IsUtf8-drop bytes at u boundary) (omega (arith, second, back.0)) (omega (arith, second, back.1)),
     )
 
-pub two_text : (bytes : List ℕ) (at : ℕ) → IsUtf8 bytes → IsCharBoundary bytes at → concat (chars (take at bytes) ∷ chars (drop at bytes) ∷ []) ≡ chars bytes
-two_text bytes at u boundary = ap (λ t. chars (take at bytes) ++ t) (append-nil (chars (drop at bytes))) ∙ sym (chars-append (take at bytes) (drop at bytes) (IsUtf8-take bytes at u boundary)) ∙ ap chars (take-append-drop at bytes)
+pub two_text : (bytes : List ℕ) (at : ℕ) → IsUtf8 bytes → IsCharBoundary bytes at → chars (take at bytes) ++ chars (drop at bytes) ≡ chars bytes
+two_text bytes at u boundary = sym (chars-append (take at bytes) (drop at bytes) (IsUtf8-take bytes at u boundary)) ∙ ap chars (take-append-drop at bytes)
 
-pub two_number : (bytes : List ℕ) (at : ℕ) (a b : List ℕ) → IsUtf8 bytes → IsCharBoundary bytes at → 488 ≤ at → at + 488 ≤ length bytes → 984 ≤ length bytes → a ≡ chars (take at bytes) → b ≡ chars (drop at bytes) → AreOneOrTwo (a ∷ b ∷ [])
-two_number bytes at a b u boundary front back long a_is b_is =
+pub two_may : (a b : List ℕ) (text : List ℕ) → a ++ b ≡ text → 984 ≤ byte_len text → 488 ≤ byte_len a → 488 ≤ byte_len b → AreOneOrTwo (a ∷ b ∷ [])
+two_may a b text is long first second =
     let Half : List ℕ → Type 0 = λ p. 488 ≤ byte_len p in
-    let first : byte_len a ≡ at = ap byte_len a_is ∙ front_bytes bytes at u boundary in
-    let second : byte_len b ≡ length bytes - at = ap byte_len b_is ∙ back_bytes bytes at u boundary in
-    let all : byte_len (concat (a ∷ b ∷ [])) ≡ byte_len a + byte_len b = byte_len-append a (b ++ []) ∙ ap (λ t. byte_len a + byte_len t) (append-nil b) in
-    inr (refl, omega (arith, all, first, second, long), All-cons Half a (b ∷ []) (omega (arith, first, front)) (All-cons Half b [] (omega (arith, second, back)) (All-nil Half)))
+    let all : concat (a ∷ b ∷ []) ≡ text = ap (λ t. a ++ t) (append-nil b) ∙ is in
+    inr (refl, omega (arith, long, ap byte_len all), All-cons Half a (b ∷ []) first (All-cons Half b [] second (All-nil Half)))
 
 -- what may stand for a piece is not empty
 pub leaves_some : (old : List ℕ) (leaves : List (List ℕ)) → MayStandFor old leaves → 1 ≤ byte_len (concat leaves)
@@ -327,6 +377,16 @@ two_replace v w u old front back from to text made v_is w_is u_is h stands two =
       counted = (λ one. absurd (omega (arith, one)), omega (arith, two));
     })
 
+-- the nodes of what comes out of a leaf
+pub leaves_replace : (v : NodeView) (old : List ℕ) (leaves : Leaves) (nodes : List NodeView) (from to : ℕ) (text : List ℕ) (made : ℕ) → v ≡ leaf_view old → nodes ≡ map leaf_view (leaves_of leaves)
+    → IsReplaced old from to text (concat (leaves_of leaves)) → MayStandFor old (leaves_of leaves) → made ≡ length (leaves_of leaves) → IsReplacedBy v from to text made nodes
+leaves_replace v old (OneLeaf leaf counts) nodes from to text made v_is is h may number = rw is (one_replaces v (leaf_view leaf) old leaf from to text made v_is refl h may number)
+leaves_replace v old (TwoLeaves front back) nodes from to text made v_is is h may number = rw is (two_replace v (leaf_view front) (leaf_view back) old front back from to text made v_is refl refl h may number)
+
+pub edited_len : (edited : Edited) → (1 ≤ length (edited_nodes edited)) × (length (edited_nodes edited) ≤ 2)
+edited_len (OneNode node counts) = (omega arith, omega arith)
+edited_len (TwoNodes first second) = (omega arith, omega arith)
+
 -- an edit of a leaf is one of its piece
 pub record IsOfPiece (old : List ℕ) (from to : ℕ) (text : List ℕ) (leaves : List (List ℕ)) : Type 0 where
   pub replaced : IsReplaced old from to text (concat leaves)
@@ -344,6 +404,10 @@ of_piece v old from to text pieces v_is h =
     one_piece : (p : List ℕ) (ls : List (List ℕ)) (q : List ℕ) (rs : List (List ℕ)) → p ∷ [] ≡ ls ++ q ∷ rs → (ls ≡ []) × (q ≡ p)
     one_piece p [] q rs e = (refl, sym (heads p q [] rs e).0)
     one_piece p (l ∷ ls) q rs e = absurd (omega (arith, ap length e, length-append (l ∷ ls) (q ∷ rs)))
+
+-- what is known of a child with the way to it
+pub child_counted : (vs : List NodeView) (k : ℕ) (c : NodeView) (len : Counts) → c ≡ get_or vs k c → ((d : NodeView) → len ≡ count_of (get_or vs k d)) → len ≡ total c.pieces
+child_counted vs k c len is counted = counted c ∙ ap count_of (sym is)
 
 -- ---- a node whose child at k was edited
 module _ (v : NodeView) (vs : List NodeView) (k : ℕ) (c : NodeView) (from to : ℕ) (v_is : v ≡ inner_view v.height vs) (inner : IsInner v.height vs) (within : k < length vs) (is : c ≡ get_or vs k c)

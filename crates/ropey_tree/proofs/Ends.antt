@@ -47,6 +47,15 @@ unfolding chars
 no_lf [] = refl
 no_lf (b ∷ bytes) = refl
 
+-- an empty text
+pub no_cr_in_none : (bytes : List ℕ) → length bytes ≡ 0 → ends_with_cr (chars bytes) ≡ false
+no_cr_in_none [] e = ap ends_with_cr chars-nil
+no_cr_in_none (b ∷ bytes) e = absurd (omega (arith, e))
+
+pub no_lf_in_none : (bytes : List ℕ) → length bytes ≡ 0 → starts_with_lf (chars bytes) ≡ false
+no_lf_in_none [] e = ap starts_with_lf chars-nil
+no_lf_in_none (b ∷ bytes) e = absurd (omega (arith, e))
+
 pub and_false : (a b : Bool) → b ≡ false → (a && b) ≡ false
 and_false true b e = e
 and_false false b e = refl

@@ -223,3 +223,16 @@ module _ (l r : NodeView) (text : IsText (l.pieces ++ r.pieces)) where
         let back_len = ap length back_parts in
         joined_of_packed l r r.height (nodes_of joined ++ drop 1 back) packed p pieces (omega (arith, lower))
         (λ q. absurd (omega (arith, q, lower))) (λ _. omega (arith, degree, length-append (nodes_of joined) (drop 1 back), back_len, len.0))
+
+-- a root over two nodes that come of joining
+pub joined_inner : (l r v w : NodeView) → IsText (l.pieces ++ r.pieces) → AreJoined l r (v ∷ w ∷ []) → IsInner (max l.height r.height + 1) (v ∷ w ∷ [])
+joined_inner l r v w text j = record {
+  below = max l.height r.height;
+  level = refl;
+  branches = omega arith;
+  nodes = elim j.full [
+    | inl one ↦ absurd (omega (arith, one))
+    | inr full ↦ nodes-weaker (max l.height r.height) j.least 12 (v ∷ w ∷ []) full j.nodes
+  ];
+  text = rw j.pieces text;
+}

@@ -3,7 +3,6 @@ pub mod Totals
 pub mod InRow
 pub mod Running
 pub mod Halving
-pub mod Filled
 pub mod Within
 pub mod Heights
 pub mod Descents

@@ -110,6 +110,10 @@ pub chars-cr_lf : chars cr_lf ≡ cr_lf
 unfolding chars
 chars-cr_lf = refl
 
+pub cr_lf_len : byte_len cr_lf ≡ 2
+unfolding encode_utf8
+cr_lf_len = refl
+
 pub one_byte : (c : ℕ) → c < 128 → byte_len (c ∷ []) ≡ 1
 one_byte c h = omega (arith, length-append (encode_utf8 c) [], length-encode c, len_utf8_ascii c h)
 

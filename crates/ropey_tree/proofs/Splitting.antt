@@ -130,6 +130,9 @@ piece_split s t some some_back = record {
 pub split_start : (ps : List (List ℕ)) → IsSplit ps 0 [] ps
 split_start ps = record { text = refl; place = refl; after = λ xs text. text-left (xs ++ []) ps (rw append-nil text); before = λ ys text. text }
 
+pub split_end : (ps : List (List ℕ)) (at : ℕ) → at ≡ (total ps).bytes → IsSplit ps at ps []
+split_end ps at e = record { text = append-nil (concat ps); place = sym e; after = λ xs text. text; before = λ ys text. text-right ps ys text }
+
 -- ---- the bytes of a piece in two
 pub record LeafParts (bytes front back : List ℕ) (at : ℕ) : Type 0 where
   pub boundary : IsCharBoundary bytes at

@@ -21,7 +21,7 @@ first_piece : (q : List ℕ) (ps : List (List ℕ)) → IsCutting (q ∷ ps) →
 first_piece q [] h = h
 first_piece q (p ∷ ps) h = h.0
 
-total-one : (p : List ℕ) → total (p ∷ []) ≡ counts_of p
+pub total-one : (p : List ℕ) → total (p ∷ []) ≡ counts_of p
 total-one p =
     let b = zero-add (byte_len p) in
     let c = zero-add (length p) in

@@ -6,9 +6,9 @@ use Rattle.ropey_tree.specs.NodeView.{NodeView}
 use Rattle.ropey_tree.specs.Nodes.{leaf_view, inner_view, IsInner}
 
 abbrev pub view_of : Body → NodeView
-view_of (Leaf leaf) = leaf_view leaf.value
-view_of (Inner height children) = inner_view height children.value
+view_of (Leaf leaf) = leaf_view leaf
+view_of (Inner height children) = inner_view height children
 
 abbrev pub IsBody : Body → Type 0
-IsBody (Leaf leaf) = IsPiece leaf.value
-IsBody (Inner height children) = IsInner height children.value
+IsBody (Leaf leaf) = IsPiece leaf
+IsBody (Inner height children) = IsInner height children

@@ -1,5 +1,5 @@
 -- What texts count, in the four measures: bytes of UTF-8, characters, UTF-16 code units and line breaks.
-use Rattle.std.specs.Prelude.{ℕ, ◌+◌, ◌-◌, List, length, sum_by}
+use Rattle.std.specs.Prelude.{ℕ, ◌+◌, ◌-◌, ◌^◌, ◌<◌, List, length, sum_by}
 use Rattle.str_indices.specs.Text.{breaks, units, byte_len}
 use Rattle.ropey_tree.specs.Breaks.{is_break}
 use Rattle.ropey_tree.specs.declared.counts.Counts.{Counts}
@@ -20,6 +20,13 @@ plus c d = record { bytes = c.bytes + d.bytes; chars = c.chars + d.chars; units 
 -- the differences, and 0 where the second is greater
 abbrev pub minus : Counts → Counts → Counts
 minus c d = record { bytes = c.bytes - d.bytes; chars = c.chars - d.chars; units = c.units - d.units; breaks = c.breaks - d.breaks }
+
+-- two texts of which the counts can be added
+pub record FitsWith (c d : Counts) : Type 0 where
+  pub bytes : c.bytes + d.bytes < 2 ^ 64
+  pub chars : c.chars + d.chars < 2 ^ 64
+  pub units : c.units + d.units < 2 ^ 64
+  pub breaks : c.breaks + d.breaks < 2 ^ 64
 
 -- the count in one measure
 abbrev pub amount : By → Counts → ℕ

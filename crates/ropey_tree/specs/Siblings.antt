@@ -1,12 +1,11 @@
 -- Nodes in a row, and what they are packed into.
-use Rattle.std.specs.Prelude.{◌≡◌, ℕ, suc, ◌+◌, ◌-◌, ◌<◌, ◌≤◌, ◌⊎◌, min, List, [], ◌∷◌, ◌++◌, length, take, drop, map}
-use Rattle.std.specs.declared.rc.Rc.{Rc}
-use Rattle.std.specs.declared.alloc.Global.{Global}
-use Rattle.ropey_tree.specs.declared.node.Node.{Node}
+use Rattle.std.specs.Prelude.{◌≡◌, ℕ, suc, ◌+◌, ◌-◌, ◌<◌, ◌≤◌, ◌⊎◌, min, List, [], ◌∷◌, ◌++◌, length, take, drop}
 use Rattle.ropey_tree.specs.declared.siblings.Joined.{Joined}
 use Rattle.ropey_tree.specs.declared.siblings.Joined.TheVariants.{One, Two}
 use Rattle.ropey_tree.specs.declared.siblings.Siblings.{Siblings}
 use Rattle.ropey_tree.specs.declared.siblings.Siblings.TheVariants.{One as OneNode, Nodes, Both, Front, Back, Within}
+-- nodes side by side, as they are seen
+pub use Rattle.ropey_tree.specs.Children.{views}
 use Rattle.ropey_tree.specs.Cutting.{IsText}
 use Rattle.ropey_tree.specs.NodeView.{NodeView}
 use Rattle.ropey_tree.specs.Nodes.{all_pieces, AreNodes}
@@ -15,10 +14,6 @@ use Rattle.ropey_tree.specs.Nodes.{all_pieces, AreNodes}
 abbrev pub nodes_of : Joined → List NodeView
 nodes_of (One node) = node.value ∷ []
 nodes_of (Two first second) = first.value ∷ second.value ∷ []
-
--- nodes side by side, as they are seen
-abbrev pub views : List (Rc Node Global) → List NodeView
-views nodes = map (λ node. node.value) nodes
 
 -- the nodes of a row
 abbrev pub siblings_of : Siblings → List NodeView

@@ -1,16 +1,16 @@
 //! The children of a node, with what they count up to each of them.
 
-ghost use Rattle.std.specs.Prelude.{◌≡◌, ◌+◌, ◌<◌, ◌≤◌, ◌^◌, ◌⊎◌, [], ◌∷◌, ◌++◌, length, slice_index_or, replicate, None, take};
-ghost use Rattle.ropey_tree.specs.Children.{shown};
+ghost use Rattle.std.specs.Prelude.{◌≡◌, suc, ◌+◌, ◌<◌, ◌≤◌, ◌^◌, ◌⊎◌, [], ◌∷◌, ◌++◌, length, slice_index_or, take, drop, IfOk, OnOk};
+ghost use Rattle.ropey_tree.specs.Children.{views};
 ghost use Rattle.ropey_tree.specs.Counts.{total, amount};
 ghost use Rattle.ropey_tree.specs.NodeView.{NodeView};
 ghost use Rattle.ropey_tree.specs.Nodes.{count_of, all_pieces};
 
-use crate::MAX_CHILDREN;
 use crate::counts::{By, Counts};
 use crate::node::Node;
 use crate::running_totals::RunningTotals;
 use crate::visits::Visits;
+use std::alloc::{AllocError, Global};
 use std::marker::Model;
 use std::rc::Rc;
 
@@ -19,7 +19,7 @@ use std::rc::Rc;
 #[cycle(node)]
 #[derive(Drop)]
 pub struct Children {
-    nodes: [Option<Rc<Node>>; MAX_CHILDREN],
+    nodes: Vec<Rc<Node>>,
     totals: RunningTotals,
 }
 
@@ -29,35 +29,40 @@ impl Model for Children {
 
     ghost Value = { List NodeView };
 
-    ghost use Rattle.ropey_tree.specs.Shown.{there, AreInStep};
-    ghost use Rattle.ropey_tree.specs.Children.{shown, tallest};
+    ghost use Rattle.ropey_tree.specs.Shown.{AreInStep};
+    ghost use Rattle.ropey_tree.specs.Children.{views, tallest};
 
-    ghost view = { λ c. there (shown c.nodes) };
+    ghost view = { λ c. views c.nodes.items };
 
-    ghost invariant = { λ c. AreInStep (shown c.nodes) c.totals };
+    ghost invariant = { λ c. AreInStep (views c.nodes.items) c.totals };
 
     ghost size = { tallest };
 
-    ghost use Rattle.ropey_tree.specs.Falls.{deep_le-tallest};
+    ghost use Rattle.std.proofs.Common.{arith};
+    ghost use Rattle.ropey_tree.specs.Falls.{most_le-tallest};
 
-    ghost size_decreases = { λ c h. deep_le-tallest c.nodes };
+    ghost size_decreases = { λ c h. omega (arith, most_le-tallest c.nodes.items) };
 }
 
-fn no_nodes() -> [Option<Rc<Node>>; MAX_CHILDREN]
-    ensures { shown result ≡ replicate 24 None }
+/// Appends copies of nodes to a list of nodes.
+fn copy_behind(nodes: &mut Vec<Rc<Node>>, more: &[Rc<Node>]) -> Result<(), AllocError>
+    ensures { OnOk result (views nodes.new.items ≡ views nodes.old.items ++ views more.now) }
 {
-    [const { None }; MAX_CHILDREN]
+    for node in more {
+        let copy = node.clone()?;
+        nodes.push(copy)?;
+    }
+    Ok(())
 }
 
 impl Children {
-    /// None yet.
-    pub fn new() -> Self
-        ensures { result ≡ [] }
+    /// None yet, with room for so many.
+    pub(crate) fn with_capacity(alloc: Global, number: usize) -> Result<Self, AllocError>
+        ensures { IfOk result (λ children. children ≡ []) }
     {
-        Children {
-            nodes: no_nodes(),
-            totals: RunningTotals::new(),
-        }
+        let nodes = Vec::with_capacity(alloc, number)?;
+        let totals = RunningTotals::with_capacity(alloc, number)?;
+        Ok(Children { nodes, totals })
     }
 
     /// How many there are.
@@ -75,12 +80,7 @@ impl Children {
         requires { k < length self.now }
         ensures { result.now.value ≡ slice_index_or self.now k result.now.value }
     {
-        // For its facts alone.
-        let _ = self.len();
-        match &self.nodes[k] {
-            Some(node) => node,
-            None => unreachable!(),
-        }
+        &self.nodes[k]
     }
 
     /// What those before an index count together.
@@ -104,17 +104,44 @@ impl Children {
         through.saturating_sub(before)
     }
 
-    /// Appends a node, with what it counts. All of them together are to be a text that fits.
-    pub fn push(&mut self, node: Rc<Node>, counts: Counts)
-        requires room { length self.old < 24 }
+    /// With a node behind them, and what it counts. All of them together are to be a text that
+    /// fits.
+    pub(crate) fn with(self, node: Rc<Node>, counts: Counts) -> Result<Self, AllocError>
+        requires room { length self < 24 }
         requires counted { counts ≡ count_of node.value }
-        requires fits { (total (all_pieces (self.old ++ node.value ∷ []))).bytes < 2 ^ 63 }
-        ensures { self.new ≡ self.old ++ node.value ∷ [] }
+        requires fits { (total (all_pieces (self ++ node.value ∷ []))).bytes < 2 ^ 63 }
+        ensures { IfOk result (λ children. children ≡ self ++ node.value ∷ []) }
     {
-        let k = self.len();
-        let total = self.before(k).plus(counts);
-        self.nodes[k] = Some(node);
-        self.totals.push(total);
+        let total = self.sum().plus(counts);
+        let Children {
+            mut nodes,
+            mut totals,
+        } = self;
+        nodes.push(node)?;
+        totals.push(total)?;
+        Ok(Children { nodes, totals })
+    }
+
+    /// Copies of them, with another node in the place of the one at an index, and what it counts.
+    pub(crate) fn with_replaced(
+        &self,
+        alloc: Global,
+        k: usize,
+        node: Rc<Node>,
+        counts: Counts,
+    ) -> Result<Self, AllocError>
+        requires within { k < length self.now }
+        requires counted { counts ≡ count_of node.value }
+        requires fits { (total (all_pieces self.now)).bytes + counts.bytes < 2 ^ 64 }
+        ensures { IfOk result (λ children. children ≡
+            take k self.now ++ (node.value ∷ []) ++ drop (suc k) self.now) }
+    {
+        let totals = self.totals.with_replaced(alloc, k, self.count(k), counts)?;
+        let mut nodes = Vec::with_capacity(alloc, self.nodes.len())?;
+        copy_behind(&mut nodes, &self.nodes[..k])?;
+        nodes.push(node)?;
+        copy_behind(&mut nodes, &self.nodes[k + 1..])?;
+        Ok(Children { nodes, totals })
     }
 
     /// What they count together.
@@ -139,6 +166,7 @@ impl Children {
             (result.index + 1 ≡ length self.now) }
         ensures visited { visits.new.nodes ≡ visits.old.nodes + 1 }
         ensures compared { visits.new.comparisons ≤ visits.old.comparisons + 5 }
+        ensures some { 1 < length self.now → visits.old.comparisons < visits.new.comparisons }
     {
         visits.enter();
         let index = self.totals.find(by, i, visits);

@@ -103,9 +103,10 @@ impl Cutter {
 fn leaf_node(alloc: Global, text: LeafBuffer) -> Result<Rc<Node>, AllocError>
     requires { 1 ≤ byte_len text }
     ensures node { IfOk result (λ node. node.value ≡ leaf_view text) }
-    ensures piece { IsPiece text }
+    ensures piece { IfOk result (λ _. IsPiece text) }
 {
-    Ok(Rc::new(alloc, Node::from_leaf(alloc, text.into_leaf())?)?)
+    let leaf = text.into_leaf(alloc)?;
+    Ok(Rc::new(alloc, Node::from_leaf(leaf))?)
 }
 
 /// The leaves of a text, each but the last with room for less than a character.

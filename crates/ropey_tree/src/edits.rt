@@ -1,35 +1,45 @@
 //! Edits inside one leaf: the path to it is copied, and nothing else.
 
-ghost use Rattle.std.specs.Prelude.{◌≡◌, ℕ, List, ◌+◌, ◌-◌, ◌*◌, ◌<◌, ◌≤◌, ◌^◌, length, take, drop, false, IfOk, IfSome, IfNone};
+ghost use Rattle.std.specs.Prelude.{◌≡◌, ℕ, List, [], ◌∷◌, ◌++◌, ◌+◌, ◌-◌, ◌*◌, ◌<◌, ◌≤◌, ◌^◌, length, take, drop, map, ◌&&◌, if◌then◌else◌, true, false, IfOk, IfSome, IfNone, string_bytes};
 ghost use Rattle.std.specs.List.{concat};
 ghost use Rattle.std.specs.Str.{chars, IsCharBoundary};
-ghost use Rattle.str_indices.specs.Text.{byte_len};
-ghost use Rattle.ropey_tree.specs.Counts.{total};
+ghost use Rattle.str_indices.specs.Text.{breaks, byte_len, ends_with_cr, starts_with_lf};
+ghost use Rattle.ropey_tree.specs.Breaks.{is_break};
+ghost use Rattle.ropey_tree.specs.Counts.{counts_of, total};
 ghost use Rattle.ropey_tree.specs.Cutting.{IsCutting, cuts_cr_lf};
-ghost use Rattle.ropey_tree.specs.Edits.{IsReplaced, AreOneOrTwo, MayStandFor, AreEdited, IsEdited};
-ghost use Rattle.ropey_tree.specs.LeafRow.{leaves_of, IsReplacedBy};
+ghost use Rattle.ropey_tree.specs.Edits.{IsReplaced, MayStandFor, AreEdited, IsEdited};
+ghost use Rattle.ropey_tree.specs.LeafRow.{leaves_of, AreLeavesCounted, edited_nodes, AreNodesCounted, row_with, IsReplacedBy};
 ghost use Rattle.ropey_tree.specs.NodeView.{NodeView};
-ghost use Rattle.ropey_tree.specs.Siblings.{nodes_of};
+ghost use Rattle.ropey_tree.specs.Nodes.{all_pieces, inner_view, leaf_view};
+ghost use Rattle.ropey_tree.specs.Siblings.{AreSiblings, Packed};
 
 use crate::MAX_BYTES;
 use crate::children::Children;
-use crate::counts::By;
+use crate::counts::{By, Counts};
 use crate::leaf::{Leaf, fill_end, is_cr_last, is_lf_first};
 use crate::made::Made;
 use crate::node::{Node, Parts};
-use crate::siblings::{Joined, Siblings, over, pack};
+use crate::siblings::{Joined, Siblings, over, over_two, pack};
 use crate::visits::Visits;
-use arrayvec::ArrayString;
 use std::alloc::{AllocError, Global};
 use std::rc::Rc;
 
-/// One leaf, or two.
+/// What comes out of a leaf.
 #[derive(Drop)]
 enum Leaves {
-    /// One.
-    One(Leaf),
+    /// One leaf, and what it counts.
+    One(Leaf, Counts),
     /// Two, in order.
     Two(Leaf, Leaf),
+}
+
+/// What comes out of a node.
+#[derive(Drop)]
+enum Edited {
+    /// One node, and what it counts.
+    One(Rc<Node>, Counts),
+    /// Two, in order.
+    Two(Rc<Node>, Rc<Node>),
 }
 
 /// The most bytes that two leaves take, wherever between two characters they are cut.
@@ -48,30 +58,42 @@ fn middle(text: &str) -> usize
     fill_end(text, text.len() / 2)
 }
 
-/// One leaf of a text, or two where it has 984 bytes and more, cut in about the middle.
-fn one_or_two(text: &str) -> Leaves
-    requires some { 1 ≤ length text.now }
+/// Two leaves of a text of 984 bytes and more, cut in about the middle.
+fn two_leaves(alloc: Global, text: &str) -> Result<(Leaf, Leaf), AllocError>
+    requires long { 984 ≤ length text.now }
     requires fits { length text.now ≤ 1_960 }
-    ensures text { concat (leaves_of result) ≡ chars text.now }
-    ensures cut { IsCutting (leaves_of result) }
-    ensures number { AreOneOrTwo (leaves_of result) }
-    ensures one { length (leaves_of result) ≡ 1 → byte_len (concat (leaves_of result)) < 984 }
+    ensures text { IfOk result (λ two. two.0 ++ two.1 ≡ chars text.now) }
+    ensures cut { IfOk result (λ two. IsCutting (two.0 ∷ two.1 ∷ [])) }
+    ensures front { IfOk result (λ two. 488 ≤ byte_len two.0) }
+    ensures back { IfOk result (λ two. 488 ≤ byte_len two.1) }
 {
-    if text.len() < MAX_BYTES {
-        return Leaves::One(Leaf::new(text));
-    }
     let at = middle(text);
-    Leaves::Two(Leaf::new(&text[..at]), Leaf::new(&text[at..]))
+    let front = Leaf::new(alloc, &text[..at])?;
+    let back = Leaf::new(alloc, &text[at..])?;
+    Ok((front, back))
 }
 
-/// The leaf's text with another in the place of what stands from one byte index up to another.
-/// There is none where an index lies inside a character or past the end, and where nothing would
-/// be left or more than 1,960 bytes.
-fn text_replaced(leaf: &Leaf, from: usize, to: usize, text: &str) -> Option<ArrayString<TWO_LEAVES>>
+/// What stands in a leaf before one byte index, up to another, and from that on. There is none
+/// where an index lies inside a character or past the end, and where with a text in the place of
+/// the middle part nothing would be left or more than 1,960 bytes.
+fn parts_of<'a>(
+    leaf: &'a Leaf,
+    from: usize,
+    to: usize,
+    text: &str,
+) -> Option<(&'a str, &'a str, &'a str)>
     requires { from ≤ to }
-    ensures replaced { IfSome result (λ new. IsReplaced leaf.now from to (chars text.now)
-        (chars new.bytes)) }
-    ensures some { IfSome result (λ new. 1 ≤ length new.bytes) }
+    ensures parts { IfSome result (λ parts. leaf.now ≡
+        chars parts.0.now ++ chars parts.1.now ++ chars parts.2.now) }
+    ensures starts { IfSome result (λ parts. byte_len (chars parts.0.now) ≡ from) }
+    ensures ends { IfSome result (λ parts.
+        byte_len (chars parts.0.now ++ chars parts.1.now) ≡ to) }
+    ensures whole { IfSome result (λ parts.
+        length parts.0.now + length parts.1.now + length parts.2.now ≤ 984) }
+    ensures some { IfSome result (λ parts.
+        1 ≤ length parts.0.now + length text.now + length parts.2.now) }
+    ensures few { IfSome result (λ parts.
+        length parts.0.now + length text.now + length parts.2.now ≤ 1_960) }
     ensures none { IfNone result ((new : List ℕ) → IsReplaced leaf.now from to (chars text.now) new
         → 1 ≤ byte_len new → 1_960 < byte_len new) }
 {
@@ -83,11 +105,82 @@ fn text_replaced(leaf: &Leaf, from: usize, to: usize, text: &str) -> Option<Arra
     if text.len() > TWO_LEAVES - kept || kept + text.len() == 0 {
         return None;
     }
-    let mut whole: ArrayString<TWO_LEAVES> = ArrayString::new();
-    whole.push_str(&old[..from]);
-    whole.push_str(text);
-    whole.push_str(&old[to..]);
-    Some(whole)
+    Some((&old[..from], &old[from..to], &old[to..]))
+}
+
+/// A copy of three texts in one.
+fn joined(alloc: Global, front: &str, text: &str, back: &str) -> Result<String, AllocError>
+    requires { length front.now + length text.now + length back.now ≤ 1_960 }
+    ensures text { IfOk result (λ whole. chars (string_bytes whole) ≡
+        chars front.now ++ chars text.now ++ chars back.now) }
+    ensures bytes { IfOk result (λ whole. string_bytes whole ≡
+        front.now ++ text.now ++ back.now) }
+{
+    let mut whole = String::with_capacity(alloc, front.len() + text.len() + back.len())?;
+    whole.push_str(front)?;
+    whole.push_str(text)?;
+    whole.push_str(back)?;
+    Ok(whole)
+}
+
+/// How many CR LF lie between two texts, by whether the first ends with CR and the second starts
+/// with LF.
+fn cut_between(is_cr: bool, is_lf: bool) -> usize
+    ensures value { result ≡ (if is_cr && is_lf then 1 else 0) }
+    ensures few { result ≤ 1 }
+{
+    if is_cr && is_lf { 1 } else { 0 }
+}
+
+/// How many CR LF lie over the ends of a text: one where it starts with LF behind a CR, and one
+/// where it ends with CR before an LF. So many breaks are counted twice where the text and both
+/// its neighbours are counted each by itself.
+fn seams(is_cr: bool, text: &str, is_lf: bool) -> usize
+    ensures few { result ≤ 2 }
+    ensures seams { (front back : List ℕ) →
+        ends_with_cr front ≡ is_cr → starts_with_lf back ≡ is_lf →
+        breaks is_break (front ++ chars text.now ++ back) + result ≡
+        breaks is_break front + breaks is_break (chars text.now) + breaks is_break back }
+{
+    // A law, for the proof alone.
+    str_indices::laws::breaks_of_joined_texts();
+    if text.is_empty() {
+        return cut_between(is_cr, is_lf);
+    }
+    cut_between(is_cr, is_lf_first(text)) + cut_between(is_cr_last(text), is_lf)
+}
+
+/// What a leaf counts with a text in the place of another one, whose counts are taken off.
+fn counts_replaced(counts: Counts, front: &str, gone: &str, text: &str, back: &str) -> Counts
+    requires counted { counts ≡ counts_of (chars front.now ++ chars gone.now ++ chars back.now) }
+    requires few { length front.now + length gone.now + length back.now ≤ 984 }
+    requires fits { length text.now ≤ 1_960 }
+    ensures { result ≡ counts_of (chars front.now ++ chars text.now ++ chars back.now) }
+{
+    // A law, for the proof alone.
+    str_indices::laws::counts_of_joined_texts();
+    let (is_cr, is_lf) = (is_cr_last(front), is_lf_first(back));
+    let (less, more) = (Counts::of(gone), Counts::of(text));
+    let lost = seams(is_cr, gone, is_lf);
+    let cut = seams(is_cr, text, is_lf);
+    Counts {
+        bytes: counts.bytes - less.bytes + more.bytes,
+        chars: counts.chars - less.chars + more.chars,
+        units: counts.units - less.units + more.units,
+        breaks: counts.breaks + lost - less.breaks + more.breaks - cut,
+    }
+}
+
+/// Whether a text looks to its neighbours as a leaf does: it starts with LF where the leaf does, and
+/// ends with CR where the leaf does.
+fn has_ends_of(text: &str, leaf: &Leaf) -> bool
+    ensures starts { result ≡ true →
+        starts_with_lf (chars text.now) ≡ starts_with_lf leaf.now }
+    ensures ends { result ≡ true → ends_with_cr (chars text.now) ≡ ends_with_cr leaf.now }
+    ensures same { starts_with_lf (chars text.now) ≡ starts_with_lf leaf.now →
+        ends_with_cr (chars text.now) ≡ ends_with_cr leaf.now → result ≡ true }
+{
+    is_lf_first(text) == leaf.is_lf_first() && is_cr_last(text) == leaf.is_cr_last()
 }
 
 /// The leaf, or two leaves, with a text in the place of what stands from one byte index up to
@@ -95,43 +188,129 @@ fn text_replaced(leaf: &Leaf, from: usize, to: usize, text: &str) -> Option<Arra
 /// a character or past the end, where nothing would be left or more than 1,960 bytes, and where an
 /// end would look different to a leaf beside it: an LF that is first, or a CR that is last, would
 /// come or go.
-fn with_text_replaced(leaf: &Leaf, from: usize, to: usize, text: &str) -> Option<Leaves>
-    requires { from ≤ to }
-    ensures replaced { IfSome result (λ new. IsReplaced leaf.now from to (chars text.now)
-        (concat (leaves_of new))) }
-    ensures may_stand { IfSome result (λ new. MayStandFor leaf.now (leaves_of new)) }
-    ensures one { IfSome result (λ new. length (leaves_of new) ≡ 1
-        → byte_len (concat (leaves_of new)) < 984) }
-    ensures none { IfNone result ((leaves : List (List ℕ)) →
+fn with_text_replaced(
+    alloc: Global,
+    leaf: &Leaf,
+    counts: Counts,
+    from: usize,
+    to: usize,
+    text: &str,
+) -> Result<Option<Leaves>, AllocError>
+    requires range { from ≤ to }
+    requires counted { counts ≡ counts_of leaf.now }
+    ensures replaced { IfOk result (λ new. IfSome new (λ new.
+        IsReplaced leaf.now from to (chars text.now) (concat (leaves_of new)))) }
+    ensures may_stand { IfOk result (λ new. IfSome new (λ new.
+        MayStandFor leaf.now (leaves_of new))) }
+    ensures counted { IfOk result (λ new. IfSome new AreLeavesCounted) }
+    ensures none { IfOk result (λ new. IfNone new ((leaves : List (List ℕ)) →
         IsReplaced leaf.now from to (chars text.now) (concat leaves)
-        → MayStandFor leaf.now leaves → 1_960 < byte_len (concat leaves)) }
+        → MayStandFor leaf.now leaves → 1_960 < byte_len (concat leaves))) }
 {
-    let whole = text_replaced(leaf, from, to, text)?;
+    let Some((front, gone, back)) = parts_of(leaf, from, to, text) else {
+        return Ok(None);
+    };
+    let whole = joined(alloc, front, text, back)?;
     let new = whole.as_str();
-    if is_lf_first(new) == leaf.is_lf_first() && is_cr_last(new) == leaf.is_cr_last() {
-        Some(one_or_two(new))
-    } else {
-        None
+    if !has_ends_of(new, leaf) {
+        return Ok(None);
+    }
+    if new.len() < MAX_BYTES {
+        let counts = counts_replaced(counts, front, gone, text, back);
+        return Ok(Some(Leaves::One(Leaf::of(whole), counts)));
+    }
+    let two = two_leaves(alloc, new)?;
+    Ok(Some(Leaves::Two(two.0, two.1)))
+}
+
+/// The nodes that leaves are put in.
+fn nodes_over(alloc: Global, leaves: Leaves, made: &mut Made) -> Result<Edited, AllocError>
+    requires { AreLeavesCounted leaves }
+    ensures nodes { IfOk result (λ nodes. edited_nodes nodes ≡ map leaf_view (leaves_of leaves)) }
+    ensures counted { IfOk result AreNodesCounted }
+    ensures made { IfOk result (λ _. made.new.nodes ≡
+        made.old.nodes + length (leaves_of leaves)) }
+    ensures least { made.old.nodes ≤ made.new.nodes }
+    ensures most { made.new.nodes ≤ made.old.nodes + 2 }
+{
+    match leaves {
+        Leaves::One(leaf, counts) => {
+            let only = made.share(alloc, Node::from_leaf(leaf))?;
+            Ok(Edited::One(only, counts))
+        }
+        Leaves::Two(front, back) => {
+            let first = made.share(alloc, Node::from_leaf(front))?;
+            let second = made.share(alloc, Node::from_leaf(back))?;
+            Ok(Edited::Two(first, second))
+        }
+    }
+}
+
+/// The nodes over children, with what came of the one at an index in its place.
+fn with_child_edited(
+    alloc: Global,
+    height: usize,
+    children: &Children,
+    index: usize,
+    edited: Edited,
+    made: &mut Made,
+) -> Result<Edited, AllocError>
+    requires within { index < length children.now }
+    requires counted { AreNodesCounted edited }
+    requires nodes { AreSiblings height (row_with index (edited_nodes edited) children.now) }
+    requires fits { (total (all_pieces children.now)).bytes +
+        (total (all_pieces (edited_nodes edited))).bytes < 2 ^ 64 }
+    ensures packed { IfOk result (λ nodes.
+        Packed height (row_with index (edited_nodes edited) children.now) (edited_nodes nodes)) }
+    ensures one { IfOk result (λ nodes.
+        length (row_with index (edited_nodes edited) children.now) ≤ 24 → edited_nodes nodes ≡
+        inner_view height (row_with index (edited_nodes edited) children.now) ∷ []) }
+    ensures counted { IfOk result AreNodesCounted }
+    ensures made { IfOk result (λ nodes. made.new.nodes ≡
+        made.old.nodes + length (edited_nodes nodes)) }
+    ensures least { made.old.nodes ≤ made.new.nodes }
+    ensures most { made.new.nodes ≤ made.old.nodes + 2 }
+{
+    match edited {
+        Edited::One(node, counts) => {
+            let children = children.with_replaced(alloc, index, node, counts)?;
+            let sum = children.sum();
+            let only = over(alloc, height, children, made)?;
+            Ok(Edited::One(only, sum))
+        }
+        Edited::Two(first, second) => {
+            let two = Joined::Two(first, second);
+            match pack(alloc, height, Siblings::Within(children, index, &two), made)? {
+                Joined::One(node) => {
+                    let sum = node.counts();
+                    Ok(Edited::One(node, sum))
+                }
+                Joined::Two(first, second) => Ok(Edited::Two(first, second)),
+            }
+        }
     }
 }
 
 /// The node, or two nodes of its height, with a text in the place of what stands from one byte
 /// index up to another: the path to the leaf is copied, and a node on it that has 25 children then
-/// becomes two.
+/// becomes two. What the node counts is known, and so what comes of it needn't be counted anew.
 fn replaced(
     alloc: Global,
     node: &Rc<Node>,
+    counts: Counts,
     from: usize,
     to: usize,
     text: &str,
     made: &mut Made,
     visits: &mut Visits,
-) -> Result<Option<Joined>, AllocError>
+) -> Result<Option<Edited>, AllocError>
     requires range { from ≤ to }
+    requires counted { counts ≡ total node.now.value.pieces }
     requires fits { (total node.now.value.pieces).bytes + byte_len (chars text.now) < 2 ^ 63 }
     ensures edited { IfOk result (λ nodes. IfSome nodes (λ nodes.
         IsReplacedBy node.now.value from to (chars text.now) (made.new.nodes - made.old.nodes)
-        (nodes_of nodes))) }
+        (edited_nodes nodes))) }
+    ensures counted { IfOk result (λ nodes. IfSome nodes AreNodesCounted) }
     ensures none { IfOk result (λ nodes. IfNone nodes ((pieces : List (List ℕ)) →
         (h : AreEdited node.now.value from to (chars text.now) pieces) →
         1_960 < byte_len (concat h.leaves))) }
@@ -143,29 +322,24 @@ fn replaced(
         visits.old.comparisons + 5 * node.now.value.height }
 {
     match node.parts() {
-        Parts::Leaf(leaf) => match with_text_replaced(leaf, from, to, text) {
+        Parts::Leaf(leaf) => match with_text_replaced(alloc, leaf, counts, from, to, text)? {
             None => Ok(None),
-            Some(Leaves::One(new)) => {
-                let only = made.share(alloc, Node::from_leaf(alloc, new)?)?;
-                Ok(Some(Joined::One(only)))
-            }
-            Some(Leaves::Two(front, back)) => {
-                let first = made.share(alloc, Node::from_leaf(alloc, front)?)?;
-                let second = made.share(alloc, Node::from_leaf(alloc, back)?)?;
-                Ok(Some(Joined::Two(first, second)))
+            Some(leaves) => {
+                let nodes = nodes_over(alloc, leaves, made)?;
+                Ok(Some(nodes))
             }
         },
         Parts::Inner(children) => {
-            // For its facts alone.
-            let _ = children.len();
             let choice = children.choose(By::Bytes, from, visits);
             let child = children.get(choice.index);
             let before = choice.before.bytes;
-            match replaced(alloc, child, from - before, to - before, text, made, visits)? {
+            let (start, end) = (from - before, to - before);
+            match replaced(alloc, child, choice.len, start, end, text, made, visits)? {
                 None => Ok(None),
                 Some(edited) => {
-                    let row = Siblings::Within(children, choice.index, &edited);
-                    let nodes = pack(alloc, node.height(), row, made)?;
+                    let height = node.height();
+                    let index = choice.index;
+                    let nodes = with_child_edited(alloc, height, children, index, edited, made)?;
                     Ok(Some(nodes))
                 }
             }
@@ -213,17 +387,11 @@ pub fn replace_in_leaf(
         visits.old.comparisons + 5 * node.now.value.height }
 {
     let height = node.height();
-    match replaced(alloc, node, from, to, text, made, visits)? {
+    match replaced(alloc, node, node.counts(), from, to, text, made, visits)? {
         None => Ok(None),
-        Some(Joined::One(only)) => Ok(Some(only)),
-        Some(Joined::Two(first, second)) => {
-            let mut children = Children::new();
-            let counts = first.counts();
-            children.push(first, counts);
-            let counts = second.counts();
-            children.push(second, counts);
-            let children = Box::new(alloc, children)?;
-            let root = over(alloc, height + 1, children, made)?;
+        Some(Edited::One(only, _)) => Ok(Some(only)),
+        Some(Edited::Two(first, second)) => {
+            let root = over_two(alloc, height + 1, first, second, made)?;
             Ok(Some(root))
         }
     }

@@ -5,10 +5,9 @@ ghost use Rattle.ropey_tree.specs.Cutting.{IsText};
 ghost use Rattle.ropey_tree.specs.Nodes.{AreJoined};
 ghost use Rattle.ropey_tree.specs.Siblings.{nodes_of};
 
-use crate::children::Children;
 use crate::made::Made;
 use crate::node::{Node, Parts};
-use crate::siblings::{Joined, Siblings, over, pack};
+use crate::siblings::{Joined, Siblings, over_two, pack};
 use std::alloc::{AllocError, Global};
 use std::rc::Rc;
 
@@ -83,13 +82,7 @@ pub fn concat(alloc: Global, left: &Rc<Node>, right: &Rc<Node>) -> Result<Rc<Nod
         Joined::One(node) => Ok(node),
         Joined::Two(first, second) => {
             let height = left.height().max(right.height());
-            let mut children = Children::new();
-            let counts = first.counts();
-            children.push(first, counts);
-            let counts = second.counts();
-            children.push(second, counts);
-            let children = Box::new(alloc, children)?;
-            let node = over(alloc, height + 1, children, &mut Made::new())?;
+            let node = over_two(alloc, height + 1, first, second, &mut Made::new())?;
             Ok(node)
         }
     }

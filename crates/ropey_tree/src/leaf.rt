@@ -1,6 +1,6 @@
 //! A leaf: a piece of text that lies in the leaf itself.
 
-ghost use Rattle.std.specs.Prelude.{◌≡◌, ◌+◌, ◌<◌, ◌≤◌, ◌⊎◌, ◌++◌, [], length, take, drop, true, false, encode_utf8_all};
+ghost use Rattle.std.specs.Prelude.{◌≡◌, ◌+◌, ◌<◌, ◌≤◌, ◌⊎◌, ◌++◌, [], length, take, drop, true, false, encode_utf8_all, string_bytes, IfOk};
 ghost use Rattle.std.specs.Str.{chars, IsCharBoundary};
 ghost use Rattle.str_indices.specs.Text.{starts_with_lf};
 ghost use Rattle.str_indices.specs.Text.{byte_len, ends_with_cr};
@@ -10,35 +10,46 @@ ghost use Rattle.ropey_tree.specs.Cutting.{IsPiece, cuts_cr_lf};
 use crate::MAX_BYTES;
 use crate::counts::Counts;
 use arrayvec::ArrayString;
+use std::alloc::{AllocError, Global};
 use std::marker::Model;
 
-/// A text of 1 to `MAX_BYTES` bytes: the `NodeText` of `ropey`. Contracts see its characters.
+/// A text of 1 to `MAX_BYTES` bytes: the `NodeText` of `ropey`. It takes as many bytes as it has.
+/// Contracts see its characters.
 #[derive(Drop)]
 pub struct Leaf {
-    text: ArrayString<MAX_BYTES>,
+    text: String,
 }
 
 impl Model for Leaf {
-    ghost use Rattle.std.specs.Prelude.{ℕ, ◌≤◌, List, length};
+    ghost use Rattle.std.specs.Prelude.{ℕ, ◌≤◌, List, length, string_bytes};
     ghost use Rattle.std.specs.Str.{chars};
 
     ghost Value = { List ℕ };
 
-    ghost view = { λ leaf. chars leaf.text.bytes };
+    ghost view = { λ leaf. chars (string_bytes leaf.text) };
 
-    ghost invariant = { λ leaf. 1 ≤ length leaf.text.bytes };
+    ghost invariant = { λ leaf. (1 ≤ length (string_bytes leaf.text)) ×
+        (length (string_bytes leaf.text) ≤ 984) };
 }
 
 impl Leaf {
     /// A leaf of a text.
-    pub fn new(text: &str) -> Self
+    pub fn new(alloc: Global, text: &str) -> Result<Self, AllocError>
         requires not_empty { 1 ≤ length text.now }
         requires not_long { length text.now ≤ 984 }
-        ensures { result ≡ chars text.now }
+        ensures { IfOk result (λ leaf. leaf ≡ chars text.now) }
     {
-        let mut leaf = ArrayString::new();
-        leaf.push_str(text);
-        Leaf { text: leaf }
+        let text = String::from_str(alloc, text)?;
+        Ok(Leaf { text })
+    }
+
+    /// A leaf of a text, which isn't copied.
+    pub(crate) fn of(text: String) -> Self
+        requires not_empty { 1 ≤ length (string_bytes text) }
+        requires not_long { length (string_bytes text) ≤ 984 }
+        ensures { result ≡ chars (string_bytes text) }
+    {
+        Leaf { text }
     }
 
     /// The text.
@@ -138,17 +149,15 @@ impl LeafBuffer {
     }
 
     /// The leaf of the text.
-    pub fn into_leaf(self) -> Leaf
+    pub fn into_leaf(self, alloc: Global) -> Result<Leaf, AllocError>
         requires { 1 ≤ byte_len self }
-        ensures text { result ≡ self }
-        ensures piece { IsPiece self }
+        ensures text { IfOk result (λ leaf. leaf ≡ self) }
+        ensures piece { IfOk result (λ _. IsPiece self) }
     {
-        // For its facts alone.
-        let _ = self.text.as_str();
-        let leaf = Leaf { text: self.text };
+        let leaf = Leaf::new(alloc, self.text.as_str())?;
         // For its facts alone.
         let _ = leaf.as_str();
-        leaf
+        Ok(leaf)
     }
 }
 
@@ -175,18 +184,16 @@ pub(crate) fn fill_end(text: &str, room: usize) -> usize
     }
 }
 
-/// Whether the first character of a text is LF.
+/// Whether the first character of a text is LF. An empty text has none.
 pub(crate) fn is_lf_first(text: &str) -> bool
-    requires { 1 ≤ length text.now }
     ensures { result ≡ starts_with_lf (chars text.now) }
 {
-    text.as_bytes()[0] == b'\n'
+    !text.is_empty() && text.as_bytes()[0] == b'\n'
 }
 
-/// Whether the last character of a text is CR.
+/// Whether the last character of a text is CR. An empty text has none.
 pub(crate) fn is_cr_last(text: &str) -> bool
-    requires { 1 ≤ length text.now }
     ensures { result ≡ ends_with_cr (chars text.now) }
 {
-    text.as_bytes()[text.len() - 1] == b'\r'
+    !text.is_empty() && text.as_bytes()[text.len() - 1] == b'\r'
 }

@@ -1,6 +1,6 @@
 //! Nodes: leaves, and nodes of children one level below.
 
-ghost use Rattle.std.specs.Prelude.{◌≡◌, ◌+◌, ◌-◌, ◌*◌, ◌<◌, ◌≤◌, [], ◌∷◌, length, true, IfOk, IfSome};
+ghost use Rattle.std.specs.Prelude.{◌≡◌, ◌+◌, ◌-◌, ◌*◌, ◌<◌, ◌≤◌, [], ◌∷◌, length, true, IfSome};
 ghost use Rattle.str_indices.specs.Text.{byte_len};
 ghost use Rattle.ropey_tree.specs.Counts.{total, amount};
 ghost use Rattle.ropey_tree.specs.Nodes.{leaf_view, inner_view, IsInner, IsTree, LiesIn, StandsIn};
@@ -10,7 +10,6 @@ use crate::children::Children;
 use crate::counts::{By, Counts};
 use crate::leaf::Leaf;
 use crate::visits::Visits;
-use std::alloc::{AllocError, Global};
 use std::marker::Model;
 
 /// A text in pieces, in a tree. Contracts see the pieces, the height and the number of children.
@@ -23,10 +22,10 @@ pub struct Node {
 #[cycle(node)]
 #[derive(Drop)]
 enum Body {
-    // What a node has lies elsewhere: a leaf takes no room for children, nor they for a leaf.
-    Leaf(Box<Leaf>),
+    // What a node has lies elsewhere, and takes as much room as there is of it.
+    Leaf(Leaf),
     // The height, and the children.
-    Inner(usize, Box<Children>),
+    Inner(usize, Children),
 }
 
 impl Model for Node {
@@ -50,21 +49,20 @@ impl Model for Node {
 
 impl Node {
     /// A leaf as a node.
-    pub fn from_leaf(alloc: Global, leaf: Leaf) -> Result<Self, AllocError>
-        ensures { IfOk result (λ node. node ≡ leaf_view leaf) }
+    pub fn from_leaf(leaf: Leaf) -> Self
+        ensures { result ≡ leaf_view leaf }
     {
         // For its facts alone.
         let _ = leaf.as_str();
-        let leaf = Box::new(alloc, leaf)?;
-        Ok(Node {
+        Node {
             body: Body::Leaf(leaf),
-        })
+        }
     }
 
     /// A node over children that are one level below its height.
-    pub fn from_children(height: usize, children: Box<Children>) -> Self
-        requires { IsInner height children.value }
-        ensures { result ≡ inner_view height children.value }
+    pub(crate) fn from_children(height: usize, children: Children) -> Self
+        requires { IsInner height children }
+        ensures { result ≡ inner_view height children }
     {
         Node {
             body: Body::Inner(height, children),
@@ -149,6 +147,7 @@ pub fn enter<'a>(node: &'a Node, by: By, i: usize, visits: &mut Visits) -> Enter
     ensures counted { result.len ≡ total result.node.now.pieces }
     ensures visited { visits.new.nodes ≡ visits.old.nodes + 1 }
     ensures compared { visits.new.comparisons ≤ visits.old.comparisons + 5 }
+    ensures some { visits.old.comparisons < visits.new.comparisons }
 {
     match &node.body {
         Body::Leaf(_) => unreachable!(),

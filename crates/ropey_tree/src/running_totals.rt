@@ -1,20 +1,19 @@
 //! Running totals, and the halving that finds a place among them.
 
-ghost use Rattle.std.specs.Prelude.{◌≡◌, ◌+◌, ◌-◌, ◌<◌, ◌≤◌, ◌⊎◌, ◌↔◌, IsTrue, [], ◌∷◌, ◌++◌, length, slice_index_or};
-ghost use Rattle.ropey_tree.specs.Counts.{amount, zero_counts};
+ghost use Rattle.std.specs.Prelude.{◌≡◌, ◌+◌, ◌-◌, ◌<◌, ◌≤◌, ◌⊎◌, ◌↔◌, IsTrue, [], ◌∷◌, ◌++◌, length, slice_index_or, take, drop, map, All, IfOk, OnOk};
+ghost use Rattle.ropey_tree.specs.Counts.{amount, zero_counts, plus, minus, FitsWith};
 
-use crate::MAX_CHILDREN;
 use crate::counts::{By, Counts};
 use crate::visits::Visits;
-use arrayvec::ArrayVec;
+use std::alloc::{AllocError, Global};
 use std::marker::Model;
 
 /// What the first of some texts in a row count together: entry `k` is that of all up to and with
 /// the one at `k`. So a place is found by halving them, and what one text counts is a difference.
-/// The only way to compare one with a place counts that.
+/// `find` counts each comparison of one with a place.
 #[derive(Drop)]
 pub(crate) struct RunningTotals {
-    ends: ArrayVec<Counts, MAX_CHILDREN>,
+    ends: Vec<Counts>,
 }
 
 impl Model for RunningTotals {
@@ -27,20 +26,18 @@ impl Model for RunningTotals {
 }
 
 impl RunningTotals {
-    /// None yet.
-    pub(crate) fn new() -> Self
-        ensures { result ≡ [] }
+    /// None yet, with room for so many.
+    pub(crate) fn with_capacity(alloc: Global, number: usize) -> Result<Self, AllocError>
+        ensures { IfOk result (λ totals. totals ≡ []) }
     {
-        RunningTotals {
-            ends: ArrayVec::new(),
-        }
+        let ends = Vec::with_capacity(alloc, number)?;
+        Ok(RunningTotals { ends })
     }
 
     /// How many there are.
     #[inline]
     pub(crate) fn len(&self) -> usize
-        ensures value { result ≡ length self.now }
-        ensures fits { result ≤ 24 }
+        ensures { result ≡ length self.now }
     {
         self.ends.len()
     }
@@ -60,15 +57,37 @@ impl RunningTotals {
     }
 
     /// Appends what all texts count together with one more.
-    pub(crate) fn push(&mut self, total: Counts)
-        requires { length self.old < 24 }
-        ensures { self.new ≡ self.old ++ total ∷ [] }
+    pub(crate) fn push(&mut self, total: Counts) -> Result<(), AllocError>
+        ensures { OnOk result (self.new ≡ self.old ++ total ∷ []) }
     {
-        self.ends.push(total);
+        self.ends.push(total)?;
+        Ok(())
     }
 
-    /// Whether more than `i` stand in a measure up to the end of the text at an index. This is the
-    /// only comparison.
+    /// What they are where another text stands in the place of the one at an index: those before
+    /// it stay, and all others are less by what that counted and more by what this one counts.
+    pub(crate) fn with_replaced(
+        &self,
+        alloc: Global,
+        k: usize,
+        old: Counts,
+        new: Counts,
+    ) -> Result<Self, AllocError>
+        requires within { k < length self.now }
+        requires fits { All (λ total. FitsWith total new) self.now }
+        ensures { IfOk result (λ totals. totals ≡
+            take k self.now ++ map (λ total. minus (plus total new) old) (drop k self.now)) }
+    {
+        let mut ends = Vec::with_capacity(alloc, self.ends.len())?;
+        ends.extend_from_slice(&self.ends[..k])?;
+        for end in &self.ends[k..] {
+            ends.push(end.plus(new).saturating_sub(old))?;
+        }
+        Ok(RunningTotals { ends })
+    }
+
+    /// Whether more than `i` stand in a measure up to the end of the text at an index, which is one
+    /// comparison.
     #[inline]
     fn is_past(&self, k: usize, by: By, i: usize, visits: &mut Visits) -> bool
         requires { k < length self.now }
@@ -84,7 +103,8 @@ impl RunningTotals {
     /// last. What is left to look through is halved by each comparison.
     #[inline]
     pub(crate) fn find(&self, by: By, i: usize, visits: &mut Visits) -> usize
-        requires { 0 < length self.now }
+        requires some { 0 < length self.now }
+        requires few { length self.now ≤ 24 }
         ensures within { result < length self.now }
         ensures not_past { (d : Counts) → 0 < result →
             amount by (slice_index_or self.now (result - 1) d) ≤ i }
@@ -92,6 +112,7 @@ impl RunningTotals {
             (result + 1 ≡ length self.now) }
         ensures visited { visits.new.nodes ≡ visits.old.nodes }
         ensures compared { visits.new.comparisons ≤ visits.old.comparisons + 5 }
+        ensures some { 1 < length self.now → visits.old.comparisons < visits.new.comparisons }
     {
         let mut low = 0;
         let mut left = self.len() - 1;

@@ -27,9 +27,19 @@ use std::rc::Rc;
 /// byte index on, and of the start of the other's first leaf, up to a byte index.
 #[derive(Drop)]
 struct Seam {
-    leaf: Leaf,
+    leaf: LeafBuffer,
     from: usize,
     to: usize,
+}
+
+/// A CR LF, which is to be a leaf.
+fn cr_lf() -> LeafBuffer
+    ensures text { result ≡ 13 ∷ 10 ∷ [] }
+    ensures some { 1 ≤ byte_len result }
+{
+    let mut leaf = LeafBuffer::new();
+    leaf.fill("\r\n");
+    leaf
 }
 
 impl Seam {
@@ -42,15 +52,12 @@ impl Seam {
         ensures leaf { result.leaf ≡ chars (drop from last.now) ++ chars (take to first.now) }
         ensures from { result.from ≡ from }
         ensures to { result.to ≡ to }
+        ensures some { 1 ≤ byte_len result.leaf }
     {
-        let mut buffer = LeafBuffer::new();
-        buffer.fill(&last[from..]);
-        buffer.fill(&first[..to]);
-        Seam {
-            leaf: buffer.into_leaf(),
-            from,
-            to,
-        }
+        let mut leaf = LeafBuffer::new();
+        leaf.fill(&last[from..]);
+        leaf.fill(&first[..to]);
+        Seam { leaf, from, to }
     }
 
     /// The seam of the last leaf of a text and the first of another: one leaf where they fit into
@@ -60,6 +67,7 @@ impl Seam {
         ensures between { IfSome result (λ seam. IsBetween (last.now ∷ []) seam.from seam.leaf
             (first.now ∷ []) seam.to) }
         ensures some { IfSome result (λ seam. 1 ≤ seam.to) }
+        ensures leaf { IfSome result (λ seam. 1 ≤ byte_len seam.leaf) }
         ensures none { IfNone result (cuts_cr_lf last.now first.now ≡ false) }
         ensures full { IfNone result (984 ≤ byte_len last.now + byte_len first.now) }
         ensures front { IfNone result (462 < byte_len last.now) }
@@ -80,7 +88,7 @@ impl Seam {
         }
         if last.is_cr_last() && first.is_lf_first() {
             return Some(Seam {
-                leaf: Leaf::new("\r\n"),
+                leaf: cr_lf(),
                 from: front.len() - 1,
                 to: 1,
             });
@@ -148,7 +156,8 @@ fn append_both(alloc: Global, left: &Rc<Node>, right: &Rc<Node>) -> Result<Rc<No
     };
     let Halves { left: before, .. } = split(alloc, left, start + from, &mut Visits::new())?;
     let Halves { right: after, .. } = split(alloc, right, to, &mut Visits::new())?;
-    let leaf = Rc::new(alloc, Node::from_leaf(alloc, leaf)?)?;
+    let middle = leaf.into_leaf(alloc)?;
+    let leaf = Rc::new(alloc, Node::from_leaf(middle))?;
     let back = match after {
         None => leaf,
         Some(rest) => append_both(alloc, &leaf, &rest)?,

@@ -172,42 +172,26 @@ impl Siblings<'_> {
         }
     }
 
-    /// Appends copies of those from one index up to another to a list of none.
-    fn copy_into(&self, from: usize, to: usize, children: &mut Children) -> Result<(), AllocError>
-        requires filled { IsFilled self.now }
-        requires range { from ≤ to }
-        requires room { to ≤ from + 24 }
-        requires fits { (total (all_pieces (siblings_of self.now))).bytes < 2 ^ 63 }
-        requires within { to ≤ length (siblings_of self.now) }
-        requires none { children.old ≡ [] }
-        ensures { IfOk result (λ _. take from (siblings_of self.now) ++ children.new ≡
-            take to (siblings_of self.now)) }
-    {
-        for k in from..to {
-            let node = self.get(k).clone()?;
-            children.push(node, self.count(k));
-        }
-        Ok(())
-    }
-
-    /// Copies of those from one index up to another. They are filled in where they stay, since a
-    /// list of children is too large to be moved for nothing.
+    /// Copies of those from one index up to another.
     pub(crate) fn gather(
         &self,
         alloc: Global,
         from: usize,
         to: usize,
-    ) -> Result<Box<Children>, AllocError>
+    ) -> Result<Children, AllocError>
         requires filled { IsFilled self.now }
         requires range { from ≤ to }
         requires room { to ≤ from + 24 }
         requires fits { (total (all_pieces (siblings_of self.now))).bytes < 2 ^ 63 }
         requires within { to ≤ length (siblings_of self.now) }
-        ensures { IfOk result (λ children. take from (siblings_of self.now) ++ children.value ≡
+        ensures { IfOk result (λ children. take from (siblings_of self.now) ++ children ≡
             take to (siblings_of self.now)) }
     {
-        let mut children = Box::new(alloc, Children::new())?;
-        self.copy_into(from, to, &mut children)?;
+        let mut children = Children::with_capacity(alloc, to - from)?;
+        for k in from..to {
+            let node = self.get(k).clone()?;
+            children = children.with(node, self.count(k))?;
+        }
         Ok(children)
     }
 }
@@ -216,16 +200,38 @@ impl Siblings<'_> {
 pub(crate) fn over(
     alloc: Global,
     height: usize,
-    children: Box<Children>,
+    children: Children,
     made: &mut Made,
 ) -> Result<Rc<Node>, AllocError>
-    requires { IsInner height children.value }
-    ensures node { IfOk result (λ node. node.value ≡ inner_view height children.value) }
+    requires { IsInner height children }
+    ensures node { IfOk result (λ node. node.value ≡ inner_view height children) }
     ensures counted { IfOk result (λ _. made.new.nodes ≡ made.old.nodes + 1) }
     ensures least { made.old.nodes ≤ made.new.nodes }
     ensures most { made.new.nodes ≤ made.old.nodes + 1 }
 {
     let node = made.share(alloc, Node::from_children(height, children))?;
+    Ok(node)
+}
+
+/// A node over two nodes of one height, which is one that is made.
+pub(crate) fn over_two(
+    alloc: Global,
+    height: usize,
+    first: Rc<Node>,
+    second: Rc<Node>,
+    made: &mut Made,
+) -> Result<Rc<Node>, AllocError>
+    requires { IsInner height (first.value ∷ second.value ∷ []) }
+    ensures node { IfOk result (λ node. node.value ≡
+        inner_view height (first.value ∷ second.value ∷ [])) }
+    ensures least { made.old.nodes ≤ made.new.nodes }
+    ensures most { made.new.nodes ≤ made.old.nodes + 1 }
+{
+    let counts = first.counts();
+    let children = Children::with_capacity(alloc, 2)?.with(first, counts)?;
+    let counts = second.counts();
+    let children = children.with(second, counts)?;
+    let node = over(alloc, height, children, made)?;
     Ok(node)
 }
 

@@ -48,8 +48,10 @@ fn split_leaf(alloc: Global, node: &Rc<Node>, leaf: &Leaf, at: usize) -> Result<
             right: None,
         });
     }
-    let left = Rc::new(alloc, Node::from_leaf(alloc, Leaf::new(&text[..at]))?)?;
-    let right = Rc::new(alloc, Node::from_leaf(alloc, Leaf::new(&text[at..]))?)?;
+    let front = Leaf::new(alloc, &text[..at])?;
+    let left = Rc::new(alloc, Node::from_leaf(front))?;
+    let back = Leaf::new(alloc, &text[at..])?;
+    let right = Rc::new(alloc, Node::from_leaf(back))?;
     Ok(Halves {
         left: Some(left),
         right: Some(right),
@@ -139,4 +141,29 @@ pub fn split(
             Ok(Halves { left, right })
         }
     }
+}
+
+/// `split`, for callers that count no visits. At an end of the text nothing is split, and no memory
+/// is taken.
+pub fn halves_at(alloc: Global, node: &Rc<Node>, at: usize) -> Result<Halves, AllocError>
+    requires { IsBoundaryOf (concat node.now.value.pieces) at }
+    ensures { IfOk result (λ halves. IsSplit node.now.value.pieces at (pieces_in halves.left)
+        (pieces_in halves.right)) }
+{
+    if at == 0 {
+        let right = node.clone()?;
+        return Ok(Halves {
+            left: None,
+            right: Some(right),
+        });
+    }
+    if at == node.counts().bytes {
+        let left = node.clone()?;
+        return Ok(Halves {
+            left: Some(left),
+            right: None,
+        });
+    }
+    let halves = split(alloc, node, at, &mut Visits::new())?;
+    Ok(halves)
 }

@@ -11,10 +11,10 @@ over-requires c =
     let to = c.loop-from.from + c.share.result in
     let len : length below ≡ length c.args.nodes.now = length-map c.args.nodes.now (λ node. node.value) in
     let within : to ≤ length below = omega (arith, len, c.share.ensures.within, c.loop-from-test.true) in
-    let sums = sym (length-append (take c.loop-from.from below) c.in_ok-children.children.value) ∙ ap length c.in_ok-children.ensures in
+    let sums = sym (length-append (take c.loop-from.from below) c.in_ok-children.children) ∙ ap length c.in_ok-children.ensures in
     let front = length-take-le c.loop-from.from below (omega (arith, within)) in
     let whole = length-take-le to below within in
-    part_inner c.args.height below c.in_ok-children.children.value c.loop-from.from to c.requires c.in_ok-children.ensures (omega (arith, sums, front, whole, c.share.ensures.some))
+    part_inner c.args.height below c.in_ok-children.children c.loop-from.from to c.requires c.in_ok-children.ensures (omega (arith, sums, front, whole, c.share.ensures.some))
 
 pub loop-from-preserved : goal.loop-from-preserved
 loop-from-preserved c =
@@ -29,4 +29,4 @@ loop-from-preserved c =
       | inr big ↦ inr (omega (arith, big.0), omega (arith, big.1, len))
     ] in
     let pushed = ap views c.in_ok-push.ensures.items ∙ map-append (λ node. node.value) c.loop-from.above.items (c.in_ok-node.node ∷ []) in
-    rw pushed (level_step c.args.height below above c.in_ok-children.children.value c.loop-from.from to c.in_ok-node.node.value c.loop-from.invariant c.requires more c.in_ok-children.ensures within (omega (arith, c.share.ensures.some)) c.in_ok-node.ensures.node enough)
+    rw pushed (level_step c.args.height below above c.in_ok-children.children c.loop-from.from to c.in_ok-node.node.value c.loop-from.invariant c.requires more c.in_ok-children.ensures within (omega (arith, c.share.ensures.some)) c.in_ok-node.ensures.node enough)

@@ -1,10 +1,12 @@
-use Rattle.std.proofs.Common.{◌≡◌, ◌+◌, ◌-◌, ◌≤◌, length, ap, ◌∙◌, arith}
+use Rattle.std.proofs.Common.{◌≡◌, ◌+◌, ◌-◌, ◌≤◌, length, take, ap, ◌∙◌, arith}
 use Rattle.std.specs.Str.{chars}
 use Rattle.std.specs.List.{concat}
 use Rattle.str_indices.specs.Text.{byte_len}
-use Rattle.ropey_tree.specs.Siblings.{nodes_of}
-use Rattle.ropey_tree.proofs.Joining.{joined_len}
-use Rattle.ropey_tree.proofs.Editing.{one_replaces, two_replace, of_piece, child_lower, child_fits, of_child, row_siblings, row_replaces}
+use Rattle.ropey_tree.specs.Counts.{total}
+use Rattle.ropey_tree.specs.Nodes.{all_pieces}
+use Rattle.ropey_tree.specs.LeafRow.{edited_nodes}
+use Rattle.ropey_tree.proofs.Texts.{total-one}
+use Rattle.ropey_tree.proofs.Editing.{leaves_replace, edited_len, of_piece, child_lower, child_fits, child_counted, of_child, row_siblings, row_replaces, edited_bytes}
 use Rattle.ropey_tree.proofs.edits.+replaced.Goals as goal
 
 pub replaced-requires : goal.replaced-requires
@@ -19,11 +21,12 @@ replaced-requires t c =
     let low = rw before at c.choose-choice.ensures.not_past in
     let within = c.choose-choice.ensures.within in
     let lower = child_lower v vs k child c.args.from c.args.to v_is inner within c.get-child.ensures low c.requires.1.1.0 c.choose-choice.ensures.passed in
-    let fits = child_fits v vs k child c.args.from c.args.to v_is inner within c.get-child.ensures low c.requires.1.1.0 c.choose-choice.ensures.passed (byte_len (chars c.args.text.now)) c.requires.1.1.1 in
-    (omega (arith, c.requires.1.0, lower), (omega (arith, c.requires.1.1.0), fits))
+    let counted = child_counted vs k child c.choose-choice.result.len c.get-child.ensures c.choose-choice.ensures.counted in
+    let fits = child_fits v vs k child c.args.from c.args.to v_is inner within c.get-child.ensures low c.requires.1.1.0 c.choose-choice.ensures.passed (byte_len (chars c.args.text.now)) c.requires.1.1.1.1 in
+    (omega (arith, c.requires.1.0, lower), (omega (arith, c.requires.1.1.0), (counted, fits)))
 
-pub pack-requires-clause-nodes : goal.pack-requires-clause-nodes
-pack-requires-clause-nodes t c =
+pub with_child_edited-requires-clause-nodes : goal.with_child_edited-requires-clause-nodes
+with_child_edited-requires-clause-nodes t c =
     let v = c.args.node.now.value in
     let vs = c.in-Inner.children.now in
     let k = c.choose-choice.result.index in
@@ -32,52 +35,59 @@ pack-requires-clause-nodes t c =
     let inner = rw c.deref.ensures at c.in-Inner.ensures.1 in
     let before = ap (λ b. b.bytes) c.choose-choice.ensures.stands_before in
     let low = rw before at c.choose-choice.ensures.not_past in
-    let h = rw (before, c.in-Some.is) at c.in_ok-replaced-in-Inner.ensures in
+    let h = rw (before, c.in-Some-2.is) at c.in_ok-replaced-in-Inner.ensures in
     let made = c.replaced.new.made.nodes - c.args.made.now.nodes in
-    let nodes = nodes_of c.in-Some.edited in
-    let len = joined_len c.in-Some.edited in
-    let few : length vs ≤ 24 = omega (arith, c.len.ensures.value, c.len.ensures.fits) in
-    let is_text = rw c.deref-in-Some.ensures at c.height.ensures.tree.text in
-    rw (c.height.ensures.value, c.deref-in-Some.ensures)
+    let len = edited_len c.in-Some-2.edited in
+    let few : length vs ≤ 24 = omega (arith, ap (λ u. u.degree) v_is, c.height-height.ensures.few, ap (λ u. u.degree) c.deref-in-Some-2.ensures) in
+    let is_text = rw c.deref-in-Some-2.ensures at c.height-height.ensures.tree.text in
+    rw (c.height-height.ensures.value, c.deref-in-Some-2.ensures)
     (row_siblings v vs k child c.args.from c.args.to v_is inner c.choose-choice.ensures.within c.get-child.ensures low c.requires.1.1.0 c.choose-choice.ensures.passed
-    (chars c.args.text.now) made nodes len.0 len.1 h.edited few is_text c.requires.1.1.1)
+    (chars c.args.text.now) made (edited_nodes c.in-Some-2.edited) len.0 len.1 h.edited few is_text c.requires.1.1.1.1)
+
+pub with_child_edited-requires-clause-fits : goal.with_child_edited-requires-clause-fits
+with_child_edited-requires-clause-fits t c =
+    let v = c.args.node.now.value in
+    let vs = c.in-Inner.children.now in
+    let k = c.choose-choice.result.index in
+    let child = c.get-child.result.now.value in
+    let v_is = rw c.deref.ensures at c.in-Inner.ensures.0 in
+    let inner = rw c.deref.ensures at c.in-Inner.ensures.1 in
+    let before = ap (λ b. b.bytes) c.choose-choice.ensures.stands_before in
+    let low = rw before at c.choose-choice.ensures.not_past in
+    let h = rw (before, c.in-Some-2.is) at c.in_ok-replaced-in-Inner.ensures in
+    let text = chars c.args.text.now in
+    let whole = ap (λ u. (total u.pieces).bytes) v_is in
+    let fits = child_fits v vs k child c.args.from c.args.to v_is inner c.choose-choice.ensures.within c.get-child.ensures low c.requires.1.1.0 c.choose-choice.ensures.passed (byte_len text) c.requires.1.1.1.1 in
+    let few = edited_bytes child (c.args.from - (total (all_pieces (take k vs))).bytes) (c.args.to - (total (all_pieces (take k vs))).bytes) text (all_pieces (edited_nodes c.in-Some-2.edited)) h.edited.edited in
+    omega (arith, whole, fits, few, c.requires.1.1.1.1)
+
+pub returns-in_ok-nodes-in-Some-2-clause-edited : goal.returns-in_ok-nodes-in-Some-2-clause-edited
+returns-in_ok-nodes-in-Some-2-clause-edited t c =
+    let v = c.args.node.now.value in
+    let vs = c.in-Inner.children.now in
+    let k = c.choose-choice.result.index in
+    let child = c.get-child.result.now.value in
+    let v_is = rw c.deref.ensures at c.in-Inner.ensures.0 in
+    let inner = rw c.deref.ensures at c.in-Inner.ensures.1 in
+    let before = ap (λ b. b.bytes) c.choose-choice.ensures.stands_before in
+    let low = rw before at c.choose-choice.ensures.not_past in
+    let h = rw (before, c.in-Some-2.is) at c.in_ok-replaced-in-Inner.ensures in
+    let made = c.replaced.new.made.nodes - c.args.made.now.nodes in
+    let nodes = edited_nodes c.in-Some-2.edited in
+    let len = edited_len c.in-Some-2.edited in
+    let few : length vs ≤ 24 = omega (arith, ap (λ u. u.degree) v_is, c.height-height.ensures.few, ap (λ u. u.degree) c.deref-in-Some-2.ensures) in
+    let e = rw (c.height-height.ensures.value, c.deref-in-Some-2.ensures) at c.in_ok-nodes-in-Some-2.ensures in
+    let count : c.with_child_edited.new.made.nodes - c.args.made.now.nodes ≡ made + length (edited_nodes c.in_ok-nodes-in-Some-2.nodes) = omega (arith, c.in_ok-nodes-in-Some-2.ensures.made, c.replaced.ensures.least) in
+    row_replaces v vs k child c.args.from c.args.to v_is inner c.choose-choice.ensures.within c.get-child.ensures low c.requires.1.1.0 c.choose-choice.ensures.passed
+    (chars c.args.text.now) made nodes len.0 len.1 h.edited (edited_nodes c.in_ok-nodes-in-Some-2.nodes) (c.with_child_edited.new.made.nodes - c.args.made.now.nodes) few e.packed e.one count (edited_len c.in_ok-nodes-in-Some-2.nodes).1
 
 pub returns-in_ok-nodes-in-Some-clause-edited : goal.returns-in_ok-nodes-in-Some-clause-edited
 returns-in_ok-nodes-in-Some-clause-edited t c =
-    let v = c.args.node.now.value in
-    let vs = c.in-Inner.children.now in
-    let k = c.choose-choice.result.index in
-    let child = c.get-child.result.now.value in
-    let v_is = rw c.deref.ensures at c.in-Inner.ensures.0 in
-    let inner = rw c.deref.ensures at c.in-Inner.ensures.1 in
-    let before = ap (λ b. b.bytes) c.choose-choice.ensures.stands_before in
-    let low = rw before at c.choose-choice.ensures.not_past in
-    let h = rw (before, c.in-Some.is) at c.in_ok-replaced-in-Inner.ensures in
-    let made = c.replaced.new.made.nodes - c.args.made.now.nodes in
-    let nodes = nodes_of c.in-Some.edited in
-    let len = joined_len c.in-Some.edited in
-    let few : length vs ≤ 24 = omega (arith, c.len.ensures.value, c.len.ensures.fits) in
-    let e = rw (c.height.ensures.value, c.deref-in-Some.ensures) at c.in_ok-nodes-in-Some.ensures in
-    let count : c.pack.new.made.nodes - c.args.made.now.nodes ≡ made + length (nodes_of c.in_ok-nodes-in-Some.nodes) = omega (arith, c.in_ok-nodes-in-Some.ensures.counted, c.replaced.ensures.least) in
-    row_replaces v vs k child c.args.from c.args.to v_is inner c.choose-choice.ensures.within c.get-child.ensures low c.requires.1.1.0 c.choose-choice.ensures.passed
-    (chars c.args.text.now) made nodes len.0 len.1 h.edited (nodes_of c.in_ok-nodes-in-Some.nodes) (c.pack.new.made.nodes - c.args.made.now.nodes) few e.packed e.one count (joined_len c.in_ok-nodes-in-Some.nodes).1
-
-pub returns-in_ok-only-in-Some-One-clause-edited : goal.returns-in_ok-only-in-Some-One-clause-edited
-returns-in_ok-only-in-Some-One-clause-edited t c =
     let v_is = rw c.deref.ensures at c.in-Leaf.ensures.0 in
-    let e = rw c.in-Some-One.field-0-is at c.in-Some-One.ensures in
-    let made = c.in_ok-only-in-Some-One.ensures in
-    one_replaces c.args.node.now.value c.in_ok-only-in-Some-One.only.value c.in-Leaf.leaf.now c.in-Some-One.new c.args.from c.args.to (chars c.args.text.now) (c.share.new.self.nodes - c.args.made.now.nodes) v_is
-    (made.shared ∙ c.in_ok-from_leaf-in-Some-One.ensures) e.replaced e.may_stand (omega (arith, made.counted))
-
-pub returns-in_ok-second-in-Some-Two-clause-edited : goal.returns-in_ok-second-in-Some-Two-clause-edited
-returns-in_ok-second-in-Some-Two-clause-edited t c =
-    let v_is = rw c.deref.ensures at c.in-Leaf.ensures.0 in
-    let e = rw c.in-Some-Two.field-0-is at c.in-Some-Two.ensures in
-    let first = c.in_ok-first-in-Some-Two.ensures in
-    let second = c.in_ok-second-in-Some-Two.ensures in
-    two_replace c.args.node.now.value c.in_ok-first-in-Some-Two.first.value c.in_ok-second-in-Some-Two.second.value c.in-Leaf.leaf.now c.in-Some-Two.front c.in-Some-Two.back c.args.from c.args.to (chars c.args.text.now)
-    (c.share-in-Some-Two-2.new.self.nodes - c.args.made.now.nodes) v_is (first.shared ∙ c.in_ok-from_leaf-in-Some-Two.ensures) (second.shared ∙ c.in_ok-from_leaf-in-Some-Two-2.ensures) e.replaced e.may_stand (omega (arith, first.counted, second.counted))
+    let e = rw c.in-Some.is at c.in_ok-with_text_replaced-in-Leaf.ensures in
+    let made = c.in_ok-nodes-in-Some.ensures in
+    leaves_replace c.args.node.now.value c.in-Leaf.leaf.now c.in-Some.leaves (edited_nodes c.in_ok-nodes-in-Some.nodes) c.args.from c.args.to (chars c.args.text.now) (c.nodes_over.new.made.nodes - c.args.made.now.nodes) v_is
+    made.nodes e.replaced e.may_stand (omega (arith, made.made))
 
 pub returns-in-None-2-clause-none : goal.returns-in-None-2-clause-none
 returns-in-None-2-clause-none t c = λ pieces h.
@@ -96,5 +106,11 @@ returns-in-None-2-clause-none t c = λ pieces h.
 pub returns-in-None-clause-none : goal.returns-in-None-clause-none
 returns-in-None-clause-none t c = λ pieces h.
     let v_is = rw c.deref.ensures at c.in-Leaf.ensures.0 in
+    let none = rw c.in-None.is at c.in_ok-with_text_replaced-in-Leaf.ensures in
     let of = of_piece c.args.node.now.value c.in-Leaf.leaf.now c.args.from c.args.to (chars c.args.text.now) pieces v_is h in
-    c.in-None.ensures.none h.leaves of.replaced of.may_stand
+    none.none h.leaves of.replaced of.may_stand
+
+pub with_text_replaced-requires-clause-counted : goal.with_text_replaced-requires-clause-counted
+with_text_replaced-requires-clause-counted t c =
+    let v_is = rw c.deref.ensures at c.in-Leaf.ensures.0 in
+    c.requires.1.1.1.0 ∙ ap (λ v. total v.pieces) v_is ∙ total-one c.in-Leaf.leaf.now

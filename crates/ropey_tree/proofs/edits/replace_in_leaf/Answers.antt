@@ -1,6 +1,6 @@
 use Rattle.std.proofs.Common.{◌-◌}
 use Rattle.std.specs.Str.{chars}
-use Rattle.ropey_tree.proofs.Editing.{one_tree, two_nodes, two_tree, two_fit, first_fits}
+use Rattle.ropey_tree.proofs.Editing.{one_tree, two_nodes, two_tree}
 use Rattle.ropey_tree.proofs.edits.replace_in_leaf.Goals as goal
 
 pub returns-in-None-clause-none : goal.returns-in-None-clause-none
@@ -11,35 +11,15 @@ returns-in-Some-One-clause-edited c =
     let by = rw (c.in-Some-One.is, c.in-Some-One.field-0-is) at c.in_ok-replaced.ensures in
     one_tree c.args.node.now.value c.in-Some-One.only.value c.args.from c.args.to (chars c.args.text.now) (c.replaced.new.made.nodes - c.args.made.now.nodes) by.edited
 
-pub push-requires-clause-fits : goal.push-requires-clause-fits
-push-requires-clause-fits c =
+pub over_two-requires : goal.over_two-requires
+over_two-requires c =
     let v = c.args.node.now.value in
     let first = c.in-Some-Two.first.value in
     let second = c.in-Some-Two.second.value in
     let by = rw (c.in-Some-Two.is, c.in-Some-Two.field-0-is) at c.in_ok-replaced.ensures in
     let made = c.replaced.new.made.nodes - c.args.made.now.nodes in
     let is_text = rw c.deref.ensures at c.height-height.ensures.tree.text in
-    rw c.new-children.ensures (first_fits first second (two_fit v first second c.args.from c.args.to (chars c.args.text.now) made by.edited is_text c.requires.fits))
-
-pub push-requires-in-Some-Two-clause-fits : goal.push-requires-in-Some-Two-clause-fits
-push-requires-in-Some-Two-clause-fits c =
-    let v = c.args.node.now.value in
-    let first = c.in-Some-Two.first.value in
-    let second = c.in-Some-Two.second.value in
-    let by = rw (c.in-Some-Two.is, c.in-Some-Two.field-0-is) at c.in_ok-replaced.ensures in
-    let made = c.replaced.new.made.nodes - c.args.made.now.nodes in
-    let is_text = rw c.deref.ensures at c.height-height.ensures.tree.text in
-    rw (c.push.ensures, c.new-children.ensures) (two_fit v first second c.args.from c.args.to (chars c.args.text.now) made by.edited is_text c.requires.fits)
-
-pub over-requires : goal.over-requires
-over-requires c =
-    let v = c.args.node.now.value in
-    let first = c.in-Some-Two.first.value in
-    let second = c.in-Some-Two.second.value in
-    let by = rw (c.in-Some-Two.is, c.in-Some-Two.field-0-is) at c.in_ok-replaced.ensures in
-    let made = c.replaced.new.made.nodes - c.args.made.now.nodes in
-    let is_text = rw c.deref.ensures at c.height-height.ensures.tree.text in
-    rw (c.in_ok-children-in-Some-Two.ensures.ok, c.push-in-Some-Two.ensures, c.push.ensures, c.new-children.ensures, c.height-height.ensures.value, c.deref.ensures) (two_nodes v first second c.args.from c.args.to (chars c.args.text.now) made by.edited is_text c.requires.fits)
+    rw (c.height-height.ensures.value, c.deref.ensures) (two_nodes v first second c.args.from c.args.to (chars c.args.text.now) made by.edited is_text c.requires.fits)
 
 pub returns-in_ok-root-in-Some-Two-clause-edited : goal.returns-in_ok-root-in-Some-Two-clause-edited
 returns-in_ok-root-in-Some-Two-clause-edited c =
@@ -48,5 +28,5 @@ returns-in_ok-root-in-Some-Two-clause-edited c =
     let second = c.in-Some-Two.second.value in
     let by = rw (c.in-Some-Two.is, c.in-Some-Two.field-0-is) at c.in_ok-replaced.ensures in
     let made = c.replaced.new.made.nodes - c.args.made.now.nodes in
-    let w_is = rw (c.in_ok-children-in-Some-Two.ensures.ok, c.push-in-Some-Two.ensures, c.push.ensures, c.new-children.ensures, c.height-height.ensures.value, c.deref.ensures) at c.in_ok-root-in-Some-Two.ensures.node in
+    let w_is = rw (c.height-height.ensures.value, c.deref.ensures) at c.in_ok-root-in-Some-Two.ensures.node in
     two_tree v first second c.in_ok-root-in-Some-Two.root.value c.args.from c.args.to (chars c.args.text.now) made by.edited w_is

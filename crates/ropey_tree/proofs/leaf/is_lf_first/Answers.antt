@@ -1,13 +1,21 @@
-use Rattle.std.proofs.Common.{◌≡◌, nat_eq, length, get_or, ap, sym, ◌∙◌, arith}
+use Rattle.std.proofs.Common.{◌≡◌, ◌≤◌, nat_eq, length, get_or, not, ap, sym, ◌∙◌, arith}
 use Rattle.std.specs.Prelude.{encode_utf8_all}
 use Rattle.std.specs.Str.{chars}
+use Rattle.std.proofs.lemmas.Bool.Decides.{nat_tests}
 use Rattle.std.proofs.lemmas.Str.{encodes-chars}
+use Rattle.ropey_tree.proofs.Ends.{no_lf_in_none}
 use Rattle.ropey_tree.proofs.OverSeams.{first_is_lf}
 use Rattle.ropey_tree.proofs.leaf.is_lf_first.Goals as goal
 
-pub returns : goal.returns
-returns c =
+pub returns-then-not-is_empty : goal.returns-then-not-is_empty
+returns-then-not-is_empty c =
     let text = chars c.args.text.now in
+    let some : 1 ≤ length c.args.text.now = grind (arith, nat_tests, c.is_empty.ensures, c.if-not-is_empty.true) in
     let same : encode_utf8_all text ≡ c.args.text.now = encodes-chars c.args.text.now c.utf8.text in
     let bytes : c.as_bytes.result.now ≡ encode_utf8_all text = c.as_bytes.ensures.value ∙ sym same in
-    ap (λ bs. nat_eq (get_or bs 0 0) 10) bytes ∙ first_is_lf text (omega (arith, ap length same, c.requires))
+    ap (λ bs. nat_eq (get_or bs 0 0) 10) bytes ∙ first_is_lf text (omega (arith, ap length same, some))
+
+pub returns-else-not-is_empty : goal.returns-else-not-is_empty
+returns-else-not-is_empty c =
+    let none : length c.args.text.now ≡ 0 = grind (arith, nat_tests, c.is_empty.ensures, c.if-not-is_empty.false) in
+    ap not c.if-not-is_empty.false ∙ sym (no_lf_in_none c.args.text.now none)

@@ -7,6 +7,7 @@ use Rattle.str_indices.specs.Text.{byte_len}
 use Rattle.ropey_tree.specs.Counts.{total}
 use Rattle.ropey_tree.specs.Cutting.{cuts_cr_lf, IsText}
 use Rattle.ropey_tree.specs.Seams.{IsBetween}
+use Rattle.ropey_tree.specs.Nodes.{leaf_view}
 use Rattle.ropey_tree.specs.Splits.{pieces_in}
 use Rattle.ropey_tree.proofs.Texts.{byte_len-append}
 use Rattle.ropey_tree.proofs.Splitting.{bytes-concat}
@@ -84,7 +85,7 @@ append_both-requires t c =
     let low = shorter ps qs mid at c.in-Some.field-0.to (seam_is t a) l x y r c.in-Some.ensures.some c.requires.fits c.in_ok-before.ensures.halves c.in_ok-after.ensures.halves in
     let fits = rest_fits ps qs mid at c.in-Some.field-0.to (seam_is t a) l x y r c.in-Some.ensures.some c.requires.fits c.in_ok-before.ensures.halves c.in_ok-after.ensures.halves in
     let rest : r ≡ c.in-Some-after.rest.value.pieces = ap pieces_in c.in-Some-after.is in
-    let leaf : c.in_ok-leaf.leaf.value.pieces ≡ mid ∷ [] = ap (λ v. v.pieces) (c.in_ok-leaf.ensures.ok ∙ c.in_ok-from_leaf.ensures) in
+    let leaf : c.in_ok-leaf.leaf.value.pieces ≡ mid ∷ [] = ap (λ v. v.pieces) (c.in_ok-leaf.ensures.ok ∙ c.from_leaf.ensures ∙ ap leaf_view c.in_ok-middle.ensures.text) in
     let rest_bytes = ap (λ ps. (total ps).bytes) rest in
     (omega (arith, c.decreases, low, rest_bytes), omega (arith, fits, rest_bytes, ap (λ ps. (total ps).bytes) leaf, sum_by-cons byte_len mid []))
 
@@ -103,7 +104,7 @@ joins t c between =
     let y = pieces_in c.in_ok-after.field-0.left in
     let r = pieces_in c.in_ok-after.field-0.right in
     let bs = c.match-after-3.back.value.pieces in
-    let leaf : c.in_ok-leaf.leaf.value.pieces ≡ mid ∷ [] = ap (λ v. v.pieces) (c.in_ok-leaf.ensures.ok ∙ c.in_ok-from_leaf.ensures) in
+    let leaf : c.in_ok-leaf.leaf.value.pieces ≡ mid ∷ [] = ap (λ v. v.pieces) (c.in_ok-leaf.ensures.ok ∙ c.from_leaf.ensures ∙ ap leaf_view c.in_ok-middle.ensures.text) in
     let one : concat c.in_ok-leaf.leaf.value.pieces ≡ mid = ap concat leaf ∙ append-nil mid in
     let joined : concat bs ≡ mid ++ concat r = elim c.match-after-3.branch [
       | in-None w ↦ ap (λ n. concat n.value.pieces) w.back-is ∙ one ∙ sym (append-nil mid) ∙ ap (λ ps. mid ++ concat ps) (sym (ap pieces_in w.in-None.is))

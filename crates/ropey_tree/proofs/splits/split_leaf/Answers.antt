@@ -20,10 +20,10 @@ pub returns : goal.returns
 returns c =
     let at = c.requires.boundary in
     let h = leaf_parts c.as_str-text.result.now c.args.leaf.now c.args.at c.as_str-text.ensures.bytes c.as_str-text.ensures.piece c.requires.boundary in
-    let front : c.new.result ≡ at.front = c.new.ensures ∙ ap chars (c.range.ensures.value ∙ slice_front c.as_str-text.result.now c.args.at) ∙ h.front_is in
-    let back : c.new-3.result ≡ at.back = c.new-3.ensures ∙ ap chars c.range_from.ensures.value ∙ h.back_is in
-    let left : c.in_ok-left-2.left.value.pieces ≡ at.front ∷ [] = ap (λ v. v.pieces) (c.in_ok-left-2.ensures.ok ∙ c.in_ok-from_leaf.ensures) ∙ ap (λ p. p ∷ []) front in
-    let right : c.in_ok-right-2.right.value.pieces ≡ at.back ∷ [] = ap (λ v. v.pieces) (c.in_ok-right-2.ensures.ok ∙ c.in_ok-from_leaf-2.ensures) ∙ ap (λ p. p ∷ []) back in
+    let front : c.in_ok-front.front ≡ at.front = c.in_ok-front.ensures ∙ ap chars (c.range.ensures.value ∙ slice_front c.as_str-text.result.now c.args.at) ∙ h.front_is in
+    let back : c.in_ok-back.back ≡ at.back = c.in_ok-back.ensures ∙ ap chars c.range_from.ensures.value ∙ h.back_is in
+    let left : c.in_ok-left-2.left.value.pieces ≡ at.front ∷ [] = ap (λ v. v.pieces) (c.in_ok-left-2.ensures.ok ∙ c.from_leaf.ensures) ∙ ap (λ p. p ∷ []) front in
+    let right : c.in_ok-right-2.right.value.pieces ≡ at.back ∷ [] = ap (λ v. v.pieces) (c.in_ok-right-2.ensures.ok ∙ c.from_leaf-2.ensures) ∙ ap (λ p. p ∷ []) back in
     let whole : c.args.node.now.value.pieces ≡ (at.front ++ at.back) ∷ [] = ap (λ v. v.pieces) c.requires.leaf ∙ ap (λ p. p ∷ []) at.parts in
     let some : 1 ≤ byte_len at.front = omega (arith, at.place, c.if-at-eq0.false) in
     let some_back : 1 ≤ byte_len at.back = omega (arith, h.len, c.if-at-text.false) in

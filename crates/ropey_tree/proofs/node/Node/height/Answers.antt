@@ -9,7 +9,7 @@ tree : (c : In-Inner) → IsTree c.args.self.now
 tree c =
     let is = sym (ap view_of c.in-Inner.is) ∙ c.self.view_is in
     let body = subst IsBody c.in-Inner.is c.self.invariant in
-    subst IsTree is (inner_tree c.in-Inner.height c.in-Inner.children.value body)
+    subst IsTree is (inner_tree c.in-Inner.height c.in-Inner.children body)
 
 pub returns-in-Inner-clause-low : goal.returns-in-Inner-clause-low
 returns-in-Inner-clause-low c =

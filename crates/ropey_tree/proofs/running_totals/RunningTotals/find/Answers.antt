@@ -22,6 +22,7 @@ loop-left-preserved c =
       omega (arith, h.4, c.is_past.ensures.compared),
       omega (arith, few.0, counted, h.4, c.is_past.ensures.compared),
       rw counted few.1,
+      inr (omega (arith, h.4, c.is_past.ensures.compared)),
     )
 
 pub loop-left-preserved-then-not-is_past : goal.loop-left-preserved-then-not-is_past
@@ -61,6 +62,7 @@ loop-left-preserved-then-not-is_past c =
       omega (arith, h.4, c.is_past.ensures.compared),
       omega (arith, few.0, counted, h.4, c.is_past.ensures.compared),
       rw counted few.1,
+      inr (omega (arith, h.4, c.is_past.ensures.compared)),
     )
 
 pub returns-clause-passed : goal.returns-clause-passed

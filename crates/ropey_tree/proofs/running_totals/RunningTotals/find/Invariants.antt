@@ -13,6 +13,7 @@ invariant-loop-left l =
     × (l.fn.visits.comparisons ≤ l.visits.comparisons)
     × (l.visits.comparisons ≤ l.fn.visits.comparisons + 5)
     × (2 ^ (l.visits.comparisons - l.fn.visits.comparisons) * l.left ≤ 23)
+    × ((l.left + 1 ≡ length l.self) ⊎ (l.fn.visits.comparisons < l.visits.comparisons))
 
 abbrev pub decreases-loop-left : goal.decreases-loop-left
 decreases-loop-left l = l.left

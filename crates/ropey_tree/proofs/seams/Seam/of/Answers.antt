@@ -4,7 +4,6 @@ use Rattle.std.proofs.lemmas.Str.{IsCharBoundary-start, chars-nil}
 use Rattle.str_indices.specs.Text.{byte_len}
 use Rattle.ropey_tree.specs.Cutting.{cuts_cr_lf}
 use Rattle.ropey_tree.proofs.Editing.{back_bytes}
-use Rattle.ropey_tree.proofs.OverSeams.{chars-cr_lf}
 use Rattle.ropey_tree.proofs.Merging.{cr_lf_between, over_between, whole_cut}
 use Rattle.ropey_tree.proofs.seams.Seam.of.Goals as goal
 
@@ -58,4 +57,4 @@ returns-then-is_lf_first-clause-between c =
     let cr = sym c.is_cr_last.ensures ∙ c.if-is_cr_last.true in
     let lf = sym c.is_lf_first.ensures ∙ c.if-is_lf_first.true in
     let len : length c.as_str-front.result.now - 1 + 1 ≡ byte_len c.args.last.now = omega (arith, ap length c.as_str-front.ensures.bytes, c.as_str-front.ensures.piece.not_empty) in
-    rw (c.new.ensures, chars-cr_lf) (cr_lf_between c.args.last.now c.args.first.now (length c.as_str-front.result.now - 1) cr lf len)
+    rw c.cr_lf.ensures.text (cr_lf_between c.args.last.now c.args.first.now (length c.as_str-front.result.now - 1) cr lf len)

@@ -1,10 +1,10 @@
-use Rattle.std.proofs.Common.{◌≡◌, ◌++◌, length, take, drop, ap, ◌∙◌, arith}
+use Rattle.std.proofs.Common.{◌≡◌, length, take, ap, sym, ◌∙◌, arith}
 use Rattle.std.specs.Str.{chars}
-use Rattle.std.proofs.lemmas.Str.{encodes-chars, IsUtf8-take}
+use Rattle.std.proofs.lemmas.Str.{encodes-chars}
 use Rattle.ropey_tree.proofs.Splitting.{leaf_parts, slice_front}
-use Rattle.ropey_tree.proofs.Editing.{not_both, three_chars, cut_in_three, gone_bytes, replaced_bytes, replaced_from, replaced_to}
-use Rattle.ropey_tree.proofs.edits.text_replaced.Goals as goal
-use Rattle.ropey_tree.proofs.edits.text_replaced.Goals.{then-not-is_char_boundary-via-then-not-is_char_boundary, then-not-is_char_boundary-via-else-not-is_char_boundary+then-not-is_char_boundary-2, then-text-kept-via-then-text-kept, then-text-kept-via-else-text-kept+then-kept-text-eq0}
+use Rattle.ropey_tree.proofs.Editing.{not_both, three_parts, mid_bytes, front_bytes, gone_bytes, replaced_bytes, replaced_from, replaced_to}
+use Rattle.ropey_tree.proofs.edits.parts_of.Goals as goal
+use Rattle.ropey_tree.proofs.edits.parts_of.Goals.{then-not-is_char_boundary-via-then-not-is_char_boundary, then-not-is_char_boundary-via-else-not-is_char_boundary+then-not-is_char_boundary-2, then-text-kept-via-then-text-kept, then-text-kept-via-else-text-kept+then-kept-text-eq0}
 
 pub returns-then-not-is_char_boundary-clause-none : goal.returns-then-not-is_char_boundary-clause-none
 returns-then-not-is_char_boundary-clause-none c = λ new h some.
@@ -33,16 +33,31 @@ returns-then-text-kept-clause-none c = λ new h some.
       | then-text-kept-via-else-text-kept+then-kept-text-eq0 w ↦ absurd (omega (arith, w.if-kept-text-eq0.true, some, gone, bytes, old_len, text_len, ends.0))
     ]
 
-pub returns-clause-replaced : goal.returns-clause-replaced
-returns-clause-replaced c =
+pub returns-clause-parts : goal.returns-clause-parts
+returns-clause-parts c =
     let old = c.as_str-old.result.now in
-    let text = c.args.text.now in
-    let front = take c.args.from old in
-    let back = drop c.args.to old in
+    let starts = c.is_char_boundary.ensures.test.0 c.if-not-is_char_boundary.false in
+    let front : c.range.result.now ≡ take c.args.from old = c.range.ensures.value ∙ slice_front old c.args.from in
+    let parts = three_parts old c.range-2.result.now c.args.from c.args.to c.as_str-old.utf8 starts c.requires c.range-2.utf8 c.range-2.ensures.value in
+    rw (front, c.range_from.ensures.value) (sym c.as_str-old.ensures.text ∙ parts)
+
+pub returns-clause-starts : goal.returns-clause-starts
+returns-clause-starts c =
+    let old = c.as_str-old.result.now in
+    let starts = c.is_char_boundary.ensures.test.0 c.if-not-is_char_boundary.false in
+    let front : c.range.result.now ≡ take c.args.from old = c.range.ensures.value ∙ slice_front old c.args.from in
+    rw front (front_bytes old c.args.from c.as_str-old.utf8 starts)
+
+pub returns-clause-ends : goal.returns-clause-ends
+returns-clause-ends c =
+    let old = c.as_str-old.result.now in
     let starts = c.is_char_boundary.ensures.test.0 c.if-not-is_char_boundary.false in
     let ends = c.is_char_boundary-else-not-is_char_boundary.ensures.test.0 c.if-not-is_char_boundary-2.false in
-    let first : c.push_str.new.self.bytes ≡ front = c.push_str.ensures.bytes ∙ ap (λ b. b ++ c.range.result.now) c.new-whole.ensures ∙ c.range.ensures.value ∙ slice_front old c.args.from in
-    let second : c.push_str-2.new.self.bytes ≡ front ++ text = c.push_str-2.ensures.bytes ∙ ap (λ b. b ++ text) first in
-    let third : c.push_str-3.new.self.bytes ≡ front ++ text ++ back = c.push_str-3.ensures.bytes ∙ ap (λ b. b ++ c.range_from.result.now) second ∙ ap (λ b. front ++ text ++ b) c.range_from.ensures.value in
-    let whole = ap chars third ∙ three_chars front text back (IsUtf8-take old c.args.from c.as_str-old.utf8 starts) c.utf8.text in
-    rw whole (cut_in_three old c.args.leaf.now c.args.from c.args.to (chars text) c.as_str-old.utf8 c.as_str-old.ensures.text starts ends c.requires)
+    let front : c.range.result.now ≡ take c.args.from old = c.range.ensures.value ∙ slice_front old c.args.from in
+    rw front (mid_bytes old c.range-2.result.now c.args.from c.args.to c.as_str-old.utf8 starts ends.0 c.requires c.range-2.utf8 c.range-2.ensures.value)
+
+pub returns-clause-whole : goal.returns-clause-whole
+returns-clause-whole c =
+    let old_len = ap length c.as_str-old.ensures.bytes in
+    let ends = c.is_char_boundary-else-not-is_char_boundary.ensures.test.0 c.if-not-is_char_boundary-2.false in
+    omega (arith, old_len, c.as_str-old.ensures.piece.not_long, c.requires, ends.0, c.range.ensures.len, c.range-2.ensures.len, c.range_from.ensures.len)
