@@ -1,19 +1,22 @@
 -- Lines in which nothing matches, by what is known of the places before one.
-use Rattle.std.proofs.Common.{◌≡◌, ℕ, suc, ◌+◌, ◌-◌, ◌<◌, ◌≤◌, inl, inr, List, [], ◌∷◌, ◌++◌, Option, None, Some, IfSome, length, take, drop, get_or, replicate, refl, sym, ap, subst, ◌∙◌, arith, length-drop, append_assoc}
+use Rattle.std.proofs.Common.{◌≡◌, ℕ, suc, ◌+◌, ◌-◌, ◌^◌, ◌<◌, ◌≤◌, min, true, chars, IsUtf8, append-nil, inl, inr, List, [], ◌∷◌, ◌++◌, Option, None, Some, IfSome, length, take, drop, get_or, replicate, refl, sym, ap, subst, ◌∙◌, arith, length-drop, append_assoc}
 use Rattle.std.proofs.lemmas.List.{drop-drop, length-take, get_or-take, get_or-drop, replicate_more}
+use Rattle.std.specs.Option.{is_some}
+use Rattle.std.proofs.lemmas.Bool.{true≢false}
+use Rattle.std.proofs.lemmas.Str.{encodes-chars, len_utf8_bounds}
 use Rattle.ropey.specs.Chunks.{is_break}
 use Rattle.str_indices.specs.Laws.{RisesWithIndex}
 use Rattle.str_indices.specs.Text.{byte_len, break_ends, breaks}
-use Rattle.regex_cursor.specs.Patterns.{Tree, SpellsTree, HasNoMatchBetween, between}
+use Rattle.regex_cursor.specs.Patterns.{Tree, SpellsTree, TreeFinds, HasNoMatchBetween, between}
 use Rattle.rope_search_reports.specs.Text.{bytes_of, line_count}
 use Rattle.rope_search_reports.specs.Pattern.{FindsMatch}
 use Rattle.rope_search_reports.specs.Position.{line_at, line_start, line_text, text_end}
 use Rattle.rope_search_reports.specs.Report.{line_texts, IsRow, AreRows}
-use Rattle.rope_search_reports.specs.Ticks.{Ticks, MakesAtMost}
+use Rattle.rope_search_reports.specs.Ticks.{Ticks, MakesAsMany, MakesAtMost}
 use Rattle.rope_search_reports.specs.Drafts.{AddsRows, AreBare, HasNoneBetween, lines_between}
 use Rattle.rope_search_reports.specs.Laws.{PlaceLaws}
 use Rattle.rope_search_reports.proofs.ChangeLemmas.{dropped, two}
-use Rattle.rope_search_reports.proofs.LineLemmas.{lines-counted, lines-in-place}
+use Rattle.rope_search_reports.proofs.LineLemmas.{byte_len-one, lines-counted, lines-in-place}
 use Rattle.rope_search_reports.proofs.MatchLemmas.{AllHaveFinds, Searched-start}
 use Rattle.rope_search_reports.proofs.PartLemmas.{past-last}
 use Rattle.rope_search_reports.proofs.PlaceLemmas.{line_inside}
@@ -36,6 +39,10 @@ bare-row : AllHaveFinds → (pattern line : List ℕ) → FindsMatch pattern (by
 bare-row finds pattern line is =
     let has = finds is.tree in
     row-is pattern line is.tree [] is.spells (last-row is.tree line None [] has is.finds (Searched-start (columns_of (bytes_of line)) is.tree (bytes_of line) has))
+
+-- where no part of a text has a match, the empty text has none
+pub bare-empty : AllHaveFinds → (pattern content : List ℕ) (place : ℕ) → HasNoneBetween pattern content 0 place → IsRow pattern [] []
+bare-empty finds pattern content place none = bare-row finds pattern [] (none 0 0 (omega arith) (omega arith))
 
 -- where lines start
 pub starts-within : RisesWithIndex (break_ends is_break) → (text : List ℕ) (line : ℕ) → line ≤ line_count text → line_start text line ≤ byte_len text
@@ -139,3 +146,135 @@ at-most a b n old mid new one other fits =
     let made = one.made in
     let more = other.made in
     record { made = omega (arith, made, more, fits); no_whole = other.no_whole ∙ one.no_whole }
+
+-- ---- lines of a chunk
+
+-- the lines of a text that end before a place up to which nothing matches
+pub bare-front : PlaceLaws → RisesWithIndex (break_ends is_break) → AllHaveFinds → (pattern bytes : List ℕ) (place count : ℕ) → IsUtf8 bytes
+    → count ≡ line_at (chars bytes) place → HasNoneBetween pattern bytes 0 place → AreBare pattern (chars bytes) 0 count
+bare-front law rises finds pattern bytes place count utf8 is none line low high =
+    let own : HasNoneBetween pattern (bytes_of (chars bytes)) 0 place = subst (λ bs. HasNoneBetween pattern bs 0 place) (sym (encodes-chars bytes utf8)) none in
+    bare-line law rises (chars bytes) finds pattern 0 place line low (omega (arith, high, is)) own
+
+-- they are lines of the text that the chunk shows
+pub bare-shown : (pattern text rest : List ℕ) (line count : ℕ) → ((k : ℕ) → k < breaks is_break rest → line_text text (line + k) ≡ line_text rest k)
+    → count ≤ breaks is_break rest → AreBare pattern rest 0 count → AreBare pattern text line (line + count)
+bare-shown pattern text rest line count shows inside bare l low high =
+    let k = l - line in
+    let there : line + k ≡ l = omega (arith, low) in
+    let below : k < count = omega (arith, low, high) in
+    let own : line_text text l ≡ line_text rest k = ap (line_text text) (sym there) ∙ shows k (omega (arith, below, inside)) in
+    subst (λ t. IsRow pattern t []) (sym own) (bare k (omega arith) below)
+
+-- ---- rows behind rows
+
+-- none more
+pub adds-none : (pattern text : List ℕ) (at : ℕ) (rows : List (List (ℕ × ℕ))) → AddsRows pattern (lines_between text at (at + 0)) rows rows
+adds-none pattern text at rows =
+    let none : 0 ≡ at + 0 - at = omega arith in
+    record { made = []; are = subst (λ n. AreRows pattern (take n (drop at (line_texts text))) []) none tt; behind = sym (append-nil rows) }
+
+-- the row of the next line
+pub adds-one : (pattern text : List ℕ) (at count : ℕ) (rows rows' rows'' : List (List (ℕ × ℕ))) (own : List ℕ) (row : List (ℕ × ℕ)) → at + count < line_count text
+    → AddsRows pattern (lines_between text at (at + count)) rows rows' → own ≡ line_text text (at + count) → IsRow pattern own row → rows'' ≡ rows' ++ row ∷ []
+    → AddsRows pattern (lines_between text at (at + (count + 1))) rows rows''
+adds-one pattern text at count rows rows' rows'' own row inside adds own_is is more =
+    let mid = at + count in
+    let one : lines_between text mid (mid + 1) ≡ own ∷ [] = single (line_texts text) mid own (omega (arith, inside, lines-counted text)) own_is in
+    let last : AddsRows pattern (lines_between text mid (mid + 1)) rows' rows'' =
+    record { made = row ∷ []; are = subst (λ ls. AreRows pattern ls (row ∷ [])) (sym one) (is, tt); behind = more } in
+    let end : mid + 1 ≡ at + (count + 1) = omega arith in
+    subst (λ n. AddsRows pattern (lines_between text at n) rows rows'') end
+    (adds-joined pattern text at mid (mid + 1) rows rows' rows'' (omega arith) (omega arith) adds last)
+  where
+    single : (lines : List (List ℕ)) (k : ℕ) (own : List ℕ) → k < length lines → own ≡ get_or lines k [] → take (k + 1 - k) (drop k lines) ≡ own ∷ []
+    single lines k own below is =
+        let one : 1 ≡ k + 1 - k = omega arith in
+        let here : get_or (drop k lines) 0 [] ≡ own = get_or-drop k lines 0 [] ∙ (let same : k + 0 ≡ k = omega arith in ap (λ n. get_or lines n []) same) ∙ sym is in
+        sym (ap (λ n. take n (drop k lines)) one) ∙ head-of (drop k lines) own (omega (arith, length-drop k lines, below)) here
+      where
+        head-of : (ls : List (List ℕ)) (own : List ℕ) → 0 < length ls → get_or ls 0 [] ≡ own → take 1 ls ≡ own ∷ []
+        head-of [] own some is = absurd (omega (arith, some))
+        head-of (l ∷ ls) own some is = ap (λ x. x ∷ []) is
+
+-- ---- rows that are counted, each by one
+
+-- so many more, as far as the count goes
+pub counted-start : (ticks : Ticks) → MakesAsMany 0 ticks ticks
+counted-start ticks = record { least = omega arith; made = omega arith; no_whole = refl }
+
+pub counted-more : (count : ℕ) (old mid new : Ticks) → MakesAsMany count old mid → new.count ≡ min (mid.count + 1) (2 ^ 64 - 1) → new.wholes ≡ mid.wholes → MakesAsMany (count + 1) old new
+counted-more count old mid new sofar one whole =
+    let least = sofar.least in
+    let made = sofar.made in
+    record { least = omega (arith, least, one); made = omega (arith, made, one); no_whole = whole ∙ sofar.no_whole }
+
+pub counted-both : (a b n : ℕ) (old mid new : Ticks) → MakesAsMany a old mid → MakesAsMany b mid new → a + b ≡ n → MakesAsMany n old new
+counted-both a b n old mid new one other sum =
+    let least = one.least in
+    let made = one.made in
+    let least' = other.least in
+    let made' = other.made in
+    record { least = omega (arith, least, least', sum); made = omega (arith, made, made', sum); no_whole = other.no_whole ∙ one.no_whole }
+
+-- and one more at most
+pub counted-most : (count n : ℕ) (old mid new : Ticks) → MakesAsMany count old mid → new.count ≡ min (mid.count + 1) (2 ^ 64 - 1) → new.wholes ≡ mid.wholes → count + 1 ≤ n → MakesAtMost n old new
+counted-most count n old mid new sofar one whole fits =
+    let made = sofar.made in
+    record { made = omega (arith, made, one, fits); no_whole = whole ∙ sofar.no_whole }
+
+pub counted-few : (count n : ℕ) (old new : Ticks) → MakesAsMany count old new → count ≤ n → MakesAtMost n old new
+counted-few count n old new sofar fits =
+    let made = sofar.made in
+    record { made = omega (arith, made, fits); no_whole = sofar.no_whole }
+
+-- at most so many are at most more
+pub most-grows : (a n : ℕ) (old new : Ticks) → MakesAtMost a old new → a ≤ n → MakesAtMost n old new
+most-grows a n old new most fits =
+    let made = most.made in
+    record { made = omega (arith, made, fits); no_whole = most.no_whole }
+
+pub most-both : (a b n : ℕ) (old mid new : Ticks) → MakesAsMany a old mid → MakesAtMost b mid new → a + b ≤ n → MakesAtMost n old new
+most-both a b n old mid new one other fits =
+    let made = one.made in
+    let more = other.made in
+    record { made = omega (arith, made, more, fits); no_whole = other.no_whole ∙ one.no_whole }
+
+-- so many rows of lines in which nothing matches, from one line on
+pub rows-so : (rows rows' : List (List (ℕ × ℕ))) (line count : ℕ) → rows' ≡ rows ++ replicate count [] → rows' ≡ rows ++ replicate (line + count - line) []
+rows-so rows rows' line count is =
+    let same : count ≡ line + count - line = omega arith in
+    is ∙ ap (λ n. rows ++ replicate n []) same
+
+-- ---- the rows of a stretch of lines, a turn at a time
+
+pub record TurnRows (pattern text : List ℕ) (first at searched passed : ℕ) (rows : List (List (ℕ × ℕ))) (start new : Ticks) : Type 0 where
+  pub are : AreRows pattern (lines_between text first (at + searched + passed)) rows
+  pub ticks : MakesAsMany (at + searched + passed - first) start new
+
+pub turn-of : (pattern text : List ℕ) (first at searched passed : ℕ) (rows rows' rows'' : List (List (ℕ × ℕ))) (start old mid new : Ticks) → first ≤ at
+    → AreRows pattern (lines_between text first at) rows → MakesAsMany (at - first) start old
+    → AddsRows pattern (lines_between text at (at + searched)) rows rows' → MakesAsMany searched old mid
+    → AddsRows pattern (lines_between text (at + searched) (at + searched + passed)) rows' rows'' → MakesAsMany passed mid new
+    → TurnRows pattern text first at searched passed rows'' start new
+turn-of pattern text first at searched passed rows rows' rows'' start old mid new behind are ticks adds one passes other = record {
+  are = rows-step pattern text first at (at + searched) (at + searched + passed) rows rows' rows'' behind (omega arith) (omega arith) are adds passes;
+  ticks = counted-both (at + searched - first) passed (at + searched + passed - first) start mid new
+      (counted-both (at - first) searched (at + searched - first) start old mid ticks one (omega (arith, behind))) other (omega (arith, behind));
+}
+
+-- ---- the empty text
+
+-- where a place is told up to which nothing matches, the empty text has no match
+pub never-empty : (tree : Tree) (content : List ℕ) (from from' : ℕ) (place : Option ℕ) → is_some place ≡ true → from' ≡ from → from ≡ 0 → IfSome place (HasNoMatchBetween tree content from') → TreeFinds tree [] 0 None
+never-empty tree content from from' None some same start told = absurd (true≢false (sym some))
+never-empty tree content from from' (Some place) some same start told = told 0 0 (omega (arith, same, start)) (omega arith)
+
+-- a line that has no text
+pub no-text : (line : List ℕ) → byte_len line ≡ 0 → line ≡ []
+no-text [] none = refl
+no-text (c ∷ cs) none = absurd (omega (arith, none, byte_len-one c cs, (len_utf8_bounds c).0))
+
+pub empty-row : AllHaveFinds → (pattern line : List ℕ) (tree : Tree) → SpellsTree pattern tree → TreeFinds tree [] 0 None → byte_len line ≡ 0 → IsRow pattern line []
+empty-row finds pattern line tree spells none len =
+    subst (λ t. IsRow pattern t []) (sym (no-text line len)) (bare-row finds pattern [] (record { tree = tree; spells = spells; finds = none }))

@@ -42,7 +42,7 @@ module _ (law : PlaceLaws) (text : List ℕ) (scalars : all_scalars text ≡ tru
   abbrev own : List ℕ
   own = line_text text line
 
-  own_scalars : all_scalars own ≡ true
+  pub own_scalars : all_scalars own ≡ true
   own_scalars =
       let h = lines-in-place text line inside in
       (scalars-parts own h.behind (scalars-parts h.before (own ++ h.behind) (sym (ap all_scalars h.parts) ∙ scalars)).1).0
@@ -97,7 +97,7 @@ module _ (law : PlaceLaws) (text : List ℕ) (scalars : all_scalars text ≡ tru
       ap (λ bs. units (chars bs)) taken
 
   -- the position of a boundary of the line's text
-  at_column : (i : ℕ) → IsCharBoundary (bytes_of own) i → IsAt text (line, column (bytes_of own) i) (line_start text line + i)
+  pub at_column : (i : ℕ) → IsCharBoundary (bytes_of own) i → IsAt text (line, column (bytes_of own) i) (line_start text line + i)
   at_column i boundary = record {
     boundary = boundary_there i boundary;
     same = ap (λ n. (line, n)) (column_there i boundary.0)

@@ -1,13 +1,14 @@
 -- The column of a place in a line: code units from the line's start.
-use Rattle.std.proofs.Common.{◌≡◌, ℕ, ◌≤◌, true, List, ◌++◌, length, take, sym, ap, ◌∙◌, arith, chars, length-append}
+use Rattle.std.proofs.Common.{◌≡◌, ℕ, ◌+◌, ◌-◌, ◌≤◌, true, List, ◌++◌, length, take, drop, IsUtf8, sym, ap, ◌∙◌, arith, chars, length-append}
 use Rattle.std.specs.Str.{all_scalars, IsCharBoundary}
 use Rattle.std.proofs.lemmas.List.Sums.{sum_by-append}
-use Rattle.std.proofs.lemmas.Str.{chars-encodes, encodes-append}
+use Rattle.std.proofs.lemmas.Str.{IsUtf8-take, chars-append, chars-encodes, encodes-append, encodes-chars}
 use Rattle.std.proofs.Math.Seq.{take-append_seam}
 use Rattle.str_indices.specs.Text.{byte_len, units, units_of, char_ends, unit_ends, ends_up_to, end_place}
 use Rattle.rope_search_reports.specs.Text.{bytes_of}
 use Rattle.rope_search_reports.specs.Report.{column}
 use Rattle.rope_search_reports.specs.Laws.{PlaceLaws}
+use Rattle.rope_search_reports.proofs.ChangeLemmas.{two}
 use Rattle.rope_search_reports.proofs.LineLemmas.{byte_len-append}
 use Rattle.rope_search_reports.proofs.PlaceLemmas.{Split, split_at, scalars-parts, front_of, chars_there, units_there}
 
@@ -51,3 +52,15 @@ char-column law line place char scalars boundary is =
       ap (λ n. ends_up_to (end_place (char_ends line) n (byte_len line)) (unit_ends line)) is ∙ units_there law line s.front place front s.place_is
           ∙ sym (column-is line place scalars s),
     )
+
+-- the column of a place, counted on from another
+pub column-further : (bytes : List ℕ) (place end : ℕ) → IsUtf8 bytes → IsCharBoundary bytes place → place ≤ end
+    → column bytes end ≡ column bytes place + units (chars (take (end - place) (drop place bytes)))
+column-further bytes place end utf8 boundary low =
+    let first = IsUtf8-take bytes place utf8 boundary in
+    ap (λ bs. units (chars bs)) (two bytes place end low) ∙ ap units (chars-append (take place bytes) (take (end - place) (drop place bytes)) first)
+    ∙ sum_by-append units_of (chars (take place bytes)) (chars (take (end - place) (drop place bytes)))
+
+-- the text of a chunk in its own words
+pub own-bytes : (bytes : List ℕ) → IsUtf8 bytes → bytes_of (chars bytes) ≡ bytes
+own-bytes bytes utf8 = encodes-chars bytes utf8

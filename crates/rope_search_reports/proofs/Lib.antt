@@ -11,6 +11,9 @@ pub mod PlaceLemmas
 pub mod PartLemmas
 pub mod ReplaceLemmas
 pub mod SpotLemmas
+pub mod SpotsInLines
+pub mod WalkLemmas
+pub mod OwnLemmas
 pub mod FewLemmas
 pub mod GroupLemmas
 pub mod SpliceLemmas

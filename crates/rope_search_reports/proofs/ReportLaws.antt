@@ -22,10 +22,10 @@ pub list-one : SpellsOneTree → AllHaveFinds → (pattern content : List ℕ) (
 list-one trees finds pattern content spans spans' one other =
     one.spans_are ∙ ap (map span_of) (matches-one trees finds pattern content one.matches other.matches one.are other.are) ∙ sym other.spans_are
 
-abbrev OneList : Type 0
+abbrev pub OneList : Type 0
 OneList = (pattern content : List ℕ) (spans spans' : List (ℕ × ℕ)) → IsMatches pattern content spans → IsMatches pattern content spans' → spans ≡ spans'
 
-IsRow-one : OneList → (pattern line : List ℕ) (row row' : List (ℕ × ℕ)) → IsRow pattern line row → IsRow pattern line row' → row ≡ row'
+pub IsRow-one : OneList → (pattern line : List ℕ) (row row' : List (ℕ × ℕ)) → IsRow pattern line row → IsRow pattern line row' → row ≡ row'
 IsRow-one law pattern line row row' one other =
     one.shown ∙ ap (map (columns (bytes_of line))) (law pattern (bytes_of line) one.spans other.spans one.are other.are) ∙ sym other.shown
 

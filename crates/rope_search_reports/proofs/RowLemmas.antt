@@ -1,15 +1,15 @@
 -- The search of a content, match by match.
-use Rattle.std.proofs.Common.{◌≡◌, ℕ, ◌<◌, ◌≤◌, List, [], ◌∷◌, ◌++◌, Option, None, Some, length, map, refl, sym, ap, ap₂, subst, ◌∙◌}
+use Rattle.std.proofs.Common.{◌≡◌, ℕ, ◌+◌, ◌<◌, ◌≤◌, arith, List, [], ◌∷◌, ◌++◌, Option, None, Some, length, map, refl, sym, ap, ap₂, subst, ◌∙◌}
 use Rattle.std.specs.List.{range_with_len}
 use Rattle.std.specs.Str.{IsUtf8, IsCharBoundary}
 use Rattle.std.proofs.lemmas.Simd.{map-map}
-use Rattle.regex_cursor.specs.Patterns.{Tree, SpellsTree, FoundMatch, answer_slots}
+use Rattle.regex_cursor.specs.Patterns.{Tree, SpellsTree, FoundMatch, answer_slots, at_once, moved}
 use Rattle.regex_cursor.specs.PatternLaws.{HasFinds}
 use Rattle.rope_search_reports.specs.Text.{bytes_of}
 use Rattle.rope_search_reports.specs.Pattern.{span_of}
 use Rattle.rope_search_reports.specs.Matches.{AreGroups, both, group_of, groups_of}
 use Rattle.rope_search_reports.specs.Report.{IsRow, column, columns}
-use Rattle.rope_search_reports.specs.Finders.{AreGroupsOf, ComesAfter, IsRowOf, IsTold, group_told}
+use Rattle.rope_search_reports.specs.Finders.{AreGroupsOf, ComesAfter, IsRowOf, IsTold, group_told, start_behind}
 use Rattle.rope_search_reports.proofs.MatchLemmas.{AllNote, Searched, Searched-more, Searched-end, comes-from, comes-further, lies-behind, room_behind, stands}
 use Rattle.rope_search_reports.proofs.NextLemmas.{ToldMatch, none-told, some-told}
 
@@ -36,6 +36,26 @@ next-stands tree content last span slots has utf8 next =
     let at = stands tree content from.0 next.t has utf8 from.1 in
     let inside = (lies-behind tree content from.0 next.t has from.1).inside in
     subst (Stands content) (sym next.span_is) (record { starts = at.0; ends = at.1; inside = inside })
+
+-- it starts behind the last one, and ends behind its start
+pub record Follows (last : Option ℕ) (span : ℕ × ℕ) : Type 0 where
+  pub behind : start_behind last ≤ span.0
+  pub ordered : span.0 ≤ span.1
+
+follows : (tree : Tree) (content : List ℕ) (last : Option ℕ) (t : FoundMatch) → HasFinds tree → ComesAfter tree content last (Some t) → Follows last (span_of t)
+follows tree content None t has finds =
+    let h = lies-behind tree content 0 t has finds in
+    record { behind = h.behind; ordered = h.ordered }
+follows tree content (Some end) t has (at_once finds other) =
+    let h = lies-behind tree content end t has finds in
+    record { behind = h.behind; ordered = h.ordered }
+follows tree content (Some end) t has (moved found starts ends later) =
+    let h = lies-behind tree content (end + 1) t has later in
+    let behind = h.behind in
+    record { behind = omega (arith, behind); ordered = h.ordered }
+
+pub next-follows : (tree : Tree) (content : List ℕ) (last : Option ℕ) (span : ℕ × ℕ) (slots : List (Option ℕ)) → HasFinds tree → NextMatch tree content last span slots → Follows last span
+next-follows tree content last span slots has next = subst (Follows last) (sym next.span_is) (follows tree content last next.t has next.is)
 
 -- less is left behind it
 pub next-further : (tree : Tree) (content : List ℕ) (last : Option ℕ) (span : ℕ × ℕ) (slots : List (Option ℕ)) → HasFinds tree → NextMatch tree content last span slots

@@ -1,12 +1,17 @@
 -- Words of the code that makes a report line by line, for its own contracts.
-use Rattle.std.specs.Prelude.{◌≡◌, ◌⊎◌, ◌-◌, ◌<◌, ◌≤◌, List, ℕ, [], ◌++◌, None, take, drop}
-use Rattle.std.specs.Str.{NonePass}
+use Rattle.std.specs.Prelude.{◌≡◌, ◌⊎◌, ◌+◌, ◌-◌, ◌^◌, ◌<◌, ◌≤◌, List, ℕ, [], ◌++◌, None, take, drop}
+use Rattle.std.specs.Str.{NonePass, IsUtf8, chars}
 use Rattle.ropey.specs.Chunks.{is_break}
+use Rattle.ropey_walk.specs.Slices.{slice_text}
 use Rattle.str_indices.specs.FirstBreak.{IsBreak}
+use Rattle.str_indices.specs.Text.{breaks, byte_len, NoCrLfBetween}
 use Rattle.regex_cursor.specs.Patterns.{between}
 use Rattle.rope_search_reports.specs.Pattern.{FindsMatch}
+use Rattle.rope_search_reports.specs.Text.{IsText, line_count}
 use Rattle.rope_search_reports.specs.Position.{line_text}
 use Rattle.rope_search_reports.specs.Report.{line_texts, IsRow, AreRows}
+use Rattle.rope_search_reports.specs.declared.line.Line.{Line}
+use Rattle.rope_search_reports.specs.declared.line.Line.TheVariants.{Whole, Parted}
 
 -- a line with the break that ends it, if one does: this is its text, the break left off
 pub record IsLine (line own : List ℕ) : Type 0 where
@@ -36,3 +41,55 @@ pub record AddsRows (pattern : List ℕ) (lines : List (List ℕ)) (old new : Li
   pub made : List (List (ℕ × ℕ))
   pub are : AreRows pattern lines made
   pub behind : new ≡ old ++ made
+
+-- ---- a line where it lies
+
+-- the text of a line
+abbrev pub own_text : Line → List ℕ
+own_text (Whole text) = chars text.now
+own_text (Parted slice) = slice_text slice
+
+-- it is text: UTF-8, or scalar values
+abbrev pub HoldsText : Line → Type 0
+HoldsText (Whole text) = IsUtf8 text.now
+HoldsText (Parted slice) = IsText (slice_text slice)
+
+-- ---- a walk over lines
+
+-- what is seen of a walk: the text, the line that comes next, and what is left of the chunk in which
+-- that starts
+pub record WalkState : Type 0 where
+  pub text : List ℕ
+  pub line : ℕ
+  pub rest : List ℕ
+
+-- a text begins with what is left of a chunk, and no CR LF is cut behind that
+pub record IsRestOf (text rest : List ℕ) : Type 0 where
+  pub after : List ℕ
+  pub parts : text ≡ rest ++ after
+  pub whole : NoCrLfBetween rest after
+
+-- a line of a text starts at this place: behind it stand the lines from that one on
+pub record StartsLine (text : List ℕ) (line byte : ℕ) (rest : List ℕ) : Type 0 where
+  pub before : List ℕ
+  pub behind : List ℕ
+  pub parts : text ≡ before ++ behind
+  pub place : byte ≡ byte_len before
+  pub lines : drop line (line_texts text) ≡ line_texts behind
+  pub shown : IsRestOf behind rest
+
+-- such a walk: behind the last line nothing is left
+pub record IsWalk (text : List ℕ) (line byte : ℕ) (rest : List ℕ) : Type 0 where
+  pub text_is : IsText text
+  pub fits : line_count text < 2 ^ 64
+  pub bytes_fit : byte_len text < 2 ^ 63
+  pub near : byte ≤ byte_len text
+  pub utf8 : IsUtf8 rest
+  pub within : line ≤ line_count text
+  pub starts : line < line_count text → StartsLine text line byte (chars rest)
+  pub nothing : line ≡ line_count text → rest ≡ []
+
+-- the lines that end in what is left are those of the text from the next one on
+abbrev pub ShowsLines : WalkState → Type 0
+ShowsLines walk = (k : ℕ) → k < breaks is_break walk.rest
+    → line_text walk.text (walk.line + k) ≡ line_text walk.rest k

@@ -1,5 +1,5 @@
 -- What a finder is made of, for the contracts of the code that searches.
-use Rattle.std.specs.Prelude.{◌≡◌, ℕ, ◌+◌, ◌*◌, List, [], ◌∷◌, ◌++◌, length, Option, None, Some, option_map, slice_index_or, unwrap_or, map}
+use Rattle.std.specs.Prelude.{◌≡◌, ℕ, ◌+◌, ◌*◌, Bool, true, List, [], ◌∷◌, ◌++◌, length, Option, None, Some, option_map, slice_index_or, unwrap_or, map}
 use Rattle.std.specs.Str.{chars}
 use Rattle.regex_cursor.specs.Patterns.{Tree, FoundMatch, Next, TreeFinds, TreeMatches, answer_slots, start_of, end_of}
 use Rattle.regex_cursor.specs.Regexes.{Engine, CacheView, IsRegexOf, IsCacheOf}
@@ -14,12 +14,15 @@ abbrev pub characters_of : Text → List ℕ
 characters_of Start = []
 characters_of (Longer' shape before c) = characters_of before ++ c ∷ []
 
--- a regex that was built of this pattern, and a cache made for it
-pub record IsFinderOf (pattern : List ℕ) (re : Engine) (cache : CacheView) : Type 0 where
+-- a regex that was built of this pattern, a cache made for it, and whether it is known that it
+-- doesn't match the empty text
+pub record IsFinderOf (pattern : List ℕ) (re : Engine) (cache : CacheView) (is_never_empty : Bool)
+    : Type 0 where
   pub text : List ℕ
   pub pattern_is : pattern ≡ chars text
   pub built : IsRegexOf text re
   pub serves : IsCacheOf re cache
+  pub never_empty : is_never_empty ≡ true → TreeFinds built.tree [] 0 None
 
 -- what comes next among the matches of a tree in a content, behind one that ended at this place, or
 -- first of all

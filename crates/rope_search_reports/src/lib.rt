@@ -5,6 +5,7 @@
 mod changes;
 mod columns;
 pub mod laws;
+mod line;
 mod patches;
 mod pattern_text;
 mod positions;
@@ -12,6 +13,7 @@ mod replacing;
 mod reports;
 mod rows;
 mod searching;
+mod walk;
 
 pub use changes::{Change, Changes, patches_of};
 pub use patches::{Patch, put_in_place, put_patches, rows_made, shift_once};

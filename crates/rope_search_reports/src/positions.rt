@@ -1,14 +1,15 @@
 //! Positions in a rope: a line, and a column in UTF-16 code units, as editors and language servers
 //! have them.
 
-ghost use Rattle.std.specs.Prelude.{◌≡◌, ◌≤◌, length, take, drop, MatchOption, IfSome};
+ghost use Rattle.std.specs.Prelude.{◌≡◌, ◌≤◌, length, take, MatchOption, IfSome};
 ghost use Rattle.std.specs.Str.{IsCharBoundary};
-ghost use Rattle.str_indices.specs.Text.{byte_len, cuts_cr_lf};
+ghost use Rattle.str_indices.specs.Text.{byte_len};
 ghost use Rattle.ropey.specs.Chunks.{text_of};
 ghost use Rattle.rope_search_reports.specs.Text.{IsText, bytes_of};
 ghost use Rattle.rope_search_reports.specs.Position.{position, IsAt, IsNowhere};
 
 use crate::laws;
+use crate::walk::without_break;
 use ropey::Rope;
 
 /// A line, and a column in it: how many UTF-16 code units stand between the line's start and the
@@ -38,18 +39,6 @@ pub fn position_of(text: &Rope, byte_idx: usize) -> Position
         line,
         column: at - start,
     }
-}
-
-/// Whether the place before a character is between the CR and the LF of a break.
-fn is_in_cr_lf(text: &Rope, char_idx: usize) -> bool
-    requires { char_idx ≤ length (text_of text.now) }
-    ensures { result ≡ cuts_cr_lf (take char_idx (text_of text.now))
-        (drop char_idx (text_of text.now)) }
-{
-    if char_idx == 0 || char_idx == text.len_chars() {
-        return false;
-    }
-    text.char(char_idx - 1) == '\r' && text.char(char_idx) == '\n'
 }
 
 /// A place in a text, between two characters.
@@ -86,29 +75,22 @@ pub fn place_of(text: &Rope, position: Position) -> Option<Place>
 {
     // Laws, and the text's facts, for the proof alone.
     laws::places();
-    laws::lines_in_place();
     let _ = text.len_bytes();
     if position.line >= text.len_lines() {
         return None;
     }
-    let start = text.char_to_utf16_cu(text.line_to_char(position.line));
-    if position.column > text.len_utf16_cu() - start {
+    let own = without_break(text.line(position.line));
+    // Behind its text?
+    if position.column > own.len_utf16_cu() {
         return None;
     }
-    let unit = start + position.column;
-    let char_idx = text.utf16_cu_to_char(unit);
+    let char_in_line = own.utf16_cu_to_char(position.column);
     // Inside a surrogate pair?
-    if text.char_to_utf16_cu(char_idx) != unit {
+    if own.char_to_utf16_cu(char_in_line) != position.column {
         return None;
     }
-    let byte_idx = text.char_to_byte(char_idx);
-    // Behind its line?
-    if text.byte_to_line(byte_idx) != position.line {
-        return None;
-    }
-    // Between the CR and the LF of its break?
-    if is_in_cr_lf(text, char_idx) {
-        return None;
-    }
-    Some(Place { byte_idx, char_idx })
+    Some(Place {
+        byte_idx: text.line_to_byte(position.line) + own.char_to_byte(char_in_line),
+        char_idx: text.line_to_char(position.line) + char_in_line,
+    })
 }

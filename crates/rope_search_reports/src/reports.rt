@@ -1,49 +1,27 @@
 //! The report of a text: its lines, each searched by itself.
-ghost use Rattle.std.specs.Prelude.{◌≡◌, ◌+◌, ◌-◌, ◌^◌, ◌<◌, ◌≤◌, ℕ, List, take, drop, IfOk, IfErr, OnOk};
+ghost use Rattle.std.specs.Prelude.{◌≡◌, ◌+◌, ◌-◌, ◌^◌, ◌<◌, ◌≤◌, ◌++◌, ℕ, List, [], take, drop, replicate, IfOk, IfErr, OnOk};
+ghost use Rattle.std.specs.Str.{chars, IsUtf8};
 ghost use Rattle.str_indices.specs.Text.{breaks};
 ghost use Rattle.ropey.specs.Chunks.{is_break, text_of};
-ghost use Rattle.ropey_walk.specs.Slices.{slice_text};
 ghost use Rattle.rope_search_reports.specs.Text.{line_count};
-ghost use Rattle.rope_search_reports.specs.Report.{line_texts, AreRows, IsReport, match_count};
-ghost use Rattle.rope_search_reports.specs.Drafts.{AddsRows, IsLine, lines_between};
+ghost use Rattle.rope_search_reports.specs.Report.{line_texts, IsRow, AreRows, IsReport, match_count};
+ghost use Rattle.rope_search_reports.specs.Drafts.{AddsRows, AreBare, lines_between};
 ghost use Rattle.rope_search_reports.specs.Ticks.{MakesAsMany, MakesAtMost};
 
 use crate::laws;
-use crate::rows::{Finder, Lines, Row, pass_over, search_line};
+use crate::line::Line;
+use crate::rows::{Finder, Lines, Row, row_of};
+use crate::walk::Walk;
 use rope_search_io::Fault;
-use ropey::{Rope, RopeSlice};
+use ropey::{Rope, breaks};
 use std::alloc::Global;
 
-/// How many lines are searched before it is asked where a match may begin.
-const FEW: usize = 8;
-
-/// And at most, where asking doesn't pay.
+/// How many lines are searched at most before it is asked again where a match may begin.
 const MOST: usize = 1_024;
 
-/// To ask where a match may begin takes about as long as searching so many lines of usual length.
-const PAYS: usize = 16;
-
-/// A line's text: the line without the break that ends it, where it has one. `O(log n)`.
-fn without_break(line: RopeSlice<'_>) -> RopeSlice<'_>
-    ensures { (own : List ℕ) → IsLine (slice_text line.entry) own → slice_text result ≡ own }
-{
-    let len = line.len_chars();
-    if len == 0 {
-        return line;
-    }
-    let last = line.char(len - 1);
-    if last != '\n' && last != '\r' {
-        return line;
-    }
-    if last == '\n' && len > 1 && line.char(len - 2) == '\r' {
-        return line.slice(..len - 2);
-    }
-    line.slice(..len - 1)
-}
-
 /// Returns the report of a text and a finder's pattern: a row for each line, from the first, made
-/// as `rows_of_lines` does. At most a row a line is counted. Time is linear in the text, times the
-/// pattern's weight for the lines that are searched.
+/// as `rows_of_lines` does. A row a line is counted, or fewer after an error. Time is linear in the
+/// text, times the pattern's weight for the lines that are searched.
 ///
 /// Errors: `Fault::Memory`; the finder serves on.
 pub fn report_of(
@@ -57,6 +35,7 @@ pub fn report_of(
     ensures fault { IfErr result (λ fault. fault ≡ Fault.Memory) }
     ensures finder { finder.new ≡ finder.old }
     ensures count { MakesAtMost (line_count (text_of text.now)) tick.old tick.new }
+    ensures each { OnOk result (MakesAsMany (line_count (text_of text.now)) tick.old tick.new) }
 {
     // Laws, and the text's facts, for the proof alone.
     laws::few_matches();
@@ -64,59 +43,130 @@ pub fn report_of(
     rows_of_lines(tick, alloc, finder, text, 0, text.len_lines())
 }
 
-/// Adds the rows of lines `first..end` of a text behind others, each line searched by itself, where
-/// it lies. A row for each of them is counted, or for fewer after an error.
+/// Adds the rows of the next `count` lines behind others, each line searched by itself, where it
+/// lies. A row for each of them is counted, or for fewer after an error.
 ///
 /// Errors: `Fault::Memory`; the finder serves on.
-pub(crate) fn push_rows(
+fn push_rows(
     tick: &mut Lines,
     finder: &mut Finder,
-    text: &Rope,
+    walk: &mut Walk<'_>,
     rows: &mut Vec<Row>,
-    first: usize,
-    end: usize,
+    count: usize,
 ) -> Result<(), Fault>
-    requires ordered { first ≤ end }
-    requires within { end ≤ line_count (text_of text.now) }
+    requires { walk.old.line + count ≤ line_count walk.old.text }
+    ensures text { walk.new.text ≡ walk.old.text }
+    ensures line { OnOk result (walk.new.line ≡ walk.old.line + count) }
     ensures rows { OnOk result (AddsRows finder.old
-        (lines_between (text_of text.now) first end) rows.old.items rows.new.items) }
+        (lines_between walk.old.text walk.old.line (walk.old.line + count))
+        rows.old.items rows.new.items) }
     ensures fault { IfErr result (λ fault. fault ≡ Fault.Memory) }
     ensures finder { finder.new ≡ finder.old }
-    ensures count { MakesAtMost (end - first) tick.old tick.new }
-    ensures each { OnOk result (MakesAsMany (end - first) tick.old tick.new) }
+    ensures count { MakesAtMost count tick.old tick.new }
+    ensures each { OnOk result (MakesAsMany count tick.old tick.new) }
 {
-    // Laws, for the proof alone.
-    laws::places();
-    let mut lines = text.lines_at(first);
-    for _line_idx in first..end {
-        let Some(line) = lines.next() else {
-            unreachable!()
-        };
-        rows.push(search_line(tick, finder, without_break(line))?)?;
+    for _done in 0..count {
+        rows.push(row_of(tick, finder, walk.next())?)?;
     }
     Ok(())
 }
 
+/// Adds the rows of so many lines in which nothing matches behind others. A row for each of them is
+/// counted, or for fewer after an error. Requires that the pattern doesn't match the empty text.
+///
+/// Errors: `Fault::Memory`; the finder serves on.
+fn push_bare(
+    tick: &mut Lines,
+    finder: &mut Finder,
+    rows: &mut Vec<Row>,
+    count: usize,
+) -> Result<(), Fault>
+    requires { 0 < count → IsRow finder.old [] [] }
+    ensures rows { OnOk result (rows.new.items ≡ rows.old.items ++ replicate count []) }
+    ensures fault { IfErr result (λ fault. fault ≡ Fault.Memory) }
+    ensures finder { finder.new ≡ finder.old }
+    ensures count { MakesAtMost count tick.old tick.new }
+    ensures each { OnOk result (MakesAsMany count tick.old tick.new) }
+{
+    // A law, for the proof alone.
+    laws::one_list_of_matches();
+    for _done in 0..count {
+        rows.push(row_of(tick, finder, Line::Whole(""))?)?;
+    }
+    Ok(())
+}
+
+/// How many lines of a text, from its first, end before the place at which a match may begin, as
+/// far as the literals tell that each match begins with. Time is linear in the text up to there.
+fn bare_lines(finder: &Finder, text: &str) -> usize
+    requires { IsUtf8 text.now }
+    ensures within { result ≤ breaks is_break (chars text.now) }
+    ensures bare { AreBare finder.now (chars text.now) 0 result }
+    ensures empty { 0 < result → IsRow finder.now [] [] }
+{
+    // Laws, for the proof alone.
+    laws::places();
+    str_indices::laws::to_byte_idx_is_monotone();
+    regex_cursor::laws::finds_of_trees();
+    match finder.no_match_before(text) {
+        Some(place) => breaks::from_byte_idx(text, place),
+        None => 0,
+    }
+}
+
+/// Passes over the next lines up to `end` that end in what is left of their chunk, before the one
+/// in which a match may begin, and adds their rows behind others. A row for each of them is
+/// counted, or for fewer after an error. Returns how many they are.
+///
+/// Errors: `Fault::Memory`; the finder serves on.
+fn pass_over(
+    tick: &mut Lines,
+    finder: &mut Finder,
+    walk: &mut Walk<'_>,
+    rows: &mut Vec<Row>,
+    end: usize,
+) -> Result<usize, Fault>
+    requires ordered { walk.old.line ≤ end }
+    requires within { end ≤ line_count walk.old.text }
+    ensures text { walk.new.text ≡ walk.old.text }
+    ensures line { IfOk result (λ passed. walk.new.line ≡ walk.old.line + passed) }
+    ensures within { IfOk result (λ passed. walk.old.line + passed ≤ end) }
+    ensures rows { IfOk result (λ passed. AddsRows finder.old
+        (lines_between walk.old.text walk.old.line (walk.old.line + passed))
+        rows.old.items rows.new.items) }
+    ensures fault { IfErr result (λ fault. fault ≡ Fault.Memory) }
+    ensures finder { finder.new ≡ finder.old }
+    ensures count { MakesAtMost (end - walk.old.line) tick.old tick.new }
+    ensures each { IfOk result (λ passed. MakesAsMany passed tick.old tick.new) }
+{
+    let left = end - walk.line_idx();
+    if left == 0 {
+        return Ok(0);
+    }
+    let passed = bare_lines(finder, walk.rest()).min(left);
+    push_bare(tick, finder, rows, passed)?;
+    walk.skip(passed);
+    Ok(passed)
+}
+
 /// How many lines are searched before it is asked again where a match may begin, by how many there
-/// were last time and how many were then passed over: twice as many where asking costs more than
-/// searching these would have.
+/// were last time and how many were then passed over: twice as many where that were none.
 fn lines_before_asking(last: usize, passed: usize) -> usize
     requires { 1 ≤ last }
     ensures { 1 ≤ result }
 {
-    if passed < PAYS {
+    if passed == 0 {
         last.saturating_mul(2).min(MOST)
     } else {
-        FEW
+        1
     }
 }
 
 /// Returns the rows of lines `first..end` of a text, each searched by itself, where it lies, or
-/// passed over where it lies behind the first few and before the next place at which a match may
-/// begin, by the literals that each match begins with. At most a row for each of them is counted.
-/// Requires `first <= end` and `end <= len_lines()`. Time is linear in these lines, times the
-/// pattern's weight for those that are searched, and `O(log n)` each time that it is asked where a
-/// match may begin.
+/// passed over where it lies before the next place at which a match may begin, by the literals that
+/// each match begins with. A row for each of them is counted, or for fewer after an error. Requires
+/// `first <= end` and `end <= len_lines()`. Time is linear in these lines, times the pattern's
+/// weight for those that are searched, and `O(log n)` for each chunk.
 ///
 /// Errors: `Fault::Memory`; the finder serves on.
 pub fn rows_of_lines(
@@ -134,15 +184,19 @@ pub fn rows_of_lines(
     ensures fault { IfErr result (λ fault. fault ≡ Fault.Memory) }
     ensures finder { finder.new ≡ finder.old }
     ensures count { MakesAtMost (end - first) tick.old tick.new }
+    ensures each { OnOk result (MakesAsMany (end - first) tick.old tick.new) }
 {
-    let mut rows = Vec::new(alloc);
-    let mut line_idx = first;
-    let mut few = FEW;
-    while line_idx < end {
-        let stop = line_idx + few.min(end - line_idx);
-        push_rows(tick, finder, text, &mut rows, line_idx, stop)?;
-        line_idx = pass_over(tick, finder, text, &mut rows, stop, end)?;
-        few = lines_before_asking(few, line_idx - stop);
+    let mut rows = Vec::with_capacity(alloc, end - first)?;
+    if first == end {
+        return Ok(rows);
+    }
+    let mut walk = Walk::at(text, first);
+    let mut few = 1;
+    while walk.line_idx() < end {
+        let count = few.min(end - walk.line_idx());
+        push_rows(tick, finder, &mut walk, &mut rows, count)?;
+        let passed = pass_over(tick, finder, &mut walk, &mut rows, end)?;
+        few = lines_before_asking(few, passed);
     }
     Ok(rows)
 }

@@ -13,16 +13,13 @@ ghost use Rattle.rope_search_reports.specs.Report.{IsRow};
 ghost use Rattle.rope_search_reports.specs.Matches.{AreGroups};
 ghost use Rattle.rope_search_reports.specs.Replacement.{AreMatchesIn};
 ghost use Rattle.rope_search_reports.specs.Finders.{IsRowOf};
-ghost use Rattle.rope_search_reports.specs.Drafts.{AddsRows, AreBare, HasNoneBetween, lines_between};
-ghost use Rattle.rope_search_reports.specs.Ticks.{MakesAsMany, MakesAtMost};
+ghost use Rattle.rope_search_reports.specs.Drafts.{HasNoneBetween, HoldsText, own_text};
 
-use crate::columns::column_at;
-use crate::laws;
+use crate::line::Line;
 use crate::pattern_text::PatternText;
-use crate::reports::push_rows;
-use crate::searching::{Groups, all_groups, find, find_next, input_from};
-use regex_cursor::BuildError;
+use crate::searching::{Groups, all_groups, find, find_next, input_from, input_over};
 use regex_cursor::engines::meta::{Cache, Regex};
+use regex_cursor::{BuildError, Cursor, RopeyCursor};
 use rope_search_io::Fault;
 use ropey::{Rope, RopeSlice};
 use std::alloc::Global;
@@ -31,8 +28,7 @@ use std::marker::Model;
 /// How many bytes a pattern has at most.
 pub const PATTERN_LEN: usize = 65_536;
 
-/// Counts the rows that were made, each by a search of one line or as that line was passed over,
-/// and the searches of whole texts. Both counts begin at 0 and stay at `u64::MAX`. It is made of
+/// Counts the rows that were made, each by a search of one line, and the searches of whole texts. Both counts begin at 0 and stay at `u64::MAX`. It is made of
 /// the runtime alone and can't be copied, so what is handed one counts in it.
 #[derive(Drop)]
 pub struct Lines {
@@ -73,13 +69,13 @@ impl Lines {
         self.wholes
     }
 
-    /// Counts so many rows more.
-    fn add_rows(&mut self, rows: usize)
-        ensures count { self.new.count ≡ min (self.old.count + rows) (2 ^ 64 - 1) }
+    /// Counts one row more.
+    fn add_row(&mut self)
+        ensures count { self.new.count ≡ min (self.old.count + 1) (2 ^ 64 - 1) }
         ensures wholes { self.new.wholes ≡ self.old.wholes }
     {
         let count = &mut self.count;
-        *count = count.saturating_add(rows as u64);
+        *count = count.saturating_add(1);
     }
 
     /// Counts one search of a whole text more.
@@ -99,6 +95,8 @@ pub struct Finder {
     alloc: Global,
     regex: Regex,
     cache: Cache,
+    // Whether it is known that it doesn't match the empty text.
+    is_never_empty: bool,
     // For contracts alone.
     pattern: PatternText,
 }
@@ -111,7 +109,7 @@ impl Model for Finder {
 
     ghost view = { λ f. f.pattern };
 
-    ghost invariant = { λ f. IsFinderOf f.pattern f.regex f.cache };
+    ghost invariant = { λ f. IsFinderOf f.pattern f.regex f.cache f.is_never_empty };
 }
 
 impl Finder {
@@ -145,34 +143,32 @@ impl Finder {
         let Ok(cache) = regex.create_cache() else {
             return Err(Fault::Memory);
         };
+        // By its literals, no search.
+        let is_never_empty = regex.no_match_before(&mut input_over("", 0, 0)).is_some();
         Ok(Finder {
             alloc,
             regex,
             cache,
+            is_never_empty,
             pattern: PatternText::new(pattern),
         })
     }
 
-    /// A place of a text, from `start` up to `end`, before which nothing matches: no part of the
-    /// text between `start` and there has a match, searched by itself. That is told by the literals
-    /// that each match begins with, and by no search; `None` where no such literals are known. Time
-    /// is `O(log n)`, and linear in the text up to the place.
-    fn no_match_before(&self, text: &Rope, start: usize, end: usize) -> Option<usize>
-        requires ordered { start ≤ end }
-        requires within { end ≤ byte_len (text_of text.now) }
-        ensures no_match { IfSome result (λ place.
-            HasNoneBetween self.now (bytes_of (text_of text.now)) start place) }
-        ensures within { IfSome result (λ place. place ≤ end) }
+    /// A place of a text before which nothing matches: no part of the text up to there has a match,
+    /// searched by itself. That is told by the literals that each match begins with, and by no
+    /// search; `None` where no such literals are known. Time is linear in the text up to the place.
+    pub(crate) fn no_match_before(&self, text: &str) -> Option<usize>
+        ensures no_match { IfSome result (λ place. HasNoneBetween self.now text.now 0 place) }
+        ensures within { IfSome result (λ place. place ≤ length text.now) }
     {
-        let mut input = input_from(text.slice(..), start);
-        input.set_end(end);
-        self.regex.no_match_before(&mut input)
+        self.regex
+            .no_match_before(&mut input_over(text, text.len(), 0))
     }
 }
 
 /// The matches of a pattern in one line, from the left: where each starts and where it ends, in
-/// UTF-16 code units from the line's start. Only `search_line` and `pass_over` make any, which they
-/// count, and none can be copied.
+/// UTF-16 code units from the line's start. Only the search of a line makes any, which is counted,
+/// and none can be copied.
 #[derive(Drop)]
 pub struct Row {
     matches: Vec<(usize, usize)>,
@@ -195,35 +191,69 @@ impl Row {
     }
 }
 
-/// The columns of all matches in a line.
-fn columns_in(
+/// The columns of all matches in a line, which the cursor shows.
+fn columns_in<C: Cursor + Drop>(
     alloc: Global,
     regex: &Regex,
     cache: &mut Cache,
-    line: RopeSlice<'_>,
+    cursor: C,
+    line: &Line<'_>,
 ) -> Result<Vec<(usize, usize)>, Fault>
     requires made { IsCacheOf regex.now cache.old }
     requires built { (text : List ℕ) × IsRegexOf text regex.now }
+    requires holds { HoldsText line.now }
+    requires shows { (C.state cursor).content ≡ bytes_of (own_text line.now) }
     ensures row { (text : List ℕ) → (built : IsRegexOf text regex.now)
-        → IfOk result (λ row. IsRowOf built.tree (slice_text line.entry) row.items) }
+        → IfOk result (λ row. IsRowOf built.tree (own_text line.now) row.items) }
     ensures made { IsCacheOf regex.now cache.new }
     ensures fault { IfErr result (λ fault. fault ≡ Fault.Memory) }
 {
-    // A law, and the slice's facts, for the proof alone.
+    // A law, for the proof alone.
     regex_cursor::laws::finds_of_trees();
-    let _ = line.len_bytes();
     let mut matches = Vec::new(alloc);
-    let mut input = input_from(line, 0);
+    let mut input = input_over(cursor, line.len_bytes(), 0);
     let mut slots = [None; 2];
-    // Where the last match ended.
+    // Where the last match ended, and its column there.
     let mut last = None;
+    let (mut place, mut column) = (0, 0);
     while let Some((start, end)) = find_next(regex, cache, &mut input, &mut slots, last)? {
-        let start_column = column_at(&line, start);
-        matches.push((start_column, column_at(&line, end)))?;
+        let start_column = line.column_from(place, column, start);
+        column = line.column_from(start, start_column, end);
+        matches.push((start_column, column))?;
         input.set_start(end);
         last = Some(end);
+        place = end;
     }
     Ok(matches)
+}
+
+/// Searches one line's text, where it lies, and returns its row. One row is counted, also after an
+/// error. It alone makes rows.
+///
+/// Errors: `Fault::Memory`; the finder serves on.
+pub(crate) fn row_of(tick: &mut Lines, finder: &mut Finder, line: Line<'_>) -> Result<Row, Fault>
+    requires { HoldsText line }
+    ensures row { IfOk result (λ row. IsRow finder.old (own_text line.entry) row) }
+    ensures fault { IfErr result (λ fault. fault ≡ Fault.Memory) }
+    ensures finder { finder.new ≡ finder.old }
+    ensures count { tick.new.count ≡ min (tick.old.count + 1) (2 ^ 64 - 1) }
+    ensures wholes { tick.new.wholes ≡ tick.old.wholes }
+{
+    // A law, for the proof alone.
+    regex_cursor::laws::finds_of_trees();
+    tick.add_row();
+    let alloc = finder.alloc;
+    if finder.is_never_empty && line.len_bytes() == 0 {
+        return Ok(Row {
+            matches: Vec::new(alloc),
+        });
+    }
+    let (regex, cache) = (&finder.regex, &mut finder.cache);
+    let matches = match line {
+        Line::Whole(text) => columns_in(alloc, regex, cache, text, &line)?,
+        Line::Parted(slice) => columns_in(alloc, regex, cache, RopeyCursor::new(slice), &line)?,
+    };
+    Ok(Row { matches })
 }
 
 /// Searches one line's text, given without its break and searched where it lies, and returns its
@@ -239,92 +269,7 @@ pub fn search_line(tick: &mut Lines, finder: &mut Finder, line: RopeSlice<'_>) -
     ensures count { tick.new.count ≡ min (tick.old.count + 1) (2 ^ 64 - 1) }
     ensures wholes { tick.new.wholes ≡ tick.old.wholes }
 {
-    tick.add_rows(1);
-    let matches = columns_in(finder.alloc, &finder.regex, &mut finder.cache, line)?;
-    Ok(Row { matches })
-}
-
-/// Adds the rows of so many lines in which nothing matches behind others. All of them are counted,
-/// also after an error.
-///
-/// Errors: `Fault::Memory`.
-fn push_bare(
-    tick: &mut Lines,
-    alloc: Global,
-    rows: &mut Vec<Row>,
-    count: usize,
-) -> Result<(), Fault>
-    ensures rows { OnOk result (rows.new.items ≡ rows.old.items ++ replicate count []) }
-    ensures fault { IfErr result (λ fault. fault ≡ Fault.Memory) }
-    ensures count { tick.new.count ≡ min (tick.old.count + count) (2 ^ 64 - 1) }
-    ensures wholes { tick.new.wholes ≡ tick.old.wholes }
-{
-    tick.add_rows(count);
-    for _row_idx in 0..count {
-        rows.push(Row {
-            matches: Vec::new(alloc),
-        })?;
-    }
-    Ok(())
-}
-
-/// The line, from `line_idx` on and up to `end`, before which no line has a match, as far as the
-/// literals tell that each match begins with. Time is `O(log n)`, and linear in the text up to
-/// where the first of them lies, or up to line `end`.
-fn next_line(finder: &Finder, text: &Rope, line_idx: usize, end: usize) -> usize
-    requires ordered { line_idx ≤ end }
-    requires within { end ≤ line_count (text_of text.now) }
-    ensures ordered { line_idx ≤ result }
-    ensures within { result ≤ end }
-    ensures bare { AreBare finder.now (text_of text.now) line_idx result }
-{
-    // Laws, for the proof alone.
-    laws::places();
-    str_indices::laws::to_byte_idx_is_monotone();
-    regex_cursor::laws::finds_of_trees();
-    if line_idx == end {
-        return end;
-    }
-    let from = text.line_to_byte(line_idx);
-    let to = text.line_to_byte(end);
-    match finder.no_match_before(text, from, to) {
-        Some(place) => text.byte_to_line(place).min(end).max(line_idx),
-        None => line_idx,
-    }
-}
-
-/// Passes over the lines from `line_idx` on, and up to `end`, before the one in which a match may
-/// begin next, as far as the literals tell that each match begins with, and searches that one, if
-/// it isn't `end`. The rows of these lines come behind others. Each of them is counted, so no line
-/// is looked through that isn't. Returns the line behind the last one. Time is `O(log n)`, linear
-/// in the lines that are passed over, and that of a search for the last one.
-///
-/// Errors: `Fault::Memory`; the finder serves on, and the rows may be counted all the same.
-pub(crate) fn pass_over(
-    tick: &mut Lines,
-    finder: &mut Finder,
-    text: &Rope,
-    rows: &mut Vec<Row>,
-    line_idx: usize,
-    end: usize,
-) -> Result<usize, Fault>
-    requires ordered { line_idx ≤ end }
-    requires within { end ≤ line_count (text_of text.now) }
-    ensures ordered { IfOk result (λ next. line_idx ≤ next) }
-    ensures further { IfOk result (λ next. line_idx < end → line_idx < next) }
-    ensures within { IfOk result (λ next. next ≤ end) }
-    ensures rows { IfOk result (λ next. AddsRows finder.old
-        (lines_between (text_of text.now) line_idx next) rows.old.items rows.new.items) }
-    ensures each { IfOk result (λ next. MakesAsMany (next - line_idx) tick.old tick.new) }
-    ensures most { MakesAtMost (end - line_idx) tick.old tick.new }
-    ensures finder { finder.new ≡ finder.old }
-    ensures fault { IfErr result (λ fault. fault ≡ Fault.Memory) }
-{
-    let found = next_line(finder, text, line_idx, end);
-    push_bare(tick, finder.alloc, rows, found - line_idx)?;
-    let next = found + (end - found).min(1);
-    push_rows(tick, finder, text, rows, found, next)?;
-    Ok(next)
+    row_of(tick, finder, Line::of(line))
 }
 
 /// Returns the first match in a whole text from a byte index on, as the byte indices of its start

@@ -10,7 +10,7 @@ ghost use Rattle.rope_search_reports.specs.Replacement.{AreMatchesIn};
 ghost use Rattle.rope_search_reports.specs.Finders.{ComesAfter, AreGroupsOf, IsTold, group_told, start_behind};
 
 use regex_cursor::engines::meta::{Cache, Regex};
-use regex_cursor::{Input, NonMaxUsize, RopeyCursor, Span};
+use regex_cursor::{Cursor, Input, NonMaxUsize, RopeyCursor, Span};
 use rope_search_io::Fault;
 use ropey::RopeSlice;
 use std::alloc::Global;
@@ -23,17 +23,26 @@ pub type Groups = [Option<(usize, usize)>; 10];
 /// How many slots `Groups` have.
 const SLOT_COUNT: usize = 20;
 
-/// An input over a slice, in which matches are searched from a place on; looks see all of the
-/// slice, and nothing outside of it.
+/// An input over a content of this length, in which matches are searched from a place on; looks see
+/// all of the content, and nothing outside of it.
+pub fn input_over<C: Cursor>(cursor: C, len: usize, from: usize) -> Input<C>
+    requires len { len ≡ length (C.state cursor).content }
+    requires within { from ≤ len }
+    ensures { AsksFrom (C.state cursor).content from result }
+{
+    let mut input = Input::new(cursor);
+    let _ = input.slice_span(Span { start: 0, end: len });
+    input.set_start(from);
+    input
+}
+
+/// An input over a slice, as `input_over` has it.
 pub fn input_from(slice: RopeSlice<'_>, from: usize) -> Input<RopeyCursor<'_>>
     requires { from ≤ byte_len (slice_text slice) }
     ensures { AsksFrom (slice_bytes slice.entry) from result }
 {
     let len = slice.len_bytes();
-    let mut input = Input::new(RopeyCursor::at(slice, from));
-    let _ = input.slice_span(Span { start: 0, end: len });
-    input.set_start(from);
-    input
+    input_over(RopeyCursor::at(slice, from), len, from)
 }
 
 /// A group's span, by the places in its two slots.
@@ -60,10 +69,10 @@ fn groups_in(slots: &[Option<NonMaxUsize>; SLOT_COUNT]) -> Groups
 
 /// The span of what is found in an input's content from a place on. The places of its groups are
 /// put into the slots, of which there are two or more.
-pub fn find(
+pub fn find<C: Cursor>(
     regex: &Regex,
     cache: &mut Cache,
-    input: &mut Input<RopeyCursor<'_>>,
+    input: &mut Input<C>,
     slots: &mut [Option<NonMaxUsize>],
 ) -> Result<Option<(usize, usize)>, Fault>
     requires made { IsCacheOf regex.now cache.old }
@@ -93,10 +102,10 @@ fn is_empty_at(span: Option<(usize, usize)>, place: usize) -> bool
 
 /// What comes next among the matches in an input's content, behind the last one, which ended where
 /// the input's search starts; an empty match there is passed over. Spans and slots as by `find`.
-pub fn find_next(
+pub fn find_next<C: Cursor>(
     regex: &Regex,
     cache: &mut Cache,
-    input: &mut Input<RopeyCursor<'_>>,
+    input: &mut Input<C>,
     slots: &mut [Option<NonMaxUsize>],
     last: Option<usize>,
 ) -> Result<Option<(usize, usize)>, Fault>

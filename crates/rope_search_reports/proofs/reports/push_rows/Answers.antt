@@ -1,43 +1,57 @@
-use Rattle.std.proofs.Common.{◌≡◌, ℕ, ◌+◌, ◌-◌, ◌≤◌, drop, refl, ap, sym, subst, ◌∙◌, arith, length-drop}
-use Rattle.ropey.specs.Chunks.{text_of}
-use Rattle.ropey.specs.Iter.{lines_of}
-use Rattle.ropey_walk.specs.Slices.{slice_pieces, slice_text}
-use Rattle.rope_search_reports.specs.Report.{line_texts, IsRow}
-use Rattle.rope_search_reports.proofs.LineLemmas.{lines-counted}
-use Rattle.rope_search_reports.proofs.PartLemmas.{AreLines, lines-are, lines-from}
-use Rattle.rope_search_reports.proofs.DraftLemmas.{RowsSoFar, RowsSoFar-start, RowsSoFar-some, RowsSoFar-more}
+use Rattle.std.proofs.Common.{◌≡◌, ◌+◌, ◌<◌, refl, sym, ap, subst, ◌∙◌, arith}
+use Rattle.rope_search_reports.specs.Report.{IsRow}
+use Rattle.rope_search_reports.specs.Position.{line_text}
+use Rattle.rope_search_reports.specs.Text.{line_count}
+use Rattle.rope_search_reports.specs.Drafts.{AddsRows, lines_between, own_text}
+use Rattle.rope_search_reports.specs.Ticks.{MakesAsMany}
+use Rattle.rope_search_reports.proofs.BareLemmas.{adds-none, adds-one, counted-start, counted-more, counted-most, counted-few}
 use Rattle.rope_search_reports.proofs.reports.push_rows.Goals as goal
 
-pub loop-line_idx-init : goal.loop-line_idx-init
-loop-line_idx-init c =
-    let pattern = c.args.finder.now in
-    let ticks = c.args.tick.now in
-    let owns = drop c.args.first (line_texts (text_of c.args.text.now)) in
-    let ahead : c.lines_at-lines.result.ahead ≡ drop c.args.first (lines_of c.args.text.now) = ap (λ place. place.ahead) c.lines_at-lines.ensures in
-    let lines : AreLines c.lines_at-lines.result.ahead owns =
-    subst (λ ls. AreLines ls owns) (sym ahead) (lines-from c.args.first (lines_of c.args.text.now) (line_texts (text_of c.args.text.now)) (lines-are c.places.ensures c.args.text.now)) in
-    let none : 0 ≡ c.args.first - c.args.first = omega arith in
-    let P : ℕ → Type 0 = λ count. RowsSoFar pattern owns c.lines_at-lines.result.ahead count c.args.rows.now.items c.args.rows.now.items ticks ticks in
-    (subst P none (RowsSoFar-start pattern owns c.lines_at-lines.result.ahead c.args.rows.now.items ticks lines), refl)
+pub loop-done-init : goal.loop-done-init
+loop-done-init c = (adds-none c.args.finder.now c.args.walk.now.text c.args.walk.now.line c.args.rows.now.items, refl, counted-start c.args.tick.now, refl, omega arith)
 
-pub unreachable-requires : goal.unreachable-requires
-unreachable-requires c =
-    let all = line_texts (text_of c.args.text.now) in
-    RowsSoFar-some _ _ _ _ _ _ _ _ c.loop-line_idx.invariant.0
-    (omega (arith, c.loop-line_idx-test.true, c.requires.within, length-drop c.args.first all, lines-counted (text_of c.args.text.now), c.loop-line_idx.auto._line_idx))
-    c.in_default.ensures.steps.0
+pub next-requires : goal.next-requires
+next-requires c =
+    omega (arith, c.loop-done-test.true, c.requires, c.loop-done.invariant.4, ap line_count c.loop-done.invariant.3)
 
-pub loop-line_idx-preserved : goal.loop-line_idx-preserved
-loop-line_idx-preserved c =
+pub returns-in_err-row_of-clause-count : goal.returns-in_err-row_of-clause-count
+returns-in_err-row_of-clause-count c =
+    counted-most c.loop-done._done c.args.count c.args.tick.now c.loop-done.tick c.row_of.new.tick c.loop-done.invariant.2 c.row_of.ensures.count c.row_of.ensures.wholes (omega (arith, c.loop-done-test.true))
+
+pub returns-in_err-push-clause-count : goal.returns-in_err-push-clause-count
+returns-in_err-push-clause-count c =
+    counted-most c.loop-done._done c.args.count c.args.tick.now c.loop-done.tick c.row_of.new.tick c.loop-done.invariant.2 c.row_of.ensures.count c.row_of.ensures.wholes (omega (arith, c.loop-done-test.true))
+
+pub loop-done-preserved : goal.loop-done-preserved
+loop-done-preserved c =
     let pattern = c.args.finder.now in
-    let owns = drop c.args.first (line_texts (text_of c.args.text.now)) in
-    let line = slice_pieces c.in-Some.line in
-    let row_is : IsRow pattern (slice_text c.without_break.result) c.in_ok-search_line.field-0 =
-    subst (λ p. IsRow p (slice_text c.without_break.result) c.in_ok-search_line.field-0) c.loop-line_idx.invariant.1 c.in_ok-search_line.ensures.row in
-    let one_more : c.loop-line_idx._line_idx - c.args.first + 1 ≡ c.loop-line_idx._line_idx + 1 - c.args.first = omega (arith, c.loop-line_idx.auto._line_idx) in
-    let P : ℕ → Type 0 = λ count. RowsSoFar pattern owns c.next.new.self.ahead count c.args.rows.now.items c.push.new.self.items c.args.tick.now c.search_line.new.tick in (
-      subst P one_more (RowsSoFar-more pattern owns c.loop-line_idx.lines.ahead c.next.new.self.ahead (c.loop-line_idx._line_idx - c.args.first) c.args.rows.now.items c.loop-line_idx.rows.items
-          c.push.new.self.items c.in_ok-search_line.field-0 c.args.tick.now c.loop-line_idx.tick c.search_line.new.tick line (slice_text c.without_break.result)
-          c.loop-line_idx.invariant.0 c.in-Some.ensures.steps.0 c.without_break.ensures row_is c.in_ok-push.ensures.items c.search_line.ensures.count c.search_line.ensures.wholes),
-      c.search_line.ensures.finder ∙ c.loop-line_idx.invariant.1,
+    let text = c.args.walk.now.text in
+    let at = c.args.walk.now.line in
+    let done = c.loop-done._done in
+    let inv = c.loop-done.invariant in
+    let inside : at + done < line_count text = omega (arith, c.loop-done-test.true, c.requires) in
+    let own_is : own_text c.next.result ≡ line_text text (at + done) = c.next.ensures.own ∙ ap (λ t. line_text t c.loop-done.walk.line) inv.3 ∙ ap (line_text text) inv.4 in
+    let row : IsRow pattern (own_text c.next.result) c.in_ok-row_of.field-0 = subst (λ p. IsRow p (own_text c.next.result) c.in_ok-row_of.field-0) inv.1 c.in_ok-row_of.ensures.row in
+    let next = c.next.ensures.line in (
+      adds-one pattern text at done c.args.rows.now.items c.loop-done.rows.items c.push.new.self.items (own_text c.next.result) c.in_ok-row_of.field-0 inside inv.0 own_is row c.in_ok-push.ensures.items,
+      c.row_of.ensures.finder ∙ inv.1,
+      counted-more done c.args.tick.now c.loop-done.tick c.row_of.new.tick inv.2 c.row_of.ensures.count c.row_of.ensures.wholes,
+      c.next.ensures.text ∙ inv.3,
+      omega (arith, next, inv.4),
     )
+
+pub returns-clause-line : goal.returns-clause-line
+returns-clause-line c = omega (arith, c.loop-done.invariant.4, c.loop-done-test.false, c.loop-done.auto._done-end)
+
+pub returns-clause-rows : goal.returns-clause-rows
+returns-clause-rows c =
+    let all : c.loop-done._done ≡ c.args.count = omega (arith, c.loop-done-test.false, c.loop-done.auto._done-end) in
+    subst (λ n. AddsRows c.args.finder.now (lines_between c.args.walk.now.text c.args.walk.now.line (c.args.walk.now.line + n)) c.args.rows.now.items c.loop-done.rows.items) all c.loop-done.invariant.0
+
+pub returns-clause-count : goal.returns-clause-count
+returns-clause-count c = counted-few c.loop-done._done c.args.count c.args.tick.now c.loop-done.tick c.loop-done.invariant.2 (omega (arith, c.loop-done.auto._done-end))
+
+pub returns-clause-each : goal.returns-clause-each
+returns-clause-each c =
+    let all : c.loop-done._done ≡ c.args.count = omega (arith, c.loop-done-test.false, c.loop-done.auto._done-end) in
+    subst (λ n. MakesAsMany n c.args.tick.now c.loop-done.tick) all c.loop-done.invariant.2

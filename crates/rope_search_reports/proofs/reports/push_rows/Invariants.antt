@@ -1,10 +1,11 @@
 -- The rows so far.
-use Rattle.std.proofs.Common.{◌≡◌, ◌-◌, drop}
-use Rattle.ropey.specs.Chunks.{text_of}
-use Rattle.rope_search_reports.specs.Report.{line_texts}
-use Rattle.rope_search_reports.proofs.DraftLemmas.{RowsSoFar}
+use Rattle.std.proofs.Common.{◌≡◌, ◌+◌}
+use Rattle.rope_search_reports.specs.Drafts.{AddsRows, lines_between}
+use Rattle.rope_search_reports.specs.Ticks.{MakesAsMany}
 use Rattle.rope_search_reports.proofs.reports.push_rows.Given as goal
 
-abbrev pub invariant-loop-line_idx : goal.invariant-loop-line_idx
-invariant-loop-line_idx l = RowsSoFar l.initial.finder (drop l.first (line_texts (text_of l.text))) l.lines.ahead (l._line_idx - l.first) l.initial.rows.items l.rows.items l.initial.tick l.tick
-    × (l.finder ≡ l.initial.finder)
+abbrev pub invariant-loop-done : goal.invariant-loop-done
+invariant-loop-done l =
+    AddsRows l.initial.finder (lines_between l.initial.walk.text l.initial.walk.line (l.initial.walk.line + l._done)) l.initial.rows.items l.rows.items
+    × (l.finder ≡ l.initial.finder) × MakesAsMany l._done l.initial.tick l.tick
+    × (l.walk.text ≡ l.initial.walk.text) × (l.walk.line ≡ l.initial.walk.line + l._done)

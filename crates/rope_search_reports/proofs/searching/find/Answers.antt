@@ -4,7 +4,7 @@ use Rattle.rope_search_reports.proofs.FinderLemmas.{whole-told}
 use Rattle.rope_search_reports.proofs.searching.find.Goals as goal
 
 pub returns-in-Ok-clause-found : goal.returns-in-Ok-clause-found
-returns-in-Ok-clause-found c = λ text content from built asks.
+returns-in-Ok-clause-found g c = λ text content from built asks.
     let slots = c.search_slots_with.new.slots in
     let told = c.regexes_have_trees.ensures.slots text c.args.regex.now built content from c.args.input.now c.in-Ok.field-0 slots asks c.in-Ok.ensures.answer in
     let two : 2 ≤ length slots = omega (arith, c.requires.slots, c.search_slots_with.auto.slots) in

@@ -3,8 +3,8 @@ use Rattle.ropey_walk.specs.Slices.{slice_pieces, slice_text}
 use Rattle.rope_search_reports.proofs.PartLemmas.{clipped}
 use Rattle.rope_search_reports.proofs.BreakLemmas.{without-crlf, without-one}
 use Rattle.ropey.specs.Chunks.{text_of}
-use Rattle.rope_search_reports.proofs.reports.without_break.Goals as goal
-use Rattle.rope_search_reports.proofs.reports.without_break.Goals.{else-last-eq10-via-then-last-eq10+then-len-gt1+else-char-eq13, else-last-eq10-via-then-last-eq10+else-len-gt1, else-last-eq10-via-else-last-eq10}
+use Rattle.rope_search_reports.proofs.walk.without_break.Goals as goal
+use Rattle.rope_search_reports.proofs.walk.without_break.Goals.{else-last-eq10-via-then-last-eq10+then-len-gt1+else-char-eq13, else-last-eq10-via-then-last-eq10+else-len-gt1, else-last-eq10-via-else-last-eq10}
 
 pub returns-then-char-eq13 : goal.returns-then-char-eq13
 returns-then-char-eq13 c = λ own is.

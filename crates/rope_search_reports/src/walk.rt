@@ -1,0 +1,181 @@
+//! A walk over the lines of a text, forwards alone: chunk by chunk, and line by line in a chunk.
+ghost use Rattle.std.specs.Prelude.{◌≡◌, ◌+◌, ◌<◌, ◌≤◌, ℕ, List, ◌++◌};
+ghost use Rattle.std.specs.Str.{chars, IsUtf8, IsCharBoundary};
+ghost use Rattle.str_indices.specs.Text.{breaks, byte_len, NoCrLfBetween};
+ghost use Rattle.ropey.specs.Chunks.{is_break, text_of};
+ghost use Rattle.ropey_walk.specs.Comparing.{slice_bytes};
+ghost use Rattle.ropey_walk.specs.Slices.{slice_text};
+ghost use Rattle.rope_search_reports.specs.Text.{line_count};
+ghost use Rattle.rope_search_reports.specs.Position.{line_text};
+ghost use Rattle.rope_search_reports.specs.Drafts.{HoldsText, IsLine, IsRestOf, ShowsLines, own_text};
+
+use crate::laws;
+use crate::line::Line;
+use ropey::{Rope, RopeSlice, breaks};
+use std::marker::Model;
+
+/// A walk over the lines of a text. Contracts see the text, the line that comes next, and what is
+/// left of the chunk in which that starts.
+#[derive(Drop)]
+pub(crate) struct Walk<'a> {
+    text: RopeSlice<'a>,
+    // The line that comes next, or the number of lines behind the last one.
+    line_idx: usize,
+    // Where it starts.
+    byte_idx: usize,
+    // What is left of the chunk from there on; nothing behind the last line.
+    rest: &'a str,
+}
+
+impl<'a> Model for Walk<'a> {
+    ghost use Rattle.std.specs.Str.{chars};
+    ghost use Rattle.ropey_walk.specs.Slices.{slice_text};
+    ghost use Rattle.rope_search_reports.specs.Drafts.{IsWalk, WalkState};
+
+    ghost Value = { WalkState };
+
+    ghost view = { λ w. record {
+      text = slice_text w.text;
+      line = w.line_idx;
+      rest = chars w.rest.now;
+    } };
+
+    ghost invariant = { λ w. IsWalk (slice_text w.text) w.line_idx w.byte_idx w.rest.now };
+}
+
+/// A line's text: the line without the break that ends it, where it has one. `O(log n)`.
+pub(crate) fn without_break(line: RopeSlice<'_>) -> RopeSlice<'_>
+    ensures { (own : List ℕ) → IsLine (slice_text line.entry) own → slice_text result ≡ own }
+{
+    let len = line.len_chars();
+    if len == 0 {
+        return line;
+    }
+    let last = line.char(len - 1);
+    if last != '\n' && last != '\r' {
+        return line;
+    }
+    if last == '\n' && len > 1 && line.char(len - 2) == '\r' {
+        return line.slice(..len - 2);
+    }
+    line.slice(..len - 1)
+}
+
+/// What stands from a place on in the chunk that holds it. `O(log n)`.
+fn chunk_from<'a>(text: &RopeSlice<'a>, byte_idx: usize) -> &'a str
+    requires { IsCharBoundary (slice_bytes text.now) byte_idx }
+    ensures utf8 { IsUtf8 result.now }
+    ensures rest { (before behind : List ℕ) → slice_text text.now ≡ before ++ behind
+        → byte_idx ≡ byte_len before → IsRestOf behind (chars result.now) }
+{
+    let (chunk, start, _, _) = text.chunk_at_byte(byte_idx);
+    &chunk[byte_idx - start..]
+}
+
+impl<'a> Walk<'a> {
+    /// The walk over the lines of a text from one of them on. `O(log n)`.
+    pub(crate) fn at(text: &'a Rope, line_idx: usize) -> Walk<'a>
+        requires { line_idx < line_count (text_of text.now) }
+        ensures text { result.text ≡ text_of text.now }
+        ensures line { result.line ≡ line_idx }
+    {
+        Walk::at_line(text.slice(..), line_idx)
+    }
+
+    /// The walk over the lines of a slice from one of them on, or behind the last one.
+    fn at_line(text: RopeSlice<'a>, line_idx: usize) -> Walk<'a>
+        requires { line_idx ≤ line_count (slice_text text) }
+        ensures text { result.text ≡ slice_text text.entry }
+        ensures line { result.line ≡ line_idx }
+    {
+        // The slice's facts, for the proof alone.
+        let _ = text.len_bytes();
+        let byte_idx = text.line_to_byte(line_idx);
+        let rest = if line_idx < text.len_lines() {
+            chunk_from(&text, byte_idx)
+        } else {
+            ""
+        };
+        Walk {
+            text,
+            line_idx,
+            byte_idx,
+            rest,
+        }
+    }
+
+    /// The line that comes next.
+    pub(crate) fn line_idx(&self) -> usize
+        ensures line { result ≡ self.now.line }
+        ensures within { result ≤ line_count self.now.text }
+    {
+        self.line_idx
+    }
+
+    /// What is left of the chunk in which the next line starts: the lines that end in it are the
+    /// text's.
+    pub(crate) fn rest(&self) -> &'a str
+        ensures rest { chars result.now ≡ self.now.rest }
+        ensures utf8 { IsUtf8 result.now }
+        ensures lines { ShowsLines self.now }
+    {
+        self.rest
+    }
+
+    /// Goes on to a line that starts in what is left of the chunk, `count` lines on.
+    pub(crate) fn skip(&mut self, count: usize)
+        requires { count ≤ breaks is_break self.old.rest }
+        ensures text { self.new.text ≡ self.old.text }
+        ensures line { self.new.line ≡ self.old.line + count }
+    {
+        let place = breaks::to_byte_idx(self.rest, count);
+        self.line_idx += count;
+        self.byte_idx += place;
+        self.rest = &self.rest[place..];
+    }
+
+    /// Shows the chunk in which the next line starts, where nothing is left of the one before.
+    fn show(&mut self)
+        requires { self.old.line < line_count self.old.text }
+        ensures text { self.new.text ≡ self.old.text }
+        ensures line { self.new.line ≡ self.old.line }
+    {
+        if self.rest.is_empty() {
+            self.rest = chunk_from(&self.text, self.byte_idx);
+        }
+    }
+
+    /// The next line, which goes on behind its chunk or is the last one.
+    fn next_across(&mut self) -> Line<'a>
+        requires { self.old.line < line_count self.old.text }
+        ensures own { own_text result ≡ line_text self.old.text self.old.line }
+        ensures holds { HoldsText result }
+        ensures text { self.new.text ≡ self.old.text }
+        ensures line { self.new.line ≡ self.old.line + 1 }
+    {
+        // A law, for the proof alone.
+        laws::places();
+        let line = without_break(self.text.line(self.line_idx));
+        *self = Walk::at_line(self.text, self.line_idx + 1);
+        Line::of(line)
+    }
+
+    /// The next line, its break left off. Inside a chunk it takes no look-up.
+    pub(crate) fn next(&mut self) -> Line<'a>
+        requires { self.old.line < line_count self.old.text }
+        ensures own { own_text result ≡ line_text self.old.text self.old.line }
+        ensures holds { HoldsText result }
+        ensures text { self.new.text ≡ self.old.text }
+        ensures line { self.new.line ≡ self.old.line + 1 }
+    {
+        self.show();
+        let rest = self.rest;
+        let Some(found) = breaks::first_break(rest) else {
+            return self.next_across();
+        };
+        self.line_idx += 1;
+        self.byte_idx += found.end;
+        self.rest = &rest[found.end..];
+        Line::Whole(&rest[..found.start])
+    }
+}
