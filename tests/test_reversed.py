@@ -3,7 +3,7 @@ walks over bytes, from the end of each span, come to the starts that the model f
 import itertools
 import re
 
-from driver import PROGRAM_WANT, about, answers, check_memory
+from driver import PROGRAM_WANT, WANT, about, answers, check_memory
 from harness import test
 from memory import library
 from walks import LOOKS, Alternation, Concat, Group, Look, Repeat, Search, Set, spelled
@@ -174,4 +174,4 @@ def test_all():
     test(f"{len(trees)} programs turned round, in all spans of {len(CONTENTS)} contents", wrong)
     if library() is not None:
         for pattern in ["a", "(a)|b|c*?|", "[a-c]{2,4}(?:a|é){0}\\b", ".[^a]."]:
-            check_memory(about("reversed", pattern), [PROGRAM_WANT])
+            check_memory(about("reversed", pattern), [PROGRAM_WANT, WANT])
