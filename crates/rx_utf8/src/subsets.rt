@@ -123,7 +123,7 @@ fn set_row(
         (lists_of subsets.new.sets.items)) }
     ensures leads { OnOk result ((b : ℕ) → b < 256
         → IsLeadOf (lists_of subsets.new.sets.items) from (get_or (lists_of lists.now) b [])
-            (look_up row.new.items b)) }
+        (look_up row.new.items b)) }
     ensures disjoint { OnOk result (IsRow row.new.items) }
 {
     row.clear();
