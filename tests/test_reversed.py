@@ -3,7 +3,7 @@ walks over bytes, from the end of each span, come to the starts that the model f
 import itertools
 import re
 
-from driver import PROGRAM_WANT, about, answers, check_memory
+from driver import PROGRAM_WANT, WANT, about, answers, check_memory
 from harness import test
 from memory import library
 from walks import LOOKS, Alternation, Concat, Group, Look, Repeat, Search, Set, spelled
@@ -44,7 +44,8 @@ class Turned:
 
 
 def nodes_back(states):
-    """The states of a program turned round, by the rules, of the forward program's states as they are told."""
+    """The states of a program turned round, by the rules, of the forward program's states as they are told. Reads share
+    an automaton where those of the program do."""
     count, arrivals, edges = len(states), [[] for _ in states], []
     for number, state in enumerate(states):
         kind, *rest = state.split()
@@ -54,7 +55,7 @@ def nodes_back(states):
         if kind == "end":
             edges.append(("|", []))
         elif kind.startswith("set"):
-            edges.append(("set", [str(number)]))
+            edges.append(("set", [str(count + int(rest[1])), str(number)]))
         else:
             edges.append((kind if kind in LOOK_SIGNS else "|", [str(number)]))
     arrivals[0].append(2 * count)  # one pattern, which starts at the first state
@@ -67,12 +68,6 @@ def edges_of(kind, rest):
     if kind == "end":
         return []
     return [int(rest[-1])] if kind.startswith("set") else list(map(int, rest))
-
-
-def without_first(state):
-    """A state without the number of the first one that shares its automaton."""
-    kind, rest = state
-    return (kind, rest[1:]) if kind == "set" else state
 
 
 # ---- walks back
@@ -162,9 +157,8 @@ def test_all():
     told, wrong = answers(cases)
     for tree, (states, back) in zip(trees, zip(told[::2], told[1::2])):
         turned = Turned(back)
-        found = [without_first(state) for state in turned.states]
-        if found != nodes_back(states.split(", ")):
-            wrong.append(f"{spelled(tree)!r}: {found}, not {nodes_back(states.split(', '))}")
+        if turned.states != nodes_back(states.split(", ")):
+            wrong.append(f"{spelled(tree)!r}: {turned.states}, not {nodes_back(states.split(', '))}")
         count = len(states.split(", "))
         if (turned.start, turned.patterns) != (2 * count + 1, [2 * count + 2]):
             wrong.append(f"{spelled(tree)!r} starts at {turned.start} and {turned.patterns}")
@@ -174,4 +168,4 @@ def test_all():
     test(f"{len(trees)} programs turned round, in all spans of {len(CONTENTS)} contents", wrong)
     if library() is not None:
         for pattern in ["a", "(a)|b|c*?|", "[a-c]{2,4}(?:a|é){0}\\b", ".[^a]."]:
-            check_memory(about("reversed", pattern), [PROGRAM_WANT])
+            check_memory(about("reversed", pattern), [PROGRAM_WANT, WANT])

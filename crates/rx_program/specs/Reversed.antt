@@ -67,5 +67,6 @@ abbrev pub ReadsBackwards : ReverseByteProgram → Program walks.Look (List Rang
 ReadsBackwards p characters = (h : Haystack walks.Look) → h.low ≤ length h.content
     → h.high ≤ length h.content
     → PathsTurn put_note is_in characters h (back_characters_of p)
-    (λ r i k e. Path (over_bytes put_note (back_automata_of p) (back_characters_of p).nodes (mirrored h))
-    (r, 0) i k e)
+    (λ r i k e.
+    Path (over_bytes put_note (back_automata_of p) (back_characters_of p).nodes (mirrored h)) (r, 0)
+    i k e)

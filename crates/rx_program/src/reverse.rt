@@ -230,8 +230,9 @@ impl Program {
     /// are those of this program, from where they end to where they start: from its start those of
     /// all patterns, and from each pattern's own those that match this pattern.
     ///
-    /// It has twice as many states, and two for each pattern and one besides. It takes time and
-    /// memory in proportion to the program, and to the automata of its sets turned round.
+    /// It has twice as many states, and two for each pattern and one besides: at most three times as
+    /// many as the program. It takes time and memory in proportion to these, and to the automata of
+    /// the sets turned round, each of which is made once. It is refused for want of memory alone.
     pub fn reversed(&self) -> Result<ReverseProgram, AllocError>
         ensures characters { IfOk result (λ back. back_characters_of back
             ≡ back_program (characters_of self.now)) }

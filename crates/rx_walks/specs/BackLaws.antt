@@ -75,7 +75,8 @@ ReadersFindAll {L} {S} {N} put first step nodes h =
 abbrev pub FindsBackAtMostOne : {S : Type 0} → (S → ℕ → Bool) → (ℕ → Bool) → Program Look S
     → Type 0
 FindsBackAtMostOne member is_word p = (s : Search) (out out' : Option PatternMatch)
-    → ProgramFindsBack member is_word p s out → ProgramFindsBack member is_word p s out' → out ≡ out'
+    → ProgramFindsBack member is_word p s out → ProgramFindsBack member is_word p s out'
+    → out ≡ out'
 
 -- it starts and ends where that does which was found, and its pattern is no greater
 pub record IsStartOf (t : Outcome Notes) (out : Option PatternMatch) : Type 0 where
@@ -133,7 +134,8 @@ abbrev pub ProgramTurns : {L S N : Type 0} → (ℕ → ℕ → N → N) → (S 
     → Haystack L → Type 0
 ProgramTurns put member p h = h.low ≤ length h.content → h.high ≤ length h.content
     → PathsTurn put member p h (back_program p)
-    (λ r i k e. Path (over_characters put (last_by member) (back_program p).nodes (mirrored h)) r i k e)
+    (λ r i k e.
+    Path (over_characters put (last_by member) (back_program p).nodes (mirrored h)) r i k e)
 
 -- and so are those of its bytes
 abbrev pub ProgramTurnsInBytes : {S : Type 0} → (S → ℕ → Bool) → Program Look S → (ℕ → Automaton)

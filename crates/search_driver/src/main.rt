@@ -16,8 +16,8 @@
 //! - `groups,PATTERN,SETTINGS`: the names of the groups, a dash for one without a name.
 //! - `compile,PATTERN,SETTINGS,LIMIT`: the states of the program.
 //! - `build,PATTERN,SETTINGS,LIMIT`: how many they are.
-//! - `reversed,PATTERN,SETTINGS,LIMIT`: the program turned round: where its walks start, its states,
-//!   and the rows of its automata.
+//! - `reversed,PATTERN,SETTINGS,LIMIT`: the program turned round: where its walks start, its
+//!   states, and the rows of its automata.
 //! - `sizes,PATTERN,SETTINGS,LIMIT`: how many states and ranges of bytes the automaton of the
 //!   pattern's first set has, and how many its reverse.
 //! - `back,PATTERN,SETTINGS,LIMIT,HAYSTACK`: from each place of the haystack back, how many bytes
