@@ -17,7 +17,7 @@ use Rattle.rx_program.specs.declared.error.BuildError.{BuildError}
 use Rattle.rx_grammar.specs.Settings.{default_settings}
 use Rattle.rx_grammar.specs.Subtrees.{IsWellFormed}
 use Rattle.rx_steps.specs.Searching.{anchoring_of}
-use Rattle.rx_chunk.specs.Engines.{too_long, nesting, outside, too_large, memory}
+use Rattle.rx_engine.specs.Engines.{too_long, nesting, outside, too_large, memory}
 use Rattle.unicode.specs.Perl.{is_word_char}
 use Rattle.rx_utf8.specs.Automata.{is_in}
 use Rattle.regex_cursor.specs.Patterns.{FoundMatch, ProgramFinds, AsksFrom, TreeFinds, answer_slots, match_of, pattern_weight, program_for, search_from, weight_limit}

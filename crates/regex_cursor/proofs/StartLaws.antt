@@ -10,7 +10,8 @@ use Rattle.rx_input.specs.Inputs.{Asked, InputState, HasSpan}
 use Rattle.rx_walks.specs.Finds.{Search, unanchored, from_place_on}
 use Rattle.rx_steps.specs.Searching.{anchoring_of, search_of}
 use Rattle.rx_program.specs.Programs.{ByteProgram, characters_of}
-use Rattle.rx_chunk.specs.Engines.{Engine, Finds}
+use Rattle.rx_engine.specs.Engines.{Engine}
+use Rattle.rx_chunk.specs.Engines.{Finds}
 use Rattle.rx_literals.specs.Needles.{AreNeedles, FoundAt, FoundBetween, nowhere, at_least_place}
 use Rattle.rx_literals.specs.Beginnings.{BeginsWith, FirstNeedle, MatchesComeBehind, NoNeedleNoMatch}
 use Rattle.rx_literals.proofs.NeedleLaws.{found_start}

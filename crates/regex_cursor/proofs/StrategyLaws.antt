@@ -21,7 +21,8 @@ use Rattle.rx_program.specs.Programs.{ByteProgram, characters_of}
 use Rattle.rx_steps.specs.Threads.{Slots}
 use Rattle.rx_steps.specs.Searching.{IsAnswer, anchoring_of, answer_slots, search_of, slots_from}
 use Rattle.rx_literals.specs.Literals.{FindsLiteral, literal_match, within}
-use Rattle.rx_chunk.specs.Engines.{Engine, Finds, IsFound, TellsMatch, TellsSlots, TellsWhether}
+use Rattle.rx_engine.specs.Engines.{Engine}
+use Rattle.rx_chunk.specs.Engines.{Finds, IsFound, TellsMatch, TellsSlots, TellsWhether}
 use Rattle.rx_chunk.specs.Searches.{TellsWhole}
 use Rattle.rx_chunk.specs.Iterating.{EndsAhead, HasNotedNext, IsFoundNext, is_last_end}
 use Rattle.regex_cursor.specs.declared.engines.meta.left.Left.{Left}

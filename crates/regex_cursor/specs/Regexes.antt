@@ -12,9 +12,10 @@ use Rattle.rx_walks.specs.ProgramFinds.{ProgramMatches}
 use Rattle.rx_program.specs.Programs.{characters_of}
 use Rattle.rx_program.specs.declared.error.BuildError.{BuildError}
 -- a regex is seen as an engine is, and its searches tell what those of an engine do
-pub use Rattle.rx_chunk.specs.Engines.{Engine, Wanted, IsFound, TellsWhether}
+pub use Rattle.rx_engine.specs.Engines.{Engine, Wanted}
+pub use Rattle.rx_chunk.specs.Engines.{IsFound, TellsWhether}
 pub use Rattle.rx_chunk.specs.Searches.{HoldsMatches, TellsMatch, TellsSlots, TellsWhole, search_by}
-use Rattle.rx_chunk.specs.Engines.{IsBuiltOf, IsEngine, IsRefused, nothing_set}
+use Rattle.rx_engine.specs.Engines.{IsBuiltOf, IsEngine, IsRefused, nothing_set}
 
 -- its program and its groups are those of one tree
 abbrev pub IsRegex : Engine → Type 0

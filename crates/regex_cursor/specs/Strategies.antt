@@ -13,7 +13,8 @@ use Rattle.rx_dfa.specs.Alphabets.{AlphabetView, IsAlphabetOf}
 use Rattle.rx_program.specs.Programs.{ByteProgram, characters_of}
 use Rattle.rx_literals.specs.Beginnings.{BeginsWith}
 use Rattle.rx_literals.specs.Literals.{FindsLiteral, IsLiteralOf, within}
-use Rattle.rx_chunk.specs.Engines.{Engine, Finds}
+use Rattle.rx_engine.specs.Engines.{Engine}
+use Rattle.rx_chunk.specs.Engines.{Finds}
 use Rattle.rx_chunk.specs.Iterating.{ComesNext}
 use Rattle.regex_cursor.specs.declared.engines.meta.left.Part.{Part}
 use Rattle.regex_cursor.specs.declared.engines.meta.left.Told.TheVariants as told

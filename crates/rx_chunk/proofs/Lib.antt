@@ -1,4 +1,3 @@
-pub mod GroupLaws
 pub mod EngineLaws
 pub mod FoundLaws
 pub mod IterLaws

@@ -1,172 +1,41 @@
 //! The engine that follows all walks through a program side by side.
 
-ghost use Rattle.std.specs.Prelude.{◌≡◌, ℕ, ◌+◌, ◌*◌, ◌<◌, ◌≤◌, IfOk, IfErr, IsTrue, OnOk, OnErr, None, Some, MatchOption, [], length, option_map, replicate, set, vec_len, unwrap_or, true, false};
+ghost use Rattle.std.specs.Prelude.{◌≡◌, ℕ, ◌+◌, ◌*◌, ◌≤◌, IfOk, IfErr, IsTrue, OnOk, OnErr, None, Some, length, option_map, true, false};
 ghost use Rattle.std.specs.Option.{ForSome};
-ghost use Rattle.std.specs.Str.{chars};
 ghost use Rattle.rx_util.specs.declared.search.MatchError.{MatchError};
-ghost use Rattle.rx_util.specs.declared.search.MatchKind.{MatchKind};
-ghost use Rattle.rx_util.specs.Groups.{names_of, slot_len};
+ghost use Rattle.rx_util.specs.Groups.{slot_len};
 ghost use Rattle.rx_util.specs.Captured.{nothing_noted, place_in, span_between, group_span, match_found};
-ghost use Rattle.rx_grammar.specs.Grammar.{Spells};
 ghost use Rattle.rx_grammar.specs.Settings.{default_settings};
-ghost use Rattle.rx_grammar.specs.Subtrees.{IsWellFormed, a_group};
-ghost use Rattle.rx_grammar.specs.Nodes.{kind_of};
-ghost use Rattle.rx_grammar.specs.Postorder.{own_names, tree_of};
 ghost use Rattle.rx_steps.specs.Searching.{IsAnswerAt, IsFirstEnd};
 ghost use Rattle.rx_steps.specs.Standing.{StopsAt};
 ghost use Rattle.rx_steps.specs.Threads.{no_slots};
 ghost use Rattle.rx_steps.specs.Caches.{IsCacheOf};
-ghost use Rattle.rx_chunk.specs.Engines.{EngineSettings, nothing_set, settings_over, size_limit_of, AreNamesOf, IsEngine, IsBuiltOf, IsRefused, TellsWhether, IsFoundAt, refusal_of, by_default, AreGroupsOf};
+ghost use Rattle.rx_chunk.specs.Engines.{nothing_set, settings_over, IsEngine, IsBuiltOf, IsRefused, TellsWhether, IsFoundAt, by_default};
 ghost use Rattle.rx_chunk.specs.Iterating.{EndsAhead, HasNotedNext, IsFoundNext, StartsFrom, matches_from};
 ghost use Rattle.rx_chunk.specs.FindMatches.{cache_of, left_of, program_of};
 ghost use Rattle.rx_chunk.specs.Searches.{AsksTheSame, HoldsMatches, ServesOn, StopsInTime, TellsMatch, TellsSlots, TellsSlotsAt, TellsWhole, search_by};
 
-use rx_grammar::{Hir, Node, SyntaxError, parse, syntax};
+use rx_engine::Compiled;
+use rx_grammar::syntax;
 use rx_input::{Cursor, Input};
 use rx_program::laws::matches_note_their_places;
-use rx_program::{BuildError, Program, compile};
+use rx_program::{BuildError, Program};
 use rx_sets::CharacterSet;
 use rx_steps as search;
-use rx_util::{Captures, GroupInfo, Match, MatchError, MatchKind, NonMaxUsize, PatternID, Span};
+use rx_util::{Captures, GroupInfo, Match, MatchError, NonMaxUsize, PatternID, Span};
 use rx_walks::laws::{cut_spans_tell, finds_lie_inside};
-use std::alloc::{AllocError, Global};
+use std::alloc::Global;
 use std::marker::Model;
-use std::rc::Rc;
 
 mod find_matches;
 
 pub use find_matches::FindMatches;
-
-/// Settings of a `PikeVM`. One that wasn't set is the default.
-#[derive(Clone, Copy, Debug, PartialEq, Eq)]
-pub struct Config {
-    match_kind: Option<MatchKind>,
-    utf8_empty: Option<bool>,
-    line_terminator: Option<u8>,
-    nfa_size_limit: Option<Option<usize>>,
-}
-
-impl Model for Config {
-    ghost use Rattle.rx_chunk.specs.Engines.{EngineSettings};
-
-    ghost Value = { EngineSettings };
-
-    ghost view = { λ c. record {
-      match_kind = c.match_kind;
-      utf8_empty = c.utf8_empty;
-      line_terminator = c.line_terminator;
-      nfa_size_limit = c.nfa_size_limit;
-    } };
-
-    ghost inverse = { λ s. record {
-      match_kind = s.match_kind;
-      utf8_empty = s.utf8_empty;
-      line_terminator = s.line_terminator;
-      nfa_size_limit = s.nfa_size_limit;
-    } };
-}
-
-impl Config {
-    /// Returns settings of which none is set.
-    pub fn new() -> Config
-        ensures { result ≡ nothing_set }
-    {
-        Config {
-            match_kind: None,
-            utf8_empty: None,
-            line_terminator: None,
-            nfa_size_limit: None,
-        }
-    }
-
-    /// Sets which of all matches a search finds.
-    pub fn match_kind(mut self, kind: MatchKind) -> Config
-        ensures { result ≡ record self { match_kind = Some kind } }
-    {
-        self.match_kind = Some(kind);
-        self
-    }
-
-    /// Sets whether empty matches inside a character are passed over.
-    pub fn utf8_empty(mut self, yes: bool) -> Config
-        ensures { result ≡ record self { utf8_empty = Some yes } }
-    {
-        self.utf8_empty = Some(yes);
-        self
-    }
-
-    /// Sets the byte at which lines end for `^` and `$` under `(?m)`. The one that `.` doesn't
-    /// match is a setting of the syntax.
-    pub fn line_terminator(mut self, byte: u8) -> Config
-        ensures { result ≡ record self { line_terminator = Some byte } }
-    {
-        self.line_terminator = Some(byte);
-        self
-    }
-
-    /// Sets how large a program may be: a pattern is refused where 40 times its weight is above the
-    /// limit. Without one it is where the weight is above 2,147,483,646.
-    pub fn nfa_size_limit(mut self, limit: Option<usize>) -> Config
-        ensures { result ≡ record self { nfa_size_limit = Some limit } }
-    {
-        self.nfa_size_limit = Some(limit);
-        self
-    }
-
-    /// Returns which of all matches a search finds: by default the leftmost one.
-    pub fn get_match_kind(&self) -> MatchKind
-        ensures { result ≡ unwrap_or self.now.match_kind MatchKind.LeftmostFirst }
-    {
-        self.match_kind.unwrap_or(MatchKind::LeftmostFirst)
-    }
-
-    /// Returns whether empty matches inside a character are passed over: by default they are.
-    pub fn get_utf8_empty(&self) -> bool
-        ensures { result ≡ unwrap_or self.now.utf8_empty true }
-    {
-        self.utf8_empty.unwrap_or(true)
-    }
-
-    /// Returns the byte at which lines end for `^` and `$` under `(?m)`: by default LF.
-    pub fn get_line_terminator(&self) -> u8
-        ensures { result ≡ unwrap_or self.now.line_terminator 10 }
-    {
-        self.line_terminator.unwrap_or(b'\n')
-    }
-
-    /// Returns how large a program may be: by default without a limit.
-    pub fn get_nfa_size_limit(&self) -> Option<usize>
-        ensures { result ≡ size_limit_of self.now }
-    {
-        self.nfa_size_limit.unwrap_or(None)
-    }
-
-    /// These settings, and where one isn't set that of the others.
-    fn or(&self, others: &Config) -> Config
-        ensures { result ≡ settings_over self.now others.now }
-    {
-        Config {
-            match_kind: self.match_kind.or(others.match_kind),
-            utf8_empty: self.utf8_empty.or(others.utf8_empty),
-            line_terminator: self.line_terminator.or(others.line_terminator),
-            nfa_size_limit: self.nfa_size_limit.or(others.nfa_size_limit),
-        }
-    }
-}
-
-impl Default for Config {
-    fn default() -> Config
-        ensures { result ≡ nothing_set }
-    {
-        Config::new()
-    }
-}
+pub use rx_engine::Config;
 
 /// Builds a `PikeVM` of a pattern.
 #[derive(Debug, Drop)]
 pub struct Builder {
-    config: Config,
-    syntax: syntax::Config,
+    builder: rx_engine::Builder,
 }
 
 impl Model for Builder {
@@ -174,7 +43,7 @@ impl Model for Builder {
 
     ghost Value = { Wanted };
 
-    ghost view = { λ b. record { settings = b.config; syntax = b.syntax } };
+    ghost view = { λ b. b.builder };
 }
 
 impl Builder {
@@ -183,8 +52,7 @@ impl Builder {
         ensures { result ≡ record { settings = nothing_set; syntax = default_settings } }
     {
         Builder {
-            config: Config::new(),
-            syntax: syntax::Config::new(),
+            builder: rx_engine::Builder::new(),
         }
     }
 
@@ -195,7 +63,7 @@ impl Builder {
         } }
         ensures same_reference { result.ghost_name ≡ self.entry.ghost_name }
     {
-        self.config = config.or(&self.config);
+        self.builder.configure(config);
         self
     }
 
@@ -204,7 +72,7 @@ impl Builder {
         ensures set { result.now ≡ record self.old { syntax = config } }
         ensures same_reference { result.ghost_name ≡ self.entry.ghost_name }
     {
-        self.syntax = config;
+        self.builder.syntax(config);
         self
     }
 
@@ -219,133 +87,25 @@ impl Builder {
         ensures built { IfOk result (λ vm. IsBuiltOf pattern.now self.now vm) }
         ensures refused { IfErr result (λ error. IsRefused pattern.now self.now error) }
     {
-        let hir = spelled(alloc, pattern, &self.syntax)?;
-        let groups = groups_of(alloc, &hir)?;
-        let terminator = self.config.get_line_terminator();
-        let limit = self.config.get_nfa_size_limit();
-        let program = compile(alloc, &[&hir], terminator, limit)?;
         Ok(PikeVM {
-            program: shared(alloc, program)?,
-            groups,
-            utf8_empty: self.config.get_utf8_empty(),
+            compiled: self.builder.build(alloc, pattern)?,
         })
     }
-}
-
-/// Why a pattern whose text is refused has no engine.
-fn refusal(error: SyntaxError) -> BuildError
-    ensures { result ≡ refusal_of error }
-{
-    match error {
-        SyntaxError::Memory => BuildError::Memory,
-        _ => BuildError::Syntax {
-            pattern: PatternID::ZERO,
-            error,
-        },
-    }
-}
-
-/// What a pattern spells under these settings.
-fn spelled(alloc: Global, pattern: &str, settings: &syntax::Config) -> Result<Hir, BuildError>
-    ensures spells { IfOk result (λ hir. Spells (chars pattern.now) settings.now (tree_of hir)) }
-    ensures refused { IfErr result (λ error. (limits : EngineSettings) → IsRefused pattern.now
-        (record { settings = limits; syntax = settings.now }) error) }
-{
-    match parse(alloc, pattern, settings) {
-        Ok(hir) => Ok(hir),
-        Err(error) => Err(refusal(error)),
-    }
-}
-
-/// The number and the name of a group that has a name.
-fn named_group(node: &Node) -> Option<(usize, &str)>
-    ensures { MatchOption result (own_names (kind_of node.now) ≡ [])
-        (λ group. kind_of node.now ≡ a_group group.0 (Some group.1.now)) }
-{
-    match node {
-        Node::Group(number, Some(name)) => Some((*number as usize, name.as_str())),
-        _ => None,
-    }
-}
-
-/// The names of so many groups, none of which has one.
-fn nameless(alloc: Global, count: usize) -> Result<Vec<Option<String>>, AllocError>
-    ensures { IfOk result (λ names. names.items ≡ replicate count None) }
-{
-    let mut names = Vec::with_capacity(alloc, count)?;
-    for _ in 0..count {
-        names.push(None)?;
-    }
-    Ok(names)
-}
-
-/// Notes the name of a group.
-fn note_name(names: &mut Vec<Option<String>>, index: usize, name: String)
-    requires { index < vec_len names.old }
-    ensures { names.new.items ≡ set names.old.items index (Some name) }
-{
-    names[index] = Some(name);
-}
-
-/// The names of a pattern's groups, from group 1 on. `O(n)` in the number of nodes, and in the
-/// lengths of the names.
-fn group_names(alloc: Global, hir: &Hir) -> Result<Vec<Option<String>>, AllocError>
-    ensures names { IfOk result (λ names. AreNamesOf (tree_of hir.now) (names_of names.items)) }
-    ensures well_formed { IsWellFormed (tree_of hir.now) }
-{
-    let mut names = nameless(alloc, hir.group_count())?;
-    for node in hir.nodes() {
-        if let Some((number, name)) = named_group(node) {
-            let name = String::from_str(alloc, name)?;
-            note_name(&mut names, number - 1, name);
-        }
-    }
-    Ok(names)
-}
-
-/// The groups of a pattern.
-fn groups_of(alloc: Global, hir: &Hir) -> Result<GroupInfo, AllocError>
-    ensures groups { IfOk result (λ groups. AreGroupsOf (tree_of hir.now) groups) }
-    ensures well_formed { IsWellFormed (tree_of hir.now) }
-{
-    let names = group_names(alloc, hir)?;
-    let mut patterns = Vec::new(alloc);
-    patterns.push(names)?;
-    GroupInfo::new(alloc, patterns)
-}
-
-/// A program, to be shared by an engine and its clones.
-fn shared(alloc: Global, program: Program) -> Result<Rc<Program>, AllocError>
-    ensures { IfOk result (λ rc. rc.value ≡ program) }
-{
-    Ok(Rc::new(alloc, program)?)
 }
 
 /// An engine that searches for a pattern. Contracts see its program, its groups, and whether it
 /// passes over empty matches inside a character.
 #[derive(Debug, Drop)]
 pub struct PikeVM {
-    program: Rc<Program>,
-    groups: GroupInfo,
-    utf8_empty: bool,
+    compiled: Compiled,
 }
 
 impl Model for PikeVM {
-    ghost use Rattle.rx_chunk.specs.Engines.{Engine, IsEngine};
+    ghost use Rattle.rx_chunk.specs.Engines.{Engine};
 
     ghost Value = { Engine };
 
-    ghost view = { λ vm. record {
-      program = vm.program.value;
-      groups = vm.groups;
-      utf8_empty = vm.utf8_empty;
-    } };
-
-    ghost invariant = { λ vm. IsEngine (record {
-      program = vm.program.value;
-      groups = vm.groups;
-      utf8_empty = vm.utf8_empty;
-    }) };
+    ghost view = { λ vm. vm.compiled };
 }
 
 impl PikeVM {
@@ -364,9 +124,7 @@ impl PikeVM {
         ensures refused { IfErr result (λ error. error ≡ MatchError.Memory) }
     {
         Ok(PikeVM {
-            program: self.program.clone()?,
-            groups: self.groups.clone()?,
-            utf8_empty: self.utf8_empty,
+            compiled: self.compiled.clone()?,
         })
     }
 
@@ -376,7 +134,7 @@ impl PikeVM {
         ensures made { IfOk result (λ cache. IsCacheOf self.now.program cache) }
         ensures refused { IfErr result (λ error. error ≡ MatchError.Memory) }
     {
-        Cache::new(self.program.allocator(), self)
+        Cache::new(self.program().allocator(), self)
     }
 
     /// Returns captures with slots for all groups, in which nothing is noted. The one error is
@@ -387,7 +145,7 @@ impl PikeVM {
         ensures room { IfOk result (λ caps. 2 ≤ length caps.slots) }
         ensures refused { IfErr result (λ error. error ≡ MatchError.Memory) }
     {
-        Captures::all(self.program.allocator(), &self.groups)
+        self.compiled.create_captures()
     }
 
     /// Returns the groups of its pattern. `O(1)`.
@@ -395,14 +153,14 @@ impl PikeVM {
         ensures groups { result.now ≡ self.now.groups }
         ensures engine { IsEngine self.now }
     {
-        &self.groups
+        self.compiled.group_info()
     }
 
     /// Returns the program that it searches for, for the engines that search by it too. `O(1)`.
     pub fn program(&self) -> &Program
         ensures { result.now ≡ self.now.program }
     {
-        &self.program
+        self.compiled.program()
     }
 }
 
@@ -428,7 +186,7 @@ impl Cache {
         ensures refused { IfErr result (λ error. error ≡ MatchError.Memory) }
     {
         Ok(Cache {
-            room: search::Cache::new(alloc, &vm.program)?,
+            room: search::Cache::new(alloc, vm.program())?,
         })
     }
 
@@ -450,7 +208,7 @@ impl Cache {
         ensures kept { OnErr result (self.new ≡ self.old) }
         ensures refused { IfErr result (λ error. error ≡ MatchError.Memory) }
     {
-        self.room.reset(&vm.program)
+        self.room.reset(vm.program())
     }
 
     /// Returns about how many bytes its lists take: a count that no contract fixes.
@@ -512,7 +270,8 @@ fn seek<C: Cursor>(
     ensures refused { IfErr result (λ error. error ≡ MatchError.Memory) }
 {
     let room = &mut cache.room;
-    search::search_slots(&vm.program, room, input, vm.utf8_empty, earliest, slots)
+    let utf8_empty = vm.compiled.utf8_empty();
+    search::search_slots(vm.program(), room, input, utf8_empty, earliest, slots)
 }
 
 /// Notes what is found in captures, as `search_slots` does in slots, and under its condition. In

@@ -1,6 +1,6 @@
 -- Engines that search by closed automata.
 use Rattle.std.specs.Prelude.{◌≡◌}
-use Rattle.rx_chunk.specs.Engines.{Engine}
+use Rattle.rx_engine.specs.Engines.{Engine}
 use Rattle.rx_dfa.specs.Alphabets.{AlphabetView, IsAlphabetOf}
 use Rattle.rx_dfa.specs.Caches.{CacheView}
 use Rattle.rx_dfa.specs.DenseTables.{IsClosedOf}

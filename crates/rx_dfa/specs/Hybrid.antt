@@ -2,7 +2,7 @@
 use Rattle.std.specs.Prelude.{◌≡◌, ℕ, List, Some, slice_get}
 use Rattle.std.specs.Borrow.{Bor}
 use Rattle.rx_program.specs.declared.error.BuildError.{BuildError}
-use Rattle.rx_chunk.specs.Engines.{Engine, IsBuiltOf, IsRefused, by_default}
+use Rattle.rx_engine.specs.Engines.{Engine, IsBuiltOf, IsRefused, by_default}
 use Rattle.rx_dfa.specs.Alphabets.{AlphabetView, IsAlphabetOf}
 
 -- an engine, and the automaton of its program

@@ -4,14 +4,14 @@ ghost use Rattle.std.specs.Prelude.{◌≡◌, true, IfErr, IfOk};
 ghost use Rattle.rx_util.specs.declared.search.MatchError.{MatchError};
 ghost use Rattle.rx_input.specs.Cursors.{IsSameContent};
 ghost use Rattle.rx_steps.specs.Searching.{search_of};
-ghost use Rattle.rx_chunk.specs.Engines.{IsBuiltOf, IsRefused, by_default};
+ghost use Rattle.rx_engine.specs.Engines.{IsBuiltOf, IsRefused, by_default};
 ghost use Rattle.rx_dfa.specs.DenseTables.{IsClosedOf, IsQuit};
 ghost use Rattle.rx_dfa.specs.Alphabets.{IsAlphabetOf};
 ghost use Rattle.rx_dfa.specs.Searching.{IsHalfAnswer};
 
 use crate::alphabet::Alphabet;
 use crate::dense_table::DenseTable;
-use rx_chunk::pikevm::PikeVM;
+use rx_engine::Compiled;
 use rx_input::{Cursor, Input};
 use rx_program::{BuildError, Program};
 use rx_util::{HalfMatch, MatchError};
@@ -38,7 +38,7 @@ impl Model for Automaton {
 /// built. Contracts see the engine that was built of the pattern, and the automaton of its program.
 #[derive(Debug, Drop)]
 pub struct Regex {
-    vm: PikeVM,
+    compiled: Compiled,
     automaton: Rc<Automaton>,
 }
 
@@ -47,10 +47,10 @@ impl Model for Regex {
 
     ghost Value = { DenseView };
 
-    ghost view = { λ re. record { engine = re.vm; automaton = re.automaton.value } };
+    ghost view = { λ re. record { engine = re.compiled; automaton = re.automaton.value } };
 
     ghost invariant = { λ re.
-        IsDense (record { engine = re.vm; automaton = re.automaton.value }) };
+        IsDense (record { engine = re.compiled; automaton = re.automaton.value }) };
 }
 
 /// All states and steps of a program's automaton. As many states as can't be counted have no room.
@@ -64,26 +64,29 @@ fn closed_of(alloc: Global, program: &Program, dfa: &Alphabet) -> Result<DenseTa
     }
 }
 
-/// The automaton of an engine's program, to be shared by an engine and its clones.
-fn shared_automaton(alloc: Global, vm: &PikeVM) -> Result<Rc<Automaton>, AllocError>
-    ensures dfa { IfOk result (λ automaton. IsAlphabetOf vm.now.program automaton.value.dfa) }
+/// The automaton of a pattern's program, to be shared by an engine and its clones.
+fn shared_automaton(alloc: Global, compiled: &Compiled) -> Result<Rc<Automaton>, AllocError>
+    ensures dfa { IfOk result (λ automaton. IsAlphabetOf compiled.now.program automaton.value.dfa) }
     ensures utf8_empty { IfOk result (λ automaton. automaton.value.dfa.utf8_empty ≡ true) }
     ensures closed { IfOk result (λ automaton.
-        IsClosedOf vm.now.program automaton.value.dfa automaton.value.closed) }
+        IsClosedOf compiled.now.program automaton.value.dfa automaton.value.closed) }
 {
-    let dfa = Alphabet::new(alloc, vm.program(), true, usize::MAX)?;
-    let closed = closed_of(alloc, vm.program(), &dfa)?;
+    let dfa = Alphabet::new(alloc, compiled.program(), true, usize::MAX)?;
+    let closed = closed_of(alloc, compiled.program(), &dfa)?;
     Ok(Rc::new(alloc, Automaton { dfa, closed })?)
 }
 
 impl Regex {
-    /// An engine that searches by the automaton of another one's program.
-    fn over(alloc: Global, vm: PikeVM) -> Result<Regex, AllocError>
-        requires { vm.utf8_empty ≡ true }
-        ensures { IfOk result (λ re. re.engine ≡ vm) }
+    /// An engine that searches by the automaton of a pattern's program.
+    fn over(alloc: Global, compiled: Compiled) -> Result<Regex, AllocError>
+        requires { compiled.utf8_empty ≡ true }
+        ensures { IfOk result (λ re. re.engine ≡ compiled) }
     {
-        let automaton = shared_automaton(alloc, &vm)?;
-        Ok(Regex { vm, automaton })
+        let automaton = shared_automaton(alloc, &compiled)?;
+        Ok(Regex {
+            compiled,
+            automaton,
+        })
     }
 
     /// The engine for a pattern, under default settings. A pattern is refused as by
@@ -94,8 +97,8 @@ impl Regex {
         ensures built { IfOk result (λ re. IsBuiltOf pattern.now by_default re.engine) }
         ensures refused { IfErr result (λ error. IsRefused pattern.now by_default error) }
     {
-        let vm = PikeVM::new(alloc, pattern)?;
-        Ok(Regex::over(alloc, vm)?)
+        let compiled = Compiled::new(alloc, pattern)?;
+        Ok(Regex::over(alloc, compiled)?)
     }
 
     /// The same engine, which shares program and automaton. The one refusal is `Memory`. `O(1)`.
@@ -104,7 +107,7 @@ impl Regex {
         ensures refused { IfErr result (λ error. error ≡ MatchError.Memory) }
     {
         Ok(Regex {
-            vm: self.vm.clone()?,
+            compiled: self.compiled.clone()?,
             automaton: self.automaton.clone()?,
         })
     }
@@ -132,5 +135,5 @@ pub fn try_search_fwd<C: Cursor>(
     let automaton = &re.automaton;
     automaton
         .closed
-        .try_search_fwd(re.vm.program(), &automaton.dfa, input)
+        .try_search_fwd(re.compiled.program(), &automaton.dfa, input)
 }

@@ -5,7 +5,7 @@ ghost use Rattle.rx_util.specs.declared.search.MatchError.{MatchError};
 ghost use Rattle.rx_program.specs.declared.error.BuildError.{BuildError};
 ghost use Rattle.rx_input.specs.Cursors.{IsSameContent};
 ghost use Rattle.rx_steps.specs.Searching.{search_of};
-ghost use Rattle.rx_chunk.specs.Engines.{IsBuiltOf, IsRefused, by_default};
+ghost use Rattle.rx_engine.specs.Engines.{IsBuiltOf, IsRefused, by_default};
 ghost use Rattle.rx_dfa.specs.Caches.{IsCacheOf};
 ghost use Rattle.rx_dfa.specs.Alphabets.{IsAlphabetOf};
 ghost use Rattle.rx_dfa.specs.Hybrid.{IsBuiltOfFirst, IsFirstRefused};
@@ -14,7 +14,7 @@ ghost use Rattle.rx_dfa.specs.Searching.{IsHalfAnswer};
 
 use crate::alphabet::Alphabet;
 use crate::{cache as states, search};
-use rx_chunk::pikevm::PikeVM;
+use rx_engine::Compiled;
 use rx_input::{Cursor, Input};
 use rx_program::BuildError;
 use rx_util::{HalfMatch, MatchError};
@@ -29,7 +29,7 @@ const CAPACITY: usize = 2_097_152;
 /// the engine that was built of the pattern, and the automaton of its program.
 #[derive(Debug, Drop)]
 pub struct Regex {
-    vm: PikeVM,
+    compiled: Compiled,
     dfa: Rc<Alphabet>,
 }
 
@@ -38,28 +38,28 @@ impl Model for Regex {
 
     ghost Value = { HybridView };
 
-    ghost view = { λ re. record { engine = re.vm; dfa = re.dfa.value } };
+    ghost view = { λ re. record { engine = re.compiled; dfa = re.dfa.value } };
 
-    ghost invariant = { λ re. IsHybrid (record { engine = re.vm; dfa = re.dfa.value }) };
+    ghost invariant = { λ re. IsHybrid (record { engine = re.compiled; dfa = re.dfa.value }) };
 }
 
-/// The automaton of an engine's program, to be shared by an engine and its clones.
-fn shared_dfa(alloc: Global, vm: &PikeVM, capacity: usize) -> Result<Rc<Alphabet>, AllocError>
-    ensures made { IfOk result (λ dfa. IsAlphabetOf vm.now.program dfa.value) }
+/// The automaton of a pattern's program, to be shared by an engine and its clones.
+fn shared_dfa(alloc: Global, compiled: &Compiled, capacity: usize) -> Result<Rc<Alphabet>, AllocError>
+    ensures made { IfOk result (λ dfa. IsAlphabetOf compiled.now.program dfa.value) }
     ensures utf8_empty { IfOk result (λ dfa. dfa.value.utf8_empty ≡ true) }
 {
-    let dfa = Alphabet::new(alloc, vm.program(), true, capacity)?;
+    let dfa = Alphabet::new(alloc, compiled.program(), true, capacity)?;
     Ok(Rc::new(alloc, dfa)?)
 }
 
 impl Regex {
-    /// An engine that searches by the automaton of another one's program.
-    fn over(alloc: Global, vm: PikeVM, capacity: usize) -> Result<Regex, AllocError>
-        requires { vm.utf8_empty ≡ true }
-        ensures { IfOk result (λ re. re.engine ≡ vm) }
+    /// An engine that searches by the automaton of a pattern's program.
+    fn over(alloc: Global, compiled: Compiled, capacity: usize) -> Result<Regex, AllocError>
+        requires { compiled.utf8_empty ≡ true }
+        ensures { IfOk result (λ re. re.engine ≡ compiled) }
     {
-        let dfa = shared_dfa(alloc, &vm, capacity)?;
-        Ok(Regex { vm, dfa })
+        let dfa = shared_dfa(alloc, &compiled, capacity)?;
+        Ok(Regex { compiled, dfa })
     }
 
     /// The engine for a pattern, under default settings. The states in its caches may take about
@@ -68,8 +68,8 @@ impl Regex {
         ensures built { IfOk result (λ re. IsBuiltOf pattern.now by_default re.engine) }
         ensures refused { IfErr result (λ error. IsRefused pattern.now by_default error) }
     {
-        let vm = PikeVM::new(alloc, pattern)?;
-        Ok(Regex::over(alloc, vm, CAPACITY)?)
+        let compiled = Compiled::new(alloc, pattern)?;
+        Ok(Regex::over(alloc, compiled, CAPACITY)?)
     }
 
     /// The engine for the pattern of a list of one, under default settings, and refused as by
@@ -84,8 +84,8 @@ impl Regex {
         ensures built { IfOk result (λ re. IsBuiltOfFirst patterns.now re.engine) }
         ensures refused { IfErr result (λ error. IsFirstRefused patterns.now error) }
     {
-        let vm = PikeVM::new(alloc, patterns[0])?;
-        Ok(Regex::over(alloc, vm, capacity)?)
+        let compiled = Compiled::new(alloc, patterns[0])?;
+        Ok(Regex::over(alloc, compiled, capacity)?)
     }
 
     /// The same engine, which shares program and automaton. The one refusal is `Memory`. `O(1)`.
@@ -94,7 +94,7 @@ impl Regex {
         ensures refused { IfErr result (λ error. error ≡ MatchError.Memory) }
     {
         Ok(Regex {
-            vm: self.vm.clone()?,
+            compiled: self.compiled.clone()?,
             dfa: self.dfa.clone()?,
         })
     }
@@ -131,7 +131,7 @@ impl Cache {
         ensures made { IfOk result (λ cache. IsCacheOf re.now.engine.program re.now.dfa cache) }
         ensures refused { IfErr result (λ error. error ≡ MatchError.Memory) }
     {
-        let program = re.vm.program();
+        let program = re.compiled.program();
         Ok(Cache {
             states: states::Cache::new(program.allocator(), program, &re.dfa)?,
         })
@@ -144,7 +144,7 @@ impl Cache {
         ensures kept { OnErr result (self.new ≡ self.old) }
         ensures refused { IfErr result (λ error. error ≡ MatchError.Memory) }
     {
-        self.states.reset(re.vm.program(), &re.dfa)
+        self.states.reset(re.compiled.program(), &re.dfa)
     }
 
     /// About how many bytes its states take: a count that no contract fixes.
@@ -170,5 +170,5 @@ pub fn try_search_fwd<C: Cursor>(
     ensures refused { IfErr result (IsRefusal re.now.dfa.asked
         (search_of re.now.engine.utf8_empty input.old)) }
 {
-    search::try_search_fwd(re.vm.program(), &re.dfa, &mut cache.states, input)
+    search::try_search_fwd(re.compiled.program(), &re.dfa, &mut cache.states, input)
 }

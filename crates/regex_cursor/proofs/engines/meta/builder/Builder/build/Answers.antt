@@ -1,5 +1,5 @@
 use Rattle.std.proofs.lemmas.Result.{err_from_is_err_and}
-use Rattle.rx_chunk.specs.Engines.{memory}
+use Rattle.rx_engine.specs.Engines.{memory}
 use Rattle.regex_cursor.proofs.engines.meta.builder.Builder.build.Goals as goal
 
 pub returns-in_err-strategy-clause-refused : goal.returns-in_err-strategy-clause-refused

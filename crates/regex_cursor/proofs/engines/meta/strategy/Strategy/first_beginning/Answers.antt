@@ -2,7 +2,8 @@ use Rattle.std.proofs.Common.{None, IfSome, sym, ap, subst, ◌∙◌}
 use Rattle.rx_util.specs.Anchoring.{is_anchored}
 use Rattle.rx_steps.specs.Searching.{search_of}
 use Rattle.rx_program.specs.Programs.{characters_of}
-use Rattle.rx_chunk.specs.Engines.{Engine, Finds}
+use Rattle.rx_engine.specs.Engines.{Engine}
+use Rattle.rx_chunk.specs.Engines.{Finds}
 use Rattle.rx_literals.specs.Beginnings.{BeginsWith}
 use Rattle.regex_cursor.specs.Strategies.{BeginsFrom, Engines}
 use Rattle.regex_cursor.proofs.LeftLaws.{from_start}

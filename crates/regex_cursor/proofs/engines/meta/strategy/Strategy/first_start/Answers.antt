@@ -2,7 +2,7 @@ use Rattle.std.proofs.Common.{IfSome, ap, subst}
 use Rattle.rx_steps.specs.Searching.{search_of}
 use Rattle.rx_program.specs.Programs.{characters_of}
 use Rattle.rx_literals.specs.Literals.{IsLiteralOf}
-use Rattle.rx_chunk.specs.Engines.{Engine}
+use Rattle.rx_engine.specs.Engines.{Engine}
 use Rattle.regex_cursor.specs.Strategies.{Engines, IsStart}
 use Rattle.regex_cursor.proofs.engines.meta.strategy.Strategy.first_start.Goals as goal
 

@@ -1,6 +1,0 @@
-use Rattle.std.proofs.Common.{subst}
-use Rattle.rx_chunk.specs.Engines.{IsEngine}
-use Rattle.rx_chunk.proofs.pikevm.PikeVM.group_info.Goals as goal
-
-pub returns-clause-engine : goal.returns-clause-engine
-returns-clause-engine c = subst (λ e. IsEngine e) c.self.view_is c.self.invariant

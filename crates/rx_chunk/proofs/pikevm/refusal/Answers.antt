@@ -1,5 +1,0 @@
-use Rattle.rx_chunk.proofs.EngineLaws.{other_refusal}
-use Rattle.rx_chunk.proofs.pikevm.refusal.Goals as goal
-
-pub returns-in_default : goal.returns-in_default
-returns-in_default c = other_refusal c.args.error c.in_default.not-Memory

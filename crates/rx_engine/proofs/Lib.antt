@@ -1,0 +1,2 @@
+mod BuildLaws
+mod GroupLaws

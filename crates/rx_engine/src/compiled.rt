@@ -1,0 +1,97 @@
+//! What an engine holds of a pattern.
+
+ghost use Rattle.std.specs.Prelude.{◌≡◌, ◌≤◌, IfOk, IfErr, length};
+ghost use Rattle.rx_util.specs.declared.search.MatchError.{MatchError};
+ghost use Rattle.rx_util.specs.Groups.{slot_len};
+ghost use Rattle.rx_util.specs.Captured.{nothing_noted};
+ghost use Rattle.rx_engine.specs.Engines.{IsBuiltOf, IsEngine, IsRefused, by_default};
+
+use crate::builder::Builder;
+use rx_program::{BuildError, Program};
+use rx_util::{Captures, GroupInfo, MatchError};
+use std::alloc::Global;
+use std::marker::Model;
+use std::rc::Rc;
+
+/// A pattern as engines hold it. Contracts see its program, its groups, and whether empty matches
+/// inside a character are passed over.
+#[derive(Debug, Drop)]
+pub struct Compiled {
+    pub(crate) program: Rc<Program>,
+    pub(crate) groups: GroupInfo,
+    pub(crate) utf8_empty: bool,
+}
+
+impl Model for Compiled {
+    ghost use Rattle.rx_engine.specs.Engines.{Engine, IsEngine};
+
+    ghost Value = { Engine };
+
+    ghost view = { λ c. record {
+      program = c.program.value;
+      groups = c.groups;
+      utf8_empty = c.utf8_empty;
+    } };
+
+    ghost invariant = { λ c. IsEngine (record {
+      program = c.program.value;
+      groups = c.groups;
+      utf8_empty = c.utf8_empty;
+    }) };
+}
+
+impl Compiled {
+    /// Returns what an engine holds of a pattern under default settings. Errors are those of
+    /// `Builder::build`.
+    pub fn new(alloc: Global, pattern: &str) -> Result<Compiled, BuildError>
+        ensures built { IfOk result (λ compiled. IsBuiltOf pattern.now by_default compiled) }
+        ensures refused { IfErr result (λ error. IsRefused pattern.now by_default error) }
+    {
+        Builder::new().build(alloc, pattern)
+    }
+
+    /// Returns the same, which shares program and groups. The one error is `Memory`. `O(1)`.
+    pub fn clone(&self) -> Result<Compiled, MatchError>
+        ensures same { IfOk result (λ compiled. compiled ≡ self.now) }
+        ensures refused { IfErr result (λ error. error ≡ MatchError.Memory) }
+    {
+        Ok(Compiled {
+            program: self.program.clone()?,
+            groups: self.groups.clone()?,
+            utf8_empty: self.utf8_empty,
+        })
+    }
+
+    /// Returns the program. `O(1)`.
+    pub fn program(&self) -> &Program
+        ensures { result.now ≡ self.now.program }
+    {
+        &self.program
+    }
+
+    /// Returns the groups. `O(1)`.
+    pub fn group_info(&self) -> &GroupInfo
+        ensures groups { result.now ≡ self.now.groups }
+        ensures engine { IsEngine self.now }
+    {
+        &self.groups
+    }
+
+    /// Returns whether empty matches inside a character are passed over.
+    pub fn utf8_empty(&self) -> bool
+        ensures { result ≡ self.now.utf8_empty }
+    {
+        self.utf8_empty
+    }
+
+    /// Returns captures with slots for all groups, in which nothing is noted. The one error is
+    /// `Memory`. `O(n)` in the number of groups.
+    pub fn create_captures(&self) -> Result<Captures, MatchError>
+        ensures made { IfOk result (λ caps. caps
+            ≡ nothing_noted self.now.groups (slot_len self.now.groups)) }
+        ensures room { IfOk result (λ caps. 2 ≤ length caps.slots) }
+        ensures refused { IfErr result (λ error. error ≡ MatchError.Memory) }
+    {
+        Captures::all(self.program.allocator(), &self.groups)
+    }
+}

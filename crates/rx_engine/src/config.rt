@@ -1,0 +1,133 @@
+//! Settings of engines.
+
+ghost use Rattle.std.specs.Prelude.{◌≡◌, Some, unwrap_or, true};
+ghost use Rattle.rx_util.specs.declared.search.MatchKind.{MatchKind};
+ghost use Rattle.rx_engine.specs.Engines.{nothing_set, settings_over, size_limit_of};
+
+use rx_util::MatchKind;
+use std::marker::Model;
+
+/// Settings of an engine. One that wasn't set is the default.
+#[derive(Clone, Copy, Debug, PartialEq, Eq)]
+pub struct Config {
+    match_kind: Option<MatchKind>,
+    utf8_empty: Option<bool>,
+    line_terminator: Option<u8>,
+    nfa_size_limit: Option<Option<usize>>,
+}
+
+impl Model for Config {
+    ghost use Rattle.rx_engine.specs.Engines.{EngineSettings};
+
+    ghost Value = { EngineSettings };
+
+    ghost view = { λ c. record {
+      match_kind = c.match_kind;
+      utf8_empty = c.utf8_empty;
+      line_terminator = c.line_terminator;
+      nfa_size_limit = c.nfa_size_limit;
+    } };
+
+    ghost inverse = { λ s. record {
+      match_kind = s.match_kind;
+      utf8_empty = s.utf8_empty;
+      line_terminator = s.line_terminator;
+      nfa_size_limit = s.nfa_size_limit;
+    } };
+}
+
+impl Config {
+    /// Returns settings of which none is set.
+    pub fn new() -> Config
+        ensures { result ≡ nothing_set }
+    {
+        Config {
+            match_kind: None,
+            utf8_empty: None,
+            line_terminator: None,
+            nfa_size_limit: None,
+        }
+    }
+
+    /// Sets which of all matches a search finds.
+    pub fn match_kind(mut self, kind: MatchKind) -> Config
+        ensures { result ≡ record self { match_kind = Some kind } }
+    {
+        self.match_kind = Some(kind);
+        self
+    }
+
+    /// Sets whether empty matches inside a character are passed over.
+    pub fn utf8_empty(mut self, yes: bool) -> Config
+        ensures { result ≡ record self { utf8_empty = Some yes } }
+    {
+        self.utf8_empty = Some(yes);
+        self
+    }
+
+    /// Sets the byte at which lines end for `^` and `$` under `(?m)`. The one that `.` doesn't
+    /// match is a setting of the syntax.
+    pub fn line_terminator(mut self, byte: u8) -> Config
+        ensures { result ≡ record self { line_terminator = Some byte } }
+    {
+        self.line_terminator = Some(byte);
+        self
+    }
+
+    /// Sets how large a program may be: a pattern is refused where 40 times its weight is above the
+    /// limit. Without one it is where the weight is above 2,147,483,646.
+    pub fn nfa_size_limit(mut self, limit: Option<usize>) -> Config
+        ensures { result ≡ record self { nfa_size_limit = Some limit } }
+    {
+        self.nfa_size_limit = Some(limit);
+        self
+    }
+
+    /// Returns which of all matches a search finds: by default the leftmost one.
+    pub fn get_match_kind(&self) -> MatchKind
+        ensures { result ≡ unwrap_or self.now.match_kind MatchKind.LeftmostFirst }
+    {
+        self.match_kind.unwrap_or(MatchKind::LeftmostFirst)
+    }
+
+    /// Returns whether empty matches inside a character are passed over: by default they are.
+    pub fn get_utf8_empty(&self) -> bool
+        ensures { result ≡ unwrap_or self.now.utf8_empty true }
+    {
+        self.utf8_empty.unwrap_or(true)
+    }
+
+    /// Returns the byte at which lines end for `^` and `$` under `(?m)`: by default LF.
+    pub fn get_line_terminator(&self) -> u8
+        ensures { result ≡ unwrap_or self.now.line_terminator 10 }
+    {
+        self.line_terminator.unwrap_or(b'\n')
+    }
+
+    /// Returns how large a program may be: by default without a limit.
+    pub fn get_nfa_size_limit(&self) -> Option<usize>
+        ensures { result ≡ size_limit_of self.now }
+    {
+        self.nfa_size_limit.unwrap_or(None)
+    }
+
+    /// These settings, and where one isn't set that of the others.
+    pub(crate) fn or(&self, others: &Config) -> Config
+        ensures { result ≡ settings_over self.now others.now }
+    {
+        Config {
+            match_kind: self.match_kind.or(others.match_kind),
+            utf8_empty: self.utf8_empty.or(others.utf8_empty),
+            line_terminator: self.line_terminator.or(others.line_terminator),
+            nfa_size_limit: self.nfa_size_limit.or(others.nfa_size_limit),
+        }
+    }
+}
+
+impl Default for Config {
+    fn default() -> Config
+        ensures { result ≡ nothing_set }
+    {
+        Config::new()
+    }
+}

@@ -1,0 +1,69 @@
+//! The groups of a pattern, and their names.
+
+ghost use Rattle.std.specs.Prelude.{◌≡◌, ◌<◌, IfOk, None, Some, MatchOption, [], replicate, set, vec_len};
+ghost use Rattle.rx_util.specs.Groups.{names_of};
+ghost use Rattle.rx_grammar.specs.Subtrees.{IsWellFormed, a_group};
+ghost use Rattle.rx_grammar.specs.Nodes.{kind_of};
+ghost use Rattle.rx_grammar.specs.Postorder.{own_names, tree_of};
+ghost use Rattle.rx_engine.specs.Engines.{AreGroupsOf, AreNamesOf};
+
+use rx_grammar::{Hir, Node};
+use rx_util::GroupInfo;
+use std::alloc::{AllocError, Global};
+
+/// The number and the name of a group that has a name.
+fn named_group(node: &Node) -> Option<(usize, &str)>
+    ensures { MatchOption result (own_names (kind_of node.now) ≡ [])
+        (λ group. kind_of node.now ≡ a_group group.0 (Some group.1.now)) }
+{
+    match node {
+        Node::Group(number, Some(name)) => Some((*number as usize, name.as_str())),
+        _ => None,
+    }
+}
+
+/// The names of so many groups, none of which has one.
+fn nameless(alloc: Global, count: usize) -> Result<Vec<Option<String>>, AllocError>
+    ensures { IfOk result (λ names. names.items ≡ replicate count None) }
+{
+    let mut names = Vec::with_capacity(alloc, count)?;
+    for _ in 0..count {
+        names.push(None)?;
+    }
+    Ok(names)
+}
+
+/// Notes the name of a group.
+fn note_name(names: &mut Vec<Option<String>>, index: usize, name: String)
+    requires { index < vec_len names.old }
+    ensures { names.new.items ≡ set names.old.items index (Some name) }
+{
+    names[index] = Some(name);
+}
+
+/// The names of a pattern's groups, from group 1 on. `O(n)` in the number of nodes, and in the
+/// lengths of the names.
+fn group_names(alloc: Global, hir: &Hir) -> Result<Vec<Option<String>>, AllocError>
+    ensures names { IfOk result (λ names. AreNamesOf (tree_of hir.now) (names_of names.items)) }
+    ensures well_formed { IsWellFormed (tree_of hir.now) }
+{
+    let mut names = nameless(alloc, hir.group_count())?;
+    for node in hir.nodes() {
+        if let Some((number, name)) = named_group(node) {
+            let name = String::from_str(alloc, name)?;
+            note_name(&mut names, number - 1, name);
+        }
+    }
+    Ok(names)
+}
+
+/// The groups of a pattern.
+pub(crate) fn groups_of(alloc: Global, hir: &Hir) -> Result<GroupInfo, AllocError>
+    ensures groups { IfOk result (λ groups. AreGroupsOf (tree_of hir.now) groups) }
+    ensures well_formed { IsWellFormed (tree_of hir.now) }
+{
+    let names = group_names(alloc, hir)?;
+    let mut patterns = Vec::new(alloc);
+    patterns.push(names)?;
+    GroupInfo::new(alloc, patterns)
+}
