@@ -10,13 +10,11 @@ use Rattle.rx_input.specs.Inputs.{Asked, InputState, HasSpan}
 use Rattle.rx_walks.specs.Finds.{Search, unanchored, from_place_on}
 use Rattle.rx_steps.specs.Searching.{anchoring_of, search_of}
 use Rattle.rx_program.specs.Programs.{ByteProgram, characters_of}
-use Rattle.rx_engine.specs.Engines.{Engine}
 use Rattle.rx_chunk.specs.Engines.{Finds}
 use Rattle.rx_literals.specs.Needles.{AreNeedles, FoundAt, FoundBetween, nowhere, at_least_place}
 use Rattle.rx_literals.specs.Beginnings.{BeginsWith, FirstNeedle, MatchesComeBehind, NoNeedleNoMatch}
 use Rattle.rx_literals.proofs.NeedleLaws.{found_start}
-use Rattle.regex_cursor.specs.declared.engines.meta.left.Start.{Start}
-use Rattle.regex_cursor.specs.Strategies.{BeginsFrom, IsStart}
+use Rattle.regex_cursor.specs.Strategies.{BeginsFrom}
 
 pub is_free : (a : Anchored) → is_anchored a ≡ false → anchoring_of a ≡ unanchored
 is_free No e = refl
@@ -56,7 +54,3 @@ start_search utf8_empty i k place has = ap₂ (search_by utf8_empty) has.same.co
 
 pub same_search : (utf8_empty : Bool) (i j : InputState) → IsSameContent i.cursor j.cursor → j.asked ≡ i.asked → search_of utf8_empty j ≡ search_of utf8_empty i
 same_search utf8_empty i j same asked = ap₂ (search_by utf8_empty) same.content asked
-
--- of a cache's engines it is told where the match may begin of its regex
-pub start_of : (vm re : Engine) (i : InputState) (start : Start) → vm ≡ re → IsStart vm.program (search_of vm.utf8_empty i) start → IsStart re.program (search_of re.utf8_empty i) start
-start_of vm re i start same told = subst (λ (e : Engine). IsStart e.program (search_of e.utf8_empty i) start) same told

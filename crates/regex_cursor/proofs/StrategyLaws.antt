@@ -1,6 +1,6 @@
 -- What is found in a part of a search's span, and what that tells of the span.
-use Rattle.std.proofs.Common.{◌≡◌, ℕ, zero, suc, ◌+◌, ◌<◌, ◌≤◌, ◌^◌, Bool, false, true, IsTrue, List, [], ◌∷◌, length, replicate, Option, Some, None, SomeIff, is_some, cond, set, refl, sym, ap, ap₂, subst, ◌∙◌, arith, inl, inr}
-use Rattle.std.proofs.lemmas.Bool.{cases_lt, ne_eqb}
+use Rattle.std.proofs.Common.{◌≡◌, ℕ, zero, suc, ◌+◌, ◌<◌, ◌≤◌, ◌^◌, Bool, false, true, IsTrue, List, [], ◌∷◌, length, replicate, Option, Some, None, SomeIff, is_some, cond, set, refl, sym, ap, ap₂, subst, ◌∙◌, arith}
+use Rattle.std.proofs.lemmas.Bool.{ne_eqb}
 use Rattle.std.proofs.lemmas.List.{length-replicate}
 use Rattle.unicode.specs.Perl.{is_word_char}
 use Rattle.rx_sets.specs.Sets.{Range}
@@ -24,10 +24,9 @@ use Rattle.rx_literals.specs.Literals.{FindsLiteral, literal_match, within}
 use Rattle.rx_engine.specs.Engines.{Engine}
 use Rattle.rx_chunk.specs.Engines.{Finds, IsFound, TellsMatch, TellsSlots, TellsWhether}
 use Rattle.rx_chunk.specs.Searches.{TellsWhole}
-use Rattle.rx_chunk.specs.Iterating.{EndsAhead, HasNotedNext, IsFoundNext, is_last_end}
-use Rattle.regex_cursor.specs.declared.engines.meta.left.Left.{Left}
+use Rattle.rx_chunk.specs.Iterating.{IsNextAnswer}
 use Rattle.regex_cursor.specs.declared.engines.meta.left.Part.{Part}
-use Rattle.regex_cursor.specs.Strategies.{HoldsFind, HoldsNext, IsLeft, IsPart, IsPartLeft}
+use Rattle.regex_cursor.specs.Strategies.{HoldsFind, HoldsNext, IsPart}
 
 -- the laws of rx_walks, as calls of them tell them
 abbrev pub OneLaw : Type 0
@@ -105,47 +104,18 @@ module _ (p : ByteProgram) (s : Search) (part : Span) (holds : HoldsFind p s par
       let told : TellsSlots i.asked.earliest p (within s part) pattern slots = subst (λ x. TellsSlots i.asked.earliest p x pattern slots) search (subst (λ (a : Asked). TellsSlots a.earliest p (search_of utf8_empty k) pattern slots) asked tells) in
       record { whether = whole_whether (is_some pattern) told.whether; exact = λ e. whole_answer pattern slots (told.exact e) }
 
-  -- where it ends
-  pub whole_ahead : (last : Option ℕ) (at : ℕ) → EndsAhead last (within s part) at → EndsAhead last s at
-  whole_ahead last at ahead = record {
-    on = omega (arith, ahead.on, holds.behind);
-    further = λ told. elim (cases_lt s.start part.start) [
-      | inl below ↦ omega (arith, below, ahead.on)
-      | inr above ↦
-          let same : s.start ≡ part.start = omega (arith, above, holds.behind) in
-          let far = ahead.further (subst (λ x. is_last_end last x ≡ true) same told) in
-          omega (arith, same, far)
-    ];
-    in_span = omega (arith, ahead.in_span, holds.before);
-    in_content = ahead.in_content;
-  }
-
 -- ---- what comes next
 
-pub whole_found_next : (p : ByteProgram) (s : Search) (last : Option ℕ) (part : Span) → HoldsNext p s last part → (found : Option Found) → IsFoundNext p (within s part) last found → IsFoundNext p s last found
-whole_found_next p s last part next found is = (is.0, next.comes is.0 is.1, is.2)
-
-pub whole_noted_next : (p : ByteProgram) (s : Search) (last : Option ℕ) (part : Span) → HoldsNext p s last part → (caps : Captured) → HasNotedNext p (within s part) last caps → HasNotedNext p s last caps
-whole_noted_next p s last part next caps noted = record { out = noted.out; comes = next.comes noted.out noted.comes; noted = noted.noted; match_is = noted.match_is }
+pub whole_next : (p : ByteProgram) (s : Search) (last : Option ℕ) (part : Span) → HoldsNext p s last part → (pattern : Option ℕ) (slots : Slots) → IsNextAnswer p (within s part) last pattern slots → IsNextAnswer p s last pattern slots
+whole_next p s last part next pattern slots answer = record { out = answer.out; comes = next.comes answer.out answer.comes; pattern_is = answer.pattern_is; slots_are = answer.slots_are }
 
 -- nothing comes next
-pub nothing_comes : (p : ByteProgram) (s : Search) (last : Option ℕ) (caps : Captured) (groups : Groups) (n : ℕ) → Finds p s None → caps ≡ nothing_noted groups n → HasNotedNext p s last caps
-nothing_comes p s last caps groups n finds is =
-    subst (λ (x : Captured). HasNotedNext p s last x) (sym is) (record {
-      out = None;
-      comes = nothing finds;
-      noted = ap (λ k. nothing_noted groups k) (sym (length-replicate n None));
-      match_is = refl;
-    })
+pub nothing_comes : (p : ByteProgram) (s : Search) (last : Option ℕ) (slots : Slots) (n : ℕ) → Finds p s None → slots ≡ replicate n None → IsNextAnswer p s last None slots
+nothing_comes p s last slots n finds is =
+    let len : length slots ≡ n = ap (λ xs. length xs) is ∙ length-replicate n None in
+    record { out = None; comes = nothing finds; pattern_is = refl; slots_are = is ∙ ap (λ k. replicate k None) (sym len) }
 
 -- ---- what is told
-
--- of a cache that was made for a regex it is told what is left of a search for that
-pub left_of : (re made_for : Engine) (i : InputState) (left : Left) → made_for ≡ re → IsLeft made_for.program (search_of made_for.utf8_empty i) left → IsLeft re.program (search_of re.utf8_empty i) left
-left_of re made_for i left made told = subst (λ (e : Engine). IsLeft e.program (search_of e.utf8_empty i) left) made told
-
-pub part_of : (re made_for : Engine) (i : InputState) (part : Option Part) → made_for ≡ re → IsPartLeft made_for.program (search_of made_for.utf8_empty i) part → IsPartLeft re.program (search_of re.utf8_empty i) part
-part_of re made_for i part made told = subst (λ (e : Engine). IsPartLeft e.program (search_of e.utf8_empty i) part) made told
 
 -- nothing is found
 pub none_there : (p : ByteProgram) (s : Search) → Finds p s None → TellsWhether p s false

@@ -1,4 +1,5 @@
 pub mod Capturing
+pub mod Cores
 pub mod Iterating
 pub mod Lending
 pub mod PatternLaws

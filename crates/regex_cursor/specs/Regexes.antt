@@ -1,5 +1,5 @@
 -- A regex: of what it was built, and what its searches tell.
-use Rattle.std.specs.Prelude.{◌≡◌, ℕ, List, length, Some}
+use Rattle.std.specs.Prelude.{◌≡◌, ℕ, Bool, List, length, Some}
 use Rattle.rx_util.specs.Captured.{Captured}
 use Rattle.rx_util.specs.Groups.{slot_len}
 use Rattle.rx_grammar.specs.Settings.{default_settings}
@@ -9,7 +9,7 @@ use Rattle.rx_walks.specs.Finds.{Search}
 use Rattle.rx_walks.specs.Machines.{Outcome}
 use Rattle.rx_walks.specs.Programs.{Notes}
 use Rattle.rx_walks.specs.ProgramFinds.{ProgramMatches}
-use Rattle.rx_program.specs.Programs.{characters_of}
+use Rattle.rx_program.specs.Programs.{ByteProgram, characters_of}
 use Rattle.rx_program.specs.declared.error.BuildError.{BuildError}
 -- a regex is seen as an engine is, and its searches tell what those of an engine do
 pub use Rattle.rx_engine.specs.Engines.{Engine, Wanted}
@@ -36,13 +36,16 @@ IsRegexOf text re = IsBuiltOf text regex_settings re
 abbrev pub IsRefusedAsRegex : List ℕ → BuildError → Type 0
 IsRefusedAsRegex text error = IsRefused text regex_settings error
 
--- a cache is seen as the regex that it was made for
-abbrev pub CacheView : Type 0
-CacheView = Engine
+-- a cache is seen as what it was made for: a program, and whether empty matches inside a character
+-- are passed over
+pub record CacheView : Type 0 where
+  pub program : ByteProgram
+  pub utf8_empty : Bool
 
--- a cache made for a regex
+-- it serves each regex that searches so: the names of groups change no answer
 pub record IsCacheOf (re : Engine) (c : CacheView) : Type 0 where
-  pub same : c ≡ re
+  pub program : c.program ≡ re.program
+  pub utf8_empty : c.utf8_empty ≡ re.utf8_empty
 
 -- all matches that it has in a search, one after the other
 abbrev pub RegexMatches : Engine → Search → List (Outcome Notes) → Type 0

@@ -6,7 +6,6 @@ use Rattle.rx_walks.specs.Finds.{Search, from_place_on}
 use Rattle.rx_walks.specs.Machines.{Outcome}
 use Rattle.rx_walks.specs.Programs.{Notes}
 use Rattle.rx_walks.specs.ProgramFinds.{end_of}
-use Rattle.rx_steps.specs.Caches as steps
 use Rattle.rx_dfa.specs.Caches as automata
 use Rattle.rx_dfa.specs.DenseTables.{IsClosedOf}
 use Rattle.rx_dfa.specs.Alphabets.{AlphabetView, IsAlphabetOf}
@@ -16,6 +15,8 @@ use Rattle.rx_literals.specs.Literals.{FindsLiteral, IsLiteralOf, within}
 use Rattle.rx_engine.specs.Engines.{Engine}
 use Rattle.rx_chunk.specs.Engines.{Finds}
 use Rattle.rx_chunk.specs.Iterating.{ComesNext}
+use Rattle.regex_cursor.specs.Cores.{AreCachesOf}
+use Rattle.regex_cursor.specs.declared.engines.meta.cache.Kept.{Kept}
 use Rattle.regex_cursor.specs.declared.engines.meta.left.Part.{Part}
 use Rattle.regex_cursor.specs.declared.engines.meta.left.Told.TheVariants as told
 use Rattle.regex_cursor.specs.declared.engines.meta.left.Told.{Told}
@@ -43,11 +44,11 @@ pub record AreEngines (e : Engines) : Type 0 where
       (λ needles. BeginsWith needles (characters_of e.vm.program))
   pub literal : IfSome e.literal (λ needles. IsLiteralOf needles (characters_of e.vm.program))
 
--- caches for searches by each
-pub record AreCachesOf (e : Engines) (vm : steps.CacheView) (automaton : automata.CacheView)
-    : Type 0 where
-  pub for_vm : steps.IsCacheOf e.vm.program vm
-  pub for_automaton : automata.IsCacheOf e.vm.program e.dfa automaton
+-- what a cache keeps serves searches by these engines: it was made for their program
+pub record AreKeptFor (e : Engines) (kept : Kept) : Type 0 where
+  pub caches : AreCachesOf kept.core.value kept.vm kept.automaton
+  pub program : kept.core.value.vm.program ≡ e.vm.program
+  pub utf8_empty : kept.core.value.vm.utf8_empty ≡ e.vm.utf8_empty
 
 -- the match that is found ends there
 pub record FindsUpTo (p : ByteProgram) (s : Search) (end : ℕ) : Type 0 where

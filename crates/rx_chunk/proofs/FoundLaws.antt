@@ -40,13 +40,13 @@ pub record IsNoted (p : ByteProgram) (s : Search) (k : ℕ) (slots : Slots) : Ty
   pub span : span_between (place_in slots 0) (place_in slots 1) ≡ Some (span_of outcome)
 
 -- the first two slots of what has noted its places
+pub two_places : (t : Outcome Notes) (n : ℕ) (slots : Slots) → 2 ≤ n → slots ≡ answer_slots n (Some t) → HasNoted (start_of t) t → (place_in slots 0 ≡ Some (start_of t)) × (place_in slots 1 ≡ Some (end_of t))
+two_places t zero slots two are noted = absurd (omega (arith, two))
+two_places t (suc zero) slots two are noted = absurd (omega (arith, two))
+two_places t (suc (suc n)) slots two are noted = (ap (λ xs. place_in xs 0) are ∙ noted.start, ap (λ xs. place_in xs 1) are ∙ noted.end)
+
 two_slots : (t : Outcome Notes) (n : ℕ) (slots : Slots) → 2 ≤ n → slots ≡ answer_slots n (Some t) → HasNoted (start_of t) t → span_between (place_in slots 0) (place_in slots 1) ≡ Some (span_of t)
-two_slots t zero slots two are noted = absurd (omega (arith, two))
-two_slots t (suc zero) slots two are noted = absurd (omega (arith, two))
-two_slots t (suc (suc n)) slots two are noted =
-    let first : place_in slots 0 ≡ Some (start_of t) = ap (λ xs. place_in xs 0) are ∙ noted.start in
-    let second : place_in slots 1 ≡ Some (end_of t) = ap (λ xs. place_in xs 1) are ∙ noted.end in
-    ap₂ (λ i j. span_between i j) first second
+two_slots t n slots two are noted = let places = two_places t n slots two are noted in ap₂ (λ i j. span_between i j) places.0 places.1
 
 pub is_noted : (e : Engine) (s : Search) (pattern : Option ℕ) (slots : Slots) (k : ℕ) → IsEngine e → MatchesNoteTheirPlaces → 2 ≤ length slots → IsAnswer e.program s pattern slots → pattern ≡ Some k
     → IsNoted e.program s k slots
@@ -132,35 +132,43 @@ pub record AreNoted (p : ByteProgram) (s : Search) (caps : Captured) : Type 0 wh
   pub match_is : match_found caps ≡ option_map match_of out
   pub ordered : ForSome (group_span caps 0) (λ (x : Span). x.start ≤ x.end)
 
-abbrev captured : Groups → Option ℕ → Slots → Captured
+-- captures have noted a match, or nothing, and tell it
+pub record IsCaptured (caps : Captured) (out : Option (Outcome Notes)) : Type 0 where
+  pub noted : caps ≡ captured_by caps.groups (length caps.slots) out
+  pub match_is : match_found caps ≡ option_map match_of out
+  pub ordered : ForSome (group_span caps 0) (λ (x : Span). x.start ≤ x.end)
+
+abbrev pub captured : Groups → Option ℕ → Slots → Captured
 captured groups pattern slots = record { groups = groups; pattern = pattern; slots = slots }
 
-noted_by : (e : Engine) (s : Search) (groups : Groups) (slots : Slots) (out : Option (Outcome Notes)) → IsEngine e → MatchesNoteTheirPlaces → InsideLaw → groups ≡ e.groups → 2 ≤ length slots
-    → Finds e.program s out → slots ≡ answer_slots (length slots) out → AreNoted e.program s (captured groups (pattern_in out) slots)
-noted_by e s groups slots None of_a_tree law inside same two finds slots_are = record {
-  out = None;
-  finds = finds;
+pub captured_is : (e : Engine) → IsEngine e → (groups : Groups) (slots : Slots) (out : Option (Outcome Notes)) → groups ≡ e.groups → 2 ≤ length slots → slots ≡ answer_slots (length slots) out
+    → ((t : Outcome Notes) → out ≡ Some t → HasNoted (start_of t) t × (start_of t ≤ end_of t)) → IsCaptured (captured groups (pattern_in out) slots) out
+captured_is e of_a_tree groups slots None same two slots_are has = record {
   noted = ap (λ xs. captured groups None xs) slots_are;
   match_is = refl;
   ordered = λ x is. absurd (none-some x is);
 }
-noted_by e s groups slots (Some t) of_a_tree law inside same two finds slots_are =
-    let places = law of_a_tree.0 e.program.line_terminator of_a_tree.1.well_formed is_word_char (characters_of e.program) s of_a_tree.1.program in
-    let noted = places.finds t finds in
+captured_is e of_a_tree groups slots (Some t) same two slots_are has =
+    let noted = has t refl in
     let are = of_a_tree.1.groups in
     let span : group_span (captured groups (Some t.pattern) slots) 0 ≡ Some (span_of t) =
-    group_zero are.names groups t.pattern slots (same ∙ are.groups_are) noted.pattern ∙ two_slots t (length slots) slots two slots_are noted in
-    let ordered : start_of t ≤ end_of t = (inside is_in is_word_char (characters_of e.program) s t finds).found.ordered in
+    group_zero are.names groups t.pattern slots (same ∙ are.groups_are) noted.0.pattern ∙ two_slots t (length slots) slots two slots_are noted.0 in
     record {
-      out = Some t;
-      finds = finds;
       noted = ap (λ xs. captured groups (Some t.pattern) xs) slots_are;
       match_is = ap (λ o. option_map (match_with t.pattern) o) span;
-      ordered = subst (λ o. ForSome o (λ (x : Span). x.start ≤ x.end)) (sym span) (λ x is. subst (λ (y : Span). y.start ≤ y.end) (ap (λ o. unwrap_or o x) is) ordered);
+      ordered = subst (λ o. ForSome o (λ (x : Span). x.start ≤ x.end)) (sym span) (λ x is. subst (λ (y : Span). y.start ≤ y.end) (ap (λ o. unwrap_or o x) is) noted.1);
     }
+
+noted_by : (e : Engine) (s : Search) → IsEngine e → MatchesNoteTheirPlaces → InsideLaw → (t : Outcome Notes) → Finds e.program s (Some t) → HasNoted (start_of t) t × (start_of t ≤ end_of t)
+noted_by e s of_a_tree law inside t finds =
+    let places = law of_a_tree.0 e.program.line_terminator of_a_tree.1.well_formed is_word_char (characters_of e.program) s of_a_tree.1.program in
+    (places.finds t finds, (inside is_in is_word_char (characters_of e.program) s t finds).found.ordered)
 
 pub are_noted : (e : Engine) (s : Search) (caps : Captured) → IsEngine e → MatchesNoteTheirPlaces → InsideLaw → caps.groups ≡ e.groups → 2 ≤ length caps.slots
     → IsAnswer e.program s caps.pattern caps.slots → AreNoted e.program s caps
 are_noted e s caps of_a_tree law inside same two answer =
-    subst (λ pattern. AreNoted e.program s (captured caps.groups pattern caps.slots)) (sym answer.pattern_is)
-    (noted_by e s caps.groups caps.slots answer.found of_a_tree law inside same two answer.finds answer.slots_are)
+    let is : IsCaptured (captured caps.groups (pattern_in answer.found) caps.slots) answer.found =
+    captured_is e of_a_tree caps.groups caps.slots answer.found same two answer.slots_are
+    (λ t out_is. noted_by e s of_a_tree law inside t (subst (λ o. Finds e.program s o) out_is answer.finds)) in
+    let are : IsCaptured caps answer.found = subst (λ pattern. IsCaptured (captured caps.groups pattern caps.slots) answer.found) (sym answer.pattern_is) is in
+    record { out = answer.found; finds = answer.finds; noted = are.noted; match_is = are.match_is; ordered = are.ordered }

@@ -35,57 +35,10 @@ lies p s t law finds = law is_in is_word_char (characters_of p) s t finds
 
 -- ---- what is found next
 
--- nothing was found
-nothing_by : (p : ByteProgram) (s : Search) (last : Option ℕ) (out : Option (Outcome Notes)) → Finds p s out → None ≡ option_map match_of out → IsFoundNext p s last None
-nothing_by p s last None finds is = (None, nothing finds, refl)
-nothing_by p s last (Some t) finds is = absurd (cc is)
-
-pub nothing_next : (p : ByteProgram) (s : Search) (last : Option ℕ) (found : Option Found) → found ≡ None → IsFound p s found → IsFoundNext p s last None
-nothing_next p s last found none is = nothing_by p s last is.0 is.1 (sym none ∙ is.2)
-
--- what was found is no empty match where the last one ended
-abbrev pub IsEmptyAt : Option ℕ → Found → Type 0
-IsEmptyAt last a = (a.span.start ≡ a.span.end) × (last ≡ Some a.span.end)
-
-found_by : (p : ByteProgram) (s : Search) (last : Option ℕ) (a : Found) (out : Option (Outcome Notes)) → (a.span.start ≡ a.span.end → last ≡ Some a.span.end → ⊥) → Finds p s out → Some a ≡ option_map match_of out
-    → IsFoundNext p s last (Some a)
-found_by p s last a None apart finds is = absurd (cc is)
-found_by p s last a (Some t) apart finds is =
-    let same : a ≡ match_of t = same_Some a (match_of t) is in
-    let start = ap (λ x. x.span.start) same in
-    let end = ap (λ x. x.span.end) same in
-    (Some t, at_once finds (λ empty. apart (start ∙ empty.0 ∙ sym end) (empty.1 ∙ ap (λ k. Some k) (sym end))), is)
-
-pub found_next : (p : ByteProgram) (s : Search) (last : Option ℕ) (found : Option Found) (a : Found) → found ≡ Some a → (a.span.start ≡ a.span.end → last ≡ Some a.span.end → ⊥) → IsFound p s found → IsFoundNext p s last (Some a)
-found_next p s last found a some apart is = found_by p s last a is.0 apart is.1 (sym some ∙ is.2)
-
--- one was found: what comes next is found from one byte further on
-pub passed_by : (p : ByteProgram) (s : Search) (last : Option ℕ) (a : Found) (out next : Option (Outcome Notes)) → IsEmptyAt last a → Finds p s out → Some a ≡ option_map match_of out
-    → Finds p (from_place_on s (s.start + 1)) next → ComesNext p s last next
-passed_by p s last a None next here finds is further = absurd (cc is)
-passed_by p s last a (Some t) next here finds is further =
-    let same : a ≡ match_of t = same_Some a (match_of t) is in
-    let start = ap (λ x. x.span.start) same in
-    let end = ap (λ x. x.span.end) same in
-    passed finds (sym start ∙ here.0 ∙ end, here.1 ∙ ap (λ k. Some k) end) further
-
-pub passed_next : (p : ByteProgram) (s : Search) (last : Option ℕ) (found : Option Found) (a : Found) (next : Option Found) → found ≡ Some a → IsEmptyAt last a → IsFound p s found
-    → IsFound p (from_place_on s (s.start + 1)) next → IsFoundNext p s last next
-passed_next p s last found a next some here is further = (further.0, passed_by p s last a is.0 further.0 here is.1 (sym some ∙ is.2) further.1, further.2)
-
 -- a match is found in the span and in the content
 pub record MayStart (s : Search) : Type 0 where
   pub in_span : s.start ≤ s.end
   pub in_content : s.start ≤ length s.content
-
-inside_by : (p : ByteProgram) (s : Search) (a : Found) (out : Option (Outcome Notes)) → InsideLaw → Finds p s out → Some a ≡ option_map match_of out → MayStart s
-inside_by p s a None law finds is = absurd (cc is)
-inside_by p s a (Some t) law finds is =
-    let at = (lies p s t law finds).found in
-    record { in_span = omega (arith, at.inside.2, at.inside.3); in_content = omega (arith, at.inside.2, at.inside.4) }
-
-pub may_start : (p : ByteProgram) (s : Search) (found : Option Found) (a : Found) → InsideLaw → found ≡ Some a → IsFound p s found → MayStart s
-may_start p s found a law some is = inside_by p s a is.0 law is.1 (sym some ∙ is.2)
 
 -- ---- where it ends
 

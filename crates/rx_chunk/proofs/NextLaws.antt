@@ -1,46 +1,138 @@
--- What comes next, noted in captures.
-use Rattle.std.proofs.Common.{◌≡◌, ℕ, ◌+◌, Option, Some, None, option_map, sym, ap, ◌∙◌}
+-- What comes next, by the places that it noted.
+use Rattle.std.proofs.Common.{◌≡◌, ℕ, ◌+◌, ◌≤◌, length, Option, Some, None, option_map, refl, sym, ap, ap₂, subst, ◌∙◌, arith}
 use Rattle.std.specs.Option.{ForSome}
-use Rattle.std.proofs.lemmas.Option.{same_Some}
-use Rattle.rx_util.specs.Captured.{Captured, match_found}
+use Rattle.std.proofs.lemmas.Option.{none-some, same_Some}
+use Rattle.unicode.specs.Perl.{is_word_char}
+use Rattle.rx_util.specs.declared.search.Span.{Span}
+use Rattle.rx_util.specs.Captured.{Captured, place_in, span_between, group_span, match_found}
 use Rattle.rx_util.specs.Search.{Found}
 use Rattle.rx_walks.specs.Machines.{Outcome}
 use Rattle.rx_walks.specs.Programs.{Notes}
 use Rattle.rx_walks.specs.Finds.{Search, from_place_on}
-use Rattle.rx_walks.specs.Iterating.{nothing, at_once}
-use Rattle.rx_program.specs.Programs.{ByteProgram}
-use Rattle.rx_chunk.specs.Engines.{Finds, match_of}
-use Rattle.rx_chunk.specs.Iterating.{ComesNext, EndsAhead, HasNotedNext}
-use Rattle.rx_chunk.proofs.FoundLaws.{AreNoted}
-use Rattle.rx_chunk.proofs.IterLaws.{InsideLaw, IsEmptyAt, all_end, passed_by}
+use Rattle.rx_walks.specs.ProgramFinds.{start_of, end_of}
+use Rattle.rx_walks.specs.Iterating.{nothing, at_once, passed}
+use Rattle.rx_program.specs.Laws.{HasNoted, MatchesNoteTheirPlaces}
+use Rattle.rx_program.specs.Programs.{ByteProgram, characters_of}
+use Rattle.rx_steps.specs.Threads.{Slots}
+use Rattle.rx_steps.specs.Searching.{IsAnswer, answer_slots}
+use Rattle.rx_chunk.specs.Engines.{Engine, IsEngine, Finds, match_of}
+use Rattle.rx_chunk.specs.Iterating.{ComesNext, EndsAhead, HasNotedNext, IsFoundNext, IsNextAnswer}
+use Rattle.rx_chunk.proofs.EngineLaws.{pattern_in}
+use Rattle.rx_chunk.proofs.FoundLaws.{IsCaptured, captured, captured_is, match_with, span_of, two_places}
+use Rattle.rx_chunk.proofs.IterLaws.{InsideLaw, MayStart, all_end, lies}
 
-are_next : (p : ByteProgram) (s t : Search) (last : Option ℕ) (caps : Captured) (n : AreNoted p t caps) → ComesNext p s last n.out → HasNotedNext p s last caps
-are_next p s t last caps n comes = record { out = n.out; comes = comes; noted = n.noted; match_is = n.match_is }
+-- ---- what the searches answer is what comes next
 
--- nothing is found
-comes_none : (p : ByteProgram) (s : Search) (last : Option ℕ) (out : Option (Outcome Notes)) → Finds p s out → None ≡ option_map match_of out → ComesNext p s last out
-comes_none p s last None finds is = nothing finds
-comes_none p s last (Some t) finds is = absurd (cc is)
+module _ (p : ByteProgram) (s : Search) (last : Option ℕ) where
+  none_next : (slots : Slots) (out : Option (Outcome Notes)) → Finds p s out → None ≡ pattern_in out → slots ≡ answer_slots (length slots) out → IsNextAnswer p s last None slots
+  none_next slots None finds is are = record { out = None; comes = nothing finds; pattern_is = refl; slots_are = are }
+  none_next slots (Some t) finds is are = absurd (none-some t.pattern is)
 
-pub next_nothing : (p : ByteProgram) (s : Search) (last : Option ℕ) (caps : Captured) → AreNoted p s caps → match_found caps ≡ None → HasNotedNext p s last caps
-next_nothing p s last caps n none = are_next p s s last caps n (comes_none p s last n.out n.finds (sym none ∙ n.match_is))
+  pub next_none : (pattern : Option ℕ) (slots : Slots) → pattern ≡ None → IsAnswer p s pattern slots → IsNextAnswer p s last None slots
+  next_none pattern slots none answer = none_next slots answer.found answer.finds (sym none ∙ answer.pattern_is) answer.slots_are
 
--- a match is found that isn't passed over
-comes_found : (p : ByteProgram) (s : Search) (last : Option ℕ) (a : Found) (out : Option (Outcome Notes)) → (a.span.start ≡ a.span.end → last ≡ Some a.span.end → ⊥) → Finds p s out → Some a ≡ option_map match_of out → ComesNext p s last out
-comes_found p s last a None apart finds is = absurd (cc is)
-comes_found p s last a (Some t) apart finds is =
-    let same : a ≡ match_of t = same_Some a (match_of t) is in
-    let start = ap (λ x. x.span.start) same in
-    let end = ap (λ x. x.span.end) same in
-    at_once finds (λ empty. apart (start ∙ empty.0 ∙ sym end) (empty.1 ∙ ap (λ k. Some k) (sym end)))
+starts_by : (p : ByteProgram) (s : Search) (k : ℕ) (out : Option (Outcome Notes)) → InsideLaw → Finds p s out → Some k ≡ pattern_in out → MayStart s
+starts_by p s k None law finds is = absurd (none-some k (sym is))
+starts_by p s k (Some t) law finds is =
+    let at = (lies p s t law finds).found in
+    record { in_span = omega (arith, at.inside.2, at.inside.3); in_content = omega (arith, at.inside.2, at.inside.4) }
 
-pub next_found : (p : ByteProgram) (s : Search) (last : Option ℕ) (caps : Captured) (a : Found) → AreNoted p s caps → match_found caps ≡ Some a → (a.span.start ≡ a.span.end → last ≡ Some a.span.end → ⊥) → HasNotedNext p s last caps
-next_found p s last caps a n some apart = are_next p s s last caps n (comes_found p s last a n.out apart n.finds (sym some ∙ n.match_is))
+-- a search that answers a match may start one byte further on
+pub answer_starts : (p : ByteProgram) (s : Search) (pattern : Option ℕ) (k : ℕ) (slots : Slots) → InsideLaw → pattern ≡ Some k → IsAnswer p s pattern slots → MayStart s
+answer_starts p s pattern k slots law some answer = starts_by p s k answer.found law answer.finds (sym some ∙ answer.pattern_is)
 
--- one is found that is
-pub next_passed : (p : ByteProgram) (s : Search) (last : Option ℕ) (first caps : Captured) (a : Found) → AreNoted p s first → match_found first ≡ Some a → IsEmptyAt last a → AreNoted p (from_place_on s (s.start + 1)) caps → HasNotedNext p s last caps
-next_passed p s last first caps a m some here n =
-    are_next p s (from_place_on s (s.start + 1)) last caps n (passed_by p s last a m.out n.out here m.finds (sym some ∙ m.match_is) n.finds)
+module _ (e : Engine) (of_a_tree : IsEngine e) (law : MatchesNoteTheirPlaces) where
+  noted_of : (s : Search) (t : Outcome Notes) → Finds e.program s (Some t) → HasNoted (start_of t) t
+  noted_of s t finds = (law of_a_tree.0 e.program.line_terminator of_a_tree.1.well_formed is_word_char (characters_of e.program) s of_a_tree.1.program).finds t finds
 
+  module _ (s : Search) (last : Option ℕ) where
+    some_next : (k : ℕ) (slots : Slots) (out : Option (Outcome Notes)) → 2 ≤ length slots → Finds e.program s out → Some k ≡ pattern_in out → slots ≡ answer_slots (length slots) out
+        → (place_in slots 0 ≡ place_in slots 1 → last ≡ place_in slots 1 → ⊥) → IsNextAnswer e.program s last (Some k) slots
+    some_next k slots None two finds is are apart = absurd (none-some k (sym is))
+    some_next k slots (Some t) two finds is are apart =
+        let places = two_places t (length slots) slots two are (noted_of s t finds) in
+        record {
+          out = Some t;
+          comes = at_once finds (λ empty. apart (places.0 ∙ ap (λ i. Some i) empty.0 ∙ sym places.1) (empty.1 ∙ sym places.1));
+          pattern_is = is;
+          slots_are = are;
+        }
+
+    pub next_some : (pattern : Option ℕ) (k : ℕ) (slots : Slots) → pattern ≡ Some k → 2 ≤ length slots → IsAnswer e.program s pattern slots
+        → (place_in slots 0 ≡ place_in slots 1 → last ≡ place_in slots 1 → ⊥) → IsNextAnswer e.program s last (Some k) slots
+    next_some pattern k slots some two answer apart = some_next k slots answer.found two answer.finds (sym some ∙ answer.pattern_is) answer.slots_are apart
+
+    further_next : (k : ℕ) (slots : Slots) (out : Option (Outcome Notes)) (next : Option ℕ) (others : Slots) → 2 ≤ length slots → Finds e.program s out → Some k ≡ pattern_in out → slots ≡ answer_slots (length slots) out
+        → (place_in slots 0 ≡ place_in slots 1) × (last ≡ place_in slots 1) → IsAnswer e.program (from_place_on s (s.start + 1)) next others → IsNextAnswer e.program s last next others
+    further_next k slots None next others two finds is are here answer = absurd (none-some k (sym is))
+    further_next k slots (Some t) next others two finds is are here answer =
+        let places = two_places t (length slots) slots two are (noted_of s t finds) in
+        record {
+          out = answer.found;
+          comes = passed finds (same_Some (start_of t) (end_of t) (sym places.0 ∙ here.0 ∙ places.1), here.1 ∙ places.1) answer.finds;
+          pattern_is = answer.pattern_is;
+          slots_are = answer.slots_are;
+        }
+
+    pub next_passed : (pattern : Option ℕ) (k : ℕ) (slots : Slots) (next : Option ℕ) (others : Slots) → pattern ≡ Some k → 2 ≤ length slots → IsAnswer e.program s pattern slots
+        → (place_in slots 0 ≡ place_in slots 1) × (last ≡ place_in slots 1) → IsAnswer e.program (from_place_on s (s.start + 1)) next others → IsNextAnswer e.program s last next others
+    next_passed pattern k slots next others some two first here answer = further_next k slots first.found next others two first.finds (sym some ∙ first.pattern_is) first.slots_are here answer
+
+    -- ---- its match
+
+    -- where it was found, it noted its places, in order
+    comes_noted : {out : Option (Outcome Notes)} (t : Outcome Notes) → ComesNext e.program s last out → out ≡ Some t → HasNoted (start_of t) t
+    comes_noted t (nothing finds) is = absurd (cc is)
+    comes_noted t (at_once {t = a} finds not) is = noted_of s t (subst (λ o. Finds e.program s o) is finds)
+    comes_noted t (passed {out = o} finds empty further) is = noted_of (from_place_on s (s.start + 1)) t (subst (λ o. Finds e.program (from_place_on s (s.start + 1)) o) is further)
+
+    comes_ordered : {out : Option (Outcome Notes)} (t : Outcome Notes) → InsideLaw → ComesNext e.program s last out → out ≡ Some t → start_of t ≤ end_of t
+    comes_ordered t inside (nothing finds) is = absurd (cc is)
+    comes_ordered t inside (at_once {t = a} finds not) is = (lies e.program s t inside (subst (λ o. Finds e.program s o) is finds)).found.ordered
+    comes_ordered t inside (passed {out = o} finds empty further) is =
+        (lies e.program (from_place_on s (s.start + 1)) t inside (subst (λ o. Finds e.program (from_place_on s (s.start + 1)) o) is further)).found.ordered
+
+    nothing_by : (out : Option (Outcome Notes)) → ComesNext e.program s last out → None ≡ pattern_in out → IsFoundNext e.program s last None
+    nothing_by None comes is = (None, comes, refl)
+    nothing_by (Some t) comes is = absurd (none-some t.pattern is)
+
+    pub nothing_next : (pattern : Option ℕ) (slots : Slots) → pattern ≡ None → IsNextAnswer e.program s last pattern slots → IsFoundNext e.program s last None
+    nothing_next pattern slots none answer = nothing_by answer.out answer.comes (sym none ∙ answer.pattern_is)
+
+    span_by : (k : ℕ) (slots : Slots) (out : Option (Outcome Notes)) → 2 ≤ length slots → ComesNext e.program s last out → Some k ≡ pattern_in out → slots ≡ answer_slots (length slots) out
+        → (t : Outcome Notes) × (out ≡ Some t) × (t.pattern ≡ k) × (span_between (place_in slots 0) (place_in slots 1) ≡ Some (span_of t))
+    span_by k slots None two comes is are = absurd (none-some k (sym is))
+    span_by k slots (Some t) two comes is are =
+        let places = two_places t (length slots) slots two are (comes_noted t comes refl) in
+        (t, refl, sym (same_Some k t.pattern is), ap₂ (λ i j. span_between i j) places.0 places.1)
+
+    pub found_next : (pattern : Option ℕ) (k : ℕ) (slots : Slots) (result : Option Found) → pattern ≡ Some k → 2 ≤ length slots → result ≡ option_map (match_with k) (span_between (place_in slots 0) (place_in slots 1))
+        → IsNextAnswer e.program s last pattern slots → IsFoundNext e.program s last result
+    found_next pattern k slots result some two told answer =
+        let t = span_by k slots answer.out two answer.comes (sym some ∙ answer.pattern_is) answer.slots_are in (
+          answer.out,
+          answer.comes,
+          told ∙ ap (λ o. option_map (match_with k) o) t.3 ∙ ap (λ j. Some (match_with j (span_of t.0))) (sym t.2) ∙ ap (λ o. option_map match_of o) (sym t.1),
+        )
+
+    pub in_order : (pattern : Option ℕ) (k : ℕ) (slots : Slots) → InsideLaw → pattern ≡ Some k → 2 ≤ length slots → IsNextAnswer e.program s last pattern slots
+        → ForSome (span_between (place_in slots 0) (place_in slots 1)) (λ (x : Span). x.start ≤ x.end)
+    in_order pattern k slots inside some two answer = λ x is.
+        let t = span_by k slots answer.out two answer.comes (sym some ∙ answer.pattern_is) answer.slots_are in
+        let ordered : start_of t.0 ≤ end_of t.0 = comes_ordered t.0 inside answer.comes t.1 in
+        let same : span_of t.0 ≡ x = same_Some (span_of t.0) x (sym t.3 ∙ is) in
+        subst (λ (y : Span). y.start ≤ y.end) same ordered
+
+    -- ---- the same in captures
+
+    pub noted_next : (caps : Captured) → InsideLaw → caps.groups ≡ e.groups → 2 ≤ length caps.slots → IsNextAnswer e.program s last caps.pattern caps.slots
+        → HasNotedNext e.program s last caps × ForSome (group_span caps 0) (λ (x : Span). x.start ≤ x.end)
+    noted_next caps inside same two answer =
+        let is : IsCaptured (captured caps.groups (pattern_in answer.out) caps.slots) answer.out =
+        captured_is e of_a_tree caps.groups caps.slots answer.out same two answer.slots_are (λ t out_is. (comes_noted t answer.comes out_is, comes_ordered t inside answer.comes out_is)) in
+        let are : IsCaptured caps answer.out = subst (λ pattern. IsCaptured (captured caps.groups pattern caps.slots) answer.out) (sym answer.pattern_is) is in
+        (record { out = answer.out; comes = answer.comes; noted = are.noted; match_is = are.match_is }, are.ordered)
+
+-- and ends ahead
 pub next_ends : (p : ByteProgram) (s : Search) (last : Option ℕ) (caps : Captured) → InsideLaw → HasNotedNext p s last caps → ForSome (match_found caps) (λ a. EndsAhead last s a.span.end)
 next_ends p s last caps law n = all_end p last s (match_found caps) law (n.out, n.comes, n.match_is)

@@ -1,5 +1,5 @@
 -- What comes next in an input, and what an iterator over the matches of a program gives.
-use Rattle.std.specs.Prelude.{◌≡◌, ℕ, ◌-◌, ◌<◌, ◌≤◌, ◌==◌, Bool, false, true, length, Option, Some, None, option_map, Result, IfSome, IfErr}
+use Rattle.std.specs.Prelude.{◌≡◌, ℕ, ◌-◌, ◌<◌, ◌≤◌, ◌==◌, Bool, false, true, List, length, Option, Some, None, option_map, Result, IfSome, IfErr}
 use Rattle.std.specs.Iterator.{Count, at_most, size}
 use Rattle.unicode.specs.Perl.{is_word_char}
 use Rattle.rx_util.specs.declared.search.MatchError.{MatchError}
@@ -29,6 +29,14 @@ ComesNext p s last out = FindsNext (Finds p) s last out
 abbrev pub IsFoundNext : ByteProgram → Search → Option ℕ → Option Found → Type 0
 IsFoundNext p s last found = (out : Option (Outcome Notes)) × ComesNext p s last out
     × (found ≡ option_map match_of out)
+
+-- that as a search answers it: its pattern, and its places in so many slots
+pub record IsNextAnswer (p : ByteProgram) (s : Search) (last pattern : Option ℕ)
+    (slots : List (Option ℕ)) : Type 0 where
+  pub out : Option (Outcome Notes)
+  pub comes : ComesNext p s last out
+  pub pattern_is : pattern ≡ option_map (λ t. t.pattern) out
+  pub slots_are : slots ≡ answer_slots (length slots) out
 
 -- an input over the same content, of which the same is asked but that its span starts here
 pub record StartsFrom (old new : InputState) (start : ℕ) : Type 0 where

@@ -11,7 +11,7 @@ ghost use Rattle.rx_steps.specs.Standing.{StopsAt};
 ghost use Rattle.rx_steps.specs.Threads.{no_slots};
 ghost use Rattle.rx_steps.specs.Caches.{IsCacheOf};
 ghost use Rattle.rx_chunk.specs.Engines.{nothing_set, settings_over, IsEngine, IsBuiltOf, IsRefused, TellsWhether, IsFoundAt, by_default};
-ghost use Rattle.rx_chunk.specs.Iterating.{EndsAhead, HasNotedNext, IsFoundNext, StartsFrom, matches_from};
+ghost use Rattle.rx_chunk.specs.Iterating.{EndsAhead, HasNotedNext, IsFoundNext, IsNextAnswer, StartsFrom, matches_from};
 ghost use Rattle.rx_chunk.specs.FindMatches.{cache_of, left_of, program_of};
 ghost use Rattle.rx_chunk.specs.Searches.{AsksTheSame, HoldsMatches, ServesOn, StopsInTime, TellsMatch, TellsSlots, TellsSlotsAt, TellsWhole, search_by};
 
@@ -369,8 +369,10 @@ fn place_in(slots: &[Option<NonMaxUsize>], slot: usize) -> Option<usize>
     }
 }
 
-/// The match of a pattern from the place in slot 0 to that in slot 1, if both are there.
-fn match_in(pattern: PatternID, slots: &[Option<NonMaxUsize>]) -> Option<Match>
+/// Returns the match of a pattern from the place in slot 0 to that in slot 1, if both are there.
+/// Requires that the second isn't before the first, as it isn't where a search of one pattern put
+/// them there.
+pub fn match_in(pattern: PatternID, slots: &[Option<NonMaxUsize>]) -> Option<Match>
     requires ordered { ForSome (span_between (place_in slots.now 0) (place_in slots.now 1))
         (λ span. span.start ≤ span.end) }
     ensures { result ≡ option_map (λ span. record { pattern = pattern; span = span })
@@ -430,20 +432,56 @@ fn look_for<C: Cursor>(
     Ok(match_in(pattern, &slots))
 }
 
-/// Whether this is an empty match where the last one ended.
-fn is_empty_at_last(found: &Match, last_match_end: Option<usize>) -> bool
-    ensures here { result ≡ true → (found.now.span.start ≡ found.now.span.end)
-        × (last_match_end ≡ Some found.now.span.end) }
-    ensures elsewhere { result ≡ false → found.now.span.start ≡ found.now.span.end
-        → last_match_end ≡ Some found.now.span.end → ⊥ }
+/// Whether the match whose places stand in the slots is an empty one where the last one ended.
+fn is_empty_at_last(slots: &[Option<NonMaxUsize>], last_match_end: Option<usize>) -> bool
+    ensures here { result ≡ true → (place_in slots.now 0 ≡ place_in slots.now 1)
+        × (last_match_end ≡ place_in slots.now 1) }
+    ensures elsewhere { result ≡ false → place_in slots.now 0 ≡ place_in slots.now 1
+        → last_match_end ≡ place_in slots.now 1 → ⊥ }
 {
-    found.is_empty() && last_match_end == Some(found.end())
+    let end = place_in(slots, 1);
+    place_in(slots, 0) == end && last_match_end == end
 }
 
-/// Returns the match that comes next where the last one, if there was one, ended at
-/// `last_match_end`: an empty match there is passed over, and the search goes on one byte further
-/// than the span starts. It is a whole match, also where `earliest` is set. The one error is
-/// `Memory`. Requires that the cache is one for the engine.
+/// Returns the pattern of the match that comes next where the last one, if there was one, ended at
+/// `last_match_end`, and puts its places into the slots, as many as there are; all others hold
+/// none. An empty match there is passed over, and the search goes on one byte further than the span
+/// starts. It is a whole match, also where `earliest` is set. The one error is `Memory`: then no
+/// slot holds a place. Requires that the cache is one for the engine, and two slots or more.
+pub fn next_slots<C: Cursor>(
+    vm: &PikeVM,
+    cache: &mut Cache,
+    input: &mut Input<C>,
+    slots: &mut [Option<NonMaxUsize>],
+    last_match_end: Option<usize>,
+) -> Result<Option<PatternID>, MatchError>
+    requires made { IsCacheOf vm.now.program cache.old }
+    requires slots { 2 ≤ length slots.old }
+    ensures answer { IfOk result (λ pattern. IsNextAnswer vm.now.program
+        (search_by vm.now input.old) last_match_end pattern slots.new) }
+    ensures none { OnErr result (slots.new ≡ no_slots (length slots.new)) }
+    ensures made { IsCacheOf vm.now.program cache.new }
+    ensures same { (start : ℕ) × StartsFrom input.old input.new start }
+    ensures refused { IfErr result (λ error. error ≡ MatchError.Memory) }
+{
+    // Laws, for the proof alone.
+    matches_note_their_places();
+    finds_lie_inside::<CharacterSet>();
+    let _groups = vm.group_info(); // tells that the program is that of a tree
+    let _at = input.position(); // tells how long the content may be
+    let Some(pattern) = seek(vm, cache, input, false, slots)? else {
+        return Ok(None);
+    };
+    if !is_empty_at_last(slots, last_match_end) {
+        return Ok(Some(pattern));
+    }
+    let start = input.start();
+    input.set_start(start + 1);
+    seek(vm, cache, input, false, slots)
+}
+
+/// Returns the match that comes next, as `next_slots` finds it. The one error is `Memory`. Requires
+/// that the cache is one for the engine.
 pub fn find_next<C: Cursor>(
     vm: &PikeVM,
     cache: &mut Cache,
@@ -459,21 +497,18 @@ pub fn find_next<C: Cursor>(
     ensures same { (start : ℕ) × StartsFrom input.old input.new start }
     ensures refused { IfErr result (λ error. error ≡ MatchError.Memory) }
 {
-    // A law, for the proof alone.
+    // Laws, for the proof alone.
+    matches_note_their_places();
     finds_lie_inside::<CharacterSet>();
-    let _at = input.position(); // tells how long the content may be
-    let Some(found) = look_for(vm, cache, input, false)? else {
+    let _groups = vm.group_info(); // tells that the program is that of a tree
+    let mut slots = [None; 2];
+    let Some(pattern) = next_slots(vm, cache, input, &mut slots, last_match_end)? else {
         return Ok(None);
     };
-    if !is_empty_at_last(&found, last_match_end) {
-        return Ok(Some(found));
-    }
-    let start = input.start();
-    input.set_start(start + 1);
-    look_for(vm, cache, input, false)
+    Ok(match_in(pattern, &slots))
 }
 
-/// Notes the match that comes next, as `find_next` finds it, with all its groups. The one error is
+/// Notes the match that comes next, as `next_slots` finds it, with all its groups. The one error is
 /// `Memory`: then no pattern is noted. Requires that the cache is one for the engine, and the
 /// captures of its groups, with two slots or more.
 pub fn search_next<C: Cursor>(
@@ -503,17 +538,10 @@ pub fn search_next<C: Cursor>(
     matches_note_their_places();
     finds_lie_inside::<CharacterSet>();
     let _groups = vm.group_info(); // tells that the program is that of a tree
-    let _at = input.position(); // tells how long the content may be
-    note(vm, cache, input, false, caps)?;
-    let Some(found) = caps.get_match() else {
-        return Ok(());
-    };
-    if !is_empty_at_last(&found, last_match_end) {
-        return Ok(());
-    }
-    let from = input.start();
-    input.set_start(from + 1);
-    note(vm, cache, input, false, caps)
+    caps.set_pattern(None);
+    let found = next_slots(vm, cache, input, caps.slots_mut(), last_match_end)?;
+    caps.set_pattern(found);
+    Ok(())
 }
 
 /// Returns an iterator over the matches in an input, one after the other. An empty match where the

@@ -4,7 +4,6 @@ ghost use Rattle.regex_cursor.specs.Regexes.{HasRoom, IsCacheOf};
 
 use super::cache::Cache;
 use super::regex::Regex;
-use super::strategy::search_next;
 use rx_chunk::laws::fewer_are_left;
 use rx_input::{Cursor, Input};
 use rx_sets::CharacterSet;
@@ -97,10 +96,10 @@ impl<'r, C: Cursor + Drop> Iterator for CapturesMatches<'r, C> {
         }
         // A law, for the proof alone.
         fewer_are_left();
-        let vm = self.re.vm();
+        let strategy = self.re.strategy();
         let last = self.last_match_end;
         let cache = &mut self.cache;
-        if let Err(error) = search_next(vm, cache, &mut self.input, &mut self.caps, last) {
+        if let Err(error) = strategy.search_next(cache, &mut self.input, &mut self.caps, last) {
             self.is_over = true;
             return Some(Err(error));
         }

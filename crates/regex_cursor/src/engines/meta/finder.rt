@@ -4,7 +4,6 @@ ghost use Rattle.regex_cursor.specs.Regexes.{IsCacheOf};
 
 use super::cache::Cache;
 use super::regex::Regex;
-use super::strategy::find_next;
 use rx_chunk::laws::fewer_are_left;
 use rx_input::{Cursor, Input};
 use rx_util::{Match, MatchError};
@@ -69,8 +68,8 @@ impl<'r> Finder<'r> {
         }
         // A law, for the proof alone.
         fewer_are_left();
-        let vm = self.re.vm();
-        match find_next(vm, &mut self.cache, input, self.last_match_end) {
+        let last = self.last_match_end;
+        match self.re.strategy().find_next(&mut self.cache, input, last) {
             Ok(Some(found)) => {
                 let end = found.end();
                 input.set_start(end);

@@ -19,7 +19,7 @@ use super::captures_matches::CapturesMatches;
 use super::find_matches::FindMatches;
 use super::split::Split;
 use super::split_n::SplitN;
-use super::strategy::{self, Strategy};
+use super::strategy::Strategy;
 use rx_chunk::pikevm::PikeVM;
 use rx_input::{Cursor, Input};
 use rx_literals::laws::no_needle_no_match;
@@ -104,7 +104,7 @@ impl Regex {
         ensures refused { IfErr result (λ error. error ≡ MatchError.Memory) }
     {
         let mut cache = self.create_cache()?;
-        strategy::is_match(self.vm(), &mut cache, &mut input)
+        self.strategy.is_match(&mut cache, &mut input)
     }
 
     /// Returns the match that is found, as `search` does.
@@ -266,7 +266,7 @@ impl Regex {
         ensures same { IsSameContent input.old.cursor input.new.cursor }
         ensures refused { IfErr result (λ error. error ≡ MatchError.Memory) }
     {
-        strategy::find(self.vm(), cache, input)
+        self.strategy.find(cache, input)
     }
 
     /// Notes what is found in captures: its pattern, and the places in as many slots as they have.
@@ -293,7 +293,7 @@ impl Regex {
         ensures same { IsSameContent input.old.cursor input.new.cursor }
         ensures refused { IfErr result (λ error. error ≡ MatchError.Memory) }
     {
-        strategy::search(self.vm(), cache, input, caps)
+        self.strategy.search(cache, input, caps)
     }
 
     /// Returns the pattern of the match that is found, if there is one, and puts its places into
@@ -315,7 +315,7 @@ impl Regex {
         ensures same { IsSameContent input.old.cursor input.new.cursor }
         ensures refused { IfErr result (λ error. error ≡ MatchError.Memory) }
     {
-        strategy::search_slots(self.vm(), cache, input, slots)
+        self.strategy.search_slots(cache, input, slots)
     }
 
     /// Returns a place of the input's span up to which no match lies, told by the literals that

@@ -6,40 +6,93 @@ ghost use Rattle.std.specs.Option.{ForSome};
 ghost use Rattle.rx_util.specs.declared.search.MatchError.{MatchError};
 ghost use Rattle.rx_util.specs.Captured.{group_span, match_found};
 ghost use Rattle.rx_input.specs.Cursors.{IsSameContent};
+ghost use Rattle.rx_walks.specs.Finds.{from_place_on};
 ghost use Rattle.rx_program.specs.Programs.{characters_of};
 ghost use Rattle.rx_literals.specs.Beginnings.{BeginsWith};
-ghost use Rattle.rx_dfa.specs.Caches as automata;
 ghost use Rattle.rx_dfa.specs.Searching.{IsHalfAnswer};
 ghost use Rattle.rx_chunk.specs.Engines.{TellsWhether};
-ghost use Rattle.rx_chunk.specs.Iterating.{EndsAhead, HasNotedNext, IsFoundNext, StartsFrom};
+ghost use Rattle.rx_chunk.specs.Iterating.{EndsAhead, HasNotedNext, IsFoundNext, IsNextAnswer, StartsFrom};
 ghost use Rattle.regex_cursor.specs.Regexes.{HoldsMatches, IsCacheOf, TellsMatch, TellsSlots, TellsWhole, search_by};
-ghost use Rattle.regex_cursor.specs.Strategies.{AreEngines, IsStart};
+ghost use Rattle.regex_cursor.specs.Cores.{IsCore};
+ghost use Rattle.regex_cursor.specs.Strategies.{AreKeptFor, IsLeft, IsStart, IsTold};
 
-use super::cache::Cache;
+use super::cache::{Cache, Kept};
 use super::dense::closed_of;
 use super::left::{
-    Left, Start, clear_slots, match_in, note_nothing, put_back, put_match, start_of_literal,
+    Left, Start, Told, clear_slots, match_in, note_nothing, put_back, put_match, start_of_literal,
 };
 use rx_chunk::pikevm::{self, PikeVM};
-use rx_dfa::{Alphabet, DenseTable, try_search_fwd};
+use rx_dfa::{Alphabet, DenseTable};
 use rx_input::{Cursor, Input};
 use rx_literals::laws::{matches_come_behind, no_needle_no_match};
 use rx_literals::{Prefilter, literal};
 use rx_program::Program;
+use rx_program::laws::matches_note_their_places;
 use rx_sets::CharacterSet;
 use rx_util::{Captures, HalfMatch, Match, MatchError, MatchKind, NonMaxUsize, PatternID};
-use rx_walks::laws::finds_lie_inside;
+use rx_walks::laws::{finds_exist, finds_lie_inside};
 use std::alloc::{AllocError, Global};
 use std::marker::Model;
+use std::rc::Rc;
 
 /// How many bytes the states of an automaton may take in a cache, about.
 const CACHE_CAPACITY: usize = 2_097_152;
 
-/// The engines of a regex, which it shares with its clones and its caches.
+/// What a regex shares with its clones and its caches: the engine that serves any search, and the
+/// automaton of its program.
 #[derive(Debug, Drop)]
-pub(super) struct Strategy {
+pub(super) struct Core {
     vm: PikeVM,
     dfa: Alphabet,
+}
+
+impl Model for Core {
+    ghost use Rattle.regex_cursor.specs.Cores.{CoreView, IsCore};
+
+    ghost Value = { CoreView };
+
+    ghost view = { λ c. record { vm = c.vm; dfa = c.dfa } };
+
+    ghost invariant = { λ c. IsCore (record { vm = c.vm; dfa = c.dfa }) };
+}
+
+impl Core {
+    /// A PikeVM, and the automaton of its program. `utf8_empty` is as the PikeVM has it.
+    fn new(alloc: Global, vm: PikeVM, utf8_empty: bool) -> Result<Core, AllocError>
+        requires { utf8_empty ≡ vm.utf8_empty }
+        ensures { IfOk result (λ core. core.vm ≡ vm) }
+    {
+        let dfa = Alphabet::new(alloc, vm.program(), utf8_empty, CACHE_CAPACITY)?;
+        Ok(Core { vm, dfa })
+    }
+
+    /// The engine that serves any search.
+    pub(super) fn vm(&self) -> &PikeVM
+        ensures { result.now ≡ self.now.vm }
+    {
+        &self.vm
+    }
+
+    /// The automaton.
+    pub(super) fn dfa(&self) -> &Alphabet
+        ensures dfa { result.now ≡ self.now.dfa }
+        ensures core { IsCore self.now }
+    {
+        &self.dfa
+    }
+
+    /// The program that both search for.
+    pub(super) fn program(&self) -> &Program
+        ensures { result.now ≡ self.now.vm.program }
+    {
+        self.vm.program()
+    }
+}
+
+/// The engines of a regex, which it shares with its clones.
+#[derive(Debug, Drop)]
+pub(super) struct Strategy {
+    core: Rc<Core>,
     // Where program and automaton are small.
     closed: Option<DenseTable>,
     // Of the literals of which each match begins with one, if they are known.
@@ -54,20 +107,29 @@ impl Model for Strategy {
     ghost Value = { Engines };
 
     ghost view = { λ s. record {
-      vm = s.vm;
-      dfa = s.dfa;
+      vm = s.core.value.vm;
+      dfa = s.core.value.dfa;
       closed = s.closed;
       prefilter = s.prefilter;
       literal = s.literal;
     } };
 
     ghost invariant = { λ s. AreEngines (record {
-      vm = s.vm;
-      dfa = s.dfa;
+      vm = s.core.value.vm;
+      dfa = s.core.value.dfa;
       closed = s.closed;
       prefilter = s.prefilter;
       literal = s.literal;
     }) };
+}
+
+/// By how many bytes the automaton came on that answers so in a search of an input.
+fn bytes_of<C: Cursor>(answer: &Result<Option<HalfMatch>, MatchError>, input: &Input<C>) -> usize {
+    let place = match answer {
+        Err(MatchError::GaveUp { offset }) => *offset,
+        _ => input.position(),
+    };
+    place.saturating_sub(input.start())
 }
 
 impl Strategy {
@@ -79,40 +141,38 @@ impl Strategy {
         requires { utf8_empty ≡ vm.utf8_empty }
         ensures { IfOk result (λ strategy. strategy.vm ≡ vm) }
     {
-        let dfa = Alphabet::new(alloc, vm.program(), utf8_empty, CACHE_CAPACITY)?;
-        let closed = closed_of(alloc, vm.program(), &dfa)?;
+        let core = Core::new(alloc, vm, utf8_empty)?;
+        let closed = closed_of(alloc, core.program(), core.dfa())?;
         let kind = MatchKind::LeftmostFirst;
-        let prefilter = Prefilter::from_program(alloc, kind, vm.program())?;
-        let literal = Prefilter::of_literal(alloc, vm.program())?;
+        let prefilter = Prefilter::from_program(alloc, kind, core.program())?;
+        let literal = Prefilter::of_literal(alloc, core.program())?;
         Ok(Strategy {
-            vm,
-            dfa,
+            core: Rc::new(alloc, core)?,
             closed,
             prefilter,
             literal,
         })
     }
 
+    /// What its caches are made for.
+    pub(super) fn core(&self) -> &Rc<Core>
+        ensures { result.now.value.vm ≡ self.now.vm }
+    {
+        &self.core
+    }
+
     /// The engine that serves any search.
     pub(super) fn vm(&self) -> &PikeVM
         ensures { result.now ≡ self.now.vm }
     {
-        &self.vm
+        self.core.vm()
     }
 
-    /// The automaton.
-    pub(super) fn dfa(&self) -> &Alphabet
-        ensures dfa { result.now ≡ self.now.dfa }
-        ensures engines { AreEngines self.now }
-    {
-        &self.dfa
-    }
-
-    /// The program that both search for.
+    /// The program that its engines search for.
     pub(super) fn program(&self) -> &Program
         ensures { result.now ≡ self.now.vm.program }
     {
-        self.vm.program()
+        self.core.program()
     }
 
     /// The prefilter of what each match begins with, if one is known.
@@ -123,23 +183,108 @@ impl Strategy {
         self.prefilter.as_ref()
     }
 
-    /// Where the match ends, by the automaton. The cache must be one for it, and still is one
-    /// afterwards. Where all states are made already, it isn't looked at.
-    pub(super) fn search_half<C: Cursor>(
+    /// Where the match ends, by the automaton. Where all states are made already, those that are
+    /// kept aren't looked at.
+    fn search_half<C: Cursor>(
         &self,
-        cache: &mut rx_dfa::Cache,
+        kept: &mut Kept,
         input: &mut Input<C>,
     ) -> Result<Option<HalfMatch>, MatchError>
-        requires made { automata.IsCacheOf self.now.vm.program self.now.dfa cache.old }
+        requires serve { AreKeptFor self.now kept.old }
         ensures answer { IfOk result (IsHalfAnswer self.now.vm.program
             (search_by self.now.vm input.old)) }
-        ensures made { automata.IsCacheOf self.now.vm.program self.now.dfa cache.new }
+        ensures serve { AreKeptFor self.now kept.new }
+        ensures core { kept.new.core ≡ kept.old.core }
         ensures asked { input.new.asked ≡ input.old.asked }
         ensures same { IsSameContent input.old.cursor input.new.cursor }
     {
         match &self.closed {
-            Some(closed) => closed.try_search_fwd(self.program(), &self.dfa, input),
-            None => try_search_fwd(self.program(), &self.dfa, cache, input),
+            Some(closed) => closed.try_search_fwd(self.program(), self.core.dfa(), input),
+            None => kept.search_half(input),
+        }
+    }
+
+    /// Asks what is left of a search: the literals that matches are or begin with are looked for
+    /// first, if these are known, and the automaton is asked from there on. The one error is
+    /// `Memory`.
+    fn ask<C: Cursor>(&self, kept: &mut Kept, input: &mut Input<C>) -> Result<Left, MatchError>
+        requires serve { AreKeptFor self.now kept.old }
+        ensures left { IfOk result (IsLeft self.now.vm.program (search_by self.now.vm input.old)) }
+        ensures serve { AreKeptFor self.now kept.new }
+        ensures core { kept.new.core ≡ kept.old.core }
+        ensures asked { input.new.asked ≡ input.old.asked }
+        ensures same { IsSameContent input.old.cursor input.new.cursor }
+        ensures refused { IfErr result (λ error. error ≡ MatchError.Memory) }
+    {
+        if input.is_done() {
+            // Laws, for the proof alone.
+            finds_exist::<CharacterSet>();
+            finds_lie_inside::<CharacterSet>();
+            return Ok(Left::Nothing);
+        }
+        match self.first_start(input) {
+            Start::Nowhere => Ok(Left::Nothing),
+            Start::At(span) => Ok(Left::Match(span)),
+            Start::From(place) => self.ask_from(place, kept, input),
+        }
+    }
+
+    /// Asks the automaton what is left of a search from a place of the span on.
+    fn ask_from<C: Cursor>(
+        &self,
+        place: usize,
+        kept: &mut Kept,
+        input: &mut Input<C>,
+    ) -> Result<Left, MatchError>
+        requires behind { input.old.asked.span.start ≤ place }
+        requires before { place ≤ input.old.asked.span.end }
+        requires serve { AreKeptFor self.now kept.old }
+        ensures left { IfOk result (IsLeft self.now.vm.program
+            (from_place_on (search_by self.now.vm input.old) place)) }
+        ensures serve { AreKeptFor self.now kept.new }
+        ensures core { kept.new.core ≡ kept.old.core }
+        ensures asked { input.new.asked ≡ input.old.asked }
+        ensures same { IsSameContent input.old.cursor input.new.cursor }
+        ensures refused { IfErr result (λ error. error ≡ MatchError.Memory) }
+    {
+        let whole = input.get_span();
+        input.set_start(place);
+        let rest = input.get_span();
+        let answer = self.ask_automaton(kept, input);
+        put_back(input, whole);
+        match answer {
+            Ok(told) => Ok(told.left_in(rest)),
+            Err(error) => Err(error),
+        }
+    }
+
+    /// Asks the automaton what it tells of a search: that there is no match, or where the match
+    /// ends; or nothing, where it can't tell, or where it would come to more than the search
+    /// needs. The one refusal is `Memory`.
+    fn ask_automaton<C: Cursor>(
+        &self,
+        kept: &mut Kept,
+        input: &mut Input<C>,
+    ) -> Result<Told, MatchError>
+        requires serve { AreKeptFor self.now kept.old }
+        ensures told { IfOk result (IsTold self.now.vm.program (search_by self.now.vm input.old)) }
+        ensures serve { AreKeptFor self.now kept.new }
+        ensures core { kept.new.core ≡ kept.old.core }
+        ensures asked { input.new.asked ≡ input.old.asked }
+        ensures same { IsSameContent input.old.cursor input.new.cursor }
+        ensures refused { IfErr result (λ error. error ≡ MatchError.Memory) }
+    {
+        let wants_less = input.get_earliest() || input.get_anchored().is_anchored();
+        if wants_less || !kept.pays() {
+            return Ok(Told::Unknown);
+        }
+        let answer = self.search_half(kept, input);
+        kept.pass(bytes_of(&answer, input));
+        match answer {
+            Ok(Some(half)) => Ok(Told::EndsAt(half.offset())),
+            Ok(None) => Ok(Told::NoMatch),
+            Err(MatchError::Memory) => Err(MatchError::Memory),
+            Err(_) => Ok(Told::Unknown),
         }
     }
 
@@ -179,204 +324,234 @@ impl Strategy {
             _ => Start::From(input.start()),
         }
     }
-}
 
-/// Whether there is a match. The cache must be one for the engine, and still is one afterwards. The
-/// one refusal is `Memory`.
-pub(super) fn is_match<C: Cursor>(
-    vm: &PikeVM,
-    cache: &mut Cache,
-    input: &mut Input<C>,
-) -> Result<bool, MatchError>
-    requires made { IsCacheOf vm.now cache.old }
-    ensures answer { IfOk result (λ yes. TellsWhether vm.now.program
-        (search_by vm.now input.old) yes) }
-    ensures made { IsCacheOf vm.now cache.new }
-    ensures asked { input.new.asked ≡ input.old.asked }
-    ensures same { IsSameContent input.old.cursor input.new.cursor }
-    ensures refused { IfErr result (λ error. error ≡ MatchError.Memory) }
-{
-    match cache.ask(input)? {
-        Left::Nothing => Ok(false),
-        Left::Match(_) => Ok(true),
-        Left::In(part) if part.has_match => Ok(true),
-        Left::In(part) => {
-            let whole = part.cut(input);
-            let yes = pikevm::is_match(vm, &mut cache.kept.vm, input);
-            put_back(input, whole);
-            yes
+    /// Whether there is a match. The cache must be one for the regex, and still is one afterwards.
+    /// The one refusal is `Memory`.
+    pub(super) fn is_match<C: Cursor>(
+        &self,
+        cache: &mut Cache,
+        input: &mut Input<C>,
+    ) -> Result<bool, MatchError>
+        requires made { IsCacheOf self.now.vm cache.old }
+        ensures answer { IfOk result (λ yes. TellsWhether self.now.vm.program
+            (search_by self.now.vm input.old) yes) }
+        ensures made { IsCacheOf self.now.vm cache.new }
+        ensures asked { input.new.asked ≡ input.old.asked }
+        ensures same { IsSameContent input.old.cursor input.new.cursor }
+        ensures refused { IfErr result (λ error. error ≡ MatchError.Memory) }
+    {
+        match self.ask(&mut cache.kept, input)? {
+            Left::Nothing => Ok(false),
+            Left::Match(_) => Ok(true),
+            Left::In(part) if part.has_match => Ok(true),
+            Left::In(part) => {
+                let whole = part.cut(input);
+                let yes = pikevm::is_match(self.vm(), &mut cache.kept.vm, input);
+                put_back(input, whole);
+                yes
+            }
         }
     }
-}
 
-/// The match that is found. The cache must be one for the engine, and still is one afterwards. The
-/// one refusal is `Memory`.
-pub(super) fn find<C: Cursor>(
-    vm: &PikeVM,
-    cache: &mut Cache,
-    input: &mut Input<C>,
-) -> Result<Option<Match>, MatchError>
-    requires made { IsCacheOf vm.now cache.old }
-    ensures answer { IfOk result (λ found. TellsMatch vm.now input.old found) }
-    ensures made { IsCacheOf vm.now cache.new }
-    ensures asked { input.new.asked ≡ input.old.asked }
-    ensures same { IsSameContent input.old.cursor input.new.cursor }
-    ensures refused { IfErr result (λ error. error ≡ MatchError.Memory) }
-{
-    match cache.ask(input)? {
-        Left::Nothing => Ok(None),
-        Left::Match(span) => Ok(Some(match_in(span))),
-        Left::In(part) => {
-            let whole = part.cut(input);
-            let found = pikevm::find(vm, &mut cache.kept.vm, input);
-            put_back(input, whole);
-            found
+    /// The match that is found. The cache must be one for the regex, and still is one afterwards.
+    /// The one refusal is `Memory`.
+    pub(super) fn find<C: Cursor>(
+        &self,
+        cache: &mut Cache,
+        input: &mut Input<C>,
+    ) -> Result<Option<Match>, MatchError>
+        requires made { IsCacheOf self.now.vm cache.old }
+        ensures answer { IfOk result (λ found. TellsMatch self.now.vm input.old found) }
+        ensures made { IsCacheOf self.now.vm cache.new }
+        ensures asked { input.new.asked ≡ input.old.asked }
+        ensures same { IsSameContent input.old.cursor input.new.cursor }
+        ensures refused { IfErr result (λ error. error ≡ MatchError.Memory) }
+    {
+        match self.ask(&mut cache.kept, input)? {
+            Left::Nothing => Ok(None),
+            Left::Match(span) => Ok(Some(match_in(span))),
+            Left::In(part) => {
+                let whole = part.cut(input);
+                let found = pikevm::find(self.vm(), &mut cache.kept.vm, input);
+                put_back(input, whole);
+                found
+            }
         }
     }
-}
 
-/// The pattern of the match that is found; its places are put into the slots, as many as there are,
-/// and all others hold none. The cache must be one for the engine, and still is one afterwards. The
-/// one refusal is `Memory`: what the slots then hold has no meaning.
-pub(super) fn search_slots<C: Cursor>(
-    vm: &PikeVM,
-    cache: &mut Cache,
-    input: &mut Input<C>,
-    slots: &mut [Option<NonMaxUsize>],
-) -> Result<Option<PatternID>, MatchError>
-    requires made { IsCacheOf vm.now cache.old }
-    ensures answer { IfOk result (λ pattern. TellsSlots vm.now input.old pattern slots.new) }
-    ensures made { IsCacheOf vm.now cache.new }
-    ensures asked { input.new.asked ≡ input.old.asked }
-    ensures same { IsSameContent input.old.cursor input.new.cursor }
-    ensures refused { IfErr result (λ error. error ≡ MatchError.Memory) }
-{
-    match cache.ask(input)? {
-        Left::Nothing => {
-            clear_slots(slots);
-            Ok(None)
-        }
-        Left::Match(span) => {
-            // A law, for the proof alone.
-            finds_lie_inside::<CharacterSet>();
-            let _at = input.position(); // tells how long the content may be
-            put_match(slots, span);
-            Ok(Some(PatternID::ZERO))
-        }
-        Left::In(part) => {
-            let whole = part.cut(input);
-            let found = pikevm::search_slots(vm, &mut cache.kept.vm, input, slots);
-            put_back(input, whole);
-            found
+    /// The pattern of the match that is found; its places are put into the slots, as many as there
+    /// are, and all others hold none. The cache must be one for the regex, and still is one
+    /// afterwards. The one refusal is `Memory`: what the slots then hold has no meaning.
+    pub(super) fn search_slots<C: Cursor>(
+        &self,
+        cache: &mut Cache,
+        input: &mut Input<C>,
+        slots: &mut [Option<NonMaxUsize>],
+    ) -> Result<Option<PatternID>, MatchError>
+        requires made { IsCacheOf self.now.vm cache.old }
+        ensures answer { IfOk result
+            (λ pattern. TellsSlots self.now.vm input.old pattern slots.new) }
+        ensures made { IsCacheOf self.now.vm cache.new }
+        ensures asked { input.new.asked ≡ input.old.asked }
+        ensures same { IsSameContent input.old.cursor input.new.cursor }
+        ensures refused { IfErr result (λ error. error ≡ MatchError.Memory) }
+    {
+        match self.ask(&mut cache.kept, input)? {
+            Left::Nothing => {
+                clear_slots(slots);
+                Ok(None)
+            }
+            Left::Match(span) => {
+                // A law, for the proof alone.
+                finds_lie_inside::<CharacterSet>();
+                let _at = input.position(); // tells how long the content may be
+                put_match(slots, span);
+                Ok(Some(PatternID::ZERO))
+            }
+            Left::In(part) => {
+                let whole = part.cut(input);
+                let found = pikevm::search_slots(self.vm(), &mut cache.kept.vm, input, slots);
+                put_back(input, whole);
+                found
+            }
         }
     }
-}
 
-/// Notes what is found, as `search_slots` does. In captures of the engine's groups with two slots
-/// and more group 0 is then the whole match. The cache must be one for the engine, and still is one
-/// afterwards. The one refusal is `Memory`: then no pattern is noted.
-pub(super) fn search<C: Cursor>(
-    vm: &PikeVM,
-    cache: &mut Cache,
-    input: &mut Input<C>,
-    caps: &mut Captures,
-) -> Result<(), MatchError>
-    requires made { IsCacheOf vm.now cache.old }
-    ensures answer { OnOk result
-        (TellsSlots vm.now input.old caps.new.pattern caps.new.slots) }
-    ensures whole { HoldsMatches vm.now caps.old
-        → OnOk result (TellsWhole vm.now input.old caps.new) }
-    ensures groups { caps.new.groups ≡ caps.old.groups }
-    ensures slot_len { length caps.new.slots ≡ length caps.old.slots }
-    ensures no_answer { OnErr result (caps.new.pattern ≡ None) }
-    ensures made { IsCacheOf vm.now cache.new }
-    ensures asked { input.new.asked ≡ input.old.asked }
-    ensures same { IsSameContent input.old.cursor input.new.cursor }
-    ensures refused { IfErr result (λ error. error ≡ MatchError.Memory) }
-{
-    caps.set_pattern(None);
-    match cache.ask(input)?.part() {
-        None => {
-            note_nothing(caps);
-            Ok(())
-        }
-        Some(part) => {
-            let whole = part.cut(input);
-            let told = pikevm::search(vm, &mut cache.kept.vm, input, caps);
-            put_back(input, whole);
-            told
+    /// Notes what is found, as `search_slots` does. In captures of the regex's groups with two
+    /// slots and more group 0 is then the whole match. The cache must be one for the regex, and
+    /// still is one afterwards. The one refusal is `Memory`: then no pattern is noted.
+    pub(super) fn search<C: Cursor>(
+        &self,
+        cache: &mut Cache,
+        input: &mut Input<C>,
+        caps: &mut Captures,
+    ) -> Result<(), MatchError>
+        requires made { IsCacheOf self.now.vm cache.old }
+        ensures answer { OnOk result
+            (TellsSlots self.now.vm input.old caps.new.pattern caps.new.slots) }
+        ensures whole { HoldsMatches self.now.vm caps.old
+            → OnOk result (TellsWhole self.now.vm input.old caps.new) }
+        ensures groups { caps.new.groups ≡ caps.old.groups }
+        ensures slot_len { length caps.new.slots ≡ length caps.old.slots }
+        ensures no_answer { OnErr result (caps.new.pattern ≡ None) }
+        ensures made { IsCacheOf self.now.vm cache.new }
+        ensures asked { input.new.asked ≡ input.old.asked }
+        ensures same { IsSameContent input.old.cursor input.new.cursor }
+        ensures refused { IfErr result (λ error. error ≡ MatchError.Memory) }
+    {
+        caps.set_pattern(None);
+        match self.ask(&mut cache.kept, input)?.part() {
+            None => {
+                note_nothing(caps);
+                Ok(())
+            }
+            Some(part) => {
+                let whole = part.cut(input);
+                let told = pikevm::search(self.vm(), &mut cache.kept.vm, input, caps);
+                put_back(input, whole);
+                told
+            }
         }
     }
-}
 
-/// The match that comes next where the last one, if there was one, ended at `last_match_end`: an
-/// empty match there is passed over, and the search goes on one byte further than the span starts.
-/// The cache must be one for the engine, and still is one afterwards. The one refusal is `Memory`.
-pub(super) fn find_next<C: Cursor>(
-    vm: &PikeVM,
-    cache: &mut Cache,
-    input: &mut Input<C>,
-    last_match_end: Option<usize>,
-) -> Result<Option<Match>, MatchError>
-    requires made { IsCacheOf vm.now cache.old }
-    ensures answer { IfOk result (λ found. IsFoundNext vm.now.program
-        (search_by vm.now input.old) last_match_end found) }
-    ensures ahead { IfOk result (λ found. ForSome found (λ m. EndsAhead last_match_end
-        (search_by vm.now input.old) m.span.end)) }
-    ensures made { IsCacheOf vm.now cache.new }
-    ensures same { (start : ℕ) × StartsFrom input.old input.new start }
-    ensures refused { IfErr result (λ error. error ≡ MatchError.Memory) }
-{
-    match cache.ask(input)?.part() {
-        None => Ok(None),
-        Some(part) => {
-            let next = part.behind(last_match_end, input.get_span());
-            let whole = next.cut(input);
-            let found = pikevm::find_next(vm, &mut cache.kept.vm, input, last_match_end);
-            put_back(input, whole);
-            found
+    /// The pattern of the match that comes next where the last one, if there was one, ended at
+    /// `last_match_end`; its places are put into the slots, two or more, and all others hold none.
+    /// An empty match there is passed over, and the search goes on one byte further than the span
+    /// starts. The cache must be one for the regex, and still is one afterwards. The one refusal is
+    /// `Memory`: what the slots then hold has no meaning.
+    pub(super) fn next_slots<C: Cursor>(
+        &self,
+        cache: &mut Cache,
+        input: &mut Input<C>,
+        slots: &mut [Option<NonMaxUsize>],
+        last_match_end: Option<usize>,
+    ) -> Result<Option<PatternID>, MatchError>
+        requires made { IsCacheOf self.now.vm cache.old }
+        requires slots { 2 ≤ length slots.old }
+        ensures answer { IfOk result (λ pattern. IsNextAnswer self.now.vm.program
+            (search_by self.now.vm input.old) last_match_end pattern slots.new) }
+        ensures made { IsCacheOf self.now.vm cache.new }
+        ensures same { (start : ℕ) × StartsFrom input.old input.new start }
+        ensures refused { IfErr result (λ error. error ≡ MatchError.Memory) }
+    {
+        match self.ask(&mut cache.kept, input)?.part() {
+            None => {
+                clear_slots(slots);
+                Ok(None)
+            }
+            Some(part) => {
+                let next = part.behind(last_match_end, input.get_span());
+                let whole = next.cut(input);
+                let room = &mut cache.kept.vm;
+                let found = pikevm::next_slots(self.vm(), room, input, slots, last_match_end);
+                put_back(input, whole);
+                found
+            }
         }
     }
-}
 
-/// Notes the match that comes next, as `find_next` finds it, with all its groups, in captures of
-/// the engine's groups with two slots or more. The cache must be one for the engine, and still is
-/// one afterwards. The one refusal is `Memory`: then no pattern is noted.
-pub(super) fn search_next<C: Cursor>(
-    vm: &PikeVM,
-    cache: &mut Cache,
-    input: &mut Input<C>,
-    caps: &mut Captures,
-    last_match_end: Option<usize>,
-) -> Result<(), MatchError>
-    requires made { IsCacheOf vm.now cache.old }
-    requires groups { caps.old.groups ≡ vm.now.groups }
-    requires slots { 2 ≤ length caps.old.slots }
-    ensures answer { OnOk result (HasNotedNext vm.now.program
-        (search_by vm.now input.old) last_match_end caps.new) }
-    ensures ordered { OnOk result (ForSome (group_span caps.new 0)
-        (λ span. span.start ≤ span.end)) }
-    ensures ahead { OnOk result (ForSome (match_found caps.new) (λ m. EndsAhead last_match_end
-        (search_by vm.now input.old) m.span.end)) }
-    ensures groups { caps.new.groups ≡ caps.old.groups }
-    ensures slot_len { length caps.new.slots ≡ length caps.old.slots }
-    ensures no_answer { OnErr result (caps.new.pattern ≡ None) }
-    ensures made { IsCacheOf vm.now cache.new }
-    ensures same { (start : ℕ) × StartsFrom input.old input.new start }
-    ensures refused { IfErr result (λ error. error ≡ MatchError.Memory) }
-{
-    caps.set_pattern(None);
-    match cache.ask(input)?.part() {
-        None => {
-            note_nothing(caps);
-            Ok(())
-        }
-        Some(part) => {
-            let next = part.behind(last_match_end, input.get_span());
-            let whole = next.cut(input);
-            let told = pikevm::search_next(vm, &mut cache.kept.vm, input, caps, last_match_end);
-            put_back(input, whole);
-            told
-        }
+    /// The match that comes next, as `next_slots` finds it. The cache must be one for the regex,
+    /// and still is one afterwards. The one refusal is `Memory`.
+    pub(super) fn find_next<C: Cursor>(
+        &self,
+        cache: &mut Cache,
+        input: &mut Input<C>,
+        last_match_end: Option<usize>,
+    ) -> Result<Option<Match>, MatchError>
+        requires made { IsCacheOf self.now.vm cache.old }
+        ensures answer { IfOk result (λ found. IsFoundNext self.now.vm.program
+            (search_by self.now.vm input.old) last_match_end found) }
+        ensures ahead { IfOk result (λ found. ForSome found (λ m. EndsAhead last_match_end
+            (search_by self.now.vm input.old) m.span.end)) }
+        ensures made { IsCacheOf self.now.vm cache.new }
+        ensures same { (start : ℕ) × StartsFrom input.old input.new start }
+        ensures refused { IfErr result (λ error. error ≡ MatchError.Memory) }
+    {
+        // Laws, for the proof alone.
+        matches_note_their_places();
+        finds_lie_inside::<CharacterSet>();
+        let _groups = self.vm().group_info(); // tells that the program is that of a tree
+        let mut slots = [None; 2];
+        let next = self.next_slots(cache, input, &mut slots, last_match_end)?;
+        let Some(pattern) = next else {
+            return Ok(None);
+        };
+        Ok(pikevm::match_in(pattern, &slots))
+    }
+
+    /// Notes the match that comes next, as `next_slots` finds it, with all its groups, in captures
+    /// of the regex's groups with two slots or more. The cache must be one for the regex, and still
+    /// is one afterwards. The one refusal is `Memory`: then no pattern is noted.
+    pub(super) fn search_next<C: Cursor>(
+        &self,
+        cache: &mut Cache,
+        input: &mut Input<C>,
+        caps: &mut Captures,
+        last_match_end: Option<usize>,
+    ) -> Result<(), MatchError>
+        requires made { IsCacheOf self.now.vm cache.old }
+        requires groups { caps.old.groups ≡ self.now.vm.groups }
+        requires slots { 2 ≤ length caps.old.slots }
+        ensures answer { OnOk result (HasNotedNext self.now.vm.program
+            (search_by self.now.vm input.old) last_match_end caps.new) }
+        ensures ordered { OnOk result (ForSome (group_span caps.new 0)
+            (λ span. span.start ≤ span.end)) }
+        ensures ahead { OnOk result (ForSome (match_found caps.new) (λ m. EndsAhead last_match_end
+            (search_by self.now.vm input.old) m.span.end)) }
+        ensures groups { caps.new.groups ≡ caps.old.groups }
+        ensures slot_len { length caps.new.slots ≡ length caps.old.slots }
+        ensures no_answer { OnErr result (caps.new.pattern ≡ None) }
+        ensures made { IsCacheOf self.now.vm cache.new }
+        ensures same { (start : ℕ) × StartsFrom input.old input.new start }
+        ensures refused { IfErr result (λ error. error ≡ MatchError.Memory) }
+    {
+        // Laws, for the proof alone.
+        matches_note_their_places();
+        finds_lie_inside::<CharacterSet>();
+        let _groups = self.vm().group_info(); // tells that the program is that of a tree
+        caps.set_pattern(None);
+        let found = self.next_slots(cache, input, caps.slots_mut(), last_match_end)?;
+        caps.set_pattern(found);
+        Ok(())
     }
 }

@@ -13,7 +13,7 @@ use Rattle.regex_cursor.proofs.engines.meta.strategy.Strategy.first_beginning.Go
 pub returns-in-Some-find-clause-start : goal.returns-in-Some-find-clause-start
 returns-in-Some-find-clause-start g c =
     let i = c.args.input.now in
-    let vm = c.self.inside.vm in
+    let vm = c.self.inside.core.value.vm in
     let begins : BeginsWith c.in-Some.prefilter (characters_of vm.program) = subst (λ o. IfSome o (λ needles. BeginsWith needles (characters_of vm.program))) c.in-Some.is c.self.invariant.prefilter in
     let free = is_free i.asked.anchored (ap is_anchored (sym c.get_anchored.ensures) ∙ sym c.is_anchored.ensures ∙ c.if-not-is_anchored.true) in
     subst (λ (x : Engine). BeginsFrom x.program (search_of x.utf8_empty i) c.in-Some-find.span.start) (ap (λ (e : Engines). e.vm) c.self.view_is)
@@ -22,7 +22,7 @@ returns-in-Some-find-clause-start g c =
 pub returns-in-None-clause-start : goal.returns-in-None-clause-start
 returns-in-None-clause-start g c =
     let i = c.args.input.now in
-    let vm = c.self.inside.vm in
+    let vm = c.self.inside.core.value.vm in
     let begins : BeginsWith c.in-Some.prefilter (characters_of vm.program) = subst (λ o. IfSome o (λ needles. BeginsWith needles (characters_of vm.program))) c.in-Some.is c.self.invariant.prefilter in
     let free = is_free i.asked.anchored (ap is_anchored (sym c.get_anchored.ensures) ∙ sym c.is_anchored.ensures ∙ c.if-not-is_anchored.true) in
     subst (λ (x : Engine). Finds x.program (search_of x.utf8_empty i) None) (ap (λ (e : Engines). e.vm) c.self.view_is)

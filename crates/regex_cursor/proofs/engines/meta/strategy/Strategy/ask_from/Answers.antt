@@ -5,12 +5,12 @@ use Rattle.rx_walks.specs.Finds.{from_place_on}
 use Rattle.rx_steps.specs.Searching.{search_of}
 use Rattle.regex_cursor.specs.Strategies.{IsTold}
 use Rattle.regex_cursor.proofs.StartLaws.{start_search}
-use Rattle.regex_cursor.proofs.engines.meta.cache.Cache.ask_from.Goals as goal
+use Rattle.regex_cursor.proofs.engines.meta.strategy.Strategy.ask_from.Goals as goal
 
 pub returns-in-Ok-clause-left : goal.returns-in-Ok-clause-left
 returns-in-Ok-clause-left g c =
     let i = c.args.input.now in
-    let re = c.args.self.now in
+    let re = c.args.self.now.vm in
     let place = c.args.place in
     let s = from_place_on (search_of re.utf8_empty i) place in
     let search : search_of re.utf8_empty c.set_start.new.self ≡ s = start_search re.utf8_empty i c.set_start.new.self place c.set_start.ensures in

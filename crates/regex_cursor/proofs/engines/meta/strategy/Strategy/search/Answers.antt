@@ -2,45 +2,47 @@ use Rattle.std.proofs.Common.{None, Some, length, replicate, refl, sym, ap, subs
 use Rattle.rx_util.specs.Captured.{Captured, match_found}
 use Rattle.rx_steps.specs.Searching.{search_of}
 use Rattle.rx_chunk.specs.Engines.{TellsSlots}
+use Rattle.rx_engine.specs.Engines.{Engine}
+use Rattle.rx_chunk.specs.Searches as engines
 use Rattle.rx_chunk.proofs.EngineLaws.{on_ok}
 use Rattle.regex_cursor.specs.Strategies.{IsPartLeft}
-use Rattle.regex_cursor.proofs.StrategyLaws.{part_of, cut_asked, cut_search, whole_is_span, nothing_whole, no_slots_told, whole_match, whole_slots, whole_inside}
-use Rattle.regex_cursor.proofs.engines.meta.strategy.search.Goals as goal
+use Rattle.regex_cursor.proofs.StrategyLaws.{cut_asked, cut_search, whole_is_span, nothing_whole, no_slots_told, whole_match, whole_slots, whole_inside}
+use Rattle.regex_cursor.proofs.engines.meta.strategy.Strategy.search.Goals as goal
 
 pub cut-whole-requires : goal.cut-whole-requires
 cut-whole-requires g c =
     let i = c.args.input.now in
-    let re = c.args.vm.now in
-    let is = part_of re c.args.cache.now i (Some c.in-Some.part) c.requires.made.same (subst (λ o. IsPartLeft c.args.cache.now.program (search_of c.args.cache.now.utf8_empty i) o) c.in-Some.is (c.part.ensures c.args.cache.now.program (search_of c.args.cache.now.utf8_empty i) c.in_ok-ask.ensures.left)) in
+    let re = c.args.self.now.vm in
+    let is = subst (λ o. IsPartLeft re.program (search_of re.utf8_empty i) o) c.in-Some.is (c.part.ensures re.program (search_of re.utf8_empty i) c.in_ok-ask.ensures.left) in
     is.holds.ordered
 
 pub put_back-requires : goal.put_back-requires
 put_back-requires g c =
     let i = c.args.input.now in
-    let re = c.args.vm.now in
-    let is = part_of re c.args.cache.now i (Some c.in-Some.part) c.requires.made.same (subst (λ o. IsPartLeft c.args.cache.now.program (search_of c.args.cache.now.utf8_empty i) o) c.in-Some.is (c.part.ensures c.args.cache.now.program (search_of c.args.cache.now.utf8_empty i) c.in_ok-ask.ensures.left)) in
+    let re = c.args.self.now.vm in
+    let is = subst (λ o. IsPartLeft re.program (search_of re.utf8_empty i) o) c.in-Some.is (c.part.ensures re.program (search_of re.utf8_empty i) c.in_ok-ask.ensures.left) in
     whole_is_span re.program re.utf8_empty i c.ask.new.input c.in-Some.part.span c.cut-whole.result is.holds c.in_ok-ask.ensures.asked c.cut-whole.ensures.whole
 
 pub returns-in-Some-clause-answer : goal.returns-in-Some-clause-answer
 returns-in-Some-clause-answer g c =
     let i = c.args.input.now in
-    let re = c.args.vm.now in
+    let re = c.args.self.now.vm in
     let part = c.in-Some.part.span in
-    let is = part_of re c.args.cache.now i (Some c.in-Some.part) c.requires.made.same (subst (λ o. IsPartLeft c.args.cache.now.program (search_of c.args.cache.now.utf8_empty i) o) c.in-Some.is (c.part.ensures c.args.cache.now.program (search_of c.args.cache.now.utf8_empty i) c.in_ok-ask.ensures.left)) in
+    let is = subst (λ o. IsPartLeft re.program (search_of re.utf8_empty i) o) c.in-Some.is (c.part.ensures re.program (search_of re.utf8_empty i) c.in_ok-ask.ensures.left) in
     let k = c.cut-whole.new.input in
     let search = cut_search re.utf8_empty i c.ask.new.input k part c.in_ok-ask.ensures.same c.in_ok-ask.ensures.asked c.cut-whole.ensures.same c.cut-whole.ensures.asked in
     let asked = cut_asked i c.ask.new.input k part c.in_ok-ask.ensures.asked c.cut-whole.ensures.asked in
     let caps = c.search-told.new.caps in
     on_ok c.search-told.result
-    (λ told. whole_slots re.program (search_of re.utf8_empty i) part is.holds re.utf8_empty i k caps.pattern caps.slots asked search told)
+    (λ told. whole_slots re.program (search_of re.utf8_empty i) part is.holds re.utf8_empty i k caps.pattern caps.slots asked search (subst (λ (e : Engine). engines.TellsSlots e k caps.pattern caps.slots) c.vm.ensures told))
     c.search-told.ensures.answer
 
 pub returns-in-Some-clause-whole : goal.returns-in-Some-clause-whole
 returns-in-Some-clause-whole g c = λ holds.
     let i = c.args.input.now in
-    let re = c.args.vm.now in
+    let re = c.args.self.now.vm in
     let part = c.in-Some.part.span in
-    let is = part_of re c.args.cache.now i (Some c.in-Some.part) c.requires.made.same (subst (λ o. IsPartLeft c.args.cache.now.program (search_of c.args.cache.now.utf8_empty i) o) c.in-Some.is (c.part.ensures c.args.cache.now.program (search_of c.args.cache.now.utf8_empty i) c.in_ok-ask.ensures.left)) in
+    let is = subst (λ o. IsPartLeft re.program (search_of re.utf8_empty i) o) c.in-Some.is (c.part.ensures re.program (search_of re.utf8_empty i) c.in_ok-ask.ensures.left) in
     let k = c.cut-whole.new.input in
     let search = cut_search re.utf8_empty i c.ask.new.input k part c.in_ok-ask.ensures.same c.in_ok-ask.ensures.asked c.cut-whole.ensures.same c.cut-whole.ensures.asked in
     let asked = cut_asked i c.ask.new.input k part c.in_ok-ask.ensures.asked c.cut-whole.ensures.asked in
@@ -49,23 +51,23 @@ returns-in-Some-clause-whole g c = λ holds.
     let slots = ap (λ (x : Captured). length x.slots) c.set_pattern.ensures in
     on_ok c.search-told.result
     (λ whole. record {
-      match = whole_match re.program (search_of re.utf8_empty i) part is.holds re.utf8_empty i k found asked search whole.match;
+      match = whole_match re.program (search_of re.utf8_empty i) part is.holds re.utf8_empty i k found asked search (subst (λ (e : Engine). engines.TellsMatch e k found) c.vm.ensures whole.match);
       ordered = whole.ordered;
       inside = λ a some. whole_inside i k part a.span.end asked is.holds.behind is.holds.before (whole.inside a some);
     })
-    (c.search-told.ensures.whole (groups ∙ holds.0, omega (arith, slots, holds.1)))
+    (c.search-told.ensures.whole (groups ∙ holds.0 ∙ sym (ap (λ (e : Engine). e.groups) c.vm.ensures), omega (arith, slots, holds.1)))
 
 pub returns-in-None-clause-answer : goal.returns-in-None-clause-answer
 returns-in-None-clause-answer g c =
     let i = c.args.input.now in
-    let re = c.args.vm.now in
-    let none = part_of re c.args.cache.now i None c.requires.made.same (subst (λ o. IsPartLeft c.args.cache.now.program (search_of c.args.cache.now.utf8_empty i) o) c.in-None.is (c.part.ensures c.args.cache.now.program (search_of c.args.cache.now.utf8_empty i) c.in_ok-ask.ensures.left)) in
+    let re = c.args.self.now.vm in
+    let none = subst (λ o. IsPartLeft re.program (search_of re.utf8_empty i) o) c.in-None.is (c.part.ensures re.program (search_of re.utf8_empty i) c.in_ok-ask.ensures.left) in
     let n = length c.set_pattern.new.self.slots in
     subst (λ (x : Captured). TellsSlots i.asked.earliest re.program (search_of re.utf8_empty i) x.pattern x.slots) (sym c.note_nothing.ensures) (no_slots_told re.program (search_of re.utf8_empty i) i.asked.earliest (replicate n None) n none refl)
 
 pub returns-in-None-clause-whole : goal.returns-in-None-clause-whole
 returns-in-None-clause-whole g c = λ holds.
     let i = c.args.input.now in
-    let re = c.args.vm.now in
-    let none = part_of re c.args.cache.now i None c.requires.made.same (subst (λ o. IsPartLeft c.args.cache.now.program (search_of c.args.cache.now.utf8_empty i) o) c.in-None.is (c.part.ensures c.args.cache.now.program (search_of c.args.cache.now.utf8_empty i) c.in_ok-ask.ensures.left)) in
+    let re = c.args.self.now.vm in
+    let none = subst (λ o. IsPartLeft re.program (search_of re.utf8_empty i) o) c.in-None.is (c.part.ensures re.program (search_of re.utf8_empty i) c.in_ok-ask.ensures.left) in
     nothing_whole re i c.note_nothing.new.caps c.set_pattern.new.self.groups (length c.set_pattern.new.self.slots) none c.note_nothing.ensures

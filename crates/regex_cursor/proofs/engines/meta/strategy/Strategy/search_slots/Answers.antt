@@ -1,54 +1,56 @@
 use Rattle.std.proofs.Common.{length, subst}
 use Rattle.rx_steps.specs.Searching.{search_of}
+use Rattle.rx_engine.specs.Engines.{Engine}
+use Rattle.rx_chunk.specs.Searches as engines
 use Rattle.rx_chunk.proofs.EngineLaws.{if_ok}
 use Rattle.regex_cursor.specs.Strategies.{IsLeft}
 use Rattle.regex_cursor.specs.declared.engines.meta.left.Left.TheVariants.{Nothing, Match, In}
-use Rattle.regex_cursor.proofs.StrategyLaws.{left_of, cut_asked, cut_search, whole_is_span, no_slots_told, literal_fits, literal_slots_told, whole_slots}
-use Rattle.regex_cursor.proofs.engines.meta.strategy.search_slots.Goals as goal
+use Rattle.regex_cursor.proofs.StrategyLaws.{cut_asked, cut_search, whole_is_span, no_slots_told, literal_fits, literal_slots_told, whole_slots}
+use Rattle.regex_cursor.proofs.engines.meta.strategy.Strategy.search_slots.Goals as goal
 
 pub put_match-requires : goal.put_match-requires
 put_match-requires g c =
     let i = c.args.input.now in
-    let re = c.args.vm.now in
-    let literal = left_of re c.args.cache.now i (Match c.in-Match.span) c.requires.made.same (subst (λ left. IsLeft c.args.cache.now.program (search_of c.args.cache.now.utf8_empty i) left) c.in-Match.is c.in_ok-ask.ensures.left) in
+    let re = c.args.self.now.vm in
+    let literal = subst (λ left. IsLeft re.program (search_of re.utf8_empty i) left) c.in-Match.is c.in_ok-ask.ensures.left in
     let fits = literal_fits re.program re.utf8_empty i c.ask.new.input.cursor c.in-Match.span c.finds_lie_inside.ensures c.in_ok-ask.ensures.same c.position-at.ensures.holds.lawful literal in
     record { start = fits.0; end = fits.1 }
 
 pub cut-whole-requires : goal.cut-whole-requires
 cut-whole-requires g c =
-    let is = left_of c.args.vm.now c.args.cache.now c.args.input.now (In c.in-In.part) c.requires.made.same (subst (λ left. IsLeft c.args.cache.now.program (search_of c.args.cache.now.utf8_empty c.args.input.now) left) c.in-In.is c.in_ok-ask.ensures.left) in
+    let is = subst (λ left. IsLeft c.args.self.now.vm.program (search_of c.args.self.now.vm.utf8_empty c.args.input.now) left) c.in-In.is c.in_ok-ask.ensures.left in
     is.holds.ordered
 
 pub put_back-requires : goal.put_back-requires
 put_back-requires g c =
     let i = c.args.input.now in
-    let re = c.args.vm.now in
-    let is = left_of re c.args.cache.now i (In c.in-In.part) c.requires.made.same (subst (λ left. IsLeft c.args.cache.now.program (search_of c.args.cache.now.utf8_empty i) left) c.in-In.is c.in_ok-ask.ensures.left) in
+    let re = c.args.self.now.vm in
+    let is = subst (λ left. IsLeft re.program (search_of re.utf8_empty i) left) c.in-In.is c.in_ok-ask.ensures.left in
     whole_is_span re.program re.utf8_empty i c.ask.new.input c.in-In.part.span c.cut-whole.result is.holds c.in_ok-ask.ensures.asked c.cut-whole.ensures.whole
 
 pub returns-in-In-clause-answer : goal.returns-in-In-clause-answer
 returns-in-In-clause-answer g c =
     let i = c.args.input.now in
-    let re = c.args.vm.now in
+    let re = c.args.self.now.vm in
     let part = c.in-In.part.span in
-    let is = left_of re c.args.cache.now i (In c.in-In.part) c.requires.made.same (subst (λ left. IsLeft c.args.cache.now.program (search_of c.args.cache.now.utf8_empty i) left) c.in-In.is c.in_ok-ask.ensures.left) in
+    let is = subst (λ left. IsLeft re.program (search_of re.utf8_empty i) left) c.in-In.is c.in_ok-ask.ensures.left in
     let k = c.cut-whole.new.input in
     let search = cut_search re.utf8_empty i c.ask.new.input k part c.in_ok-ask.ensures.same c.in_ok-ask.ensures.asked c.cut-whole.ensures.same c.cut-whole.ensures.asked in
     let asked = cut_asked i c.ask.new.input k part c.in_ok-ask.ensures.asked c.cut-whole.ensures.asked in
     let slots = c.search_slots-found.new.slots in
     if_ok c.search_slots-found.result
-    (λ pattern told. whole_slots re.program (search_of re.utf8_empty i) part is.holds re.utf8_empty i k pattern slots asked search told)
+    (λ pattern told. whole_slots re.program (search_of re.utf8_empty i) part is.holds re.utf8_empty i k pattern slots asked search (subst (λ (e : Engine). engines.TellsSlots e k pattern slots) c.vm.ensures told))
     c.search_slots-found.ensures.answer
 
 pub returns-in-Match-clause-answer : goal.returns-in-Match-clause-answer
 returns-in-Match-clause-answer g c =
     let i = c.args.input.now in
-    let re = c.args.vm.now in
-    let literal = left_of re c.args.cache.now i (Match c.in-Match.span) c.requires.made.same (subst (λ left. IsLeft c.args.cache.now.program (search_of c.args.cache.now.utf8_empty i) left) c.in-Match.is c.in_ok-ask.ensures.left) in
+    let re = c.args.self.now.vm in
+    let literal = subst (λ left. IsLeft re.program (search_of re.utf8_empty i) left) c.in-Match.is c.in_ok-ask.ensures.left in
     literal_slots_told re.program (search_of re.utf8_empty i) i.asked.earliest c.in-Match.span c.put_match.new.slots (length c.args.slots.now) c.put_match.ensures literal
 
 pub returns-in-Nothing-clause-answer : goal.returns-in-Nothing-clause-answer
 returns-in-Nothing-clause-answer g c =
     let i = c.args.input.now in
-    let none = left_of c.args.vm.now c.args.cache.now i Nothing c.requires.made.same (subst (λ left. IsLeft c.args.cache.now.program (search_of c.args.cache.now.utf8_empty i) left) c.in-Nothing.is c.in_ok-ask.ensures.left) in
-    no_slots_told c.args.vm.now.program (search_of c.args.vm.now.utf8_empty i) i.asked.earliest c.clear_slots.new.slots (length c.args.slots.now) none c.clear_slots.ensures
+    let none = subst (λ left. IsLeft c.args.self.now.vm.program (search_of c.args.self.now.vm.utf8_empty i) left) c.in-Nothing.is c.in_ok-ask.ensures.left in
+    no_slots_told c.args.self.now.vm.program (search_of c.args.self.now.vm.utf8_empty i) i.asked.earliest c.clear_slots.new.slots (length c.args.slots.now) none c.clear_slots.ensures

@@ -1,0 +1,22 @@
+-- What a regex shares with its caches, and what these keep for each engine.
+use Rattle.std.specs.Prelude.{◌≡◌}
+use Rattle.rx_steps.specs.Caches as steps
+use Rattle.rx_dfa.specs.Caches as automata
+use Rattle.rx_dfa.specs.Alphabets.{AlphabetView, IsAlphabetOf}
+use Rattle.rx_engine.specs.Engines.{Engine}
+
+-- what is searched for, and the automaton of its program
+pub record CoreView : Type 0 where
+  pub vm : Engine
+  pub dfa : AlphabetView
+
+-- they pass over the same empty matches
+pub record IsCore (c : CoreView) : Type 0 where
+  pub dfa : IsAlphabetOf c.vm.program c.dfa
+  pub utf8_empty : c.dfa.utf8_empty ≡ c.vm.utf8_empty
+
+-- caches for searches by each
+pub record AreCachesOf (c : CoreView) (vm : steps.CacheView) (automaton : automata.CacheView)
+    : Type 0 where
+  pub for_vm : steps.IsCacheOf c.vm.program vm
+  pub for_automaton : automata.IsCacheOf c.vm.program c.dfa automaton
