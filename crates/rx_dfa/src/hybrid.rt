@@ -44,7 +44,11 @@ impl Model for Regex {
 }
 
 /// The automaton of a pattern's program, to be shared by an engine and its clones.
-fn shared_dfa(alloc: Global, compiled: &Compiled, capacity: usize) -> Result<Rc<Alphabet>, AllocError>
+fn shared_dfa(
+    alloc: Global,
+    compiled: &Compiled,
+    capacity: usize,
+) -> Result<Rc<Alphabet>, AllocError>
     ensures made { IfOk result (λ dfa. IsAlphabetOf compiled.now.program dfa.value) }
     ensures utf8_empty { IfOk result (λ dfa. dfa.value.utf8_empty ≡ true) }
 {
