@@ -44,12 +44,14 @@ def check(sent):
 
 def read_reply(replies):
     """The next reply of a file of replies, whole. Raises EOFError, with what there was, where the file ends before."""
-    parts = [replies.readline()]
-    while parts[-1].startswith(b"m ") and parts[-1].count(b" ") == 3:  # of list, which ends with 'ok' and a number
-        parts.append(replies.readline())
-    is_whole = parts[-1].endswith(b"\n")
-    if is_whole and parts[-1].startswith(b"text "):  # of print: so many bytes, and LF
-        length = int(parts[-1][5:]) + 1
+    line = replies.readline()
+    parts = [line]
+    while line.startswith(b"m ") and line.count(b" ") == 3:  # of list, which ends with a line 'ok' and a number
+        line = replies.readline()
+        parts.append(line)
+    is_whole = line.endswith(b"\n")
+    if is_whole and line.startswith(b"text "):  # of print: so many bytes, and LF
+        length = int(line[5:]) + 1
         parts.append(replies.read(length))
         is_whole = len(parts[-1]) == length
     if not is_whole:

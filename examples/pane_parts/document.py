@@ -5,7 +5,6 @@ rows of lines that a change brings are told by buffer 1, under the same pattern,
 line is searched by itself, so its row depends on no other."""
 import bisect
 import itertools
-import operator
 
 from client import command
 
@@ -20,11 +19,12 @@ class Refused(Exception):
 
 def rows_of(reply, count):
     """The rows of so many lines in a reply to `list`: for each the columns where its matches start and end."""
-    rows = [()] * count
+    rows, at = [()] * count, 0
     numbers = list(map(int, reply[: reply.rindex(b"ok ")].replace(b"m ", b"").split()))
-    matches = zip(numbers[0::3], numbers[1::3], numbers[2::3])
-    for line, found in itertools.groupby(matches, operator.itemgetter(0)):
-        rows[line] = [(start, end) for _, start, end in found]
+    matches = list(zip(numbers[1::3], numbers[2::3]))
+    for line, found in itertools.groupby(numbers[0::3]):
+        end = at + sum(1 for _ in found)
+        rows[line], at = matches[at:end], end
     return rows
 
 
