@@ -13,10 +13,10 @@ returns-then-from-to-clause-gone c =
     let r = pieces_in c.in_ok-front.front.right in
     let same : c.args.from ≡ c.args.to = omega (arith, c.if-from-to.true) in
     subst (λ (to : ℕ). IsReplaced (text_of ps) c.args.from to [] (text_of l ++ text_of r)) same
-    (removed_text ps l r l r c.args.from c.args.from (text_of l ++ text_of r) (omega arith) c.in_ok-front.ensures.halves c.in_ok-front.ensures.halves refl)
+    (removed_text ps l r l r c.args.from c.args.from (text_of l ++ text_of r) (omega arith) c.in_ok-front.ensures c.in_ok-front.ensures refl)
 
 pub returns-then-from-to-clause-place : goal.returns-then-from-to-clause-place
-returns-then-from-to-clause-place c = sym (bytes-concat (pieces_in c.in_ok-front.front.left)) ∙ c.in_ok-front.ensures.halves.place
+returns-then-from-to-clause-place c = sym (bytes-concat (pieces_in c.in_ok-front.front.left)) ∙ c.in_ok-front.ensures.place
 
 pub returns-clause-gone : goal.returns-clause-gone
 returns-clause-gone c =
@@ -24,7 +24,7 @@ returns-clause-gone c =
     let front = c.in_ok-front.front in
     let back = c.in_ok-back.back in
     removed_text ps (pieces_in front.left) (pieces_in front.right) (pieces_in back.left) (pieces_in back.right) c.args.from c.args.to
-    (text_of (pieces_in front.left) ++ text_of (pieces_in back.right)) c.requires.order c.in_ok-front.ensures.halves c.in_ok-back.ensures.halves refl
+    (text_of (pieces_in front.left) ++ text_of (pieces_in back.right)) c.requires.order c.in_ok-front.ensures c.in_ok-back.ensures refl
 
 pub returns-clause-place : goal.returns-clause-place
-returns-clause-place c = sym (bytes-concat (pieces_in c.in_ok-front.front.left)) ∙ c.in_ok-front.ensures.halves.place
+returns-clause-place c = sym (bytes-concat (pieces_in c.in_ok-front.front.left)) ∙ c.in_ok-front.ensures.place

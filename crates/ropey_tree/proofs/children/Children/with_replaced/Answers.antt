@@ -19,9 +19,9 @@ nodes_are c =
     let vs = views c.self.inside.nodes.items in
     let first : views c.copy_behind.new.nodes.items ≡ views c.in_ok-nodes.nodes.items ++ views (take k c.deref.result.now) = c.in_ok-copy_behind.ensures in
     let front : views c.copy_behind.new.nodes.items ≡ take k vs =
-        first ∙ ap (λ ns. views ns ++ views (take k c.deref.result.now)) c.in_ok-nodes.ensures.items ∙ ap (λ ns. views (take k ns)) c.deref.ensures.value ∙ sym (take-map (λ node. node.value) k c.self.inside.nodes.items) in
+    first ∙ ap (λ ns. views ns ++ views (take k c.deref.result.now)) c.in_ok-nodes.ensures.items ∙ ap (λ ns. views (take k ns)) c.deref.ensures.value ∙ sym (take-map (λ node. node.value) k c.self.inside.nodes.items) in
     let with : views c.push.new.self.items ≡ take k vs ++ v ∷ [] =
-        ap views c.in_ok-push.ensures.items ∙ map-append (λ node. node.value) c.copy_behind.new.nodes.items (c.args.node ∷ []) ∙ ap (λ us. us ++ v ∷ []) front in
+    ap views c.in_ok-push.ensures.items ∙ map-append (λ node. node.value) c.copy_behind.new.nodes.items (c.args.node ∷ []) ∙ ap (λ us. us ++ v ∷ []) front in
     let nodes = c.deref-2.result.now in
     let rest : views c.copy_behind-2.new.nodes.items ≡ views c.push.new.self.items ++ views (take (length nodes - (k + 1)) (drop (k + 1) nodes)) = c.in_ok-copy_behind-2.ensures in
     rest ∙ ap (λ ns. views c.push.new.self.items ++ views ns) (take_rest nodes (k + 1)) ∙ ap (λ us. us ++ views (drop (k + 1) c.deref-2.result.now)) with ∙ ap (λ ns. take k vs ++ (v ∷ []) ++ views (drop (k + 1) ns)) c.deref-2.ensures.value ∙ ap (λ us. take k vs ++ (v ∷ []) ++ us) (views-drop k c.self.inside.nodes.items)
