@@ -12,8 +12,8 @@ use Rattle.rope_leaves.proofs.Leaves.push_front.Goals.{else-is_cr_last-via-then-
 pub invariant_of-self-2 : goal.invariant_of-self-2
 invariant_of-self-2 c =
     let text = chars c.args.text.now in
-    let value : c.in_ok-node.node.value ≡ leaf_view text = c.in_ok-node.ensures.ok ∙ c.in_ok-from_leaf.ensures ∙ ap leaf_view c.new-leaf.ensures in
-    let piece : IsPiece text = rw (sym c.new-leaf.ensures) c.as_str.ensures.piece in
+    let value : c.in_ok-node.node.value ≡ leaf_view text = c.in_ok-node.ensures.ok ∙ c.from_leaf.ensures ∙ ap leaf_view c.in_ok-leaf.ensures in
+    let piece : IsPiece text = rw (sym c.in_ok-leaf.ensures) c.as_str.ensures.piece in
     let len : length c.args.text.now ≡ byte_len text = sym (ap length (encodes-chars c.args.text.now c.utf8.text)) in
     let none : ends_with_cr text ≡ true → c.self.inside.is_lf_first ≡ true → ⊥ = λ cr lf. elim c.else-is_cr_last.branch [
       | else-is_cr_last-via-then-is_cr_last+else-self w ↦ let no = w.if-self.false in cc
