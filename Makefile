@@ -9,6 +9,8 @@
 # make edits    tries each edit of code that the prover must refuse: those of crates/NAME/must-fail-gate,
 #               which the gate tries too, and those of crates/NAME/must-fail-more. CRATES='NAME ..'
 #               names some crates, or files as NAME/src/FILE, JOBS=N tries N crates at a time
+# make lib      builds the library that C links, bin/librope_search.a, the shared bin/librope_search.so, and
+#               bin/rope_search.pc for pkg-config; include/rope_search.h declares it
 # make bench    measures texts, reports, edits, ropes, patterns and searches. TOPICS='NAME ..' names some
 #               of the topics in bench/topics.py; TOPICS=--write puts the figures into bench/RESULTS.md
 # make clean    removes what these made
@@ -28,7 +30,7 @@ need_rt = $(if $(shell command -v $(RT) 2>/dev/null),,$(error $(missing)))
 news := sed -unE -e 's/^rt: chose .* for (.*)/\1/p' -e 's/^so far: ([0-9]+ of [0-9]+ functions).*/    \1/p' \
 	-e 's/^(logic=[^ ]+ functions=[0-9]+).*/    \1/p'
 
-.PHONY: all programs demo check test edits bench clean
+.PHONY: all programs lib demo check test edits bench clean
 .DELETE_ON_ERROR:
 
 all: $(program)
@@ -39,6 +41,7 @@ bin/rope-driver: crate := rope_driver
 bin/search-driver: crate := search_driver
 minutes := some minutes
 $(program): minutes := some half an hour on four cores
+bin/librope_search_c.a: minutes := some half an hour on four cores
 
 programs: $(programs)
 
@@ -51,6 +54,35 @@ $(programs): $(sources)
 	@cd crates/$(crate) && { $(RT) run < /dev/null 2>&1; echo $$? > out/rt.status; } | tee out/rt.log | $(news)
 	@cd crates/$(crate) && [ "$$(cat out/rt.status)" = 0 ] || { tail -n 40 out/rt.log; false; }
 	@cp crates/$(crate)/out/$(crate) $@.new && mv $@.new $@
+
+lib: bin/librope_search.a bin/librope_search.so bin/rope_search.pc
+
+# The static library as rt builds it, once it is proved with all crates below it.
+bin/librope_search_c.a: $(sources)
+	@:$(need_rt)
+	@echo '$@ is built once all its crates are proved: $(minutes) in a fresh clone, seconds where nothing changed'
+	@mkdir -p $(@D) crates/rope_search_c/out
+	@cd crates/rope_search_c && { $(RT) lib 2>&1; echo $$? > out/rt.status; } | tee out/rt.log | $(news)
+	@cd crates/rope_search_c && [ "$$(cat out/rt.status)" = 0 ] || { tail -n 40 out/rt.log; false; }
+	@cp crates/rope_search_c/out/librope_search_c.a $@.new && mv $@.new $@
+
+# With the kit's calls of malloc, which it stands on.
+heap = $(dir $(shell $(RT) doc))c/liblibc_c.a
+
+bin/librope_search.a: bin/librope_search_c.a
+	@:$(need_rt)
+	@rm -f $@.new && printf 'create $@.new\naddlib $<\naddlib $(heap)\nsave\nend\n' | $(AR) -M && mv $@.new $@
+
+# It shows the calls of include/rope_search.h and nothing else.
+bin/librope_search.so: bin/librope_search_c.a
+	@:$(need_rt)
+	@printf '{ global: rope_search_*; local: *; };\n' > $@.map
+	@$(CC) -shared -o $@.new -Wl,-soname,librope_search.so -Wl,--version-script,$@.map \
+		-Wl,--whole-archive $< -Wl,--no-whole-archive $(heap) && rm $@.map && mv $@.new $@
+
+bin/rope_search.pc: bin/librope_search.a
+	@printf 'prefix=%s\nName: rope_search\nDescription: %s\nVersion: %s\nCflags: -I$${prefix}/include\nLibs: -L$${prefix}/bin -lrope_search\n' \
+		'$(CURDIR)' 'a regular expression kept live over a text that is edited' 0 > $@.new && mv $@.new $@
 
 demo:
 	@$(if $(wildcard $(program)),,:$(need_rt))
@@ -73,7 +105,14 @@ bin/bench: $(program) bench/build $(shell find bench/program -type f)
 	@echo '$@ is built once it is proved: some ten minutes, once its libraries are'
 	@mkdir -p bench/out && { RT='$(RT)' bench/build > bench/out/rt.log 2>&1 || { tail -n 40 bench/out/rt.log; false; }; }
 
-bench: $(program) bin/bench
+# What is measured beside it; the figures leave it out where cargo or Debian's librust-regex+default-dev is missing.
+bin/plain: bench/plain/src/main.rs bench/plain/Cargo.toml
+	@mkdir -p $(@D)
+	cd bench/plain && cargo build --quiet --release --offline --target-dir ../out/plain
+	@cp bench/out/plain/release/plain $@.new && mv $@.new $@
+
+bench: $(program) bin/bench bin/librope_search.a bin/librope_search.so
+	-@$(MAKE) --no-print-directory bin/plain
 	@bench/run $(TOPICS)
 
 clean:

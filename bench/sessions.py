@@ -4,13 +4,16 @@ is wrong. A figure is the median of some runs."""
 import os
 import random
 import re
+import shutil
 import statistics
 import subprocess
+import sys
 import time
 
-from texts import TOP, lines_of
+from texts import TOP, lines_of, source_text
 
 PROGRAM = os.path.join(TOP, "bin", "rope-search")
+PLAIN = os.path.join(TOP, "bin", "plain")  # where cargo and Rust's regex are at hand: make bin/plain
 RUNS = 5
 LITERALS = ["let", "e", "xyz"]  # in about three lines of ten, in nearly each and in none
 EXPRESSIONS = [r"\w+\s*=>\s*\w+", "(?i)todo|error", "[0-9]+|0x[0-9a-f]+"]
@@ -42,6 +45,14 @@ def timed(program, given=os.devnull, out=None):
         _, status, usage = os.wait4(process.pid, 0)
         process.returncode = status
         return time.perf_counter_ns() - start, said, usage.ru_maxrss
+
+
+def instructions(program, given):
+    """How many instructions a program takes over a file: the same each time, whatever else the machine does."""
+    command = ["valgrind", "--tool=callgrind", "--callgrind-out-file=/dev/null", *program]
+    with open(given, "rb") as stdin:
+        ran = subprocess.run(command, stdin=stdin, stdout=subprocess.PIPE, stderr=subprocess.PIPE, check=True)
+    return int(re.search(rb"Collected : (\d+)", ran.stderr)[1]), ran.stdout
 
 
 def seconds_of(call):
@@ -96,15 +107,19 @@ def list_matches(folder, tiny):
         shown = timed([PROGRAM], listing)[1].split(b"\n")
         is_right = shown[-2] == b"ok %d" % matches and int(theirs[0][1]) == found
         yield of, "pattern", nanos(ours), "ns" if is_right else "failed"
+        if os.path.exists(PLAIN):
+            plain_ones = [timed([PLAIN], setting)[0] - timed([PLAIN], alone)[0] for _ in range(RUNS)]
+            is_same = timed([PLAIN], listing)[1].split(b"\n") == shown
+            yield of, "plain Rust program", nanos(plain_ones), "ns" if is_same else "failed"
         yield of, "grep", nanos([run[0] for run in theirs]), "ns"
         yield of, "Python's re", f"{by_re}", "ns"
         yield of, "matches", f"{matches}", ""
 
 
-def letters_in(lines, count):
+def letters_in(lines, count, columns=40):
     """Commands that insert a letter in so many lines drawn by lot."""
     chance = random.Random(11)
-    places = [(chance.randrange(lines), chance.randrange(40)) for _ in range(count)]
+    places = [(chance.randrange(lines), chance.randrange(columns)) for _ in range(count)]
     return b"".join(b"edit %d %d %d %d 1\ne" % (*place, *place) for place in places)
 
 
@@ -159,3 +174,106 @@ def replace_matches(folder, tiny):
             yield of, "Python's re.sub", nanos(by_re), "ns"
             by_str = [seconds_of(lambda: text.replace("marker", template))[0] for _ in range(RUNS)]
             yield of, "Python's str.replace", nanos(by_str), "ns"
+
+
+def build_patterns(patterns, folder, tiny):
+    """Each of the patterns set once: what that takes, and the peak of memory."""
+    bare = max(timed([PROGRAM], written(folder, "session", b"off\n"))[2] for _ in range(RUNS))
+    for name, pattern in patterns:
+        session = written(folder, "session", command("pattern", pattern.encode()))
+        runs = [timed([PROGRAM], session) for _ in range(1 if tiny else RUNS)]
+        is_right = all(run[1] in (b"ok\n", b"error limit\n", b"error pattern\n") for run in runs)
+        yield name, "taken" if runs[0][1] == b"ok\n" else "refused", nanos([run[0] for run in runs]), "ns" if is_right else "failed"
+        yield name, "memory", f"{max(run[2] for run in runs) - bare}", "kB"
+
+
+def told_by(words, **more):
+    """The medians that a program tells, each behind its name."""
+    told = subprocess.run(words, stdout=subprocess.PIPE, check=True, text=True, env=dict(os.environ, **more)).stdout
+    return [float(line.split()[1]) for line in told.splitlines()]
+
+
+def by_c(folder, lines, edits):
+    """The medians of a letter typed, undone, and a window's rows, by a program in C."""
+    made = os.path.join(folder, "embedded")
+    words = ["cc", "-O2", "-I", os.path.join(TOP, "include"), "-o", made, os.path.join(TOP, "bench", "embedded.c")]
+    subprocess.run([*words, os.path.join(TOP, "bin", "librope_search.a")], check=True)
+    return told_by([made, str(lines), str(edits)])
+
+
+def over_pipes(folder, lines, edits):
+    """Those of a letter typed and undone, by a program in C that writes the commands to the program."""
+    made = os.path.join(folder, "piped")
+    subprocess.run(["cc", "-O2", "-o", made, os.path.join(TOP, "bench", "piped.c")], check=True)
+    return told_by([made, PROGRAM, str(lines), str(edits)])
+
+
+def by_lua(lines, edits):
+    """The same as in C by bindings/lua, where LuaJIT is at hand."""
+    if not shutil.which("luajit"):
+        return []
+    paths = {"LUA_PATH": os.path.join(TOP, "bindings", "lua", "?.lua")}
+    return told_by(["luajit", os.path.join(TOP, "bench", "embedded.lua"), str(lines), str(edits)], **paths)
+
+
+def by_python(lines, edits):
+    """The same by bindings/python."""
+    sys.path.insert(0, os.path.join(TOP, "bindings", "python"))
+    import rope_search
+
+    chance, times = random.Random(7), ([], [], [])
+    with rope_search.Session() as session:
+        session.set_text(b"".join(b"line %d of the text: let x = y(a, b);\n" % line for line in range(lines)))
+        session.set_pattern(rb"y\(\w+")
+        for _ in range(edits):
+            line = chance.randrange(lines)
+            typed, shown = lambda: session.edit((line, 5), (line, 5), b"a"), lambda: session.matches(line, line + 50)
+            for taken, call in zip(times, (typed, session.undo, shown)):
+                taken.append(seconds_of(call)[0])
+    return [statistics.median(taken) for taken in times]
+
+
+def embedded(folder, tiny):
+    """A letter typed in a random line, undone, and the rows of a window, through the library that make lib builds."""
+    lines, edits = (4_000, 200) if tiny else (400_000, 2_000)
+    of = f"{lines:,} lines"
+    whats = ("a letter in a random line", "undo", "a window's 50 rows")
+    ways = {
+        "in C": by_c(folder, lines, edits),
+        "in Python": by_python(lines, edits),
+        "in LuaJIT": by_lua(lines, edits),
+        "by the program over pipes": over_pipes(folder, lines, edits),
+    }
+    for place, what in enumerate(whats):
+        for way, medians in ways.items():
+            if place < len(medians):
+                yield of, f"{what}, {way}", f"{medians[place]:.0f}", "ns"
+
+
+def count_instructions(folder, tiny):
+    """Reports, edits and replacements over lines of source text, of which each fifth ends in `// TODO`, less what
+    setting text and pattern takes."""
+    lines = (source_text().split("\n") * 5)[: 1_000 if tiny else 20_000]
+    lines[::5] = [line + " // TODO" for line in lines[::5]]
+    text = "\n".join(lines).encode()
+    programs = {"rope-search": [PROGRAM], **({"plain Rust program": [PLAIN]} if os.path.exists(PLAIN) else {})}
+    load = command("text", text)
+    for name, program in programs.items():
+        alone, _ = instructions(program, written(folder, "alone", load))
+        for pattern in ["TODO", r"\w+\s*=>\s*\w+", "e", "found nowhere", r"(\w+) (\w+)"]:
+            setting = load + command("pattern", pattern.encode())
+            set_up, _ = instructions(program, written(folder, "setting", setting))
+            yield f"report of `{pattern}`", name, f"{(set_up - alone) / 1e6:.1f}", "million"
+        for pattern, template in [("e", "E"), (r"(\w+) (\w+)", "$2 $1")]:
+            setting = load + command("pattern", pattern.encode())
+            set_up, _ = instructions(program, written(folder, "setting", setting))
+            replaced, _ = instructions(program, written(folder, "replace", setting + command("replace", template.encode())))
+            yield f"`replace` of `{pattern}` by `{template}`", name, f"{(replaced - set_up) / 1e6:.1f}", "million"
+        count = 10 if name != "rope-search" else 1_000
+        letters = letters_in(len(lines) // 2, count, columns=1)
+        for pattern in [None, "TODO"]:
+            setting = load + (command("pattern", pattern.encode()) if pattern else b"")
+            set_up, _ = instructions(program, written(folder, "setting", setting))
+            edited, _ = instructions(program, written(folder, "edited", setting + letters))
+            under = f"under `{pattern}`" if pattern else "without a pattern"
+            yield f"a letter {under}", name, f"{(edited - set_up) / count / 1000:.1f}", "thousand"

@@ -5,6 +5,7 @@ A text is KIND and a size: `ascii`, `mixed`, `japanese` and `emoji` are source t
 Japanese text and emoji, of so many bytes; `lines` are so many lines of 50 bytes, `short` of 13; `pattern` is a text
 below `PATTERNS`.
 """
+import functools
 import itertools
 
 import sessions
@@ -52,6 +53,16 @@ def over_patterns():
     return [(("pattern", name), PATTERNS[name][0]) for name in PATTERNS]
 
 
+def built():
+    """The patterns as the command takes them: `(?i)` in front of those that match in each case, which then have an item
+    less where they would be too long."""
+    for name, (case, pattern) in PATTERNS.items():
+        is_too_long = case and len(pattern.encode()) + 4 > 65_536
+        is_class = pattern.startswith("[") and pattern.find("]") == len(pattern) - 1
+        less = "[" + pattern[3:] if is_class else pattern[4:]
+        yield name, ("(?i)" if case else "") + (less if is_too_long else pattern)
+
+
 def sized(*kinds, sizes=(MB, 100 * MB)):
     return [(kind, size) for kind in kinds for size in sizes]
 
@@ -66,14 +77,26 @@ TOPICS = {
         [sessions.load_print],
     ),
     "list": (
-        "the report of a pattern in 400,000 lines of 50 bytes, beside `grep -c` (`-F` for literals, else `-P`) and "
-        "Python's `re` line by line; the aim for literals is at most 4 times grep",
+        "the report of a pattern in 400,000 lines of 50 bytes, beside a plain Rust program with Rust's `regex`, "
+        "`grep -c` (`-F` for literals, else `-P`) and Python's `re` line by line; the aim is at most the plain program's",
         [sessions.list_matches],
+    ),
+    "instructions": (
+        "instructions, as valgrind's callgrind counts them, of the report of a pattern in 20,000 lines of source text, "
+        "of `replace` in them, and of `edit` of a letter, beside the plain Rust program of bench/plain; the aims are at "
+        "most its own for reports and replacements, 10 thousand for a letter, and 16 with a pattern",
+        [sessions.count_instructions],
     ),
     "typing": (
         "the command `edit` that inserts a letter in a line, and `undo`, with the report of a pattern in 400,000 lines, "
         "beside a search of all lines by Python's `re`",
         [sessions.edit_lines],
+    ),
+    "embedded": (
+        "a letter typed in a random line, its `undo` and the rows of a window, with the report of `y\\(\\w+` in 400,000 "
+        "lines, through the library that C links and its modules for Python and LuaJIT, once `make lib` has built it, and "
+        "by the program over pipes, which tells no window",
+        [sessions.embedded],
     ),
     "replace": (
         "`replace` of all matches in the same lines, beside Python's `re.sub` and `str.replace`",
@@ -118,6 +141,11 @@ TOPICS = {
     ),
     "patterns": ("parsing patterns of up to 65,536 bytes", over_patterns()),
     "programs": ("compiling them, and making an engine of them", over_patterns()),
+    "building": (
+        "the command `pattern` that takes or refuses them, and the most memory that the program holds then, above one "
+        "without a pattern",
+        [functools.partial(sessions.build_patterns, list(built()))],
+    ),
     "searches": (
         "all matches by the engine, in one piece and in pieces; the aims are 40 ns a byte where walks are under way all "
         "the time, 5 where a match seldom begins, and in pieces at most 110 % of one piece",

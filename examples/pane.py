@@ -17,6 +17,8 @@ Escape          leaves, and asks before if the text isn't saved; Ctrl-C leaves a
 
 Matches are those of the report: of each line by itself. Where there is none, Enter looks for one that goes over
 lines. All replaced are those of the whole text, which may be others: docs/protocol.md tells how.
+
+The pane goes by the library that `make lib` builds, where it is built, and else, or where one is named, by the program.
 """
 import os
 import signal
@@ -25,6 +27,7 @@ import termios
 import tty
 
 sys.dont_write_bytecode = True
+from calls import Calls, rope_search
 from client import PROGRAM, Client, Ended
 from pane_parts.document import Document, Refused
 from pane_parts.keys import Keys
@@ -35,18 +38,27 @@ BEGIN = "\x1b[?1049h\x1b[?7l\x1b[?2004h"  # another screen, on which nothing is 
 END = "\x1b[?2004l\x1b[?7h\x1b[?1049l"
 
 
+def client_of(program):
+    """What carries out commands: the program, or the library where none is named."""
+    return Client(program, SECONDS) if program else Calls()
+
+
+def is_built():
+    return os.path.exists(rope_search.library_path())
+
+
 class Session:
     """A pane in a terminal, over a program that is begun anew if it ends: the text is kept here too."""
 
     def __init__(self, program, text, path):
-        self.program, self.client = program, Client(program, SECONDS)
+        self.program, self.client = program, client_of(program)
         self.pane = Pane(Document(self.client, text), path)
 
     def begin_anew(self, ended):
         """Goes on with another child, which has the text, and no history."""
         pane, is_saved = self.pane, self.pane.document.state() is self.pane.saved
         self.client.close()
-        self.client = Client(self.program, SECONDS)
+        self.client = client_of(self.program)
         pane.document = Document(self.client, pane.document.text.whole())
         pane.saved = pane.document.state() if is_saved else object()  # which is no state
         pane.typed, pane.found, pane.mode = "", None, "search" if pane.mode == "template" else pane.mode
@@ -98,7 +110,7 @@ def start(path, program):
         text = read_text(path)
     except (OSError, ValueError) as error:
         return f"{path}: {error.strerror if isinstance(error, OSError) else error}"
-    if not os.path.exists(program):
+    if program and not os.path.exists(program):
         return f"there is no {program}: make builds bin/rope-search"
     try:
         return Session(program, text, path)
@@ -108,10 +120,10 @@ def start(path, program):
         return f"{program}: {error}"
 
 
-def main(path=None, program=PROGRAM, *more):
+def main(path=None, program=None, *more):
     if path is None or more:
         return "usage: examples/pane.py FILE [PROGRAM]"
-    session = start(path, program)
+    session = start(path, program or (None if is_built() else PROGRAM))
     if isinstance(session, str):
         return f"pane.py: {session}"
     before, why = termios.tcgetattr(0), None

@@ -12,6 +12,12 @@ def listed():
     return {crate.split()[0]: libraries.split() for crate, colon, libraries in lines if colon}
 
 
+def is_static(name):
+    """Whether the crate is a static library, for programs that aren't Rattle's to link."""
+    with open(f"{ROOT}/crates.txt", encoding="utf-8") as file:
+        return any(line.partition(":")[0].split() == [name, "staticlib"] for line in file)
+
+
 def below(name):
     """The repository's crates that a crate stands on, with their libraries, and the crate itself first."""
     crates, found = listed(), [name]
@@ -40,5 +46,6 @@ def copied(name, room):
                 shutil.copytree(f"{here}/{kept}", f"{there}/{kept}", **linking)
     shutil.copy(f"{ROOT}/HANDLES", room)
     with open(f"{room}/crates.txt", "w", encoding="utf-8") as out:
-        out.writelines(f"{crate}: {' '.join(libraries)}\n" for crate, libraries in crates.items())
+        out.writelines(f"{crate}{' staticlib' * is_static(crate)}: {' '.join(libraries)}\n"
+                       for crate, libraries in crates.items())
     return f"{room}/crates/{name}"

@@ -15,6 +15,8 @@ PROGRAM = os.path.abspath(os.environ.get("ROPE_SEARCH") or os.path.join(TOP, "bi
 ROPE_PROGRAM = os.path.abspath(os.environ.get("ROPE_DRIVER") or os.path.join(TOP, "bin", "rope-driver"))
 RUN_PROGRAM = os.path.abspath(os.environ.get("RUN_DRIVER") or os.path.join(TOP, "bin", "run-driver"))
 SEARCH_PROGRAM = os.path.abspath(os.environ.get("SEARCH_DRIVER") or os.path.join(TOP, "bin", "search-driver"))
+LIBRARY_FOLDER = os.path.abspath(os.environ.get("ROPE_SEARCH_LIBRARIES") or os.path.join(TOP, "bin"))
+LIBRARY = os.path.join(LIBRARY_FOLDER, "librope_search.so")
 ROOM = tempfile.mkdtemp(prefix="rope-search-")  # the one folder that tests write in
 atexit.register(shutil.rmtree, ROOM, ignore_errors=True)
 SECONDS = 120

@@ -11,9 +11,8 @@ def library():
     return harness.library("refuse_memory", "refuses memory")
 
 
-def tallied(runs, **settings):
-    """A run with the library, which `runs` makes of an environment, the number of its requests, the greatest
-    of them and all of them together, in bytes."""
+def told_by(runs, settings):
+    """A run with the library, which `runs` makes of an environment, and the figures that the library tells."""
     tally = os.path.join(ROOM, "tally")
     if os.path.exists(tally):
         os.remove(tally)
@@ -21,12 +20,24 @@ def tallied(runs, **settings):
     environment.update({f"REFUSE_MEMORY_{name.upper()}": str(value) for name, value in settings.items()})
     ended = runs(environment)
     if not os.path.exists(tally):
-        return ended, 0, 0, 0
-    with open(tally) as told_by:
-        count, largest, total = map(int, told_by.read().split())
-    return ended, count, largest, total
+        return ended, [0, 0, 0, 0]
+    with open(tally) as told:
+        return ended, list(map(int, told.read().split()))
+
+
+def tallied(runs, **settings):
+    """Such a run, the number of its requests, the greatest of them and all of them together, in bytes."""
+    ended, figures = told_by(runs, settings)
+    return ended, *figures[:3]
 
 
 def counted(runs, **settings):
     """Such a run, the number of its requests and the greatest of them, in bytes."""
-    return tallied(runs, **settings)[:3]
+    ended, figures = told_by(runs, settings)
+    return ended, *figures[:2]
+
+
+def most_held(runs, **settings):
+    """Such a run, and the most bytes that were held at a time."""
+    ended, figures = told_by(runs, settings)
+    return ended, figures[3]

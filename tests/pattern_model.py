@@ -88,6 +88,12 @@ def spread(low, high):
     return Members([(ordinal(ord(low)), ordinal(ord(high)))])
 
 
+@functools.lru_cache(maxsize=1_000)
+def in_each_case(c):
+    """A character and those that fold as it does."""
+    return spread(c, c).folded()
+
+
 @functools.lru_cache(maxsize=None)
 def letter_class(letter):
     """What `\\d`, `\\s`, `\\w` or one with a capital letter stands for."""
@@ -225,8 +231,7 @@ class Reader:
 
     def alone(self, c, flags):
         """One character, under `i` with those that fold as it does."""
-        members = spread(c, c)
-        return members.folded() if "i" in flags else members
+        return in_each_case(c) if "i" in flags else spread(c, c)
 
     def dot(self, flags):
         return Members([(0, SCALARS - 1)]) if "s" in flags else spread("\n", "\n").others()
@@ -343,6 +348,19 @@ def pattern_weight(pattern):
 # ---- what is found
 
 
+def is_literal(pattern):
+    """Whether a pattern is a text that stands for itself, which is looked for as one."""
+    return bool(pattern) and not set(pattern) & set("\\.+*?()|[{^$")
+
+
+def occurrences(literal, text):
+    """The places of a literal in a text, each looked for from the end of the one before."""
+    at = text.find(literal)
+    while at >= 0:
+        yield at
+        at = text.find(literal, at + len(literal))
+
+
 @functools.lru_cache(maxsize=1_000)
 def search_in(pattern, text):
     """Searches of a whole text for a pattern, from any place on."""
@@ -358,6 +376,8 @@ def in_characters(text, span):
 @functools.lru_cache(maxsize=50_000)
 def matches(pattern, text):
     """The matches of a pattern in a text, as pairs of places in characters."""
+    if is_literal(pattern):
+        return [(start, start + len(pattern)) for start in occurrences(pattern, text)]
     return [in_characters(text, groups[0]) for groups in search_in(pattern, text).matches()]
 
 
@@ -365,10 +385,15 @@ def matches(pattern, text):
 def matches_with_groups(pattern, text):
     """The matches of a pattern in a text, each as the spans of its groups in the text's UTF-8, from group 0 on, None for
     an absent one."""
+    if is_literal(pattern):
+        return [[(start, start + len(pattern.encode()))] for start in occurrences(pattern.encode(), text.encode())]
     return search_in(pattern, text).matches()
 
 
 def match_from(pattern, text, place):
     """The first match in a text that starts at a place or behind it, or None."""
+    if is_literal(pattern):
+        start = text.find(pattern, place)
+        return (start, start + len(pattern)) if start >= 0 else None
     slots = search_in(pattern, text).find(len(text[:place].encode()))
     return slots and in_characters(text, (slots[0], slots[1]))

@@ -119,12 +119,14 @@ def refused_pattern(text):
 
 
 @functools.lru_cache(maxsize=10_000)
+def rows_of(text, pattern):
+    """The report: for each line of a text the columns of the matches of a pattern in it."""
+    return [[(units(line[:start]), units(line[:end])) for start, end in matches(pattern, line)] for line in BREAK.split(text)]
+
+
 def listed(text, pattern):
     """The lines of the matches of a pattern in each line of a text, and their number."""
-    out = []
-    for number, line in enumerate(BREAK.split(text)):
-        for start, end in matches(pattern, line):
-            out.append(b"m %d %d %d\n" % (number, units(line[:start]), units(line[:end])))
+    out = [b"m %d %d %d\n" % (number, *columns) for number, row in enumerate(rows_of(text, pattern)) for columns in row]
     return b"".join(out) + b"ok %d\n" % len(out)
 
 
@@ -292,14 +294,20 @@ def replies(commands, refused=frozenset(), limit=TEXT_LIMIT):
     return [session.reply(command, place in refused) for place, command in enumerate(commands)]
 
 
-def costs(commands, limit=TEXT_LIMIT):
-    """How many rows the commands may make at most, and how often they may search a whole text, together."""
-    session, rows, wholes = Session(limit), 0, 0
+def replies_and_costs(commands, limit=TEXT_LIMIT):
+    """The replies to the commands, and how many rows these may make at most and how often they may search a whole text,
+    together."""
+    session, told, rows, wholes = Session(limit), [], 0, 0
     for command in commands:
         more = session.cost(command)
         rows, wholes = rows + more[0], wholes + more[1]
-        session.reply(command)
-    return rows, wholes
+        told.append(session.reply(command))
+    return told, (rows, wholes)
+
+
+def costs(commands, limit=TEXT_LIMIT):
+    """How many rows the commands may make at most, and how often they may search a whole text, together."""
+    return replies_and_costs(commands, limit)[1]
 
 
 def takers(commands):

@@ -3,14 +3,15 @@
 //
 //   REFUSE_MEMORY_AT=N       refuses the N-th request alone, counted from 1
 //   REFUSE_MEMORY_FROM=N     refuses the N-th request and each one after it
-//   REFUSE_MEMORY_TELL=FILE  writes 'COUNT LARGEST TOTAL' and LF to FILE as the program ends: the number
-//                            of requests, the most bytes that one of them asked for, and the bytes that
-//                            all of them asked for
+//   REFUSE_MEMORY_TELL=FILE  writes 'COUNT LARGEST TOTAL PEAK' and LF to FILE as the program ends: the
+//                            number of requests, the most bytes that one of them asked for, the bytes
+//                            that all of them asked for, and the most that were held at a time
 //
 // Requests made before the library is set up, by the dynamic loader, are granted and not counted.
 
 #include <errno.h>
 #include <fcntl.h>
+#include <malloc.h>
 #include <stddef.h>
 #include <stdio.h>
 #include <stdlib.h>
@@ -20,11 +21,14 @@ extern void *__libc_malloc(size_t);
 extern void *__libc_calloc(size_t, size_t);
 extern void *__libc_realloc(void *, size_t);
 extern void *__libc_memalign(size_t, size_t);
+extern void __libc_free(void *);
 
 static int ready;
 static unsigned long count;
 static unsigned long largest;
 static unsigned long total;
+static unsigned long held;
+static unsigned long peak;
 static unsigned long refuse_at;
 static unsigned long refuse_from;
 
@@ -46,9 +50,24 @@ static void *refusal(void)
     return NULL;
 }
 
+// Counts memory that is held from now on.
+static void *granted(void *memory)
+{
+    held += malloc_usable_size(memory);
+    if (held > peak)
+        peak = held;
+    return memory;
+}
+
 void *malloc(size_t bytes)
 {
-    return refused(bytes) ? refusal() : __libc_malloc(bytes);
+    return refused(bytes) ? refusal() : granted(__libc_malloc(bytes));
+}
+
+void free(void *memory)
+{
+    held -= malloc_usable_size(memory);
+    __libc_free(memory);
 }
 
 void *calloc(size_t items, size_t size)
@@ -56,12 +75,18 @@ void *calloc(size_t items, size_t size)
     size_t bytes;
     if (__builtin_mul_overflow(items, size, &bytes))
         return refusal();
-    return refused(bytes) ? refusal() : __libc_calloc(items, size);
+    return refused(bytes) ? refusal() : granted(__libc_calloc(items, size));
 }
 
 void *realloc(void *old, size_t bytes)
 {
-    return refused(bytes) ? refusal() : __libc_realloc(old, bytes);
+    if (refused(bytes))
+        return refusal();
+    size_t before = malloc_usable_size(old);
+    void *memory = __libc_realloc(old, bytes);
+    if (memory != NULL || bytes == 0)
+        held -= before;
+    return granted(memory);
 }
 
 void *reallocarray(void *old, size_t items, size_t size)
@@ -74,7 +99,7 @@ void *reallocarray(void *old, size_t items, size_t size)
 
 void *memalign(size_t alignment, size_t bytes)
 {
-    return refused(bytes) ? refusal() : __libc_memalign(alignment, bytes);
+    return refused(bytes) ? refusal() : granted(__libc_memalign(alignment, bytes));
 }
 
 void *aligned_alloc(size_t alignment, size_t bytes)
@@ -114,8 +139,8 @@ __attribute__((destructor)) static void tell(void)
     const char *name = getenv("REFUSE_MEMORY_TELL");
     if (name == NULL)
         return;
-    char line[80];
-    int length = snprintf(line, sizeof line, "%lu %lu %lu\n", count, largest, total);
+    char line[100];
+    int length = snprintf(line, sizeof line, "%lu %lu %lu %lu\n", count, largest, total, peak);
     int file = open(name, O_WRONLY | O_CREAT | O_TRUNC, 0600);
     if (file < 0)
         return;

@@ -18,7 +18,7 @@ from harness import TOP, differences, short, test
 from memory import library, tallied
 from random_patterns import Maker
 from test_regexes import in_rope
-from test_searches import SECOND, asked_at_random, listed
+from test_searches import SECOND, VECTORS, asked_at_random, listed
 from walks import Search, spelled
 
 SIZES = (0, 1, 2, 3)  # how many bytes a piece has; 0: all are one piece
@@ -138,6 +138,15 @@ def table():
         yield Wanted(pattern, row["haystack"].encode(), row["matches"], size, is_dense=not MANY.search(pattern))
 
 
+def vectors():
+    """Those of VECTORS that say where matches lie, under the settings as they are at first, in pieces of each size."""
+    for (pattern, haystack, answer, *asked), size in itertools.product(VECTORS, SIZES):
+        if len(asked) <= 1 and re.fullmatch(r"[-0-9, ]*", answer):
+            groups = ([told.split("-") for told in match.split(",")] for match in answer.split())
+            matches = [[(int(start), int(end)) if start else None for start, end in match] for match in groups]
+            yield Wanted(pattern, haystack.encode(), matches, size, *asked)
+
+
 def at_random(count=RANDOM_CASES):
     """Searches at random, four for a pattern, of which one is by an automaton with all states; some of them with caches
     that served before."""
@@ -187,6 +196,12 @@ def literals(count=LITERAL_CASES):
         yield Wanted(pattern, haystack, matches, chance.choice((0, 1, 2, 3, 5)), asked, chance.choice((0, 2)))
 
 
+# Engines, and patterns whose search in `aaaa` leads to all states to which one in more of these letters does; of the
+# first all states are made with a `Regex`, of the others they aren't.
+ENGINES = "pikevm", "hybrid", "dfa", "meta"
+FULL_OF_A = "a" * 100_000
+IN_FULL_OF_A = ["a*b", "(?:a|b|cc?|dd?d?|ee?e?e?|ff?f?f?f?|gg?g?g?)*x", "(?:a|[é-ü]{1,9})*x"]
+
 # Patterns, haystacks and what is answered with a cache that has room for two states: each letter leads to another one,
 # and so does the end, and when they would be taken out for the fourth time it gives up.
 IN_LITTLE_ROOM = [
@@ -218,6 +233,20 @@ def check_warm(few, many):
     test(f"{many.name}, as much memory as {few.name}", wrong)
 
 
+def check_first(pattern):
+    """An engine that has searched in `aaaa` asks for no memory in a long content that it hasn't seen."""
+    for engine in ENGINES:
+        wrong, told = [], []
+        for length in (8, len(FULL_OF_A)):
+            line = line_of("warm", written(pattern), engine, FULL_OF_A.encode().hex(), f"{length:06}")
+            ended, count, _, total = tallied(lambda environment, line=line: answer_to(line, environment))
+            wrong += differences(ended, b"none\n", 0)
+            told.append((count, total))
+        if told[0] != told[1]:
+            wrong.append("%d requests for %d bytes in 8 letters, %d for %d in 100,000" % (*told[0], *told[1]))
+        test(f"{pattern!r} by {engine} in 100,000 letters after four, as much memory as in 8", wrong)
+
+
 def in_long_contents():
     """Pairs of cases that differ in how often is searched before."""
     for pattern, answer in IN_LETTERS:
@@ -229,7 +258,7 @@ def in_long_contents():
 
 
 def test_all():
-    wrong, how = compared(itertools.chain(table(), at_random(), literals()))
+    wrong, how = compared(itertools.chain(table(), vectors(), at_random(), literals()))
     test(f"searches of the table, {RANDOM_CASES} at random, {LITERAL_CASES} for literals, by each engine: {how}", wrong)
     told = [automaton("lazy", *told, capacity=0, answer=answer) for *told, answer in IN_LITTLE_ROOM]
     test(f"{len(told)} searches with a cache that has room for two states", problems(told))
@@ -240,3 +269,5 @@ def test_all():
             check_memory(case, [PROGRAM_WANT, WANT], f"{case.answer}\n".encode())
         for few, many in in_long_contents():
             check_warm(few, many)
+        for pattern in IN_FULL_OF_A:
+            check_first(pattern)

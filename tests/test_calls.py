@@ -14,7 +14,8 @@ PARTS = [
 ]
 NO_MEMORY = b"no memory\n"
 ASKED = ["cut", "text"]
-EDITS = {"try_insert", "try_remove", "try_split_off", "try_replace", "build"}
+EDITS = {"try_byte_replace", "try_insert", "try_remove", "try_split_off", "try_replace", "build"}
+KEPT = ["swap", *ASKED, "swap"]  # looks at the clone that is kept, which no edit changes
 
 
 def runs_of(line):
@@ -78,9 +79,20 @@ def check_copy(pieces):
 
 def edits_of(text):
     half, third = len(text) // 2, (len(text) + 3 - (len(text) // 2 - len(text) // 4)) // 3
-    asks = [f"try_insert,{half},{hexed(chr(10) + 'é' + chr(13))}", f"try_remove,{half // 2},{half}"]
+    first, last = (len(text[:at].encode()) for at in (half // 2, half // 2 + 1))
+    asks = ["clone", f"try_byte_replace,{first},{last},{hexed('é')}", *KEPT]
+    asks += [f"try_insert,{half},{hexed(chr(10) + 'é' + chr(13))}", *KEPT, f"try_remove,{half // 2},{half}", *KEPT]
     asks += [f"try_split_off,{third}", "append", *ASKED, "insert_char,0,c3a9", "clone", *ASKED]
-    return asks + [f"try_replace,{third},{half},{hexed('é' * 400)}", *ASKED, f"build,{half // 2},{third}", *ASKED]
+    asks += [f"try_replace,{third},{half},{hexed('é' * 400)}", *KEPT, *ASKED]
+    return asks + [f"build,{half // 2},{third}", *KEPT, *ASKED]
+
+
+def joined(text):
+    """A clone of a rope is parted and joined again, more of it each time, until joining takes memory."""
+    asks = ["clone"]
+    for part in (2, 3, 5, 7):
+        asks += [f"try_split_off,{len(text) // part}", "append", *ASKED]
+    return [*asks, "swap", *ASKED]
 
 
 def test_all():
@@ -95,6 +107,8 @@ def test_all():
     for parts in PARTS[1:]:
         text, name = "".join(parts), f"{short('|'.join(parts), 30)!r}"
         check_row(f"edits of {name}", RopeRow("from_chunks", parts, edits_of(text)), EDITS)
+        joins = {"append"} if len(text.encode()) > 1968 else set()
+        check_row(f"parts of {name} joined", RopeRow("from_chunks", parts, joined(text)), joins)
         check_row(f"a rope of a slice of {name}", RopeRow("from_chunks", parts, [f"slice,1,{len(text)}", *ASKED]), {"slice"})
         check_row(f"a rope that is shrunk, of {name}", RopeRow("from_chunks", parts, ["shrink_to_fit", *ASKED]), {"shrink_to_fit"})
         check_row(f"a rope that is read, of {name}", RopeRow("from_reader", [text], ASKED), {"from_reader"})

@@ -1,5 +1,6 @@
 """What bin/rope-search does where a read or a write fails: its message, its exit status, and what it had
-written by then."""
+written by then; and as a child of a program that does without waiting, without a reader, or without any stream."""
+import fcntl
 import os
 import pty
 import resource
@@ -9,7 +10,7 @@ import tempfile
 import tty
 
 from harness import FIRST, ROOM, differences, end_of, library, open_input, run, short, start, test, told
-from protocol import answer, read_commands, replies
+from protocol import answer, read_commands, replies, spelled
 from test_replies import MORE_EXAMPLES, examples_of_page
 
 
@@ -127,7 +128,208 @@ def test_each_call():
         test(f"{name} with each of its writes failed", each_write(data))
 
 
+def without_waiting(end):
+    """Makes an end of a pipe one at which no read and no write waits."""
+    fcntl.fcntl(end, fcntl.F_SETFL, fcntl.fcntl(end, fcntl.F_GETFL) | os.O_NONBLOCK)
+
+
+def input_without_waiting(data):
+    """The input is a pipe at which no read waits, with these bytes and then nothing more, while it stays open."""
+    read_end, write_end = os.pipe()
+    without_waiting(read_end)
+    os.write(write_end, data)
+    process = start(stdin=read_end)
+    os.close(read_end)
+    ended = end_of(process)
+    os.close(write_end)
+    return ended
+
+
+def wrong_inputs_without_waiting():
+    for length in range(len(FIRST) + 1):
+        out = b"".join(replies(read_commands(FIRST[:length])[0]))
+        for wrong in differences(input_without_waiting(FIRST[:length]), out, 1, told(b"read failed")):
+            yield f"after {length} bytes: {wrong}"
+
+
+# A reply that is longer than a pipe holds.
+LONG_REPLY = spelled("text", (200_000,), b"a" * 200_000) + b"print\n"
+
+
+def wrong_output_without_waiting():
+    """The output is a pipe at which no write waits, of which nobody reads until the program has ended: it takes a front
+    of what is written, which then ends."""
+    read_end, write_end = os.pipe()
+    without_waiting(write_end)
+    process = start(stdin=open_input(LONG_REPLY), stdout=write_end)
+    os.close(write_end)
+    ended = end_of(process)
+    with os.fdopen(read_end, "rb") as left:
+        taken = left.read()
+    whole = answer(LONG_REPLY)[0]
+    if not whole.startswith(taken) or not len(b"ok\n") < len(taken) < len(whole):
+        yield f"{len(taken)} bytes are taken: {short(taken)}"
+    yield from differences(ended, b"", 1, told(b"write failed"))
+
+
+def wrong_pipes_without_waiting():
+    """Where there is always a byte to read and room to write, such pipes are like others."""
+    read_end, write_end = os.pipe()
+    without_waiting(read_end)
+    os.write(write_end, FIRST)
+    os.close(write_end)
+    process = start(stdin=read_end)
+    os.close(read_end)
+    yield from differences(end_of(process), *answer(FIRST))
+
+
+def reader_that_leaves(action):
+    """The program is given commands one by one by who reads a reply and then leaves, with SIGPIPE treated so."""
+    process = start(stdin=subprocess.PIPE, bufsize=0, preexec_fn=lambda: signal.signal(signal.SIGPIPE, action))
+    process.stdin.write(b"print\n")
+    heard = process.stdout.read(len(b"text 0\n\n"))
+    process.stdout.close()
+    process.stdin.write(b"print\n")
+    process.stdout = None
+    ended = end_of(process)
+    yield from [] if heard == b"text 0\n\n" else [f"it heard {heard}"]
+    yield from differences(ended, b"", 1, told(b"write failed"))
+
+
+def closed_before(*ends):
+    """Closes standard streams of the program before it begins."""
+    def close():
+        for end in ends:
+            os.close(end)
+    return close
+
+
+def wrong_without_streams():
+    """With standard error closed, or full, the status alone tells; with the input closed too nothing is read, with the
+    output nothing heard."""
+    for ends, given, status in (
+        ((2,), FIRST, 0), ((0, 2), b"", 1), ((1, 2), FIRST, 1), ((0, 1), FIRST, 1), ((0, 1, 2), FIRST, 1),
+    ):
+        ended = end_of(start(stdin=open_input(given), preexec_fn=closed_before(*ends)))
+        out = answer(FIRST)[0] if ends == (2,) else b""
+        err = told(b"read failed") if ends == (0, 1) else b""
+        yield from (f"without {ends}: {line}" for line in differences(ended, out, status, err))
+    with open("/dev/full", "wb") as full:
+        ended = end_of(start(stdin=open_input(FIRST), stdout=full, stderr=full))
+    yield from (f"with a full standard error: {line}" for line in differences(ended, b"", 1))
+    # A stream that is open the wrong way round.
+    with open(os.path.join(ROOM, "written"), "wb") as written:
+        ended = end_of(start(stdin=written))
+    yield from (f"with an input for writing alone: {line}" for line in differences(ended, b"", 1, told(b"read failed")))
+
+
+def wrong_past_file_limit():
+    """Where a file may not grow further, the signal that tells so ends the program, if nobody has it ignored: what
+    found room is written, and nothing is told."""
+    out = answer(FIRST)[0]
+    for room in (0, 1, len(out) - 1, len(out)):
+        def limit():
+            signal.signal(signal.SIGXFSZ, signal.SIG_DFL)
+            resource.setrlimit(resource.RLIMIT_FSIZE, (room, room))
+            resource.setrlimit(resource.RLIMIT_CORE, (0, 0))
+
+        with tempfile.TemporaryFile(dir=ROOM) as held:
+            ended = end_of(start(stdin=open_input(FIRST), stdout=held, preexec_fn=limit))
+            held.seek(0)
+            ended.out = held.read()
+        status = 0 if room == len(out) else -signal.SIGXFSZ
+        yield from (f"room for {room}: {line}" for line in differences(ended, out[:room], status))
+
+
+def wrong_stopped():
+    """A program that is stopped and goes on loses nothing."""
+    process = start(stdin=subprocess.PIPE, bufsize=0)
+    process.stdin.write(FIRST[:30])
+    os.kill(process.pid, signal.SIGSTOP)
+    process.stdin.write(FIRST[30:])
+    os.kill(process.pid, signal.SIGCONT)
+    yield from differences(end_of(process), *answer(FIRST))
+
+
+def wrong_at_terminal():
+    """A terminal's end of input ends the run, though more could be read behind it."""
+    control, terminal = pty.openpty()
+    process = start(stdin=terminal)
+    os.write(control, b"print\n\x04text 1\n")
+    ended = end_of(process)
+    os.close(control)
+    os.close(terminal)
+    yield from differences(ended, b"text 0\n\n", 0)
+
+
+def given(word, payload):
+    return b"%s %d\n" % (word, len(payload)) + payload
+
+
+# Patterns that stand deep in one another, texts whose ropes are high, and replies of many parts.
+DEEP = [
+    FIRST,
+    b"text 9\naaabbbccc" + given(b"pattern", b"(" * 32_767 + b")" * 32_767) + b"list\n",
+    b"text 9\naaabbbccc" + given(b"pattern", b"(?:" * 200 + b"a" + b"+)*" * 200) + b"list\n" + given(b"replace", b"$0$0")
+    + b"print\n",
+    b"text 4\nabab" + given(b"pattern", b"a|" * 32_767) + b"list\n" + given(b"pattern", b"[" * 30_000) + b"print\n",
+    given(b"text", b"a line, and its mark\n" * 100_000) + given(b"pattern", b"mark$") + b"list\n"
+    + b"".join(b"edit %d 0 %d 3 1\nx" % (line, line) for line in range(0, 100_000, 997)) + given(b"replace", b"\n")
+    + b"undo\nprint\n",
+]
+
+
+def wrong_with_small_stack():
+    """No command's depth in calls grows with what it is given, so 128 kB of stack are enough for all."""
+    def limit():
+        resource.setrlimit(resource.RLIMIT_STACK, (131_072, 131_072))
+        resource.setrlimit(resource.RLIMIT_CORE, (0, 0))
+
+    for number, data in enumerate(DEEP):
+        wanted, ended = end_of(start(stdin=open_input(data))), end_of(start(stdin=open_input(data), preexec_fn=limit))
+        wrong = [] if wanted.status == 0 else [f"status {wanted.status} with no limit"]
+        yield from (f"input {number}: {line}" for line in wrong + differences(ended, wanted.out, wanted.status))
+
+
+def wrong_in_small_space():
+    """Where the address space ends, a text of 20 MB is refused and what follows is answered by the text before; or it
+    is taken whole."""
+    text = b"0123456789abcde\n" * 1_250_000
+    data = given(b"text", b"abc") + given(b"text", text) + b"edit 0 0 0 1 1\nxprint\n"
+    answers = {b"ok\nerror memory\nok\ntext 3\nxbc\n": "refused", b"ok\nok\nok\n" + given(b"text", b"x" + text[1:]) + b"\n": "taken"}
+    seen = []
+    for megabytes in (16, 32, 64, 128, 256):
+        def limit():
+            resource.setrlimit(resource.RLIMIT_AS, (megabytes << 20, megabytes << 20))
+
+        ended = end_of(start(stdin=open_input(data), preexec_fn=limit))
+        seen.append(answers.get(ended.out))
+        if ended.status != 0 or not seen[-1]:
+            yield f"in {megabytes} MB: status {ended.status}, {short(ended.out)}"
+    if seen[0] != "refused" or seen[-1] != "taken" or seen != sorted(seen):
+        yield f"in more and more room: {seen}"
+
+
+def test_budgets():
+    test("a stack of 128 kB", wrong_with_small_stack())
+    test("a text of 20 MB in 16 to 256 MB of address space", wrong_in_small_space())
+
+
+def test_as_child():
+    test("no byte yet at an input that doesn't wait", wrong_inputs_without_waiting())
+    test("no room at an output that doesn't wait", wrong_output_without_waiting())
+    test("an input that doesn't wait and ends", wrong_pipes_without_waiting())
+    for name, action in (("as it is at first", signal.SIG_DFL), ("ignored", signal.SIG_IGN)):
+        test(f"a reader that leaves after a reply, SIGPIPE {name}", reader_that_leaves(action))
+    test("a file that may not grow further, SIGXFSZ as it is at first", wrong_past_file_limit())
+    test("standard streams that are closed, full, or open the wrong way", wrong_without_streams())
+    test("stopped, and then continued", wrong_stopped())
+    test("a terminal's end of input", wrong_at_terminal())
+
+
 def test_all():
     test_failing_reads()
     test_failing_writes()
     test_each_call()
+    test_as_child()
+    test_budgets()

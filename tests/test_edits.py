@@ -37,8 +37,8 @@ HEAVIEST, LINES, EDITS = "mark|^x{0,65535}y{32763}", 10_000, 1_000
 class Writer:
     """Commands, and what the model replies to them."""
 
-    def __init__(self):
-        self.session, self.commands, self.replies = Session(), [], []
+    def __init__(self, session=None):
+        self.session, self.commands, self.replies = session or Session(), [], []
 
     def write(self, word, *numbers, text=None):
         """A command, with the payload that its text spells."""

@@ -84,7 +84,21 @@ def test_code():
                 test("README.md has code", [] if len(blocks) >= 2 else [f"{len(blocks)} blocks"])
 
 
+def test_one_regex():
+    """What reports are made of builds and searches its regex in one module, where each search is counted."""
+    named = re.compile(r"^(?!ghost use ).*\bregex_cursor\b", re.MULTILINE)
+    found = set()
+    for path in glob.glob(os.path.join(TOP, "crates", "rope_search*", "src", "**", "*.rt"), recursive=True):
+        with open(path, encoding="utf-8") as file:
+            if named.search(file.read()):
+                found.add(os.path.relpath(path, os.path.join(TOP, "crates")))
+    home = os.path.join("rope_search_reports", "src")
+    allowed = {os.path.join(home, *file.split("/")) for file in ("laws.rt", "rows/engine.rt", "rows/searching.rt")}
+    test("one module has the regex of a report", [] if found == allowed else [f"others name it: {found ^ allowed}"])
+
+
 def test_all():
     test_demo()
     test_by_hand()
     test_code()
+    test_one_regex()

@@ -36,6 +36,8 @@ KNOWN_COUNTS = [
     ("\r\n", "lines", 1),
     ("\n\r", "lines", 2),
     ("¥©ˆ…\u2027\u202a", "lines", 0),
+    ("a\r\nb", "lines", 1),
+    ("a\r\nb", "lines_crlf", 1),
     ("\r\n" * 32, "lines", 32),
     ("\r\n" * 32, "lines_crlf", 32),
     ("\r\n" * 32, "lines_lf", 32),

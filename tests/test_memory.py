@@ -1,8 +1,12 @@
 """What bin/rope-search does where memory is refused: each request of several sessions in turn, alone and
 with all that follow it."""
-from harness import FIRST, differences, run, short, test, told
-from memory import counted, library, tallied
-from protocol import HAS_PAYLOAD, NUMBER_LIMIT, TEXT_LIMIT, Session, answer, read_commands, spelled, takers
+import functools
+import os
+import random
+
+from harness import FIRST, differences, end_of, open_input, run, short, start, test, told
+from memory import counted, library, most_held, tallied
+from protocol import HAS_PAYLOAD, NUMBER_LIMIT, PATTERN_LIMIT, TEXT_LIMIT, WORDS, Session, answer, read_commands, spelled, takers
 
 
 def given(word, payload):
@@ -46,13 +50,16 @@ BACK_AND_FORWARD = (
     + b"undo\nlist\nundo\nlist\nredo\nredo\nlist\n" + given("pattern", b"a") + given("replace", b"") + b"undo\nundo\nlist\n"
     + b"edit 0 0 1 0 2\n\r\nlist\nredo\noff\nundo\nredo\n" + given("pattern", b"(?m)b$") + b"undo\nundo\nundo\nlist\nprint\n"
 )
-SENT_AGAIN = (HISTORY, UNDER_PATTERN, UNDER_REGEX, REPLACED, BACK_AND_FORWARD)
 
 # A text of a megabyte, and how many of its lines are edited, each in a fork of its own and all in one buffer.
 LINES, LINE, EDITED = 20_000, b"a line of fifty bytes, which holds one mark: here\n", 50
 # What a fork with an edit may take, or an edit with its rows, whatever the text: a path of nodes and a few lists.
 MOST_FOR_AN_EDIT = 8_192
 MOST_FOR_A_FORK = 12_288  # one with an edit: beside that it is a buffer of its own
+# Buffers with a pattern each, and what one may hold under which pattern: with a letter class most of it is the program.
+BUFFERS, MOST_FOR_A_BUFFER = 2_000, ((b"mark", 16_000), (rb"(?i)todo|error", 16_000), (rb"\w+", 100_000))
+# A text, how often it is edited, and how much an edit may leave behind in the history.
+LONG_TEXT, MANY_EDITS, MOST_KEPT = 20_000_000, 10_000, 5_000
 
 # Inputs on which memory is refused. The payload of the second is as long as several reads and
 # spells commands, which must not be carried out where it is lost.
@@ -86,88 +93,159 @@ def growths(length):
     return count
 
 
+def session(data, **settings):
+    """A run with requests refused as told, how many there were, and how many bytes of its input were read by then."""
+    with open_input(data) as given:
+        ended, count, _ = counted(lambda environment: end_of(start((), environment, stdin=given)), **settings)
+        ended.read = os.lseek(given.fileno(), 0, os.SEEK_CUR)
+    return ended, count
+
+
+def respelled(commands):
+    return b"".join(spelled(*command) for command in commands)
+
+
+def under_way(commands, data):
+    """Of each request for memory the place of the command that makes it, or None where it is made before the first.
+    Behind the last one a payload that is cut short makes some."""
+    counts = [session(respelled(commands[:place]))[1] for place in range(len(commands) + 1)]
+    ends = zip([*counts, session(data)[1]], [None, *range(len(commands) + 1)])
+    return [place for before, (end, place) in zip([0, *counts], ends) for _ in range(before, end)]
+
+
+def follow(commands, out):
+    """The places of the commands that are answered that memory lacks, by an output, where others answer as the model."""
+    model, at, lacking = Session(), 0, set()
+    for place, command in enumerate(commands):
+        if model.takes_memory(command[0]) and out.startswith(b"error memory\n", at):
+            lacking.add(place)
+        at += len(model.reply(command, place in lacking))
+    return lacking
+
+
+@functools.lru_cache(maxsize=200)
+def answer_without(data, lacking):
+    """The answer to an input where memory is refused to the commands at these places."""
+    return answer(data, lacking)
+
+
+@functools.lru_cache(maxsize=4)
+def known_answers(data):
+    """What was written for an input where memory was refused, each with the commands that it was refused to: to be
+    added to, since working that out takes as long as the commands."""
+    return {}
+
+
+def answered(data, ended):
+    """What is wrong with a run to which requests were refused, and the places of the commands that are answered so:
+    there is no session at all, or some of the commands that take memory are answered so and change nothing."""
+    if ended.status == 1:
+        return differences(ended, b"", 1, told(b"out of memory")), frozenset()
+    known = known_answers(data)
+    if ended.out not in known:
+        known[ended.out] = frozenset(follow(read_commands(data)[0], ended.out))
+    lacking = known[ended.out]
+    return differences(ended, *answer_without(data, lacking)), lacking
+
+
+def may_go_untold(commands):
+    """How many requests may be refused with nothing told: the list of a pattern's characters asks for more room than it
+    needs at once, and where that is refused for the room of one after the other."""
+    return sum(growths(len(payload)) for word, _, payload in commands if word == "pattern")
+
+
+def one_refused(data, places):
+    """Each request refused alone: before the first command nothing is read, and later on the command that was under way
+    is the one that is answered so. But of each pattern some requests may be refused with nothing told."""
+    commands, _ = read_commands(data)
+    untold, seen, whole = may_go_untold(commands), set(), answer(data)
+    for number, place in enumerate(places, 1):
+        ended, _ = session(data, at=number)
+        if place is None:
+            wrong = differences(ended, b"", 1, told(b"out of memory")) + ([f"{ended.read} bytes were read"] if ended.read else [])
+        elif place == len(commands):
+            wrong = differences(ended, *whole)
+        elif untold and commands[place][0] == "pattern" and not differences(ended, *whole):
+            untold, wrong = untold - 1, []
+        else:
+            wrong = differences(ended, *answer_without(data, frozenset({place})))
+            seen.add(place)
+        yield from (f"request {number}, command {place}: {line}" for line in wrong)
+    # A payload that isn't empty and is kept needs memory.
+    for place in sorted(takers(commands) - seen):
+        word, numbers, _ = commands[place]
+        is_kept = word in HAS_PAYLOAD and 0 < numbers[-1] and (word != "pattern" or numbers[-1] <= PATTERN_LIMIT)
+        if is_kept and whole_refusal(commands, place) not in (b"none", b"range"):
+            yield f"no refusal reached command {place}, a {word}"
+
+
+def whole_refusal(commands, place):
+    """Why a command is refused that follows others, or None."""
+    model = Session()
+    for command in commands[:place]:
+        model.reply(command)
+    return model.refusal(*commands[place])
+
+
+def all_refused_from(data, places):
+    """Each request and all after it refused: what was told is right for the commands that tell want of memory, and none
+    before the one that was under way does."""
+    for number, place in enumerate(places, 1):
+        ended, _ = session(data, **{"from": number})
+        wrong, lacking = answered(data, ended)
+        if any(other < place for other in lacking):
+            wrong.append("a command before it is answered so")
+        if place is None and ended.read:
+            wrong.append(f"{ended.read} bytes were read")
+        yield from (f"from request {number}, command {place}: {line}" for line in wrong)
+
+
+def sent_again(data, places):
+    """A command to which one request was refused is carried out where it is sent again at once."""
+    commands, _ = read_commands(data)
+    untold = may_go_untold(commands)
+    for number, place in enumerate(places, 1):
+        if place is not None and place < len(commands):
+            given = respelled(commands[: place + 1] + commands[place:])
+            ended, _ = session(given, at=number)
+            wrong = differences(ended, *answer_without(given, frozenset({place})))
+            if wrong and untold and commands[place][0] == "pattern" and not differences(ended, *answer(given)):
+                untold, wrong = untold - 1, []
+            yield from (f"request {number}, command {place}: {line}" for line in wrong)
+
+
+def asks_for_none(data):
+    """Fifty more of each command that needs no memory ask for none, in the session that the commands lead to."""
+    commands, _ = read_commands(data)
+    model = Session()
+    for command in commands:
+        model.reply(command)
+    words = [spelled("use", (model.chosen,)), b"use 99\n", b"list\n", b"print\n", b"off\n", b"undo\n", b"redo\n"]
+    more = respelled(commands) + b"".join(word * 50 for word in words)
+    ended, asked = session(more)
+    yield from differences(ended, *answer(more))
+    if asked != session(respelled(commands))[1]:
+        yield f"{asked} requests"
+
+
+def check_refusals(data, most=None):
+    """Tests an input with each of its requests refused, where there are no more than so many."""
+    name = short(data[:40]) + (f".. ({len(data)} bytes)" if len(data) > 40 else "")
+    ended, count = session(data)
+    test(f"{name} under the library, nothing refused", differences(ended, *answer(data)))
+    test(f"{name}, and more that needs no memory", asks_for_none(data))
+    if most is None or count <= most:
+        places = under_way(read_commands(data)[0], data)
+        test(f"{name} with each of its {count} requests refused", one_refused(data, places))
+        test(f"{name} with all from each of its {count} requests on refused", all_refused_from(data, places))
+        test(f"{name} with each command that lacked memory sent again", sent_again(data, places))
+
+
 def test_all():
     if library() is None:
         return
-
-    def session(data, **settings):
-        return counted(lambda environment: run(data, environment=environment), **settings)
-
-    def one_refused(data, count):
-        """Each request refused alone: no session at all, or want of memory told by one command. But of each pattern
-        some requests may be refused with nothing told: the list of its characters asks for more room than it needs at
-        once, and where that is refused for the room of one after the other."""
-        commands, _ = read_commands(data)
-        may_lack = takers(commands)
-        allowed = {answer(data, {place})[0]: place for place in may_lack}
-        whole, seen = answer(data), set()
-        untold = sum(growths(len(payload)) for word, _, payload in commands if word == "pattern")
-        for number in range(1, count + 1):
-            ended, _, _ = session(data, at=number)
-            if ended.status == 1:
-                for wrong in differences(ended, b"", 1, told(b"out of memory")):
-                    yield f"request {number}: {wrong}"
-            elif ended.out in allowed:
-                seen.add(allowed[ended.out])
-                for wrong in differences(ended, ended.out, whole[1]):
-                    yield f"request {number}: {wrong}"
-            elif untold and not differences(ended, *whole):
-                untold -= 1
-            else:
-                yield f"request {number}: no command alone is answered error memory: {short(ended.out)}"
-        # A payload that isn't empty needs memory, and so does some fork among many.
-        for place in sorted(may_lack - seen):
-            if commands[place][0] in HAS_PAYLOAD and commands[place][1][-1] > 0:
-                yield f"no refusal reached command {place}, a {commands[place][0]}"
-        forks = {place for place in may_lack if commands[place][0] == "fork"}
-        if len(forks) >= 10 and not forks & seen:
-            yield "no refusal reached a fork"
-
-    def all_refused_from(data, count):
-        """Each request and all after it refused: what was told is right for the commands that tell
-        want of memory, and these take memory."""
-        commands, _ = read_commands(data)
-        for number in range(1, count + 1):
-            ended, _, _ = session(data, **{"from": number})
-            if ended.status == 1:
-                wrong = differences(ended, b"", 1, told(b"out of memory"))
-            else:
-                wrong = differences(ended, *follow(commands, ended.out, data))
-            for line in wrong:
-                yield f"from request {number}: {line}"
-
-    def follow(commands, out, data):
-        """The answer to the input where memory is refused to the commands that `out` says."""
-        model, at, refused = Session(), 0, set()
-        for place, command in enumerate(commands):
-            if model.takes_memory(command[0]) and out.startswith(b"error memory\n", at):
-                refused.add(place)
-            at += len(model.reply(command, place in refused))
-        return answer(data, refused)
-
-    def sent_again(data, count):
-        """A command to which one request was refused is carried out where it is sent again at once."""
-        commands, _ = read_commands(data)
-        for number in range(1, count + 1):
-            ended, _, _ = session(data, at=number)
-            for place in takers(commands):
-                if ended.out == answer(data, {place})[0]:
-                    twice = commands[: place + 1] + commands[place:]
-                    given = b"".join(spelled(*command) for command in twice)
-                    ended, _, _ = session(given, at=number)
-                    for wrong in differences(ended, *answer(given, {place})):
-                        yield f"request {number}, command {place}: {wrong}"
-                    break
-
     for data in MEMORY_INPUTS:
-        name = short(data[:40]) + (f".. ({len(data)} bytes)" if len(data) > 40 else "")
-        ended, count, _ = session(data)
-        wrong = differences(ended, *answer(data)) + ([] if count else ["it asked for no memory"])
-        test(f"{name} under the library, nothing refused", wrong)
-        test(f"{name} with each of its {count} requests refused", one_refused(data, count))
-        test(f"{name} with all from each of its {count} requests on refused", all_refused_from(data, count))
-        if data in SENT_AGAIN:
-            test(f"{name} with each command that lacked memory sent again", sent_again(data, count))
+        check_refusals(data)
 
     is_as_told = answer(HISTORY, {1})[0] == FIRST_EDIT_REFUSED
     test("after an edit that lacked memory there is nothing to undo", [] if is_as_told else ["the model has"])
@@ -175,8 +253,9 @@ def test_all():
     def claims():
         """No memory is asked for by the number that a line claims, but by what was read."""
         for number in (100_000_000, TEXT_LIMIT, TEXT_LIMIT + 1, NUMBER_LIMIT):
-            for command in (("text", (number,), b"ab"), ("edit", (0, 0, 0, 0, number), b"ab")):
-                ended, _, largest = session(spelled(*command))
+            for command in [(word, (*[0] * (WORDS[word.encode()] - 1), number), b"ab") for word in HAS_PAYLOAD]:
+                data = spelled(*command)
+                ended, _, largest = counted(lambda environment, given=data: run(given, environment=environment))
                 yield from differences(ended, b"error end\n", 2)
                 if largest > 1 << 16:
                     yield f"{command[0]} {number} with two bytes asks for {largest} bytes"
@@ -210,3 +289,37 @@ def test_all():
         test(f"so does an edit under the pattern {pattern.decode()}", taken_for_edits(given("pattern", pattern) + grown, one))
     replacements = given("replace", b"$0x") * EDITED
     test("and so does a replacement of one match", taken_for_edits(given("pattern", rb"\A.") + grown, replacements))
+    test_bounds()
+
+
+def peak_of(data):
+    """The most memory that the program holds at a time over an input of which no command is refused."""
+    ended, peak = most_held(lambda environment: run(data, environment=environment))
+    assert b"error" not in ended.out[-1_000_000:] and ended.status == 0, short(ended.out)
+    return peak
+
+
+def test_bounds():
+    """What many buffers with a pattern each hold, and many edits of one long text: by the most that is held at a time."""
+    for pattern, most in MOST_FOR_A_BUFFER:
+        def buffers(count, setting=given("pattern", pattern)):
+            return b"".join(b"fork\nuse %d\n" % (number + 1) + setting for number in range(count))
+        each = (peak_of(buffers(BUFFERS)) - peak_of(buffers(1))) // (BUFFERS - 1)
+        wrong = [] if 0 < each <= most else [f"a buffer takes {each} bytes"]
+        test(f"{BUFFERS} buffers under {pattern.decode()} take at most {most} bytes each", wrong)
+    text = given("text", LINE * (LONG_TEXT // len(LINE)))
+    for name, edits in (("letters at random lines", letters_at_random), ("a typist", letters_in_a_row)):
+        # What a text takes while it is read is more than what stays of it, so edits are held against fewer edits.
+        each = (peak_of(text + edits(2 * MANY_EDITS)) - peak_of(text + edits(MANY_EDITS))) // MANY_EDITS
+        wrong = [] if 0 < each <= MOST_KEPT else [f"an edit keeps {each} bytes"]
+        test(f"{name}: {MANY_EDITS} edits of {LONG_TEXT} bytes keep at most {MOST_KEPT} bytes each", wrong)
+
+
+def letters_at_random(count):
+    chosen = random.Random(7)
+    lines = (chosen.randrange(LONG_TEXT // len(LINE)) for _ in range(count))
+    return b"".join(spelled("edit", (line, 0, line, 0, 1), b"x") for line in lines)
+
+
+def letters_in_a_row(count):
+    return b"".join(spelled("edit", (200_000, column, 200_000, column, 1), b"x") for column in range(count))

@@ -307,6 +307,19 @@ BEGINNINGS = [
 ]
 
 
+def literals_at_seams():
+    """Commands over texts of several chunks, of which the first ends before, in and behind a literal and a break
+    beside it: the lines before are passed over, and the one with the literal isn't."""
+    for ending in ("\n", "\r\n", "\r"):
+        data = with_payload("pattern", "xyz")
+        for at in range(976, 988):
+            for beside in range(-4, 6):
+                text = ("ab c de\n" * 125)[:at] + "xyzq"
+                text = text[: at + beside] + ending + text[at + beside :]
+                data += with_payload("text", text + "\n" + "fg h\n" * 200 * (beside % 2) + "xyz") + b"list\n"
+        yield f"literals at the end of a chunk, beside {ending!r}", data
+
+
 def lines_far_apart():
     """Commands over texts of some thousand lines, for each of these patterns: what its matches begin with lies in each
     line, in few of them or in none, over the ends of chunks and of lines, and lines come and go."""
@@ -329,7 +342,7 @@ def lines_far_apart():
 
 
 def test_lines_far_apart():
-    for name, data in lines_far_apart():
+    for name, data in (*literals_at_seams(), *lines_far_apart()):
         test(name, differences(run(data), *answer(data)))
 
 

@@ -48,6 +48,8 @@ EDITS = [
     # Of the characters that Unicode lets break lines LF and CR do, CR LF as one.
     ("a\nb\vc\fd\re\x85f\u2028g\u2029h\r\ni", ["lengths", "same", "remove,1,2", "remove,6,7", "lengths", "same"],
      ["23 18 18 4", "true Equal true true", "Ok(())", "Ok(())", "21 16 16 2", "true Equal true true"]),
+    ("abc", ["try_remove,3,2", "try_remove,2,5", "text"],
+     ["Err(CharRangeInvalid(3, 2))", "Err(CharRangeOutOfBounds(Some(2), Some(5), 3))", hexed("abc")]),
     # What a builder is given by slices: the text up to one character, and that from another one on.
     ("aé\r\n🐸", ["build,3,3", "text", "build,2,3", "text", "cut", "build,4,0", "text", "same", "build,0,8", "lengths"],
      ["Ok(9)", hexed("aé\r\n🐸"), "Ok(8)", hexed("aé\n🐸"), "8 984", "Ok(16)", hexed("aé\n🐸aé\n🐸"), "true Equal true true", "Ok(0)",
@@ -112,6 +114,9 @@ def made_ropes():
     text = full("é🐸\r\n", 50_000)
     asks = [f"lines,0,{'n' * 6_252}{'p' * 6_252}", *(f"places,{idx}" for idx in range(0, 50_002, 7))]
     yield RopeRow("from_str", [text], ["cut", *asks]).row()
+    # All chunks one after the other, and back.
+    asks = [f"{kind},0,{'n' * 18}{'p' * 18}" for kind in CHUNK_KINDS]
+    yield RopeRow("from_str", ["abc" * 5_000], ["cut", *asks]).row()
     for unit in UNITS:
         # Ten million bytes: what is told is too long to be asked for by the model at each place.
         text, count = unit * (10_000_000 // len(unit.encode())), 10_000_000 // len(unit.encode())

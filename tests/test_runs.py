@@ -5,12 +5,14 @@ from dataclasses import dataclass, replace
 from itertools import combinations_with_replacement, product
 
 from harness import RUN_PROGRAM, differences, end_of, open_input, short, start, test
-from protocol import CLOSING, TEXT_LIMIT, costs, positions_of, read_commands, replies, spelled
+from memory import counted, library
+from protocol import CLOSING, TEXT_LIMIT, costs, positions_of, read_commands, replies, replies_and_costs, spelled
 from test_replies import MORE_EXAMPLES, examples_of_page
 
 BATCH = 5_000  # how many rows go into one run of the driver
 ENDINGS = {"input": "Input", "command": "Command", "cut": "Cut"}
-LONG = 400  # an input of more bytes isn't cut, or failed at, after each of them
+# An input of more bytes isn't cut, or failed at, after each of them, but for the shortest that lies in several chunks.
+LONG, ACROSS_CHUNKS = 400, spelled("text", (1_969,), b"a" * 983 + b"xyz" + b"a" * 983) + spelled("pattern", (3,), b"xyz") + b"list\n"
 
 
 @dataclass(frozen=True)
@@ -72,8 +74,8 @@ def problems(runs, wrong_with):
 def due(run):
     """The ending and the text that the model gives, and its bounds of rows and searches of whole texts."""
     commands, ending = read_commands(run.data)
-    written = b"".join(replies(commands, limit=run.limit)) + CLOSING[ending]
-    return ENDINGS[ending], written, costs(commands, run.limit)
+    told, most = replies_and_costs(commands, run.limit)
+    return ENDINGS[ending], b"".join(told) + CLOSING[ending], most
 
 
 def wrong_with(run, outcome):
@@ -123,7 +125,7 @@ def test_worked(inputs):
         steps = [Run(data, read=read, write=write) for read, write in ((1, 1), (2, 3), (4096, 1), (3, 4096))]
         test(f"{name} over memory, within its rows", problems(steps, wrong_with))
         written = len(due(steps[0])[1])
-        if max(len(data), written) > LONG:
+        if max(len(data), written) > LONG and data != ACROSS_CHUNKS:
             continue
         cut = (Run(data[:length], read=1, write=1) for length in range(len(data)))
         test(f"{name} over memory, cut after each of its bytes", problems(cut, wrong_with))
@@ -210,6 +212,33 @@ def test_last():
         test(f"{short(pair[1])} behind {short(pair[0][:60])} makes at most {pair[2]} rows", wrong_last([pair]))
 
 
+def wrong_refused(before, last, rows, wholes):
+    """What is wrong with the last command of an input where each request for memory of the whole run is refused in turn:
+    it makes no more rows then, and searches no more often."""
+    line, most = Run(before + last).line().encode(), due(Run(before + last))[2]
+
+    def run(environment):
+        return end_of(start(environment=environment, program=RUN_PROGRAM, stdin=open_input(line)))
+
+    refused = 0
+    for number in range(1, counted(run)[1] + 1):
+        ended, *_ = counted(run, at=number)
+        outcome = Outcome.of(ended.out.decode(errors="replace").rstrip("\n"))
+        if outcome is None:
+            continue  # it was refused to what reads the line, or tells the answer
+        refused += b"error memory" in outcome.written
+        if outcome.rows > most[0] or outcome.wholes > most[1]:
+            yield f"request {number}: {outcome.rows} rows, {outcome.wholes} searches, more than {most}"
+    if not refused:
+        yield "no request was refused to a command"
+
+
+def test_refused():
+    for pair in LAST:
+        if len(pair[0]) < LONG and library() is not None:
+            test(f"{short(pair[1])} behind {short(pair[0])}, refused memory, makes no more rows", wrong_refused(*pair))
+
+
 def texts(letters, longest):
     return ["".join(text) for length in range(longest + 1) for text in product(letters, repeat=length)]
 
@@ -220,9 +249,9 @@ def rows_of_last(before, last):
 
 
 def small_edits(letters, longest, longest_inserted):
-    """Every edit of every small text under a pattern, with the most rows that it makes."""
-    for text in texts(letters, longest):
-        before = spelled("text", (len(text),), text.encode()) + b"pattern 1\na"
+    """Every edit of every small text under some patterns, with the most rows that it makes."""
+    for text, pattern in product(texts(letters, longest), ("a", "x*", "a$")):
+        before = spelled("text", (len(text),), text.encode()) + spelled("pattern", (len(pattern),), pattern.encode())
         spans = combinations_with_replacement(positions_of(text), 2)
         for (first, last), inserted in product(spans, texts(letters, longest_inserted)):
             command = spelled("edit", (*first, *last, len(inserted)), inserted.encode())
@@ -277,11 +306,14 @@ def test_limits():
                 yield f"{short(outcome.written)}, not {short(wanted)}"
         runs = (Run(data, limit, read=step, write=step) for step in (1, 2, 3, 4, 5, 4096))
         test(f"{short(data)} where texts have {limit} bytes at most", problems(runs, wrong_answer))
+        cut = (Run(data[:length], limit, read=1, write=1) for length in range(len(data)))
+        test(f"{short(data)} where they do, cut after each of its bytes", problems(cut, wrong_with))
 
 
 def test_all():
     test_worked([data for data, _, _ in examples_of_page() + MORE_EXAMPLES])
     test_rows()
     test_last()
+    test_refused()
     test_small_texts()
     test_limits()

@@ -84,6 +84,17 @@ VECTORS = [
     ("a{65535}{65535}", "a", TOO_LARGE),
 ]
 
+# As far as numbers go: patterns as deep as they may be nested, and slices and spans that end past every content.
+DEEP, MOST = Settings(nest_limit=65_535), 2**64 - 1
+EXTREMES = [
+    ("a" + "*" * 65_535, "aab", "0-2 3-3", None, False, DEEP),
+    ("(?:" * 13_106 + "a|b" + ")" * 13_106, "xab", "1-2 2-3", None, False, DEEP),
+    ("a+|$", "aab", "0-2 3-3", ((0, MOST), (0, MOST), False)),
+    ("a+|$", "aab", "1-2 3-3", ((1, MOST), (1, MOST), False)),
+    ("a+|$", "aab", "", ((0, MOST), (MOST, MOST), False)),
+    ("a+|$", "aab", "", ((MOST, MOST), (0, MOST), False)),
+]
+
 # Patterns, how haystacks are cut, these, what is asked for, and what the first match notes in slots: its pattern, or
 # that there is none, and then a place or a dash for each slot.
 SLOTS = [
@@ -198,7 +209,7 @@ def table():
 
 
 def vectors():
-    for size, (pattern, haystack, answer, *asked) in itertools.product(SIZES, VECTORS):
+    for size, (pattern, haystack, answer, *asked) in itertools.product(SIZES, VECTORS + EXTREMES):
         yield search(pattern, haystack.encode(), answer, size, *asked)
 
 

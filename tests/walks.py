@@ -4,6 +4,7 @@ walks through these, and what a search finds. It is slow, and looks like no engi
 Places are byte indices into a content, which may be any bytes.
 """
 import functools
+import itertools
 import sys
 import unicodedata
 from dataclasses import dataclass
@@ -184,12 +185,18 @@ LOOKS = {
 
 
 class Program:
-    """The nodes that stand for a tree, each as what it is, its ordered edges to other nodes, and the slot, the
-    look or the set that it has. A tree's nodes are made after those that they lead on to."""
+    """The nodes that stand for trees, each as what it is, its ordered edges to other nodes, and the slot, the look,
+    the set or the pattern that it has. A tree's nodes are made after those that they lead on to. One pattern stands
+    alone; several, or none, stand under one node with edges to them. The slots of all groups 0 come first, then those
+    of the other groups, pattern by pattern."""
 
-    def __init__(self, tree):
-        self.nodes = [("match", [], None)]
-        self.start = self.group(0, tree, 0)
+    def __init__(self, *trees):
+        self.nodes, self.patterns, self.slots = [], [], 2 * len(trees) - 2
+        for pattern, tree in enumerate(trees):
+            end = self.add("match", [], pattern)
+            self.patterns.append(self.noted(2 * pattern, tree, end))
+            self.slots += 2 * (len(group_numbers(tree)) - 1)
+        self.start = self.patterns[0] if len(trees) == 1 else self.add("pass", self.patterns)
 
     def add(self, kind, edges, has=None):
         self.nodes.append((kind, edges, has))
@@ -199,10 +206,10 @@ class Program:
         """A node with edges into what is repeated and on, the first preferred where it is greedy."""
         return self.add("pass", [into, on] if is_greedy else [on, into])
 
-    def group(self, number, inside, on):
+    def noted(self, slot, inside, on):
         """A node that notes the start, what is inside, and one that notes the end."""
-        end = self.add("note", [on], 2 * number + 1)
-        return self.add("note", [self.code(inside, end)], 2 * number)
+        end = self.add("note", [on], slot + 1)
+        return self.add("note", [self.code(inside, end)], slot)
 
     def code(self, tree, on):
         """Adds nodes for a tree from which walks go on to the node `on`. Answers the node that is entered."""
@@ -211,7 +218,7 @@ class Program:
         if isinstance(tree, Look):
             return self.add("look", [on], LOOKS[tree.text])
         if isinstance(tree, Group):
-            return self.group(tree.number, tree.inside, on)
+            return self.noted(self.slots + 2 * tree.number, tree.inside, on)
         if isinstance(tree, Alternation):
             return self.add("pass", [self.code(part, on) for part in tree.parts])
         if isinstance(tree, Concat):
@@ -250,25 +257,33 @@ class Program:
 
 
 @functools.lru_cache(maxsize=500)
-def program_of(tree):
-    return Program(tree)
+def program_of(*trees):
+    return Program(*trees)
 
 
 # ---- searches
 
 
 class Search:
-    """Searches of a content for a tree, with a slice, outside of which nothing is seen, and a span, in which a
-    match has to lie. Both are whole contents if not told; ends beyond the content are as its end. Empty matches
-    inside a character are found if `inside` is told, and lines end in the byte `line_end`."""
+    """Searches of a content for a tree, or for several, a tuple of them, with a slice, outside of which nothing is seen,
+    and a span, in which a match has to lie. Both are whole contents if not told; ends beyond the content are as its
+    end. Empty matches inside a character are found if `inside` is told, and lines end in the byte `line_end`. Matches
+    are anchored to a pattern alone if its number is told."""
 
-    def __init__(self, tree, content, slice_=None, span=None, is_anchored=False, inside=False, line_end=b"\n"):
-        self.program, self.content, self.is_anchored = program_of(tree), content, is_anchored
+    def __init__(self, tree, content, slice_=None, span=None, is_anchored=False, inside=False, line_end=b"\n",
+                 pattern=None):
+        self.trees = tree if isinstance(tree, tuple) else (tree,)
+        self.program, self.content, self.is_anchored = program_of(*self.trees), content, is_anchored
         self.inside, self.line_end = inside, line_end
         self.slice, self.span = slice_ or (0, len(content)), span or (0, len(content))
         self.low = max(self.slice[0], self.span[0])
         self.high = min(self.slice[1], self.span[1], len(content))
-        self.groups, self.known = group_numbers(tree), {}
+        self.pattern, self.known = pattern, {}
+        counts = [len(group_numbers(tree)) - 1 for tree in self.trees]
+        starts = itertools.accumulate(counts, initial=len(counts))
+        # The first slot of each group, pattern by pattern.
+        self.slots = [[2 * number, *range(2 * start, 2 * (start + count), 2)]
+                      for number, (start, count) in enumerate(zip(starts, counts))]
 
     def holds(self, look, place):
         """Whether a look holds at a place, in the content cut to the slice."""
@@ -286,7 +301,7 @@ class Search:
     def walk_by_edges(self, node, place, taken):
         kind, edges, has = self.program.nodes[node]
         if kind == "match":
-            return place, ()
+            return place, (("pattern", has),)
         if kind == "look" and not self.holds(has, place):
             return None
         if kind == "set":
@@ -297,18 +312,22 @@ class Search:
         walk = next((walk for walk in walks if walk), None)
         return (walk[0], ((has, place),) + walk[1]) if walk and kind == "note" else walk
 
-    def ends(self, place):
-        """The places where walks from the start node at a place end."""
-        ends, seen, left = set(), set(), [(self.program.start, place)] if self.low <= place <= self.high else []
+    def walked(self, node, place):
+        """The patterns that walks from a node at a place match, each with where it ends."""
+        walked, seen, left = set(), set(), [(node, place)] if self.low <= place <= self.high else []
         while left:
             pair = left.pop()
             if pair not in seen:
                 seen.add(pair)
                 kind, edges, has = self.program.nodes[pair[0]]
                 if kind == "match":
-                    ends.add(pair[1])
+                    walked.add((has, pair[1]))
                 left += self.further(kind, edges, has, pair[1])
-        return ends
+        return walked
+
+    def ends(self, place):
+        """The places where walks from the start node at a place end."""
+        return {end for _, end in self.walked(self.program.start, place)}
 
     def further(self, kind, edges, has, place):
         """The pairs of node and place to which the edges of a node lead at a place."""
@@ -330,13 +349,30 @@ class Search:
         places = range(self.low, min(end, self.high) + 1)
         return next((place for place in places if end in self.ends(place) and self.counts(place, end)), None)
 
+    def find_all(self, start, pattern=None):
+        """Where all matches are wanted: of the walks that count, from all places from `start` on, or from that one
+        alone, the greatest end, then the least start, then the least pattern, as pattern, start and end, or None.
+        With `pattern` walks start at that place alone, at the pattern's own node."""
+        if pattern is not None and pattern >= len(self.trees):
+            return None
+        is_tied = self.is_anchored or pattern is not None
+        node = self.program.start if pattern is None else self.program.patterns[pattern]
+        last = min(start, self.high) if is_tied else self.high
+        found = [(end, -place, -matched) for place in range(start, last + 1) for matched, end in self.walked(node, place)
+                 if self.counts(place, end)]
+        end, place, matched = max(found) if found else (None, None, None)
+        return (-matched, -place, end) if found else None
+
     def find(self, start):
-        """The least walk of the least start that counts, as the places in its slots, or None. Starts are the
-        places from `start` on, or that one alone. An empty walk counts at the content's end and before a byte that
-        continues no character, and anywhere if `inside`. A slot has the place that was noted last."""
-        last = min(start, self.high) if self.is_anchored else self.high
+        """The least walk of the least start that counts, as its pattern and the places in its slots, or None. Starts
+        are the places from `start` on, or that one alone. An empty walk counts at the content's end and before a byte
+        that continues no character, and anywhere if `inside`. A slot has the place that was noted last."""
+        if self.pattern is not None and self.pattern >= len(self.trees):
+            return None
+        node = self.program.start if self.pattern is None else self.program.patterns[self.pattern]
+        last = min(start, self.high) if self.is_anchored or self.pattern is not None else self.high
         for place in range(start, last + 1):
-            walk = self.least_walk(self.program.start, place) if place >= self.low else None
+            walk = self.least_walk(node, place) if place >= self.low else None
             is_inside = self.content[place : place + 1] in CONTINUE
             if walk and (walk[0] != place or self.inside or not is_inside):
                 return dict(walk[1])
@@ -347,14 +383,27 @@ class Search:
         return self.matches_from(self.span[0])
 
     def matches_from(self, start, last=None):
+        """Those from a place on, where one ended before at `last`."""
+        return [groups for _, groups in self.told_from(start, last)]
+
+    def told(self):
+        """All matches, each as its pattern and the spans of its groups."""
+        return self.told_from(self.span[0])
+
+    def told_from(self, start, last=None):
         """Those from a place on, where one ended before at `last`. A match is the find from the end of the one before,
         or, where that is empty and ends where the one before did, from the place behind the one that was asked for."""
         found = []
         while True:
             slots = self.find(start)
-            if slots and slots[0] == slots[1] == last:
+            if slots and self.whole(slots) == (last, last):
                 slots = self.find(start + 1)
             if not slots:
                 return found
-            found.append([(slots[2 * k], slots[2 * k + 1]) if 2 * k in slots else None for k in self.groups])
-            start = last = slots[1]
+            groups = self.slots[slots["pattern"]]
+            found.append((slots["pattern"], [(slots[k], slots[k + 1]) if k in slots else None for k in groups]))
+            start = last = self.whole(slots)[1]
+
+    def whole(self, slots):
+        first = 2 * slots["pattern"]
+        return slots[first], slots[first + 1]

@@ -1,5 +1,5 @@
 pub mod BetweenLaws
-mod FewLaws
+pub mod FewLaws
 pub mod OrderLaws
 pub mod ShowingLaws
 pub mod PatternLemmas
@@ -8,3 +8,4 @@ pub mod LeftLaws
 pub mod StrategyLaws
 pub mod SetLaws
 pub mod StartLaws
+pub mod LowerLaws

@@ -2,7 +2,7 @@
 use Rattle.std.proofs.Common.{◌≡◌, ℕ, ◌≤◌, inl, inr, Bool, false, true, List, [], ◌∷◌, length, Option, Some, refl, ap, subst, ◌∙◌, arith}
 use Rattle.std.specs.Prelude.{option_map}
 use Rattle.std.proofs.lemmas.Bool.{cases_lt}
-use Rattle.std.proofs.lemmas.List.Elements.{All-cons, All-nil}
+use Rattle.std.proofs.lemmas.List.Elements.{All-cons, All-head, All-nil}
 use Rattle.rx_util.specs.Search.{Found}
 use Rattle.rx_util.specs.declared.search.Anchored.TheVariants.{No}
 use Rattle.rx_input.specs.Inputs.{Asked, InputState}
@@ -17,16 +17,16 @@ use Rattle.rx_program.specs.declared.error.BuildError.{BuildError}
 use Rattle.rx_grammar.specs.Settings.{default_settings}
 use Rattle.rx_grammar.specs.Subtrees.{IsWellFormed}
 use Rattle.rx_steps.specs.Searching.{anchoring_of}
-use Rattle.rx_engine.specs.Engines.{too_long, nesting, outside, too_large, memory}
+use Rattle.rx_engine.specs.Engines.{by_text, by_weight, memory, nesting, no_memory, outside, too_large, too_long}
 use Rattle.unicode.specs.Perl.{is_word_char}
 use Rattle.rx_utf8.specs.Automata.{is_in}
-use Rattle.regex_cursor.specs.Patterns.{FoundMatch, ProgramFinds, AsksFrom, TreeFinds, answer_slots, match_of, pattern_weight, program_for, search_from, weight_limit}
+use Rattle.regex_cursor.specs.Patterns.{FoundMatch, ProgramFinds, AsksFrom, TreeFinds, TreeFindsIn, answer_slots, match_of, pattern_weight, program_for, search_from, weight_limit}
 use Rattle.regex_cursor.specs.PatternLaws.{HasNotedGroups, SaysOfText}
 use Rattle.regex_cursor.specs.Regexes.{Engine, IsRegexOf, IsRefusedAsRegex, TellsMatch, TellsSlots, search_by}
 
 pub light-of : (text : List ℕ) (re : Engine) → (built : IsRegexOf text re) → pattern_weight built.tree ≤ weight_limit
 light-of text re built = elim (cases_lt weight_limit (pattern_weight built.tree)) [
-  | inl heavy ↦ absurd (built.fits (omega (arith, heavy)))
+  | inl heavy ↦ absurd (built.built.fits (omega (arith, heavy)))
   | inr light ↦ omega (arith, light)
 ]
 
@@ -55,7 +55,7 @@ search-is re content from input utf8 asks =
     }) u) utf8
 
 pub program-is : (text : List ℕ) (re : Engine) → (built : IsRegexOf text re) → characters_of re.program ≡ program_for built.tree
-program-is text re built = built.of_tree.program ∙ ap (λ t. program_of (built.tree ∷ []) t) built.line_terminator
+program-is text re built = built.built.of_trees.program ∙ ap (λ t. program_of (built.tree ∷ []) t) built.built.line_terminator
 
 -- what its program finds for an input is what the tree has there
 tree-finds : (text : List ℕ) (re : Engine) → (built : IsRegexOf text re) → (content : List ℕ) (from : ℕ) (input : InputState) (out : Option FoundMatch) → AsksFrom content from input
@@ -63,7 +63,25 @@ tree-finds : (text : List ℕ) (re : Engine) → (built : IsRegexOf text re) →
 tree-finds text re built content from input out asks finds =
     let P : Program Look (List Range) → Type 0 = λ p. ProgramFinds is_in is_word_char p (search_by re input) out in
     let Q : Search → Type 0 = λ s. ProgramFinds is_in is_word_char (program_for built.tree) s out in
-    subst Q (search-is re content from input built.utf8_empty asks) (subst P (program-is text re built) finds)
+    subst Q (search-is re content from input built.built.utf8_empty asks) (subst P (program-is text re built) finds)
+
+-- the same of whatever an input asks for
+asked-finds : (text : List ℕ) (re : Engine) → (built : IsRegexOf text re) → (s : Search) (out : Option FoundMatch) → ProgramFinds is_in is_word_char (characters_of re.program) s out → TreeFindsIn built.tree s out
+asked-finds text re built s out finds =
+    let P : Program Look (List Range) → Type 0 = λ p. ProgramFinds is_in is_word_char p s out in
+    subst P (program-is text re built) finds
+
+pub tells-of : (text : List ℕ) (re : Engine) → (built : IsRegexOf text re) → (input : InputState) (found : Option Found) → input.asked.earliest ≡ false → TellsMatch re input found
+    → (out : Option FoundMatch) × TreeFindsIn built.tree (search_by re input) out × (found ≡ option_map match_of out)
+tells-of text re built input found earliest tells =
+    let is = tells.exact earliest in
+    (is.0, asked-finds text re built (search_by re input) is.0 is.1, is.2)
+
+pub tells_slots-of : (text : List ℕ) (re : Engine) → (built : IsRegexOf text re) → (input : InputState) (pattern : Option ℕ) (slots : List (Option ℕ)) → input.asked.earliest ≡ false → TellsSlots re input pattern slots
+    → (out : Option FoundMatch) × TreeFindsIn built.tree (search_by re input) out × (pattern ≡ option_map (λ t. t.pattern) out) × (slots ≡ answer_slots (length slots) out)
+tells_slots-of text re built input pattern slots earliest tells =
+    let is = tells.exact earliest in
+    (is.found, asked-finds text re built (search_by re input) is.found is.finds, is.pattern_is, is.slots_are)
 
 pub finds-of : (text : List ℕ) (re : Engine) → (built : IsRegexOf text re) → (content : List ℕ) (from : ℕ) (input : InputState) (found : Option Found)
     → AsksFrom content from input → TellsMatch re input found
@@ -82,19 +100,20 @@ slots-of text re built content from input pattern slots asks tells =
     (is.found, tree-finds text re built content from input is.found asks is.finds, is.pattern_is, is.slots_are)
 
 -- what is found of a pattern's tree has noted its groups
-pub noted-of : MatchesNoteTheirPlaces → GroupsAreNotedWhole → (text : List ℕ) (re : Engine) → (built : IsRegexOf text re) → (content : List ℕ) (from : ℕ) (t : FoundMatch)
-    → TreeFinds built.tree content from (Some t) → HasNotedGroups t
-noted-of places groups text re built content from t finds =
+pub notes-of : MatchesNoteTheirPlaces → GroupsAreNotedWhole → (text : List ℕ) (re : Engine) → (built : IsRegexOf text re) → (s : Search) (t : FoundMatch)
+    → TreeFindsIn built.tree s (Some t) → HasNotedGroups t
+notes-of places groups text re built s t finds =
     let tree = built.tree in
-    let well = built.of_tree.well_formed in
+    let well = All-head IsWellFormed tree [] built.built.of_trees.well_formed in
     record {
-      whole = (places tree 10 well is_word_char (program_for tree) (search_from content from) refl).finds t finds;
-      groups = (groups (tree ∷ []) 10 (All-cons IsWellFormed tree [] well (All-nil IsWellFormed)) is_word_char (program_for tree) (search_from content from) refl).finds t finds;
+      whole = (places tree 10 well is_word_char (program_for tree) s refl).finds t finds;
+      groups = (groups (tree ∷ []) 10 (All-cons IsWellFormed tree [] well (All-nil IsWellFormed)) is_word_char (program_for tree) s refl).finds t finds;
     }
 
 pub says-of : (text : List ℕ) (error : BuildError) → IsRefusedAsRegex text error → SaysOfText text error
-says-of text error (too_long long) = inl long
-says-of text error (nesting deep) = inr deep.nothing
-says-of text error (outside short never) = inr (never default_settings.nest_limit)
-says-of text error (too_large {tree = tree} spells heavy) = (tree, spells, omega (arith, heavy))
+says-of text error (by_text (too_long long)) = inl long
+says-of text error (by_text (nesting deep)) = inr deep.nothing
+says-of text error (by_text (outside short never)) = inr (never default_settings.nest_limit)
+says-of text error (by_weight tree spells (too_large heavy)) = (tree, spells, omega (arith, heavy))
+says-of text error (by_weight tree spells no_memory) = tt
 says-of text error memory = tt

@@ -9,7 +9,7 @@ use Rattle.rx_util.specs.declared.search.Span.{Span}
 use Rattle.rx_util.specs.Captured.{Captured, nothing_noted}
 use Rattle.rx_util.specs.Groups.{Groups}
 use Rattle.rx_util.specs.Search.{Found}
-use Rattle.rx_input.specs.Cursors.{CursorState, IsLawful, IsSameContent}
+use Rattle.rx_input.specs.Cursors.{IsSameContent}
 use Rattle.rx_input.specs.Inputs.{Asked, InputState, IsSpan}
 use Rattle.rx_input.specs.Searchers.{EndsInside}
 use Rattle.rx_walks.specs.Looks as walks
@@ -24,9 +24,9 @@ use Rattle.rx_literals.specs.Literals.{FindsLiteral, literal_match, within}
 use Rattle.rx_engine.specs.Engines.{Engine}
 use Rattle.rx_chunk.specs.Engines.{Finds, IsFound, TellsMatch, TellsSlots, TellsWhether}
 use Rattle.rx_chunk.specs.Searches.{TellsWhole}
-use Rattle.rx_chunk.specs.Iterating.{IsNextAnswer}
+use Rattle.rx_chunk.specs.Iterating.{IsFoundNext, IsNextAnswer}
 use Rattle.regex_cursor.specs.declared.engines.meta.left.Part.{Part}
-use Rattle.regex_cursor.specs.Strategies.{HoldsFind, HoldsNext, IsPart}
+use Rattle.regex_cursor.specs.Strategies.{HoldsFind, HoldsNext, IsPart, IsNextLeft}
 
 -- the laws of rx_walks, as calls of them tell them
 abbrev pub OneLaw : Type 0
@@ -102,12 +102,19 @@ module _ (p : ByteProgram) (s : Search) (part : Span) (holds : HoldsFind p s par
       → search_of utf8_empty k ≡ within s part → TellsSlots k.asked.earliest p (search_of utf8_empty k) pattern slots → TellsSlots i.asked.earliest p s pattern slots
   whole_slots utf8_empty i k pattern slots asked search tells =
       let told : TellsSlots i.asked.earliest p (within s part) pattern slots = subst (λ x. TellsSlots i.asked.earliest p x pattern slots) search (subst (λ (a : Asked). TellsSlots a.earliest p (search_of utf8_empty k) pattern slots) asked tells) in
-      record { whether = whole_whether (is_some pattern) told.whether; exact = λ e. whole_answer pattern slots (told.exact e) }
+      record { whether = whole_whether (is_some pattern) told.whether; exact = λ e. whole_answer pattern slots (told.exact e); none = told.none }
 
 -- ---- what comes next
 
 pub whole_next : (p : ByteProgram) (s : Search) (last : Option ℕ) (part : Span) → HoldsNext p s last part → (pattern : Option ℕ) (slots : Slots) → IsNextAnswer p (within s part) last pattern slots → IsNextAnswer p s last pattern slots
 whole_next p s last part next pattern slots answer = record { out = answer.out; comes = next.comes answer.out answer.comes; pattern_is = answer.pattern_is; slots_are = answer.slots_are }
+
+pub whole_found_next : (p : ByteProgram) (s : Search) (last : Option ℕ) (part : Span) → HoldsNext p s last part → (found : Option Found) → IsFoundNext p (within s part) last found → IsFoundNext p s last found
+whole_found_next p s last part next found is = (is.0, next.comes is.0 is.1, is.2)
+
+-- the part that is left
+pub next_there : (p : ByteProgram) (s : Search) (last : Option ℕ) (next : Option Part) (part : Part) → IsNextLeft p s last next → next ≡ Some part → HoldsNext p s last part.span
+next_there p s last next part is there = subst (λ o. IsNextLeft p s last o) there is
 
 -- nothing comes next
 pub nothing_comes : (p : ByteProgram) (s : Search) (last : Option ℕ) (slots : Slots) (n : ℕ) → Finds p s None → slots ≡ replicate n None → IsNextAnswer p s last None slots
@@ -127,7 +134,8 @@ no_match_told p s earliest finds = record { whether = none_there p s finds; exac
 pub no_slots_told : (p : ByteProgram) (s : Search) (earliest : Bool) (slots : Slots) (n : ℕ) → Finds p s None → slots ≡ replicate n None → TellsSlots earliest p s None slots
 no_slots_told p s earliest slots n finds is =
     let len : length slots ≡ n = ap (λ xs. length xs) is ∙ length-replicate n None in
-    record { whether = none_there p s finds; exact = λ e. record { found = None; finds = finds; pattern_is = refl; slots_are = is ∙ ap (λ k. replicate k None) (sym len) } }
+    let none : slots ≡ replicate (length slots) None = is ∙ ap (λ k. replicate k None) (sym len) in
+    record { whether = none_there p s finds; exact = λ e. record { found = None; finds = finds; pattern_is = refl; slots_are = none }; none = λ e. none }
 
 -- and captures in which nothing is noted tell no match
 pub nothing_whole : (e : Engine) (i : InputState) (caps : Captured) (groups : Groups) (n : ℕ) → Finds e.program (search_of e.utf8_empty i) None → caps ≡ nothing_noted groups n → TellsWhole e i caps
@@ -164,16 +172,28 @@ literal_slots_told p s earliest span slots n is literal =
     record {
       whether = literal_there p s span literal;
       exact = λ e. record { found = Some (literal_match span); finds = literal.finds; pattern_is = refl; slots_are = is ∙ ap (λ k. answer_slots k (Some (literal_match span))) (sym len) };
+      none = λ e. absurd (cc e);
     }
 
 -- its places fit slots
-pub literal_fits : (p : ByteProgram) (utf8_empty : Bool) (i : InputState) (c : CursorState) (span : Span) → InsideLaw → IsSameContent i.cursor c → IsLawful c → FindsLiteral (characters_of p) is_word_char (search_of utf8_empty i) span
+pub literal_fits : (p : ByteProgram) (utf8_empty : Bool) (i : InputState) (span : Span) → InsideLaw → length i.cursor.content < 2 ^ 63 → FindsLiteral (characters_of p) is_word_char (search_of utf8_empty i) span
     → (span.start < 2 ^ 63) × (span.end < 2 ^ 63)
-literal_fits p utf8_empty i c span inside same lawful literal =
+literal_fits p utf8_empty i span inside bound literal =
     let at = (inside is_in is_word_char (characters_of p) (search_of utf8_empty i) (literal_match span) literal.finds).found.inside in
     let end : span.end ≤ length i.cursor.content = at.4 in
-    let long : length c.content ≡ length i.cursor.content = ap length same.content in
-    (omega (arith, end, long, lawful.bound, literal.some), omega (arith, end, long, lawful.bound))
+    (omega (arith, end, bound, literal.some), omega (arith, end, bound))
+
+-- and it ends in the span
+pub literal_inside : (p : ByteProgram) (utf8_empty : Bool) (i : InputState) (span : Span) (end : ℕ) → end ≡ span.end → InsideLaw → length i.cursor.content < 2 ^ 63 → FindsLiteral (characters_of p) is_word_char (search_of utf8_empty i) span
+    → EndsInside i end
+literal_inside p utf8_empty i span end is inside bound literal =
+    let lies = inside is_in is_word_char (characters_of p) (search_of utf8_empty i) (literal_match span) literal.finds in
+    let fits = literal_fits p utf8_empty i span inside bound literal in
+    record {
+      behind_start = omega (arith, is, lies.found.possible.0.2, literal.some);
+      before_end = omega (arith, is, lies.found.inside.3);
+      fits = omega (arith, is, fits.1);
+    }
 
 -- ---- the literal's match as slots have it
 

@@ -5,6 +5,7 @@ use Rattle.rx_util.specs.declared.search.MatchError.{MatchError}
 use Rattle.rx_util.specs.Captured.{Captured}
 use Rattle.rx_util.specs.Groups.{slot_len}
 use Rattle.rx_input.specs.declared.cursor.Cursor.{Ghosts}
+use Rattle.rx_input.specs.Inputs.{InputState}
 use Rattle.rx_utf8.specs.Automata.{is_in}
 use Rattle.rx_walks.specs.Finds.{Search}
 use Rattle.rx_walks.specs.Iterating.{GivesInOrder}
@@ -23,6 +24,10 @@ left_of m = record {
   last_end = m.last_match_end;
   is_over = m.is_over;
 }
+
+-- the input that it lends
+abbrev pub input_of : {C : Type 0} {cursor : Ghosts C} → CapturesMatches C cursor → InputState
+input_of m = m.input
 
 -- a step of the iterator, which searches for the same regex on: of each match it tells all slots of
 -- its groups

@@ -3,15 +3,16 @@ use Rattle.std.specs.Prelude.{◌≡◌}
 use Rattle.rx_steps.specs.Caches as steps
 use Rattle.rx_dfa.specs.Caches as automata
 use Rattle.rx_dfa.specs.Alphabets.{AlphabetView, IsAlphabetOf}
-use Rattle.rx_engine.specs.Engines.{Engine}
+use Rattle.rx_engine.specs.Engines.{Engine, IsEngine}
 
 -- what is searched for, and the automaton of its program
 pub record CoreView : Type 0 where
   pub vm : Engine
   pub dfa : AlphabetView
 
--- they pass over the same empty matches
+-- the program is that of a tree, and both pass over the same empty matches
 pub record IsCore (c : CoreView) : Type 0 where
+  pub engine : IsEngine c.vm
   pub dfa : IsAlphabetOf c.vm.program c.dfa
   pub utf8_empty : c.dfa.utf8_empty ≡ c.vm.utf8_empty
 

@@ -32,6 +32,10 @@ regex_of m = engine_of m.finder
 abbrev pub left_of : {C : Type 0} → FindMatches C → MatchesLeft
 left_of m = left_in m.finder m.input
 
+-- the input that it lends
+abbrev pub input_of : {C : Type 0} → FindMatches C → InputState
+input_of m = m.input
+
 -- it goes on in the same content, from some place on
 abbrev pub GoesOn : Search → Search → Type 0
 GoesOn s t = (start : ℕ) × (t ≡ from_place_on s start)

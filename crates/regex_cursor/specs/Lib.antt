@@ -2,6 +2,7 @@ pub mod Capturing
 pub mod Cores
 pub mod Iterating
 pub mod Lending
+pub mod Literals
 pub mod PatternLaws
 pub mod Patterns
 pub mod Regexes

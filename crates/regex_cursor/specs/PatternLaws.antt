@@ -1,5 +1,5 @@
 -- Laws of what patterns spell, and of what searches for them find.
-use Rattle.std.specs.Prelude.{◌≡◌, ◌⊎◌, ℕ, ◌*◌, ◌<◌, ◌≤◌, List, length, Option, Some, option_map}
+use Rattle.std.specs.Prelude.{◌≡◌, ◌⊎◌, ℕ, ◌*◌, ◌<◌, ◌≤◌, false, List, length, Option, Some, option_map}
 use Rattle.std.specs.Str.{chars}
 use Rattle.unicode.specs.Perl.{is_word_char}
 use Rattle.rx_util.specs.Search.{Found}
@@ -11,8 +11,8 @@ pub use Rattle.rx_program.specs.Laws.{HasNoted, IsNotedWhole, noted, not_noted}
 pub use Rattle.rx_walks.specs.Finds.{IsInside, IsPossible, MayEnd}
 pub use Rattle.rx_walks.specs.Laws.{FindsAtMostOne, FindsExist, FindsLieInside, FindsStandAtBoundaries, LiesInside, MatchesAreOneList, MayBeFound, StandsAtBoundaries}
 pub use Rattle.rx_walks.specs.MatchLaws.{AreInOrder, FirstMatchesGrow, HasFirstMatches, IsFoundBehind, LiesBetween, MatchesAreFound, MatchesExist, MatchesRise, MatchesStandAtBoundaries}
-use Rattle.regex_cursor.specs.Patterns.{Tree, SpellsTree, SpellsNone, FoundMatch, AsksFrom, TreeFinds, answer_slots, match_of, pattern_weight, program_for, start_of, weight_limit}
-use Rattle.regex_cursor.specs.Regexes.{Engine, IsRegexOf, IsRefusedAsRegex, TellsMatch, TellsSlots}
+use Rattle.regex_cursor.specs.Patterns.{Tree, Search, SpellsTree, SpellsNone, FoundMatch, AsksFrom, TreeFinds, TreeFindsIn, answer_slots, match_of, pattern_weight, program_for, start_of, weight_limit}
+use Rattle.regex_cursor.specs.Regexes.{Engine, IsRegexOf, IsRefusedAsRegex, TellsMatch, TellsSlots, search_by}
 
 -- a text spells at most one tree
 abbrev pub SpellsOneTree : Type 0
@@ -54,13 +54,26 @@ pub record HasNotedGroups (t : FoundMatch) : Type 0 where
   pub groups : (k : ℕ) → IsNotedWhole t.notes (2 * k)
 
 -- A regex that is built of a pattern searches for the tree that this spells, which isn't too heavy:
--- what it tells of an input over a content is what the tree has there, also in slots, and each match
--- of that tree has noted its groups. A refusal says why there is none.
+-- what it tells of an input, where not any match will do, is what the tree has in the search that
+-- the input asks for, also in slots, and each match of that tree has noted its groups; and so it is
+-- for an input over a content from a place on. A refusal says why there is none.
 pub record RegexesHaveTrees : Type 0 where
   pub spells : (text : List ℕ) (re : Engine) → (built : IsRegexOf text re)
       → SpellsTree (chars text) built.tree
   pub light : (text : List ℕ) (re : Engine) → (built : IsRegexOf text re)
       → pattern_weight built.tree ≤ weight_limit
+  pub tells : (text : List ℕ) (re : Engine) → (built : IsRegexOf text re)
+      → (input : InputState) (found : Option Found) → input.asked.earliest ≡ false
+      → TellsMatch re input found
+      → (out : Option FoundMatch) × TreeFindsIn built.tree (search_by re input) out
+      × (found ≡ option_map match_of out)
+  pub tells_slots : (text : List ℕ) (re : Engine) → (built : IsRegexOf text re)
+      → (input : InputState) (pattern : Option ℕ) (slots : List (Option ℕ))
+      → input.asked.earliest ≡ false → TellsSlots re input pattern slots
+      → (out : Option FoundMatch) × TreeFindsIn built.tree (search_by re input) out
+      × (pattern ≡ option_map (λ t. t.pattern) out) × (slots ≡ answer_slots (length slots) out)
+  pub notes : (text : List ℕ) (re : Engine) → (built : IsRegexOf text re)
+      → (s : Search) (t : FoundMatch) → TreeFindsIn built.tree s (Some t) → HasNotedGroups t
   pub finds : (text : List ℕ) (re : Engine) → (built : IsRegexOf text re)
       → (content : List ℕ) (from : ℕ) (input : InputState) (found : Option Found)
       → AsksFrom content from input → TellsMatch re input found

@@ -69,10 +69,13 @@ pub record AsksFrom (content : List ℕ) (from : ℕ) (input : InputState) : Typ
     earliest = false;
   }
 
--- what a search for a tree finds in a content from a place on
+-- what a search for a tree finds
+abbrev pub TreeFindsIn : Tree → Search → Option FoundMatch → Type 0
+TreeFindsIn tree s found = ProgramFinds is_in is_word_char (program_for tree) s found
+
+-- what it finds in a content from a place on
 abbrev pub TreeFinds : Tree → List ℕ → ℕ → Option FoundMatch → Type 0
-TreeFinds tree content from found =
-    ProgramFinds is_in is_word_char (program_for tree) (search_from content from) found
+TreeFinds tree content from found = TreeFindsIn tree (search_from content from) found
 
 -- no part of a content from one place up to another has a match of the tree, searched by itself
 abbrev pub HasNoMatchBetween : Tree → List ℕ → ℕ → ℕ → Type 0

@@ -15,9 +15,9 @@ use Rattle.rx_program.specs.declared.error.BuildError.{BuildError}
 pub use Rattle.rx_engine.specs.Engines.{Engine, Wanted}
 pub use Rattle.rx_chunk.specs.Engines.{IsFound, TellsWhether}
 pub use Rattle.rx_chunk.specs.Searches.{HoldsMatches, TellsMatch, TellsSlots, TellsWhole, search_by}
-use Rattle.rx_engine.specs.Engines.{IsBuiltOf, IsEngine, IsRefused, nothing_set}
+use Rattle.rx_engine.specs.Engines.{IsBuiltOf, IsBuiltOfAll, IsEngine, IsRefused, IsRefusedOfAll, nothing_set}
 
--- its program and its groups are those of one tree
+-- its program and its groups are those of trees
 abbrev pub IsRegex : Engine → Type 0
 IsRegex re = IsEngine re
 
@@ -32,9 +32,17 @@ regex_settings = record {
 abbrev pub IsRegexOf : List ℕ → Engine → Type 0
 IsRegexOf text re = IsBuiltOf text regex_settings re
 
+-- it was built of patterns
+abbrev pub IsRegexOfAll : List (List ℕ) → Engine → Type 0
+IsRegexOfAll texts re = IsBuiltOfAll texts regex_settings re
+
 -- why a pattern has no regex
 abbrev pub IsRefusedAsRegex : List ℕ → BuildError → Type 0
 IsRefusedAsRegex text error = IsRefused text regex_settings error
+
+-- why patterns have no regex
+abbrev pub AreRefusedAsRegex : List (List ℕ) → BuildError → Type 0
+AreRefusedAsRegex texts error = IsRefusedOfAll texts regex_settings error
 
 -- a cache is seen as what it was made for: a program, and whether empty matches inside a character
 -- are passed over

@@ -76,6 +76,10 @@ regex_of m = engine_of m.splitter
 abbrev pub left_of : {C : Type 0} → Split C → PartsLeft
 left_of m = left_in m.splitter m.input
 
+-- the input that it lends
+abbrev pub input_of : {C : Type 0} → Split C → InputState
+input_of m = m.input
+
 -- a step of the iterator, which searches for the same regex on
 pub record Gives {C : Type 0} (m : Split C)
     (item : Option (Result Span MatchError)) (n : Split C) : Type 0 where

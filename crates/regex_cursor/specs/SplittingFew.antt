@@ -3,6 +3,7 @@ use Rattle.std.specs.Prelude.{◌≡◌, ℕ, zero, suc, ◌+◌, ◌<◌, true,
 use Rattle.std.specs.Iterator.{Count, Drains, Yields, at_most}
 use Rattle.rx_util.specs.declared.search.MatchError.{MatchError}
 use Rattle.rx_util.specs.declared.search.Span.{Span}
+use Rattle.rx_input.specs.Inputs.{InputState}
 use Rattle.rx_walks.specs.Finds.{Search}
 use Rattle.rx_program.specs.Programs.{ByteProgram}
 use Rattle.regex_cursor.specs.declared.engines.meta.split_n.SplitN.{SplitN}
@@ -39,6 +40,10 @@ left_of m = record { parts = splitting.left_in m.splitter m.input; limit = m.lim
 
 abbrev pub regex_of : {C : Type 0} → SplitN C → Engine
 regex_of m = splitting.engine_of m.splitter
+
+-- the input that it lends
+abbrev pub input_of : {C : Type 0} → SplitN C → InputState
+input_of m = m.input
 
 -- a step of the iterator, which searches for the same regex on
 pub record Gives {C : Type 0} (m : SplitN C)

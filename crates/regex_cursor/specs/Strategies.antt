@@ -1,5 +1,5 @@
 -- The engines of a regex, what searches by them keep, and what one of them leaves to the other.
-use Rattle.std.specs.Prelude.{◌≡◌, ℕ, ◌≤◌, IsTrue, List, Option, Some, None, IfSome}
+use Rattle.std.specs.Prelude.{◌≡◌, ℕ, ◌≤◌, IsTrue, Option, Some, None, IfSome}
 use Rattle.unicode.specs.Perl.{is_word_char}
 use Rattle.rx_util.specs.declared.search.Span.{Span}
 use Rattle.rx_walks.specs.Finds.{Search, from_place_on}
@@ -10,13 +10,14 @@ use Rattle.rx_dfa.specs.Caches as automata
 use Rattle.rx_dfa.specs.DenseTables.{IsClosedOf}
 use Rattle.rx_dfa.specs.Alphabets.{AlphabetView, IsAlphabetOf}
 use Rattle.rx_program.specs.Programs.{ByteProgram, characters_of}
-use Rattle.rx_literals.specs.Beginnings.{BeginsWith}
-use Rattle.rx_literals.specs.Literals.{FindsLiteral, IsLiteralOf, within}
+use Rattle.rx_literals.specs.Literals.{FindsLiteral, within}
 use Rattle.rx_engine.specs.Engines.{Engine}
 use Rattle.rx_chunk.specs.Engines.{Finds}
 use Rattle.rx_chunk.specs.Iterating.{ComesNext}
 use Rattle.regex_cursor.specs.Cores.{AreCachesOf}
+use Rattle.regex_cursor.specs.Literals.{AreLiteralsOf}
 use Rattle.regex_cursor.specs.declared.engines.meta.cache.Kept.{Kept}
+use Rattle.regex_cursor.specs.declared.engines.meta.literals.Literals.{Literals}
 use Rattle.regex_cursor.specs.declared.engines.meta.left.Part.{Part}
 use Rattle.regex_cursor.specs.declared.engines.meta.left.Told.TheVariants as told
 use Rattle.regex_cursor.specs.declared.engines.meta.left.Told.{Told}
@@ -25,24 +26,20 @@ use Rattle.regex_cursor.specs.declared.engines.meta.left.Left.{Left}
 use Rattle.regex_cursor.specs.declared.engines.meta.left.Start.TheVariants as start
 use Rattle.regex_cursor.specs.declared.engines.meta.left.Start.{Start}
 
--- what is searched for, the automaton of its program, perhaps all states of that, and perhaps
--- needles of which one begins each match
+-- what is searched for, the automaton of its program, perhaps all states of that, and what is known
+-- of the literals that matches begin with
 pub record Engines : Type 0 where
   pub vm : Engine
   pub dfa : AlphabetView
   pub closed : Option automata.CacheView
-  pub prefilter : Option (List (List ℕ))
-  -- or the needle that each match is
-  pub literal : Option (List (List ℕ))
+  pub literals : Literals
 
 -- all search for the same
 pub record AreEngines (e : Engines) : Type 0 where
   pub dfa : IsAlphabetOf e.vm.program e.dfa
   pub utf8_empty : e.dfa.utf8_empty ≡ e.vm.utf8_empty
   pub closed : IfSome e.closed (IsClosedOf e.vm.program e.dfa)
-  pub prefilter : IfSome e.prefilter
-      (λ needles. BeginsWith needles (characters_of e.vm.program))
-  pub literal : IfSome e.literal (λ needles. IsLiteralOf needles (characters_of e.vm.program))
+  pub literals : AreLiteralsOf e.vm.program e.literals
 
 -- what a cache keeps serves searches by these engines: it was made for their program
 pub record AreKeptFor (e : Engines) (kept : Kept) : Type 0 where
@@ -90,6 +87,11 @@ pub record HoldsNext (p : ByteProgram) (s : Search) (last : Option ℕ) (span : 
   pub holds : HoldsFind p s span
   pub comes : (out : Option (Outcome Notes)) → ComesNext p (within s span) last out
       → ComesNext p s last out
+
+-- the part in which comes next what comes next, if anything does
+abbrev pub IsNextLeft : ByteProgram → Search → Option ℕ → Option Part → Type 0
+IsNextLeft p s last None = Finds p s None
+IsNextLeft p s last (Some part) = HoldsNext p s last part.span
 
 -- where the match may begin that is found: from a place on that is found which is found from the
 -- span's start on

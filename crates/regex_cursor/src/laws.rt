@@ -37,8 +37,9 @@ pub fn finds_of_trees()
     rx_walks::laws::first_matches_grow::<CharacterSet>();
 }
 
-/// What a regex tells of an input over a whole content is what the tree of its pattern has there,
-/// also in slots. Each match of that tree has noted its start and its end in the slots of group 0,
+/// What a regex tells of an input, where not any match will do, is what the tree of its pattern has
+/// in the search that it asks for, also in slots: of a plain `Input::new` too, and of one over a
+/// whole content. Each match of that tree has noted its start and its end in the slots of group 0,
 /// and of each group both places or neither. Why a pattern has no regex is told by that tree, or by
 /// there being none.
 pub fn regexes_have_trees()

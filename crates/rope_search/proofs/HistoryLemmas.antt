@@ -6,7 +6,7 @@ use Rattle.std.proofs.Math.Seq.{get_or-append_right}
 use Rattle.std.proofs.Math.ListN.{get_or-append}
 use Rattle.ropey.specs.Chunks.{text_of}
 use Rattle.rope_search_reports.specs.Turned.{Lead, listed}
-use Rattle.rope_search_reports.specs.declared.changes.Change.{Change}
+use Rattle.rope_search_changes.specs.declared.Change.{Change}
 use Rattle.rope_search.specs.declared.history.Version.{Version}
 use Rattle.rope_search.specs.Histories.{text_at, changes_at, LeadOn}
 

@@ -1,13 +1,14 @@
 -- The buffers of a session hold texts and patterns, and have one limit, also where one of them is
 -- changed or comes to them.
-use Rattle.std.proofs.Common.{◌≡◌, ℕ, ◌<◌, List, [], ◌∷◌, ◌++◌, length, ap, sym, subst, ◌∙◌, All, arith, slice_index_or, slice_set}
+use Rattle.std.proofs.Common.{◌≡◌, ℕ, ◌<◌, List, [], ◌∷◌, ◌++◌, length, ap, sym, subst, ◌∙◌, All, slice_index_or, slice_set}
 use Rattle.std.specs.Prelude.{Some}
 use Rattle.std.proofs.lemmas.List.{get_or-set_same, get_or_append_left}
-use Rattle.std.proofs.lemmas.List.Elements.{All-set, All-push, All-get_or}
+use Rattle.std.proofs.lemmas.List.Elements.{All-set, All-push}
 use Rattle.rope_search_reports.specs.Text.{IsText}
 use Rattle.rope_search_reports.specs.Pattern.{IsPattern}
 use Rattle.rope_search.specs.Session.{BufferState, LimitedBuffer, fresh, current_text, limit_in, with_text, with_pattern}
 use Rattle.rope_search.specs.Laws.{HoldsTexts}
+use Rattle.rope_search.specs.Stretches.{none as no_rows}
 use Rattle.rope_search.proofs.HoldLaws.{one_text, holds_fresh, text_holds}
 
 -- what each buffer of a session has
@@ -16,7 +17,7 @@ pub record AllKept (items : List LimitedBuffer) (limit : ℕ) : Type 0 where
   pub texts : All (λ (b : LimitedBuffer). HoldsTexts b.state) items
 
 abbrev none : LimitedBuffer
-none = record { limit = 0; state = fresh []; changes = [] }
+none = record { limit = 0; state = fresh []; changes = []; changed = no_rows }
 
 -- another one in the chosen one's place
 pub kept_set : (items : List LimitedBuffer) (k : ℕ) (new : LimitedBuffer) → k < length items → new.limit ≡ limit_in items k
@@ -60,3 +61,6 @@ holds_pattern old new pattern holds is one told = subst HoldsTexts (sym told) (r
 -- its current text alone
 pub holds_forked : (old new : BufferState) → HoldsTexts old → new ≡ fresh (current_text old) → HoldsTexts new
 holds_forked old new holds told = subst HoldsTexts (sym told) (holds_fresh (current_text old) (text_holds old holds))
+
+pub holds_forgotten : (old new : BufferState) → HoldsTexts old → new ≡ with_text old (current_text old) → HoldsTexts new
+holds_forgotten old new holds told = holds_text old new (current_text old) holds (text_holds old holds) told

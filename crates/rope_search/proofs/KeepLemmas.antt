@@ -4,7 +4,7 @@ use Rattle.std.specs.Prelude.{Some}
 use Rattle.str_indices.specs.Text.{byte_len}
 use Rattle.rope_search_reports.specs.Text.{bytes_of}
 use Rattle.rope_search_reports.specs.Replacement.{changes_of}
-use Rattle.rope_search_reports.specs.declared.changes.Change.{Change}
+use Rattle.rope_search_changes.specs.declared.Change.{Change}
 use Rattle.rope_search_reports.specs.declared.positions.Position.{Position}
 use Rattle.rope_search.specs.declared.parts.Part.{Part}
 use Rattle.rope_search.specs.Session.{LimitedBuffer, current_text}

@@ -1,16 +1,20 @@
 -- All matches in a text, by the groups that a search answers, and those of a buffer.
-use Rattle.std.proofs.Common.{◌≡◌, ◌↔◌, ℕ, ◌<◌, List, sym, ap, ◌∙◌, subst, arith}
+use Rattle.std.proofs.Common.{◌≡◌, ◌↔◌, ℕ, ◌<◌, false, List, [], ◌∷◌, length, map, refl, sym, ap, ◌∙◌, subst, arith}
 use Rattle.std.specs.Prelude.{Some}
+use Rattle.std.proofs.lemmas.List.{length-map}
 use Rattle.str_indices.specs.Text.{byte_len}
 use Rattle.rope_search_reports.specs.Laws.{HasOneListOfGroups}
-use Rattle.rope_search_reports.specs.Matches.{AreGroups}
+use Rattle.rope_search_reports.specs.Matches.{AreGroups, IsMatches, groups_of}
+use Rattle.rope_search_reports.specs.Pattern.{span_of}
 use Rattle.rope_search_reports.specs.Changes.{AreChanges}
-use Rattle.rope_search_reports.specs.declared.changes.Change.{Change}
-use Rattle.rope_search_reports.specs.Replacement.{Groups, FollowEachOther, ReplacementsAreChanges, changes_of, replaced, searched}
+use Rattle.rope_search_changes.specs.declared.Change.{Change}
+use Rattle.rope_search_reports.specs.Replacement.{Groups, AreMatchesIn, ReplacementsAreChanges, alone, whole, changes_of, replaced, searched}
 use Rattle.rope_search_reports.specs.Text.{IsText, bytes_of}
+use Rattle.rope_search_templates.specs.Laws.{ReplaceAlike, SpansAreEnough}
+use Rattle.rope_search_templates.specs.Templates.{names_groups}
 use Rattle.rope_search.specs.Session.{BufferState, current_text, with_edit}
 use Rattle.rope_search.specs.Histories.{AreReplacements}
-use Rattle.rope_search.specs.Replacing.{AreAllMatches, IsReplacement, GetsTooLongWith, RowsOfReplacement, IsReplacementIn, GetsTooLongIn, RowsOfReplacementIn}
+use Rattle.rope_search.specs.Replacing.{AreAllMatches, AreEnough, IsReplacement, GetsTooLongWith, RowsOfReplacement, IsReplacementIn, GetsTooLongIn, RowsOfReplacementIn}
 
 -- ---- of these matches all is known
 
@@ -30,33 +34,90 @@ pub rows_in : HasOneListOfGroups → (text pattern template : List ℕ) (matches
 rows_in one text pattern template matches n are rows =
     sym (rows.rows ∙ ap (searched (bytes_of text) template) (one pattern (bytes_of text) rows.matches matches rows.are are))
 
+-- ---- matches that will do
+
+-- for the same template
+enough_for : (text pattern template told : List ℕ) (shown : List Groups) → told ≡ template → AreEnough text pattern told shown → AreEnough text pattern template shown
+enough_for text pattern template told shown same enough = subst (λ t. AreEnough text pattern t shown) same enough
+
+-- what they leave is what all matches do
+replaced_alike : (text pattern template told : List ℕ) (shown : List Groups) → told ≡ template → (enough : AreEnough text pattern told shown)
+    → replaced (bytes_of text) told 0 shown ≡ replaced (bytes_of text) template 0 enough.groups
+replaced_alike text pattern template told shown same enough =
+    enough.alike.text ∙ ap (λ t. replaced (bytes_of text) t 0 enough.groups) same
+
 -- a text that is known not to be over the limit is none that is too long
-pub not_over : HasOneListOfGroups → (limit : ℕ) (text pattern template told : List ℕ) (matches shown : List Groups) → AreGroups pattern (bytes_of text) matches
-    → shown ≡ matches → told ≡ template → (limit < byte_len (replaced (bytes_of text) told 0 shown) → ⊥) → GetsTooLongIn limit text pattern template → ⊥
-not_over one limit text pattern template told matches shown are same same' fits gets =
-    let long = (long_in one limit text pattern template matches are).1 gets in
-    fits (subst (λ ms. limit < byte_len (replaced (bytes_of text) told 0 ms)) (sym same)
-    (subst (λ t. limit < byte_len (replaced (bytes_of text) t 0 matches)) (sym same') long))
+pub not_over : HasOneListOfGroups → (limit : ℕ) (text pattern template told : List ℕ) (shown : List Groups) → AreEnough text pattern told shown
+    → told ≡ template → (limit < byte_len (replaced (bytes_of text) told 0 shown) → ⊥) → GetsTooLongIn limit text pattern template → ⊥
+not_over one limit text pattern template told shown enough same fits gets =
+    let long = (long_in one limit text pattern template enough.groups enough.are).1 gets in
+    fits (omega (arith, long, ap byte_len (replaced_alike text pattern template told shown same enough)))
+
+pub too_long : (limit : ℕ) (text pattern template told : List ℕ) (shown : List Groups) → AreEnough text pattern told shown
+    → told ≡ template → limit < byte_len (replaced (bytes_of text) told 0 shown) → GetsTooLongIn limit text pattern template
+too_long limit text pattern template told shown enough same long = record {
+  matches = enough.groups;
+  are = enough.are;
+  long = omega (arith, long, ap byte_len (replaced_alike text pattern template told shown same enough));
+}
+
+pub replacement_by : (text pattern template told new : List ℕ) (shown : List Groups) (count : ℕ) → AreEnough text pattern told shown → told ≡ template
+    → count ≡ length shown → new ≡ replaced (bytes_of text) told 0 shown → IsReplacementIn text pattern template count new
+replacement_by text pattern template told new shown count enough same counted new_is = record {
+  matches = enough.groups;
+  are = enough.are;
+  counted = counted ∙ enough.counted;
+  changed = new_is ∙ replaced_alike text pattern template told shown same enough;
+}
 
 -- what was made of them are changes
-pub changed_by : ReplacementsAreChanges → (text template told new : List ℕ) (matches shown : List Groups) (changes : List Change) → IsText text
-    → FollowEachOther (bytes_of text) 0 matches → shown ≡ matches → told ≡ template → changes ≡ changes_of (bytes_of text) told 0 0 shown
-    → new ≡ replaced (bytes_of text) told 0 shown → AreChanges changes 0 0 text new (searched (bytes_of text) template matches)
-changed_by law text template told new matches shown changes is_text follow same same' changes_are new_is =
+pub changed_by : ReplacementsAreChanges → (text pattern template told new : List ℕ) (shown : List Groups) (changes : List Change) → IsText text
+    → (enough : AreEnough text pattern told shown) → told ≡ template → changes ≡ changes_of (bytes_of text) told 0 0 shown
+    → new ≡ replaced (bytes_of text) told 0 shown → AreChanges changes 0 0 text new (searched (bytes_of text) template enough.groups)
+changed_by law text pattern template told new shown changes is_text enough same changes_are new_is =
     let content = bytes_of text in
-    let made : changes ≡ changes_of content template 0 0 matches =
-    changes_are ∙ ap (λ t. changes_of content t 0 0 shown) same' ∙ ap (changes_of content template 0 0) same in
-    let left : new ≡ replaced content template 0 matches = new_is ∙ ap (λ t. replaced content t 0 shown) same' ∙ ap (replaced content template 0) same in
-    subst (λ cs. AreChanges cs 0 0 text new (searched content template matches)) (sym made)
-    (subst (λ t. AreChanges (changes_of content template 0 0 matches) 0 0 text t (searched content template matches)) (sym left) (law text template matches is_text follow))
+    subst (λ n. AreChanges changes 0 0 text new n) (enough.alike.lines ∙ ap (λ t. searched content t enough.groups) same)
+    (subst (λ cs. AreChanges cs 0 0 text new (searched content told shown)) (sym changes_are)
+    (subst (λ t. AreChanges (changes_of content told 0 0 shown) 0 0 text t (searched content told shown)) (sym new_is) (law text told shown is_text enough.stand.follow)))
 
 -- and they are told
-pub replacements_in : (text pattern template told : List ℕ) (matches shown : List Groups) (changes : List Change) → AreGroups pattern (bytes_of text) matches
-    → shown ≡ matches → told ≡ template → changes ≡ changes_of (bytes_of text) told 0 0 shown → AreReplacements text pattern template changes
-replacements_in text pattern template told matches shown changes are same same' changes_are = record {
-  matches = matches;
+pub replacements_in : (text pattern template told : List ℕ) (shown : List Groups) (changes : List Change) → AreEnough text pattern told shown
+    → told ≡ template → changes ≡ changes_of (bytes_of text) told 0 0 shown → AreReplacements text pattern template changes
+replacements_in text pattern template told shown changes enough same changes_are = record {
+  matches = enough.groups;
+  are = enough.are;
+  told = changes_are ∙ enough.alike.changes ∙ ap (λ t. changes_of (bytes_of text) t 0 0 enough.groups) same;
+}
+
+-- the spans of all matches will do for a template that names no group
+map-whole : {A : Type 0} (groups_of : A → Groups) (span_of : A → ℕ × ℕ) → ((a : A) → whole (groups_of a) ≡ span_of a) → (ms : List A)
+    → map whole (map groups_of ms) ≡ map span_of ms
+map-whole groups_of span_of same [] = refl
+map-whole groups_of span_of same (m ∷ ms) =
+    ap (λ s. s ∷ map whole (map groups_of ms)) (same m) ∙ ap (λ l. span_of m ∷ l) (map-whole groups_of span_of same ms)
+
+pub enough_spans : SpansAreEnough → (text pattern template : List ℕ) (spans : List (ℕ × ℕ)) → names_groups template ≡ false
+    → IsMatches pattern (bytes_of text) spans → AreMatchesIn (bytes_of text) (map alone spans) → AreEnough text pattern template (map alone spans)
+enough_spans law text pattern template spans none are stand =
+    let groups = map groups_of are.matches in
+    let same : map whole groups ≡ spans = map-whole groups_of span_of (λ m. refl) are.matches ∙ sym are.spans_are in
+    record {
+      groups = groups;
+      are = record { matches = are.matches; are = are.are; groups_are = refl };
+      counted = length-map spans alone ∙ ap length are.spans_are ∙ length-map are.matches span_of ∙ sym (length-map are.matches groups_of);
+      stand = stand;
+      alike = subst (λ ss. ReplaceAlike (bytes_of text) template (map alone ss) groups) same (law (bytes_of text) template groups none);
+    }
+
+-- and all groups do for each
+pub enough_groups : (text pattern template : List ℕ) (groups : List Groups) → AreGroups pattern (bytes_of text) groups → AreMatchesIn (bytes_of text) groups
+    → AreEnough text pattern template groups
+enough_groups text pattern template groups are stand = record {
+  groups = groups;
   are = are;
-  told = changes_are ∙ ap (λ t. changes_of (bytes_of text) t 0 0 shown) same' ∙ ap (changes_of (bytes_of text) template 0 0) same;
+  counted = refl;
+  stand = stand;
+  alike = record { text = refl; changes = refl; lines = refl };
 }
 
 -- ---- the buffer's text, and its pattern

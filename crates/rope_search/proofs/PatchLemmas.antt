@@ -4,9 +4,9 @@ use Rattle.std.proofs.lemmas.List.Sums.{sum_by-cons}
 use Rattle.str_indices.specs.Text.{byte_len}
 use Rattle.rope_search_reports.specs.Text.{line_count}
 use Rattle.rope_search_reports.specs.Changes.{AreChanges}
-use Rattle.rope_search_reports.specs.declared.changes.Change.{Change}
+use Rattle.rope_search_changes.specs.declared.Change.{Change}
 use Rattle.rope_search_reports.specs.declared.patches.Patch.{Patch}
-use Rattle.rope_search_reports.specs.Patches.{patched, made_by}
+use Rattle.rope_search_reports.specs.Patches.{patched, growth_by, growth_of, made_by}
 use Rattle.rope_search.specs.declared.parts.Part.{Part}
 use Rattle.rope_search.specs.Places.{IsMarked, with_replaced}
 use Rattle.rope_search.proofs.PartLaws.{byte_len-append, take_between}
@@ -48,3 +48,9 @@ made-within at rows (p ∷ ps) =
       length-append (take (p.first - at) (drop at rows) ++ p.made.items) (patched p.end rows ps),
       length-append (take (p.first - at) (drop at rows)) p.made.items,
     )
+
+-- they make a report grow by no more than they bring
+pub growth-made : (patches : List Patch) → growth_by patches ≤ made_by patches
+growth-made [] = omega arith
+growth-made (p ∷ ps) =
+    omega (arith, growth-made ps, sum_by-cons growth_of p ps, sum_by-cons (λ (q : Patch). length q.made.items) p ps)

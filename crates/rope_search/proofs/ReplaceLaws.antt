@@ -35,6 +35,7 @@ replace_keeps law changes limit old new payload count all current step =
     ap current_text (there ∙ change.changed) ∙ last_text buffer.texts (buffer.current + 1) made (omega (arith, current.current)) in
     record {
       matches = matches;
+      are = change.are;
       counted = change.counted;
       follow = follow;
       stays =

@@ -1,6 +1,6 @@
 -- Texts and patterns of a session are lists of scalar values, so its matches are at boundaries; and
 -- its report is that of its pattern set anew.
-use Rattle.std.proofs.Common.{◌≡◌, ℕ, ◌+◌, ◌<◌, ◌≤◌, ◌⊎◌, List, [], ◌∷◌, ◌++◌, length, take, slice_index_or, refl, sym, ap, ◌∙◌, subst, All, arith, inl, inr}
+use Rattle.std.proofs.Common.{◌≡◌, ℕ, ◌+◌, ◌<◌, ◌≤◌, ◌⊎◌, List, [], ◌∷◌, ◌++◌, length, take, slice_index_or, refl, sym, ap, ◌∙◌, subst, All, IsUtf8, arith, inl, inr}
 use Rattle.std.specs.Prelude.{Option, None, Some, MatchOption, Ok, Err, chars}
 use Rattle.std.proofs.lemmas.Bool.{cases_lt, and_parts, and_from}
 use Rattle.std.proofs.lemmas.List.{set-get_or}
@@ -13,16 +13,17 @@ use Rattle.rope_search_reports.specs.Pattern.{IsPattern, IsTooHeavy, SpellsNone,
 use Rattle.rope_search_reports.specs.declared.positions.Position.{Position}
 use Rattle.rope_search_reports.specs.Position.{StandsAtBoundaries}
 use Rattle.rope_search_reports.specs.Report.{IsReport}
-use Rattle.rope_search_reports.specs.Laws.{HasOneReport, MatchesStandAtBoundaries, ReplacedIsText}
+use Rattle.rope_search_reports.specs.Laws.{HasOneReport, IsOneOfThree, MatchesStandAtBoundaries, ReplacedIsText}
 use Rattle.rope_search.specs.Order.{Order, SetText, EditText, UndoEdit, RedoEdit, PrintText, ForkBuffer, SetPattern, DropPattern, ListMatches, FindNext, ReplaceAll, UseBuffer}
 use Rattle.rope_search.specs.Places.{IsEdit}
 use Rattle.rope_search.specs.Replacing.{IsReplacement, text_with}
 use Rattle.rope_search.specs.Session.{BufferState, State, first, fresh, current_text, chosen_buffer, with_pattern, with_chosen}
 use Rattle.rope_search.specs.Step.{Answer, Accepts, Does, Step}
 use Rattle.rope_search.specs.Answers.{Run}
-use Rattle.rope_search.specs.Laws.{HoldsTexts, AllHoldTexts, Known, StepsHoldTexts, KeptIsAnew, ListsBoundaries}
+use Rattle.rope_search.specs.Laws.{HoldsTexts, AllHoldTexts, Known, StepsHoldTexts, KeptIsAnew, PatternsAreTaken, ListsBoundaries}
 use Rattle.rope_search.proofs.HistoryLaws.{same_report}
-use Rattle.rope_search.proofs.HoldLaws.{one_text, holds_fresh, chosen_holds, text_holds, first_holds}
+use Rattle.rope_search.proofs.HoldLaws.{one_text, holds_fresh, chosen_holds, text_holds, pattern_holds, first_holds}
+use Rattle.rope_search.proofs.RefusalLaws.{accepted_pattern}
 use Rattle.rope_search.proofs.StepLaws.{Encodes-chars}
 
 -- ---- scalar values
@@ -142,3 +143,12 @@ kept_anew one limit old new pattern payload Done rows anew had spelled step kept
     let stays : new ≡ old = step.1.2 ∙ ap (with_chosen old) again ∙ ap (λ bs. record { buffers = bs; chosen = old.chosen }) (set-get_or old.buffers old.chosen (fresh [])) in
     same_report one buffer (chosen_buffer new) rows anew (ap (λ s. current_text (chosen_buffer s)) (sym stays)) (ap (λ (s : State). (chosen_buffer s).pattern) (sym stays)) kept made
 kept_anew one limit old new pattern payload other rows anew had spelled step kept made = absurd step.1
+
+-- a pattern that spells a tree has no more bytes than one may have
+pub patterns_taken : IsOneOfThree → PatternsAreTaken
+patterns_taken apart limit session pattern payload all had spelled =
+    let is = pattern_holds (chosen_buffer session) pattern (chosen_holds session all) had in
+    let same : pattern ≡ chars payload = Encodes-chars pattern payload spelled in
+    let utf8 : IsUtf8 payload = (pattern, (spelled.scalars, spelled.spelled)) in
+    let short : length payload ≤ pattern_limit = subst (λ bytes. length bytes ≤ pattern_limit) spelled.spelled is.1.spells.size in
+    accepted_pattern apart limit session payload utf8 short (subst IsPattern same is)

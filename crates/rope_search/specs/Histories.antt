@@ -5,7 +5,7 @@ use Rattle.rope_search_reports.specs.Text.{bytes_of}
 use Rattle.rope_search_reports.specs.Matches.{AreGroups}
 use Rattle.rope_search_reports.specs.Replacement.{Groups, changes_of}
 use Rattle.rope_search_reports.specs.Turned.{Lead, turned, lines_put}
-use Rattle.rope_search_reports.specs.declared.changes.Change.{Change}
+use Rattle.rope_search_changes.specs.declared.Change.{Change}
 use Rattle.rope_search_reports.specs.declared.positions.Position.{Position}
 use Rattle.rope_search.specs.Session.{LimitedBuffer, current_text, undone, redone}
 use Rattle.rope_search.specs.Places.{IsBetween}

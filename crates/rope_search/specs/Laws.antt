@@ -16,12 +16,13 @@ use Rattle.rope_search_reports.specs.Position.{IsAt, IsNowhere, StandsAtBoundari
 use Rattle.rope_search_reports.specs.Changes.{AreChanges}
 use Rattle.rope_search_reports.specs.Replacement.{Groups, FollowEachOther, changes_of, searched}
 use Rattle.rope_search.specs.Order.{Order, EditText, UndoEdit, RedoEdit, SetPattern, FindNext, ReplaceAll}
-use Rattle.rope_search.specs.Session.{BufferState, State, first, current_text, chosen_buffer, IsReportIn}
+use Rattle.rope_search.specs.Session.{BufferState, State, first, fresh, current_text, chosen_buffer, IsReportIn}
 use Rattle.rope_search.specs.Finding.{ArePositionsOf}
 use Rattle.rope_search.specs.Places.{HasNoneBetween}
+use Rattle.rope_search.specs.Replacing.{AreAllMatches}
 use Rattle.rope_search.specs.Shows.{Shows}
 use Rattle.rope_search.specs.Stands.{Stands}
-use Rattle.rope_search.specs.Step.{Answer, Step}
+use Rattle.rope_search.specs.Step.{Answer, Accepts, Step}
 use Rattle.rope_search.specs.Reads.{Reads}
 use Rattle.rope_search.specs.Cost.{Costs}
 use Rattle.rope_search.specs.Answers.{Run, Answers}
@@ -168,6 +169,18 @@ KeptIsAnew = (limit : ℕ) (old new : State) (pattern payload : List ℕ) (reply
     → Step limit old (SetPattern payload) (Ok reply) new
     → IsReportIn (chosen_buffer old) rows → IsReportIn (chosen_buffer new) anew → rows ≡ anew
 
+-- and the pattern that a buffer has is taken again, want of memory aside
+abbrev pub PatternsAreTaken : Type 0
+PatternsAreTaken = (limit : ℕ) (session : State) (pattern payload : List ℕ) → AllHoldTexts session
+    → (chosen_buffer session).pattern ≡ Some pattern → Encodes pattern payload
+    → Accepts limit session (SetPattern payload)
+
+-- no command changes a buffer that isn't chosen
+abbrev pub OthersStay : Type 0
+OthersStay = (limit : ℕ) (old new : State) (order : Order) (answer : Answer) (k : ℕ)
+    → Step limit old order answer new → k < length old.buffers → k ≢ old.chosen
+    → slice_index_or new.buffers k (fresh []) ≡ slice_index_or old.buffers k (fresh [])
+
 -- where commands have led from the first session, each match of the report starts and ends at a
 -- boundary of the current text
 abbrev pub ListsBoundaries : Type 0
@@ -177,22 +190,22 @@ ListsBoundaries = (limit : ℕ) (orders : List Order) (out : List ℕ) (cost : �
     → All (StandsAtBoundaries (current_text (chosen_buffer session)) line)
     (slice_index_or rows line [])
 
--- so many parts of a text were replaced: they follow each other, and each starts and ends at a
--- boundary; all text outside them stays, in order
-pub record KeepsTheRest (template old new : List ℕ) (count : ℕ) : Type 0 where
+-- all matches of a buffer's pattern in its current text were replaced, so many: they follow each
+-- other, and each starts and ends at a boundary; all text outside them stays, in order
+pub record KeepsTheRest (old : BufferState) (template new : List ℕ) (count : ℕ) : Type 0 where
   pub matches : List Groups
+  pub are : AreAllMatches old matches
   pub counted : count ≡ length matches
-  pub follow : FollowEachOther (bytes_of old) 0 matches
-  pub stays : AreChanges (changes_of (bytes_of old) template 0 0 matches) 0 0 old new
-      (searched (bytes_of old) template matches)
+  pub follow : FollowEachOther (bytes_of (current_text old)) 0 matches
+  pub stays : AreChanges (changes_of (bytes_of (current_text old)) template 0 0 matches) 0 0
+      (current_text old) new (searched (bytes_of (current_text old)) template matches)
 
 -- `replace` answers how many
 abbrev pub ReplaceKeepsTheRest : Type 0
 ReplaceKeepsTheRest = (limit : ℕ) (old new : State) (payload : List ℕ) (count : ℕ)
     → AllHoldTexts old → HasCurrent old
     → Step limit old (ReplaceAll payload) (Ok (Number count)) new
-    → KeepsTheRest (chars payload) (current_text (chosen_buffer old))
-    (current_text (chosen_buffer new)) count
+    → KeepsTheRest (chosen_buffer old) (chars payload) (current_text (chosen_buffer new)) count
 
 -- of two positions the second is before the first
 pub record AreTurned (text : List ℕ) (from to : Position) : Type 0 where

@@ -3,7 +3,8 @@ use Rattle.std.specs.Prelude.{◌≡◌, ℕ, ◌<◌, List, length, Some}
 use Rattle.str_indices.specs.Text.{byte_len}
 use Rattle.rope_search_reports.specs.Text.{bytes_of}
 use Rattle.rope_search_reports.specs.Matches.{AreGroups}
-use Rattle.rope_search_reports.specs.Replacement.{Groups, replaced, searched}
+use Rattle.rope_search_reports.specs.Replacement.{Groups, AreMatchesIn, replaced, searched}
+use Rattle.rope_search_templates.specs.Laws.{ReplaceAlike}
 use Rattle.rope_search.specs.Session.{BufferState, current_text, with_edit}
 
 -- these are all matches of the buffer's pattern in its current text as a whole, by their groups
@@ -58,3 +59,12 @@ pub record RowsOfReplacementIn (text pattern template : List ℕ) (n : ℕ) : Ty
   pub matches : List Groups
   pub are : AreGroups pattern (bytes_of text) matches
   pub rows : n ≡ searched (bytes_of text) template matches
+
+-- these matches will do for a template: with them it leaves what it does with all matches by their
+-- groups
+pub record AreEnough (text pattern template : List ℕ) (matches : List Groups) : Type 0 where
+  pub groups : List Groups
+  pub are : AreGroups pattern (bytes_of text) groups
+  pub counted : length matches ≡ length groups
+  pub stand : AreMatchesIn (bytes_of text) matches
+  pub alike : ReplaceAlike (bytes_of text) template matches groups

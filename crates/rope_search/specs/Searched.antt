@@ -2,13 +2,13 @@
 use Rattle.std.specs.Prelude.{◌≡◌, ℕ, ◌+◌, ◌≤◌, List, [], length, Option, None, Some, vec_capacity}
 use Rattle.std.specs.Global.{Vec}
 use Rattle.rope_search_reports.specs.declared.patches.Patch.{Patch}
-use Rattle.rope_search_reports.specs.Patches.{patched, AreInTurn, made_by}
+use Rattle.rope_search_reports.specs.Patches.{patched, AreInTurn, growth_by}
 use Rattle.rope_search.specs.declared.search.Patches.{Patches}
 use Rattle.rope_search.specs.declared.search.Search.{Search}
 
 -- there is room for them: in the report's own list, or in an empty one for the whole new report
 abbrev pub HasRoom : Vec (List (ℕ × ℕ)) → List Patch → Option (Vec (List (ℕ × ℕ))) → Type 0
-HasRoom rows patches None = length rows.items + made_by patches ≤ vec_capacity rows
+HasRoom rows patches None = length rows.items + growth_by patches ≤ vec_capacity rows
 HasRoom rows patches (Some room) =
     (room.items ≡ []) × (length (patched 0 rows.items patches) ≤ vec_capacity room)
 

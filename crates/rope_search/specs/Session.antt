@@ -1,7 +1,9 @@
 -- What a session is: a list of buffers, of which one is chosen.
 use Rattle.std.specs.Prelude.{◌≡◌, MatchOption, ℕ, ◌+◌, ◌-◌, List, [], ◌∷◌, ◌++◌, take, Option, None, slice_index_or, slice_set}
 use Rattle.rope_search_reports.specs.Report.{IsReport}
-use Rattle.rope_search_reports.specs.declared.changes.Change.{Change}
+use Rattle.rope_search_changes.specs.declared.Change.{Change}
+use Rattle.rope_search.specs.declared.stretches.Stretch.{Stretch}
+use Rattle.rope_search.specs.Stretches.{none}
 
 -- a history of texts with a current one, and perhaps a pattern. Texts and patterns are lists of
 -- scalar values
@@ -62,19 +64,28 @@ abbrev pub with_chosen : State → BufferState → State
 with_chosen session buffer =
     record session { buffers = slice_set session.buffers session.chosen buffer }
 
--- a buffer, the most bytes that a text of it has, and what it keeps of its history: the changes that
--- led to each of its texts from the one before, none to the first
+-- a buffer, the most bytes that a text of it has, what it keeps of its history: the changes that led
+-- to each of its texts from the one before, none to the first; and which rows of its report were
+-- replaced last
 pub record LimitedBuffer : Type 0 where
   pub limit : ℕ
   pub state : BufferState
   pub changes : List (List Change)
+  pub changed : Stretch
 
--- a session, and the most bytes that a text in it has
+-- a session, the most bytes that a text in it has, and of each buffer which rows of its report were
+-- replaced last
 pub record LimitedSession : Type 0 where
   pub limit : ℕ
   pub state : State
+  pub changed : List Stretch
+
+-- the first session, under a limit
+abbrev pub opened : ℕ → LimitedSession
+opened limit = record { limit = limit; state = first; changed = none ∷ [] }
 
 -- the limit of the chosen one of these buffers
 abbrev pub limit_in : List LimitedBuffer → ℕ → ℕ
 limit_in buffers chosen =
-    (slice_index_or buffers chosen (record { limit = 0; state = fresh []; changes = [] })).limit
+    (slice_index_or buffers chosen
+    (record { limit = 0; state = fresh []; changes = []; changed = none })).limit

@@ -1,25 +1,31 @@
 //! A buffer: a text with its history, and perhaps a pattern.
-ghost use Rattle.std.specs.Prelude.{◌≡◌, ℕ, ◌+◌, ◌^◌, ◌<◌, ◌≤◌, ◌↔◌, ◌⊎◌, [], ◌∷◌, length, chars, None, Some, Err, OnOk, OnErr, IfOk, IfErr, IfSome, MatchOption};
+ghost use Rattle.std.specs.Prelude.{◌≡◌, ℕ, ◌+◌, ◌^◌, ◌<◌, ◌≤◌, ◌↔◌, ◌⊎◌, [], ◌∷◌, length, chars, None, Some, Err, IsTrue, OnOk, OnErr, IfOk, IfErr, IfSome, MatchOption};
 ghost use Rattle.ropey.specs.Chunks.{text_of};
-ghost use Rattle.rope_search_reports.specs.Text.{line_count};
+ghost use Rattle.std.specs.Str.{IsCharBoundary};
+ghost use Rattle.rope_search_reports.specs.Text.{bytes_of, line_count};
 ghost use Rattle.rope_search_reports.specs.Report.{match_count};
 ghost use Rattle.rope_search.specs.Session.{current_text, fresh, with_text, undone, redone, with_pattern, IsReportIn};
 ghost use Rattle.rope_search.specs.Places.{HasNoneBetween, GetsTooLong, TellsRangeOr, IsEdit, IsMarkedBetween, with_replaced};
 ghost use Rattle.str_indices.specs.Text.{byte_len};
 ghost use Rattle.rope_search_reports.specs.Pattern.{IsPattern, IsTooHeavy, SpellsNone, pattern_limit};
-ghost use Rattle.rope_search_reports.specs.Position.{IsNowhere};
-ghost use Rattle.rope_search_reports.specs.Ticks.{MakesAtMost, SearchesOneWhole};
+ghost use Rattle.rope_search_reports.specs.Position.{IsAt, IsNowhere, position};
+ghost use Rattle.rope_search_reports.specs.Ticks.{MakesAsMany, MakesAtMost, SearchesOneWhole};
 ghost use Rattle.rope_search.specs.Finding.{TellsNext};
 ghost use Rattle.rope_search.specs.Replacing.{IsReplacement, GetsTooLongWith, RowsOfReplacement};
 ghost use Rattle.rope_search.specs.Cost.{rows_anew};
-ghost use Rattle.rope_search.specs.Histories.{LeadOn, KeepsEdit, KeepsReplacement, rows_back, rows_on};
+ghost use Rattle.rope_search.specs.Histories.{LeadOn, KeepsEdit, KeepsReplacement, changes_at, rows_back, rows_on};
+ghost use Rattle.rope_search.specs.Stretches.{lines_spanned};
+ghost use Rattle.rope_search.specs.Stretches as stretches;
+ghost use Rattle.rope_search.specs.Changed.{Replaces, SpansMatches};
+ghost use Rattle.rope_search_reports.specs.Turned.{turned};
 
 use crate::history::History;
 use crate::limits::Limits;
 use crate::parts::Part;
-use crate::search::Search;
+use crate::search::{Search, row_count};
+use crate::stretches::Stretch;
 use rope_search_io::Fault;
-use rope_search_reports::{Changes, Finder, Lines, Position, Row, report_of};
+use rope_search_reports::{Changes, Finder, Lines, Position, Row, byte_of, position_of, report_of};
 use ropey::Rope;
 use std::alloc::Global;
 use std::marker::Model;
@@ -32,6 +38,8 @@ pub struct Buffer {
     limits: Limits,
     history: History,
     search: Option<Search>,
+    // Which rows of the report were replaced last.
+    changed: Stretch,
 }
 
 impl Model for Buffer {
@@ -50,6 +58,7 @@ impl Model for Buffer {
         pattern = option_map (λ s. s.finder) b.search;
       };
       changes = b.history.changes;
+      changed = b.changed;
     } };
 
     ghost invariant = { λ b. IfSome b.search (λ s.
@@ -61,7 +70,12 @@ impl Buffer {
     /// Returns a buffer with an empty text and no pattern. Errors: `Fault::Memory`.
     pub fn new(alloc: Global, limits: Limits) -> Result<Buffer, Fault>
         ensures ok { IfOk result (λ buffer. buffer ≡
-            record { limit = limits.text; state = fresh []; changes = [] ∷ [] }) }
+            record {
+              limit = limits.text;
+              state = fresh [];
+              changes = [] ∷ [];
+              changed = stretches.none;
+            }) }
         ensures err { IfErr result (λ fault. fault ≡ Fault.Memory) }
     {
         let history = History::new(alloc, Rope::new(alloc))?;
@@ -70,6 +84,7 @@ impl Buffer {
             limits,
             history,
             search: None,
+            changed: Stretch::none(),
         })
     }
 
@@ -96,6 +111,15 @@ impl Buffer {
         self.history.current()
     }
 
+    /// Returns which rows of the report the last accepted call of those replaced that may: of
+    /// `set_text`, `edit`, `undo`, `redo`, `set_pattern`, `off` and `replace`. All rows before them
+    /// and behind them are those of the report from before it. `O(1)`.
+    pub fn changed(&self) -> Stretch
+        ensures { result ≡ self.now.changed }
+    {
+        self.changed
+    }
+
     /// Replaces the text, with a new history. The pattern stays, and its report is made anew.
     ///
     /// Errors, which leave the buffer as it was: `Fault::Size` for more bytes than the limit;
@@ -103,15 +127,18 @@ impl Buffer {
     pub fn set_text(&mut self, tick: &mut Lines, text: &str) -> Result<(), Fault>
         ensures ok { OnOk result (self.new.state ≡ with_text self.old.state (chars text.now)) }
         ensures changes { OnOk result (self.new.changes ≡ [] ∷ []) }
+        ensures changed { OnOk result (Replaces self.old.state self.new.state self.new.changed) }
         ensures limit { self.new.limit ≡ self.old.limit }
         ensures size { (result ≡ Err Fault.Size) ↔ (self.old.limit < length text.now) }
         ensures fault { IfErr result (λ fault. (fault ≡ Fault.Size) ⊎ (fault ≡ Fault.Memory)) }
         ensures err { OnErr result (self.new ≡ self.old) }
 
-        // A report that is made anew has a row for each line; a text that is too long is searched
-        // nowhere.
+        // A report that is made anew has a row for each line, which is counted; a text that is too
+        // long is searched nowhere.
         ensures refused { result ≡ Err Fault.Size → tick.new ≡ tick.old }
         ensures rows { MakesAtMost (rows_anew self.old.state (chars text.now)) tick.old tick.new }
+        ensures each { OnOk result
+            (MakesAsMany (rows_anew self.old.state (chars text.now)) tick.old tick.new) }
     {
         if self.limits.text < text.len() {
             return Err(Fault::Size);
@@ -121,10 +148,15 @@ impl Buffer {
             return Err(Fault::Memory);
         };
         let history = History::new(self.alloc, text)?;
+        // A law, for the proof alone.
+        rope_search_reports::laws::a_row_a_line();
+        let removed = row_count(&self.search, self.history.current());
+        let added = row_count(&self.search, history.current());
         if let Some(search) = &mut self.search {
             search.rows = report_of(tick, self.alloc, &mut search.finder, history.current())?;
         }
         self.history = history;
+        self.changed = Stretch::whole(removed, added);
         Ok(())
     }
 
@@ -146,6 +178,9 @@ impl Buffer {
         ensures ok { OnOk result
             (IsEdit self.old.state from to (chars inserted.now) self.new.state) }
         ensures kept { OnOk result (KeepsEdit self.old from to (chars inserted.now) self.new) }
+        ensures changed { OnOk result (Replaces self.old.state self.new.state self.new.changed) }
+        ensures added { OnOk result
+            (self.new.changed.added ≤ rows_anew self.old.state (chars inserted.now)) }
         ensures limit { self.new.limit ≡ self.old.limit }
         ensures range { (result ≡ Err Fault.Range)
             ↔ HasNoneBetween (current_text self.old.state) from to }
@@ -166,13 +201,18 @@ impl Buffer {
         let old = self.history.current();
         let new = part.replaced(old, inserted)?;
         let change = part.change(inserted);
+        // A law, and the text's facts, for the proof alone.
+        rope_search_reports::laws::changes_put_lines();
+        let _ = new.len_bytes();
         let Some(search) = &mut self.search else {
             self.history.add(new, Changes::One(change))?;
+            self.changed = Stretch::none();
             return Ok(());
         };
         // All that may be refused comes before the first change.
         let patches = search.patches(tick, self.alloc, old, &new, &[change])?;
         self.history.add(new, Changes::One(change))?;
+        self.changed = patches.changed;
         search.apply(patches);
         Ok(())
     }
@@ -225,6 +265,10 @@ impl Buffer {
     /// a pattern, `Fault::Memory`.
     pub fn undo(&mut self, tick: &mut Lines) -> Result<(), Fault>
         ensures ok { OnOk result (self.new.state ≡ undone self.old.state) }
+        ensures changed { OnOk result (Replaces self.old.state self.new.state self.new.changed) }
+        ensures added { OnOk result (self.new.changed.added ≤ lines_spanned
+            (bytes_of (current_text (undone self.old.state)))
+            (turned 0 0 (changes_at self.old.changes self.old.state.current))) }
         ensures limit { self.new.limit ≡ self.old.limit }
         ensures changes { self.new.changes ≡ self.old.changes }
         ensures nothing { (result ≡ Err Fault.Nothing) ↔ (self.old.state.current ≡ 0) }
@@ -243,13 +287,16 @@ impl Buffer {
         let Some(text) = self.history.previous() else {
             return Err(Fault::Nothing);
         };
-        if let Some(search) = &mut self.search {
-            // A law, for the proof alone.
-            rope_search_reports::laws::changes_lead_back();
-            let current = self.history.current();
-            let changes = self.history.last_changes().turned(self.alloc)?;
-            search.follow(tick, self.alloc, current, text, changes.as_slice())?;
-        }
+        let Some(search) = &mut self.search else {
+            self.history.step_back();
+            self.changed = Stretch::none();
+            return Ok(());
+        };
+        // A law, for the proof alone.
+        rope_search_reports::laws::changes_lead_back();
+        let current = self.history.current();
+        let changes = self.history.last_changes().turned(self.alloc)?;
+        self.changed = search.follow(tick, self.alloc, current, text, changes.as_slice())?;
         self.history.step_back();
         Ok(())
     }
@@ -258,6 +305,10 @@ impl Buffer {
     /// `undo`.
     pub fn redo(&mut self, tick: &mut Lines) -> Result<(), Fault>
         ensures ok { OnOk result (self.new.state ≡ redone self.old.state) }
+        ensures changed { OnOk result (Replaces self.old.state self.new.state self.new.changed) }
+        ensures added { OnOk result (self.new.changed.added ≤ lines_spanned
+            (bytes_of (current_text (redone self.old.state)))
+            (changes_at self.old.changes (self.old.state.current + 1))) }
         ensures limit { self.new.limit ≡ self.old.limit }
         ensures changes { self.new.changes ≡ self.old.changes }
         ensures nothing { (result ≡ Err Fault.Nothing)
@@ -277,13 +328,78 @@ impl Buffer {
         let Some(version) = self.history.next() else {
             return Err(Fault::Nothing);
         };
-        if let Some(search) = &mut self.search {
-            let current = self.history.current();
-            let changes = version.changes.as_slice();
-            search.follow(tick, self.alloc, current, &version.text, changes)?;
-        }
+        let Some(search) = &mut self.search else {
+            self.history.step_forward();
+            self.changed = Stretch::none();
+            return Ok(());
+        };
+        let current = self.history.current();
+        let changes = version.changes.as_slice();
+        self.changed = search.follow(tick, self.alloc, current, &version.text, changes)?;
         self.history.step_forward();
         Ok(())
+    }
+
+    /// Returns whether there is a text for `undo` to go back to. `O(1)`.
+    pub fn can_undo(&self) -> bool
+        ensures { IsTrue result ↔ (0 < self.now.state.current) }
+    {
+        self.history.previous().is_some()
+    }
+
+    /// Returns whether there is a text for `redo` to go forward to. `O(1)`.
+    pub fn can_redo(&self) -> bool
+        ensures { IsTrue result ↔ (self.now.state.current + 1 < length self.now.state.texts) }
+    {
+        self.history.next().is_some()
+    }
+
+    /// Drops the history: all texts but the current one, with what changed from each to the next.
+    /// The current text, the pattern and its report stay. It allocates nothing. Linear in the
+    /// texts that are dropped.
+    pub fn forget(&mut self)
+        ensures state { self.new.state
+            ≡ with_text self.old.state (current_text self.old.state) }
+        ensures changes { self.new.changes ≡ [] ∷ [] }
+        ensures changed { self.new.changed ≡ self.old.changed }
+        ensures limit { self.new.limit ≡ self.old.limit }
+    {
+        self.history.forget(self.alloc);
+    }
+
+    /// Returns the byte of the current text at which a position is. `O(log n)`.
+    ///
+    /// Errors: `Fault::Range` where it is nowhere in the text.
+    pub fn byte_of(&self, position: Position) -> Result<usize, Fault>
+        ensures at { IfOk result (λ place.
+            IsAt (current_text self.now.state) (position.line, position.column) place) }
+        ensures range { IfErr result (λ fault.
+            IsNowhere (current_text self.now.state) (position.line, position.column)) }
+        ensures fault { IfErr result (λ fault. fault ≡ Fault.Range) }
+    {
+        match byte_of(self.text(), position) {
+            Some(byte_idx) => Ok(byte_idx),
+            None => Err(Fault::Range),
+        }
+    }
+
+    /// Returns the position of a byte of the current text; between the CR and the LF of a break
+    /// that is one past the end of the line's text. `O(log n)`.
+    ///
+    /// Errors: `Fault::Range` where no character begins there and the text doesn't end there.
+    pub fn position_of(&self, byte_idx: usize) -> Result<Position, Fault>
+        ensures position { IfOk result (λ told.
+            (told.line, told.column) ≡ position (current_text self.now.state) byte_idx) }
+        ensures range { IfErr result (λ fault.
+            IsCharBoundary (bytes_of (current_text self.now.state)) byte_idx → ⊥) }
+        ensures fault { IfErr result (λ fault. fault ≡ Fault.Range) }
+    {
+        let text = self.text();
+        // A boundary is where a range that is empty cuts no character.
+        if text.get_byte_slice(byte_idx..byte_idx).is_none() {
+            return Err(Fault::Range);
+        }
+        Ok(position_of(text, byte_idx))
     }
 
     /// Replaces the pattern, and makes the report.
@@ -296,6 +412,7 @@ impl Buffer {
             (self.new.state ≡ with_pattern self.old.state (Some (chars pattern.now))) }
         ensures limit { self.new.limit ≡ self.old.limit }
         ensures changes { self.new.changes ≡ self.old.changes }
+        ensures changed { OnOk result (Replaces self.old.state self.new.state self.new.changed) }
         ensures too_long { pattern_limit < length pattern.now → result ≡ Err Fault.Limit }
         ensures is_pattern { OnOk result (IsPattern (chars pattern.now)) }
         ensures too_much { result ≡ Err Fault.Limit
@@ -306,13 +423,20 @@ impl Buffer {
             (fault ≡ Fault.Limit) ⊎ ((fault ≡ Fault.Pattern) ⊎ (fault ≡ Fault.Memory))) }
         ensures err { OnErr result (self.new ≡ self.old) }
 
-        // The report has a row for each line; for what is no pattern nothing is searched.
+        // The report has a row for each line, which is counted; for what is no pattern nothing is
+        // searched.
         ensures long_unsearched { result ≡ Err Fault.Limit → tick.new ≡ tick.old }
         ensures unsearched { (IsPattern (chars pattern.now) → ⊥) → tick.new ≡ tick.old }
         ensures rows { MakesAtMost (line_count (current_text self.old.state)) tick.old tick.new }
+        ensures each { OnOk result
+            (MakesAsMany (line_count (current_text self.old.state)) tick.old tick.new) }
     {
         let mut finder = Finder::new(self.alloc, pattern)?;
         let rows = report_of(tick, self.alloc, &mut finder, self.text())?;
+        // A law, for the proof alone.
+        rope_search_reports::laws::a_row_a_line();
+        let text = self.history.current();
+        self.changed = Stretch::whole(row_count(&self.search, text), text.len_lines());
         self.search = Some(Search { finder, rows });
         Ok(())
     }
@@ -322,7 +446,11 @@ impl Buffer {
         ensures off { self.new.state ≡ with_pattern self.old.state None }
         ensures limit { self.new.limit ≡ self.old.limit }
         ensures changes { self.new.changes ≡ self.old.changes }
+        ensures changed { Replaces self.old.state self.new.state self.new.changed }
     {
+        // A law, for the proof alone.
+        rope_search_reports::laws::a_row_a_line();
+        self.changed = Stretch::whole(row_count(&self.search, self.history.current()), 0);
         self.search = None;
     }
 
@@ -387,6 +515,9 @@ impl Buffer {
         ensures ok { IfOk result (λ count.
             IsReplacement self.old.state (chars template.now) count self.new.state) }
         ensures kept { OnOk result (KeepsReplacement self.old (chars template.now) self.new) }
+        ensures changed { OnOk result (Replaces self.old.state self.new.state self.new.changed) }
+        ensures added { OnOk result (SpansMatches self.old.state (chars template.now)
+            self.new.state self.new.changed) }
         ensures limit { self.new.limit ≡ self.old.limit }
         ensures nothing { (result ≡ Err Fault.Nothing) ↔ (self.old.state.pattern ≡ None) }
         ensures too_long { (self.old.state.pattern ≡ None → ⊥) → self.old.limit < length template.now
@@ -419,6 +550,7 @@ impl Buffer {
         // All that may be refused comes before the first change.
         let replaced = search.replaced(tick, self.alloc, self.limits, old, template)?;
         self.history.add(replaced.text, replaced.changes)?;
+        self.changed = replaced.patches.changed;
         search.apply(replaced.patches);
         Ok(replaced.count)
     }
@@ -443,6 +575,7 @@ impl Buffer {
               limit = self.now.limit;
               state = fresh (current_text self.now.state);
               changes = [] ∷ [];
+              changed = stretches.none;
             }) }
         ensures err { IfErr result (λ fault. fault ≡ Fault.Memory) }
     {
@@ -452,6 +585,7 @@ impl Buffer {
             limits: self.limits,
             history: History::new(self.alloc, text)?,
             search: None, // The pattern stays with this buffer.
+            changed: Stretch::none(),
         })
     }
 }

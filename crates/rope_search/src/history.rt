@@ -121,6 +121,20 @@ impl History {
         self.versions.get(self.current + 1)
     }
 
+    /// Drops all texts but the current one, and what changed. It takes no memory.
+    pub fn forget(&mut self, alloc: Global)
+        ensures { self.new ≡ record {
+          texts = text_at self.old.texts self.old.current ∷ [];
+          changes = [] ∷ [];
+          current = 0;
+        } }
+    {
+        self.versions.swap(0, self.current);
+        self.versions.truncate(1);
+        self.versions[0].changes = Changes::Many(Vec::new(alloc));
+        self.current = 0;
+    }
+
     /// Makes the text before the current one current.
     pub fn step_back(&mut self)
         requires { 0 < self.old.current }

@@ -6,7 +6,7 @@ ghost use Rattle.rope_search.specs.Order.{Order, PrintText, ListMatches};
 ghost use Rattle.rope_search.specs.Session.{State};
 ghost use Rattle.rope_search.specs.declared.commands.CommandOf.{CommandOf};
 ghost use Rattle.rope_search.specs.declared.commands.Payload.{Payload};
-ghost use Rattle.rope_search.specs.Laws.{AllHoldTexts, Known, StepsHoldTexts, HasOneReading, HasOneStep, HasOneCost, EndsAtBadLine, HasAnswer, HasOneShow, StandsForSome, UndoUndoesEdit, UndoUndoesReplace, ReplaceKeepsTheRest, RedoRedoesUndo, RepliesAlike, FindsAlike, FindsBoundaries, EditsHavePlaces, KeptIsAnew, ListsBoundaries, NoneIsNowhereOrTurned};
+ghost use Rattle.rope_search.specs.Laws.{AllHoldTexts, Known, StepsHoldTexts, HasOneReading, HasOneStep, HasOneCost, EndsAtBadLine, HasAnswer, HasOneShow, StandsForSome, UndoUndoesEdit, UndoUndoesReplace, ReplaceKeepsTheRest, RedoRedoesUndo, RepliesAlike, FindsAlike, FindsBoundaries, EditsHavePlaces, KeptIsAnew, PatternsAreTaken, OthersStay, ListsBoundaries, NoneIsNowhereOrTurned};
 ghost use Rattle.rope_search.specs.Step.{Answer};
 
 /// Each input has exactly one reading: a list of commands, and how it ends.
@@ -107,8 +107,9 @@ pub fn finds_at_boundaries()
     rope_search_reports::laws::finds_are_in_text();
 }
 
-/// The matches that `replace` replaces follow each other, and each starts and ends at a boundary of
-/// the text. All text outside of them stays, in order, and their number is told.
+/// The matches that `replace` replaces are all those of the pattern in the whole text. They follow
+/// each other, and each starts and ends at a boundary of the text. All text outside of them stays,
+/// in order, and their number is told.
 pub fn replace_keeps_the_rest()
     ensures { ReplaceKeepsTheRest }
 {
@@ -128,6 +129,19 @@ pub fn kept_is_anew()
 {
     rope_search_reports::laws::one_report();
 }
+
+/// The pattern that a buffer of texts has is refused for nothing but want of memory where it is set
+/// anew.
+pub fn patterns_are_taken()
+    ensures { PatternsAreTaken }
+{
+    rope_search_reports::laws::one_of_three();
+}
+
+/// No command, whatever it is answered, changes a buffer that isn't chosen.
+pub fn others_stay()
+    ensures { OthersStay }
+{}
 
 /// Whatever commands came before, each match of the report starts and ends at a boundary of the
 /// text, and its columns are those of two positions of its line.

@@ -5,6 +5,7 @@
 mod buffer;
 mod command_lines;
 mod commands;
+mod encodings;
 mod endings;
 mod headers;
 mod history;
@@ -18,10 +19,12 @@ mod requests;
 mod runs;
 mod search;
 mod session;
+mod stretches;
 mod texts;
 
 pub use buffer::Buffer;
 pub use commands::{Command, CommandOf, Payload, Reply};
+pub use encodings::Encoding;
 pub use endings::Ended;
 pub use limits::Limits;
 pub use rope_search_io::{Broken, Device, Failed, Fault, MemorySink, MemorySource, Sink, Source};
@@ -31,3 +34,4 @@ pub use rope_search_reports::{
 pub use ropey::Rope;
 pub use runs::{run, run_limited};
 pub use session::Session;
+pub use stretches::Stretch;

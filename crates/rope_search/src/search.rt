@@ -1,25 +1,28 @@
 //! A pattern that is set, and its report, which edits and replacements patch.
-ghost use Rattle.std.specs.Prelude.{◌≡◌, ℕ, ◌+◌, ◌^◌, ◌<◌, ◌≤◌, ◌↔◌, ◌⊎◌, length, chars, Err, OnOk, OnErr, IfOk, IfErr};
+ghost use Rattle.std.specs.Prelude.{◌≡◌, if◌then◌else◌, is_some, ℕ, ◌+◌, ◌^◌, ◌<◌, ◌≤◌, ◌↔◌, ◌⊎◌, length, chars, Err, OnOk, OnErr, IfOk, IfErr};
 ghost use Rattle.ropey.specs.Chunks.{text_of};
 ghost use Rattle.rope_search_reports.specs.Text.{bytes_of, line_count};
 ghost use Rattle.rope_search_reports.specs.Report.{IsReport, match_count};
 ghost use Rattle.rope_search_reports.specs.Changes.{AreChanges};
-ghost use Rattle.rope_search_reports.specs.Patches.{patched, made_by};
+ghost use Rattle.rope_search_reports.specs.Patches.{patched, growth_by};
 ghost use Rattle.rope_search_reports.specs.Position.{IsNowhere};
 ghost use Rattle.rope_search_reports.specs.Ticks.{MakesAtMost, SearchesOneWhole};
+ghost use Rattle.rope_search_templates.specs.Matches.{matched};
 ghost use Rattle.rope_search.specs.Finding.{TellsIn};
-ghost use Rattle.rope_search.specs.Replacing.{IsReplacementIn, GetsTooLongIn, RowsOfReplacementIn};
+ghost use Rattle.rope_search.specs.Replacing.{AreEnough, IsReplacementIn, GetsTooLongIn, RowsOfReplacementIn};
 ghost use Rattle.rope_search.specs.Searched.{FitIn, HasRoom};
 ghost use Rattle.rope_search_reports.specs.Turned.{Lead, listed, lines_put};
 ghost use Rattle.rope_search.specs.Histories.{AreReplacements};
+ghost use Rattle.rope_search.specs.Stretches.{ReplacesIn, lines_spanned};
 
 use crate::limits::Limits;
+use crate::stretches::{Stretch, stretch_of};
 use rope_search_io::Fault;
 use rope_search_reports::{
-    Change, Changes, Finder, Lines, Patch, Position, Row, find_all, find_from, patches_of,
-    place_of, position_of, put_in_place, put_patches, rows_made, shift_once,
+    Change, Changes, Finder, Lines, Patch, Position, Row, find_all, find_from, find_spans, growth,
+    patches_of, place_of, position_of, put_in_place, put_patches, shift_once,
 };
-use rope_search_templates::{Replacement, Template, is_over, replace_all};
+use rope_search_templates::{Matches, Replacement, Template, is_over, replace_all};
 use ropey::Rope;
 use std::alloc::Global;
 
@@ -39,6 +42,8 @@ pub struct Patches {
     pub patches: Vec<Patch>,
     /// An empty list for the whole new report. None where the old one's list has room.
     pub room: Option<Vec<Row>>,
+    /// Which rows they replace.
+    pub changed: Stretch,
 }
 
 /// A text with all matches replaced, and what that makes of its report.
@@ -54,9 +59,20 @@ pub struct Replaced {
     pub patches: Patches,
 }
 
+/// How many rows the report of a text has, or none where there is no pattern.
+pub fn row_count(search: &Option<Search>, text: &Rope) -> usize
+    ensures { result ≡ (if is_some search.now then line_count (text_of text.now) else 0) }
+{
+    match search {
+        None => 0,
+        Some(_) => text.len_lines(),
+    }
+}
+
 /// Room for patches. Where at most one of them moves the rows behind it, it is made in the report's
-/// own list, and else in a new one with room for `len` rows, into which each row is moved once. It
-/// may be refused with `Fault::Memory` alone; the report is as before.
+/// own list, for those rows alone by which that grows, so an edit inside a line asks for none. Else
+/// it is made in a new one with room for `len` rows, into which each row is moved once. It may be
+/// refused with `Fault::Memory` alone; the report is as before.
 fn room_for(
     alloc: Global,
     rows: &mut Vec<Row>,
@@ -64,17 +80,42 @@ fn room_for(
     len: usize,
 ) -> Result<Option<Vec<Row>>, Fault>
     requires within { length (patched 0 rows.old.items patches.now) ≤ len }
-    requires few { made_by patches.now < 2 ^ 64 }
+    requires few { growth_by patches.now < 2 ^ 64 }
     ensures room { IfOk result (λ room. HasRoom rows.new patches.now room) }
     ensures rows { rows.new.items ≡ rows.old.items }
     ensures fault { IfErr result (λ fault. fault ≡ Fault.Memory) }
 {
     if shift_once(patches) {
-        rows.reserve(rows_made(patches))?;
+        rows.reserve(growth(patches))?;
         return Ok(None);
     }
     let room = Vec::with_capacity(alloc, len)?;
     Ok(Some(room))
+}
+
+/// All matches in a text, as far as a template needs them: their spans alone, where it names no
+/// group. One search of a whole text is counted. It may be refused with `Fault::Memory` alone.
+fn matches_for(
+    tick: &mut Lines,
+    finder: &mut Finder,
+    text: &Rope,
+    template: &Template<'_>,
+) -> Result<Matches, Fault>
+    ensures found { IfOk result (λ matches.
+        AreEnough (text_of text.now) finder.old template.now (matched matches)) }
+    ensures fault { IfErr result (λ fault. fault ≡ Fault.Memory) }
+    ensures finder { finder.new ≡ finder.old }
+    ensures count { tick.new.count ≡ tick.old.count }
+    ensures wholes { tick.new.wholes ≤ tick.old.wholes + 1 }
+{
+    // A law, for the proof alone.
+    rope_search_templates::laws::spans_are_enough();
+    if template.names_groups() {
+        let groups = find_all(tick, finder, text)?;
+        return Ok(Matches::Grouped(groups));
+    }
+    let spans = find_spans(tick, finder, text)?;
+    Ok(Matches::Spans(spans))
 }
 
 impl Search {
@@ -97,6 +138,10 @@ impl Search {
             (patched 0 self.old.rows.items patches.patches.items)) }
         ensures few { IfOk result (λ patches.
             match_count (patched 0 self.old.rows.items patches.patches.items) < 2 ^ 64) }
+        ensures changed { IfOk result (λ patches.
+            ReplacesIn (text_of old.now) (text_of new.now) self.old.finder patches.changed) }
+        ensures added { IfOk result (λ patches. patches.changed.added
+            ≤ lines_spanned (bytes_of (text_of new.now)) changes.now) }
         ensures fault { IfErr result (λ fault. fault ≡ Fault.Memory) }
         ensures finder { self.new.finder ≡ self.old.finder }
         ensures rows { self.new.rows.items ≡ self.old.rows.items }
@@ -112,7 +157,12 @@ impl Search {
         let len = new.len_lines();
         let patches = patches_of(tick, alloc, &mut self.finder, old, new, changes)?;
         let room = room_for(alloc, &mut self.rows, &patches, len)?;
-        Ok(Patches { patches, room })
+        let changed = stretch_of(old, new, changes);
+        Ok(Patches {
+            patches,
+            room,
+            changed,
+        })
     }
 
     /// A text with all its matches replaced by what the template stands for at each, the changes
@@ -140,6 +190,10 @@ impl Search {
             (patched 0 self.old.rows.items new.patches.patches.items)) }
         ensures few { IfOk result (λ new.
             match_count (patched 0 self.old.rows.items new.patches.patches.items) < 2 ^ 64) }
+        ensures changed { IfOk result (λ new. ReplacesIn (text_of old.now) (text_of new.text)
+            self.old.finder new.patches.changed) }
+        ensures added { IfOk result (λ new. new.patches.changed.added
+            ≤ lines_spanned (bytes_of (text_of new.text)) (listed new.changes)) }
         ensures size { result ≡ Err Fault.Size
             → GetsTooLongIn limits.text (text_of old.now) self.old.finder (chars template.now) }
         ensures fits { OnOk result
@@ -159,7 +213,7 @@ impl Search {
         rope_search_reports::laws::one_list_of_groups();
         let _ = old.len_bytes();
         let template = Template::new(template);
-        let matches = find_all(tick, &mut self.finder, old)?;
+        let matches = matches_for(tick, &mut self.finder, old, &template)?;
         if is_over(limits.text, old, &template, &matches) {
             return Err(Fault::Size);
         }
@@ -180,15 +234,16 @@ impl Search {
         ensures rows { self.new.rows.items
             ≡ patched 0 self.old.rows.items patches.patches.items }
     {
-        let Patches { patches, room } = patches;
+        let Patches { patches, room, .. } = patches;
         match room {
             None => put_in_place(&mut self.rows, patches),
             Some(room) => put_patches(&mut self.rows, patches, room),
         }
     }
 
-    /// Makes the report that of the text after some changes, as `patches` and `apply` do. It may be
-    /// refused with `Fault::Memory` alone; the report is then as before.
+    /// Makes the report that of the text after some changes, as `patches` and `apply` do, and
+    /// returns which rows are replaced. It may be refused with `Fault::Memory` alone; the report is
+    /// then as before.
     pub fn follow(
         &mut self,
         tick: &mut Lines,
@@ -196,12 +251,16 @@ impl Search {
         old: &Rope,
         new: &Rope,
         changes: &[Change],
-    ) -> Result<(), Fault>
+    ) -> Result<Stretch, Fault>
         requires report { IsReport (text_of old.now) self.old.finder self.old.rows.items }
         requires led { Lead changes.now (text_of old.now) (text_of new.now) }
         ensures report { OnOk result
             (IsReport (text_of new.now) self.old.finder self.new.rows.items) }
         ensures few { OnOk result (match_count self.new.rows.items < 2 ^ 64) }
+        ensures changed { IfOk result (λ changed.
+            ReplacesIn (text_of old.now) (text_of new.now) self.old.finder changed) }
+        ensures added { IfOk result (λ changed. changed.added
+            ≤ lines_spanned (bytes_of (text_of new.now)) changes.now) }
         ensures fault { IfErr result (λ fault. fault ≡ Fault.Memory) }
         ensures err { OnErr result (self.new.rows.items ≡ self.old.rows.items) }
         ensures finder { self.new.finder ≡ self.old.finder }
@@ -213,8 +272,9 @@ impl Search {
         rope_search_reports::laws::changes_put_lines();
         let _ = new.len_bytes();
         let patches = self.patches(tick, alloc, old, new, changes)?;
+        let changed = patches.changed;
         self.apply(patches);
-        Ok(())
+        Ok(changed)
     }
 
     /// The first match in a whole text that starts at a position or behind it: the positions where

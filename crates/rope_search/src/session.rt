@@ -1,7 +1,7 @@
 //! A session: buffers, of which one is chosen.
-ghost use Rattle.std.specs.Prelude.{◌≡◌, ◌+◌, ◌<◌, ◌≤◌, ◌↔◌, [], ◌∷◌, ◌++◌, List, ℕ, length, Bool, Err, OnOk, OnErr, IfOk, IfErr, IsOk, None, Some};
-ghost use Rattle.rope_search.specs.Order.{SetText, EditText, UndoEdit, RedoEdit, SetPattern, ListMatches, FindNext, ReplaceAll};
-ghost use Rattle.rope_search.specs.Session.{first, fresh, current_text, chosen_buffer, with_pattern, with_chosen};
+ghost use Rattle.std.specs.Prelude.{◌≡◌, ◌+◌, ◌<◌, ◌≤◌, ◌↔◌, [], ◌∷◌, ◌++◌, List, ℕ, length, slice_index_or, Bool, Err, OnOk, OnErr, IfOk, IfErr, IsOk, None, Some};
+ghost use Rattle.rope_search.specs.Order.{SetText, EditText, UndoEdit, RedoEdit, SetPattern, DropPattern, ListMatches, FindNext, ReplaceAll};
+ghost use Rattle.rope_search.specs.Session.{opened, fresh, current_text, chosen_buffer, with_text, with_pattern, with_chosen};
 ghost use Rattle.rope_search_reports.specs.Pattern.{pattern_limit};
 ghost use Rattle.rope_search.specs.Laws.{HasCurrent, AllHoldTexts};
 ghost use Rattle.rope_search.specs.Step.{Step};
@@ -9,10 +9,13 @@ ghost use Rattle.rope_search.specs.Stands.{ForOrders, StandsFor, kept_of};
 ghost use Rattle.rope_search.specs.Cost.{Costs, SearchesFor};
 ghost use Rattle.rope_search_reports.specs.Ticks.{SearchesOneWhole};
 ghost use Rattle.rope_search.specs.Finding as finding;
+ghost use Rattle.rope_search.specs.Stretches as stretches;
+ghost use Rattle.rope_search.specs.Changed.{TellsRows, TellsAfter};
 
 use crate::buffer::Buffer;
 use crate::commands::{Command, Payload, Reply};
 use crate::limits::Limits;
+use crate::stretches::Stretch;
 use rope_search_io::Fault;
 use rope_search_reports::{Lines, Position};
 use std::alloc::Global;
@@ -38,6 +41,7 @@ impl Model for Session {
         buffers = map (λ (b : LimitedBuffer). b.state) s.buffers.items;
         chosen = s.chosen;
       };
+      changed = map (λ (b : LimitedBuffer). b.changed) s.buffers.items;
     } };
 
     ghost invariant = { λ s. (s.chosen < vec_len s.buffers)
@@ -52,8 +56,7 @@ impl Session {
     ///
     /// Errors: `Fault::Memory`.
     pub fn new(alloc: Global, limits: Limits) -> Result<Session, Fault>
-        ensures ok { IfOk result (λ session.
-            session ≡ record { limit = limits.text; state = first }) }
+        ensures ok { IfOk result (λ session. session ≡ opened limits.text) }
         ensures err { IfErr result (λ fault. fault ≡ Fault.Memory) }
     {
         let buffer = Buffer::new(alloc, limits)?;
@@ -73,6 +76,44 @@ impl Session {
         // For its facts alone.
         let _ = buffer.text();
         buffer
+    }
+
+    /// Returns the number of buffers. `O(1)`.
+    pub fn buffer_count(&self) -> usize
+        ensures { result ≡ length self.now.state.buffers }
+    {
+        self.buffers.len()
+    }
+
+    /// Returns the number of the chosen buffer, from 0. `O(1)`.
+    pub fn chosen(&self) -> usize
+        ensures number { result ≡ self.now.state.chosen }
+        ensures inside { result < length self.now.state.buffers }
+    {
+        self.chosen
+    }
+
+    /// Returns which rows of the chosen buffer's report the last accepted command on that buffer
+    /// replaced, of those that may: all but `fork`, `next`, `list` and `print`. All rows before
+    /// them and behind them are those of the report from before the command. A window that is
+    /// painted is right again once these rows are, and those behind them moved. `O(1)`.
+    pub fn changed(&self) -> Stretch
+        ensures { result ≡
+            slice_index_or self.now.changed self.now.state.chosen stretches.none }
+    {
+        self.buffers[self.chosen].changed()
+    }
+
+    /// Drops the chosen buffer's history: its current text stays, and so do its pattern and its
+    /// report. No other buffer changes. It allocates nothing. Linear in the texts that are dropped.
+    pub fn forget(&mut self)
+        ensures state { self.new.state ≡ with_chosen self.old.state
+            (with_text (chosen_buffer self.old.state)
+            (current_text (chosen_buffer self.old.state))) }
+        ensures limit { self.new.limit ≡ self.old.limit }
+        ensures changed { self.new.changed ≡ self.old.changed }
+    {
+        self.buffers[self.chosen].forget();
     }
 
     /// The allocator that the session was made with.
@@ -95,6 +136,7 @@ impl Session {
         ensures ok { OnOk result (self.new ≡ record {
           limit = self.old.limit;
           state = record self.old.state { chosen = number };
+          changed = self.old.changed;
         }) }
         ensures fault { IfErr result (λ fault. fault ≡ Fault.Nothing) }
         ensures err { OnErr result (self.new ≡ self.old) }
@@ -119,6 +161,7 @@ impl Session {
             buffers = self.old.state.buffers
                 ++ fresh (current_text (chosen_buffer self.old.state)) ∷ [];
           };
+          changed = self.old.changed ++ stretches.none ∷ [];
         }) }
         ensures fault { IfErr result (λ fault. fault ≡ Fault.Memory) }
         ensures err { OnErr result (self.new ≡ self.old) }
@@ -164,6 +207,11 @@ impl Session {
         // It searches no more than the command costs.
         ensures searches { ForOrders self.old.limit command.entry (λ order.
             SearchesFor self.old.limit self.old.state order tick.old tick.new) }
+
+        // The chosen buffer tells which rows of its report were replaced.
+        ensures changed { ForOrders self.old.limit command.entry (λ order.
+            TellsAfter self.old.state order result self.new.state
+            self.old.changed self.new.changed) }
     {
         match command {
             Command::Text(payload) => self.set_text(tick, payload),
@@ -199,6 +247,11 @@ impl Session {
             → Costs self.old.limit self.old.state (SetText bytes) cost
             → tick.new.count ≤ tick.old.count + cost }
         ensures wholes { tick.new.wholes ≡ tick.old.wholes }
+        ensures changed { OnOk result ((bytes : List ℕ)
+            → StandsFor self.old.limit payload.entry bytes
+            → TellsRows self.old.state (SetText bytes) self.new.state
+            self.old.changed self.new.changed) }
+        ensures kept { OnErr result (self.new.changed ≡ self.old.changed) }
     {
         match payload {
             Payload::Kept(bytes) => match str::from_utf8(bytes) {
@@ -233,6 +286,11 @@ impl Session {
             → Costs self.old.limit self.old.state (EditText from to bytes) cost
             → tick.new.count ≤ tick.old.count + cost }
         ensures wholes { tick.new.wholes ≡ tick.old.wholes }
+        ensures changed { OnOk result ((bytes : List ℕ)
+            → StandsFor self.old.limit payload.entry bytes
+            → TellsRows self.old.state (EditText from to bytes) self.new.state
+            self.old.changed self.new.changed) }
+        ensures kept { OnErr result (self.new.changed ≡ self.old.changed) }
     {
         match payload {
             Payload::Kept(bytes) => match str::from_utf8(bytes) {
@@ -255,6 +313,9 @@ impl Session {
         ensures rows { (cost : ℕ) → Costs self.old.limit self.old.state UndoEdit cost
             → tick.new.count ≤ tick.old.count + cost }
         ensures wholes { tick.new.wholes ≡ tick.old.wholes }
+        ensures changed { OnOk result (TellsRows self.old.state UndoEdit self.new.state
+            self.old.changed self.new.changed) }
+        ensures kept { OnErr result (self.new.changed ≡ self.old.changed) }
     {
         self.buffers[self.chosen].undo(tick)?;
         Ok(Reply::Done)
@@ -267,6 +328,9 @@ impl Session {
         ensures rows { (cost : ℕ) → Costs self.old.limit self.old.state RedoEdit cost
             → tick.new.count ≤ tick.old.count + cost }
         ensures wholes { tick.new.wholes ≡ tick.old.wholes }
+        ensures changed { OnOk result (TellsRows self.old.state RedoEdit self.new.state
+            self.old.changed self.new.changed) }
+        ensures kept { OnErr result (self.new.changed ≡ self.old.changed) }
     {
         self.buffers[self.chosen].redo(tick)?;
         Ok(Reply::Done)
@@ -284,6 +348,11 @@ impl Session {
             → Costs self.old.limit self.old.state (SetPattern bytes) cost
             → tick.new.count ≤ tick.old.count + cost }
         ensures wholes { tick.new.wholes ≡ tick.old.wholes }
+        ensures changed { OnOk result ((bytes : List ℕ)
+            → StandsFor pattern_limit payload.entry bytes
+            → TellsRows self.old.state (SetPattern bytes) self.new.state
+            self.old.changed self.new.changed) }
+        ensures kept { OnErr result (self.new.changed ≡ self.old.changed) }
     {
         // A law, for the proof alone.
         rope_search_reports::laws::one_of_three();
@@ -307,6 +376,8 @@ impl Session {
         ensures state { self.new.state ≡ with_chosen self.old.state
             (with_pattern (chosen_buffer self.old.state) None) }
         ensures limit { self.new.limit ≡ self.old.limit }
+        ensures changed { TellsRows self.old.state DropPattern self.new.state
+            self.old.changed self.new.changed }
     {
         self.buffers[self.chosen].off();
         Reply::Done
@@ -327,6 +398,7 @@ impl Session {
         ensures step { Step self.old.limit self.old.state (FindNext from) result self.new.state }
         ensures limit { self.new.limit ≡ self.old.limit }
         ensures searches { SearchesOneWhole tick.old tick.new }
+        ensures kept { self.new.changed ≡ self.old.changed }
     {
         let found = self.buffers[self.chosen].next_from(tick, from)?;
         Ok(reply_for(found))
@@ -344,6 +416,11 @@ impl Session {
             → Costs self.old.limit self.old.state (ReplaceAll bytes) cost
             → tick.new.count ≤ tick.old.count + cost }
         ensures wholes { tick.new.wholes ≤ tick.old.wholes + 1 }
+        ensures changed { OnOk result ((bytes : List ℕ)
+            → StandsFor self.old.limit payload.entry bytes
+            → TellsRows self.old.state (ReplaceAll bytes) self.new.state
+            self.old.changed self.new.changed) }
+        ensures kept { OnErr result (self.new.changed ≡ self.old.changed) }
     {
         // A law, for the proof alone.
         rope_search_reports::laws::replaced_is_text();

@@ -1,6 +1,6 @@
 -- Lines in which nothing matches, by what is known of the places before one.
 use Rattle.std.proofs.Common.{◌≡◌, ℕ, suc, ◌+◌, ◌-◌, ◌^◌, ◌<◌, ◌≤◌, min, true, chars, IsUtf8, append-nil, inl, inr, List, [], ◌∷◌, ◌++◌, Option, None, Some, IfSome, length, take, drop, get_or, replicate, refl, sym, ap, subst, ◌∙◌, arith, length-drop, append_assoc}
-use Rattle.std.proofs.lemmas.List.{drop-drop, length-take, get_or-take, get_or-drop, replicate_more}
+use Rattle.std.proofs.lemmas.List.{drop-drop, drop-take, length-take, get_or-take, get_or-drop, replicate_more}
 use Rattle.std.specs.Option.{is_some}
 use Rattle.std.proofs.lemmas.Bool.{true≢false}
 use Rattle.std.proofs.lemmas.Str.{encodes-chars, len_utf8_bounds}
@@ -85,7 +85,7 @@ lines-joined text first mid end low high =
     ∙ ap (λ n. take (mid - first) lines ++ take n (drop (mid - first) lines)) count
     ∙ ap (λ ls. take (mid - first) lines ++ take (end - mid) ls) (drop-drop (mid - first) first (line_texts text) ∙ ap (λ n. drop n (line_texts text)) there))
 
-rows-added : (pattern text : List ℕ) (first mid end : ℕ) (rows rows' : List (List (ℕ × ℕ))) → first ≤ mid → mid ≤ end → AreRows pattern (lines_between text first mid) rows
+pub rows-added : (pattern text : List ℕ) (first mid end : ℕ) (rows rows' : List (List (ℕ × ℕ))) → first ≤ mid → mid ≤ end → AreRows pattern (lines_between text first mid) rows
     → AddsRows pattern (lines_between text mid end) rows rows' → AreRows pattern (lines_between text first end) rows'
 rows-added pattern text first mid end rows rows' low high are adds =
     subst (λ ls. AreRows pattern ls rows') (lines-joined text first mid end low high)
@@ -166,6 +166,46 @@ bare-shown pattern text rest line count shows inside bare l low high =
     let own : line_text text l ≡ line_text rest k = ap (line_text text) (sym there) ∙ shows k (omega (arith, below, inside)) in
     subst (λ t. IsRow pattern t []) (sym own) (bare k (omega arith) below)
 
+-- so those that end there before such a place have no match
+pub bare-ahead : PlaceLaws → RisesWithIndex (break_ends is_break) → AllHaveFinds → (pattern bytes text rest : List ℕ) (line place count : ℕ) → IsUtf8 bytes → chars bytes ≡ rest
+    → count ≡ line_at (chars bytes) place → HasNoneBetween pattern bytes 0 place → ((k : ℕ) → k < breaks is_break rest → line_text text (line + k) ≡ line_text rest k)
+    → AreBare pattern text line (line + count)
+bare-ahead law rises finds pattern bytes text rest line place count utf8 same is none shows =
+    let own : AreBare pattern rest 0 count = subst (λ t. AreBare pattern t 0 count) same (bare-front law rises finds pattern bytes place count utf8 is none) in
+    let inside = line_inside (chars bytes) place in
+    bare-shown pattern text rest line count shows (omega (arith, inside, is, ap (breaks is_break) same)) own
+
+-- they are not all
+pub ahead-within : (bytes text rest : List ℕ) (line place count : ℕ) → chars bytes ≡ rest → count ≡ line_at (chars bytes) place → line + breaks is_break rest < line_count text
+    → line + count < line_count text
+ahead-within bytes text rest line place count same is few =
+    let inside = line_inside (chars bytes) place in
+    omega (arith, inside, is, few, ap (breaks is_break) same)
+
+-- ---- lines from one on
+
+module _ (law : PlaceLaws) (pattern text : List ℕ) (line start place count : ℕ) (start_is : start ≡ line_start text line) (none : HasNoneBetween pattern (bytes_of text) start place)
+    (count_is : count ≡ line_at text place - line) where
+  -- those that end before a place up to which nothing matches
+  pub bare-from : RisesWithIndex (break_ends is_break) → AllHaveFinds → AreBare pattern text line (line + count)
+  bare-from rises finds l low high =
+      bare-line law rises text finds pattern line place l low (omega (arith, low, high, count_is)) (subst (λ n. HasNoneBetween pattern (bytes_of text) n place) start_is none)
+
+  -- they are not all
+  pub from-within : line < line_count text → line + count < line_count text
+  from-within below =
+      let inside = line_inside text place in
+      omega (arith, inside, count_is, below)
+
+  -- where there are some, the empty text has no match
+  pub from-empty : AllHaveFinds → 0 < count → IsRow pattern [] []
+  from-empty finds some =
+      let inside = line_inside text place in
+      let low : line_start text line ≤ place = (law.lines_agree text line place (omega (arith, some, count_is, inside))).1 (omega (arith, some, count_is)) in
+      let zero_is : start - start ≡ 0 = omega arith in
+      let nothing : between start start (bytes_of text) ≡ [] = dropped (bytes_of text) start start (omega arith) ∙ ap (λ n. take n (drop start (bytes_of text))) zero_is in
+      bare-row finds pattern [] (subst (λ bs. FindsMatch pattern bs 0 None) nothing (none start start (omega arith) (omega (arith, low, start_is))))
+
 -- ---- rows behind rows
 
 -- none more
@@ -234,6 +274,18 @@ most-grows a n old new most fits =
     let made = most.made in
     record { made = omega (arith, made, fits); no_whole = most.no_whole }
 
+-- what is looked through makes no row
+pub looked-most : (a n : ℕ) (old mid new : Ticks) → mid.count ≡ old.count → mid.wholes ≡ old.wholes → MakesAtMost a mid new → a ≤ n → MakesAtMost n old new
+looked-most a n old mid new count whole most fits =
+    let made = most.made in
+    record { made = omega (arith, made, count, fits); no_whole = most.no_whole ∙ whole }
+
+pub looked-many : (a : ℕ) (old mid new : Ticks) → mid.count ≡ old.count → mid.wholes ≡ old.wholes → MakesAsMany a mid new → MakesAsMany a old new
+looked-many a old mid new count whole many =
+    let least = many.least in
+    let made = many.made in
+    record { least = omega (arith, least, count); made = omega (arith, made, count); no_whole = many.no_whole ∙ whole }
+
 pub most-both : (a b n : ℕ) (old mid new : Ticks) → MakesAsMany a old mid → MakesAtMost b mid new → a + b ≤ n → MakesAtMost n old new
 most-both a b n old mid new one other fits =
     let made = one.made in
@@ -262,6 +314,19 @@ turn-of pattern text first at searched passed rows rows' rows'' start old mid ne
   ticks = counted-both (at + searched - first) passed (at + searched + passed - first) start mid new
       (counted-both (at - first) searched (at + searched - first) start old mid ticks one (omega (arith, behind))) other (omega (arith, behind));
 }
+
+-- one line alone
+pub rows-one : (pattern text : List ℕ) (first : ℕ) (rows rows' : List (List (ℕ × ℕ))) → rows ≡ [] → AddsRows pattern (lines_between text first (first + 1)) rows rows'
+    → AreRows pattern (lines_between text first (first + 1)) rows'
+rows-one pattern text first rows rows' none adds =
+    rows-added pattern text first first (first + 1) rows rows' (omega arith) (omega arith) (subst (AreRows pattern (lines_between text first first)) (sym none) (rows-start pattern text first)) adds
+
+-- the lines of a part of a text up to one of its lines are the text's
+pub lines-alike : (text own : List ℕ) (first end : ℕ) → first ≤ end → take end (line_texts own) ≡ take end (line_texts text) → lines_between own first end ≡ lines_between text first end
+lines-alike text own first end low same =
+    let there : first + (end - first) ≡ end = omega (arith, low) in
+    sym (drop-take first (end - first) (line_texts own)) ∙ ap (λ n. drop first (take n (line_texts own))) there ∙ ap (drop first) same
+    ∙ ap (λ n. drop first (take n (line_texts text))) (sym there) ∙ drop-take first (end - first) (line_texts text)
 
 -- ---- the empty text
 

@@ -13,7 +13,7 @@ use Rattle.regex_cursor.specs.PatternLaws.{HasFinds, HasNotedGroups, IsNotedWhol
 use Rattle.rope_search_reports.specs.Text.{IsText, bytes_of}
 use Rattle.rope_search_reports.specs.Pattern.{IsPattern, span_of}
 use Rattle.rope_search_reports.specs.Matches.{AreGroups, both, group_of, groups_of}
-use Rattle.rope_search_reports.specs.Replacement.{Groups, whole, between, text_of_span, group_text, is_digit, expand, replaced, FollowEachOther, IsSpanIn, HasSpansIn, AreMatchesIn}
+use Rattle.rope_search_reports.specs.Replacement.{Groups, whole, alone, between, text_of_span, group_text, is_digit, expand, replaced, FollowEachOther, IsSpanIn, HasSpansIn, AreMatchesIn}
 use Rattle.rope_search_reports.specs.Laws.{HasOneListOfGroups, HasGroups, HasFewGroups, GroupsFollowEachOther, ReplacedIsText}
 use Rattle.rope_search_reports.proofs.MatchLemmas.{AllHaveFinds, AllNote}
 use Rattle.rope_search_reports.proofs.PlaceLemmas.{scalars-joined}
@@ -98,6 +98,24 @@ all-spans tree content ms has notes utf8 are =
 pub matches-in : (tree : Tree) (content : List ℕ) (ms : List FoundMatch) → HasFinds tree → AllNote tree content → IsUtf8 content → TreeMatches tree content ms
     → AreMatchesIn content (map groups_of ms)
 matches-in tree content ms has notes utf8 are = record { follow = follow tree content ms has utf8 are; spans = all-spans tree content ms has notes utf8 are }
+
+-- and so they do by their spans alone
+pub spans-alone : (tree : Tree) (content : List ℕ) (ms : List FoundMatch) → HasFinds tree → IsUtf8 content → TreeMatches tree content ms
+    → AreMatchesIn content (map alone (map span_of ms))
+spans-alone tree content ms has utf8 are =
+    let all = follow tree content ms has utf8 are in
+    record { follow = each 0 ms all; spans = own 0 ms all }
+  where
+    each : (at : ℕ) (ms : List FoundMatch) → FollowEachOther content at (map groups_of ms) → FollowEachOther content at (map alone (map span_of ms))
+    each at [] f = tt
+    each at (m ∷ ms) f = (f.0, f.1, f.2, f.3, each (end_of m) ms f.4)
+
+    own : (at : ℕ) (ms : List FoundMatch) → FollowEachOther content at (map groups_of ms) → All (HasSpansIn content) (map alone (map span_of ms))
+    own at [] f = λ k d low. absurd (omega arith)
+    own at (m ∷ ms) f =
+        All-cons (HasSpansIn content) (alone (span_of m)) (map alone (map span_of ms))
+        (All-cons (λ group. IfSome group (IsSpanIn content)) (Some (span_of m)) [] (record { ordered = f.1; starts = f.2; stops = f.3 }) (λ k d low. absurd (omega arith)))
+        (own (end_of m) ms f.4)
 
 -- ---- what takes their places is a text
 

@@ -19,6 +19,7 @@ pub mod GroupLemmas
 pub mod SpliceLemmas
 pub mod ChangeLemmas
 pub mod WeaveLemmas
+pub mod MadeLemmas
 pub mod TurnLemmas
 pub mod PutLemmas
 pub mod ReplacementLemmas
@@ -28,3 +29,4 @@ pub mod PositionExamples
 pub mod ReportExamples
 mod ReplacementExamples
 mod BoundaryLemmas
+mod TellerLemmas

@@ -4,7 +4,7 @@ use Rattle.std.specs.Option.{option_to_list}
 use Rattle.std.proofs.lemmas.List.{drop-drop, take_all, drop-append-le, take-append-le, take-take, drop-take, length-take-le}
 use Rattle.std.proofs.lemmas.List.Sums.{sum_by-append, sum_by-cons}
 use Rattle.rope_search_reports.specs.declared.patches.Patch.{Patch}
-use Rattle.rope_search_reports.specs.Patches.{patched, AreInTurn, made_by}
+use Rattle.rope_search_reports.specs.Patches.{patched, AreInTurn, growth_by, growth_of}
 
 -- what one step of an iterator moves
 pub record Stepped {A : Type 0} (all ys : List A) (i : ℕ) (r : Option A) : Type 0 where
@@ -186,7 +186,12 @@ last-put at rows (q ∷ ps) p turn =
 pub record IsPutDown (old : List (List (ℕ × ℕ))) (all : List Patch) (rows : List (List (ℕ × ℕ))) (patches : List Patch) (room : ℕ) : Type 0 where
   pub turn : AreInTurn 0 (length rows) patches
   pub whole : patched 0 rows patches ≡ patched 0 old all
-  pub fits : length rows + made_by patches ≤ room
+  pub fits : length rows + growth_by patches ≤ room
+
+-- the last patch takes no more room than its growth
+pub last-fits : (rows : List (List (ℕ × ℕ))) (patches ps : List Patch) (p : Patch) (room : ℕ) → patches ≡ ps ++ p ∷ [] → length rows + growth_by patches ≤ room → length rows + growth_of p ≤ room
+last-fits rows patches ps p room is fits =
+    omega (arith, fits, ap growth_by is, sum_by-append growth_of ps (p ∷ []), sum_by-cons growth_of p [])
 
 pub IsPutDown-step : (old : List (List (ℕ × ℕ))) (all : List Patch) (rows rows' : List (List (ℕ × ℕ))) (patches ps : List Patch) (p : Patch) (room room' : ℕ)
     → patches ≡ ps ++ p ∷ [] → IsPutDown old all rows patches room
@@ -205,10 +210,10 @@ IsPutDown-step old all rows rows' patches ps p room room' is put rows-is more =
       length-drop p.end rows,
       kept,
     ) in
-    let made : made_by patches ≡ made_by ps + length p.made.items =
-    omega (arith, ap made_by is, sum_by-append (λ (q : Patch). length q.made.items) ps (p ∷ []), sum_by-cons (λ (q : Patch). length q.made.items) p []) in
+    let grown : growth_by patches ≡ growth_by ps + growth_of p =
+    omega (arith, ap growth_by is, sum_by-append growth_of ps (p ∷ []), sum_by-cons growth_of p []) in
     record {
       turn = first-turn 0 (length rows) ps p (length rows') turn (omega (arith, long));
       whole = ap (λ xs. patched 0 xs ps) joined ∙ last-put 0 rows ps p turn ∙ ap (patched 0 rows) (sym is) ∙ put.whole;
-      fits = omega (arith, put.fits, long, made, last.ordered, last.within, more);
+      fits = omega (arith, put.fits, long, grown, last.ordered, last.within, more);
     }

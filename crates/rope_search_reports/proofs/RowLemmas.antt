@@ -7,9 +7,9 @@ use Rattle.regex_cursor.specs.Patterns.{Tree, SpellsTree, FoundMatch, answer_slo
 use Rattle.regex_cursor.specs.PatternLaws.{HasFinds}
 use Rattle.rope_search_reports.specs.Text.{bytes_of}
 use Rattle.rope_search_reports.specs.Pattern.{span_of}
-use Rattle.rope_search_reports.specs.Matches.{AreGroups, both, group_of, groups_of}
+use Rattle.rope_search_reports.specs.Matches.{AreGroups, IsMatches, both, group_of, groups_of}
 use Rattle.rope_search_reports.specs.Report.{IsRow, column, columns}
-use Rattle.rope_search_reports.specs.Finders.{AreGroupsOf, ComesAfter, IsRowOf, IsTold, group_told, start_behind}
+use Rattle.rope_search_reports.specs.Finders.{AreGroupsOf, AreSpansOf, ComesAfter, IsRowOf, IsTold, group_told, start_behind}
 use Rattle.rope_search_reports.proofs.MatchLemmas.{AllNote, Searched, Searched-more, Searched-end, comes-from, comes-further, lies-behind, room_behind, stands}
 use Rattle.rope_search_reports.proofs.NextLemmas.{ToldMatch, none-told, some-told}
 
@@ -129,7 +129,23 @@ last-groups tree content last groups has none sofar = record {
   shown = sofar.shown;
 }
 
+pub last-spans : (tree : Tree) (content : List ℕ) (last : Option ℕ) (spans : List (ℕ × ℕ)) → HasFinds tree → ComesAfter tree content last None
+    → Searched span_of tree content last spans → AreSpansOf tree content spans
+last-spans tree content last spans has none sofar = record {
+  matches = sofar.matches;
+  are = Searched-end span_of tree content last spans has sofar none;
+  shown = sofar.shown;
+}
+
 -- those of a pattern's tree are the pattern's
+pub spans-are : (pattern content : List ℕ) (tree : Tree) (spans : List (ℕ × ℕ)) → SpellsTree pattern tree → AreSpansOf tree content spans
+    → IsMatches pattern content spans
+spans-are pattern content tree spans spells is = record {
+  matches = is.matches;
+  are = record { tree = tree; spells = spells; are = is.are };
+  spans_are = is.shown;
+}
+
 pub groups-are : (pattern content : List ℕ) (tree : Tree) (groups : List (List (Option (ℕ × ℕ)))) → SpellsTree pattern tree → AreGroupsOf tree content groups
     → AreGroups pattern content groups
 groups-are pattern content tree groups spells is = record {

@@ -9,7 +9,7 @@ use Rattle.rope_search_reports.specs.Text.{bytes_of, line_count}
 use Rattle.rope_search_reports.specs.Changes.{AreChanges}
 use Rattle.rope_search_reports.specs.Replacement.{between}
 use Rattle.rope_search_reports.specs.Turned.{Lead, turned_from, turned, lines_put, ChangesLeadBack, ChangesTurnTwice, ChangesPutLines}
-use Rattle.rope_search_reports.specs.declared.changes.Change.{Change}
+use Rattle.rope_search_changes.specs.declared.Change.{Change}
 use Rattle.rope_search_reports.proofs.LineLemmas.{byte_len-append}
 use Rattle.rope_search_reports.proofs.PlaceLemmas.{scalars-parts}
 use Rattle.rope_search_reports.proofs.WeaveLemmas.{change_at, drop-cons}

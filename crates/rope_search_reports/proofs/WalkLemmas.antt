@@ -2,11 +2,11 @@
 use Rattle.std.proofs.Common.{◌≡◌, ℕ, zero, suc, ◌+◌, ◌-◌, ◌^◌, ◌<◌, ◌≤◌, ◌==◌, ◌&&◌, not, Bool, true, false, ◌⊎◌, inl, inr, List, [], ◌∷◌, ◌++◌, length, take, drop, get_or, refl, sym, ap, subst, ◌∙◌, append-nil, append_assoc, arith, chars, IsUtf8, length-drop}
 use Rattle.std.specs.List.{slice_range}
 use Rattle.std.specs.Str.{all_scalars, IsCharBoundary}
-use Rattle.std.proofs.Math.Seq.{drop-append_seam}
+use Rattle.std.proofs.Math.Seq.{drop-append_seam, take-append_seam}
 use Rattle.std.proofs.lemmas.Bool.{cases_lt}
-use Rattle.std.proofs.lemmas.List.{drop-drop, get_or-take, get_or-drop}
+use Rattle.std.proofs.lemmas.List.{drop-drop, get_or-take, get_or-drop, get_or_past}
 use Rattle.std.proofs.lemmas.List.Folds.{concat-append}
-use Rattle.std.proofs.lemmas.Str.{IsCharBoundary-from_drop, IsUtf8-drop, IsUtf8-nil, chars-nil, chars-encodes, encodes-append, encodes-chars, scalars-chars}
+use Rattle.std.proofs.lemmas.Str.{IsCharBoundary-from_drop, IsUtf8-drop, IsUtf8-nil, chars-nil, chars-encodes, chars_from_encodes, encodes-append, encodes-chars, scalars-chars}
 use Rattle.str_indices.specs.Text.{breaks, break_ends, byte_len, end_place, cuts_cr_lf, ends_with_cr, starts_with_lf, NoCrLfBetween}
 use Rattle.str_indices.specs.FirstBreak.{IsBreak, IsFirstBreak}
 use Rattle.ropey.specs.Chunks.{is_break, text_of, piece_of, IsCutting, ShowsChunk}
@@ -14,13 +14,13 @@ use Rattle.rope_search_reports.specs.Text.{bytes_of, line_count}
 use Rattle.rope_search_reports.specs.Report.{line_texts}
 use Rattle.rope_search_reports.specs.Position.{line_start, line_text}
 use Rattle.rope_search_reports.specs.Drafts.{IsRestOf, IsWalk, StartsLine, WalkState}
-use Rattle.rope_search_reports.proofs.LineLemmas.{IsCutOff, byte_len-append, cut-ends, cut-lines, ends-joined_cr, ends_at, first_line, line-last, lines-counted, lines-cut, start-is, start-later, start_at}
+use Rattle.rope_search_reports.proofs.LineLemmas.{IsCutOff, byte_len-append, cut-ends, cut-lines, ends-joined_cr, ends_at, first_line, line-last, line_texts-nil, lines-counted, lines-cut, start-is, start-later, start_at}
 use Rattle.rope_search_reports.proofs.PartLemmas.{past-last}
 use Rattle.rope_search_reports.proofs.PlaceLemmas.{cut_off, front_within, scalars-parts}
 
 -- ---- breaks before what is cut off behind them
 
-no-lf : (b : Bool) → (b && false) ≡ false
+pub no-lf : (b : Bool) → (b && false) ≡ false
 no-lf true = refl
 no-lf false = refl
 
@@ -37,8 +37,20 @@ break-further front (c ∷ []) (d ∷ ds) after is whole = is
 break-further front (c ∷ d ∷ []) rest after is whole = is
 break-further front (c ∷ d ∷ e ∷ es) rest after is whole = absurd is
 
+fewer : (in_set cr lf : Bool) → (in_set && not (cr && lf)) ≡ true → (in_set && not (cr && false)) ≡ true
+fewer false cr lf is = is
+fewer true cr lf is = ap not (no-lf cr)
+
+-- nor is it less of a break where less follows
+break-nearer : (one before behind : List ℕ) → IsBreak is_break one (before ++ behind) → IsBreak is_break one before
+break-nearer [] before behind is = absurd is
+break-nearer (c ∷ []) [] behind is = fewer (is_break c) (c == 13) (starts_with_lf behind) is
+break-nearer (c ∷ []) (d ∷ ds) behind is = is
+break-nearer (c ∷ d ∷ []) before behind is = is
+break-nearer (c ∷ d ∷ e ∷ es) before behind is = absurd is
+
 -- no CR LF is cut behind the end of a text
-uncut-behind : (front rest after : List ℕ) → NoCrLfBetween (front ++ rest) after → NoCrLfBetween rest after
+pub uncut-behind : (front rest after : List ℕ) → NoCrLfBetween (front ++ rest) after → NoCrLfBetween rest after
 uncut-behind front [] after whole = refl
 uncut-behind front (c ∷ cs) after whole = ap (λ b. b && starts_with_lf after) (sym (ends-joined_cr front c cs)) ∙ whole
 
@@ -52,6 +64,8 @@ pub record LineStart (at last : ℕ) (text after : List ℕ) (k : ℕ) : Type 0 
   pub starts : start_at at (ends_at at text) k last ≡ at + byte_len before
   pub here : take k (line_texts (text ++ after)) ≡ take k (line_texts text)
   pub lines : drop k (line_texts (text ++ after)) ≡ line_texts (behind ++ after)
+  pub front : take k (line_texts text) ≡ take k (line_texts before)
+  pub few : length (line_texts before) ≡ k + 1
 
 line-later : (at last : ℕ) (text after : List ℕ) (k : ℕ) → (cut : IsCutOff text) → NoCrLfBetween text after
     → LineStart (at + byte_len cut.line + byte_len cut.one) last cut.rest after k → LineStart at last text after (suc k)
@@ -68,6 +82,10 @@ line-later at last text after k cut whole later =
     let bytes : byte_len (front ++ later.before) ≡ byte_len cut.line + byte_len cut.one + byte_len later.before =
     omega (arith, byte_len-append front later.before, byte_len-append cut.line cut.one) in
     let starts = later.starts in
+    let few = later.few in
+    let nearer : IsBreak is_break cut.one later.before = break-nearer cut.one later.before later.behind (subst (IsBreak is_break cut.one) later.parts cut.is) in
+    let own : line_texts (front ++ later.before) ≡ cut.line ∷ line_texts later.before =
+    ap line_texts (append_assoc cut.line cut.one later.before) ∙ lines-cut cut.line cut.one later.before cut.plain nearer in
     record {
       before = front ++ later.before;
       behind = later.behind;
@@ -75,10 +93,13 @@ line-later at last text after k cut whole later =
       starts = omega (arith, shift, starts, bytes);
       here = ap (take (suc k)) all ∙ ap (λ ls. cut.line ∷ ls) later.here ∙ sym (ap (take (suc k)) (cut-lines text cut));
       lines = ap (drop (suc k)) all ∙ later.lines;
+      front = ap (take (suc k)) (cut-lines text cut) ∙ ap (λ ls. cut.line ∷ ls) later.front ∙ sym (ap (take (suc k)) own);
+      few = omega (arith, ap length own, few);
     }
 
 pub line-starts : (k at last : ℕ) (text after : List ℕ) → k < length (line_texts text) → NoCrLfBetween text after → LineStart at last text after k
-line-starts zero at last text after inside whole = record { before = []; behind = text; parts = refl; starts = omega arith; here = refl; lines = refl }
+line-starts zero at last text after inside whole =
+    record { before = []; behind = text; parts = refl; starts = omega arith; here = refl; lines = refl; front = refl; few = omega (arith, ap length line_texts-nil) }
 line-starts (suc k) at last text after inside whole = elim (first_line text) [
   | inl none ↦ absurd (omega (arith, inside, ap length (line-last text none)))
   | inr cut ↦
@@ -94,6 +115,8 @@ pub record Behind (text : List ℕ) (line byte : ℕ) : Type 0 where
   pub parts : text ≡ before ++ behind
   pub place : byte ≡ byte_len before
   pub lines : drop line (line_texts text) ≡ line_texts behind
+  pub front : take line (line_texts text) ≡ take line (line_texts before)
+  pub few : length (line_texts before) ≡ line + 1
 
 pub behind-line : (text : List ℕ) (line : ℕ) → line < line_count text → Behind text line (line_start text line)
 behind-line text line inside =
@@ -106,6 +129,8 @@ behind-line text line inside =
       parts = h.parts;
       place = omega (arith, starts, start-is (ends_at 0 text) line last);
       lines = ap (λ t. drop line (line_texts t)) (sym (append-nil text)) ∙ h.lines ∙ ap line_texts (append-nil h.behind);
+      front = h.front;
+      few = h.few;
     }
 
 -- it starts between two characters
@@ -117,9 +142,47 @@ starts-between text before behind place scalars parts is =
     IsCharBoundary-from_drop (bytes_of text) place (omega (arith, is, ap byte_len parts, byte_len-append before behind))
     (subst IsUtf8 (sym left) (behind, (own, refl)))
 
+-- ---- a text up to where a line starts
+
+-- the part of a text up to there has the lines before that one, and an empty one
+pub record UpTo (text own : List ℕ) (line : ℕ) : Type 0 where
+  pub lines : take line (line_texts own) ≡ take line (line_texts text)
+  pub within : line ≤ line_count own
+  pub few : line_count own ≤ line + 1
+
+pub up-to : (text own : List ℕ) (line stop end : ℕ) → all_scalars text ≡ true → line < line_count text → stop ≡ line_start text line → stop ≡ end
+    → bytes_of own ≡ take end (bytes_of text) → UpTo text own line
+up-to text own line stop end scalars inside stop_is end_is bytes =
+    let h = behind-line text line inside in
+    let place = h.place in
+    let there : end ≡ byte_len h.before = omega (arith, stop_is, end_is, place) in
+    let front : take end (bytes_of text) ≡ bytes_of h.before =
+    ap (λ n. take n (bytes_of text)) there ∙ ap (take (byte_len h.before)) (ap bytes_of h.parts ∙ encodes-append h.before h.behind) ∙ take-append_seam (bytes_of h.before) (bytes_of h.behind) in
+    let before_scalars = (scalars-parts h.before h.behind (sym (ap all_scalars h.parts) ∙ scalars)).0 in
+    let is : own ≡ h.before = chars_from_encodes own (bytes_of h.before) (h.before, (before_scalars, refl)) (bytes ∙ front) ∙ chars-encodes h.before before_scalars in
+    let few = h.few in
+    record {
+      lines = ap (λ t. take line (line_texts t)) is ∙ sym h.front;
+      within = omega (arith, ap line_count is, few, lines-counted h.before);
+      few = omega (arith, ap line_count is, few, lines-counted h.before);
+    }
+
+pub up-to-all : (text own : List ℕ) (line : ℕ) → line ≡ line_count text → own ≡ text → UpTo text own line
+up-to-all text own line all is = record {
+  lines = ap (λ t. take line (line_texts t)) is;
+  within = omega (arith, all, ap line_count is);
+  few = omega (arith, all, ap line_count is);
+}
+
+-- it starts between two characters
+pub line-between : (text : List ℕ) (line place : ℕ) → all_scalars text ≡ true → line < line_count text → place ≡ line_start text line → IsCharBoundary (bytes_of text) place
+line-between text line place scalars inside is =
+    let h = behind-line text line inside in
+    starts-between text h.before h.behind place scalars h.parts (is ∙ h.place)
+
 -- ---- what a chunk shows from a place on
 
-cutting-tail : (p : List ℕ) (ps : List (List ℕ)) → IsCutting (p ∷ ps) → IsCutting ps
+pub cutting-tail : (p : List ℕ) (ps : List (List ℕ)) → IsCutting (p ∷ ps) → IsCutting ps
 cutting-tail p [] cut = tt
 cutting-tail p (q ∷ qs) cut = cut.2
 
@@ -129,7 +192,7 @@ starts-joined_lf [] (r ∷ rs) cut = let some = cut.0.not_empty in absurd (omega
 starts-joined_lf (c ∷ cs) qs cut = refl
 
 -- no CR LF is cut behind a chunk
-chunk-whole : (bs : List (List ℕ)) (c : ℕ) (cs : List ℕ) (ps : List (List ℕ)) → IsCutting (bs ++ ((c ∷ cs) ∷ ps)) → NoCrLfBetween (c ∷ cs) (text_of ps)
+pub chunk-whole : (bs : List (List ℕ)) (c : ℕ) (cs : List ℕ) (ps : List (List ℕ)) → IsCutting (bs ++ ((c ∷ cs) ∷ ps)) → NoCrLfBetween (c ∷ cs) (text_of ps)
 chunk-whole [] c cs [] cut = no-lf (ends_with_cr (c ∷ cs))
 chunk-whole [] c cs (q ∷ qs) cut = ap (λ b. ends_with_cr (c ∷ cs) && b) (starts-joined_lf q qs cut.2) ∙ cut.1
 chunk-whole (b ∷ bs) c cs ps cut = chunk-whole bs c cs ps (cutting-tail b (bs ++ ((c ∷ cs) ∷ ps)) cut)
@@ -252,6 +315,21 @@ none-left : (rest : List ℕ) (count : ℕ) → rest ≡ [] → count ≤ breaks
 none-left rest count none inside = omega (arith, inside, ap (λ bs. breaks is_break (chars bs)) none, no-breaks)
 
 -- a walk that goes from one line to another inside what is left
+-- the lines that end in what is left are not all
+pub rest-few : (text : List ℕ) (line byte : ℕ) (rest : List ℕ) → IsWalk text line byte rest → line < line_count text → line + breaks is_break (chars rest) < line_count text
+rest-few text line byte rest w below =
+    let count = breaks is_break (chars rest) in
+    let start = (skipped text line byte rest count (end_place (break_ends is_break (chars rest)) count (length rest)) w.utf8 (w.starts below) (omega arith) refl).2 in
+    not-all text start.behind (line + count) start.lines
+
+-- a break that ends before the end of what is left is one of its own
+pub inside-rest : (rest : List ℕ) (count place : ℕ) → place ≡ end_place (break_ends is_break (chars rest)) count (length rest) → place < length rest → count ≤ breaks is_break (chars rest)
+inside-rest rest zero place is low = omega arith
+inside-rest rest (suc k) place is low = elim (cases_lt k (breaks is_break (chars rest))) [
+  | inl below ↦ omega (arith, below)
+  | inr past ↦ absurd (omega (arith, low, is, get_or_past (break_ends is_break (chars rest)) k (length rest) (omega (arith, past))))
+]
+
 pub record SkipsTo (text : List ℕ) (line byte : ℕ) (rest : List ℕ) (place : ℕ) : Type 0 where
   pub boundary : IsCharBoundary rest place
   pub walk : IsWalk text line byte (drop place rest)
@@ -415,7 +493,7 @@ shows-lines text line byte rest w k inside =
 -- ---- what is shown of a rope's chunk from a place on
 
 -- the place lies in the chunk, or at its end
-reaches : (pieces : List (List ℕ)) (place start char line : ℕ) (chunk : List ℕ) → (s : ShowsChunk pieces byte_len place chunk start char line) → place ≤ byte_len (text_of pieces)
+pub reaches : (pieces : List (List ℕ)) (place start char line : ℕ) (chunk : List ℕ) → (s : ShowsChunk pieces byte_len place chunk start char line) → place ≤ byte_len (text_of pieces)
     → (start ≤ place) × (place ≤ start + byte_len chunk)
 reaches pieces place start char line chunk s within =
     let low = s.not_past in
@@ -459,3 +537,23 @@ shown-next fields shown old is text line below =
 -- a range from the start
 pub from-start : (bytes : List ℕ) (end : ℕ) → slice_range bytes 0 end ≡ take end bytes
 from-start bytes end = let same : end - 0 ≡ end = omega arith in ap (λ n. take n bytes) same
+
+-- a walk that has shown nothing yet
+pub walk-start : (text : List ℕ) → all_scalars text ≡ true → line_count text < 2 ^ 64 → byte_len text < 2 ^ 63 → IsWalk text 0 0 []
+walk-start text scalars fits bytes_fit = record {
+  text_is = scalars;
+  fits = fits;
+  bytes_fit = bytes_fit;
+  near = omega arith;
+  utf8 = IsUtf8-nil;
+  within = omega arith;
+  starts = λ low. record {
+    before = [];
+    behind = text;
+    parts = refl;
+    place = refl;
+    lines = refl;
+    shown = record { after = text; parts = ap (λ t. t ++ text) (sym chars-nil); whole = subst (λ t. NoCrLfBetween t text) (sym chars-nil) refl };
+  };
+  nothing = λ e. refl;
+}

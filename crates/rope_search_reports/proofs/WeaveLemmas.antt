@@ -12,9 +12,10 @@ use Rattle.rope_search_reports.specs.Position.{line_at}
 use Rattle.rope_search_reports.specs.Report.{AreRows, IsReport}
 use Rattle.rope_search_reports.specs.Changes.{IsInStep, IsFurther}
 use Rattle.rope_search_reports.specs.Changes.{AreChanges}
-use Rattle.rope_search_reports.specs.declared.changes.Change.{Change}
+use Rattle.rope_search_changes.specs.declared.Change.{Change}
 use Rattle.rope_search_reports.specs.declared.patches.Patch.{Patch}
 use Rattle.rope_search_reports.specs.Patches.{patched, AreInTurn}
+use Rattle.rope_search_reports.specs.Drafts.{IsAdded}
 use Rattle.rope_search_reports.proofs.LineLemmas.{byte_len-append}
 use Rattle.rope_search_reports.proofs.ReportLaws.{AreRows-join}
 use Rattle.rope_search_reports.proofs.SpliceLemmas.{AreRows-take, AreRows-drop}
@@ -217,6 +218,49 @@ Woven-step pattern old new c left n kept done patches patches' p w next first-is
     })
 
 -- no change is left
+-- a patch that goes into the last one changes nothing
+turn-joined : (at len : ℕ) (others : List Patch) (last joined p : Patch) → joined.first ≡ last.first → joined.end ≡ p.end
+    → AreInTurn at len ((others ++ last ∷ []) ++ p ∷ []) → AreInTurn at len (others ++ joined ∷ [])
+turn-joined at len [] last joined p first ends turn =
+    (omega (arith, turn.0, first), omega (arith, turn.1, turn.2.0, turn.2.1, first, ends), omega (arith, turn.2.2, ends))
+turn-joined at len (q ∷ qs) last joined p first ends turn = (turn.0, turn.1, turn-joined q.end len qs last joined p first ends turn.2)
+
+rows-joined : (at : ℕ) (all : List (List (ℕ × ℕ))) (others : List Patch) (last joined p : Patch) → last.end ≡ p.first → joined.first ≡ last.first
+    → joined.made.items ≡ last.made.items ++ p.made.items → up_to at all ((others ++ last ∷ []) ++ p ∷ []) ≡ up_to at all (others ++ joined ∷ [])
+rows-joined at all [] last joined p touches first rows =
+    let none : p.first - last.end ≡ 0 = omega (arith, touches) in
+    let kept = take (last.first - at) (drop at all) in
+    ap (λ n. kept ++ (last.made.items ++ (take n (drop last.end all) ++ (p.made.items ++ [])))) none
+    ∙ ap (λ rs. kept ++ rs) (sym (append_assoc last.made.items p.made.items []) ∙ ap (λ rs. rs ++ []) (sym rows))
+    ∙ ap (λ n. take (n - at) (drop at all) ++ (joined.made.items ++ [])) (sym first)
+rows-joined at all (q ∷ qs) last joined p touches first rows =
+    ap (λ rs. take (q.first - at) (drop at all) ++ (q.made.items ++ rs)) (rows-joined q.end all qs last joined p touches first rows)
+
+pub Woven-added : (pattern old new : List ℕ) (changes : List Change) (n kept done : ℕ) (patches patches' : List Patch) (p : Patch) → IsAdded patches p patches'
+    → Woven pattern old new changes n kept done (patches ++ p ∷ []) → Woven pattern old new changes n kept done patches'
+Woven-added pattern old new changes n kept done patches patches' p (inl is) w = subst (Woven pattern old new changes n kept done) (sym is) w
+Woven-added pattern old new changes n kept done patches patches' p (inr g) w =
+    let both : patches ++ p ∷ [] ≡ (g.others ++ g.last ∷ []) ++ p ∷ [] = ap (λ ps. ps ++ p ∷ []) g.old_is in
+    let one = g.others ++ g.joined ∷ [] in
+    let end_is : end_of 0 (patches ++ p ∷ []) ≡ end_of 0 one = end_of-more 0 patches p ∙ sym g.ends ∙ sym (end_of-more 0 g.others g.joined) in
+    subst (Woven pattern old new changes n kept done) (sym g.new_is)
+    (record {
+      before = w.before;
+      before' = w.before';
+      after = w.after;
+      after' = w.after';
+      old_is = w.old_is;
+      new_is = w.new_is;
+      step = w.step;
+      left = w.left;
+      turn = turn-joined 0 (end_of 0 one) g.others g.last g.joined p g.first g.ends
+          (subst (λ ps. AreInTurn 0 (end_of 0 one) ps) both (subst (λ k. AreInTurn 0 k (patches ++ p ∷ [])) end_is w.turn));
+      ends = sym end_is ∙ w.ends;
+      within = w.within;
+      rows = λ all are. subst (AreRows pattern (take done (line_texts new)))
+          (ap (up_to 0 all) both ∙ rows-joined 0 all g.others g.last g.joined p g.touches g.first g.rows) (w.rows all are);
+    })
+
 pub Woven-turn : (pattern old new : List ℕ) (changes : List Change) (n kept done : ℕ) (patches : List Patch) → Woven pattern old new changes n kept done patches
     → AreInTurn 0 (length (line_texts old)) patches
 Woven-turn pattern old new changes n kept done patches w = turn-to 0 (end_of 0 patches) (length (line_texts old)) patches (omega (arith, w.ends, w.within)) w.turn

@@ -1,5 +1,5 @@
 -- Words of the code that makes a report line by line, for its own contracts.
-use Rattle.std.specs.Prelude.{◌≡◌, ◌⊎◌, ◌+◌, ◌-◌, ◌^◌, ◌<◌, ◌≤◌, List, ℕ, [], ◌++◌, None, take, drop}
+use Rattle.std.specs.Prelude.{◌≡◌, ◌⊎◌, ◌+◌, ◌-◌, ◌^◌, ◌<◌, ◌≤◌, List, ℕ, [], ◌∷◌, ◌++◌, None, take, drop}
 use Rattle.std.specs.Str.{NonePass, IsUtf8, chars}
 use Rattle.ropey.specs.Chunks.{is_break}
 use Rattle.ropey_walk.specs.Slices.{slice_text}
@@ -8,8 +8,9 @@ use Rattle.str_indices.specs.Text.{breaks, byte_len, NoCrLfBetween}
 use Rattle.regex_cursor.specs.Patterns.{between}
 use Rattle.rope_search_reports.specs.Pattern.{FindsMatch}
 use Rattle.rope_search_reports.specs.Text.{IsText, line_count}
-use Rattle.rope_search_reports.specs.Position.{line_text}
+use Rattle.rope_search_reports.specs.Position.{line_at, line_text}
 use Rattle.rope_search_reports.specs.Report.{line_texts, IsRow, AreRows}
+use Rattle.rope_search_reports.specs.declared.patches.Patch.{Patch}
 use Rattle.rope_search_reports.specs.declared.line.Line.{Line}
 use Rattle.rope_search_reports.specs.declared.line.Line.TheVariants.{Whole, Parted}
 
@@ -93,3 +94,41 @@ pub record IsWalk (text : List ℕ) (line byte : ℕ) (rest : List ℕ) : Type 0
 abbrev pub ShowsLines : WalkState → Type 0
 ShowsLines walk = (k : ℕ) → k < breaks is_break walk.rest
     → line_text walk.text (walk.line + k) ≡ line_text walk.rest k
+
+-- ---- lines of places
+
+-- what is seen of what tells them: the text, and where what is left of a chunk starts and ends
+pub record TellerState : Type 0 where
+  pub text : List ℕ
+  pub start : ℕ
+  pub end : ℕ
+
+-- what is left of a chunk from a place on, which is in this line; no CR LF is cut behind it
+pub record IsTeller (text rest : List ℕ) (start line : ℕ) : Type 0 where
+  pub before : List ℕ
+  pub after : List ℕ
+  pub parts : text ≡ before ++ (chars rest ++ after)
+  pub utf8 : IsUtf8 rest
+  pub start_is : start ≡ byte_len before
+  pub line_is : line ≡ line_at text start
+  pub whole : NoCrLfBetween (chars rest) after
+  pub fits : line_count text < 2 ^ 64
+  pub bytes_fit : byte_len text < 2 ^ 63
+
+-- ---- a patch behind others
+
+-- it begins where the last of them ends, and goes into that
+pub record GoesInto (old : List Patch) (patch : Patch) (new : List Patch) : Type 0 where
+  pub others : List Patch
+  pub last : Patch
+  pub joined : Patch
+  pub old_is : old ≡ others ++ last ∷ []
+  pub touches : last.end ≡ patch.first
+  pub new_is : new ≡ others ++ joined ∷ []
+  pub first : joined.first ≡ last.first
+  pub ends : joined.end ≡ patch.end
+  pub rows : joined.made.items ≡ last.made.items ++ patch.made.items
+
+-- so it does, or it stands behind them
+abbrev pub IsAdded : List Patch → Patch → List Patch → Type 0
+IsAdded old patch new = (new ≡ old ++ patch ∷ []) ⊎ GoesInto old patch new

@@ -7,12 +7,20 @@ use Rattle.rope_search_reports.specs.Text.{bytes_of}
 use Rattle.rope_search_reports.specs.Matches.{both, groups_of}
 use Rattle.rope_search_reports.specs.Pattern.{span_of}
 use Rattle.rope_search_reports.specs.Report.{columns}
+use Rattle.rope_search_reports.specs.declared.rows.matches.Found.{Found}
+use Rattle.rope_search_reports.specs.declared.rows.matches.Found.TheVariants.{Nothing, One, Many}
 use Rattle.rope_search_reports.specs.declared.pattern_text.Text.{Text, Start, Longer'}
 
 -- the characters of a text that takes no bytes
 abbrev pub characters_of : Text → List ℕ
 characters_of Start = []
 characters_of (Longer' shape before c) = characters_of before ++ c ∷ []
+
+-- the matches of a row, as they are kept
+abbrev pub matches_in : Found → List (ℕ × ℕ)
+matches_in Nothing = []
+matches_in (One one) = one.value ∷ []
+matches_in (Many list) = list.value.items
 
 -- a regex that was built of this pattern, a cache made for it, and whether it is known that it
 -- doesn't match the empty text
@@ -52,6 +60,12 @@ pub record AreGroupsOf (tree : Tree) (content : List ℕ) (groups : List (List (
   pub matches : List FoundMatch
   pub are : TreeMatches tree content matches
   pub shown : groups ≡ map groups_of matches
+
+-- and their spans alone
+pub record AreSpansOf (tree : Tree) (content : List ℕ) (spans : List (ℕ × ℕ)) : Type 0 where
+  pub matches : List FoundMatch
+  pub are : TreeMatches tree content matches
+  pub shown : spans ≡ map span_of matches
 
 -- the row of a line by this tree: its matches in the line's text as the whole content
 pub record IsRowOf (tree : Tree) (line : List ℕ) (row : List (ℕ × ℕ)) : Type 0 where

@@ -14,6 +14,14 @@ AreInTurn at len [] = at ≤ len
 AreInTurn at len (patch ∷ patches) =
     (at ≤ patch.first) × (patch.first ≤ patch.end) × AreInTurn patch.end len patches
 
+-- how many rows a patch brings more than it takes
+abbrev pub growth_of : Patch → ℕ
+growth_of patch = length patch.made.items - (patch.end - patch.first)
+
+-- how many all do
+abbrev pub growth_by : List Patch → ℕ
+growth_by patches = sum_by growth_of patches
+
 -- how many rows they bring
 abbrev pub made_by : List Patch → ℕ
 made_by patches = sum_by (λ (patch : Patch). length patch.made.items) patches

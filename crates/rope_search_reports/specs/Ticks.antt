@@ -1,10 +1,12 @@
 -- What is counted of searches.
 use Rattle.std.specs.Prelude.{◌≡◌, ◌+◌, ◌-◌, ◌^◌, ◌≤◌, ℕ, min}
 
--- how many rows were made, and how many whole texts were searched
+-- how many rows were made, how many whole texts were searched, and in how many lines it was looked
+-- for a place at which a match may begin
 pub record Ticks : Type 0 where
   pub count : ℕ
   pub wholes : ℕ
+  pub looked : ℕ
 
 -- at most so many rows were made, and no whole text was searched
 pub record MakesAtMost (rows : ℕ) (old new : Ticks) : Type 0 where
@@ -21,3 +23,7 @@ pub record MakesAsMany (rows : ℕ) (old new : Ticks) : Type 0 where
 pub record SearchesOneWhole (old new : Ticks) : Type 0 where
   pub no_row : new.count ≡ old.count
   pub searched : new.wholes ≤ old.wholes + 1
+
+-- at most so many lines were looked through
+abbrev pub LooksAtMost : ℕ → Ticks → Ticks → Type 0
+LooksAtMost lines old new = new.looked ≤ old.looked + lines

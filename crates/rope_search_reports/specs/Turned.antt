@@ -3,7 +3,7 @@ use Rattle.std.specs.Prelude.{◌≡◌, ℕ, ◌+◌, ◌-◌, List, [], ◌∷
 use Rattle.rope_search_reports.specs.Text.{IsText, bytes_of, line_count}
 use Rattle.rope_search_reports.specs.Changes.{AreChanges}
 use Rattle.rope_search_reports.specs.Replacement.{between}
-use Rattle.rope_search_reports.specs.declared.changes.Change.{Change}
+use Rattle.rope_search_changes.specs.declared.Change.{Change}
 use Rattle.rope_search_reports.specs.declared.changes.Changes.{Changes}
 use Rattle.rope_search_reports.specs.declared.changes.Changes.TheVariants.{One, Many}
 

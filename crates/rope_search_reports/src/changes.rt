@@ -1,32 +1,23 @@
 //! Changes of a text, the way back from them, and the rows that they make anew.
-ghost use Rattle.std.specs.Prelude.{◌≡◌, ℕ, ◌+◌, ◌-◌, ◌^◌, ◌<◌, ◌≤◌, List, [], take, drop, IfOk, IfErr};
+ghost use Rattle.std.specs.Prelude.{◌≡◌, ℕ, ◌+◌, ◌-◌, ◌^◌, ◌<◌, ◌≤◌, List, [], take, drop, min, IfOk, IfErr};
 ghost use Rattle.rope_search_reports.specs.Report.{IsReport};
 ghost use Rattle.rope_search_reports.specs.Text.{line_count};
 ghost use Rattle.ropey.specs.Chunks.{text_of};
 ghost use Rattle.rope_search_reports.specs.Changes.{AreChanges};
-ghost use Rattle.rope_search_reports.specs.Patches.{patched, AreInTurn};
-ghost use Rattle.rope_search_reports.specs.Ticks.{MakesAtMost};
+ghost use Rattle.rope_search_reports.specs.Patches.{patched, AreInTurn, made_by};
+ghost use Rattle.rope_search_reports.specs.Ticks.{LooksAtMost, MakesAtMost};
 ghost use Rattle.rope_search_reports.specs.Turned.{Lead, listed, turned, turned_from};
 
-use crate::patches::Patch;
-use crate::reports::rows_of_lines;
+use crate::line_teller::LineTeller;
+use crate::patches::{Patch, add_patch};
+use crate::reports::rows_ahead;
 use crate::rows::{Finder, Lines};
+use crate::walk::Walk;
+use rope_search_changes::Change;
 use rope_search_io::Fault;
 use ropey::Rope;
 use std::alloc::Global;
 use std::slice;
-
-/// A change of a text, in bytes: where the part ends that it takes out of the old text, and where
-/// the part starts and ends that it puts into the new one.
-#[derive(Clone, Copy, Debug)]
-pub struct Change {
-    /// Where the old part ends, in the old text.
-    pub old_end: usize,
-    /// Where the new part starts, in the new text.
-    pub new_start: usize,
-    /// Where the new part ends, in the new text.
-    pub new_end: usize,
-}
 
 /// Changes of a text, one after the other. One alone takes no memory beside its own.
 #[derive(Debug, Drop)]
@@ -37,19 +28,17 @@ pub enum Changes {
     Many(Vec<Change>),
 }
 
-impl Change {
-    /// The change that takes out of the new text what this one puts in, and puts back what it takes
-    /// out. The one before it ends at these places of the old text and the new one.
-    fn turned_from(self, at_old: usize, at_new: usize) -> Change
-        requires behind { at_new ≤ self.new_start }
-        requires ordered { at_old + (self.new_start - at_new) ≤ self.old_end }
-        ensures { result ≡ turned_from at_old at_new self }
-    {
-        Change {
-            old_end: self.new_end,
-            new_start: at_old + (self.new_start - at_new),
-            new_end: self.old_end,
-        }
+/// The change that takes out of the new text what this one puts in, and puts back what it takes
+/// out. The one before it ends at these places of the old text and the new one.
+fn turned_from(change: Change, at_old: usize, at_new: usize) -> Change
+    requires behind { at_new ≤ change.new_start }
+    requires ordered { at_old + (change.new_start - at_new) ≤ change.old_end }
+    ensures { result ≡ turned_from at_old at_new change }
+{
+    Change {
+        old_end: change.new_end,
+        new_start: at_old + (change.new_start - at_new),
+        new_end: change.old_end,
     }
 }
 
@@ -63,7 +52,7 @@ fn turned(alloc: Global, changes: &[Change]) -> Result<Vec<Change>, Fault>
     // Where the last change ends, in the old text and in the new one.
     let (mut at_old, mut at_new) = (0, 0);
     for change in changes {
-        back.push_reserved(change.turned_from(at_old, at_new));
+        back.push_reserved(turned_from(*change, at_old, at_new));
         at_old = change.old_end;
         at_new = change.new_end;
     }
@@ -90,7 +79,7 @@ impl Changes {
         ensures fault { IfErr result (λ fault. fault ≡ Fault.Memory) }
     {
         match self {
-            Changes::One(change) => Ok(Changes::One(change.turned_from(0, 0))),
+            Changes::One(change) => Ok(Changes::One(turned_from(*change, 0, 0))),
             Changes::Many(changes) => Ok(Changes::Many(turned(alloc, changes.as_slice())?)),
         }
     }
@@ -99,7 +88,9 @@ impl Changes {
 /// Returns the patches that make a report that of the text after some changes. Each line of the new
 /// text is searched once at most, and at most as many as the changes' new parts have breaks, and
 /// one more for each change. Requires changes that lead from the old text to the new one.
-/// `O(log n)` for each change, and time linear in the lines that are searched.
+/// Changes that come side by side take no look-up but for each chunk of both texts, and their rows
+/// come in one patch; time is linear in the lines that are searched, and in what lies between
+/// changes in a chunk.
 ///
 /// Errors: `Fault::Memory`; the finder serves on.
 pub fn patches_of(
@@ -123,23 +114,36 @@ pub fn patches_of(
     ensures count { (n : ℕ) → AreChanges changes.now 0 0 (text_of old.now) (text_of new.now) n
         → tick.new.count ≤ tick.old.count + n }
     ensures once { MakesAtMost (line_count (text_of new.now)) tick.old tick.new }
+    ensures each { IfOk result (λ patches.
+        min (tick.old.count + made_by patches.items) (2 ^ 64 - 1) ≤ tick.new.count) }
+
+    // Nor does it look through more lines.
+    ensures looks { (n : ℕ) → AreChanges changes.now 0 0 (text_of old.now) (text_of new.now) n
+        → LooksAtMost n tick.old tick.new }
+    ensures looks_once { LooksAtMost (line_count (text_of new.now)) tick.old tick.new }
+    ensures looked { IfOk result (λ patches.
+        LooksAtMost (made_by patches.items) tick.old tick.new) }
 {
     let mut patches = Vec::new(alloc);
+    let mut walk = Walk::start(new.slice(..));
+    let mut old_lines = LineTeller::of(old.slice(..));
+    let mut new_lines = LineTeller::of(new.slice(..));
     // The lines of both texts up to the last change: the old one's that are kept or gone, and the
     // new one's that have a row.
     let (mut kept, mut done) = (0, 0);
     for change in changes {
-        let start = done.max(new.byte_to_line(change.new_start));
-        let end = new.byte_to_line(change.new_end) + 1;
-        let made = rows_of_lines(tick, alloc, finder, new, start, end)?;
+        let start = done.max(new_lines.line(change.new_start));
+        let end = new_lines.line(change.new_end) + 1;
+        let made = rows_ahead(tick, alloc, finder, new, &mut walk, start, end)?;
         let first = kept + (start - done);
-        kept = old.byte_to_line(change.old_end) + 1;
+        kept = old_lines.line(change.old_end) + 1;
         done = end;
-        patches.push(Patch {
+        let patch = Patch {
             first,
             end: kept,
             made,
-        })?;
+        };
+        add_patch(&mut patches, patch)?;
     }
     Ok(patches)
 }

@@ -1,10 +1,12 @@
 //! Rows put in the place of others, at several places of a list.
-ghost use Rattle.std.specs.Prelude.{◌≡◌, ◌+◌, ◌-◌, ◌^◌, ◌<◌, ◌≤◌, [], length, ◌++◌, take, drop, vec_len, vec_capacity};
+ghost use Rattle.std.specs.Prelude.{◌≡◌, ◌+◌, ◌-◌, ◌^◌, ◌<◌, ◌≤◌, [], length, ◌++◌, take, drop, vec_len, vec_capacity, OnOk, IfErr};
 ghost use Rattle.std.specs.Vec.Iter.{into_iter_items, into_iter_len};
-ghost use Rattle.rope_search_reports.specs.Patches.{patched, AreInTurn, made_by};
+ghost use Rattle.rope_search_reports.specs.Drafts.{IsAdded};
+ghost use Rattle.rope_search_reports.specs.Patches.{patched, AreInTurn, growth_by, growth_of};
 
 use crate::replacing::replace_rows;
 use crate::rows::Row;
+use rope_search_io::Fault;
 use std::alloc::Global;
 use std::mem;
 use std::vec::IntoIter;
@@ -21,10 +23,46 @@ pub struct Patch {
 }
 
 impl Patch {
+    /// How many rows it brings more than it takes.
+    fn growth(&self) -> usize
+        ensures { result ≡ growth_of self.now }
+    {
+        let gone = self.end.saturating_sub(self.first);
+        self.made.len().saturating_sub(gone)
+    }
+
     /// Whether the rows behind it move: it doesn't bring as many as it takes.
     fn shifts(&self) -> bool {
         self.end.checked_sub(self.first) != Some(self.made.len())
     }
+}
+
+/// Adds a patch behind others. Where it begins at the row at which the last of them ends, it goes
+/// into that one, so rows that are made anew side by side come in one patch.
+///
+/// Errors: `Fault::Memory`.
+pub(crate) fn add_patch(patches: &mut Vec<Patch>, patch: Patch) -> Result<(), Fault>
+    ensures added { OnOk result (IsAdded patches.old.items patch patches.new.items) }
+    ensures fault { IfErr result (λ fault. fault ≡ Fault.Memory) }
+{
+    let Some(mut last) = patches.pop() else {
+        patches.push(patch)?;
+        return Ok(());
+    };
+    if last.end != patch.first {
+        patches.push(last)?;
+        patches.push(patch)?;
+        return Ok(());
+    }
+    let Patch {
+        first: _,
+        end,
+        mut made,
+    } = patch;
+    last.made.append(&mut made)?;
+    last.end = end;
+    patches.push(last)?;
+    Ok(())
 }
 
 /// Returns whether at most one of the patches moves the rows behind it. `O(k)` for k patches.
@@ -36,14 +74,15 @@ pub fn shift_once(patches: &[Patch]) -> bool {
         .is_none()
 }
 
-/// Returns how many rows the patches bring. `O(k)` for k patches.
-pub fn rows_made(patches: &[Patch]) -> usize
-    requires { made_by patches.now < 2 ^ 64 }
-    ensures { result ≡ made_by patches.now }
+/// Returns how many rows the patches bring more than they take, each for itself: one that brings
+/// fewer counts as none. `O(k)` for k patches.
+pub fn growth(patches: &[Patch]) -> usize
+    requires { growth_by patches.now < 2 ^ 64 }
+    ensures { result ≡ growth_by patches.now }
 {
     let mut count = 0;
     for patch in patches {
-        count += patch.made.len();
+        count += patch.growth();
     }
     count
 }
@@ -100,12 +139,13 @@ pub fn put_patches(rows: &mut Vec<Row>, patches: Vec<Patch>, room: Vec<Row>)
     move_rows(&mut left, count, rows);
 }
 
-/// Puts patches in their places in a list. Requires capacity for the rows that they bring beside
-/// its own, and patches in turn. Allocates nothing; time is linear in these rows and those that are
-/// gone, and in the rows behind for each patch that doesn't bring as many as it takes.
+/// Puts patches in their places in a list. Requires capacity for the rows by which they make it
+/// grow beside its own, and patches in turn. Allocates nothing; time is linear in these rows and
+/// those that are gone, and in the rows behind for each patch that doesn't bring as many as it
+/// takes.
 pub fn put_in_place(rows: &mut Vec<Row>, mut patches: Vec<Patch>)
     requires in_turn { AreInTurn 0 (length rows.old.items) patches.items }
-    requires room { length rows.old.items + made_by patches.items ≤ vec_capacity rows.old }
+    requires room { length rows.old.items + growth_by patches.items ≤ vec_capacity rows.old }
     ensures { rows.new.items ≡ patched 0 rows.old.items patches.items }
 {
     // From the last one on: the rows before it stay where they are.

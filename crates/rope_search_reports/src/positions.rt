@@ -14,6 +14,7 @@ use ropey::Rope;
 
 /// A line, and a column in it: how many UTF-16 code units stand between the line's start and the
 /// place. Both begin at 0.
+#[repr(C)]
 #[derive(Clone, Copy, Debug, PartialEq, Eq)]
 pub struct Position {
     /// The line's index.

@@ -41,31 +41,31 @@ fn remove_rows(rows: &mut Vec<Row>, at: usize, count: usize)
 }
 
 /// Moves the rows of `made` from `from` on to the place before row `at`, and drops the others. It
-/// takes no memory.
+/// takes no memory. Requires capacity for those that are moved beside the list's own.
 fn insert_rows(rows: &mut Vec<Row>, at: usize, mut made: Vec<Row>, from: usize)
     requires at_within { at ≤ vec_len rows.old }
     requires within { from ≤ vec_len made }
-    requires room { vec_len rows.old + vec_len made ≤ vec_capacity rows.old }
+    requires room { vec_len rows.old + (vec_len made - from) ≤ vec_capacity rows.old }
     ensures rows { rows.new.items ≡ take at rows.old.items ++ drop from made.items
         ++ drop at rows.old.items }
     ensures capacity { vec_capacity rows.old ≤ vec_capacity rows.new }
 {
-    // The rows behind the place, and those that are dropped, go behind the ones that come.
-    let behind = rows.len() - at + from;
+    remove_rows(&mut made, 0, from);
+    // The rows behind the place go behind the ones that come.
+    let behind = rows.len() - at;
     // There is room, so it isn't refused.
     let _ = rows.append(&mut made);
     move_to_end(rows, at, behind);
-    rows.truncate(rows.len() - from);
 }
 
 /// Puts rows in the place of rows `first..end`, which are dropped. Requires `first <= end`,
-/// `end <= rows.len()`, and capacity for the rows that are made beside the list's own. Allocates
+/// `end <= rows.len()`, and capacity for the rows that come beyond those that go. Allocates
 /// nothing. Where as many rows come as go, no other row is moved, and time is linear in these; else
 /// those behind them are moved once.
 pub fn replace_rows(rows: &mut Vec<Row>, first: usize, end: usize, mut made: Vec<Row>)
     requires ordered { first ≤ end }
     requires within { end ≤ vec_len rows.old }
-    requires room { vec_len rows.old + vec_len made ≤ vec_capacity rows.old }
+    requires room { vec_len rows.old + (vec_len made - (end - first)) ≤ vec_capacity rows.old }
     ensures rows { rows.new.items ≡ take first rows.old.items ++ made.items
         ++ drop end rows.old.items }
     ensures capacity { vec_capacity rows.old ≤ vec_capacity rows.new }

@@ -1,19 +1,17 @@
 //! The report of a text: its lines, each searched by itself.
 ghost use Rattle.std.specs.Prelude.{◌≡◌, ◌+◌, ◌-◌, ◌^◌, ◌<◌, ◌≤◌, ◌++◌, ℕ, List, [], take, drop, replicate, IfOk, IfErr, OnOk};
-ghost use Rattle.std.specs.Str.{chars, IsUtf8};
-ghost use Rattle.str_indices.specs.Text.{breaks};
-ghost use Rattle.ropey.specs.Chunks.{is_break, text_of};
+ghost use Rattle.ropey.specs.Chunks.{text_of};
 ghost use Rattle.rope_search_reports.specs.Text.{line_count};
 ghost use Rattle.rope_search_reports.specs.Report.{line_texts, IsRow, AreRows, IsReport, match_count};
-ghost use Rattle.rope_search_reports.specs.Drafts.{AddsRows, AreBare, lines_between};
-ghost use Rattle.rope_search_reports.specs.Ticks.{MakesAsMany, MakesAtMost};
+ghost use Rattle.rope_search_reports.specs.Drafts.{AddsRows, lines_between};
+ghost use Rattle.rope_search_reports.specs.Ticks.{LooksAtMost, MakesAsMany, MakesAtMost};
 
 use crate::laws;
 use crate::line::Line;
 use crate::rows::{Finder, Lines, Row, row_of};
-use crate::walk::Walk;
+use crate::walk::{Walk, lines_up_to};
 use rope_search_io::Fault;
-use ropey::{Rope, breaks};
+use ropey::Rope;
 use std::alloc::Global;
 
 /// How many lines are searched at most before it is asked again where a match may begin.
@@ -36,6 +34,7 @@ pub fn report_of(
     ensures finder { finder.new ≡ finder.old }
     ensures count { MakesAtMost (line_count (text_of text.now)) tick.old tick.new }
     ensures each { OnOk result (MakesAsMany (line_count (text_of text.now)) tick.old tick.new) }
+    ensures looks { LooksAtMost (line_count (text_of text.now)) tick.old tick.new }
 {
     // Laws, and the text's facts, for the proof alone.
     laws::few_matches();
@@ -64,6 +63,7 @@ fn push_rows(
     ensures finder { finder.new ≡ finder.old }
     ensures count { MakesAtMost count tick.old tick.new }
     ensures each { OnOk result (MakesAsMany count tick.old tick.new) }
+    ensures looked { tick.new.looked ≡ tick.old.looked }
 {
     for _done in 0..count {
         rows.push(row_of(tick, finder, walk.next())?)?;
@@ -87,6 +87,7 @@ fn push_bare(
     ensures finder { finder.new ≡ finder.old }
     ensures count { MakesAtMost count tick.old tick.new }
     ensures each { OnOk result (MakesAsMany count tick.old tick.new) }
+    ensures looked { tick.new.looked ≡ tick.old.looked }
 {
     // A law, for the proof alone.
     laws::one_list_of_matches();
@@ -96,27 +97,10 @@ fn push_bare(
     Ok(())
 }
 
-/// How many lines of a text, from its first, end before the place at which a match may begin, as
-/// far as the literals tell that each match begins with. Time is linear in the text up to there.
-fn bare_lines(finder: &Finder, text: &str) -> usize
-    requires { IsUtf8 text.now }
-    ensures within { result ≤ breaks is_break (chars text.now) }
-    ensures bare { AreBare finder.now (chars text.now) 0 result }
-    ensures empty { 0 < result → IsRow finder.now [] [] }
-{
-    // Laws, for the proof alone.
-    laws::places();
-    str_indices::laws::to_byte_idx_is_monotone();
-    regex_cursor::laws::finds_of_trees();
-    match finder.no_match_before(text) {
-        Some(place) => breaks::from_byte_idx(text, place),
-        None => 0,
-    }
-}
-
-/// Passes over the next lines up to `end` that end in what is left of their chunk, before the one
-/// in which a match may begin, and adds their rows behind others. A row for each of them is
-/// counted, or for fewer after an error. Returns how many they are.
+/// Passes over the next lines up to `end`, before the one in which a match may begin, and adds
+/// their rows behind others. A row for each of them is counted, or for fewer after an error; and as
+/// looked through each of them, and the line behind them where one is left. Returns how many they
+/// are. Requires that the walk has no line behind these, but for an empty one.
 ///
 /// Errors: `Fault::Memory`; the finder serves on.
 fn pass_over(
@@ -128,6 +112,7 @@ fn pass_over(
 ) -> Result<usize, Fault>
     requires ordered { walk.old.line ≤ end }
     requires within { end ≤ line_count walk.old.text }
+    requires all { line_count walk.old.text ≤ end + 1 }
     ensures text { walk.new.text ≡ walk.old.text }
     ensures line { IfOk result (λ passed. walk.new.line ≡ walk.old.line + passed) }
     ensures within { IfOk result (λ passed. walk.old.line + passed ≤ end) }
@@ -138,15 +123,53 @@ fn pass_over(
     ensures finder { finder.new ≡ finder.old }
     ensures count { MakesAtMost (end - walk.old.line) tick.old tick.new }
     ensures each { IfOk result (λ passed. MakesAsMany passed tick.old tick.new) }
+    ensures looks { LooksAtMost (end - walk.old.line) tick.old tick.new }
+    ensures looked { IfOk result (λ passed. LooksAtMost (passed + 1) tick.old tick.new) }
 {
     let left = end - walk.line_idx();
     if left == 0 {
         return Ok(0);
     }
-    let passed = bare_lines(finder, walk.rest()).min(left);
+    let passed = finder.bare_lines(tick, walk, left);
     push_bare(tick, finder, rows, passed)?;
-    walk.skip(passed);
+    walk.pass(passed);
     Ok(passed)
+}
+
+/// Returns the rows of lines `first..end` of a text as `rows_of_lines` does. A line by itself comes
+/// by a walk that goes on to it: in the chunk where that is it takes no look-up.
+///
+/// Errors: `Fault::Memory`; the finder serves on.
+pub(crate) fn rows_ahead(
+    tick: &mut Lines,
+    alloc: Global,
+    finder: &mut Finder,
+    text: &Rope,
+    walk: &mut Walk<'_>,
+    first: usize,
+    end: usize,
+) -> Result<Vec<Row>, Fault>
+    requires ordered { first ≤ end }
+    requires within { end ≤ line_count (text_of text.now) }
+    requires walks { walk.old.text ≡ text_of text.now }
+    requires ahead { walk.old.line ≤ first }
+    ensures rows { IfOk result (λ rows. AreRows finder.old
+        (take (end - first) (drop first (line_texts (text_of text.now)))) rows.items) }
+    ensures fault { IfErr result (λ fault. fault ≡ Fault.Memory) }
+    ensures finder { finder.new ≡ finder.old }
+    ensures count { MakesAtMost (end - first) tick.old tick.new }
+    ensures each { OnOk result (MakesAsMany (end - first) tick.old tick.new) }
+    ensures looks { LooksAtMost (end - first) tick.old tick.new }
+    ensures text { OnOk result (walk.new.text ≡ walk.old.text) }
+    ensures line { OnOk result (walk.new.line ≤ end) }
+{
+    if end - first != 1 {
+        return rows_of_lines(tick, alloc, finder, text, first, end);
+    }
+    walk.pass(first - walk.line_idx());
+    let mut rows = Vec::with_capacity(alloc, 1)?;
+    push_rows(tick, finder, walk, &mut rows, 1)?;
+    Ok(rows)
 }
 
 /// How many lines are searched before it is asked again where a match may begin, by how many there
@@ -185,12 +208,19 @@ pub fn rows_of_lines(
     ensures finder { finder.new ≡ finder.old }
     ensures count { MakesAtMost (end - first) tick.old tick.new }
     ensures each { OnOk result (MakesAsMany (end - first) tick.old tick.new) }
+    ensures looks { LooksAtMost (end - first) tick.old tick.new }
 {
+    // Room for all of them comes before the first one is searched.
     let mut rows = Vec::with_capacity(alloc, end - first)?;
     if first == end {
         return Ok(rows);
     }
-    let mut walk = Walk::at(text, first);
+    if first + 1 == end {
+        let mut walk = Walk::at(text.slice(..), first);
+        push_rows(tick, finder, &mut walk, &mut rows, 1)?;
+        return Ok(rows);
+    }
+    let mut walk = Walk::at(lines_up_to(text, end), first);
     let mut few = 1;
     while walk.line_idx() < end {
         let count = few.min(end - walk.line_idx());

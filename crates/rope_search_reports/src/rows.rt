@@ -1,39 +1,39 @@
 //! Patterns made ready to search, what their searches find in a line or in a whole text, and the
 //! count of these searches.
-ghost use Rattle.std.specs.Prelude.{◌≡◌, ◌+◌, ◌-◌, ◌^◌, ◌<◌, ◌≤◌, ◌⊎◌, ◌++◌, ℕ, List, [], length, min, chars, replicate, IfOk, IfErr, IfSome, OnOk, Err};
+ghost use Rattle.std.specs.Prelude.{◌≡◌, ◌+◌, ◌-◌, ◌^◌, ℕ, List, map, min, IfOk, IfErr};
 ghost use Rattle.std.specs.Str.{IsCharBoundary};
-ghost use Rattle.str_indices.specs.Text.{byte_len};
 ghost use Rattle.ropey.specs.Chunks.{text_of};
-ghost use Rattle.ropey_walk.specs.Comparing.{slice_bytes};
 ghost use Rattle.ropey_walk.specs.Slices.{slice_text};
-ghost use Rattle.regex_cursor.specs.Regexes.{IsCacheOf, IsRegexOf};
-ghost use Rattle.rope_search_reports.specs.Text.{bytes_of, line_count};
-ghost use Rattle.rope_search_reports.specs.Pattern.{IsPattern, IsTooHeavy, SpellsNone, Finds, pattern_limit};
+ghost use Rattle.rope_search_reports.specs.Text.{bytes_of};
+ghost use Rattle.rope_search_reports.specs.Pattern.{Finds};
 ghost use Rattle.rope_search_reports.specs.Report.{IsRow};
-ghost use Rattle.rope_search_reports.specs.Matches.{AreGroups};
-ghost use Rattle.rope_search_reports.specs.Replacement.{AreMatchesIn};
-ghost use Rattle.rope_search_reports.specs.Finders.{IsRowOf};
-ghost use Rattle.rope_search_reports.specs.Drafts.{HasNoneBetween, HoldsText, own_text};
+ghost use Rattle.rope_search_reports.specs.Matches.{AreGroups, IsMatches};
+ghost use Rattle.rope_search_reports.specs.Replacement.{AreMatchesIn, alone};
+ghost use Rattle.rope_search_reports.specs.Drafts.{HoldsText, own_text};
 
+mod engine;
+mod matches;
+mod searching;
+
+use self::matches::Found;
 use crate::line::Line;
-use crate::pattern_text::PatternText;
-use crate::searching::{Groups, all_groups, find, find_next, input_from, input_over};
-use regex_cursor::engines::meta::{Cache, Regex};
-use regex_cursor::{BuildError, Cursor, RopeyCursor};
+pub use engine::{Finder, PATTERN_LEN};
+use rope_search_changes::Groups;
 use rope_search_io::Fault;
 use ropey::{Rope, RopeSlice};
-use std::alloc::Global;
 use std::marker::Model;
 
-/// How many bytes a pattern has at most.
-pub const PATTERN_LEN: usize = 65_536;
-
-/// Counts the rows that were made, each by a search of one line, and the searches of whole texts. Both counts begin at 0 and stay at `u64::MAX`. It is made of
-/// the runtime alone and can't be copied, so what is handed one counts in it.
+/// Counts the rows that were made, each by a search of one line, the searches of whole texts, and
+/// the lines that were looked through for a place at which a match may begin. All counts begin at 0
+/// and stay at `u64::MAX`. It is made of the runtime alone, or by a program in C that hands it over
+/// by value, and can't be copied, so what is handed one counts in it.
+#[repr(C)]
 #[derive(Drop)]
 pub struct Lines {
     count: u64,
     wholes: u64,
+    // For contracts alone: it bounds what is looked through, and nothing tells it.
+    looked: u64,
 }
 
 impl Model for Lines {
@@ -41,17 +41,20 @@ impl Model for Lines {
 
     ghost Value = { Ticks };
 
-    ghost view = { λ l. record { count = l.count; wholes = l.wholes } };
+    ghost view = { λ l. record { count = l.count; wholes = l.wholes; looked = l.looked } };
+
+    ghost inverse = { λ t. record { count = t.count; wholes = t.wholes; looked = t.looked } };
 }
 
 impl Lines {
     /// Returns counts of 0.
     pub fn new(_rt: &HostRuntime) -> Lines
-        ensures { result ≡ record { count = 0; wholes = 0 } }
+        ensures { result ≡ record { count = 0; wholes = 0; looked = 0 } }
     {
         Lines {
             count: 0,
             wholes: 0,
+            looked: 0,
         }
     }
 
@@ -73,6 +76,7 @@ impl Lines {
     fn add_row(&mut self)
         ensures count { self.new.count ≡ min (self.old.count + 1) (2 ^ 64 - 1) }
         ensures wholes { self.new.wholes ≡ self.old.wholes }
+        ensures looked { self.new.looked ≡ self.old.looked }
     {
         let count = &mut self.count;
         *count = count.saturating_add(1);
@@ -82,87 +86,20 @@ impl Lines {
     fn add_whole(&mut self)
         ensures count { self.new.count ≡ self.old.count }
         ensures wholes { self.new.wholes ≡ min (self.old.wholes + 1) (2 ^ 64 - 1) }
+        ensures looked { self.new.looked ≡ self.old.looked }
     {
         let wholes = &mut self.wholes;
         *wholes = wholes.saturating_add(1);
     }
-}
 
-/// A pattern that is ready to search, with what its searches keep from one to the next: all of it
-/// is made once. It can't be copied.
-#[derive(Drop)]
-pub struct Finder {
-    alloc: Global,
-    regex: Regex,
-    cache: Cache,
-    // Whether it is known that it doesn't match the empty text.
-    is_never_empty: bool,
-    // For contracts alone.
-    pattern: PatternText,
-}
-
-impl Model for Finder {
-    ghost use Rattle.std.specs.Prelude.{ℕ, List};
-    ghost use Rattle.rope_search_reports.specs.Finders.{IsFinderOf};
-
-    ghost Value = { List ℕ };
-
-    ghost view = { λ f. f.pattern };
-
-    ghost invariant = { λ f. IsFinderOf f.pattern f.regex f.cache f.is_never_empty };
-}
-
-impl Finder {
-    /// Returns a finder of a pattern's matches, by the default settings of a regex. Time and memory
-    /// are in proportion to the pattern's weight.
-    ///
-    /// Errors: `Fault::Limit` for more than 65,536 bytes, before anything is allocated, and for a
-    /// weight above 262,144; `Fault::Pattern` outside the grammar; `Fault::Memory`.
-    pub fn new(alloc: Global, pattern: &str) -> Result<Finder, Fault>
-        ensures ok { IfOk result (λ finder. finder ≡ chars pattern.now) }
-        ensures is_pattern { IfOk result (λ finder. IsPattern finder) }
-        ensures too_long { pattern_limit < length pattern.now → result ≡ Err Fault.Limit }
-        ensures limit { result ≡ Err Fault.Limit
-            → (pattern_limit < length pattern.now) ⊎ IsTooHeavy (chars pattern.now) }
-        ensures no_pattern { result ≡ Err Fault.Pattern
-            → (length pattern.now ≤ pattern_limit) × SpellsNone (chars pattern.now) }
-        ensures fault { IfErr result (λ fault.
-            (fault ≡ Fault.Limit) ⊎ ((fault ≡ Fault.Pattern) ⊎ (fault ≡ Fault.Memory))) }
+    /// Counts so many lines more that are looked through.
+    fn add_looked(&mut self, count: usize)
+        ensures count { self.new.count ≡ self.old.count }
+        ensures wholes { self.new.wholes ≡ self.old.wholes }
+        ensures looked { self.new.looked ≡ min (self.old.looked + count) (2 ^ 64 - 1) }
     {
-        // A law, for the proof alone.
-        regex_cursor::laws::regexes_have_trees();
-        if pattern.len() > PATTERN_LEN {
-            return Err(Fault::Limit);
-        }
-        let regex = match Regex::new(alloc, pattern) {
-            Ok(regex) => regex,
-            Err(BuildError::Syntax { .. }) => return Err(Fault::Pattern),
-            Err(BuildError::Size { .. }) => return Err(Fault::Limit),
-            Err(BuildError::Memory) => return Err(Fault::Memory),
-        };
-        let Ok(cache) = regex.create_cache() else {
-            return Err(Fault::Memory);
-        };
-        // By its literals, no search.
-        let is_never_empty = regex.no_match_before(&mut input_over("", 0, 0)).is_some();
-        Ok(Finder {
-            alloc,
-            regex,
-            cache,
-            is_never_empty,
-            pattern: PatternText::new(pattern),
-        })
-    }
-
-    /// A place of a text before which nothing matches: no part of the text up to there has a match,
-    /// searched by itself. That is told by the literals that each match begins with, and by no
-    /// search; `None` where no such literals are known. Time is linear in the text up to the place.
-    pub(crate) fn no_match_before(&self, text: &str) -> Option<usize>
-        ensures no_match { IfSome result (λ place. HasNoneBetween self.now text.now 0 place) }
-        ensures within { IfSome result (λ place. place ≤ length text.now) }
-    {
-        self.regex
-            .no_match_before(&mut input_over(text, text.len(), 0))
+        let looked = &mut self.looked;
+        *looked = looked.saturating_add(count as u64);
     }
 }
 
@@ -171,15 +108,18 @@ impl Finder {
 /// and none can be copied.
 #[derive(Drop)]
 pub struct Row {
-    matches: Vec<(usize, usize)>,
+    matches: Found,
 }
+
+const _: () = prove!(size_of::<Row>() == 16);
 
 impl Model for Row {
     ghost use Rattle.std.specs.Prelude.{ℕ, List};
+    ghost use Rattle.rope_search_reports.specs.Finders.{matches_in};
 
     ghost Value = { List (ℕ × ℕ) };
 
-    ghost view = { λ row. row.matches.items };
+    ghost view = { λ row. matches_in row.matches };
 }
 
 impl Row {
@@ -189,42 +129,6 @@ impl Row {
     {
         self.matches.as_slice()
     }
-}
-
-/// The columns of all matches in a line, which the cursor shows.
-fn columns_in<C: Cursor + Drop>(
-    alloc: Global,
-    regex: &Regex,
-    cache: &mut Cache,
-    cursor: C,
-    line: &Line<'_>,
-) -> Result<Vec<(usize, usize)>, Fault>
-    requires made { IsCacheOf regex.now cache.old }
-    requires built { (text : List ℕ) × IsRegexOf text regex.now }
-    requires holds { HoldsText line.now }
-    requires shows { (C.state cursor).content ≡ bytes_of (own_text line.now) }
-    ensures row { (text : List ℕ) → (built : IsRegexOf text regex.now)
-        → IfOk result (λ row. IsRowOf built.tree (own_text line.now) row.items) }
-    ensures made { IsCacheOf regex.now cache.new }
-    ensures fault { IfErr result (λ fault. fault ≡ Fault.Memory) }
-{
-    // A law, for the proof alone.
-    regex_cursor::laws::finds_of_trees();
-    let mut matches = Vec::new(alloc);
-    let mut input = input_over(cursor, line.len_bytes(), 0);
-    let mut slots = [None; 2];
-    // Where the last match ended, and its column there.
-    let mut last = None;
-    let (mut place, mut column) = (0, 0);
-    while let Some((start, end)) = find_next(regex, cache, &mut input, &mut slots, last)? {
-        let start_column = line.column_from(place, column, start);
-        column = line.column_from(start, start_column, end);
-        matches.push((start_column, column))?;
-        input.set_start(end);
-        last = Some(end);
-        place = end;
-    }
-    Ok(matches)
 }
 
 /// Searches one line's text, where it lies, and returns its row. One row is counted, also after an
@@ -238,21 +142,9 @@ pub(crate) fn row_of(tick: &mut Lines, finder: &mut Finder, line: Line<'_>) -> R
     ensures finder { finder.new ≡ finder.old }
     ensures count { tick.new.count ≡ min (tick.old.count + 1) (2 ^ 64 - 1) }
     ensures wholes { tick.new.wholes ≡ tick.old.wholes }
+    ensures looked { tick.new.looked ≡ tick.old.looked }
 {
-    // A law, for the proof alone.
-    regex_cursor::laws::finds_of_trees();
-    tick.add_row();
-    let alloc = finder.alloc;
-    if finder.is_never_empty && line.len_bytes() == 0 {
-        return Ok(Row {
-            matches: Vec::new(alloc),
-        });
-    }
-    let (regex, cache) = (&finder.regex, &mut finder.cache);
-    let matches = match line {
-        Line::Whole(text) => columns_in(alloc, regex, cache, text, &line)?,
-        Line::Parted(slice) => columns_in(alloc, regex, cache, RopeyCursor::new(slice), &line)?,
-    };
+    let matches = finder.columns_of(tick, line)?;
     Ok(Row { matches })
 }
 
@@ -268,6 +160,7 @@ pub fn search_line(tick: &mut Lines, finder: &mut Finder, line: RopeSlice<'_>) -
     ensures finder { finder.new ≡ finder.old }
     ensures count { tick.new.count ≡ min (tick.old.count + 1) (2 ^ 64 - 1) }
     ensures wholes { tick.new.wholes ≡ tick.old.wholes }
+    ensures looked { tick.new.looked ≡ tick.old.looked }
 {
     row_of(tick, finder, Line::of(line))
 }
@@ -291,10 +184,9 @@ pub fn find_from(
     ensures finder { finder.new ≡ finder.old }
     ensures count { tick.new.count ≡ tick.old.count }
     ensures wholes { tick.new.wholes ≡ min (tick.old.wholes + 1) (2 ^ 64 - 1) }
+    ensures looked { tick.new.looked ≡ tick.old.looked }
 {
-    tick.add_whole();
-    let mut input = input_from(text.slice(..), from);
-    find(&finder.regex, &mut finder.cache, &mut input, &mut [None; 2])
+    finder.first_in(tick, text, from)
 }
 
 /// Returns all matches in a whole text with their groups 0 to 9: the first from the text's start,
@@ -313,12 +205,30 @@ pub fn find_all(tick: &mut Lines, finder: &mut Finder, text: &Rope) -> Result<Ve
     ensures finder { finder.new ≡ finder.old }
     ensures count { tick.new.count ≡ tick.old.count }
     ensures wholes { tick.new.wholes ≡ min (tick.old.wholes + 1) (2 ^ 64 - 1) }
+    ensures looked { tick.new.looked ≡ tick.old.looked }
 {
-    tick.add_whole();
-    all_groups(
-        finder.alloc,
-        &finder.regex,
-        &mut finder.cache,
-        text.slice(..),
-    )
+    finder.groups_of(tick, text)
+}
+
+/// Returns the spans of all matches in a whole text, as `find_all` finds them: the byte indices of
+/// the start and the end of each. One search of a whole text is counted, also after an error. It
+/// takes a fifteenth of the memory, and groups cost nothing.
+///
+/// Errors: `Fault::Memory`; the finder serves on.
+pub fn find_spans(
+    tick: &mut Lines,
+    finder: &mut Finder,
+    text: &Rope,
+) -> Result<Vec<(usize, usize)>, Fault>
+    ensures found { IfOk result (λ spans.
+        IsMatches finder.old (bytes_of (text_of text.now)) spans.items) }
+    ensures stand { IfOk result (λ spans.
+        AreMatchesIn (bytes_of (text_of text.now)) (map alone spans.items)) }
+    ensures fault { IfErr result (λ fault. fault ≡ Fault.Memory) }
+    ensures finder { finder.new ≡ finder.old }
+    ensures count { tick.new.count ≡ tick.old.count }
+    ensures wholes { tick.new.wholes ≡ min (tick.old.wholes + 1) (2 ^ 64 - 1) }
+    ensures looked { tick.new.looked ≡ tick.old.looked }
+{
+    finder.spans_of(tick, text)
 }

@@ -1,11 +1,12 @@
 //! A walk over the lines of a text, forwards alone: chunk by chunk, and line by line in a chunk.
-ghost use Rattle.std.specs.Prelude.{◌≡◌, ◌+◌, ◌<◌, ◌≤◌, ℕ, List, ◌++◌};
+ghost use Rattle.std.specs.Prelude.{◌≡◌, ◌+◌, ◌^◌, ◌<◌, ◌≤◌, ℕ, List, ◌++◌, take};
 ghost use Rattle.std.specs.Str.{chars, IsUtf8, IsCharBoundary};
 ghost use Rattle.str_indices.specs.Text.{breaks, byte_len, NoCrLfBetween};
 ghost use Rattle.ropey.specs.Chunks.{is_break, text_of};
 ghost use Rattle.ropey_walk.specs.Comparing.{slice_bytes};
 ghost use Rattle.ropey_walk.specs.Slices.{slice_text};
 ghost use Rattle.rope_search_reports.specs.Text.{line_count};
+ghost use Rattle.rope_search_reports.specs.Report.{line_texts};
 ghost use Rattle.rope_search_reports.specs.Position.{line_text};
 ghost use Rattle.rope_search_reports.specs.Drafts.{HoldsText, IsLine, IsRestOf, ShowsLines, own_text};
 
@@ -72,18 +73,26 @@ fn chunk_from<'a>(text: &RopeSlice<'a>, byte_idx: usize) -> &'a str
     &chunk[byte_idx - start..]
 }
 
-impl<'a> Walk<'a> {
-    /// The walk over the lines of a text from one of them on. `O(log n)`.
-    pub(crate) fn at(text: &'a Rope, line_idx: usize) -> Walk<'a>
-        requires { line_idx < line_count (text_of text.now) }
-        ensures text { result.text ≡ text_of text.now }
-        ensures line { result.line ≡ line_idx }
-    {
-        Walk::at_line(text.slice(..), line_idx)
+/// A text up to the end of a line, which ends in a break or is the text's last one: the lines up to
+/// there are its lines, and behind the break it has an empty one. `O(log n)`.
+pub(crate) fn lines_up_to(text: &Rope, end: usize) -> RopeSlice<'_>
+    requires { end ≤ line_count (text_of text.now) }
+    ensures lines { take end (line_texts (slice_text result))
+        ≡ take end (line_texts (text_of text.now)) }
+    ensures within { end ≤ line_count (slice_text result) }
+    ensures few { line_count (slice_text result) ≤ end + 1 }
+{
+    if end == text.len_lines() {
+        return text.slice(..);
     }
+    // The text's facts, for the proof alone.
+    let _ = text.len_bytes();
+    text.slice(..).byte_slice(..text.line_to_byte(end))
+}
 
-    /// The walk over the lines of a slice from one of them on, or behind the last one.
-    fn at_line(text: RopeSlice<'a>, line_idx: usize) -> Walk<'a>
+impl<'a> Walk<'a> {
+    /// The walk over the lines of a slice from one of them on, or behind the last one. `O(log n)`.
+    pub(crate) fn at(text: RopeSlice<'a>, line_idx: usize) -> Walk<'a>
         requires { line_idx ≤ line_count (slice_text text) }
         ensures text { result.text ≡ slice_text text.entry }
         ensures line { result.line ≡ line_idx }
@@ -104,6 +113,30 @@ impl<'a> Walk<'a> {
         }
     }
 
+    /// The walk over the lines of a slice from its start on. It looks nothing up before a line is
+    /// asked for, or passed over.
+    pub(crate) fn start(text: RopeSlice<'a>) -> Walk<'a>
+        ensures text { result.text ≡ slice_text text.entry }
+        ensures line { result.line ≡ 0 }
+    {
+        // The slice's facts, for the proof alone.
+        let _ = text.len_bytes();
+        let _ = text.len_lines();
+        Walk {
+            text,
+            line_idx: 0,
+            byte_idx: 0,
+            rest: "",
+        }
+    }
+
+    /// The text whose lines these are.
+    pub(crate) fn text(&self) -> RopeSlice<'a>
+        ensures { slice_text result ≡ self.now.text }
+    {
+        self.text
+    }
+
     /// The line that comes next.
     pub(crate) fn line_idx(&self) -> usize
         ensures line { result ≡ self.now.line }
@@ -118,17 +151,24 @@ impl<'a> Walk<'a> {
         ensures rest { chars result.now ≡ self.now.rest }
         ensures utf8 { IsUtf8 result.now }
         ensures lines { ShowsLines self.now }
+        ensures few { self.now.line < line_count self.now.text
+            → self.now.line + breaks is_break self.now.rest < line_count self.now.text }
+        ensures fits { line_count self.now.text < 2 ^ 64 }
     {
         self.rest
     }
 
-    /// Goes on to a line that starts in what is left of the chunk, `count` lines on.
-    pub(crate) fn skip(&mut self, count: usize)
-        requires { count ≤ breaks is_break self.old.rest }
+    /// Passes over the next `count` lines. Inside a chunk it takes no look-up.
+    pub(crate) fn pass(&mut self, count: usize)
+        requires { self.old.line + count ≤ line_count self.old.text }
         ensures text { self.new.text ≡ self.old.text }
         ensures line { self.new.line ≡ self.old.line + count }
     {
         let place = breaks::to_byte_idx(self.rest, count);
+        if place >= self.rest.len() {
+            *self = Walk::at(self.text, self.line_idx + count);
+            return;
+        }
         self.line_idx += count;
         self.byte_idx += place;
         self.rest = &self.rest[place..];
@@ -156,7 +196,7 @@ impl<'a> Walk<'a> {
         // A law, for the proof alone.
         laws::places();
         let line = without_break(self.text.line(self.line_idx));
-        *self = Walk::at_line(self.text, self.line_idx + 1);
+        *self = Walk::at(self.text, self.line_idx + 1);
         Line::of(line)
     }
 

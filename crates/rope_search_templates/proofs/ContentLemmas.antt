@@ -8,8 +8,8 @@ use Rattle.std.proofs.lemmas.List.{take-append-drop, drop-drop}
 use Rattle.std.proofs.lemmas.Str.{IsUtf8-between, IsUtf8-take, IsCharBoundary-start, chars-append, encodes-chars, encodes-append, length-encode, len_utf8_bounds}
 use Rattle.str_indices.specs.Text.{byte_len}
 use Rattle.ropey.specs.Chunks.{IsCutting, text_of}
-use Rattle.rope_search_reports.specs.Text.{bytes_of}
-use Rattle.rope_search_reports.specs.Replacement.{Groups, whole, between, FollowEachOther, AreMatchesIn}
+use Rattle.rope_search_changes.specs.Text.{bytes_of}
+use Rattle.rope_search_changes.specs.Replacement.{Groups, whole, between, FollowEachOther, AreMatchesIn}
 
 -- ---- bytes of joined texts
 

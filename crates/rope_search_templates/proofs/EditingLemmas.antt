@@ -5,8 +5,8 @@ use Rattle.std.proofs.lemmas.List.{drop_more, length-reverse, get_or-reverse, ge
 use Rattle.std.proofs.lemmas.Str.{IsCharBoundary-at_seam, encodes-append, chars-nil, chars-encodes}
 use Rattle.str_indices.specs.Text.{byte_len}
 use Rattle.ropey.specs.Edits.{IsReplaced}
-use Rattle.rope_search_reports.specs.Text.{bytes_of}
-use Rattle.rope_search_reports.specs.Replacement.{Groups, whole, between, expand, replaced, FollowEachOther}
+use Rattle.rope_search_changes.specs.Text.{bytes_of}
+use Rattle.rope_search_changes.specs.Replacement.{Groups, whole, between, expand, replaced, FollowEachOther}
 use Rattle.rope_search_templates.proofs.ContentLemmas.{byte_len-append, fronts-one, scalars-joined, scalars-parts, split-at, front-further, front-len, front-and-back, AreLeft}
 
 -- in this text these matches have been replaced, and what is before them is as it was
@@ -90,31 +90,3 @@ module _ (content template : List ℕ) (utf8 : IsUtf8 content) (match : Groups) 
       let all = scalars-parts (edit.front ++ edit.gone) edit.back (sym (ap all_scalars edit.old_is) ∙ scalars) in
       let fronts = scalars-parts edit.front edit.gone all.0 in
       ap all_scalars edit.new_is ∙ scalars-joined (edit.front ++ text) edit.back (scalars-joined edit.front text fronts.0 own) all.1
-
--- ---- from the last on
-
--- the one that is next to replace where so many were replaced
-pub record LastLeft (matches : List Groups) (n : ℕ) (match : Groups) : Type 0 where
-  pub k : ℕ
-  pub inside : k < length matches
-  pub is : match ≡ get_or matches k []
-  pub left : drop k matches ≡ match ∷ drop (length matches - n) matches
-  pub behind : length matches - (n + 1) ≡ k
-
-pub last-left : (matches : List Groups) (n : ℕ) (match : Groups) → n < length (reverse matches) → match ≡ get_or (reverse matches) n match → LastLeft matches n match
-last-left matches n match inside is =
-    let all = length-reverse matches in
-    let k = length matches - (n + 1) in
-    let within : k < length matches = omega (arith, inside, all) in
-    let low : n < length matches = omega (arith, inside, all) in
-    let turned : get_or (reverse matches) n match ≡ get_or matches k match =
-    get_or-reverse matches n match low ∙ ap (λ i. get_or matches i match) (omega (arith, low)) in
-    let own : match ≡ get_or matches k [] = is ∙ turned ∙ get_or_default matches k match [] within in
-    let next : k + 1 ≡ length matches - n = omega (arith, low) in
-    record {
-      k = k;
-      inside = within;
-      is = own;
-      left = drop_more matches k [] within ∙ ap (λ m. m ∷ drop (k + 1) matches) (sym own) ∙ ap (λ i. match ∷ drop i matches) next;
-      behind = refl;
-    }

@@ -1,10 +1,12 @@
 -- What a template stands for, piece by piece.
-use Rattle.std.proofs.Common.{◌≡◌, ℕ, ◌-◌, ◌≤◌, ◌==◌, ◌&&◌, Bool, true, false, List, [], ◌∷◌, ◌++◌, refl, ap, ◌∙◌, arith, inl, inr}
+use Rattle.std.proofs.Common.{◌≡◌, ℕ, zero, suc, ◌-◌, ◌≤◌, ◌==◌, ◌&&◌, Bool, true, false, List, [], ◌∷◌, ◌++◌, Option, Some, None, is_some, SomeIff, IfSome, nat_le, refl, ap, sym, ◌∙◌, arith, inl, inr}
 use Rattle.std.proofs.lemmas.Bool.{cases_Bool}
 use Rattle.std.proofs.lemmas.Bool.Decides.{nat_tests}
+use Rattle.std.specs.Bool.{then_some}
 use Rattle.std.specs.Str.{NonePass}
-use Rattle.rope_search_reports.specs.Replacement.{Groups, expand, group_text, is_digit}
-use Rattle.rope_search_templates.specs.Templates.{names_groups}
+use Rattle.str_indices.specs.Text.{byte_len}
+use Rattle.rope_search_changes.specs.Replacement.{Groups, alone, HasSpansIn, expand, group_text, is_digit}
+use Rattle.rope_search_templates.specs.Templates.{IsSame, names_groups}
 use Rattle.rope_search_templates.specs.Pieces.{StartsPlain}
 
 -- the test that a character is a dollar
@@ -73,3 +75,40 @@ expand-fixed content groups (c ∷ d ∷ rest) none = elim (cases_Bool ((c == 36
     | inr more ↦ rw (other, more) (ap (λ cs. c ∷ cs) (expand-fixed content groups (d ∷ rest) (rw (other, more) at none)))
   ]
 ]
+
+-- ---- a template that stands for one text
+
+-- in no text at all an empty match has its span
+pub nothing-spans : HasSpansIn [] (alone (0, 0))
+nothing-spans zero d low = record {
+  ordered = omega arith;
+  starts = (omega arith, λ inside. absurd (omega arith));
+  stops = (omega arith, λ inside. absurd (omega arith));
+}
+nothing-spans (suc k) d low = absurd (omega arith)
+
+-- what is known of its length
+pub same-some : (template : List ℕ) (len : Option ℕ) → is_some len ≡ true → IfSome len (IsSame template) → names_groups template ≡ false
+same-some template (Some n) some same = same.names_none
+same-some template None some same = absurd (cc)
+
+pub same-told : (template : List ℕ) (len : Option ℕ) (P : Type 0) → names_groups template ≡ false
+    → SomeIff len P (byte_len (expand [] (alone (0, 0)) template)) → IfSome len (IsSame template)
+same-told template None P none told = tt
+same-told template (Some n) P none told = record {
+  names_none = none;
+  len_is = sym (told.1 ∙ ap byte_len (expand-fixed [] (alone (0, 0)) template none));
+}
+
+-- a length, told where it is within a limit
+pub then-within : (len limit n : ℕ) → n ≡ len → SomeIff (then_some (nat_le len limit) len) (n ≤ limit) n
+then-within len limit n is = elim (cases_Bool (nat_le len limit)) [
+  | inl low ↦ rw low (omega (arith, is, le-told len limit low), sym is)
+  | inr high ↦ rw high (λ low. absurd (lt-told len limit high (omega (arith, is, low))))
+]
+  where
+    le-told : (a b : ℕ) → nat_le a b ≡ true → a ≤ b
+    le-told a b is = grind (arith, nat_tests, is)
+
+    lt-told : (a b : ℕ) → nat_le a b ≡ false → a ≤ b → ⊥
+    lt-told a b is low = grind (arith, nat_tests, is, low)

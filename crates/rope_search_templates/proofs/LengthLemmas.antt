@@ -4,8 +4,8 @@ use Rattle.std.specs.Str.{IsCharBoundary}
 use Rattle.std.proofs.lemmas.List.{drop_more}
 use Rattle.std.proofs.lemmas.Str.{IsUtf8-drop, encodes-chars}
 use Rattle.str_indices.specs.Text.{byte_len}
-use Rattle.rope_search_reports.specs.Replacement.{Groups, whole, between, expand, replaced, changes_of}
-use Rattle.rope_search_reports.specs.declared.changes.Change.{Change}
+use Rattle.rope_search_changes.specs.Replacement.{Groups, whole, between, expand, replaced, changes_of}
+use Rattle.rope_search_changes.specs.declared.Change.{Change}
 use Rattle.rope_search_templates.proofs.ContentLemmas.{byte_len-append, between-len, AreLeft, left-behind}
 
 -- behind the last match everything stays

@@ -7,3 +7,6 @@ pub mod PushLemmas
 pub mod LengthLemmas
 pub mod EditingLemmas
 pub mod BuildingLemmas
+mod LeftLemmas
+mod ChunkLemmas
+mod AloneLemmas

@@ -8,7 +8,7 @@ use Rattle.std.specs.Str.{chars, NonePass, IsCharBoundary}
 use Rattle.std.specs.Borrow.{Bor}
 use Rattle.std.specs.Option.{unwrap_or}
 use Rattle.memchr.specs.Find.{IsFirstByte, is_byte}
-use Rattle.rope_search_reports.specs.Replacement.{expand, is_digit}
+use Rattle.rope_search_changes.specs.Replacement.{expand, is_digit}
 use Rattle.rope_search_templates.specs.Pieces.{BeginsWith, IsFirstPiece, StartsPlain}
 use Rattle.rope_search_templates.specs.declared.pieces.Piece.{Piece}
 use Rattle.rope_search_templates.specs.declared.pieces.Piece.TheVariants.{Text, Group}

@@ -7,8 +7,8 @@ use Rattle.std.proofs.lemmas.List.{take_all, drop-take, nil_from_length}
 use Rattle.std.proofs.lemmas.Str.{IsUtf8-between, IsUtf8-drop, chars_from_encodes}
 use Rattle.ropey.specs.Chunks.{text_of}
 use Rattle.ropey.specs.Slices.{pieces_from_char, pieces_to_char, clip}
-use Rattle.rope_search_reports.specs.Text.{bytes_of}
-use Rattle.rope_search_reports.specs.Replacement.{between}
+use Rattle.rope_search_changes.specs.Text.{bytes_of}
+use Rattle.rope_search_changes.specs.Replacement.{between}
 use Rattle.ropey_walk.specs.Clips as walk
 
 -- ---- a rope as a slice of itself

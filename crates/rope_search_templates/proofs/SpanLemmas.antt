@@ -1,12 +1,12 @@
 -- The texts of groups.
-use Rattle.std.proofs.Common.{◌≡◌, ℕ, ◌+◌, ◌-◌, ◌<◌, ◌≤◌, List, refl, length, take, drop, ◌++◌, Option, Some, None, slice_index_or, ap, sym, subst, ◌∙◌, arith, IsUtf8, IfSome}
+use Rattle.std.proofs.Common.{◌≡◌, ℕ, zero, suc, ◌+◌, ◌-◌, ◌<◌, ◌≤◌, List, [], ◌∷◌, refl, length, take, drop, ◌++◌, Option, Some, None, slice_index_or, ap, sym, subst, ◌∙◌, arith, IsUtf8, IfSome}
 use Rattle.std.proofs.lemmas.List.{length-take-le, length-drop}
 use Rattle.std.proofs.lemmas.Str.{encodes-chars, IsUtf8-between}
 use Rattle.str_indices.specs.Text.{byte_len}
 use Rattle.ropey_walk.specs.Ranges.{IsByteRangeIn}
 use Rattle.ropey_walk.specs.Clips as walk
-use Rattle.rope_search_reports.specs.Text.{IsText, bytes_of}
-use Rattle.rope_search_reports.specs.Replacement.{Groups, IsSpanIn, HasSpansIn, text_of_span, group_text, expand}
+use Rattle.rope_search_changes.specs.Text.{IsText, bytes_of}
+use Rattle.rope_search_changes.specs.Replacement.{Groups, IsSpanIn, HasSpansIn, text_of_span, group_text, expand}
 use Rattle.rope_search_templates.specs.Pieces.{IsFirstPiece, shown}
 use Rattle.rope_search_templates.specs.declared.pieces.Piece.{Piece}
 use Rattle.rope_search_templates.proofs.ContentLemmas.{byte_len-append}
@@ -26,9 +26,15 @@ span-len content span utf8 is =
 
 -- a group that takes part in the match has a span there
 pub span-of : (content : List ℕ) (groups : Groups) (number : ℕ) (span : ℕ × ℕ) → HasSpansIn content groups
-    → number < length groups → slice_index_or groups number None ≡ Some span → IsSpanIn content span
-span-of content groups number span all low is =
+    → slice_index_or groups number None ≡ Some span → IsSpanIn content span
+span-of content groups number span all is =
+    let low = is-there groups number span is in
     subst (λ (group : Option (ℕ × ℕ)). IfSome group (IsSpanIn content)) is (all number None low)
+  where
+    is-there : (groups : Groups) (number : ℕ) (span : ℕ × ℕ) → slice_index_or groups number None ≡ Some span → number < length groups
+    is-there [] number span is = absurd (cc)
+    is-there (g ∷ gs) zero span is = omega arith
+    is-there (g ∷ gs) (suc n) span is = let low = is-there gs n span is in omega (arith, low)
 
 -- what is left of a template, and its first piece
 pub piece-len : (content : List ℕ) (groups : Groups) (left : List ℕ) (piece : Piece) (behind : List ℕ) → IsFirstPiece left piece behind

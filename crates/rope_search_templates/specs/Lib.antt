@@ -1,2 +1,6 @@
+pub mod Matches
 pub mod Templates
+pub mod Told
 pub mod Pieces
+pub mod Left
+pub mod Laws

@@ -1,6 +1,6 @@
 -- The pieces of a template, one after the other.
 use Rattle.std.specs.Prelude.{◌≡◌, ℕ, ◌+◌, ◌<◌, ◌≤◌, ◌==◌, Bool, true, false, ◌||◌, List, [], ◌∷◌, ◌++◌, length, slice_index, Option, chars, MatchOption, IsUtf8}
-use Rattle.rope_search_reports.specs.Replacement.{Groups, expand, group_text, is_digit}
+use Rattle.rope_search_changes.specs.Replacement.{Groups, expand, group_text, is_digit}
 use Rattle.rope_search_templates.specs.Templates.{names_groups}
 use Rattle.rope_search_templates.specs.declared.pieces.Piece.{Piece}
 use Rattle.rope_search_templates.specs.declared.pieces.Piece.TheVariants.{Text, Group}

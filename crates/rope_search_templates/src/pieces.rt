@@ -3,8 +3,8 @@ ghost use Rattle.std.specs.Prelude.{◌≡◌, [], drop, slice_index, IfNone, If
 ghost use Rattle.std.specs.Str.{chars};
 ghost use Rattle.rope_search_templates.specs.Pieces.{BeginsWith, GivesPiece, IsFirstPiece, StartsPlain};
 
+use crate::matches::Match;
 use memchr::memchr;
-use rope_search_reports::Groups;
 use std::iter::FusedIterator;
 use std::marker::Model;
 
@@ -20,20 +20,22 @@ pub enum Piece<'a> {
 impl Piece<'_> {
     ghost use Rattle.std.specs.Prelude.{◌≡◌, ℕ, List};
     ghost use Rattle.str_indices.specs.Text.{byte_len};
-    ghost use Rattle.rope_search_reports.specs.Text.{IsText, bytes_of};
-    ghost use Rattle.rope_search_reports.specs.Replacement.{HasSpansIn};
+    ghost use Rattle.rope_search_changes.specs.Text.{IsText, bytes_of};
+    ghost use Rattle.rope_search_changes.specs.Replacement.{HasSpansIn};
+    ghost use Rattle.rope_search_templates.specs.Matches.{groups_in};
     ghost use Rattle.rope_search_templates.specs.Pieces.{IsPiece, shown};
 
-    /// How many bytes of UTF-8 it stands for at a match, which is told by its groups.
-    pub fn len(self, groups: &Groups) -> usize
+    /// How many bytes of UTF-8 it stands for at a match.
+    pub fn len(self, found: Match<'_>) -> usize
         requires piece { IsPiece self }
-        requires spans { (text : List ℕ) × IsText text × HasSpansIn (bytes_of text) groups.now }
-        ensures { (text : List ℕ) → IsText text → HasSpansIn (bytes_of text) groups.now
-            → result ≡ byte_len (shown (bytes_of text) groups.now self.entry) }
+        requires spans { (text : List ℕ) × IsText text
+            × HasSpansIn (bytes_of text) (groups_in found) }
+        ensures { (text : List ℕ) → IsText text → HasSpansIn (bytes_of text) (groups_in found.entry)
+            → result ≡ byte_len (shown (bytes_of text) (groups_in found.entry) self.entry) }
     {
         match self {
             Piece::Text(part) => part.len(),
-            Piece::Group(number) => match groups[number] {
+            Piece::Group(number) => match found.group(number) {
                 Some((start, end)) => end - start,
                 None => 0,
             },

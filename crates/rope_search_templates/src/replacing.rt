@@ -2,12 +2,16 @@
 ghost use Rattle.std.specs.Prelude.{◌≡◌, ◌^◌, ◌<◌, ◌↔◌, IsTrue, IfOk, IfErr};
 ghost use Rattle.str_indices.specs.Text.{byte_len};
 ghost use Rattle.ropey.specs.Chunks.{text_of};
-ghost use Rattle.rope_search_reports.specs.Text.{bytes_of};
-ghost use Rattle.rope_search_reports.specs.Replacement.{AreMatchesIn, changes_of, replaced, whole};
+ghost use Rattle.rope_search_changes.specs.Text.{bytes_of};
+ghost use Rattle.rope_search_changes.specs.Replacement.{AreMatchesIn, changes_of, replaced};
+ghost use Rattle.rope_search_templates.specs.Matches.{matched};
 
+use crate::left::Left;
+use crate::matches::Matches;
 use crate::templates::Template;
+use crate::told::Told;
+use rope_search_changes::Change;
 use rope_search_io::Fault;
-use rope_search_reports::{Change, Groups};
 use ropey::{Rope, RopeBuilder};
 use std::alloc::Global;
 
@@ -24,31 +28,25 @@ pub struct Replacement {
     pub changes: Vec<Change>,
 }
 
-/// Where the whole match starts and ends.
-fn span_of(groups: &Groups) -> (usize, usize)
-    ensures { result ≡ whole groups.now }
-{
-    groups[0].unwrap_or((0, 0))
-}
-
 /// Whether the text with all these matches replaced would have more bytes than the limit. It stops
 /// where that is known, and builds nothing. `O(1)` for each match and each piece of the template
 /// there.
-pub fn is_over(limit: usize, text: &Rope, template: &Template<'_>, matches: &[Groups]) -> bool
-    requires { AreMatchesIn (bytes_of (text_of text.now)) matches.now }
+pub fn is_over(limit: usize, text: &Rope, template: &Template<'_>, matches: &Matches) -> bool
+    requires { AreMatchesIn (bytes_of (text_of text.now)) (matched matches.now) }
     ensures { IsTrue result ↔ limit <
-        byte_len (replaced (bytes_of (text_of text.now)) template.now 0 matches.now) }
+        byte_len (replaced (bytes_of (text_of text.now)) template.now 0 (matched matches.now)) }
 {
     let text_len = text.len_bytes();
     // How many bytes the text behind the last match may have, and where that starts.
     let (mut room, mut at) = (limit, 0);
-    for groups in matches {
-        let (start, end) = span_of(groups);
+    for index in 0..matches.len() {
+        let found = matches.at(index);
+        let (start, end) = found.span();
         let gap = start - at;
         if room < gap {
             return true;
         }
-        let Some(len) = template.len_within(room - gap, groups) else {
+        let Some(len) = template.len_within(room - gap, found) else {
             return true;
         };
         room -= gap + len;
@@ -62,13 +60,13 @@ fn changes_of(
     alloc: Global,
     text: &Rope,
     template: &Template<'_>,
-    matches: &[Groups],
+    matches: &Matches,
 ) -> Result<Vec<Change>, Fault>
-    requires matches { AreMatchesIn (bytes_of (text_of text.now)) matches.now }
-    requires fits { byte_len (replaced (bytes_of (text_of text.now)) template.now 0 matches.now)
-        < 2 ^ 63 }
+    requires matches { AreMatchesIn (bytes_of (text_of text.now)) (matched matches.now) }
+    requires fits { byte_len (replaced (bytes_of (text_of text.now)) template.now 0
+        (matched matches.now)) < 2 ^ 63 }
     ensures changes { IfOk result (λ changes. changes.items ≡
-        changes_of (bytes_of (text_of text.now)) template.now 0 0 matches.now) }
+        changes_of (bytes_of (text_of text.now)) template.now 0 0 (matched matches.now)) }
     ensures fault { IfErr result (λ fault. fault ≡ Fault.Memory) }
 {
     // For its facts alone.
@@ -76,10 +74,11 @@ fn changes_of(
     let mut changes = Vec::with_capacity(alloc, matches.len())?;
     // Where the last match ends, in the old text and in the new one.
     let (mut at, mut at_new) = (0, 0);
-    for groups in matches {
-        let (start, end) = span_of(groups);
+    for index in 0..matches.len() {
+        let found = matches.at(index);
+        let (start, end) = found.span();
         let new_start = at_new + (start - at);
-        let Some(len) = template.len_within(usize::MAX, groups) else {
+        let Some(len) = template.len_within(usize::MAX, found) else {
             unreachable!();
         };
         at = end;
@@ -99,22 +98,24 @@ fn edited(
     alloc: Global,
     text: &Rope,
     template: &Template<'_>,
-    matches: &[Groups],
+    matches: &Matches,
 ) -> Result<Rope, Fault>
-    requires { AreMatchesIn (bytes_of (text_of text.now)) matches.now }
+    requires { AreMatchesIn (bytes_of (text_of text.now)) (matched matches.now) }
     ensures text { IfOk result (λ new. text_of new ≡
-        replaced (bytes_of (text_of text.now)) template.now 0 matches.now) }
+        replaced (bytes_of (text_of text.now)) template.now 0 (matched matches.now)) }
     ensures fault { IfErr result (λ fault. fault ≡ Fault.Memory) }
 {
     // For its facts alone.
     let _ = text.len_bytes();
     let mut new = text.clone()?;
-    let mut expansion = String::new(alloc);
-    for groups in matches.iter().rev() {
-        let (start, end) = span_of(groups);
-        expansion.clear();
-        template.expand(text, groups, &mut expansion)?;
-        let Ok(()) = new.byte_replace(start..end, expansion.as_str()) else {
+    let mut told = Told::new(alloc);
+    let mut left = matches.len();
+    while left > 0 {
+        left -= 1;
+        let found = matches.at(left);
+        let (start, end) = found.span();
+        told.tell(template, text, found)?;
+        let Ok(()) = new.byte_replace(start..end, told.text.as_str()) else {
             return Err(Fault::Memory);
         };
     }
@@ -126,34 +127,31 @@ fn rebuilt(
     alloc: Global,
     text: &Rope,
     template: &Template<'_>,
-    matches: &[Groups],
+    matches: &Matches,
 ) -> Result<Rope, Fault>
-    requires { AreMatchesIn (bytes_of (text_of text.now)) matches.now }
+    requires { AreMatchesIn (bytes_of (text_of text.now)) (matched matches.now) }
     ensures text { IfOk result (λ new. text_of new ≡
-        replaced (bytes_of (text_of text.now)) template.now 0 matches.now) }
+        replaced (bytes_of (text_of text.now)) template.now 0 (matched matches.now)) }
     ensures fault { IfErr result (λ fault. fault ≡ Fault.Memory) }
 {
     // For its facts alone.
     let _ = text.len_bytes();
-    let old = text.slice(..);
+    let mut left = Left::of(text);
     let mut builder = RopeBuilder::new(alloc);
-    let mut expansion = String::new(alloc);
+    let mut told = Told::new(alloc);
     let mut at = 0;
-    for groups in matches {
-        let (start, end) = span_of(groups);
-        expansion.clear();
-        template.expand(text, groups, &mut expansion)?;
-        let Ok(()) = builder.append_slice(old.byte_slice(at..start)) else {
+    for index in 0..matches.len() {
+        let found = matches.at(index);
+        let (start, end) = found.span();
+        left.copy(start - at, &mut builder)?;
+        told.tell(template, text, found)?;
+        let Ok(()) = builder.append(told.text.as_str()) else {
             return Err(Fault::Memory);
         };
-        let Ok(()) = builder.append(expansion.as_str()) else {
-            return Err(Fault::Memory);
-        };
+        left.skip(end - start);
         at = end;
     }
-    let Ok(()) = builder.append_slice(old.byte_slice(at..)) else {
-        return Err(Fault::Memory);
-    };
+    left.copy(text.len_bytes() - at, &mut builder)?;
     match builder.finish() {
         Ok(new) => Ok(new),
         Err(_) => Err(Fault::Memory),
@@ -166,15 +164,15 @@ pub fn replace_all(
     alloc: Global,
     text: &Rope,
     template: &Template<'_>,
-    matches: &[Groups],
+    matches: &Matches,
 ) -> Result<Replacement, Fault>
-    requires matches { AreMatchesIn (bytes_of (text_of text.now)) matches.now }
-    requires fits { byte_len (replaced (bytes_of (text_of text.now)) template.now 0 matches.now)
-        < 2 ^ 63 }
+    requires matches { AreMatchesIn (bytes_of (text_of text.now)) (matched matches.now) }
+    requires fits { byte_len (replaced (bytes_of (text_of text.now)) template.now 0
+        (matched matches.now)) < 2 ^ 63 }
     ensures text { IfOk result (λ new. text_of new.text ≡
-        replaced (bytes_of (text_of text.now)) template.now 0 matches.now) }
+        replaced (bytes_of (text_of text.now)) template.now 0 (matched matches.now)) }
     ensures changes { IfOk result (λ new. new.changes.items ≡
-        changes_of (bytes_of (text_of text.now)) template.now 0 0 matches.now) }
+        changes_of (bytes_of (text_of text.now)) template.now 0 0 (matched matches.now)) }
     ensures fault { IfErr result (λ fault. fault ≡ Fault.Memory) }
 {
     let changes = changes_of(alloc, text, template, matches)?;

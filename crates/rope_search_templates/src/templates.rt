@@ -1,16 +1,17 @@
 //! Templates: what takes the place of a match.
-ghost use Rattle.std.specs.Prelude.{◌≡◌, ℕ, ◌≤◌, false, List, [], ◌++◌, take, SomeIff, OnOk, OnErr, string_bytes};
+ghost use Rattle.std.specs.Prelude.{◌≡◌, ℕ, ◌≤◌, false, true, List, [], ◌++◌, take, SomeIff, OnOk, OnErr, string_bytes};
 ghost use Rattle.std.specs.Str.{chars};
 ghost use Rattle.str_indices.specs.Text.{byte_len};
 ghost use Rattle.ropey.specs.Chunks.{text_of};
 ghost use Rattle.ropey_walk.specs.Slices.{slice_text};
-ghost use Rattle.rope_search_reports.specs.Text.{IsText, bytes_of};
-ghost use Rattle.rope_search_reports.specs.Replacement.{Groups, HasSpansIn, expand};
+ghost use Rattle.rope_search_changes.specs.Text.{IsText, bytes_of};
+ghost use Rattle.rope_search_changes.specs.Replacement.{Groups, HasSpansIn, IsSpanIn, between, expand};
 ghost use Rattle.rope_search_templates.specs.Templates.{names_groups};
+ghost use Rattle.rope_search_templates.specs.Matches.{groups_in};
 ghost use Rattle.rope_search_templates.specs.Pieces.{IsPiece, shown};
 
+use crate::matches::Match;
 use crate::pieces::{Piece, Pieces};
-use rope_search_reports::Groups;
 use ropey::{Rope, RopeSlice};
 use std::alloc::AllocError;
 use std::marker::Model;
@@ -22,17 +23,21 @@ use std::marker::Model;
 #[derive(Debug, Drop)]
 pub struct Template<'a> {
     text: &'a str,
+    // How many bytes it stands for, where that is the same at every match.
+    same_len: Option<usize>,
 }
 
 impl<'a> Model for Template<'a> {
-    ghost use Rattle.std.specs.Prelude.{List, ℕ, IsUtf8};
+    ghost use Rattle.std.specs.Prelude.{List, ℕ, IsUtf8, IfSome};
     ghost use Rattle.std.specs.Str.{chars};
+    ghost use Rattle.rope_search_templates.specs.Templates.{IsSame};
 
     ghost Value = { List ℕ };
 
     ghost view = { λ template. chars template.text.now };
 
-    ghost invariant = { λ template. IsUtf8 template.text.now };
+    ghost invariant = { λ template. IsUtf8 template.text.now
+        × IfSome template.same_len (IsSame (chars template.text.now)) };
 }
 
 /// Puts the text of a slice behind what `out` has, chunk by chunk. Where memory is refused, a front
@@ -49,41 +54,76 @@ fn push_slice(slice: RopeSlice<'_>, out: &mut String) -> Result<(), AllocError>
     Ok(())
 }
 
+/// Puts the part of a text from one place to another behind what `out` has. Where memory is
+/// refused, a front of it may have been put there. `O(log t)` in a text of t bytes, and linear in
+/// the part.
+fn push_part(text: &Rope, start: usize, end: usize, out: &mut String) -> Result<(), AllocError>
+    requires { IsSpanIn (bytes_of (text_of text.now)) (start, end) }
+    ensures pushed { OnOk result (chars (string_bytes out.new) ≡ chars (string_bytes out.old)
+        ++ between (bytes_of (text_of text.now)) start end) }
+    ensures front { OnErr result ((len : ℕ) × (chars (string_bytes out.new) ≡
+        chars (string_bytes out.old)
+        ++ take len (between (bytes_of (text_of text.now)) start end))) }
+{
+    let (chunk, chunk_start, _, _) = text.chunk_at_byte(start);
+    if end - chunk_start <= chunk.len() {
+        return out.push_str(&chunk[start - chunk_start..end - chunk_start]);
+    }
+    // For its facts alone.
+    let _ = text.len_bytes();
+    push_slice(text.slice(..).byte_slice(start..end), out)
+}
+
 /// Puts what a piece of a template stands for behind what `out` has. Where memory is refused, a
 /// front of it may have been put there.
 fn push_piece(
     piece: Piece<'_>,
     text: &Rope,
-    groups: &Groups,
+    found: Match<'_>,
     out: &mut String,
 ) -> Result<(), AllocError>
     requires piece { IsPiece piece }
-    requires spans { HasSpansIn (bytes_of (text_of text.now)) groups.now }
+    requires spans { HasSpansIn (bytes_of (text_of text.now)) (groups_in found) }
     ensures pushed { OnOk result (chars (string_bytes out.new) ≡ chars (string_bytes out.old)
-        ++ shown (bytes_of (text_of text.now)) groups.now piece.entry) }
+        ++ shown (bytes_of (text_of text.now)) (groups_in found.entry) piece.entry) }
     ensures front { OnErr result ((len : ℕ) × (chars (string_bytes out.new) ≡
         chars (string_bytes out.old)
-        ++ take len (shown (bytes_of (text_of text.now)) groups.now piece.entry))) }
+        ++ take len (shown (bytes_of (text_of text.now)) (groups_in found.entry) piece.entry))) }
 {
     match piece {
         Piece::Text(part) => out.push_str(part),
         Piece::Group(number) => {
-            let Some((start, end)) = groups[number] else {
+            let Some((start, end)) = found.group(number) else {
                 return Ok(());
             };
-            // For its facts alone.
-            let _ = text.len_bytes();
-            push_slice(text.slice(..).byte_slice(start..end), out)
+            push_part(text, start, end, out)
         }
     }
 }
 
 impl<'a> Template<'a> {
-    /// The template with these characters. It takes no memory, and copies nothing.
+    /// The template with these characters. It takes no memory, and copies nothing. `O(m)` for m
+    /// bytes.
     pub fn new(text: &'a str) -> Template<'a>
         ensures { result ≡ chars text.now }
     {
-        Template { text }
+        let template = Template {
+            text,
+            same_len: None,
+        };
+        if template.names_groups() {
+            return template;
+        }
+        let same_len = template.len_within(usize::MAX, Match::Span(0, 0));
+        Template { text, same_len }
+    }
+
+    /// Whether it stands for the same text at every match: it names no group.
+    pub(crate) fn is_same(&self) -> bool
+        ensures { result ≡ true → (content : List ℕ) (groups : Groups)
+            → expand content groups self.now ≡ expand [] [] self.now }
+    {
+        self.same_len.is_some()
     }
 
     /// Its pieces, one after the other.
@@ -108,36 +148,44 @@ impl<'a> Template<'a> {
         false
     }
 
-    /// How many bytes of UTF-8 it stands for at a match, which is told by its groups; none where
-    /// they are more than `limit`. It reads no further than to where they are. `O(m)` for a
-    /// template of m bytes, however long the groups are.
-    pub fn len_within(&self, limit: usize, groups: &Groups) -> Option<usize>
-        requires { (text : List ℕ) × IsText text × HasSpansIn (bytes_of text) groups.now }
-        ensures { (text : List ℕ) → IsText text → HasSpansIn (bytes_of text) groups.now
-            → let len = byte_len (expand (bytes_of text) groups.now self.now) in
+    /// How many bytes of UTF-8 it stands for at a match; none where they are more than `limit`. It
+    /// reads no further than to where they are. `O(m)` for a template of m bytes that names a
+    /// group, however long the groups are; else `O(1)`.
+    pub(crate) fn len_within(&self, limit: usize, found: Match<'_>) -> Option<usize>
+        requires { (text : List ℕ) × IsText text × HasSpansIn (bytes_of text) (groups_in found) }
+        ensures { (text : List ℕ) → IsText text → HasSpansIn (bytes_of text) (groups_in found.entry)
+            → let len = byte_len (expand (bytes_of text) (groups_in found.entry) self.now) in
             SomeIff result (len ≤ limit) len }
     {
+        if let Some(len) = self.same_len {
+            return (len <= limit).then_some(len);
+        }
         let mut left = limit;
         for piece in self.pieces() {
-            left = left.checked_sub(piece.len(groups))?;
+            left = left.checked_sub(piece.len(found))?;
         }
         Some(limit - left)
     }
 
-    /// Puts what it stands for at a match of a text, which is told by its groups, behind what `out`
-    /// has. Where memory is refused, a front of that may have been put there. `O(m + n)` for a
-    /// template of m bytes that stands for n, and `O(log t)` for each group in a text of t bytes.
-    pub fn expand(&self, text: &Rope, groups: &Groups, out: &mut String) -> Result<(), AllocError>
-        requires { HasSpansIn (bytes_of (text_of text.now)) groups.now }
+    /// Puts what it stands for at a match of a text behind what `out` has. Where memory is refused,
+    /// a front of that may have been put there. `O(m + n)` for a template of m bytes that stands
+    /// for n, and `O(log t)` for each group in a text of t bytes.
+    pub(crate) fn expand(
+        &self,
+        text: &Rope,
+        found: Match<'_>,
+        out: &mut String,
+    ) -> Result<(), AllocError>
+        requires { HasSpansIn (bytes_of (text_of text.now)) (groups_in found) }
         ensures expanded { OnOk result (chars (string_bytes out.new) ≡
             chars (string_bytes out.old)
-            ++ expand (bytes_of (text_of text.now)) groups.now self.now) }
+            ++ expand (bytes_of (text_of text.now)) (groups_in found.entry) self.now) }
         ensures front { OnErr result ((len : ℕ) × (chars (string_bytes out.new) ≡
             chars (string_bytes out.old)
-            ++ take len (expand (bytes_of (text_of text.now)) groups.now self.now))) }
+            ++ take len (expand (bytes_of (text_of text.now)) (groups_in found.entry) self.now))) }
     {
         for piece in self.pieces() {
-            push_piece(piece, text, groups, out)?;
+            push_piece(piece, text, found, out)?;
         }
         Ok(())
     }

@@ -6,7 +6,8 @@ use std::io;
 use std::io::{ErrorKind, Read};
 use std::test::Fail;
 
-/// A reader that gives `step` bytes at most at once, and fails at a call, counted from 1.
+/// A reader that gives `step` bytes at most at once, and fails at one call, counted from
+/// 1; the next one would go on.
 #[derive(Drop)]
 struct SlowReader<'a> {
     left: &'a [u8],
@@ -17,6 +18,7 @@ struct SlowReader<'a> {
 impl<'a> Read for SlowReader<'a> {
     fn read(&mut self, buf: &mut [u8]) -> io::Result<usize> {
         if self.calls_to_failure == 1 {
+            self.calls_to_failure = 0;
             return Err(io::Error::from(ErrorKind::Interrupted));
         }
         self.calls_to_failure = self.calls_to_failure.saturating_sub(1);

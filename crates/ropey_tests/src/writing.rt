@@ -7,7 +7,8 @@ use std::io;
 use std::io::{ErrorKind, Write};
 use std::test::Fail;
 
-/// A writer that takes `step` bytes at most at once, and fails at a call, counted from 1.
+/// A writer that takes `step` bytes at most at once, and fails at one call, counted from
+/// 1; the next one would go on.
 #[derive(Drop)]
 struct SlowWriter {
     taken: Vec<u8>,
@@ -19,6 +20,7 @@ struct SlowWriter {
 impl Write for SlowWriter {
     fn write(&mut self, buf: &[u8]) -> io::Result<usize> {
         if self.calls_to_failure == 1 {
+            self.calls_to_failure = 0;
             return Err(io::Error::from(self.kind));
         }
         self.calls_to_failure = self.calls_to_failure.saturating_sub(1);

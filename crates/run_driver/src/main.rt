@@ -18,6 +18,7 @@ mod row;
 use crate::fault::Fault;
 use crate::row::Row;
 use rope_search::{Broken, Ended, Lines, MemorySink, MemorySource, run_limited};
+use std::alloc::Global;
 use std::io::{self, BufRead, BufReader};
 
 /// How a run ended, as answers tell it.
@@ -40,16 +41,15 @@ fn answer(rt: &HostRuntime, line: &str) -> Result<String, Fault> {
     let mut tick = Lines::new(rt);
     let mut source = MemorySource::new(row.input.as_slice(), row.read.max(1), row.failed_read);
     let mut sink = MemorySink::new(alloc, row.room, row.write.max(1), row.failed_write)?;
-    let result = run_limited(&mut tick, alloc, &mut source, &mut sink, row.limits);
+    let ended = ending(run_limited(&mut tick, alloc, &mut source, &mut sink, row.limits));
+    told(alloc, ended, &tick, sink.written())
+}
+
+/// How a run ended, what it counted, and what it wrote.
+fn told(alloc: Global, ended: &str, tick: &Lines, written: &[u8]) -> Result<String, Fault> {
     let mut out = String::new(alloc);
-    write!(
-        out,
-        "{} {} {} ",
-        ending(result),
-        tick.count(),
-        tick.wholes()
-    )?;
-    for byte in sink.written() {
+    write!(out, "{ended} {} {} ", tick.count(), tick.wholes())?;
+    for byte in written {
         write!(out, "{byte:02x}")?;
     }
     Ok(out)

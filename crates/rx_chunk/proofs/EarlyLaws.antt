@@ -1,5 +1,5 @@
 -- What a search tells that may stop at the first end of a match.
-use Rattle.std.proofs.Common.{◌≡◌, ℕ, ◌≤◌, Bool, true, false, List, length, Option, Some, None, is_some, option_map, refl, sym, ap, subst, ◌∙◌, arith}
+use Rattle.std.proofs.Common.{◌≡◌, ℕ, ◌*◌, ◌≤◌, Bool, true, false, List, length, Option, Some, None, is_some, option_map, refl, sym, ap, subst, ◌∙◌, arith}
 use Rattle.std.specs.Option.{ForSome}
 use Rattle.std.proofs.lemmas.Option.{none-some}
 use Rattle.unicode.specs.Perl.{is_word_char}
@@ -7,20 +7,19 @@ use Rattle.rx_sets.specs.Sets.{Range}
 use Rattle.rx_utf8.specs.Automata.{is_in}
 use Rattle.rx_util.specs.declared.search.Span.{Span}
 use Rattle.rx_util.specs.Search.{Found}
-use Rattle.rx_util.specs.Captured.{Captured, place_in, span_between, group_span, match_found}
+use Rattle.rx_util.specs.Captured.{Captured, group_span, match_found}
 use Rattle.rx_walks.specs.Looks as walks
 use Rattle.rx_walks.specs.Machines.{Outcome}
 use Rattle.rx_walks.specs.Programs.{Program, Notes}
 use Rattle.rx_walks.specs.Finds.{Search, up_to_place}
 use Rattle.rx_walks.specs.Laws.{CutSpansTell}
-use Rattle.rx_program.specs.Laws.{MatchesNoteTheirPlaces}
 use Rattle.rx_program.specs.Programs.{ByteProgram, characters_of}
 use Rattle.rx_steps.specs.Threads.{Slots}
 use Rattle.rx_steps.specs.Searching.{IsAnswer, IsAnswerAt, IsFirstEnd}
-use Rattle.rx_chunk.specs.Engines.{Engine, IsEngine, Finds, match_of, TellsWhether, IsFound, TellsMatch, TellsSlots, IsFoundAt}
+use Rattle.rx_chunk.specs.Engines.{Engine, Finds, match_of, TellsWhether, IsFound, TellsMatch, TellsSlots, IsFoundAt, whole_span}
 use Rattle.rx_chunk.specs.Iterating.{EndsAhead, captured_by}
-use Rattle.rx_chunk.proofs.EngineLaws.{tells_whether, none_found}
-use Rattle.rx_chunk.proofs.FoundLaws.{InsideLaw, is_noted, noted_in_order, match_with, noted_found, AreNoted, are_noted}
+use Rattle.rx_chunk.proofs.EngineLaws.{tells_whether, none_found, none_slots}
+use Rattle.rx_chunk.proofs.FoundLaws.{InsideLaw, NotesPlaces, is_noted, noted_in_order, match_with, noted_found, AreNoted, are_noted}
 use Rattle.rx_chunk.proofs.IterLaws.{all_end, found_first}
 
 -- the law of rx_walks that finds in a span that is cut tell of finds, as a call of `cut_spans_tell` tells it
@@ -47,9 +46,9 @@ tells_match true p s i None law is = record { whether = whether_found p s None i
 tells_match true p s i (Some m) law is = record { whether = whether_in_part p s i is.0.found true law is.0.in_span is.0.finds refl; exact = λ e. absurd (cc e) }
 
 pub tells_slots : (earliest : Bool) (p : ByteProgram) (s : Search) (i : ℕ) (pattern : Option ℕ) (slots : Slots) → CutLaw → IsAnswerAt earliest p s i pattern slots → TellsSlots earliest p s pattern slots
-tells_slots false p s i pattern slots law is = record { whether = tells_whether (is_some pattern) refl is; exact = λ e. is }
-tells_slots true p s i None slots law is = record { whether = tells_whether false refl is; exact = λ e. absurd (cc e) }
-tells_slots true p s i (Some k) slots law is = record { whether = whether_in_part p s i is.0.found true law is.0.in_span is.0.finds refl; exact = λ e. absurd (cc e) }
+tells_slots false p s i pattern slots law is = record { whether = tells_whether (is_some pattern) refl is; exact = λ e. is; none = none_slots p s pattern slots is }
+tells_slots true p s i None slots law is = record { whether = tells_whether false refl is; exact = λ e. absurd (cc e); none = none_slots p s None slots is }
+tells_slots true p s i (Some k) slots law is = record { whether = whether_in_part p s i is.0.found true law is.0.in_span is.0.finds refl; exact = λ e. absurd (cc e); none = λ e. absurd (cc e) }
 
 pub first_end : (p : ByteProgram) (s : Search) (i : ℕ) (pattern : Option ℕ) (slots : Slots) → is_some pattern ≡ true → IsAnswerAt true p s i pattern slots → IsFirstEnd p s i
 first_end p s i None slots some is = absurd (cc some)
@@ -74,22 +73,22 @@ nothing_at false p s i pattern slots none is = none_found is none
 nothing_at true p s i None slots none is = none_found is refl
 nothing_at true p s i (Some k) slots none is = absurd (cc none)
 
-pub match_at : (earliest : Bool) (e : Engine) (s : Search) (i : ℕ) (pattern : Option ℕ) (k : ℕ) (slots : Slots) (result : Option Found) → IsEngine e → MatchesNoteTheirPlaces → 2 ≤ length slots → pattern ≡ Some k
-    → result ≡ option_map (match_with k) (span_between (place_in slots 0) (place_in slots 1)) → IsAnswerAt earliest e.program s i pattern slots → IsFoundAt earliest e.program s i result
-match_at false e s i pattern k slots result of_a_tree law two some told is = noted_found e.program s k slots result (is_noted e s pattern slots k of_a_tree law two is some) told
-match_at true e s i None k slots result of_a_tree law two some told is = absurd (cc some)
-match_at true e s i (Some j) k slots None of_a_tree law two some told is =
-    let noted = is_noted e (up_to_place s i) (Some j) slots k of_a_tree law two is.1 some in
+pub match_at : (earliest : Bool) (e : Engine) (s : Search) (i : ℕ) (pattern : Option ℕ) (k : ℕ) (slots : Slots) (result : Option Found) → NotesPlaces e → 2 * length e.groups ≤ length slots → pattern ≡ Some k
+    → result ≡ option_map (match_with k) (whole_span k slots) → IsAnswerAt earliest e.program s i pattern slots → IsFoundAt earliest e.program s i result
+match_at false e s i pattern k slots result notes room some told is = noted_found e.program s k slots result (is_noted e s pattern slots k notes room is some) told
+match_at true e s i None k slots result notes room some told is = absurd (cc some)
+match_at true e s i (Some j) k slots None notes room some told is =
+    let noted = is_noted e (up_to_place s i) (Some j) slots k notes room is.1 some in
     absurd (cc (told ∙ ap (λ o. option_map (match_with k) o) noted.span))
-match_at true e s i (Some j) k slots (Some m) of_a_tree law two some told is =
-    (is.0, noted_found e.program (up_to_place s i) k slots (Some m) (is_noted e (up_to_place s i) (Some j) slots k of_a_tree law two is.1 some) told)
+match_at true e s i (Some j) k slots (Some m) notes room some told is =
+    (is.0, noted_found e.program (up_to_place s i) k slots (Some m) (is_noted e (up_to_place s i) (Some j) slots k notes room is.1 some) told)
 
 -- its places are in order
-pub match_in_order : (earliest : Bool) (e : Engine) (s : Search) (i : ℕ) (pattern : Option ℕ) (k : ℕ) (slots : Slots) → IsEngine e → MatchesNoteTheirPlaces → InsideLaw → 2 ≤ length slots → pattern ≡ Some k
-    → IsAnswerAt earliest e.program s i pattern slots → ForSome (span_between (place_in slots 0) (place_in slots 1)) (λ (x : Span). x.start ≤ x.end)
-match_in_order earliest e s i pattern k slots of_a_tree law inside two some is =
+pub match_in_order : (earliest : Bool) (e : Engine) (s : Search) (i : ℕ) (pattern : Option ℕ) (k : ℕ) (slots : Slots) → NotesPlaces e → InsideLaw → 2 * length e.groups ≤ length slots → pattern ≡ Some k
+    → IsAnswerAt earliest e.program s i pattern slots → ForSome (whole_span k slots) (λ (x : Span). x.start ≤ x.end)
+match_in_order earliest e s i pattern k slots notes inside room some is =
     let part = in_part earliest e.program s i pattern slots is in
-    noted_in_order e.program (up_to_place s part.end) k slots inside (is_noted e (up_to_place s part.end) pattern slots k of_a_tree law two part.answer some)
+    noted_in_order e.program (up_to_place s part.end) k slots inside (is_noted e (up_to_place s part.end) pattern slots k notes room part.answer some)
 
 -- ---- the same in captures
 
@@ -105,7 +104,13 @@ ends_in_span p s i found inside within is = λ a some.
     let ends = all_end p None (up_to_place s i) found inside (found_first p (up_to_place s i) found is) a some in
     record { on = ends.on; further = ends.further; in_span = omega (arith, ends.in_span, within); in_content = ends.in_content }
 
--- what captures tell of the whole match, where they are those of the engine and have its two slots
+-- so does what is found at a place
+pub found_inside : (earliest : Bool) (p : ByteProgram) (s : Search) (i : ℕ) (found : Option Found) → InsideLaw → IsFoundAt earliest p s i found → ForSome found (λ a. EndsAhead None s a.span.end)
+found_inside false p s i found inside is = ends_in_span p s s.end found inside (omega arith) is
+found_inside true p s i None inside is = λ a some. absurd (cc some)
+found_inside true p s i (Some m) inside is = ends_in_span p s i (Some m) inside is.0.in_span is.1
+
+-- what captures tell of the whole match, where they are those of the engine and have its room slots
 pub record AreFoundAt (earliest : Bool) (p : ByteProgram) (s : Search) (caps : Captured) : Type 0 where
   pub tells : TellsMatch earliest p s (match_found caps)
   pub ordered : ForSome (group_span caps 0) (λ (x : Span). x.start ≤ x.end)
@@ -114,13 +119,13 @@ pub record AreFoundAt (earliest : Bool) (p : ByteProgram) (s : Search) (caps : C
 found_by : {p : ByteProgram} {s : Search} {caps : Captured} → AreNoted p s caps → IsFound p s (match_found caps)
 found_by are = (are.out, are.finds, are.match_is)
 
-pub captured_at : (earliest : Bool) (e : Engine) (s : Search) (i : ℕ) (caps : Captured) → IsEngine e → MatchesNoteTheirPlaces → InsideLaw → CutLaw → caps.groups ≡ e.groups → 2 ≤ length caps.slots
+pub captured_at : (earliest : Bool) (e : Engine) (s : Search) (i : ℕ) (caps : Captured) → NotesPlaces e → InsideLaw → CutLaw → caps.groups ≡ e.groups → 2 * length e.groups ≤ length caps.slots
     → IsAnswerAt earliest e.program s i caps.pattern caps.slots → AreFoundAt earliest e.program s caps
-captured_at earliest e s i caps of_a_tree law inside cut same two is = by earliest caps.pattern refl is
+captured_at earliest e s i caps notes inside cut same room is = by earliest caps.pattern refl is
   where
     whole : IsAnswer e.program s caps.pattern caps.slots → AreFoundAt false e.program s caps
     whole answer =
-        let are = are_noted e s caps of_a_tree law inside same two answer in
+        let are = are_noted e s caps notes inside same room answer in
         record {
           tells = record { whether = whether_found e.program s (match_found caps) (found_by are); exact = λ _. found_by are };
           ordered = are.ordered;
@@ -133,7 +138,7 @@ captured_at earliest e s i caps of_a_tree law inside cut same two is = by earlie
         let are = whole (subst (λ k. IsAnswer e.program s k caps.slots) (sym is') answer) in
         record { tells = record { whether = are.tells.whether; exact = λ e. absurd (cc e) }; ordered = are.ordered; inside = are.inside }
     by true (Some k) is' answer =
-        let are = are_noted e (up_to_place s i) caps of_a_tree law inside same two (subst (λ k. IsAnswer e.program (up_to_place s i) k caps.slots) (sym is') answer.1) in
+        let are = are_noted e (up_to_place s i) caps notes inside same room (subst (λ k. IsAnswer e.program (up_to_place s i) k caps.slots) (sym is') answer.1) in
         record {
           tells = record { whether = whether_noted e.program s i k caps cut answer.0.in_span is' are; exact = λ e. absurd (cc e) };
           ordered = are.ordered;

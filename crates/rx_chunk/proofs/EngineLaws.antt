@@ -8,13 +8,17 @@ use Rattle.rx_walks.specs.Machines.{Outcome}
 use Rattle.rx_walks.specs.Programs.{Notes}
 use Rattle.rx_walks.specs.Finds.{Search}
 use Rattle.rx_program.specs.Programs.{ByteProgram}
-use Rattle.rx_steps.specs.Threads.{Slots}
-use Rattle.rx_steps.specs.Searching.{IsAnswer}
+use Rattle.rx_steps.specs.Threads.{Slots, no_slots}
+use Rattle.rx_steps.specs.Searching.{IsAnswer, answer_slots}
 use Rattle.rx_chunk.specs.Engines.{match_of, TellsWhether, IsFound}
 
 pub if_ok : {A E : Type 0} {P Q : A → Type 0} (r : Result A E) → ((x : A) → P x → Q x) → IfOk r P → IfOk r Q
 if_ok (Ok x) f h = f x h
 if_ok (Err e) f h = h
+
+pub if_both : {A E : Type 0} {P Q : A → Type 0} {B : Type 0} (r : Result A E) → ((x : A) → P x → B → Q x) → IfOk r P → OnOk r B → IfOk r Q
+if_both (Ok x) f h b = f x h b
+if_both (Err e) f h b = h
 
 pub on_ok : {A E : Type 0} {P Q : Type 0} (r : Result A E) → (P → Q) → OnOk r P → OnOk r Q
 on_ok (Ok x) f h = f h
@@ -42,6 +46,11 @@ pub none_found : {p : ByteProgram} {s : Search} {pattern : Option ℕ} {slots : 
 none_found answer is =
     let none : answer.found ≡ None = none_out answer.found (sym answer.pattern_is ∙ is) in
     (answer.found, answer.finds, sym (ap (option_map match_of) none))
+
+-- where nothing is found no slot holds a place
+pub none_slots : (p : ByteProgram) (s : Search) (pattern : Option ℕ) (slots : Slots) → IsAnswer p s pattern slots → pattern ≡ None → slots ≡ no_slots (length slots)
+none_slots p s pattern slots answer is =
+    answer.slots_are ∙ ap (λ o. answer_slots (length slots) o) (none_out answer.found (sym answer.pattern_is ∙ is))
 
 -- ---- slots that were lent
 

@@ -3,3 +3,4 @@ pub mod FoundLaws
 pub mod IterLaws
 pub mod NextLaws
 pub mod EarlyLaws
+pub mod LowerLaws

@@ -1,24 +1,23 @@
 -- What comes next, by the places that it noted.
-use Rattle.std.proofs.Common.{◌≡◌, ℕ, ◌+◌, ◌≤◌, length, Option, Some, None, option_map, refl, sym, ap, ap₂, subst, ◌∙◌, arith}
+use Rattle.std.proofs.Common.{◌≡◌, ℕ, ◌+◌, ◌*◌, ◌<◌, ◌≤◌, length, Option, Some, None, option_map, refl, sym, ap, ap₂, subst, ◌∙◌, arith}
 use Rattle.std.specs.Option.{ForSome}
 use Rattle.std.proofs.lemmas.Option.{none-some, same_Some}
-use Rattle.unicode.specs.Perl.{is_word_char}
 use Rattle.rx_util.specs.declared.search.Span.{Span}
-use Rattle.rx_util.specs.Captured.{Captured, place_in, span_between, group_span, match_found}
+use Rattle.rx_util.specs.Captured.{Captured, span_between, group_span, match_found}
 use Rattle.rx_util.specs.Search.{Found}
 use Rattle.rx_walks.specs.Machines.{Outcome}
 use Rattle.rx_walks.specs.Programs.{Notes}
 use Rattle.rx_walks.specs.Finds.{Search, from_place_on}
 use Rattle.rx_walks.specs.ProgramFinds.{start_of, end_of}
 use Rattle.rx_walks.specs.Iterating.{nothing, at_once, passed}
-use Rattle.rx_program.specs.Laws.{HasNoted, MatchesNoteTheirPlaces}
-use Rattle.rx_program.specs.Programs.{ByteProgram, characters_of}
+use Rattle.rx_program.specs.Laws.{HasNotedOwn}
+use Rattle.rx_program.specs.Programs.{ByteProgram}
 use Rattle.rx_steps.specs.Threads.{Slots}
 use Rattle.rx_steps.specs.Searching.{IsAnswer, answer_slots}
-use Rattle.rx_chunk.specs.Engines.{Engine, IsEngine, Finds, match_of}
+use Rattle.rx_chunk.specs.Engines.{Engine, Finds, match_of, end_noted, start_noted, whole_span}
 use Rattle.rx_chunk.specs.Iterating.{ComesNext, EndsAhead, HasNotedNext, IsFoundNext, IsNextAnswer}
 use Rattle.rx_chunk.proofs.EngineLaws.{pattern_in}
-use Rattle.rx_chunk.proofs.FoundLaws.{IsCaptured, captured, captured_is, match_with, span_of, two_places}
+use Rattle.rx_chunk.proofs.FoundLaws.{IsCaptured, NotesPlaces, captured, captured_is, match_with, span_of, two_places}
 use Rattle.rx_chunk.proofs.IterLaws.{InsideLaw, MayStart, all_end, lies}
 
 -- ---- what the searches answer is what comes next
@@ -41,16 +40,26 @@ starts_by p s k (Some t) law finds is =
 pub answer_starts : (p : ByteProgram) (s : Search) (pattern : Option ℕ) (k : ℕ) (slots : Slots) → InsideLaw → pattern ≡ Some k → IsAnswer p s pattern slots → MayStart s
 answer_starts p s pattern k slots law some answer = starts_by p s k answer.found law answer.finds (sym some ∙ answer.pattern_is)
 
-module _ (e : Engine) (of_a_tree : IsEngine e) (law : MatchesNoteTheirPlaces) where
-  noted_of : (s : Search) (t : Outcome Notes) → Finds e.program s (Some t) → HasNoted (start_of t) t
-  noted_of s t finds = (law of_a_tree.0 e.program.line_terminator of_a_tree.1.well_formed is_word_char (characters_of e.program) s of_a_tree.1.program).finds t finds
+-- the places of a match of this pattern, in its slots
+abbrev AreAt : Outcome Notes → ℕ → Slots → Type 0
+AreAt t k slots = (start_noted k slots ≡ Some (start_of t)) × (end_noted k slots ≡ Some (end_of t))
+
+at_pattern : (t : Outcome Notes) (k : ℕ) (slots : Slots) → Some k ≡ pattern_in (Some t) → AreAt t t.pattern slots → AreAt t k slots
+at_pattern t k slots is at = subst (λ j. AreAt t j slots) (sym (same_Some k t.pattern is)) at
+
+module _ (e : Engine) (notes : NotesPlaces e) where
+  places_noted : (t : Outcome Notes) (k : ℕ) (slots : Slots) → 2 * length e.groups ≤ length slots → HasNotedOwn (start_of t) t × (t.pattern < length e.groups) → Some k ≡ pattern_in (Some t)
+      → slots ≡ answer_slots (length slots) (Some t) → AreAt t k slots
+  places_noted t k slots room noted is are =
+      let there : 2 * t.pattern + 1 < length slots = omega (arith, noted.1, room) in
+      at_pattern t k slots is (two_places t (length slots) slots there are noted.0)
 
   module _ (s : Search) (last : Option ℕ) where
-    some_next : (k : ℕ) (slots : Slots) (out : Option (Outcome Notes)) → 2 ≤ length slots → Finds e.program s out → Some k ≡ pattern_in out → slots ≡ answer_slots (length slots) out
-        → (place_in slots 0 ≡ place_in slots 1 → last ≡ place_in slots 1 → ⊥) → IsNextAnswer e.program s last (Some k) slots
-    some_next k slots None two finds is are apart = absurd (none-some k (sym is))
-    some_next k slots (Some t) two finds is are apart =
-        let places = two_places t (length slots) slots two are (noted_of s t finds) in
+    some_next : (k : ℕ) (slots : Slots) (out : Option (Outcome Notes)) → 2 * length e.groups ≤ length slots → Finds e.program s out → Some k ≡ pattern_in out → slots ≡ answer_slots (length slots) out
+        → (start_noted k slots ≡ end_noted k slots → last ≡ end_noted k slots → ⊥) → IsNextAnswer e.program s last (Some k) slots
+    some_next k slots None room finds is are apart = absurd (none-some k (sym is))
+    some_next k slots (Some t) room finds is are apart =
+        let places = places_noted t k slots room (notes s t finds) is are in
         record {
           out = Some t;
           comes = at_once finds (λ empty. apart (places.0 ∙ ap (λ i. Some i) empty.0 ∙ sym places.1) (empty.1 ∙ sym places.1));
@@ -58,15 +67,15 @@ module _ (e : Engine) (of_a_tree : IsEngine e) (law : MatchesNoteTheirPlaces) wh
           slots_are = are;
         }
 
-    pub next_some : (pattern : Option ℕ) (k : ℕ) (slots : Slots) → pattern ≡ Some k → 2 ≤ length slots → IsAnswer e.program s pattern slots
-        → (place_in slots 0 ≡ place_in slots 1 → last ≡ place_in slots 1 → ⊥) → IsNextAnswer e.program s last (Some k) slots
-    next_some pattern k slots some two answer apart = some_next k slots answer.found two answer.finds (sym some ∙ answer.pattern_is) answer.slots_are apart
+    pub next_some : (pattern : Option ℕ) (k : ℕ) (slots : Slots) → pattern ≡ Some k → 2 * length e.groups ≤ length slots → IsAnswer e.program s pattern slots
+        → (start_noted k slots ≡ end_noted k slots → last ≡ end_noted k slots → ⊥) → IsNextAnswer e.program s last (Some k) slots
+    next_some pattern k slots some room answer apart = some_next k slots answer.found room answer.finds (sym some ∙ answer.pattern_is) answer.slots_are apart
 
-    further_next : (k : ℕ) (slots : Slots) (out : Option (Outcome Notes)) (next : Option ℕ) (others : Slots) → 2 ≤ length slots → Finds e.program s out → Some k ≡ pattern_in out → slots ≡ answer_slots (length slots) out
-        → (place_in slots 0 ≡ place_in slots 1) × (last ≡ place_in slots 1) → IsAnswer e.program (from_place_on s (s.start + 1)) next others → IsNextAnswer e.program s last next others
-    further_next k slots None next others two finds is are here answer = absurd (none-some k (sym is))
-    further_next k slots (Some t) next others two finds is are here answer =
-        let places = two_places t (length slots) slots two are (noted_of s t finds) in
+    further_next : (k : ℕ) (slots : Slots) (out : Option (Outcome Notes)) (next : Option ℕ) (others : Slots) → 2 * length e.groups ≤ length slots → Finds e.program s out → Some k ≡ pattern_in out → slots ≡ answer_slots (length slots) out
+        → (start_noted k slots ≡ end_noted k slots) × (last ≡ end_noted k slots) → IsAnswer e.program (from_place_on s (s.start + 1)) next others → IsNextAnswer e.program s last next others
+    further_next k slots None next others room finds is are here answer = absurd (none-some k (sym is))
+    further_next k slots (Some t) next others room finds is are here answer =
+        let places = places_noted t k slots room (notes s t finds) is are in
         record {
           out = answer.found;
           comes = passed finds (same_Some (start_of t) (end_of t) (sym places.0 ∙ here.0 ∙ places.1), here.1 ∙ places.1) answer.finds;
@@ -74,17 +83,17 @@ module _ (e : Engine) (of_a_tree : IsEngine e) (law : MatchesNoteTheirPlaces) wh
           slots_are = answer.slots_are;
         }
 
-    pub next_passed : (pattern : Option ℕ) (k : ℕ) (slots : Slots) (next : Option ℕ) (others : Slots) → pattern ≡ Some k → 2 ≤ length slots → IsAnswer e.program s pattern slots
-        → (place_in slots 0 ≡ place_in slots 1) × (last ≡ place_in slots 1) → IsAnswer e.program (from_place_on s (s.start + 1)) next others → IsNextAnswer e.program s last next others
-    next_passed pattern k slots next others some two first here answer = further_next k slots first.found next others two first.finds (sym some ∙ first.pattern_is) first.slots_are here answer
+    pub next_passed : (pattern : Option ℕ) (k : ℕ) (slots : Slots) (next : Option ℕ) (others : Slots) → pattern ≡ Some k → 2 * length e.groups ≤ length slots → IsAnswer e.program s pattern slots
+        → (start_noted k slots ≡ end_noted k slots) × (last ≡ end_noted k slots) → IsAnswer e.program (from_place_on s (s.start + 1)) next others → IsNextAnswer e.program s last next others
+    next_passed pattern k slots next others some room first here answer = further_next k slots first.found next others room first.finds (sym some ∙ first.pattern_is) first.slots_are here answer
 
     -- ---- its match
 
     -- where it was found, it noted its places, in order
-    comes_noted : {out : Option (Outcome Notes)} (t : Outcome Notes) → ComesNext e.program s last out → out ≡ Some t → HasNoted (start_of t) t
+    comes_noted : {out : Option (Outcome Notes)} (t : Outcome Notes) → ComesNext e.program s last out → out ≡ Some t → HasNotedOwn (start_of t) t × (t.pattern < length e.groups)
     comes_noted t (nothing finds) is = absurd (cc is)
-    comes_noted t (at_once {t = a} finds not) is = noted_of s t (subst (λ o. Finds e.program s o) is finds)
-    comes_noted t (passed {out = o} finds empty further) is = noted_of (from_place_on s (s.start + 1)) t (subst (λ o. Finds e.program (from_place_on s (s.start + 1)) o) is further)
+    comes_noted t (at_once {t = a} finds not) is = notes s t (subst (λ o. Finds e.program s o) is finds)
+    comes_noted t (passed {out = o} finds empty further) is = notes (from_place_on s (s.start + 1)) t (subst (λ o. Finds e.program (from_place_on s (s.start + 1)) o) is further)
 
     comes_ordered : {out : Option (Outcome Notes)} (t : Outcome Notes) → InsideLaw → ComesNext e.program s last out → out ≡ Some t → start_of t ≤ end_of t
     comes_ordered t inside (nothing finds) is = absurd (cc is)
@@ -99,37 +108,38 @@ module _ (e : Engine) (of_a_tree : IsEngine e) (law : MatchesNoteTheirPlaces) wh
     pub nothing_next : (pattern : Option ℕ) (slots : Slots) → pattern ≡ None → IsNextAnswer e.program s last pattern slots → IsFoundNext e.program s last None
     nothing_next pattern slots none answer = nothing_by answer.out answer.comes (sym none ∙ answer.pattern_is)
 
-    span_by : (k : ℕ) (slots : Slots) (out : Option (Outcome Notes)) → 2 ≤ length slots → ComesNext e.program s last out → Some k ≡ pattern_in out → slots ≡ answer_slots (length slots) out
-        → (t : Outcome Notes) × (out ≡ Some t) × (t.pattern ≡ k) × (span_between (place_in slots 0) (place_in slots 1) ≡ Some (span_of t))
-    span_by k slots None two comes is are = absurd (none-some k (sym is))
-    span_by k slots (Some t) two comes is are =
-        let places = two_places t (length slots) slots two are (comes_noted t comes refl) in
+    span_by : (k : ℕ) (slots : Slots) (out : Option (Outcome Notes)) → 2 * length e.groups ≤ length slots → ComesNext e.program s last out → Some k ≡ pattern_in out → slots ≡ answer_slots (length slots) out
+        → (t : Outcome Notes) × (out ≡ Some t) × (t.pattern ≡ k) × (whole_span k slots ≡ Some (span_of t))
+    span_by k slots None room comes is are = absurd (none-some k (sym is))
+    span_by k slots (Some t) room comes is are =
+        let places = places_noted t k slots room (comes_noted t comes refl) is are in
         (t, refl, sym (same_Some k t.pattern is), ap₂ (λ i j. span_between i j) places.0 places.1)
 
-    pub found_next : (pattern : Option ℕ) (k : ℕ) (slots : Slots) (result : Option Found) → pattern ≡ Some k → 2 ≤ length slots → result ≡ option_map (match_with k) (span_between (place_in slots 0) (place_in slots 1))
+    pub found_next : (pattern : Option ℕ) (k : ℕ) (slots : Slots) (result : Option Found) → pattern ≡ Some k → 2 * length e.groups ≤ length slots → result ≡ option_map (match_with k) (whole_span k slots)
         → IsNextAnswer e.program s last pattern slots → IsFoundNext e.program s last result
-    found_next pattern k slots result some two told answer =
-        let t = span_by k slots answer.out two answer.comes (sym some ∙ answer.pattern_is) answer.slots_are in (
+    found_next pattern k slots result some room told answer =
+        let t = span_by k slots answer.out room answer.comes (sym some ∙ answer.pattern_is) answer.slots_are in (
           answer.out,
           answer.comes,
           told ∙ ap (λ o. option_map (match_with k) o) t.3 ∙ ap (λ j. Some (match_with j (span_of t.0))) (sym t.2) ∙ ap (λ o. option_map match_of o) (sym t.1),
         )
 
-    pub in_order : (pattern : Option ℕ) (k : ℕ) (slots : Slots) → InsideLaw → pattern ≡ Some k → 2 ≤ length slots → IsNextAnswer e.program s last pattern slots
-        → ForSome (span_between (place_in slots 0) (place_in slots 1)) (λ (x : Span). x.start ≤ x.end)
-    in_order pattern k slots inside some two answer = λ x is.
-        let t = span_by k slots answer.out two answer.comes (sym some ∙ answer.pattern_is) answer.slots_are in
+    pub in_order : (pattern : Option ℕ) (k : ℕ) (slots : Slots) → InsideLaw → pattern ≡ Some k → 2 * length e.groups ≤ length slots → IsNextAnswer e.program s last pattern slots
+        → ForSome (whole_span k slots) (λ (x : Span). x.start ≤ x.end)
+    in_order pattern k slots inside some room answer = λ x is.
+        let t = span_by k slots answer.out room answer.comes (sym some ∙ answer.pattern_is) answer.slots_are in
         let ordered : start_of t.0 ≤ end_of t.0 = comes_ordered t.0 inside answer.comes t.1 in
         let same : span_of t.0 ≡ x = same_Some (span_of t.0) x (sym t.3 ∙ is) in
         subst (λ (y : Span). y.start ≤ y.end) same ordered
 
     -- ---- the same in captures
 
-    pub noted_next : (caps : Captured) → InsideLaw → caps.groups ≡ e.groups → 2 ≤ length caps.slots → IsNextAnswer e.program s last caps.pattern caps.slots
+    pub noted_next : (caps : Captured) → InsideLaw → caps.groups ≡ e.groups → 2 * length e.groups ≤ length caps.slots → IsNextAnswer e.program s last caps.pattern caps.slots
         → HasNotedNext e.program s last caps × ForSome (group_span caps 0) (λ (x : Span). x.start ≤ x.end)
-    noted_next caps inside same two answer =
+    noted_next caps inside same room answer =
         let is : IsCaptured (captured caps.groups (pattern_in answer.out) caps.slots) answer.out =
-        captured_is e of_a_tree caps.groups caps.slots answer.out same two answer.slots_are (λ t out_is. (comes_noted t answer.comes out_is, comes_ordered t inside answer.comes out_is)) in
+        captured_is e caps.groups caps.slots answer.out same room answer.slots_are
+        (λ t out_is. let noted = comes_noted t answer.comes out_is in (noted.0, noted.1, comes_ordered t inside answer.comes out_is)) in
         let are : IsCaptured caps answer.out = subst (λ pattern. IsCaptured (captured caps.groups pattern caps.slots) answer.out) (sym answer.pattern_is) is in
         (record { out = answer.out; comes = answer.comes; noted = are.noted; match_is = are.match_is }, are.ordered)
 

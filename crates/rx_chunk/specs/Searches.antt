@@ -35,9 +35,9 @@ abbrev pub TellsSlotsAt : Engine → InputState → ℕ → Option ℕ → List 
 TellsSlotsAt e i at pattern slots =
     IsAnswerAt i.asked.earliest e.program (search_by e i) at pattern slots
 
--- captures of the engine's groups with slots for the whole match
+-- captures of the engine's groups with slots for the whole match of each pattern
 abbrev pub HoldsMatches : Engine → Captured → Type 0
-HoldsMatches e caps = (caps.groups ≡ e.groups) × (2 ≤ length caps.slots)
+HoldsMatches e caps = (caps.groups ≡ e.groups) × (2 * length e.groups ≤ length caps.slots)
 
 -- such captures tell the whole match, which doesn't end before it starts, and ends in the span
 pub record TellsWhole (e : Engine) (i : InputState) (caps : Captured) : Type 0 where

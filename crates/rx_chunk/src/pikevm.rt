@@ -1,16 +1,17 @@
 //! The engine that follows all walks through a program side by side.
 
-ghost use Rattle.std.specs.Prelude.{◌≡◌, ℕ, ◌+◌, ◌*◌, ◌≤◌, IfOk, IfErr, IsTrue, OnOk, OnErr, None, Some, length, option_map, true, false};
+ghost use Rattle.std.specs.Prelude.{◌≡◌, ℕ, ◌+◌, ◌*◌, ◌<◌, ◌≤◌, ◌^◌, map, IfOk, IfErr, IsTrue, OnOk, OnErr, None, Some, length, option_map, true, false};
 ghost use Rattle.std.specs.Option.{ForSome};
 ghost use Rattle.rx_util.specs.declared.search.MatchError.{MatchError};
 ghost use Rattle.rx_util.specs.Groups.{slot_len};
-ghost use Rattle.rx_util.specs.Captured.{nothing_noted, place_in, span_between, group_span, match_found};
+ghost use Rattle.rx_util.specs.Captured.{nothing_noted, place_in, group_span, match_found};
 ghost use Rattle.rx_grammar.specs.Settings.{default_settings};
+ghost use Rattle.rx_input.specs.Searchers.{EndsInside};
 ghost use Rattle.rx_steps.specs.Searching.{IsAnswerAt, IsFirstEnd};
 ghost use Rattle.rx_steps.specs.Standing.{StopsAt};
 ghost use Rattle.rx_steps.specs.Threads.{no_slots};
 ghost use Rattle.rx_steps.specs.Caches.{IsCacheOf};
-ghost use Rattle.rx_chunk.specs.Engines.{nothing_set, settings_over, IsEngine, IsBuiltOf, IsRefused, TellsWhether, IsFoundAt, by_default};
+ghost use Rattle.rx_chunk.specs.Engines.{nothing_set, settings_over, IsEngine, IsBuiltOf, IsBuiltOfAll, IsRefused, IsRefusedOfAll, TellsWhether, IsFoundAt, by_default, end_noted, start_noted, whole_span};
 ghost use Rattle.rx_chunk.specs.Iterating.{EndsAhead, HasNotedNext, IsFoundNext, IsNextAnswer, StartsFrom, matches_from};
 ghost use Rattle.rx_chunk.specs.FindMatches.{cache_of, left_of, program_of};
 ghost use Rattle.rx_chunk.specs.Searches.{AsksTheSame, HoldsMatches, ServesOn, StopsInTime, TellsMatch, TellsSlots, TellsSlotsAt, TellsWhole, search_by};
@@ -18,13 +19,10 @@ ghost use Rattle.rx_chunk.specs.Searches.{AsksTheSame, HoldsMatches, ServesOn, S
 use rx_engine::Compiled;
 use rx_grammar::syntax;
 use rx_input::{Cursor, Input};
-use rx_program::laws::matches_note_their_places;
 use rx_program::{BuildError, Program};
-use rx_sets::CharacterSet;
 use rx_steps as search;
 use rx_util::{Captures, GroupInfo, Match, MatchError, NonMaxUsize, PatternID, Span};
-use rx_walks::laws::{cut_spans_tell, finds_lie_inside};
-use std::alloc::Global;
+use std::alloc::{AllocError, Global};
 use std::marker::Model;
 
 mod find_matches;
@@ -32,7 +30,7 @@ mod find_matches;
 pub use find_matches::FindMatches;
 pub use rx_engine::Config;
 
-/// Builds a `PikeVM` of a pattern.
+/// Builds a `PikeVM` of a pattern, or of several.
 #[derive(Debug, Drop)]
 pub struct Builder {
     builder: rx_engine::Builder,
@@ -54,6 +52,16 @@ impl Builder {
         Builder {
             builder: rx_engine::Builder::new(),
         }
+    }
+
+    /// Returns a builder in which the same is set. The one error is `Memory`.
+    pub fn clone(&self) -> Result<Builder, MatchError>
+        ensures same { IfOk result (λ builder. builder ≡ self.now) }
+        ensures refused { IfErr result (λ error. error ≡ MatchError.Memory) }
+    {
+        Ok(Builder {
+            builder: self.builder.clone()?,
+        })
     }
 
     /// Takes over the settings that are set in these, and leaves the others.
@@ -91,10 +99,27 @@ impl Builder {
             compiled: self.builder.build(alloc, pattern)?,
         })
     }
+
+    /// Returns the engine for patterns that are searched for together: where matches of several
+    /// start at one place, those of an earlier pattern are preferred. With no pattern it never
+    /// finds a match. Time and memory are those of all patterns.
+    ///
+    /// Errors: those of `build`, for the first pattern whose text is refused; and then `Size` where
+    /// the patterns together, and 1 more unless there is exactly one, weigh too much.
+    pub fn build_many(&self, alloc: Global, patterns: &[&str]) -> Result<PikeVM, BuildError>
+        ensures built { IfOk result
+            (λ vm. IsBuiltOfAll (map (λ text. text.now) patterns.now) self.now vm) }
+        ensures refused { IfErr result
+            (λ error. IsRefusedOfAll (map (λ text. text.now) patterns.now) self.now error) }
+    {
+        Ok(PikeVM {
+            compiled: self.builder.build_many(alloc, patterns)?,
+        })
+    }
 }
 
-/// An engine that searches for a pattern. Contracts see its program, its groups, and whether it
-/// passes over empty matches inside a character.
+/// An engine that searches for a pattern, or for several. Contracts see their program, their
+/// groups, and whether it passes over empty matches inside a character.
 #[derive(Debug, Drop)]
 pub struct PikeVM {
     compiled: Compiled,
@@ -116,6 +141,17 @@ impl PikeVM {
         ensures refused { IfErr result (λ error. IsRefused pattern.now by_default error) }
     {
         Builder::new().build(alloc, pattern)
+    }
+
+    /// Returns the engine for patterns that are searched for together, under default settings.
+    /// Errors are those of `Builder::build_many`.
+    pub fn new_many(alloc: Global, patterns: &[&str]) -> Result<PikeVM, BuildError>
+        ensures built { IfOk result
+            (λ vm. IsBuiltOfAll (map (λ text. text.now) patterns.now) by_default vm) }
+        ensures refused { IfErr result
+            (λ error. IsRefusedOfAll (map (λ text. text.now) patterns.now) by_default error) }
+    {
+        Builder::new().build_many(alloc, patterns)
     }
 
     /// Returns the same engine, which shares program and groups. The one error is `Memory`. `O(1)`.
@@ -142,25 +178,35 @@ impl PikeVM {
     pub fn create_captures(&self) -> Result<Captures, MatchError>
         ensures made { IfOk result (λ caps. caps
             ≡ nothing_noted self.now.groups (slot_len self.now.groups)) }
-        ensures room { IfOk result (λ caps. 2 ≤ length caps.slots) }
+        ensures room { IfOk result
+            (λ caps. 2 * length self.now.groups ≤ length caps.slots) }
         ensures refused { IfErr result (λ error. error ≡ MatchError.Memory) }
     {
         self.compiled.create_captures()
     }
 
-    /// Returns the groups of its pattern. `O(1)`.
+    /// Returns the groups of its patterns. `O(1)`.
     pub fn group_info(&self) -> &GroupInfo
         ensures groups { result.now ≡ self.now.groups }
         ensures engine { IsEngine self.now }
+        ensures patterns { length self.now.program.patterns ≡ length self.now.groups }
     {
         self.compiled.group_info()
     }
 
     /// Returns the program that it searches for, for the engines that search by it too. `O(1)`.
     pub fn program(&self) -> &Program
-        ensures { result.now ≡ self.now.program }
+        ensures program { result.now ≡ self.now.program }
+        ensures engine { IsEngine self.now }
     {
         self.compiled.program()
+    }
+
+    /// Returns whether empty matches inside a character are passed over, for these engines too.
+    pub fn utf8_empty(&self) -> bool
+        ensures { result ≡ self.now.utf8_empty }
+    {
+        self.compiled.utf8_empty()
     }
 }
 
@@ -169,6 +215,8 @@ impl PikeVM {
 #[derive(Debug, Drop)]
 pub struct Cache {
     room: search::Cache,
+    // Slots for the whole match of each pattern.
+    places: Vec<Option<NonMaxUsize>>,
 }
 
 impl Model for Cache {
@@ -185,9 +233,9 @@ impl Cache {
         ensures made { IfOk result (λ cache. IsCacheOf vm.now.program cache) }
         ensures refused { IfErr result (λ error. error ≡ MatchError.Memory) }
     {
-        Ok(Cache {
-            room: search::Cache::new(alloc, vm.program())?,
-        })
+        let room = search::Cache::new(alloc, vm.program())?;
+        let places = vec![in alloc; None; vm.group_info().implicit_slot_len()]?;
+        Ok(Cache { room, places })
     }
 
     /// Returns a cache for the same engine, which knows what this one knows. The one error is
@@ -196,9 +244,9 @@ impl Cache {
         ensures same { IfOk result (λ cache. cache ≡ record self.now { followed = 0 }) }
         ensures refused { IfErr result (λ error. error ≡ MatchError.Memory) }
     {
-        Ok(Cache {
-            room: self.room.clone()?,
-        })
+        let room = self.room.clone()?;
+        let places = self.places.clone()?;
+        Ok(Cache { room, places })
     }
 
     /// Makes the cache one for searches with this engine. The one error is `Memory`, which leaves
@@ -208,7 +256,12 @@ impl Cache {
         ensures kept { OnErr result (self.new ≡ self.old) }
         ensures refused { IfErr result (λ error. error ≡ MatchError.Memory) }
     {
-        self.room.reset(vm.program())
+        let places = vec![in *self.places.allocator(); None; vm.group_info().implicit_slot_len()]?;
+        let made = self.room.reset(vm.program());
+        if made.is_ok() {
+            self.places = places;
+        }
+        made
     }
 
     /// Returns about how many bytes its lists take: a count that no contract fixes.
@@ -245,16 +298,14 @@ pub fn search_slots<C: Cursor>(
     ensures asks { AsksTheSame input.old input.new }
     ensures refused { IfErr result (λ error. error ≡ MatchError.Memory) }
 {
-    // A law, for the proof alone.
-    cut_spans_tell::<CharacterSet>();
     let earliest = input.get_earliest();
-    seek(vm, cache, input, earliest, slots)
+    seek(vm, &mut cache.room, input, earliest, slots)
 }
 
 /// Searches as `search_slots` does, with `earliest` as it is said here.
 fn seek<C: Cursor>(
     vm: &PikeVM,
-    cache: &mut Cache,
+    cache: &mut search::Cache,
     input: &mut Input<C>,
     earliest: bool,
     slots: &mut [Option<NonMaxUsize>],
@@ -267,16 +318,19 @@ fn seek<C: Cursor>(
     ensures none { OnErr result (slots.new ≡ no_slots (length slots.new)) }
     ensures serves { ServesOn vm.now input.old cache.old cache.new }
     ensures asks { AsksTheSame input.old input.new }
+    ensures engine { IsEngine vm.now }
+    ensures bound { length input.old.cursor.content < 2 ^ 63 }
     ensures refused { IfErr result (λ error. error ≡ MatchError.Memory) }
 {
-    let room = &mut cache.room;
-    let utf8_empty = vm.compiled.utf8_empty();
-    search::search_slots(vm.program(), room, input, utf8_empty, earliest, slots)
+    let _at = input.position(); // tells how long the content may be
+    let utf8_empty = vm.utf8_empty();
+    search::search_slots(vm.program(), cache, input, utf8_empty, earliest, slots)
 }
 
 /// Notes what is found in captures, as `search_slots` does in slots, and under its condition. In
-/// captures that the engine made, or others of its groups with two slots and more, group 0 is then
-/// the whole match. The one error is `Memory`: then no pattern is noted, and no slot holds a place.
+/// captures that the engine made, or others of its groups with two slots for each pattern and more,
+/// group 0 is then the whole match. The one error is `Memory`: then no pattern is noted, and no
+/// slot holds a place.
 pub fn search<C: Cursor>(
     vm: &PikeVM,
     cache: &mut Cache,
@@ -298,12 +352,6 @@ pub fn search<C: Cursor>(
     ensures asks { AsksTheSame input.old input.new }
     ensures refused { IfErr result (λ error. error ≡ MatchError.Memory) }
 {
-    // Laws, for the proof alone.
-    matches_note_their_places();
-    finds_lie_inside::<CharacterSet>();
-    cut_spans_tell::<CharacterSet>();
-    let _groups = vm.group_info(); // tells that the program is that of a tree
-    let _at = input.position(); // tells how long the content may be
     let earliest = input.get_earliest();
     note(vm, cache, input, earliest, caps)
 }
@@ -328,10 +376,12 @@ fn note<C: Cursor>(
     ensures none { OnErr result (caps.new.slots ≡ no_slots (length caps.new.slots)) }
     ensures serves { ServesOn vm.now input.old cache.old cache.new }
     ensures asks { AsksTheSame input.old input.new }
+    ensures engine { IsEngine vm.now }
+    ensures bound { length input.old.cursor.content < 2 ^ 63 }
     ensures refused { IfErr result (λ error. error ≡ MatchError.Memory) }
 {
     caps.set_pattern(None);
-    let pattern = seek(vm, cache, input, earliest, caps.slots_mut())?;
+    let pattern = seek(vm, &mut cache.room, input, earliest, caps.slots_mut())?;
     caps.set_pattern(pattern);
     Ok(())
 }
@@ -353,10 +403,23 @@ pub fn is_match<C: Cursor>(
     ensures asks { AsksTheSame input.old input.new }
     ensures refused { IfErr result (λ error. error ≡ MatchError.Memory) }
 {
-    // A law, for the proof alone.
-    cut_spans_tell::<CharacterSet>();
-    let pattern = seek(vm, cache, input, true, &mut [])?;
+    let pattern = seek(vm, &mut cache.room, input, true, &mut [])?;
     Ok(pattern.is_some())
+}
+
+/// Slots for the whole match of each pattern of the engine: those at hand, or, where these are too
+/// few, so many as are needed.
+fn whole_slots<'s>(
+    vm: &PikeVM,
+    slots: &'s mut Vec<Option<NonMaxUsize>>,
+) -> Result<&'s mut [Option<NonMaxUsize>], AllocError>
+    ensures room { IfOk result (λ slots. 2 * length vm.now.groups ≤ length slots.now) }
+{
+    let wanted = vm.group_info().implicit_slot_len();
+    if slots.len() < wanted {
+        slots.resize(wanted, None)?;
+    }
+    Ok(slots)
 }
 
 /// The place noted in a slot, if there is one.
@@ -369,22 +432,33 @@ fn place_in(slots: &[Option<NonMaxUsize>], slot: usize) -> Option<usize>
     }
 }
 
-/// Returns the match of a pattern from the place in slot 0 to that in slot 1, if both are there.
-/// Requires that the second isn't before the first, as it isn't where a search of one pattern put
-/// them there.
-pub fn match_in(pattern: PatternID, slots: &[Option<NonMaxUsize>]) -> Option<Match>
-    requires ordered { ForSome (span_between (place_in slots.now 0) (place_in slots.now 1))
-        (λ span. span.start ≤ span.end) }
-    ensures { result ≡ option_map (λ span. record { pattern = pattern; span = span })
-        (span_between (place_in slots.now 0) (place_in slots.now 1)) }
+/// The places noted in the two slots of a pattern's group 0, if they are there.
+fn whole_places(pattern: PatternID, slots: &[Option<NonMaxUsize>]) -> (Option<usize>, Option<usize>)
+    ensures { result ≡ (start_noted pattern slots.now, end_noted pattern slots.now) }
 {
-    let start = place_in(slots, 0)?;
-    let end = place_in(slots, 1)?;
-    Some(Match::new(pattern, Span { start, end }))
+    let number = pattern.as_usize();
+    if number >= slots.len() {
+        return (None, None);
+    }
+    (place_in(slots, 2 * number), place_in(slots, 2 * number + 1))
 }
 
-/// Returns the match that is found, as `search` notes it. The one error is `Memory`. Requires that
-/// the cache is one for the engine.
+/// Returns the match of a pattern by the two slots of its group 0, from the place in the first to
+/// that in the second, if both are there. Requires that the second isn't before the first, as it
+/// isn't where a search put them there.
+pub fn match_in(pattern: PatternID, slots: &[Option<NonMaxUsize>]) -> Option<Match>
+    requires ordered { ForSome (whole_span pattern slots.now) (λ span. span.start ≤ span.end) }
+    ensures { result ≡ option_map (λ span. record { pattern = pattern; span = span })
+        (whole_span pattern slots.now) }
+{
+    match whole_places(pattern, slots) {
+        (Some(start), Some(end)) => Some(Match::new(pattern, Span { start, end })),
+        _ => None,
+    }
+}
+
+/// Returns the match that is found, as `search` notes it: it ends in the span. The one error is
+/// `Memory`. Requires that the cache is one for the engine.
 pub fn find<C: Cursor>(
     vm: &PikeVM,
     cache: &mut Cache,
@@ -392,14 +466,14 @@ pub fn find<C: Cursor>(
 ) -> Result<Option<Match>, MatchError>
     requires made { IsCacheOf vm.now.program cache.old }
     ensures answer { IfOk result (λ found. TellsMatch vm.now input.old found) }
+    ensures inside { IfOk result
+        (λ found. ForSome found (λ m. EndsInside input.old m.span.end)) }
     ensures stops { IfOk result
         (λ found. ForSome found (λ _. StopsInTime vm.now input.old input.new.position)) }
-    ensures made { IsCacheOf vm.now.program cache.new }
+    ensures serves { ServesOn vm.now input.old cache.old cache.new }
     ensures asks { AsksTheSame input.old input.new }
     ensures refused { IfErr result (λ error. error ≡ MatchError.Memory) }
 {
-    // A law, for the proof alone.
-    cut_spans_tell::<CharacterSet>();
     let earliest = input.get_earliest();
     look_for(vm, cache, input, earliest)
 }
@@ -416,38 +490,42 @@ fn look_for<C: Cursor>(
         (search_by vm.now input.old) input.new.position found) }
     ensures stops { IfOk result (λ found. ForSome found (λ _. StopsAt earliest vm.now.program
         (search_by vm.now input.old) input.new.position)) }
-    ensures made { IsCacheOf vm.now.program cache.new }
+    ensures serves { ServesOn vm.now input.old cache.old cache.new }
     ensures asks { AsksTheSame input.old input.new }
+    ensures bound { OnOk result (length input.old.cursor.content < 2 ^ 63) }
     ensures refused { IfErr result (λ error. error ≡ MatchError.Memory) }
 {
-    // Laws, for the proof alone.
-    matches_note_their_places();
-    finds_lie_inside::<CharacterSet>();
-    let _groups = vm.group_info(); // tells that the program is that of a tree
-    let mut slots = [None; 2];
-    let found = seek(vm, cache, input, earliest, &mut slots)?;
+    let slots = whole_slots(vm, &mut cache.places)?;
+    let found = seek(vm, &mut cache.room, input, earliest, slots)?;
     let Some(pattern) = found else {
         return Ok(None);
     };
-    Ok(match_in(pattern, &slots))
+    Ok(match_in(pattern, slots))
 }
 
-/// Whether the match whose places stand in the slots is an empty one where the last one ended.
-fn is_empty_at_last(slots: &[Option<NonMaxUsize>], last_match_end: Option<usize>) -> bool
-    ensures here { result ≡ true → (place_in slots.now 0 ≡ place_in slots.now 1)
-        × (last_match_end ≡ place_in slots.now 1) }
-    ensures elsewhere { result ≡ false → place_in slots.now 0 ≡ place_in slots.now 1
-        → last_match_end ≡ place_in slots.now 1 → ⊥ }
+/// Whether the match of a pattern whose places stand in the slots is an empty one where the last
+/// one ended.
+fn is_empty_at_last(
+    pattern: PatternID,
+    slots: &[Option<NonMaxUsize>],
+    last_match_end: Option<usize>,
+) -> bool
+    ensures here { result ≡ true → (start_noted pattern slots.now ≡ end_noted pattern slots.now)
+        × (last_match_end ≡ end_noted pattern slots.now) }
+    ensures elsewhere { result ≡ false
+        → start_noted pattern slots.now ≡ end_noted pattern slots.now
+        → last_match_end ≡ end_noted pattern slots.now → ⊥ }
 {
-    let end = place_in(slots, 1);
-    place_in(slots, 0) == end && last_match_end == end
+    let (start, end) = whole_places(pattern, slots);
+    start == end && last_match_end == end
 }
 
 /// Returns the pattern of the match that comes next where the last one, if there was one, ended at
 /// `last_match_end`, and puts its places into the slots, as many as there are; all others hold
 /// none. An empty match there is passed over, and the search goes on one byte further than the span
 /// starts. It is a whole match, also where `earliest` is set. The one error is `Memory`: then no
-/// slot holds a place. Requires that the cache is one for the engine, and two slots or more.
+/// slot holds a place. Requires that the cache is one for the engine, and two slots for each of its
+/// patterns or more.
 pub fn next_slots<C: Cursor>(
     vm: &PikeVM,
     cache: &mut Cache,
@@ -456,23 +534,40 @@ pub fn next_slots<C: Cursor>(
     last_match_end: Option<usize>,
 ) -> Result<Option<PatternID>, MatchError>
     requires made { IsCacheOf vm.now.program cache.old }
-    requires slots { 2 ≤ length slots.old }
+    requires slots { 2 * length vm.now.groups ≤ length slots.old }
     ensures answer { IfOk result (λ pattern. IsNextAnswer vm.now.program
         (search_by vm.now input.old) last_match_end pattern slots.new) }
     ensures none { OnErr result (slots.new ≡ no_slots (length slots.new)) }
     ensures made { IsCacheOf vm.now.program cache.new }
     ensures same { (start : ℕ) × StartsFrom input.old input.new start }
+    ensures engine { IsEngine vm.now }
     ensures refused { IfErr result (λ error. error ≡ MatchError.Memory) }
 {
-    // Laws, for the proof alone.
-    matches_note_their_places();
-    finds_lie_inside::<CharacterSet>();
-    let _groups = vm.group_info(); // tells that the program is that of a tree
-    let _at = input.position(); // tells how long the content may be
+    next_in(vm, &mut cache.room, input, slots, last_match_end)
+}
+
+/// What comes next, as `next_slots` finds it.
+fn next_in<C: Cursor>(
+    vm: &PikeVM,
+    cache: &mut search::Cache,
+    input: &mut Input<C>,
+    slots: &mut [Option<NonMaxUsize>],
+    last_match_end: Option<usize>,
+) -> Result<Option<PatternID>, MatchError>
+    requires made { IsCacheOf vm.now.program cache.old }
+    requires slots { 2 * length vm.now.groups ≤ length slots.old }
+    ensures answer { IfOk result (λ pattern. IsNextAnswer vm.now.program
+        (search_by vm.now input.old) last_match_end pattern slots.new) }
+    ensures none { OnErr result (slots.new ≡ no_slots (length slots.new)) }
+    ensures made { IsCacheOf vm.now.program cache.new }
+    ensures same { (start : ℕ) × StartsFrom input.old input.new start }
+    ensures engine { IsEngine vm.now }
+    ensures refused { IfErr result (λ error. error ≡ MatchError.Memory) }
+{
     let Some(pattern) = seek(vm, cache, input, false, slots)? else {
         return Ok(None);
     };
-    if !is_empty_at_last(slots, last_match_end) {
+    if !is_empty_at_last(pattern, slots, last_match_end) {
         return Ok(Some(pattern));
     }
     let start = input.start();
@@ -497,15 +592,11 @@ pub fn find_next<C: Cursor>(
     ensures same { (start : ℕ) × StartsFrom input.old input.new start }
     ensures refused { IfErr result (λ error. error ≡ MatchError.Memory) }
 {
-    // Laws, for the proof alone.
-    matches_note_their_places();
-    finds_lie_inside::<CharacterSet>();
-    let _groups = vm.group_info(); // tells that the program is that of a tree
-    let mut slots = [None; 2];
-    let Some(pattern) = next_slots(vm, cache, input, &mut slots, last_match_end)? else {
+    let slots = whole_slots(vm, &mut cache.places)?;
+    let Some(pattern) = next_in(vm, &mut cache.room, input, slots, last_match_end)? else {
         return Ok(None);
     };
-    Ok(match_in(pattern, &slots))
+    Ok(match_in(pattern, slots))
 }
 
 /// Notes the match that comes next, as `next_slots` finds it, with all its groups. The one error is
@@ -520,7 +611,7 @@ pub fn search_next<C: Cursor>(
 ) -> Result<(), MatchError>
     requires made { IsCacheOf vm.now.program cache.old }
     requires groups { caps.old.groups ≡ vm.now.groups }
-    requires slots { 2 ≤ length caps.old.slots }
+    requires slots { 2 * length vm.now.groups ≤ length caps.old.slots }
     ensures answer { OnOk result (HasNotedNext vm.now.program
         (search_by vm.now input.old) last_match_end caps.new) }
     ensures ordered { OnOk result (ForSome (group_span caps.new 0)
@@ -534,10 +625,6 @@ pub fn search_next<C: Cursor>(
     ensures same { (start : ℕ) × StartsFrom input.old input.new start }
     ensures refused { IfErr result (λ error. error ≡ MatchError.Memory) }
 {
-    // Laws, for the proof alone.
-    matches_note_their_places();
-    finds_lie_inside::<CharacterSet>();
-    let _groups = vm.group_info(); // tells that the program is that of a tree
     caps.set_pattern(None);
     let found = next_slots(vm, cache, input, caps.slots_mut(), last_match_end)?;
     caps.set_pattern(found);

@@ -90,3 +90,11 @@ same_bare (t ∷ threads) (u ∷ others) bare bare' e same =
 
 pub same_before : (threads others : List Thread) (n m : ℕ) → m ≤ n → SameUpTo threads others n → SameUpTo threads others m
 same_before threads others n m le same k x lt = same k x (omega (arith, le, lt))
+
+-- lists that have other nodes at a place differ
+pub differ_at : (threads others : List Thread) (i : ℕ) (q r : ℕ × ℕ) → IsSomeAnd (slice_get threads i) (λ t. q ≡ t.1) → IsSomeAnd (slice_get others i) (λ t. r ≡ t.1) → (q ≡ r → ⊥) → threads ≡ others → ⊥
+differ_at threads others i q r is is' other e = apart (slice_get others i) (subst (λ xs. IsSomeAnd (slice_get xs i) (λ t. q ≡ t.1)) e is) is'
+  where
+    apart : (o : Option Thread) → IsSomeAnd o (λ t. q ≡ t.1) → IsSomeAnd o (λ t. r ≡ t.1) → ⊥
+    apart None here there = here
+    apart (Some t) here there = other (here ∙ sym there)

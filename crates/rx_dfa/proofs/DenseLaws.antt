@@ -1,7 +1,8 @@
 -- Automata that are closed.
-use Rattle.std.proofs.Common.{inl, inr, ◌≡◌, ℕ, zero, suc, ◌+◌, ◌*◌, ◌<◌, ◌≤◌, Bool, List, [], ◌∷◌, ◌++◌, length, set, Option, Some, None, slice_get, refl, sym, ap, ap₂, subst, ◌∙◌, arith}
+use Rattle.std.proofs.Common.{inl, inr, ◌≡◌, ℕ, zero, suc, ◌+◌, ◌-◌, ◌*◌, ◌<◌, ◌≤◌, max, Bool, List, [], ◌∷◌, ◌++◌, length, set, Option, Some, None, slice_get, refl, sym, ap, ap₂, subst, ◌∙◌, arith}
 use Rattle.std.specs.Prelude.{◌==◌}
 use Rattle.std.proofs.lemmas.Option.{slice_get_within}
+use Rattle.std.proofs.Math.Nat.{le-mul_of_pos_right, mul-le-mul_right}
 use Rattle.rx_util.specs.Search.{HalfFound}
 use Rattle.rx_walks.specs.Finds.{unanchored, anchored, anchored_pattern, Search}
 use Rattle.rx_program.specs.Programs.{ByteProgram}
@@ -14,11 +15,11 @@ use Rattle.rx_dfa.specs.Behind.{behind_of}
 use Rattle.rx_dfa.specs.Classes.{byte_of, class_of}
 use Rattle.rx_dfa.specs.States.{ahead_of_end}
 use Rattle.rx_dfa.specs.Alphabets.{AlphabetView, IsAlphabetOf, ahead_at, ahead_in, column_count}
-use Rattle.rx_dfa.specs.Caches.{CacheView, IsCacheOf, IsEntry, KeepNumbers, LeadsTo}
+use Rattle.rx_dfa.specs.Caches.{CacheView, HoldsSteps, IsEntry, IsEntryTo, KeepNumbers, LeadsTo, ends_to, over_to, plain_to, unknown_to}
 use Rattle.rx_dfa.specs.Searching.{StartsSo}
 use Rattle.rx_dfa.specs.Tables.{IsBeginning, StartsFrom}
-use Rattle.rx_dfa.specs.DenseTables.{AreKnown, Grows, HasAllStarts, HasOneFirst, HasStarts, HasStartsFrom, IsClosedOf, IsKnownAt}
-use Rattle.rx_dfa.proofs.ClassLaws.{same_or_not}
+use Rattle.rx_dfa.specs.DenseTables.{AreKnown, Grows, HasAllStarts, HasOneFirst, HasStarts, HasStartsFrom, HaveRows, IsClosedOf, IsKnownAt, in_reach, no_more}
+use Rattle.rx_dfa.proofs.ClassLaws.{below_or_not, same_or_not}
 use Rattle.rx_dfa.proofs.PassLaws.{byte_in_class}
 use Rattle.rx_dfa.proofs.StepLaws.{behind_alike}
 use Rattle.rx_dfa.proofs.TableLaws.{cache_set, entry_steps, get_first, get_other, row_room, there_is, the_same}
@@ -73,10 +74,10 @@ grows_entered before after cell entry known states table = record {
   entries = λ place was. subst (λ t. IsKnownAt t place) (sym table) (known_set before.table cell entry place known was);
 }
 
-same_width : (p : ByteProgram) (alphabet : AlphabetView) (before after : CacheView) → IsCacheOf p alphabet before → IsCacheOf p alphabet after → before.width ≡ after.width
+same_width : (p : ByteProgram) (alphabet : AlphabetView) (before after : CacheView) → HoldsSteps p alphabet before → HoldsSteps p alphabet after → before.width ≡ after.width
 same_width p alphabet before after was is = was.width ∙ sym is.width
 
-pub known_grown : (p : ByteProgram) (alphabet : AlphabetView) (before after : CacheView) (n : ℕ) → IsCacheOf p alphabet before → IsCacheOf p alphabet after → Grows before after → AreKnown before n → AreKnown after n
+pub known_grown : (p : ByteProgram) (alphabet : AlphabetView) (before after : CacheView) (n : ℕ) → HoldsSteps p alphabet before → HoldsSteps p alphabet after → Grows before after → AreKnown before n → AreKnown after n
 known_grown p alphabet before after n was is grows known number column lt in_row =
     let width = same_width p alphabet before after was is in
     subst (λ w. IsKnownAt after.table (number * w + column)) width (grows.entries (number * before.width + column) (known number column lt (subst (λ w. column < w) (sym width) in_row)))
@@ -172,14 +173,14 @@ known_leads p alphabet cache number column entry at x closed stands in_row is go
     entry_steps p alphabet cache.width cache.states x (ahead_in alphabet column) entry at (λ e. known.known (sym same ∙ e)) goes plain ends over (closed.made.entries number column entry x stands inside is)
 
 -- where an entry is set the state's other entries stay right
-pub entered : (p : ByteProgram) (alphabet : AlphabetView) (before middle after : CacheView) (number column entry : ℕ) → IsCacheOf p alphabet before → IsCacheOf p alphabet middle → Grows before middle → number < length before.states → column < before.width
-    → ((x : AutomatonState) → slice_get before.states number ≡ Some x → IsEntry p alphabet middle.width middle.states x (ahead_in alphabet column) entry) → after.table ≡ set middle.table (number * middle.width + column) entry → after.states ≡ middle.states → after.widths ≡ middle.widths → after.width ≡ middle.width → IsCacheOf p alphabet after
-entered p alphabet before middle after number column entry was is grows lt in_row right table states widths width =
+pub entered : (p : ByteProgram) (alphabet : AlphabetView) (before middle after : CacheView) (number column entry : ℕ) → HoldsSteps p alphabet before → HoldsSteps p alphabet middle → Grows before middle → number < length before.states → column < before.width
+    → ((x : AutomatonState) → slice_get before.states number ≡ Some x → IsEntry p alphabet middle.width middle.states x (ahead_in alphabet column) entry) → after.table ≡ set middle.table (number * middle.width + column) entry → after.states ≡ middle.states → after.widths ≡ middle.widths → after.width ≡ middle.width → after.used ≡ middle.used → HoldsSteps p alphabet after
+entered p alphabet before middle after number column entry was is grows lt in_row right table states widths width used =
     let here = there_is before.states number lt in
-    cache_set p alphabet middle after number column entry here.0 is (grows.numbers number here.0 here.1) (subst (λ w. column < w) (same_width p alphabet before middle was is) in_row) (right here.0 here.1) table states widths width
+    cache_set p alphabet middle after number column entry here.0 is (grows.numbers number here.0 here.1) (subst (λ w. column < w) (same_width p alphabet before middle was is) in_row) (right here.0 here.1) table states widths width used
 
 -- and it is known then
-pub entered_known : (p : ByteProgram) (alphabet : AlphabetView) (before middle after : CacheView) (number column entry : ℕ) → IsCacheOf p alphabet before → IsCacheOf p alphabet middle → Grows before middle → number < length before.states → column < before.width → (entry ≡ 4294967295 → ⊥)
+pub entered_known : (p : ByteProgram) (alphabet : AlphabetView) (before middle after : CacheView) (number column entry : ℕ) → HoldsSteps p alphabet before → HoldsSteps p alphabet middle → Grows before middle → number < length before.states → column < before.width → (entry ≡ 4294967295 → ⊥)
     → after.table ≡ set middle.table (number * middle.width + column) entry → after.width ≡ middle.width → IsKnownAt after.table (number * after.width + column)
 entered_known p alphabet before middle after number column entry was is grows lt in_row known table width =
     let here = there_is before.states number lt in
@@ -193,7 +194,7 @@ pub known_all : (cache : CacheView) (n m : ℕ) → m ≤ n → AreKnown cache n
 known_all cache n m le known number column lt in_row = known number column (omega (arith, le, lt)) in_row
 
 -- a row with one entry more
-pub row_more : (p : ByteProgram) (alphabet : AlphabetView) (before after : CacheView) (n column : ℕ) → IsCacheOf p alphabet before → IsCacheOf p alphabet after → Grows before after → ((k : ℕ) → k < column → IsKnownAt before.table (n * before.width + k)) → IsKnownAt after.table (n * after.width + column)
+pub row_more : (p : ByteProgram) (alphabet : AlphabetView) (before after : CacheView) (n column : ℕ) → HoldsSteps p alphabet before → HoldsSteps p alphabet after → Grows before after → ((k : ℕ) → k < column → IsKnownAt before.table (n * before.width + k)) → IsKnownAt after.table (n * after.width + column)
     → (k : ℕ) → k < column + 1 → IsKnownAt after.table (n * after.width + k)
 row_more p alphabet before after n column was is grows row here k lt = elim (same_or_not k column) [
   | inl e ↦ subst (λ j. IsKnownAt after.table (n * after.width + j)) (sym e) here
@@ -213,3 +214,35 @@ starts_more p alphabet before after q column keep starts here k lt = elim (same_
   where
     below : (k ≡ column → ⊥) → k < column
     below other = omega (arith, lt, other)
+
+-- ---- how many states there are
+
+-- the row of a state to which an entry leads begins where one can tell it
+pub reached_rows : (before after : CacheView) (next entry : ℕ) (y : AutomatonState) → (entry ≡ 4294967295 → ⊥) → IsEntryTo after.width y next entry → length after.states ≤ max (length before.states) (next + 1) → HaveRows before after
+reached_rows before after next entry y known to few = elim (below_or_not (length before.states) (length after.states)) [
+  | inr as_many ↦ no_more as_many
+  | inl more ↦ in_reach (omega (arith, mul-le-mul_right {m = length after.states - 1} {n = next} after.width (omega (arith, few, more)), reach to))
+]
+  where
+    reach : IsEntryTo after.width y next entry → next * after.width < 2147483648
+    reach (unknown_to is) = absurd (known is)
+    reach (plain_to is below ended) = omega (arith, is, below)
+    reach (ends_to is below ended) = omega (arith, is, below)
+    reach (over_to is below) = omega (arith, is, below)
+
+-- states and width are as before
+pub rows_as : (a b c : CacheView) → c.states ≡ b.states → c.width ≡ b.width → HaveRows a b → HaveRows a c
+rows_as a b c states width (no_more few) = no_more (omega (arith, few, ap length states))
+rows_as a b c states width (in_reach reach) = in_reach (subst (λ n. n < 2147483648) (sym (ap₂ (λ xs w. (length xs - 1) * w) states width)) reach)
+
+pub rows_both : (a b c : CacheView) {w : ℕ} → w ≡ b.width → w ≡ c.width → HaveRows a b → HaveRows b c → HaveRows a c
+rows_both a b c width width' first (in_reach reach) = in_reach reach
+rows_both a b c width width' (no_more few) (no_more few') = no_more (omega (arith, few, few'))
+rows_both a b c width width' (in_reach reach) (no_more few') =
+    let same : b.width ≡ c.width = sym width ∙ width' in
+    in_reach (omega (arith, ap (λ w. (length b.states - 1) * w) same, reach, mul-le-mul_right {m = length c.states - 1} {n = length b.states - 1} c.width (omega (arith, few'))))
+
+-- so there are at most so many beside those before
+pub rows_end : (before after : CacheView) (n : ℕ) → 0 < after.width → HaveRows before after → n < length after.states → n < length before.states + 2147483648
+rows_end before after n some (no_more few) lt = omega (arith, few, lt)
+rows_end before after n some (in_reach reach) lt = omega (arith, le-mul_of_pos_right {m = after.width} (length after.states - 1) some, reach, lt)

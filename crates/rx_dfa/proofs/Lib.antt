@@ -3,6 +3,7 @@ pub mod BareLaws
 pub mod LookLaws
 pub mod StepLaws
 pub mod LoopLaws
+pub mod StateLaws
 pub mod TableLaws
 pub mod PassLaws
 pub mod SearchLaws
@@ -10,3 +11,4 @@ pub mod InputLaws
 pub mod ScanLaws
 pub mod EndLaws
 pub mod DenseLaws
+pub mod LowerLaws

@@ -15,7 +15,7 @@ use Rattle.rx_dfa.specs.Classes.{class_of, byte_of, AreAlikeBytes}
 use Rattle.rx_dfa.specs.Behind.{quits}
 use Rattle.rx_dfa.specs.States.{ahead_of, IsStateOf, IsStep}
 use Rattle.rx_dfa.specs.Alphabets.{AlphabetView, IsAlphabetOf, ahead_at, ahead_in}
-use Rattle.rx_dfa.specs.Caches.{CacheView, IsCacheOf, LeadsTo, IsEntry, unknown, quit, plain, ends, over}
+use Rattle.rx_dfa.specs.Caches.{CacheView, HoldsSteps, LeadsTo, IsEntry, unknown, quit, plain, ends, over}
 use Rattle.rx_dfa.specs.Passing.{Passes, none, more, IsMetAt, IsNoted, Run, IsRunning, HasPassed}
 use Rattle.rx_dfa.specs.Searching.{met_after}
 use Rattle.rx_dfa.specs.Tables.{IsAutomaton}
@@ -27,7 +27,7 @@ use Rattle.rx_dfa.proofs.TableLaws.{row_room}
 pub byte_in_class : (p : ByteProgram) (alphabet : AlphabetView) (b : ℕ) → IsAlphabetOf p alphabet → b < 256 → slice_get alphabet.classes.bytes (class_of alphabet.classes b) ≡ Some (byte_of alphabet.classes b)
 byte_in_class p alphabet b made low = slice_get-get_or alphabet.classes.bytes (class_of alphabet.classes b) 0 (made.classes b low).has_class
 
-pub column_inside : (p : ByteProgram) (alphabet : AlphabetView) (cache : CacheView) (b : ℕ) → IsAlphabetOf p alphabet → IsCacheOf p alphabet cache → b < 256 → class_of alphabet.classes b < cache.width
+pub column_inside : (p : ByteProgram) (alphabet : AlphabetView) (cache : CacheView) (b : ℕ) → IsAlphabetOf p alphabet → HoldsSteps p alphabet cache → b < 256 → class_of alphabet.classes b < cache.width
 column_inside p alphabet cache b made is low = omega (arith, (made.classes b low).has_class, is.width)
 
 pub quits_alike : (p : ByteProgram) (asked : AskedLooks) (b c : ℕ) → AreAlikeBytes p asked b c → quits asked (Some b) ≡ quits asked (Some c)
@@ -103,13 +103,13 @@ pub run_begun : (a : Automaton) (cache : CacheView) (x : AutomatonState) (first 
 run_begun a cache x first bytes i met stands = record { number = first; next = x; last = met; row_is = refl; stands = stands; noted = refl; passes = none }
 
 -- where an entry lies in the table
-pub entry_inside : (a : Automaton) (cache : CacheView) (x : AutomatonState) (bytes : List ℕ) (i row b : ℕ) (met : Option HalfFound) (end : Option PassedEnd) → IsAutomaton a → IsCacheOf a.program.now a.alphabet.now cache → b < 256 → IsRunning a cache (run_of x bytes i met row end)
+pub entry_inside : (a : Automaton) (cache : CacheView) (x : AutomatonState) (bytes : List ℕ) (i row b : ℕ) (met : Option HalfFound) (end : Option PassedEnd) → IsAutomaton a → HoldsSteps a.program.now a.alphabet.now cache → b < 256 → IsRunning a cache (run_of x bytes i met row end)
     → row + class_of a.alphabet.now.classes b < length cache.table
 entry_inside a cache x bytes i row b met end made is low run =
     let inside = slice_get_within cache.states run.number run.next run.stands in
     omega (arith, run.row_is, row_room run.number cache.width (length cache.states) inside, column_inside a.program.now a.alphabet.now cache b made is low, is.rows)
 
-run_leads : ((p : ByteProgram) → StepsAreAlike p) → (a : Automaton) (cache : CacheView) (x : AutomatonState) (bytes : List ℕ) (n i row b number : ℕ) (met : Option HalfFound) (end : Option PassedEnd) → IsAutomaton a → IsCacheOf a.program.now a.alphabet.now cache
+run_leads : ((p : ByteProgram) → StepsAreAlike p) → (a : Automaton) (cache : CacheView) (x : AutomatonState) (bytes : List ℕ) (n i row b number : ℕ) (met : Option HalfFound) (end : Option PassedEnd) → IsAutomaton a → HoldsSteps a.program.now a.alphabet.now cache
     → b < 256 → slice_get bytes n ≡ Some b → (run : IsRunning a cache (run_of x (take n bytes) i met row end)) → (to : LeadsTo a.program.now a.alphabet.now cache.states run.next (ahead_in a.alphabet.now (class_of a.alphabet.now.classes b)) number)
     → Passes a (take (n + 1) bytes) i x met to.next (met_after (i + n) to.next.ended run.last)
 unfolding leads_by
@@ -121,13 +121,13 @@ run_leads law a cache x bytes n i row b number met end made is low at run to =
     (subst (λ k. Passes a (take n bytes ++ b ∷ []) i x met to.next (met_after (i + k) to.next.ended run.last)) len
     (passes_more a (take n bytes) i b x run.next to.next met run.last state.bare run.passes itself.step itself.told))
 
-run_entry : (a : Automaton) (cache : CacheView) (x : AutomatonState) (bytes : List ℕ) (n i row b entry : ℕ) (met : Option HalfFound) (end : Option PassedEnd) → IsAutomaton a → IsCacheOf a.program.now a.alphabet.now cache
+run_entry : (a : Automaton) (cache : CacheView) (x : AutomatonState) (bytes : List ℕ) (n i row b entry : ℕ) (met : Option HalfFound) (end : Option PassedEnd) → IsAutomaton a → HoldsSteps a.program.now a.alphabet.now cache
     → b < 256 → slice_get cache.table (row + class_of a.alphabet.now.classes b) ≡ Some entry → (run : IsRunning a cache (run_of x (take n bytes) i met row end)) → IsEntry a.program.now a.alphabet.now cache.width cache.states run.next (ahead_in a.alphabet.now (class_of a.alphabet.now.classes b)) entry
 run_entry a cache x bytes n i row b entry met end made is low stands run =
     is.entries run.number (class_of a.alphabet.now.classes b) entry run.next run.stands (column_inside a.program.now a.alphabet.now cache b made is low) (ap (λ r. slice_get cache.table (r + class_of a.alphabet.now.classes b)) (sym run.row_is) ∙ stands)
 
 -- no end is met
-pub run_on : ((p : ByteProgram) → StepsAreAlike p) → (a : Automaton) (cache : CacheView) (x : AutomatonState) (bytes : List ℕ) (n i row b entry : ℕ) (met : Option HalfFound) (end : Option PassedEnd) → IsAutomaton a → IsCacheOf a.program.now a.alphabet.now cache
+pub run_on : ((p : ByteProgram) → StepsAreAlike p) → (a : Automaton) (cache : CacheView) (x : AutomatonState) (bytes : List ℕ) (n i row b entry : ℕ) (met : Option HalfFound) (end : Option PassedEnd) → IsAutomaton a → HoldsSteps a.program.now a.alphabet.now cache
     → b < 256 → slice_get bytes n ≡ Some b → slice_get cache.table (row + class_of a.alphabet.now.classes b) ≡ Some entry → entry < 2147483648 → IsRunning a cache (run_of x (take n bytes) i met row end)
     → IsRunning a cache (run_of x (take (n + 1) bytes) i met entry end)
 run_on law a cache x bytes n i row b entry met end made is low at stands below run = by (run_entry a cache x bytes n i row b entry met end made is low stands run)
@@ -152,7 +152,7 @@ some_met i None met met' some = absurd (cc some)
 some_met i (Some k) met met' some = refl
 
 -- an end is met
-pub run_notes : ((p : ByteProgram) → StepsAreAlike p) → (a : Automaton) (cache : CacheView) (x : AutomatonState) (bytes : List ℕ) (n i row b entry row' : ℕ) (met : Option HalfFound) (end : Option PassedEnd) → IsAutomaton a → IsCacheOf a.program.now a.alphabet.now cache
+pub run_notes : ((p : ByteProgram) → StepsAreAlike p) → (a : Automaton) (cache : CacheView) (x : AutomatonState) (bytes : List ℕ) (n i row b entry row' : ℕ) (met : Option HalfFound) (end : Option PassedEnd) → IsAutomaton a → HoldsSteps a.program.now a.alphabet.now cache
     → b < 256 → slice_get bytes n ≡ Some b → slice_get cache.table (row + class_of a.alphabet.now.classes b) ≡ Some entry → 2147483648 ≤ entry → entry < 3221225472 → entry ≡ 2147483648 + row' → IsRunning a cache (run_of x (take n bytes) i met row end)
     → IsRunning a cache (run_of x (take (n + 1) bytes) i met row' (Some (record { row = row'; at = i + n })))
 run_notes law a cache x bytes n i row b entry row' met end made is low at stands above below row_is run = by (run_entry a cache x bytes n i row b entry met end made is low stands run)

@@ -23,7 +23,7 @@ use Rattle.rx_dfa.specs.declared.states.AutomatonState.{AutomatonState}
 use Rattle.rx_dfa.specs.Behind.{behind_of, quits, is_word_ascii}
 use Rattle.rx_dfa.specs.States.{IsStateOf}
 use Rattle.rx_dfa.specs.Alphabets.{AlphabetView}
-use Rattle.rx_dfa.specs.Caches.{CacheView, IsCacheOf}
+use Rattle.rx_dfa.specs.Caches.{CacheView, HoldsSteps}
 use Rattle.rx_dfa.specs.Searching.{AreAskedBy, StartsSo, HasReached, IsBehind, IsHalfAnswer, byte_before}
 use Rattle.rx_dfa.specs.Passing as passing
 use Rattle.rx_dfa.specs.Passing.{Passes, HasPassed, StandThere, StandsAt, IsRefusal}
@@ -167,11 +167,11 @@ stands_on laws a s q i n bytes states states' number number' met met' are same t
       behind = subst (λ k. IsBehind a.program.now a.alphabet.now.asked s (i + k) on.next) far reached.1;
     }
 
-pub state_at : (p : ByteProgram) (alphabet : AlphabetView) (cache : CacheView) (number : ℕ) (x : AutomatonState) → IsCacheOf p alphabet cache → slice_get cache.states number ≡ Some x → IsStateOf p x
+pub state_at : (p : ByteProgram) (alphabet : AlphabetView) (cache : CacheView) (number : ℕ) (x : AutomatonState) → HoldsSteps p alphabet cache → slice_get cache.states number ≡ Some x → IsStateOf p x
 state_at p alphabet cache number x made stands = subst (λ y. IsStateOf p y) (get_or_from_slice_get cache.states number x x stands) (made.states number x (slice_get_within cache.states number x stands))
 
-pub cache_in : (is_whole : Bool) (a : Automaton) (table : CacheView) → IsTable is_whole a table → IsCacheOf a.program.now a.alphabet.now table
-cache_in false a table made = made
+pub cache_in : (is_whole : Bool) (a : Automaton) (table : CacheView) → IsTable is_whole a table → HoldsSteps a.program.now a.alphabet.now table
+cache_in false a table made = made.steps
 cache_in true a table closed = closed.made
 
 -- ---- where it begins

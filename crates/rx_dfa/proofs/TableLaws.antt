@@ -1,5 +1,5 @@
 -- The entries of a table.
-use Rattle.std.proofs.Common.{inl, inr, ◌≡◌, ℕ, zero, suc, ◌+◌, ◌*◌, ◌<◌, ◌≤◌, true, false, List, [], ◌∷◌, ◌++◌, length, replicate, set, All, Option, Some, slice_get, refl, sym, ap, subst, ◌∙◌, arith}
+use Rattle.std.proofs.Common.{inl, inr, ◌⊎◌, ◌≡◌, ℕ, zero, suc, ◌+◌, ◌*◌, ◌<◌, ◌≤◌, true, false, List, [], ◌∷◌, ◌++◌, length, replicate, set, All, Option, Some, slice_get, refl, sym, ap, subst, ◌∙◌, arith}
 use Rattle.std.proofs.Math.Nat.{suc-mul}
 use Rattle.std.proofs.lemmas.List.{length-append, length-replicate, length-set}
 use Rattle.std.proofs.lemmas.List.Elements.{All-append, All-cons, All-nil}
@@ -14,8 +14,9 @@ use Rattle.rx_dfa.specs.declared.states.Starting.{Starting}
 use Rattle.rx_dfa.specs.States.{place_of_step, started, start_at, starting_after, IsFirstState, IsStateOf, IsStep}
 use Rattle.rx_steps.specs.Nodes.{widths_of}
 use Rattle.rx_dfa.specs.Alphabets.{AlphabetView, column_count, ahead_in}
-use Rattle.rx_dfa.specs.Caches.{CacheView, LeadsTo, IsEntry, unknown, quit, plain, ends, over, IsEntryTo, unknown_to, plain_to, ends_to, over_to, AreEntries, HasFirst, IsCacheOf, IsBare, IsSameState, KeepNumbers}
+use Rattle.rx_dfa.specs.Caches.{CacheView, LeadsTo, IsEntry, unknown, quit, plain, ends, over, IsEntryTo, unknown_to, plain_to, ends_to, over_to, AreEntries, HasFirst, HoldsSteps, IsBare, IsBounded, IsCacheOf, IsNew, IsSameState, KeepNumbers, StandApart, counted, size_of, size_of_all, used_with}
 use Rattle.rx_dfa.proofs.ClassLaws.{below_or_not, same_or_not}
+use Rattle.rx_dfa.proofs.StateLaws.{apart_more, apart_none, get_front, used_more}
 
 -- ---- lists
 
@@ -23,11 +24,6 @@ pub get_first : {A : Type 0} (xs ys : List A) (k : ℕ) (x : A) → slice_get xs
 get_first [] ys k x e = absurd (cc e)
 get_first (y ∷ xs) ys zero x e = e
 get_first (y ∷ xs) ys (suc k) x e = get_first xs ys k x e
-
-get_front : {A : Type 0} (xs ys : List A) (k : ℕ) → k < length xs → slice_get (xs ++ ys) k ≡ slice_get xs k
-get_front [] ys k lt = absurd (omega (arith, lt))
-get_front (y ∷ xs) ys zero lt = refl
-get_front (y ∷ xs) ys (suc k) lt = get_front xs ys k (omega (arith, lt))
 
 get_behind : {A : Type 0} (xs ys : List A) (k : ℕ) → length xs ≤ k → (j : ℕ) × (slice_get (xs ++ ys) k ≡ slice_get ys j)
 get_behind [] ys k le = (k, refl)
@@ -124,12 +120,13 @@ entries_more p alphabet w states table z rows entries number column entry x stan
       unknown (get_repeated w 4294967295 behind.0 entry (sym behind.1 ∙ is))
 ]
 
-pub cache_more : (p : ByteProgram) (alphabet : AlphabetView) (cache after : CacheView) (z : AutomatonState) → IsCacheOf p alphabet cache → IsStateOf p z → after.table ≡ cache.table ++ replicate cache.width 4294967295 → after.states ≡ cache.states ++ z ∷ []
-    → after.widths ≡ cache.widths → after.width ≡ cache.width → IsCacheOf p alphabet after
-cache_more p alphabet cache after z made state table states widths width = record {
+pub cache_more : (p : ByteProgram) (alphabet : AlphabetView) (cache after : CacheView) (z : AutomatonState) → HoldsSteps p alphabet cache → IsStateOf p z → IsNew cache.states z → after.table ≡ cache.table ++ replicate cache.width 4294967295 → after.states ≡ cache.states ++ z ∷ []
+    → after.widths ≡ cache.widths → after.width ≡ cache.width → after.used ≡ used_with cache z → HoldsSteps p alphabet after
+cache_more p alphabet cache after z made state new table states widths width used = record {
   widths = widths ∙ made.widths;
   width = width ∙ made.width;
   states = subst (All (IsStateOf p)) (sym states) (All-append (IsStateOf p) cache.states (z ∷ []) made.states (All-cons (IsStateOf p) z [] state (All-nil (IsStateOf p))));
+  apart = subst StandApart (sym states) (apart_more cache.states z made.apart new);
   rows =
       let one : length (cache.states ++ z ∷ []) ≡ length cache.states + 1 = length-append cache.states (z ∷ []) in
       let more : length cache.states + 1 ≡ suc (length cache.states) = omega arith in
@@ -139,7 +136,11 @@ cache_more p alphabet cache after z made state table states widths width = recor
   entries = subst (λ xs. AreEntries p alphabet after.width xs after.table) (sym states)
       (subst (λ t. AreEntries p alphabet after.width (cache.states ++ z ∷ []) t) (sym table)
       (subst (λ w. AreEntries p alphabet w (cache.states ++ z ∷ []) (cache.table ++ replicate cache.width 4294967295)) (sym width) (entries_more p alphabet cache.width cache.states cache.table z made.rows made.entries)));
+  used = used ∙ all_used cache z made.used ∙ ap (λ w. size_of_all w (cache.states ++ z ∷ [])) (sym width) ∙ ap (λ xs. size_of_all after.width xs) (sym states);
 }
+  where
+    all_used : (cache : CacheView) (z : AutomatonState) → cache.used ≡ size_of_all cache.width cache.states → used_with cache z ≡ size_of_all cache.width (cache.states ++ z ∷ [])
+    all_used cache z e = ap (λ n. counted (n + counted (size_of cache.width z))) e ∙ used_more cache.width cache.states z
 
 pub kept_more : (before after : List AutomatonState) (z : AutomatonState) → after ≡ before ++ z ∷ [] → KeepNumbers before after
 kept_more before after z e = subst (λ xs. KeepNumbers before xs) (sym e) (keep_first before z)
@@ -147,22 +148,61 @@ kept_more before after z e = subst (λ xs. KeepNumbers before xs) (sym e) (keep_
 pub stands_last : (before after : List AutomatonState) (z : AutomatonState) (number : ℕ) → after ≡ before ++ z ∷ [] → number ≡ length before → slice_get after number ≡ Some z
 stands_last before after z number e f = ap (λ xs. slice_get xs number) e ∙ ap (λ k. slice_get (before ++ z ∷ []) k) f ∙ get_last before z
 
-pub cache_none : (p : ByteProgram) (alphabet : AlphabetView) (after : CacheView) → after.widths ≡ widths_of p → after.width ≡ column_count alphabet → after.table ≡ [] → after.states ≡ [] → IsCacheOf p alphabet after
-cache_none p alphabet after widths width table states = record {
+pub cache_none : (p : ByteProgram) (alphabet : AlphabetView) (after : CacheView) → after.widths ≡ widths_of p → after.width ≡ column_count alphabet → after.table ≡ [] → after.states ≡ [] → after.used ≡ 0 → HoldsSteps p alphabet after
+cache_none p alphabet after widths width table states used = record {
   widths = widths;
   width = width;
   states = subst (All (IsStateOf p)) (sym states) (All-nil (IsStateOf p));
+  apart = subst StandApart (sym states) apart_none;
   rows =
       let no_entries : length after.table ≡ 0 = ap (λ (xs : List ℕ). length xs) table in
       let no_states : length after.states ≡ 0 = ap (λ (xs : List AutomatonState). length xs) states in
       let no_rows : 0 * after.width ≡ 0 = omega arith in
       no_entries ∙ sym (ap (λ n. n * after.width) no_states ∙ no_rows);
   entries = λ number column entry x stands in_row is. absurd (cc (sym (ap (λ xs. slice_get xs number) states) ∙ stands));
+  used = used ∙ sym (ap (λ xs. size_of_all after.width xs) states);
 }
 
 -- no state, and no row
-pub cache_empty : (p : ByteProgram) (alphabet : AlphabetView) (cache after : CacheView) → IsCacheOf p alphabet cache → after.widths ≡ cache.widths → after.width ≡ cache.width → after.table ≡ [] → after.states ≡ [] → IsCacheOf p alphabet after
-cache_empty p alphabet cache after made widths width table states = cache_none p alphabet after (widths ∙ made.widths) (width ∙ made.width) table states
+pub cache_empty : (p : ByteProgram) (alphabet : AlphabetView) (cache after : CacheView) → HoldsSteps p alphabet cache → after.widths ≡ cache.widths → after.width ≡ cache.width → after.table ≡ [] → after.states ≡ [] → after.used ≡ 0 → HoldsSteps p alphabet after
+cache_empty p alphabet cache after made widths width table states used = cache_none p alphabet after (widths ∙ made.widths) (width ∙ made.width) table states used
+
+-- ---- how many states are kept
+
+pub none_bounded : (capacity : ℕ) (cache : CacheView) → cache.states ≡ [] → IsBounded capacity cache
+none_bounded capacity cache e = inl (omega (arith, ap (λ (xs : List AutomatonState). length xs) e))
+
+-- beside one state there is room for another one
+pub more_bounded : (capacity : ℕ) (before after : CacheView) (z : AutomatonState) → after.states ≡ before.states ++ z ∷ [] → after.used ≡ used_with before z → (length before.states < 2) ⊎ (used_with before z ≤ capacity) → IsBounded capacity after
+more_bounded capacity before after z states used (inl few) = inl (omega (arith, few, ap (λ (xs : List AutomatonState). length xs) states, length-append before.states (z ∷ [])))
+more_bounded capacity before after z states used (inr fits) = inr (omega (arith, fits, used))
+
+-- a single one
+pub one_bounded : (capacity : ℕ) (before after : CacheView) (z : AutomatonState) → before.states ≡ [] → after.states ≡ before.states ++ z ∷ [] → IsBounded capacity after
+one_bounded capacity before after z none states = inl (omega (arith, ap (λ (xs : List AutomatonState). length xs) none, ap (λ (xs : List AutomatonState). length xs) states, length-append before.states (z ∷ [])))
+
+pub same_bounded : (capacity : ℕ) (before after : CacheView) → after.states ≡ before.states → after.used ≡ before.used → IsBounded capacity before → IsBounded capacity after
+same_bounded capacity before after states used (inl few) = inl (omega (arith, few, ap (λ (xs : List AutomatonState). length xs) states))
+same_bounded capacity before after states used (inr fits) = inr (omega (arith, fits, used))
+
+-- a search begins
+pub cache_begins : (p : ByteProgram) (alphabet : AlphabetView) (before after : CacheView) → after ≡ record before { cleared = 0 } → IsCacheOf p alphabet before → IsCacheOf p alphabet after
+cache_begins p alphabet before after is made = subst (IsCacheOf p alphabet) (sym is) (record {
+  steps = record {
+    widths = made.steps.widths;
+    width = made.steps.width;
+    states = made.steps.states;
+    apart = made.steps.apart;
+    rows = made.steps.rows;
+    entries = made.steps.entries;
+    used = made.steps.used;
+  };
+  bounded = made.bounded;
+})
+
+-- a cache with no state
+pub cache_begun : (p : ByteProgram) (alphabet : AlphabetView) (after : CacheView) → after.widths ≡ widths_of p → after.width ≡ column_count alphabet → after.table ≡ [] → after.states ≡ [] → after.used ≡ 0 → IsCacheOf p alphabet after
+cache_begun p alphabet after widths width table states used = record { steps = cache_none p alphabet after widths width table states used; bounded = none_bounded alphabet.capacity after states }
 
 -- ---- an entry is set
 
@@ -178,17 +218,19 @@ entries_set p alphabet w states table number column entry x stands in_row right 
       (subst (λ k. IsEntry p alphabet w states x' (ahead_in alphabet k) entry) (sym cell.1) (subst (λ y. IsEntry p alphabet w states y (ahead_in alphabet column) entry) same_state right))
 ]
 
-pub cache_set : (p : ByteProgram) (alphabet : AlphabetView) (cache after : CacheView) (number column entry : ℕ) (x : AutomatonState) → IsCacheOf p alphabet cache → slice_get cache.states number ≡ Some x → column < cache.width
-    → IsEntry p alphabet cache.width cache.states x (ahead_in alphabet column) entry → after.table ≡ set cache.table (number * cache.width + column) entry → after.states ≡ cache.states → after.widths ≡ cache.widths → after.width ≡ cache.width → IsCacheOf p alphabet after
-cache_set p alphabet cache after number column entry x made stands in_row right table states widths width = record {
+pub cache_set : (p : ByteProgram) (alphabet : AlphabetView) (cache after : CacheView) (number column entry : ℕ) (x : AutomatonState) → HoldsSteps p alphabet cache → slice_get cache.states number ≡ Some x → column < cache.width
+    → IsEntry p alphabet cache.width cache.states x (ahead_in alphabet column) entry → after.table ≡ set cache.table (number * cache.width + column) entry → after.states ≡ cache.states → after.widths ≡ cache.widths → after.width ≡ cache.width → after.used ≡ cache.used → HoldsSteps p alphabet after
+cache_set p alphabet cache after number column entry x made stands in_row right table states widths width used = record {
   widths = widths ∙ made.widths;
   width = width ∙ made.width;
   states = subst (All (IsStateOf p)) (sym states) made.states;
+  apart = subst StandApart (sym states) made.apart;
   rows = ap length table ∙ length-set cache.table (number * cache.width + column) entry ∙ made.rows ∙ ap (λ w. length cache.states * w) (sym width) ∙ ap (λ xs. length xs * after.width) (sym states);
   entries = subst (λ xs. AreEntries p alphabet after.width xs after.table) (sym states)
       (subst (λ t. AreEntries p alphabet after.width cache.states t) (sym table)
       (subst (λ w. AreEntries p alphabet w cache.states (set cache.table (number * cache.width + column) entry)) (sym width)
       (entries_set p alphabet cache.width cache.states cache.table number column entry x stands in_row right made.entries)));
+  used = used ∙ made.used ∙ ap (λ w. size_of_all w cache.states) (sym width) ∙ ap (λ xs. size_of_all after.width xs) (sym states);
 }
 
 -- ---- steps
@@ -249,17 +291,17 @@ there_is (x ∷ xs) (suc k) lt = there_is xs k (omega (arith, lt))
 
 -- ---- a step is entered
 
-pub quit_set : (p : ByteProgram) (alphabet : AlphabetView) (cache after : CacheView) (number column : ℕ) → IsCacheOf p alphabet cache → number < length cache.states → column < cache.width → quits alphabet.asked (ahead_in alphabet column).seen ≡ true
-    → after.table ≡ set cache.table (number * cache.width + column) 4294967294 → after.states ≡ cache.states → after.widths ≡ cache.widths → after.width ≡ cache.width → IsCacheOf p alphabet after
-quit_set p alphabet cache after number column made lt in_row told table states widths width =
+pub quit_set : (p : ByteProgram) (alphabet : AlphabetView) (cache after : CacheView) (number column : ℕ) → HoldsSteps p alphabet cache → number < length cache.states → column < cache.width → quits alphabet.asked (ahead_in alphabet column).seen ≡ true
+    → after.table ≡ set cache.table (number * cache.width + column) 4294967294 → after.states ≡ cache.states → after.widths ≡ cache.widths → after.width ≡ cache.width → after.used ≡ cache.used → HoldsSteps p alphabet after
+quit_set p alphabet cache after number column made lt in_row told table states widths width used =
     let here = there_is cache.states number lt in
-    cache_set p alphabet cache after number column 4294967294 here.0 made here.1 in_row (quit refl told) table states widths width
+    cache_set p alphabet cache after number column 4294967294 here.0 made here.1 in_row (quit refl told) table states widths width used
 
-pub step_set : (p : ByteProgram) (alphabet : AlphabetView) (cache after : CacheView) (number column next entry : ℕ) (x : AutomatonState) → IsCacheOf p alphabet cache → slice_get cache.states number ≡ Some x → column < cache.width
+pub step_set : (p : ByteProgram) (alphabet : AlphabetView) (cache after : CacheView) (number column next entry : ℕ) (x : AutomatonState) → HoldsSteps p alphabet cache → slice_get cache.states number ≡ Some x → column < cache.width
     → LeadsTo p alphabet cache.states x (ahead_in alphabet column) next → ((y : AutomatonState) → slice_get cache.states next ≡ Some y → IsEntryTo cache.width y next entry)
-    → after.table ≡ set cache.table (number * cache.width + column) entry → after.states ≡ cache.states → after.widths ≡ cache.widths → after.width ≡ cache.width → IsCacheOf p alphabet after
-step_set p alphabet cache after number column next entry x made stands in_row to is_to table states widths width =
-    cache_set p alphabet cache after number column entry x made stands in_row (entry_right p alphabet cache.width cache.states x (ahead_in alphabet column) next entry to (is_to to.next to.stands)) table states widths width
+    → after.table ≡ set cache.table (number * cache.width + column) entry → after.states ≡ cache.states → after.widths ≡ cache.widths → after.width ≡ cache.width → after.used ≡ cache.used → HoldsSteps p alphabet after
+step_set p alphabet cache after number column next entry x made stands in_row to is_to table states widths width used =
+    cache_set p alphabet cache after number column entry x made stands in_row (entry_right p alphabet cache.width cache.states x (ahead_in alphabet column) next entry to (is_to to.next to.stands)) table states widths width used
 
 -- before what stands there a search can't go on
 pub entry_quits : (p : ByteProgram) (alphabet : AlphabetView) (w : ℕ) (states : List AutomatonState) (x : AutomatonState) (ahead : Ahead) (entry : ℕ) → entry ≡ 4294967294 → IsEntry p alphabet w states x ahead entry → quits alphabet.asked ahead.seen ≡ true

@@ -1,6 +1,6 @@
 -- The alphabet of a program's automaton.
 use Rattle.std.specs.Prelude.{ℕ, ◌+◌, ◌==◌, Bool, Option, None, Some, length, slice_get}
-use Rattle.rx_program.specs.Programs.{ByteProgram}
+use Rattle.rx_program.specs.Programs.{ByteProgram, IsByteProgram}
 use Rattle.rx_steps.specs.declared.asked.AskedLooks.{AskedLooks}
 use Rattle.rx_dfa.specs.declared.states.Ahead.{Ahead}
 use Rattle.rx_dfa.specs.Classes.{ByteClassesView, AreClassesOf}
@@ -15,7 +15,9 @@ pub record AlphabetView : Type 0 where
   pub utf8_empty : Bool
   pub capacity : ℕ
 
+-- what it knows is so of this program, whose automata read the characters of its sets
 pub record IsAlphabetOf (p : ByteProgram) (alphabet : AlphabetView) : Type 0 where
+  pub reads : IsByteProgram p
   pub asked : AreAskedBy p.states alphabet.asked
   pub classes : AreClassesOf p alphabet.asked alphabet.classes
 

@@ -1,9 +1,12 @@
 -- The table of an automaton, and the states that its rows are of.
-use Rattle.std.specs.Prelude.{◌≡◌, ℕ, ◌+◌, ◌*◌, ◌<◌, true, false, List, All, length, Option, Some, None, IsSome, slice_get}
+use Rattle.std.specs.Prelude.{◌≡◌, ℕ, ◌+◌, ◌-◌, ◌*◌, ◌^◌, ◌<◌, ◌≤◌, ◌⊎◌, ◌==◌, true, false, List, All, length, min, sum_by, Option, Some, None, IsSome, slice_get}
+use Rattle.std.specs.HashMap.{HashMap, get}
+use Rattle.rx_util.specs.declared.search.MatchError.{MatchError}
+use Rattle.rx_util.specs.declared.search.MatchError.TheVariants.{GaveUp}
 use Rattle.rx_program.specs.Programs.{ByteProgram}
 use Rattle.rx_steps.specs.Nodes.{widths_of}
 use Rattle.rx_steps.specs.Alike.{AreBare}
-use Rattle.rx_dfa.specs.declared.cache.TheConstants.{ENDS, QUIT, STOPS, UNKNOWN}
+use Rattle.rx_dfa.specs.declared.cache.TheConstants.{CLEARS, ENDS, ENTRY_BYTES, NODE_BYTES, QUIT, STATE_BYTES, STOPS, UNKNOWN}
 use Rattle.rx_dfa.specs.declared.states.Ahead.{Ahead}
 use Rattle.rx_dfa.specs.declared.states.AutomatonState.{AutomatonState}
 use Rattle.rx_dfa.specs.declared.behind.Behind.{Behind}
@@ -11,14 +14,18 @@ use Rattle.rx_dfa.specs.declared.states.Starting.{Starting}
 use Rattle.rx_dfa.specs.Behind.{quits}
 use Rattle.rx_dfa.specs.States.{IsFirstState, IsStateOf, IsStep}
 use Rattle.rx_dfa.specs.Alphabets.{AlphabetView, column_count, ahead_in}
+use Rattle.rx_dfa.specs.Hashes.{hash_of}
 
 -- how many nodes each state is of the program that a cache was made for; how many entries a row
--- has, the rows one after the other; and the state of each row
+-- has, the rows one after the other; the state of each row; how many bytes they take, about; and
+-- how often all states were taken out in the search that it served last
 pub record CacheView : Type 0 where
   pub widths : List ℕ
   pub width : ℕ
   pub table : List ℕ
   pub states : List AutomatonState
+  pub used : ℕ
+  pub cleared : ℕ
 
 -- the state with this number is one to which a state leads
 pub record LeadsTo (p : ByteProgram) (alphabet : AlphabetView) (states : List AutomatonState)
@@ -68,13 +75,72 @@ AreEntries p alphabet width states table = (number column entry : ℕ) (x : Auto
     → slice_get table (number * width + column) ≡ Some entry
     → IsEntry p alphabet width states x (ahead_in alphabet column) entry
 
--- a cache of an automaton of a program
-pub record IsCacheOf (p : ByteProgram) (alphabet : AlphabetView) (cache : CacheView) : Type 0 where
+-- both states are the same
+pub record IsSameState (x y : AutomatonState) : Type 0 where
+  pub threads : y.threads.threads ≡ x.threads.threads
+  pub starting : y.starting ≡ x.starting
+  pub behind : y.behind ≡ x.behind
+  pub ended : y.ended ≡ x.ended
+
+-- none of the states is the same as this one
+abbrev pub IsNew : List AutomatonState → AutomatonState → Type 0
+IsNew states x = (number : ℕ) (y : AutomatonState) → slice_get states number ≡ Some y
+    → IsSameState x y → ⊥
+
+-- no two of the states are the same
+abbrev pub StandApart : List AutomatonState → Type 0
+StandApart states = (m n : ℕ) (x y : AutomatonState) → slice_get states m ≡ Some x
+    → slice_get states n ≡ Some y → IsSameState x y → m ≡ n
+
+-- a number, or the greatest that is counted
+abbrev pub counted : ℕ → ℕ
+counted n = min n (2 ^ 64 - 1)
+
+-- how many bytes a state of so many nodes takes, whose row has so many entries, about: the nodes,
+-- the row, and what is kept of it beside
+abbrev pub size_of_parts : ℕ → ℕ → ℕ
+size_of_parts nodes entries = nodes * NODE_BYTES + entries * ENTRY_BYTES + 2 * STATE_BYTES
+
+-- how many a state takes whose row has so many entries
+abbrev pub size_of : ℕ → AutomatonState → ℕ
+size_of width x = size_of_parts (length x.threads.threads) width
+
+-- and all of them together
+abbrev pub size_of_all : ℕ → List AutomatonState → ℕ
+size_of_all width states = counted (sum_by (size_of width) states)
+
+-- the states of a cache with a further one
+abbrev pub used_with : CacheView → AutomatonState → ℕ
+used_with cache x = counted (cache.used + counted (size_of cache.width x))
+
+-- what is known of the states and steps of an automaton of a program
+pub record HoldsSteps (p : ByteProgram) (alphabet : AlphabetView) (cache : CacheView) : Type 0 where
   pub widths : cache.widths ≡ widths_of p
   pub width : cache.width ≡ column_count alphabet
   pub states : All (IsStateOf p) cache.states
+  pub apart : StandApart cache.states
   pub rows : length cache.table ≡ length cache.states * cache.width
   pub entries : AreEntries p alphabet cache.width cache.states cache.table
+  pub used : cache.used ≡ size_of_all cache.width cache.states
+
+-- it has two states, or takes no more room than it may
+abbrev pub IsBounded : ℕ → CacheView → Type 0
+IsBounded capacity cache = (length cache.states ≤ 2) ⊎ (cache.used ≤ capacity)
+
+-- a cache for searches by an automaton of a program
+pub record IsCacheOf (p : ByteProgram) (alphabet : AlphabetView) (cache : CacheView) : Type 0 where
+  pub steps : HoldsSteps p alphabet cache
+  pub bounded : IsBounded alphabet.capacity cache
+
+-- a search gives up only once all states were taken out so often for it
+abbrev pub GivesUpLate : CacheView → MatchError → Type 0
+GivesUpLate cache (GaveUp at) = CLEARS ≤ cache.cleared
+GivesUpLate cache _ = Unit {0}
+
+-- there are at most so many states, which take so many bytes at most
+pub record IsWithin (state_limit size_limit : ℕ) (cache : CacheView) : Type 0 where
+  pub states : length cache.states ≤ state_limit
+  pub size : cache.used ≤ size_limit
 
 -- the state with this number is one in which a search stands at its first place
 pub record HasFirst (states : List AutomatonState) (starting : Starting) (behind : Behind)
@@ -87,14 +153,12 @@ pub record HasFirst (states : List AutomatonState) (starting : Starting) (behind
 abbrev pub IsBare : AutomatonState → Type 0
 IsBare x = AreBare x.threads.threads
 
--- both states are the same
-pub record IsSameState (x y : AutomatonState) : Type 0 where
-  pub threads : y.threads.threads ≡ x.threads.threads
-  pub starting : y.starting ≡ x.starting
-  pub behind : y.behind ≡ x.behind
-  pub ended : y.ended ≡ x.ended
-
 -- states keep their numbers
 abbrev pub KeepNumbers : List AutomatonState → List AutomatonState → Type 0
 KeepNumbers before after = (number : ℕ) (x : AutomatonState) → slice_get before number ≡ Some x
     → slice_get after number ≡ Some x
+
+-- each state is found by its hash: there is a number under it
+abbrev pub AreNumbered : {S : Type 0} → List AutomatonState → HashMap ℕ ℕ S → Type 0
+AreNumbered states numbers = (number : ℕ) (x : AutomatonState) → slice_get states number ≡ Some x
+    → IsSome (get ◌==◌ numbers (hash_of x))

@@ -1,19 +1,19 @@
 -- Automata that are closed: every state to which a search may come is there, with all its steps.
-use Rattle.std.specs.Prelude.{◌≡◌, ℕ, ◌+◌, ◌*◌, ◌<◌, List, length, Option, Some, None, slice_get}
+use Rattle.std.specs.Prelude.{◌≡◌, ℕ, ◌+◌, ◌-◌, ◌*◌, ◌<◌, ◌≤◌, List, length, Option, Some, None, slice_get}
 use Rattle.rx_util.specs.declared.search.MatchError.{MatchError}
 use Rattle.rx_util.specs.declared.search.MatchError.TheVariants as error
 use Rattle.rx_walks.specs.Finds.{Anchoring, Search}
 use Rattle.rx_walks.specs.ProgramFinds.{start_node}
 use Rattle.rx_program.specs.Programs.{ByteProgram, characters_of}
 use Rattle.rx_steps.specs.declared.asked.AskedLooks.{AskedLooks}
-use Rattle.rx_dfa.specs.declared.cache.TheConstants.{UNKNOWN}
+use Rattle.rx_dfa.specs.declared.cache.TheConstants.{ENDS, UNKNOWN}
 use Rattle.rx_dfa.specs.declared.states.AutomatonState.{AutomatonState}
 use Rattle.rx_dfa.specs.declared.states.Starting.{Starting}
 use Rattle.rx_dfa.specs.declared.states.Starting.TheVariants.{Never, Once, Always}
 use Rattle.rx_dfa.specs.declared.behind.Behind.{Behind}
 use Rattle.rx_dfa.specs.Behind.{behind_of}
 use Rattle.rx_dfa.specs.Alphabets.{AlphabetView}
-use Rattle.rx_dfa.specs.Caches.{CacheView, HasFirst, IsCacheOf, KeepNumbers}
+use Rattle.rx_dfa.specs.Caches.{CacheView, HasFirst, HoldsSteps, KeepNumbers}
 use Rattle.rx_dfa.specs.Passing.{IsRefusal}
 
 -- the entry at this place of a table is known
@@ -31,6 +31,11 @@ AreKnown cache count = (number column : ℕ) → number < count → column < cac
 pub record Grows (before after : CacheView) : Type 0 where
   pub numbers : KeepNumbers before.states after.states
   pub entries : (place : ℕ) → IsKnownAt before.table place → IsKnownAt after.table place
+
+-- there are no more states than before, or an entry can tell where the last one's row begins
+pub data HaveRows (before after : CacheView) : Type 0 where
+  no_more : length after.states ≤ length before.states → HaveRows before after
+  in_reach : (length after.states - 1) * after.width < ENDS → HaveRows before after
 
 -- a state is there in which a search stands at its first place, where walks start so and this
 -- stands before
@@ -60,7 +65,7 @@ HasAllStarts p alphabet states = (anchoring : Anchoring) (q : ℕ)
 
 -- the states in which searches begin are there, and of each state each entry is known
 pub record IsClosedOf (p : ByteProgram) (alphabet : AlphabetView) (cache : CacheView) : Type 0 where
-  pub made : IsCacheOf p alphabet cache
+  pub made : HoldsSteps p alphabet cache
   pub starts : HasAllStarts p alphabet cache.states
   pub known : AreKnown cache (length cache.states)
 

@@ -3,6 +3,7 @@ pub mod Behind
 pub mod States
 pub mod Searching
 pub mod Alphabets
+pub mod Hashes
 pub mod Caches
 pub mod Passing
 pub mod DenseTables

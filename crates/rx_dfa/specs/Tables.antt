@@ -13,13 +13,17 @@ use Rattle.rx_dfa.specs.declared.states.Starting.TheVariants.{Never, Once, Alway
 use Rattle.rx_dfa.specs.Behind.{behind_of, quits}
 use Rattle.rx_dfa.specs.Alphabets.{IsAlphabetOf, ahead_in}
 use Rattle.rx_dfa.specs.Caches as caches
-use Rattle.rx_dfa.specs.Caches.{CacheView, IsCacheOf}
+use Rattle.rx_dfa.specs.Caches.{CacheView, HoldsSteps, IsCacheOf}
 use Rattle.rx_dfa.specs.DenseTables.{IsClosedOf, IsQuit, MayBeByte}
 use Rattle.rx_dfa.specs.Passing.{IsRefusal}
 
 -- the alphabet is the program's
 abbrev pub IsAutomaton : Automaton → Type 0
 IsAutomaton a = IsAlphabetOf a.program.now a.alphabet.now
+
+-- what is known of an automaton's states and steps
+abbrev pub HoldsBy : Automaton → CacheView → Type 0
+HoldsBy a cache = HoldsSteps a.program.now a.alphabet.now cache
 
 -- a cache of an automaton
 abbrev pub IsCacheBy : Automaton → CacheView → Type 0

@@ -14,6 +14,9 @@ use rx_steps::AskedLooks;
 use std::alloc::{AllocError, Global};
 use std::marker::Model;
 
+/// About how many bytes the states in a cache may take by default.
+pub const CACHE_CAPACITY: usize = 2_097_152;
+
 /// What a program can tell apart of what stands at a place: what its automaton has to know of it;
 /// and how much room its states may take in a cache, about, in bytes. Contracts see the looks that
 /// the program asks for, its classes of bytes, whether empty matches inside a character are passed
@@ -51,6 +54,7 @@ impl Alphabet {
     ) -> Result<Alphabet, AllocError>
         ensures made { IfOk result (λ alphabet. IsAlphabetOf program.now alphabet) }
         ensures utf8_empty { IfOk result (λ alphabet. alphabet.utf8_empty ≡ utf8_empty) }
+        ensures capacity { IfOk result (λ alphabet. alphabet.capacity ≡ capacity) }
     {
         let asked = AskedLooks::of(program.states());
         let classes = ByteClasses::new(alloc, program, asked)?;

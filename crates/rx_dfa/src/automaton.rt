@@ -2,6 +2,7 @@
 
 ghost use Rattle.std.specs.Prelude.{◌≡◌};
 ghost use Rattle.rx_dfa.specs.Behind.{behind_of};
+ghost use Rattle.rx_dfa.specs.DenseTables.{MayBeByte};
 
 use crate::alphabet::Alphabet;
 use crate::behind::Behind;
@@ -17,8 +18,9 @@ pub(crate) struct Automaton<'a> {
 impl<'a> Automaton<'a> {
     /// The side on which this byte of a slice stands, or none, as far as the program's looks tell.
     pub(crate) fn side(&self, behind: Option<u8>) -> Behind
-        ensures { result ≡ behind_of self.now.alphabet.now.asked
+        ensures side { result ≡ behind_of self.now.alphabet.now.asked
             self.now.program.now.line_terminator behind }
+        ensures byte { MayBeByte behind }
     {
         Behind::of(
             self.alphabet.asked(),

@@ -2,6 +2,7 @@
 
 ghost use Rattle.std.specs.Prelude.{◌≡◌, ◌<◌, true, false, Some, None, IfSome};
 ghost use Rattle.rx_dfa.specs.DenseTables.{MayBeByte};
+ghost use Rattle.rx_dfa.specs.Hashes.{side_number};
 ghost use Rattle.rx_dfa.specs.Behind.{is_word_ascii, behind_of, looks_of, quits, ends_line_at, is_word_at, starts_line, was_word, is_start, is_end};
 
 use rx_steps::{AskedLooks, Looks};
@@ -51,24 +52,11 @@ pub(crate) fn byte_that_quits(asked: AskedLooks, byte: Option<u8>) -> Option<u8>
     }
 }
 
-/// A fact, for the proof alone: a byte is below 256.
-fn is_byte(byte: u8)
-    ensures { byte < 256 }
-{}
-
-/// A fact, for the proof alone: a byte that may be there is below 256.
-pub(crate) fn may_be_byte(byte: Option<u8>)
-    ensures { MayBeByte byte }
-{
-    if let Some(byte) = byte {
-        is_byte(byte);
-    }
-}
-
 impl Behind {
     /// The side on which this byte stands, or none, as far as the looks that are asked for tell it.
     pub(crate) fn of(asked: AskedLooks, line_terminator: u8, byte: Option<u8>) -> Behind
-        ensures { result ≡ behind_of asked line_terminator byte }
+        ensures side { result ≡ behind_of asked line_terminator byte }
+        ensures byte { MayBeByte byte }
     {
         match byte {
             Some(byte) => Behind::Byte(
@@ -81,6 +69,18 @@ impl Behind {
                 } else {
                     Behind::Byte(false, false)
                 }
+            }
+        }
+    }
+
+    /// A number for each side.
+    pub(crate) fn number(&self) -> usize
+        ensures { result ≡ side_number self.now }
+    {
+        match self {
+            Behind::Edge => 4,
+            Behind::Byte(ends_line, is_word) => {
+                usize::from(*ends_line) + 2 * usize::from(*is_word)
             }
         }
     }

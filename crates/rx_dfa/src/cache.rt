@@ -1,13 +1,13 @@
 //! The states of an automaton that searches have come to, and the table of the steps between them.
 
-ghost use Rattle.std.specs.Prelude.{◌≡◌, ◌⊎◌, ◌+◌, ◌*◌, ◌<◌, ◌++◌, ◌∷◌, [], ℕ, true, false, None, Some, length, replicate, set, slice_get, All, IfSome, IfOk, IfErr, OnOk, OnErr};
+ghost use Rattle.std.specs.Prelude.{◌≡◌, ◌⊎◌, ◌+◌, ◌*◌, ◌<◌, ◌≤◌, ◌++◌, ◌∷◌, [], ℕ, true, false, None, Some, length, replicate, set, slice_get, All, IfSome, IfOk, IfErr, OnOk, OnErr};
 ghost use Rattle.rx_util.specs.declared.search.MatchError.{MatchError};
 ghost use Rattle.rx_dfa.specs.declared.states.AutomatonState.{AutomatonState};
 ghost use Rattle.rx_dfa.specs.Alphabets.{column_count};
-ghost use Rattle.rx_dfa.specs.Caches.{IsCacheOf, IsEntryTo, HasFirst, IsBare, IsSameState, KeepNumbers};
+ghost use Rattle.rx_dfa.specs.Caches.{GivesUpLate, HasFirst, IsBare, IsCacheOf, IsEntryTo, IsNew, IsSameState, KeepNumbers, counted, size_of, size_of_parts, used_with};
 ghost use Rattle.rx_dfa.specs.DenseTables.{HasOneFirst};
 ghost use Rattle.rx_dfa.specs.States.{IsFirstState, IsStateOf, IsStep};
-ghost use Rattle.rx_dfa.specs.Tables.{HasStepped, IsCacheBy};
+ghost use Rattle.rx_dfa.specs.Tables.{HasStepped, HoldsBy, IsCacheBy};
 
 use crate::alphabet::Alphabet;
 use crate::automaton::Automaton;
@@ -33,11 +33,19 @@ pub(crate) const QUIT: u32 = 0xFFFF_FFFE;
 pub(crate) const UNKNOWN: u32 = 0xFFFF_FFFF;
 
 /// How often a cache is cleared in one search before it gives up.
-const CLEARS: usize = 3;
+pub(crate) const CLEARS: usize = 3;
+
+/// How many bytes a node of a state takes.
+pub(crate) const NODE_BYTES: usize = size_of::<Node>();
+/// How many bytes an entry of a row takes.
+pub(crate) const ENTRY_BYTES: usize = size_of::<u32>();
+/// How many bytes a state takes beside its nodes and its row.
+pub(crate) const STATE_BYTES: usize = size_of::<AutomatonState>();
 
 /// What searches by an automaton keep from one to the next. Contracts see how many nodes each state
-/// is of the program that it was made for, how many entries a row of its table has, the rows, and
-/// the state of each.
+/// is of the program that it was made for, how many entries a row of its table has, the rows, the
+/// state of each, about how many bytes they take, and how often all of them were taken out in the
+/// search that it served last.
 #[derive(Debug, Drop)]
 pub struct Cache {
     pub(crate) maker: Maker,
@@ -45,19 +53,19 @@ pub struct Cache {
     // For each state a row, with an entry for each column.
     pub(crate) table: Vec<u32>,
     pub(crate) states: Vec<AutomatonState>,
-    // By its hash the number of a state.
+    // By its hash the number of a state; of states with one hash, that of the last.
     numbers: HashMap<u64, usize>,
-    // About how much room the states take.
-    pub(crate) used: usize,
+    // About how many bytes the states take.
+    used: usize,
     // How often it was cleared in this search, and in all that it has served.
-    pub(crate) cleared: usize,
+    cleared: usize,
     clear_count: usize,
     // The numbers that first states had, by how walks start and what stands before.
     firsts: [usize; 15],
 }
 
 impl Model for Cache {
-    ghost use Rattle.rx_dfa.specs.Caches.{CacheView};
+    ghost use Rattle.rx_dfa.specs.Caches.{AreNumbered, CacheView};
 
     ghost Value = { CacheView };
 
@@ -66,20 +74,32 @@ impl Model for Cache {
       width = c.width;
       table = c.table.items;
       states = c.states.items;
+      used = c.used;
+      cleared = c.cleared;
     } };
+
+    ghost invariant = { λ c. AreNumbered c.states.items c.numbers };
 }
 
 /// Where the number of a first state is kept.
 fn kept_at(starting: &Starting, behind: &Behind) -> usize {
-    let side = match behind {
-        Behind::Edge => 4,
-        Behind::Byte(ends_line, is_word) => usize::from(*ends_line) + 2 * usize::from(*is_word),
-    };
+    let side = behind.number();
     match starting {
         Starting::Never => side,
         Starting::Once(_) => side + 5,
         Starting::Always(_) => side + 10,
     }
+}
+
+/// About how many bytes a state of so many nodes takes, whose row has so many entries.
+fn size_of_parts(nodes: usize, entries: usize) -> usize
+    ensures { result ≡ counted (size_of_parts nodes entries) }
+{
+    let row = entries.saturating_mul(ENTRY_BYTES);
+    nodes
+        .saturating_mul(NODE_BYTES)
+        .saturating_add(row)
+        .saturating_add(2 * STATE_BYTES)
 }
 
 /// Adds a row of which nothing is known.
@@ -94,6 +114,7 @@ fn push_row(table: &mut Vec<u32>, width: usize) -> Result<(), AllocError>
 
 impl Cache {
     /// A cache for searches by an automaton of a program. The one refusal is `Memory`.
+    #[tactic(auto, using(crate::proofs::TableLaws::cache_begun))]
     pub fn new(alloc: Global, program: &Program, alphabet: &Alphabet) -> Result<Cache, MatchError>
         ensures made { IfOk result (λ cache. IsCacheOf program.now alphabet.now cache) }
         ensures refused { IfErr result (λ error. error ≡ MatchError.Memory) }
@@ -113,6 +134,7 @@ impl Cache {
 
     /// Makes the cache one for searches by this automaton, of which it knows nothing yet. The one
     /// refusal is `Memory`; the cache is then as it was.
+    #[tactic(auto, using(crate::proofs::TableLaws::cache_begun))]
     pub fn reset(&mut self, program: &Program, alphabet: &Alphabet) -> Result<(), MatchError>
         ensures made { OnOk result (IsCacheOf program.now alphabet.now self.new) }
         ensures kept { OnErr result (self.new ≡ self.old) }
@@ -125,8 +147,11 @@ impl Cache {
         Ok(())
     }
 
-    /// About how many bytes its states take: a count that no contract fixes.
-    pub fn memory_usage(&self) -> usize {
+    /// About how many bytes its states take: of each the nodes, the row in the table, and what is
+    /// kept of it beside.
+    pub fn memory_usage(&self) -> usize
+        ensures { result ≡ self.now.used }
+    {
         self.used
     }
 
@@ -142,6 +167,8 @@ impl Cache {
         ensures width { self.new.width ≡ self.old.width }
         ensures table { self.new.table ≡ [] }
         ensures states { self.new.states ≡ [] }
+        ensures used { self.new.used ≡ 0 }
+        ensures cleared { self.new.cleared ≡ self.old.cleared }
     {
         self.table.clear();
         self.states.clear();
@@ -149,29 +176,87 @@ impl Cache {
         self.used = 0;
     }
 
-    /// The number of a state, if it is found.
-    pub(crate) fn find(&self, state: &AutomatonState) -> Option<usize>
+    /// Takes all states out for want of room, and counts it.
+    fn clear_for_room(&mut self)
+        requires { self.old.cleared < CLEARS }
+        ensures widths { self.new.widths ≡ self.old.widths }
+        ensures width { self.new.width ≡ self.old.width }
+        ensures table { self.new.table ≡ [] }
+        ensures states { self.new.states ≡ [] }
+        ensures used { self.new.used ≡ 0 }
+        ensures cleared { self.new.cleared ≡ self.old.cleared + 1 }
+    {
+        self.cleared += 1;
+        self.clear_count = self.clear_count.saturating_add(1);
+        self.clear();
+    }
+
+    /// Notes that it wasn't cleared yet in the search that begins.
+    fn begin(&mut self)
+        ensures { self.new ≡ record self.old { cleared = 0 } }
+    {
+        self.cleared = 0;
+    }
+
+    /// Whether the state with a number is the same as this one.
+    fn is_at(&self, number: usize, state: &AutomatonState) -> bool
         requires states { All IsBare self.now.states }
         requires state { IsBare state.now }
-        ensures { IfSome result (λ number. (x : AutomatonState)
-            × (slice_get self.now.states number ≡ Some x) × IsSameState state.now x) }
+        ensures same { result ≡ true → (x : AutomatonState)
+            × (slice_get self.now.states number ≡ Some x) × IsSameState state.now x }
+        ensures differs { result ≡ false → (x : AutomatonState)
+            → slice_get self.now.states number ≡ Some x → IsSameState state.now x → ⊥ }
     {
-        let number = *self.numbers.get(&state.hash())?;
-        let known = self.states.get(number)?;
-        if known.is_same(state) {
-            Some(number)
-        } else {
-            None
+        match self.states.get(number) {
+            Some(known) => known.is_same(state),
+            None => false,
         }
     }
 
-    /// About how much room a state takes.
-    fn size_of(&self, state: &AutomatonState) -> usize {
-        let nodes = state.threads.len().saturating_mul(size_of::<Node>());
-        let row = self.width.saturating_mul(size_of::<u32>());
-        nodes
-            .saturating_add(row)
-            .saturating_add(2 * size_of::<AutomatonState>())
+    /// The number of a state, looked for among all states.
+    fn find_among_all(&self, state: &AutomatonState) -> Option<usize>
+        requires states { All IsBare self.now.states }
+        requires state { IsBare state.now }
+        ensures some { IfSome result (λ number. (x : AutomatonState)
+            × (slice_get self.now.states number ≡ Some x) × IsSameState state.now x) }
+        ensures none { result ≡ None → IsNew self.now.states state.now }
+    {
+        for number in 0..self.states.len() {
+            if self.is_at(number, state) {
+                return Some(number);
+            }
+        }
+        None
+    }
+
+    /// The number of a state, and none where no state is the same. It is found by its hash; where
+    /// that of another state is the same, it is looked for among all.
+    pub(crate) fn find(&self, state: &AutomatonState) -> Option<usize>
+        requires states { All IsBare self.now.states }
+        requires state { IsBare state.now }
+        ensures some { IfSome result (λ number. (x : AutomatonState)
+            × (slice_get self.now.states number ≡ Some x) × IsSameState state.now x) }
+        ensures none { result ≡ None → IsNew self.now.states state.now }
+    {
+        let number = *self.numbers.get(&state.hash())?;
+        if self.is_at(number, state) {
+            return Some(number);
+        }
+        self.find_among_all(state)
+    }
+
+    /// About how many bytes a state takes.
+    fn size_of(&self, state: &AutomatonState) -> usize
+        ensures { result ≡ counted (size_of self.now.width state.now) }
+    {
+        size_of_parts(state.threads.len(), self.width)
+    }
+
+    /// About how many bytes all states take with a further one.
+    fn used_with(&self, state: &AutomatonState) -> usize
+        ensures { result ≡ used_with self.now state.now }
+    {
+        self.used.saturating_add(self.size_of(state))
     }
 
     /// Adds a state with a row of which nothing is known. Where it is refused, any part of them may
@@ -182,6 +267,7 @@ impl Cache {
         ensures states { OnOk result (self.new.states ≡ self.old.states ++ state ∷ []) }
         ensures widths { self.new.widths ≡ self.old.widths }
         ensures width { self.new.width ≡ self.old.width }
+        ensures cleared { self.new.cleared ≡ self.old.cleared }
     {
         push_row(&mut self.table, self.width)?;
         if self
@@ -195,24 +281,30 @@ impl Cache {
         Ok(())
     }
 
-    /// Adds a state, and tells its number. Where it is refused, no state is left.
+    /// Adds a state that isn't there, and tells its number. Where it is refused, no state is left.
     pub(crate) fn add(
         &mut self,
         automaton: &Automaton,
         state: AutomatonState,
     ) -> Result<usize, MatchError>
-        requires made { IsCacheBy automaton.now self.old }
+        requires made { HoldsBy automaton.now self.old }
         requires state { IsStateOf automaton.now.program.now state }
-        ensures made { IsCacheBy automaton.now self.new }
+        requires is_new { IsNew self.old.states state }
+        ensures made { HoldsBy automaton.now self.new }
         ensures number { IfOk result (λ number.
             slice_get self.new.states number ≡ Some state) }
         ensures kept { OnOk result (KeepNumbers self.old.states self.new.states) }
         ensures table { OnOk result
             (self.new.table ≡ self.old.table ++ replicate self.old.width UNKNOWN) }
+        ensures states { OnOk result (self.new.states ≡ self.old.states ++ state ∷ []) }
+        ensures last { IfOk result (λ number. number ≡ length self.old.states) }
+        ensures used { OnOk result (self.new.used ≡ used_with self.old state) }
+        ensures emptied { OnErr result (self.new.states ≡ []) }
+        ensures cleared { self.new.cleared ≡ self.old.cleared }
         ensures refused { IfErr result (λ error. error ≡ MatchError.Memory) }
     {
         let number = self.states.len();
-        let used = self.used.saturating_add(self.size_of(&state));
+        let used = self.used_with(&state);
         match self.push_state(state) {
             Ok(()) => {
                 self.used = used;
@@ -226,13 +318,16 @@ impl Cache {
     }
 
     /// Whether a further state fits: beside one state another one always does.
-    fn has_room(&self, automaton: &Automaton, state: &AutomatonState) -> bool {
-        self.states.len() < 2
-            || self.used.saturating_add(self.size_of(state)) <= automaton.alphabet.capacity()
+    fn has_room(&self, automaton: &Automaton, state: &AutomatonState) -> bool
+        ensures { result ≡ true → (length self.now.states < 2)
+            ⊎ (used_with self.now state.now ≤ automaton.now.alphabet.now.capacity) }
+    {
+        self.states.len() < 2 || self.used_with(state) <= automaton.alphabet.capacity()
     }
 
     /// The number of a state, which is added where it isn't found, and whether all others were
     /// taken out for it. Where the cache was cleared too often in this search, it gives up.
+    #[tactic(auto, using(crate::proofs::StateLaws::new_in_none, crate::proofs::TableLaws::none_bounded, crate::proofs::TableLaws::more_bounded, crate::proofs::TableLaws::one_bounded, crate::proofs::TableLaws::cache_empty))]
     pub(crate) fn number_of(
         &mut self,
         automaton: &Automaton,
@@ -246,8 +341,10 @@ impl Cache {
             × (slice_get self.new.states told.0 ≡ Some x) × IsSameState state x) }
         ensures kept { IfOk result (λ told. told.1 ≡ false
             → KeepNumbers self.old.states self.new.states) }
+        ensures cleared { self.new.cleared ≤ self.old.cleared + 1 }
         ensures refused { IfErr result (λ error.
             (error ≡ MatchError.Memory) ⊎ (error ≡ MatchError.GaveUp at)) }
+        ensures late { IfErr result (GivesUpLate self.new) }
     {
         if let Some(number) = self.find(&state) {
             return Ok((number, false));
@@ -259,9 +356,7 @@ impl Cache {
         if self.cleared >= CLEARS {
             return Err(MatchError::GaveUp { offset: at });
         }
-        self.cleared += 1;
-        self.clear_count = self.clear_count.saturating_add(1);
-        self.clear();
+        self.clear_for_room();
         let number = self.add(automaton, state)?;
         Ok((number, true))
     }
@@ -341,6 +436,8 @@ impl Cache {
         ensures states { self.new.states ≡ self.old.states }
         ensures widths { self.new.widths ≡ self.old.widths }
         ensures width { self.new.width ≡ self.old.width }
+        ensures used { self.new.used ≡ self.old.used }
+        ensures cleared { self.new.cleared ≡ self.old.cleared }
     {
         self.table[number * self.width + column] = entry;
     }
@@ -395,15 +492,17 @@ impl Cache {
         number: usize,
         ahead: &Ahead,
     ) -> Result<AutomatonState, MatchError>
-        requires made { IsCacheBy automaton.now self.old }
+        requires made { HoldsBy automaton.now self.old }
         requires number { number < length self.old.states }
         ensures step { IfOk result (λ next. (x : AutomatonState)
             → slice_get self.old.states number ≡ Some x
             → IsStep automaton.now.program.now automaton.now.alphabet.now.asked x ahead.now next) }
         ensures state { IfOk result (λ next. IsStateOf automaton.now.program.now next) }
-        ensures made { IsCacheBy automaton.now self.new }
+        ensures made { HoldsBy automaton.now self.new }
         ensures states { self.new.states ≡ self.old.states }
         ensures table { self.new.table ≡ self.old.table }
+        ensures used { self.new.used ≡ self.old.used }
+        ensures cleared { self.new.cleared ≡ self.old.cleared }
         ensures refused { IfErr result (λ error. error ≡ MatchError.Memory) }
     {
         let state = &self.states[number];
@@ -428,6 +527,7 @@ impl Cache {
             → HasStepped automaton.now self.new.states x column next) }
         ensures refused { IfErr result (λ error.
             (error ≡ MatchError.Memory) ⊎ (error ≡ MatchError.GaveUp at)) }
+        ensures late { IfErr result (GivesUpLate self.new) }
     {
         let ahead = automaton.alphabet.ahead(column);
         if automaton.alphabet.quits_at(ahead.seen) {
@@ -477,7 +577,7 @@ impl Table for Cache {
         side: Behind,
         at: usize,
     ) -> Result<usize, MatchError> {
-        self.cleared = 0;
+        self.begin();
         if let Some(number) = self.kept_first(&starting, &side) {
             return Ok(number);
         }

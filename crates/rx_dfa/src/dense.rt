@@ -1,17 +1,19 @@
 //! The engine that searches by an automaton whose states are all made as it is built.
 
-ghost use Rattle.std.specs.Prelude.{◌≡◌, true, IfErr, IfOk};
+ghost use Rattle.std.specs.Prelude.{◌≡◌, true, map, IfErr, IfOk};
 ghost use Rattle.rx_util.specs.declared.search.MatchError.{MatchError};
 ghost use Rattle.rx_input.specs.Cursors.{IsSameContent};
 ghost use Rattle.rx_steps.specs.Searching.{search_of};
-ghost use Rattle.rx_engine.specs.Engines.{IsBuiltOf, IsRefused, by_default};
+ghost use Rattle.rx_grammar.specs.Postorder.{tree_of};
+ghost use Rattle.rx_engine.specs.Engines.{AreRefused, IsBuiltOf, IsBuiltOfAll, IsBuiltOfTrees, IsRefused, IsRefusedOfAll, by_default, nothing_set};
 ghost use Rattle.rx_dfa.specs.DenseTables.{IsClosedOf, IsQuit};
 ghost use Rattle.rx_dfa.specs.Alphabets.{IsAlphabetOf};
 ghost use Rattle.rx_dfa.specs.Searching.{IsHalfAnswer};
 
 use crate::alphabet::Alphabet;
 use crate::dense_table::DenseTable;
-use rx_engine::Compiled;
+use rx_engine::{Builder, Compiled};
+use rx_grammar::Hir;
 use rx_input::{Cursor, Input};
 use rx_program::{BuildError, Program};
 use rx_util::{HalfMatch, MatchError};
@@ -34,8 +36,9 @@ impl Model for Automaton {
     ghost view = { λ a. record { dfa = a.dfa; closed = a.closed } };
 }
 
-/// An engine that searches for a pattern by an automaton, all of whose states are made as it is
-/// built. Contracts see the engine that was built of the pattern, and the automaton of its program.
+/// An engine that searches for patterns by an automaton, all of whose states are made as it is
+/// built. Contracts see the engine that was built of the patterns, and the automaton of its
+/// program.
 #[derive(Debug, Drop)]
 pub struct Regex {
     compiled: Compiled,
@@ -64,7 +67,7 @@ fn closed_of(alloc: Global, program: &Program, dfa: &Alphabet) -> Result<DenseTa
     }
 }
 
-/// The automaton of a pattern's program, to be shared by an engine and its clones.
+/// The automaton of an engine's program, to be shared by an engine and its clones.
 fn shared_automaton(alloc: Global, compiled: &Compiled) -> Result<Rc<Automaton>, AllocError>
     ensures dfa { IfOk result (λ automaton. IsAlphabetOf compiled.now.program automaton.value.dfa) }
     ensures utf8_empty { IfOk result (λ automaton. automaton.value.dfa.utf8_empty ≡ true) }
@@ -77,7 +80,7 @@ fn shared_automaton(alloc: Global, compiled: &Compiled) -> Result<Rc<Automaton>,
 }
 
 impl Regex {
-    /// An engine that searches by the automaton of a pattern's program.
+    /// An engine that searches by the automaton of the patterns' program.
     fn over(alloc: Global, compiled: Compiled) -> Result<Regex, AllocError>
         requires { compiled.utf8_empty ≡ true }
         ensures { IfOk result (λ re. re.engine ≡ compiled) }
@@ -101,6 +104,33 @@ impl Regex {
         Ok(Regex::over(alloc, compiled)?)
     }
 
+    /// The engine for patterns that are searched for together, under default settings: where
+    /// matches of several start at one place, those of an earlier pattern are preferred. With no
+    /// pattern it never finds a match. The patterns are refused as by
+    /// `pikevm::Builder::build_many`; the automaton is as that of `new`.
+    pub fn new_many(alloc: Global, patterns: &[&str]) -> Result<Regex, BuildError>
+        ensures built { IfOk result (λ re.
+            IsBuiltOfAll (map (λ text. text.now) patterns.now) by_default re.engine) }
+        ensures refused { IfErr result (λ error.
+            IsRefusedOfAll (map (λ text. text.now) patterns.now) by_default error) }
+    {
+        let compiled = Compiled::new_many(alloc, patterns)?;
+        Ok(Regex::over(alloc, compiled)?)
+    }
+
+    /// The engine for what patterns spell, as `new_many` makes it. They are refused as
+    /// `BuildError::Size` where together they weigh more than 2,147,483,646, and else perhaps as
+    /// `Memory`.
+    pub fn build_from_hirs(alloc: Global, hirs: &[&Hir]) -> Result<Regex, BuildError>
+        ensures built { IfOk result (λ re. IsBuiltOfTrees
+            (map (λ hir. tree_of hir.now) hirs.now) nothing_set re.engine) }
+        ensures refused { IfErr result (λ error. AreRefused
+            (map (λ hir. tree_of hir.now) hirs.now) nothing_set error) }
+    {
+        let compiled = Builder::new().build_many_from_hir(alloc, hirs)?;
+        Ok(Regex::over(alloc, compiled)?)
+    }
+
     /// The same engine, which shares program and automaton. The one refusal is `Memory`. `O(1)`.
     pub fn clone(&self) -> Result<Regex, MatchError>
         ensures same { IfOk result (λ re. re ≡ self.now) }
@@ -112,15 +142,19 @@ impl Regex {
         })
     }
 
-    /// About how many bytes the automaton's states take: a count that no contract fixes.
-    pub fn memory_usage(&self) -> usize {
+    /// About how many bytes the automaton's states take: of each the nodes, the row in the table,
+    /// and what is kept of it beside.
+    pub fn memory_usage(&self) -> usize
+        ensures { result ≡ self.now.automaton.closed.used }
+    {
         self.automaton.closed.memory_usage()
     }
 }
 
 /// Searches forward: answers the pattern and the end of the match that is found. The one refusal is
-/// `Quit`, with a byte of 128 or more of the slice, where the pattern asks for looks of words. It
-/// takes a look-up in a table for each byte, and no memory.
+/// `Quit`, with a byte of 128 or more of the slice, where the pattern asks for looks of words:
+/// `dfa` says that `\b` or `\B` stands in the program then. It takes a look-up in a table for each
+/// byte, and no memory.
 pub fn try_search_fwd<C: Cursor>(
     re: &Regex,
     input: &mut Input<C>,
@@ -131,6 +165,7 @@ pub fn try_search_fwd<C: Cursor>(
     ensures asked { input.new.asked ≡ input.old.asked }
     ensures refused { IfErr result (IsQuit re.now.automaton.dfa.asked
         (search_of re.now.engine.utf8_empty input.old)) }
+    ensures dfa { IsAlphabetOf re.now.engine.program re.now.automaton.dfa }
 {
     let automaton = &re.automaton;
     automaton

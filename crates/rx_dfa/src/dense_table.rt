@@ -5,7 +5,7 @@ ghost use Rattle.rx_input.specs.Cursors.{IsSameContent};
 ghost use Rattle.rx_steps.specs.Searching.{search_of};
 ghost use Rattle.rx_dfa.specs.declared.states.AutomatonState.{AutomatonState};
 ghost use Rattle.rx_dfa.specs.Alphabets.{IsAlphabetOf, column_count};
-ghost use Rattle.rx_dfa.specs.Caches.{HasFirst, IsCacheOf};
+ghost use Rattle.rx_dfa.specs.Caches.{HasFirst, HoldsSteps, IsWithin};
 ghost use Rattle.rx_dfa.specs.DenseTables.{IsClosedOf, IsQuit};
 ghost use Rattle.rx_dfa.specs.Searching.{IsHalfAnswer};
 ghost use Rattle.rx_dfa.specs.Tables.{HasStepped, IsBeginning, IsTable};
@@ -40,7 +40,7 @@ impl Model for DenseTable {
 
 /// A cache for searches by an automaton of a program.
 fn new_cache(alloc: Global, program: &Program, alphabet: &Alphabet) -> Result<Cache, AllocError>
-    ensures { IfOk result (IsCacheOf program.now alphabet.now) }
+    ensures { IfOk result (HoldsSteps program.now alphabet.now) }
 {
     match Cache::new(alloc, program, alphabet) {
         Ok(cache) => Ok(cache),
@@ -61,8 +61,7 @@ impl DenseTable {
     ) -> Result<Option<DenseTable>, AllocError>
         requires { IsAlphabetOf program.now alphabet.now }
         ensures made { IfOk result (λ closed. IfSome closed (IsClosedOf program.now alphabet.now)) }
-        ensures limit { IfOk result (λ closed. IfSome closed
-            (λ c. length c.states ≤ state_limit)) }
+        ensures limit { IfOk result (λ closed. IfSome closed (IsWithin state_limit size_limit)) }
     {
         let automaton = Automaton { program, alphabet };
         let mut cache = new_cache(alloc, program, alphabet)?;
@@ -75,8 +74,10 @@ impl DenseTable {
         }
     }
 
-    /// About how many bytes its states take: a count that no contract fixes.
-    pub fn memory_usage(&self) -> usize {
+    /// About how many bytes its states take, as those of a cache.
+    pub fn memory_usage(&self) -> usize
+        ensures { result ≡ self.now.used }
+    {
         self.cache.memory_usage()
     }
 

@@ -1,12 +1,12 @@
 //! Makes all states to which searches may come, and all steps between them.
 
-ghost use Rattle.std.specs.Prelude.{◌≡◌, ◌+◌, ◌*◌, ◌<◌, ◌≤◌, ℕ, true, Some, length, slice_get, IfOk, OnOk};
+ghost use Rattle.std.specs.Prelude.{◌≡◌, ◌+◌, ◌*◌, ◌<◌, ◌≤◌, ℕ, true, Some, length, max, slice_get, IfOk, OnOk};
 ghost use Rattle.rx_dfa.specs.declared.states.AutomatonState.{AutomatonState};
 ghost use Rattle.rx_dfa.specs.Alphabets.{ahead_in, column_count};
-ghost use Rattle.rx_dfa.specs.Caches.{IsEntry, IsSameState, KeepNumbers};
-ghost use Rattle.rx_dfa.specs.DenseTables.{AreKnown, Grows, HasAllStarts, HasOneFirst, HasStarts, HasStartsFrom, IsKnownAt};
+ghost use Rattle.rx_dfa.specs.Caches.{IsEntry, IsSameState, IsWithin, KeepNumbers};
+ghost use Rattle.rx_dfa.specs.DenseTables.{AreKnown, Grows, HasAllStarts, HasOneFirst, HasStarts, HasStartsFrom, HaveRows, IsKnownAt};
 ghost use Rattle.rx_dfa.specs.States.{IsStateOf};
-ghost use Rattle.rx_dfa.specs.Tables.{IsAutomaton, IsCacheBy};
+ghost use Rattle.rx_dfa.specs.Tables.{IsAutomaton, HoldsBy};
 
 use crate::automaton::Automaton;
 use crate::behind::Behind;
@@ -22,11 +22,13 @@ impl Cache {
         automaton: &Automaton,
         state: AutomatonState,
     ) -> Result<usize, AllocError>
-        requires made { IsCacheBy automaton.now self.old }
+        requires made { HoldsBy automaton.now self.old }
         requires state { IsStateOf automaton.now.program.now state }
-        ensures made { IsCacheBy automaton.now self.new }
+        ensures made { HoldsBy automaton.now self.new }
         ensures number { IfOk result (λ number. (x : AutomatonState)
             × (slice_get self.new.states number ≡ Some x) × IsSameState state x) }
+        ensures few { IfOk result (λ number.
+            length self.new.states ≤ max (length self.old.states) (number + 1)) }
         ensures grows { OnOk result (Grows self.old self.new) }
     {
         if let Some(number) = self.find(&state) {
@@ -45,8 +47,8 @@ impl Cache {
         starting: Starting,
         side: Behind,
     ) -> Result<(), AllocError>
-        requires made { IsCacheBy automaton.now self.old }
-        ensures made { IsCacheBy automaton.now self.new }
+        requires made { HoldsBy automaton.now self.old }
+        ensures made { HoldsBy automaton.now self.new }
         ensures first { OnOk result (HasOneFirst self.new.states starting side) }
         ensures kept { OnOk result (KeepNumbers self.old.states self.new.states) }
     {
@@ -63,8 +65,8 @@ impl Cache {
         start: StateID,
         side: Behind,
     ) -> Result<(), AllocError>
-        requires made { IsCacheBy automaton.now self.old }
-        ensures made { IsCacheBy automaton.now self.new }
+        requires made { HoldsBy automaton.now self.old }
+        ensures made { HoldsBy automaton.now self.new }
         ensures starts { OnOk result (HasStarts self.new.states start side) }
         ensures kept { OnOk result (KeepNumbers self.old.states self.new.states) }
     {
@@ -77,8 +79,8 @@ impl Cache {
     /// Adds them for whatever may stand before.
     fn add_sides(&mut self, automaton: &Automaton, start: StateID) -> Result<(), AllocError>
         requires is { IsAutomaton automaton.now }
-        requires made { IsCacheBy automaton.now self.old }
-        ensures made { IsCacheBy automaton.now self.new }
+        requires made { HoldsBy automaton.now self.old }
+        ensures made { HoldsBy automaton.now self.new }
         ensures starts { OnOk result (HasStartsFrom automaton.now.program.now
             automaton.now.alphabet.now self.new.states start) }
         ensures kept { OnOk result (KeepNumbers self.old.states self.new.states) }
@@ -93,8 +95,8 @@ impl Cache {
     /// Adds those in which walks start from the state from which those of a pattern do.
     fn add_patterns(&mut self, automaton: &Automaton) -> Result<(), AllocError>
         requires is { IsAutomaton automaton.now }
-        requires made { IsCacheBy automaton.now self.old }
-        ensures made { IsCacheBy automaton.now self.new }
+        requires made { HoldsBy automaton.now self.old }
+        ensures made { HoldsBy automaton.now self.new }
         ensures starts { OnOk result ((k q : ℕ)
             → slice_get automaton.now.program.now.patterns k ≡ Some q
             → HasStartsFrom automaton.now.program.now automaton.now.alphabet.now
@@ -109,8 +111,8 @@ impl Cache {
     /// Adds all states in which searches begin.
     pub(crate) fn add_all_starts(&mut self, automaton: &Automaton) -> Result<(), AllocError>
         requires is { IsAutomaton automaton.now }
-        requires made { IsCacheBy automaton.now self.old }
-        ensures made { IsCacheBy automaton.now self.new }
+        requires made { HoldsBy automaton.now self.old }
+        ensures made { HoldsBy automaton.now self.new }
         ensures starts { OnOk result (HasAllStarts automaton.now.program.now
             automaton.now.alphabet.now self.new.states) }
     {
@@ -129,15 +131,16 @@ impl Cache {
         number: usize,
         column: usize,
     ) -> Result<u32, AllocError>
-        requires made { IsCacheBy automaton.now self.old }
+        requires made { HoldsBy automaton.now self.old }
         requires number { number < length self.old.states }
         requires column { column < column_count automaton.now.alphabet.now }
-        ensures made { IsCacheBy automaton.now self.new }
+        ensures made { HoldsBy automaton.now self.new }
         ensures grows { OnOk result (Grows self.old self.new) }
         ensures entry { IfOk result (λ entry. (x : AutomatonState)
             → slice_get self.old.states number ≡ Some x
             → IsEntry automaton.now.program.now automaton.now.alphabet.now self.new.width
             self.new.states x (ahead_in automaton.now.alphabet.now column) entry) }
+        ensures rows { IfOk result (λ entry. (entry ≡ UNKNOWN → ⊥) → HaveRows self.old self.new) }
     {
         let ahead = automaton.alphabet.ahead(column);
         if automaton.alphabet.quits_at(ahead.seen) {
@@ -158,13 +161,14 @@ impl Cache {
         number: usize,
         column: usize,
     ) -> Result<(), AllocError>
-        requires made { IsCacheBy automaton.now self.old }
+        requires made { HoldsBy automaton.now self.old }
         requires number { number < length self.old.states }
         requires column { column < column_count automaton.now.alphabet.now }
-        ensures made { IsCacheBy automaton.now self.new }
+        ensures made { HoldsBy automaton.now self.new }
         ensures grows { OnOk result (Grows self.old self.new) }
         ensures known { OnOk result
             (IsKnownAt self.new.table (number * self.new.width + column)) }
+        ensures rows { OnOk result (HaveRows self.old self.new) }
     {
         let entry = self.entry_made(automaton, number, column)?;
         if entry == UNKNOWN {
@@ -176,12 +180,13 @@ impl Cache {
 
     /// Enters all steps from a state, where those from the states before it are known.
     fn fill_row(&mut self, automaton: &Automaton, number: usize) -> Result<(), AllocError>
-        requires made { IsCacheBy automaton.now self.old }
+        requires made { HoldsBy automaton.now self.old }
         requires number { number < length self.old.states }
         requires known { AreKnown self.old number }
-        ensures made { IsCacheBy automaton.now self.new }
+        ensures made { HoldsBy automaton.now self.new }
         ensures known { OnOk result (AreKnown self.new (number + 1)) }
         ensures kept { OnOk result (KeepNumbers self.old.states self.new.states) }
+        ensures rows { OnOk result (HaveRows self.old self.new) }
     {
         for column in 0..automaton.alphabet.column_count() {
             self.fill(automaton, number, column)?;
@@ -189,11 +194,11 @@ impl Cache {
         Ok(())
     }
 
-    /// Whether there are at most so many states, in about so much room, in bytes.
+    /// Whether there are at most so many states, which take about so many bytes at most.
     fn is_within(&self, state_limit: usize, size_limit: usize) -> bool
-        ensures { result ≡ true → length self.now.states ≤ state_limit }
+        ensures { result ≡ true → IsWithin state_limit size_limit self.now }
     {
-        self.states.len() <= state_limit && self.used <= size_limit
+        self.states.len() <= state_limit && self.memory_usage() <= size_limit
     }
 
     /// Makes all states to which searches come, and enters all steps, unless there are more states
@@ -204,13 +209,14 @@ impl Cache {
         state_limit: usize,
         size_limit: usize,
     ) -> Result<bool, AllocError>
-        requires made { IsCacheBy automaton.now self.old }
-        ensures made { IsCacheBy automaton.now self.new }
+        requires made { HoldsBy automaton.now self.old }
+        ensures made { HoldsBy automaton.now self.new }
         ensures kept { OnOk result (KeepNumbers self.old.states self.new.states) }
         ensures known { IfOk result (λ is_closed. is_closed ≡ true
             → AreKnown self.new (length self.new.states)) }
         ensures limit { IfOk result (λ is_closed. is_closed ≡ true
-            → length self.new.states ≤ state_limit) }
+            → IsWithin state_limit size_limit self.new) }
+        ensures rows { OnOk result (HaveRows self.old self.new) }
     {
         let mut number = 0;
         while number < self.states.len() {

@@ -1,20 +1,21 @@
 //! The engine that searches by an automaton whose states are made as a search comes to them.
 
-ghost use Rattle.std.specs.Prelude.{◌≡◌, true, length, IfErr, IfOk, OnErr, OnOk};
+ghost use Rattle.std.specs.Prelude.{◌≡◌, true, map, IfErr, IfOk, OnErr, OnOk};
 ghost use Rattle.rx_util.specs.declared.search.MatchError.{MatchError};
 ghost use Rattle.rx_program.specs.declared.error.BuildError.{BuildError};
 ghost use Rattle.rx_input.specs.Cursors.{IsSameContent};
 ghost use Rattle.rx_steps.specs.Searching.{search_of};
-ghost use Rattle.rx_engine.specs.Engines.{IsBuiltOf, IsRefused, by_default};
-ghost use Rattle.rx_dfa.specs.Caches.{IsCacheOf};
+ghost use Rattle.rx_grammar.specs.Postorder.{tree_of};
+ghost use Rattle.rx_engine.specs.Engines.{AreRefused, IsBuiltOf, IsBuiltOfAll, IsBuiltOfTrees, IsRefused, IsRefusedOfAll, by_default, nothing_set};
+ghost use Rattle.rx_dfa.specs.Caches.{GivesUpLate, IsCacheOf};
 ghost use Rattle.rx_dfa.specs.Alphabets.{IsAlphabetOf};
-ghost use Rattle.rx_dfa.specs.Hybrid.{IsBuiltOfFirst, IsFirstRefused};
 ghost use Rattle.rx_dfa.specs.Passing.{IsRefusal};
 ghost use Rattle.rx_dfa.specs.Searching.{IsHalfAnswer};
 
-use crate::alphabet::Alphabet;
+use crate::alphabet::{Alphabet, CACHE_CAPACITY};
 use crate::{cache as states, search};
-use rx_engine::Compiled;
+use rx_engine::{Builder, Compiled};
+use rx_grammar::Hir;
 use rx_input::{Cursor, Input};
 use rx_program::BuildError;
 use rx_util::{HalfMatch, MatchError};
@@ -22,11 +23,8 @@ use std::alloc::{AllocError, Global};
 use std::marker::Model;
 use std::rc::Rc;
 
-/// About how many bytes the states in a cache may take by default.
-const CAPACITY: usize = 2_097_152;
-
-/// An engine that searches for a pattern by an automaton, whose states a cache keeps. Contracts see
-/// the engine that was built of the pattern, and the automaton of its program.
+/// An engine that searches for patterns by an automaton, whose states a cache keeps. Contracts see
+/// the engine that was built of the patterns, and the automaton of its program.
 #[derive(Debug, Drop)]
 pub struct Regex {
     compiled: Compiled,
@@ -43,7 +41,7 @@ impl Model for Regex {
     ghost invariant = { λ re. IsHybrid (record { engine = re.compiled; dfa = re.dfa.value }) };
 }
 
-/// The automaton of a pattern's program, to be shared by an engine and its clones.
+/// The automaton of an engine's program, to be shared by an engine and its clones.
 fn shared_dfa(
     alloc: Global,
     compiled: &Compiled,
@@ -51,16 +49,18 @@ fn shared_dfa(
 ) -> Result<Rc<Alphabet>, AllocError>
     ensures made { IfOk result (λ dfa. IsAlphabetOf compiled.now.program dfa.value) }
     ensures utf8_empty { IfOk result (λ dfa. dfa.value.utf8_empty ≡ true) }
+    ensures capacity { IfOk result (λ dfa. dfa.value.capacity ≡ capacity) }
 {
     let dfa = Alphabet::new(alloc, compiled.program(), true, capacity)?;
     Ok(Rc::new(alloc, dfa)?)
 }
 
 impl Regex {
-    /// An engine that searches by the automaton of a pattern's program.
+    /// An engine that searches by the automaton of the patterns' program.
     fn over(alloc: Global, compiled: Compiled, capacity: usize) -> Result<Regex, AllocError>
         requires { compiled.utf8_empty ≡ true }
-        ensures { IfOk result (λ re. re.engine ≡ compiled) }
+        ensures engine { IfOk result (λ re. re.engine ≡ compiled) }
+        ensures capacity { IfOk result (λ re. re.dfa.capacity ≡ capacity) }
     {
         let dfa = shared_dfa(alloc, &compiled, capacity)?;
         Ok(Regex { compiled, dfa })
@@ -70,26 +70,56 @@ impl Regex {
     /// two megabytes. A pattern is refused as by `pikevm::Builder::build`.
     pub fn new(alloc: Global, pattern: &str) -> Result<Regex, BuildError>
         ensures built { IfOk result (λ re. IsBuiltOf pattern.now by_default re.engine) }
+        ensures capacity { IfOk result (λ re. re.dfa.capacity ≡ CACHE_CAPACITY) }
         ensures refused { IfErr result (λ error. IsRefused pattern.now by_default error) }
     {
         let compiled = Compiled::new(alloc, pattern)?;
-        Ok(Regex::over(alloc, compiled, CAPACITY)?)
+        Ok(Regex::over(alloc, compiled, CACHE_CAPACITY)?)
     }
 
-    /// The engine for the pattern of a list of one, under default settings, and refused as by
-    /// `new`. The states in its caches may take about so many bytes; whatever the capacity, there
-    /// is room for two.
+    /// The engine for patterns that are searched for together, under default settings: where
+    /// matches of several start at one place, those of an earlier pattern are preferred. With no
+    /// pattern it never finds a match. The patterns are refused as by
+    /// `pikevm::Builder::build_many`.
+    pub fn new_many(alloc: Global, patterns: &[&str]) -> Result<Regex, BuildError>
+        ensures built { IfOk result (λ re.
+            IsBuiltOfAll (map (λ text. text.now) patterns.now) by_default re.engine) }
+        ensures capacity { IfOk result (λ re. re.dfa.capacity ≡ CACHE_CAPACITY) }
+        ensures refused { IfErr result (λ error.
+            IsRefusedOfAll (map (λ text. text.now) patterns.now) by_default error) }
+    {
+        Regex::with_capacity(alloc, patterns, CACHE_CAPACITY)
+    }
+
+    /// The same engine, but that the states in its caches may take about so many bytes; whatever
+    /// the capacity, there is room for two.
     pub fn with_capacity(
         alloc: Global,
         patterns: &[&str],
         capacity: usize,
     ) -> Result<Regex, BuildError>
-        requires { length patterns.now ≡ 1 }
-        ensures built { IfOk result (λ re. IsBuiltOfFirst patterns.now re.engine) }
-        ensures refused { IfErr result (λ error. IsFirstRefused patterns.now error) }
+        ensures built { IfOk result (λ re.
+            IsBuiltOfAll (map (λ text. text.now) patterns.now) by_default re.engine) }
+        ensures capacity { IfOk result (λ re. re.dfa.capacity ≡ capacity) }
+        ensures refused { IfErr result (λ error.
+            IsRefusedOfAll (map (λ text. text.now) patterns.now) by_default error) }
     {
-        let compiled = Compiled::new(alloc, patterns[0])?;
+        let compiled = Compiled::new_many(alloc, patterns)?;
         Ok(Regex::over(alloc, compiled, capacity)?)
+    }
+
+    /// The engine for what patterns spell, as `new_many` makes it. They are refused as
+    /// `BuildError::Size` where together they weigh more than 2,147,483,646, and else perhaps as
+    /// `Memory`.
+    pub fn build_from_hirs(alloc: Global, hirs: &[&Hir]) -> Result<Regex, BuildError>
+        ensures built { IfOk result (λ re. IsBuiltOfTrees
+            (map (λ hir. tree_of hir.now) hirs.now) nothing_set re.engine) }
+        ensures capacity { IfOk result (λ re. re.dfa.capacity ≡ CACHE_CAPACITY) }
+        ensures refused { IfErr result (λ error. AreRefused
+            (map (λ hir. tree_of hir.now) hirs.now) nothing_set error) }
+    {
+        let compiled = Builder::new().build_many_from_hir(alloc, hirs)?;
+        Ok(Regex::over(alloc, compiled, CACHE_CAPACITY)?)
     }
 
     /// The same engine, which shares program and automaton. The one refusal is `Memory`. `O(1)`.
@@ -109,7 +139,7 @@ impl Regex {
             (λ cache. IsCacheOf self.now.engine.program self.now.dfa cache) }
         ensures refused { IfErr result (λ error. error ≡ MatchError.Memory) }
     {
-        Cache::new(self)
+        Cache::new(self.compiled.program().allocator(), self)
     }
 }
 
@@ -129,15 +159,14 @@ impl Model for Cache {
 }
 
 impl Cache {
-    /// A cache for searches with an engine, which takes its memory from where that one does. The
-    /// one refusal is `Memory`.
-    pub fn new(re: &Regex) -> Result<Cache, MatchError>
+    /// A cache for searches with an engine, as `create_cache` makes it. The one refusal is
+    /// `Memory`.
+    pub fn new(alloc: Global, re: &Regex) -> Result<Cache, MatchError>
         ensures made { IfOk result (λ cache. IsCacheOf re.now.engine.program re.now.dfa cache) }
         ensures refused { IfErr result (λ error. error ≡ MatchError.Memory) }
     {
-        let program = re.compiled.program();
         Ok(Cache {
-            states: states::Cache::new(program.allocator(), program, &re.dfa)?,
+            states: states::Cache::new(alloc, re.compiled.program(), &re.dfa)?,
         })
     }
 
@@ -151,15 +180,19 @@ impl Cache {
         self.states.reset(re.compiled.program(), &re.dfa)
     }
 
-    /// About how many bytes its states take: a count that no contract fixes.
-    pub fn memory_usage(&self) -> usize {
+    /// About how many bytes its states take: of each the nodes, the row in the table, and what is
+    /// kept of it beside. Where there are more than two states, it is at most the capacity.
+    pub fn memory_usage(&self) -> usize
+        ensures { result ≡ self.now.used }
+    {
         self.states.memory_usage()
     }
 }
 
 /// Searches forward: answers the pattern and the end of the match that is found. The cache must be
-/// one for the engine, and still is one afterwards, whatever is answered. Refusals and cost are
-/// those of the crate's `try_search_fwd`.
+/// one for the engine, and still is one afterwards, whatever is answered: it keeps two states, or
+/// as many as the capacity has room for. Refusals and cost are those of the crate's
+/// `try_search_fwd`: `dfa` says that `\b` or `\B` stands in the program where a byte makes it quit.
 pub fn try_search_fwd<C: Cursor>(
     re: &Regex,
     cache: &mut Cache,
@@ -173,6 +206,8 @@ pub fn try_search_fwd<C: Cursor>(
     ensures asked { input.new.asked ≡ input.old.asked }
     ensures refused { IfErr result (IsRefusal re.now.dfa.asked
         (search_of re.now.engine.utf8_empty input.old)) }
+    ensures late { IfErr result (GivesUpLate cache.new) }
+    ensures dfa { IsAlphabetOf re.now.engine.program re.now.dfa }
 {
     search::try_search_fwd(re.compiled.program(), &re.dfa, &mut cache.states, input)
 }

@@ -16,7 +16,7 @@ mod search;
 mod states;
 mod table;
 
-pub use alphabet::Alphabet;
+pub use alphabet::{Alphabet, CACHE_CAPACITY};
 pub use cache::Cache;
 pub use dense_table::DenseTable;
 pub use search::try_search_fwd;

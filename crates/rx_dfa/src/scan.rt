@@ -4,15 +4,15 @@ ghost use Rattle.std.specs.Prelude.{◌≡◌, ◌+◌, ◌/◌, ◌<◌, ◌≤
 ghost use Rattle.rx_util.specs.Search.{HalfFound};
 ghost use Rattle.rx_dfa.specs.declared.scan.PassedEnd.{PassedEnd};
 ghost use Rattle.rx_dfa.specs.declared.states.AutomatonState.{AutomatonState};
+ghost use Rattle.rx_dfa.specs.Caches.{GivesUpLate};
 ghost use Rattle.rx_dfa.specs.Searching.{met_after};
 ghost use Rattle.rx_dfa.specs.Passing.{HasPassed, IsNoted, IsOverAt};
-ghost use Rattle.rx_dfa.specs.Tables.{IsAutomaton, IsCacheBy, IsRefusalAmong, IsTable};
+ghost use Rattle.rx_dfa.specs.Tables.{HoldsBy, IsAutomaton, IsRefusalAmong, IsTable};
 
 use crate::automaton::Automaton;
 use crate::cache::{Cache, ENDS, STOPS};
 use crate::states::last_met;
 use crate::table::Table;
-use rx_steps::laws::steps_are_alike;
 use rx_util::{HalfMatch, MatchError, PatternID};
 
 /// An end that was met on the way.
@@ -73,7 +73,7 @@ impl Cache {
         met: &mut Option<HalfMatch>,
     ) -> (usize, usize)
         requires is { IsAutomaton automaton.now }
-        requires made { IsCacheBy automaton.now self.now }
+        requires made { HoldsBy automaton.now self.now }
         requires first { first < length self.now.states }
         requires fits { at + length bytes.now < 2 ^ 64 }
         ensures within { result.1 ≤ length bytes.now }
@@ -81,8 +81,6 @@ impl Cache {
             → HasPassed automaton.now self.now.states x
             (take result.1 bytes.now) at met.old result.0 met.new }
     {
-        // A law, for the proof alone.
-        steps_are_alike();
         let alphabet = automaton.alphabet;
         let mut row = first * self.width;
         let mut len = 0_usize;
@@ -133,9 +131,8 @@ fn pass<T: Table>(
         next met.new) }
     ensures number { IfOk result (λ next. next < length (T.shown table.new).states) }
     ensures refused { IfErr result (IsRefusalAmong T.is_whole automaton.now at (byte ∷ [])) }
+    ensures late { IfErr result (GivesUpLate (T.shown table.new)) }
 {
-    // A law, for the proof alone.
-    steps_are_alike();
     let column = automaton.alphabet.class(byte);
     match table.step(automaton, number, column, at) {
         Ok(Some(next)) => {
@@ -170,6 +167,7 @@ pub(crate) fn scan<T: Table>(
         → HasPassed automaton.now (T.shown table.new).states x (take told.1 bytes.now) at met.old
         told.0 met.new) }
     ensures refused { IfErr result (IsRefusalAmong T.is_whole automaton.now at bytes.now) }
+    ensures late { IfErr result (GivesUpLate (T.shown table.new)) }
 {
     let mut number = first;
     let mut len = 0_usize;

@@ -13,27 +13,21 @@ ghost use Rattle.rx_dfa.specs.Behind.{quits};
 ghost use Rattle.rx_dfa.specs.States.{EndsSo};
 ghost use Rattle.rx_dfa.specs.Classes.{class_of};
 ghost use Rattle.rx_dfa.specs.Alphabets.{IsAlphabetOf, ahead_in, column_count};
-ghost use Rattle.rx_dfa.specs.Caches.{IsCacheOf};
+ghost use Rattle.rx_dfa.specs.Caches.{GivesUpLate, IsCacheOf};
 ghost use Rattle.rx_dfa.specs.Passing.{IsLastColumn, StandThere, StandsAt, IsRefusal, search_by};
 ghost use Rattle.rx_dfa.specs.Searching.{StartsSo, IsHalfAnswer, byte_before, byte_after};
 ghost use Rattle.rx_dfa.specs.Tables.{IsAutomaton, IsLack, IsRefusalBy, IsTable};
 
 use crate::alphabet::Alphabet;
 use crate::automaton::Automaton;
-use crate::behind::may_be_byte;
 use crate::cache::Cache;
 use crate::scan::scan;
 use crate::states::{Starting, last_met};
 use crate::table::Table;
 use rx_input::{Cursor, Input};
 use rx_program::Program;
-use rx_sets::CharacterSet;
-use rx_steps::laws::{ends_are_met_unread, steps_are_alike, steps_end};
 use rx_steps::{enter, last_place, start_state};
-use rx_util::{HalfMatch, MatchError, NonMaxUsize, PatternID, StateID};
-use rx_walks::laws::{
-    first_character_stands, last_character_stands, one_byte_tells, program_is_searched_keeping,
-};
+use rx_util::{HalfMatch, MatchError, PatternID, StateID};
 
 /// The bytes that stand where an input stands, in the piece that is shown and up to the last place.
 fn bytes_ahead<C: Cursor>(input: &Input<C>) -> &[u8]
@@ -101,9 +95,6 @@ fn last_column<C: Cursor>(automaton: &Automaton, input: &Input<C>, seen: Option<
         → IsLastColumn automaton.now (search_by automaton.now input.now) input.now.position
         result }
 {
-    // Laws, for the proof alone.
-    steps_are_alike();
-    ends_are_met_unread();
     let alphabet = automaton.alphabet;
     match seen {
         Some(byte) => seen_class(alphabet, byte),
@@ -197,13 +188,8 @@ fn pass_piece<T: Table, C: Cursor>(
     ensures same { IsMoved input.old input.new input.new.position input.old.asked }
     ensures refused { IfErr result
         (IsRefusalBy T.is_whole automaton.now (search_by automaton.now input.old)) }
+    ensures late { IfErr result (GivesUpLate (T.shown table.new)) }
 {
-    // Laws, for the proof alone.
-    steps_are_alike();
-    steps_end();
-    one_byte_tells();
-    first_character_stands();
-    last_character_stands();
     let at = input.position();
     match scan(table, automaton, number, bytes_ahead(input), at, met) {
         Ok((next, passed)) => {
@@ -233,6 +219,7 @@ fn last_end<T: Table>(
         → EndsSo automaton.now.program.now automaton.now.alphabet.now.asked x
         (ahead_in automaton.now.alphabet.now column) ended) }
     ensures refused { IfErr result (IsLack T.is_whole at) }
+    ensures late { IfErr result (GivesUpLate (T.shown table.new)) }
 {
     match table.step(automaton, number, column, at) {
         Ok(Some(next)) => Ok(table.known().end_before(next)),
@@ -263,15 +250,8 @@ fn finish<T: Table, C: Cursor>(
         → IsHalfAnswer automaton.now.program.now (search_by automaton.now input.now) found) }
     ensures refused { IfErr result
         (IsRefusalBy T.is_whole automaton.now (search_by automaton.now input.now)) }
+    ensures late { IfErr result (GivesUpLate (T.shown table.new)) }
 {
-    // Laws, for the proof alone.
-    steps_are_alike();
-    steps_end();
-    one_byte_tells();
-    first_character_stands();
-    last_character_stands();
-    automaton.program.walks_are_those_of_characters();
-    program_is_searched_keeping::<CharacterSet, Option<NonMaxUsize>>();
     let at = input.position();
     let seen = byte_seen(input);
     if let Some(byte) = automaton.alphabet.byte_that_quits(seen) {
@@ -306,10 +286,8 @@ fn follow<T: Table, C: Cursor>(
     ensures asked { input.new.asked ≡ input.old.asked }
     ensures refused { IfErr result
         (IsRefusalBy T.is_whole automaton.now (search_by automaton.now input.old)) }
+    ensures late { IfErr result (GivesUpLate (T.shown table.new)) }
 {
-    // Laws, for the proof alone.
-    automaton.program.walks_are_those_of_characters();
-    program_is_searched_keeping::<CharacterSet, Option<NonMaxUsize>>();
     let mut number = first;
     let mut met = None;
     loop {
@@ -343,6 +321,7 @@ fn start<T: Table, C: Cursor>(
     ensures asked { input.new.asked ≡ input.old.asked }
     ensures refused { IfErr result
         (IsRefusalBy T.is_whole automaton.now (search_by automaton.now input.old)) }
+    ensures late { IfErr result (GivesUpLate (T.shown table.new)) }
 {
     let at = input.position();
     let behind = byte_behind(input, automaton.alphabet.asked().any);
@@ -352,8 +331,6 @@ fn start<T: Table, C: Cursor>(
             offset: at - 1,
         });
     }
-    // A fact, for the proof alone.
-    may_be_byte(behind);
     let starting = first_starting(input, start);
     let side = automaton.side(behind);
     match table.first(automaton, starting, side, at) {
@@ -378,10 +355,8 @@ pub(crate) fn search<T: Table, C: Cursor>(
     ensures asked { input.new.asked ≡ input.old.asked }
     ensures refused { IfErr result
         (IsRefusalBy T.is_whole automaton.now (search_by automaton.now input.old)) }
+    ensures late { IfErr result (GivesUpLate (T.shown table.new)) }
 {
-    // Laws, for the proof alone.
-    automaton.program.walks_are_those_of_characters();
-    program_is_searched_keeping::<CharacterSet, Option<NonMaxUsize>>();
     let Some(first) = start_state(automaton.program, input.get_anchored()) else {
         return Ok(None);
     };
@@ -416,6 +391,7 @@ pub fn try_search_fwd<C: Cursor>(
     ensures asked { input.new.asked ≡ input.old.asked }
     ensures refused { IfErr result
         (IsRefusal alphabet.now.asked (search_of alphabet.now.utf8_empty input.old)) }
+    ensures late { IfErr result (GivesUpLate cache.new) }
 {
     let automaton = Automaton { program, alphabet };
     search(cache, &automaton, input)

@@ -5,11 +5,12 @@ ghost use Rattle.rx_dfa.specs.declared.states.Starting.TheVariants.{Never};
 ghost use Rattle.rx_steps.specs.Alike.{AreBare};
 ghost use Rattle.rx_dfa.specs.Classes.{continues};
 ghost use Rattle.rx_dfa.specs.Caches.{IsSameState};
+ghost use Rattle.rx_dfa.specs.Hashes.{hash_of, mixed, starting_hash, with_end, with_nodes};
 ghost use Rattle.rx_dfa.specs.Searching.{met_after};
 ghost use Rattle.rx_dfa.specs.States.{start_at, starting_after, ahead_of, ahead_of_end, IsFirstState};
 
 use crate::behind::Behind;
-use rx_steps::ThreadList;
+use rx_steps::{Node, ThreadList};
 use rx_util::{HalfMatch, PatternID, StateID};
 use std::alloc::Global;
 
@@ -34,6 +35,17 @@ impl Starting {
             Starting::Once(start) | Starting::Always(start) => {
                 if may_begin { Some(*start) } else { None }
             }
+        }
+    }
+
+    /// A number by which states are looked up.
+    fn hash(&self) -> u64
+        ensures { result ≡ starting_hash self.now }
+    {
+        match self {
+            Starting::Never => mixed(1, 0),
+            Starting::Once(start) => mixed(2, start.as_usize()),
+            Starting::Always(start) => mixed(3, start.as_usize()),
         }
     }
 
@@ -102,7 +114,8 @@ pub(crate) fn last_met(
 fn same_nodes(threads: &ThreadList, others: &ThreadList) -> bool
     requires bare { AreBare threads.now.threads }
     requires bare_others { AreBare others.now.threads }
-    ensures { result ≡ true → threads.now.threads ≡ others.now.threads }
+    ensures same { result ≡ true → threads.now.threads ≡ others.now.threads }
+    ensures differ { result ≡ false → threads.now.threads ≡ others.now.threads → ⊥ }
 {
     if threads.len() != others.len() {
         return false;
@@ -117,11 +130,40 @@ fn same_nodes(threads: &ThreadList, others: &ThreadList) -> bool
 
 /// A hash with a further number mixed in. The addend keeps small hashes and numbers from cancelling
 /// each other out, so that states which differ have the same hash by chance alone.
-fn mixed(hash: u64, number: usize) -> u64 {
+fn mixed(hash: u64, number: usize) -> u64
+    ensures { result ≡ mixed hash number }
+{
     hash.rotate_left(29)
         .wrapping_add(0xD1B5_4A32_D192_ED03)
         .wrapping_add(number as u64)
         .wrapping_mul(0x9E37_79B9_7F4A_7C15)
+}
+
+/// A hash with the pattern mixed in whose end was met.
+fn with_end(hash: u64, ended: &Option<PatternID>) -> u64
+    ensures { result ≡ with_end hash ended.now }
+{
+    match ended {
+        None => hash,
+        Some(pattern) => mixed(hash.wrapping_add(1), pattern.as_usize()),
+    }
+}
+
+/// A hash with a node mixed in.
+fn with_node(hash: u64, node: Node) -> u64
+    ensures { result ≡ mixed (mixed hash node.0) node.1 }
+{
+    mixed(mixed(hash, node.state().as_usize()), node.within())
+}
+
+/// A hash with the nodes of threads mixed in.
+fn with_nodes(mut hash: u64, threads: &ThreadList) -> u64
+    ensures { result ≡ with_nodes hash threads.now.threads }
+{
+    for index in 0..threads.len() {
+        hash = with_node(hash, threads.node(index));
+    }
+    hash
 }
 
 /// What a search knows where it stands.
@@ -174,7 +216,8 @@ impl AutomatonState {
     pub(crate) fn is_same(&self, other: &AutomatonState) -> bool
         requires bare { AreBare self.now.threads.threads }
         requires bare_other { AreBare other.now.threads.threads }
-        ensures { result ≡ true → IsSameState other.now self.now }
+        ensures same { result ≡ true → IsSameState other.now self.now }
+        ensures differs { result ≡ false → IsSameState other.now self.now → ⊥ }
     {
         self.starting == other.starting
             && self.behind == other.behind
@@ -183,26 +226,10 @@ impl AutomatonState {
     }
 
     /// A number by which states are looked up: same states have the same.
-    pub(crate) fn hash(&self) -> u64 {
-        let mut hash = match self.starting {
-            Starting::Never => mixed(1, 0),
-            Starting::Once(state) => mixed(2, state.as_usize()),
-            Starting::Always(state) => mixed(3, state.as_usize()),
-        };
-        hash = match self.behind {
-            Behind::Edge => mixed(hash, 4),
-            Behind::Byte(ends_line, is_word) => {
-                mixed(hash, usize::from(ends_line) + 2 * usize::from(is_word))
-            }
-        };
-        hash = match self.ended {
-            None => hash,
-            Some(pattern) => mixed(hash.wrapping_add(1), pattern.as_usize()),
-        };
-        for index in 0..self.threads.len() {
-            let node = self.threads.node(index);
-            hash = mixed(mixed(hash, node.state().as_usize()), node.within());
-        }
-        hash
+    pub(crate) fn hash(&self) -> u64
+        ensures { result ≡ hash_of self.now }
+    {
+        let start = mixed(self.starting.hash(), self.behind.number());
+        with_nodes(with_end(start, &self.ended), &self.threads)
     }
 }

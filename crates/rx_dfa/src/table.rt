@@ -1,9 +1,9 @@
 //! Tables by which searches go from state to state.
 
-ghost use Rattle.std.specs.Prelude.{◌≡◌, ◌<◌, Bool, Some, length, slice_get, IfOk, IfErr};
+ghost use Rattle.std.specs.Prelude.{◌≡◌, ◌<◌, ◌≤◌, Bool, Some, false, length, slice_get, IfOk, IfErr};
 ghost use Rattle.rx_dfa.specs.declared.states.AutomatonState.{AutomatonState};
 ghost use Rattle.rx_dfa.specs.Alphabets.{column_count};
-ghost use Rattle.rx_dfa.specs.Caches.{CacheView, HasFirst};
+ghost use Rattle.rx_dfa.specs.Caches.{CacheView, GivesUpLate, HasFirst};
 ghost use Rattle.rx_dfa.specs.Tables.{HasStepped, IsBeginning, IsLack, IsTable};
 
 use crate::automaton::Automaton;
@@ -41,7 +41,8 @@ pub(crate) trait Table {
         ensures step { IfOk result (λ next. (x : AutomatonState)
             → slice_get (shown self.old).states number ≡ Some x
             → HasStepped automaton.now (shown self.new).states x column next) }
-        ensures refused { IfErr result (IsLack is_whole at) };
+        ensures refused { IfErr result (IsLack is_whole at) }
+        ensures late { IfErr result (GivesUpLate (shown self.new)) };
 
     /// The number of the state in which a search stands at its first place, where walks start so
     /// and this stands before. `at` is the place, for a refusal.
@@ -56,5 +57,7 @@ pub(crate) trait Table {
         requires begins { IsBeginning automaton.now starting side }
         ensures table { IsTable is_whole automaton.now (shown self.new) }
         ensures first { IfOk result (HasFirst (shown self.new).states starting side) }
-        ensures refused { IfErr result (IsLack is_whole at) };
+        ensures begun { is_whole ≡ false → (shown self.new).cleared ≤ 1 }
+        ensures refused { IfErr result (IsLack is_whole at) }
+        ensures late { IfErr result (GivesUpLate (shown self.new)) };
 }

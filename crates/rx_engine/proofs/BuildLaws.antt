@@ -1,13 +1,15 @@
--- What a builder builds of a pattern.
-use Rattle.std.proofs.Common.{◌≡◌, ℕ, ◌<◌, ◌≤◌, ◌⊎◌, Bool, true, List, [], ◌∷◌, length, Result, Ok, Err, IfOk, Option, None, unwrap_or, chars, refl, sym, ap, subst, ◌∙◌, inl, inr, arith}
+-- What a builder builds of patterns.
+use Rattle.std.proofs.Common.{◌≡◌, ℕ, zero, suc, ◌*◌, ◌<◌, ◌≤◌, ◌⊎◌, Bool, true, List, [], ◌∷◌, ◌++◌, All, length, take, Result, Ok, Err, IfErr, IfOk, Option, Some, None, slice_get, unwrap_or, chars, refl, sym, ap, subst, ◌∙◌, inl, inr, arith}
 use Rattle.std.proofs.lemmas.List.{length-replicate}
+use Rattle.std.proofs.lemmas.Option.{none-some}
 use Rattle.rx_sets.specs.Sets.{Range}
 use Rattle.rx_util.specs.Groups.{Groups, slot_len}
 use Rattle.rx_util.specs.Captured.{Captured, nothing_noted}
 use Rattle.rx_grammar.specs.declared.error.SyntaxError.{SyntaxError}
-use Rattle.rx_grammar.specs.declared.error.SyntaxError.TheVariants as syntax
+use Rattle.rx_grammar.specs.declared.error.SyntaxError.TheVariants as errors
 use Rattle.rx_grammar.specs.Trees.{Tree}
 use Rattle.rx_grammar.specs.Subtrees.{IsWellFormed}
+use Rattle.rx_grammar.specs.Settings.{Settings}
 use Rattle.rx_grammar.specs.Grammar.{Spells, IsTooDeep, NeverSpells}
 use Rattle.rx_walks.specs.Looks as walks
 use Rattle.rx_walks.specs.Programs.{Program}
@@ -16,76 +18,108 @@ use Rattle.rx_program.specs.declared.error.BuildError.TheVariants as build
 use Rattle.rx_program.specs.Code.{program_of}
 use Rattle.rx_program.specs.Programs.{ByteProgram, characters_of}
 use Rattle.rx_program.specs.Sizes.{IsTooLarge, told_limit, weight_of_all}
-use Rattle.rx_engine.specs.Engines.{Engine, Wanted, size_limit_of, AreGroupsOf, IsOfTree, IsEngine, IsBuiltOf, IsRefused, too_long, nesting, outside, too_large, memory, refusal_of}
+use Rattle.rx_engine.specs.Engines.{AreGroupsOf, AreRefused, Engine, EngineSettings, IsBuiltOf, IsBuiltOfAll, IsBuiltOfTrees, IsOfTrees, IsRefused, IsRefusedAt, IsRefusedOfAll, IsRefusedText, Spell, Wanted, by_first_text, by_text, by_weight, by_weight_of_all, memory, memory_there, no_memory, nesting, outside, refusal_of, size_limit_of, text_there, too_large, too_long, want_of_memory}
 
--- ---- what is built
+-- ---- why texts are refused
 
 -- a refusal for another reason than memory
-pub other_refusal : (error : SyntaxError) → (error ≡ syntax.Memory → ⊥) → build.Syntax 0 error ≡ refusal_of error
-other_refusal syntax.TooLong other = refl
-other_refusal syntax.Nesting other = refl
-other_refusal syntax.Outside other = refl
-other_refusal syntax.Memory other = absurd (other refl)
+pub other_refusal : (k : ℕ) (error : SyntaxError) → (error ≡ errors.Memory → ⊥) → build.Syntax k error ≡ refusal_of k error
+other_refusal k errors.TooLong other = refl
+other_refusal k errors.Nesting other = refl
+other_refusal k errors.Outside other = refl
+other_refusal k errors.Memory other = absurd (other refl)
 
 -- what is told of a text that was refused so: T is what it would have spelled
 abbrev pub Refused : Type 0 → SyntaxError → SyntaxError → Type 0
 Refused T error reason = ◌≡◌ {A = Result T SyntaxError} (Err error) (Err reason)
 
 -- why a text is refused is why its pattern has no engine
-pub refused_text : {T : Type 0} (text : List ℕ) (wanted : Wanted) (error : SyntaxError) → (Refused T error syntax.TooLong → 65536 < length text)
-    → ((Refused T error syntax.Memory → ⊥) → Refused T error syntax.Nesting → IsTooDeep (chars text) wanted.syntax)
-    → ((Refused T error syntax.Memory → ⊥) → Refused T error syntax.Outside → (length text ≤ 65536) × NeverSpells (chars text) wanted.syntax)
-    → IsRefused text wanted (refusal_of error)
-refused_text text wanted syntax.TooLong long deep never = too_long (long refl)
-refused_text text wanted syntax.Nesting long deep never = nesting (deep (λ e. cc) refl)
-refused_text text wanted syntax.Outside long deep never = let told = never (λ e. cc) refl in outside told.0 told.1
-refused_text text wanted syntax.Memory long deep never = memory
+pub refused_text : {T : Type 0} (k : ℕ) (text : List ℕ) (settings : Settings) (error : SyntaxError) → (Refused T error errors.TooLong → 65536 < length text)
+    → ((Refused T error errors.Memory → ⊥) → Refused T error errors.Nesting → IsTooDeep (chars text) settings)
+    → ((Refused T error errors.Memory → ⊥) → Refused T error errors.Outside → (length text ≤ 65536) × NeverSpells (chars text) settings)
+    → IsRefusedAt k text settings (refusal_of k error)
+refused_text k text settings errors.TooLong long deep never = text_there (too_long (long refl))
+refused_text k text settings errors.Nesting long deep never = text_there (nesting (deep (λ e. cc) refl))
+refused_text k text settings errors.Outside long deep never = let told = never (λ e. cc) refl in text_there (outside told.0 told.1)
+refused_text k text settings errors.Memory long deep never = memory_there
 
--- so is why its tree has no program
-pub refused_tree : (text : List ℕ) (wanted : Wanted) (tree : Tree) (error : BuildError) (limit : Option ℕ) → limit ≡ size_limit_of wanted.settings → Spells (chars text) wanted.syntax tree
-    → (error ≡ build.Size (told_limit limit) → IsTooLarge limit (weight_of_all (tree ∷ []))) → (error ≡ build.Size (told_limit limit)) ⊎ (error ≡ build.Memory)
-    → IsRefused text wanted error
-refused_tree text wanted tree error limit set spells large (inl is) =
-    subst (λ e. IsRefused text wanted e) (sym is)
-    (subst (λ l. IsRefused text wanted (build.Size (told_limit l))) (sym set) (too_large spells (subst (λ l. IsTooLarge l (weight_of_all (tree ∷ []))) set (large is))))
-refused_tree text wanted tree error limit set spells large (inr is) = subst (λ e. IsRefused text wanted e) (sym is) memory
+-- the first that is refused, where those before it spell trees
+pub refused_first : (k : ℕ) (text : List ℕ) (texts : List (List ℕ)) (trees : List Tree) (wanted : Wanted) (error : BuildError) → slice_get texts k ≡ Some text
+    → Spell (take k texts) wanted.syntax trees → IsRefusedAt k text wanted.syntax error → IsRefusedOfAll texts wanted error
+refused_first k text texts trees wanted error here before (text_there refused) = by_first_text text trees here before refused
+refused_first k text texts trees wanted error here before memory_there = want_of_memory
+
+-- those of one tree more
+pub one_more_spelled : (texts : List (List ℕ)) (settings : Settings) (trees : List Tree) (text : List ℕ) (tree : Tree) → Spell texts settings trees → Spells (chars text) settings tree
+    → Spell (texts ++ text ∷ []) settings (trees ++ tree ∷ [])
+one_more_spelled [] settings trees text tree spell spells = subst (λ x. Spell (text ∷ []) settings (x ++ tree ∷ [])) (sym spell) (spells, refl)
+one_more_spelled (t ∷ texts) settings [] text tree spell spells = absurd spell
+one_more_spelled (t ∷ texts) settings (x ∷ trees) text tree spell spells = (spell.0, one_more_spelled texts settings trees text tree spell.1 spells)
+
+-- ---- why trees are refused
+
+pub refused_trees : (trees : List Tree) (settings : EngineSettings) (error : BuildError) (limit : Option ℕ) → limit ≡ size_limit_of settings
+    → (error ≡ build.Size (told_limit limit) → IsTooLarge limit (weight_of_all trees)) → (error ≡ build.Size (told_limit limit)) ⊎ (error ≡ build.Memory)
+    → AreRefused trees settings error
+refused_trees trees settings error limit set large (inl is) =
+    subst (λ e. AreRefused trees settings e) (sym is)
+    (subst (λ l. AreRefused trees settings (build.Size (told_limit l))) (sym set) (too_large (subst (λ l. IsTooLarge l (weight_of_all trees)) set (large is))))
+refused_trees trees settings error limit set large (inr is) = subst (λ e. AreRefused trees settings e) (sym is) no_memory
+
+-- ---- a pattern as a list of one
+
+pub built_alone : (text : List ℕ) (wanted : Wanted) (e : Engine) → IsBuiltOfAll (text ∷ []) wanted e → IsBuiltOf text wanted e
+built_alone text wanted e is = alone is.trees is.spell is.built
+  where
+    alone : (trees : List Tree) → Spell (text ∷ []) wanted.syntax trees → IsBuiltOfTrees trees wanted.settings e → IsBuiltOf text wanted e
+    alone [] spell built = absurd spell
+    alone (tree ∷ trees) spell built = record { tree = tree; spells = spell.0; built = subst (λ xs. IsBuiltOfTrees (tree ∷ xs) wanted.settings e) spell.1 built }
+
+pub refused_alone : (text : List ℕ) (wanted : Wanted) (error : BuildError) → IsRefusedOfAll (text ∷ []) wanted error → IsRefused text wanted error
+refused_alone text wanted error (by_first_text {k = zero} {error = e} t trees here before refused) = by_text (subst (λ x. IsRefusedText x wanted.syntax e) (ap (λ o. unwrap_or o text) (sym here)) refused)
+refused_alone text wanted error (by_first_text {k = suc k} t trees here before refused) = absurd (none-some t here)
+refused_alone text wanted error (by_weight_of_all [] spell refused) = absurd spell
+refused_alone text wanted error (by_weight_of_all (tree ∷ trees) spell refused) = by_weight tree spell.0 (subst (λ xs. AreRefused (tree ∷ xs) wanted.settings error) spell.1 refused)
+refused_alone text wanted error want_of_memory = memory
+
+-- ---- what is built
 
 pub if_ok : {A E : Type 0} {P Q : A → Type 0} (r : Result A E) → ((x : A) → P x → Q x) → IfOk r P → IfOk r Q
 if_ok (Ok x) f h = f x h
 if_ok (Err e) f h = h
 
+pub if_err : {A E : Type 0} {P Q : E → Type 0} (r : Result A E) → ((e : E) → P e → Q e) → IfErr r P → IfErr r Q
+if_err (Ok x) f h = h
+if_err (Err e) f h = f e h
+
 -- what is there was not refused
 pub not_refused : {A E : Type 0} (x : A) (error : E) → ◌≡◌ {A = Result A E} (Ok x) (Err error) → ⊥
 not_refused x error is = cc
 
+terminator_of : (p : ByteProgram) (trees : List Tree) (terminator : ℕ) → characters_of p ≡ program_of trees terminator → p.line_terminator ≡ terminator
+terminator_of p [] terminator is = ap (λ (q : Program walks.Look (List Range)). q.line_terminator) is
+terminator_of p (tree ∷ []) terminator is = ap (λ (q : Program walks.Look (List Range)). q.line_terminator) is
+terminator_of p (tree ∷ other ∷ trees) terminator is = ap (λ (q : Program walks.Look (List Range)). q.line_terminator) is
+
 abbrev pub engine_of : ByteProgram → Groups → Bool → Engine
 engine_of p groups utf8_empty = record { program = p; groups = groups; utf8_empty = utf8_empty }
 
-pub of_tree : (p : ByteProgram) (groups : Groups) (utf8_empty : Bool) (tree : Tree) (terminator : ℕ) → IsWellFormed tree → characters_of p ≡ program_of (tree ∷ []) terminator → AreGroupsOf tree groups
-    → IsOfTree (engine_of p groups utf8_empty) tree
-of_tree p groups utf8_empty tree terminator formed is are =
-    let same : p.line_terminator ≡ terminator = ap (λ (q : Program walks.Look (List Range)). q.line_terminator) is in
-    record { well_formed = formed; program = is ∙ ap (λ t. program_of (tree ∷ []) t) (sym same); groups = are }
+pub of_trees : (p : ByteProgram) (groups : Groups) (utf8_empty : Bool) (trees : List Tree) (terminator : ℕ) → All IsWellFormed trees → characters_of p ≡ program_of trees terminator → AreGroupsOf trees groups
+    → IsOfTrees (engine_of p groups utf8_empty) trees
+of_trees p groups utf8_empty trees terminator formed is are =
+    record { well_formed = formed; program = is ∙ ap (λ t. program_of trees t) (sym (terminator_of p trees terminator is)); groups = are }
 
-pub built : (text : List ℕ) (wanted : Wanted) (p : ByteProgram) (groups : Groups) (utf8_empty : Bool) (tree : Tree) (terminator : ℕ) → IsWellFormed tree → Spells (chars text) wanted.syntax tree
-    → (IsTooLarge (size_limit_of wanted.settings) (weight_of_all (tree ∷ [])) → ⊥) → characters_of p ≡ program_of (tree ∷ []) terminator → AreGroupsOf tree groups
-    → terminator ≡ unwrap_or wanted.settings.line_terminator 10 → utf8_empty ≡ unwrap_or wanted.settings.utf8_empty true → IsBuiltOf text wanted (engine_of p groups utf8_empty)
-built text wanted p groups utf8_empty tree terminator formed spells fits is are set set' = record {
-  tree = tree;
-  spells = spells;
+pub built : (settings : EngineSettings) (p : ByteProgram) (groups : Groups) (utf8_empty : Bool) (trees : List Tree) (terminator : ℕ) → All IsWellFormed trees
+    → (IsTooLarge (size_limit_of settings) (weight_of_all trees) → ⊥) → characters_of p ≡ program_of trees terminator → AreGroupsOf trees groups
+    → terminator ≡ unwrap_or settings.line_terminator 10 → utf8_empty ≡ unwrap_or settings.utf8_empty true → IsBuiltOfTrees trees settings (engine_of p groups utf8_empty)
+built settings p groups utf8_empty trees terminator formed fits is are set set' = record {
   fits = fits;
-  of_tree = of_tree p groups utf8_empty tree terminator formed is are;
-  line_terminator = ap (λ (q : Program walks.Look (List Range)). q.line_terminator) is ∙ set;
+  of_trees = of_trees p groups utf8_empty trees terminator formed is are;
+  line_terminator = terminator_of p trees terminator is ∙ set;
   utf8_empty = set';
 }
 
--- there are slots for the whole match
-two_slots : (e : Engine) → IsEngine e → 2 ≤ slot_len e.groups
-two_slots e of_a_tree =
-    let alone : length e.groups ≡ 1 = ap length of_a_tree.1.groups.groups_are in
-    omega (arith, alone)
-
-pub room_for_match : (e : Engine) (caps : Captured) → IsEngine e → caps ≡ nothing_noted e.groups (slot_len e.groups) → 2 ≤ length caps.slots
-room_for_match e caps of_a_tree is =
+pub room_for_matches : (e : Engine) (caps : Captured) → caps ≡ nothing_noted e.groups (slot_len e.groups) → 2 * length e.groups ≤ length caps.slots
+room_for_matches e caps is =
     let len : length caps.slots ≡ slot_len e.groups = ap (λ c. length c.slots) is ∙ length-replicate (slot_len e.groups) None in
-    omega (arith, len, two_slots e of_a_tree)
+    omega (arith, len)

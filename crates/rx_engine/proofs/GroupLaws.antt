@@ -1,20 +1,20 @@
 -- The groups of a tree: their names and their numbers.
-use Rattle.std.proofs.Common.{◌≡◌, ◌≢◌, ℕ, zero, suc, Bool, true, false, cond, eqb, ◌+◌, ◌^◌, ◌≤◌, ◌<◌, ◌↔◌, ◌⊎◌, List, [], ◌∷◌, ◌++◌, length, get_or, set, replicate, map, take, drop, ◌-◌, append-nil, AllPairs, Contains, Option, Some, None, slice_get, unwrap_or, refl, sym, ap, ap₂, subst, ◌∙◌, inl, inr, arith}
+use Rattle.std.proofs.Common.{◌≡◌, ◌≢◌, ℕ, zero, suc, Bool, true, false, cond, eqb, ◌+◌, ◌≤◌, ◌<◌, ◌↔◌, ◌⊎◌, List, [], ◌∷◌, ◌++◌, length, get_or, set, replicate, map, take, drop, ◌-◌, append-nil, All, AllPairs, Contains, Option, Some, None, slice_get, unwrap_or, refl, sym, ap, ap₂, subst, ◌∙◌, inl, inr, arith}
 use Rattle.std.proofs.lemmas.Bool.{cases_eq}
 use Rattle.std.proofs.lemmas.Bool.Decides.{Decides-eqb}
 use Rattle.std.proofs.Math.Seq.{take-suc}
 use Rattle.std.proofs.lemmas.List.{map-append, take-append-drop, take_all, length-set, length-replicate, get_or-replicate, get_or-set_same, get_or-set_other, length-map, map-set}
 use Rattle.std.proofs.lemmas.List.Concat.{flat_map-append}
-use Rattle.std.proofs.lemmas.List.Elements.{Contains-append_left, Contains-append_right, Contains-append_cases}
+use Rattle.std.proofs.lemmas.List.Elements.{All-head, All-tail, Contains-append_left, Contains-append_right, Contains-append_cases}
 use Rattle.std.proofs.lemmas.Option.{none-some, slice_get_within, slice_get-get_or}
 use Rattle.std.specs.Prelude.{String, string_bytes, option_map}
-use Rattle.rx_util.specs.Groups.{names_of as names_of_texts, Groups, name_among, HasDistinctNames, slot_len}
+use Rattle.rx_util.specs.Groups.{names_of as names_of_texts, Groups, name_among, HasDistinctNames}
 use Rattle.rx_grammar.specs.Trees.{Name, Tree, Trees, empty, one_of, look_at, group, concat, alternation, repeated, two, more, names_of, all_names_of, numbers_of, all_numbers_of}
 use Rattle.rx_grammar.specs.Subtrees.{NodeKind, a_group, root_of, subtrees_of, all_subtrees_of, nodes_of, HasName, IsWellFormed}
 use Rattle.rx_grammar.specs.declared.hir.Node.{Node}
 use Rattle.rx_grammar.specs.Nodes.{kind_of}
 use Rattle.rx_grammar.specs.Postorder.{own_names, names_in}
-use Rattle.rx_engine.specs.Engines.{AreNamesOf}
+use Rattle.rx_engine.specs.Engines.{AreNamesOf, AreGroupsOf}
 
 -- ---- names
 
@@ -411,7 +411,7 @@ pub unnamed_more : (tree : Tree) (nodes : List Node) (i : ℕ) (node : Node) (na
 unnamed_more tree nodes i node names at none so_far =
     subst (λ xs. AreNamesAmong tree xs names) (sym at.more) (none_more_named tree (map kind_of (take i nodes)) names (kind_of node) none so_far)
 
--- ---- the groups of a pattern that stands alone
+-- ---- the groups of patterns
 
 name_among-first : (names : List (Option Name)) (g : ℕ) (name : Name) → name_among names g ≡ Some name → (k : ℕ) × (g ≡ k + 1) × (slice_get names k ≡ Some (Some name))
 name_among-first names zero name is = absurd (none-some name is)
@@ -426,14 +426,48 @@ has_name tree names g name are is =
     let at = name_among-first names g name is in
     subst (λ n. HasName tree n name) (sym at.1) ((are.named at.0 name).0 at.2)
 
-pub distinct_names : (tree : Tree) (names : List (Option Name)) (groups : Groups) → IsWellFormed tree → AreNamesOf tree names → groups ≡ names ∷ [] → HasDistinctNames groups
-distinct_names tree names groups formed are is = subst (λ x. HasDistinctNames x) (sym is) alone
-  where
-    alone : HasDistinctNames (names ∷ [])
-    alone zero g h name at at' = name_once tree g h name formed (has_name tree names g name are at) (has_name tree names h name are at')
-    alone (suc p) g h name at at' = absurd (none-some name at)
+first_or_later : (tree : Tree) (names : List (Option Name)) (groups : Groups) → IsWellFormed tree → AreNamesOf tree names → HasDistinctNames groups → HasDistinctNames (names ∷ groups)
+first_or_later tree names groups formed are later zero g h name at at' = name_once tree g h name formed (has_name tree names g name are at) (has_name tree names h name are at')
+first_or_later tree names groups formed are later (suc p) g h name at at' = later p g h name at at'
 
-pub slots_fit : (tree : Tree) (names : List (Option Name)) (groups : Groups) → length (numbers_of tree) ≤ 65536 → AreNamesOf tree names → groups ≡ names ∷ [] → slot_len groups < 2 ^ 64
-slots_fit tree names groups few are is =
-    let fits : slot_len (names ∷ []) < 2 ^ 64 = omega (arith, few, are.count) in
-    subst (λ x. slot_len x < 2 ^ 64) (sym is) fits
+pub distinct_names : (trees : List Tree) (groups : Groups) → All IsWellFormed trees → AreGroupsOf trees groups → HasDistinctNames groups
+distinct_names [] groups formed are = subst (λ x. HasDistinctNames x) (sym are) (λ p g h name at at'. absurd (none-some name at))
+distinct_names (tree ∷ trees) [] formed are = absurd are
+distinct_names (tree ∷ trees) (names ∷ groups) formed are =
+    first_or_later tree names groups (All-head IsWellFormed tree trees formed) are.0 (distinct_names trees groups (All-tail IsWellFormed tree trees formed) are.1)
+
+-- those of one tree more
+pub one_more_groups : (trees : List Tree) (groups : Groups) (tree : Tree) (names : List (Option Name)) → AreGroupsOf trees groups → AreNamesOf tree names
+    → AreGroupsOf (trees ++ tree ∷ []) (groups ++ names ∷ [])
+one_more_groups [] groups tree names are named = subst (λ x. AreGroupsOf (tree ∷ []) (x ++ names ∷ [])) (sym are) (named, refl)
+one_more_groups (t ∷ trees) [] tree names are named = absurd are
+one_more_groups (t ∷ trees) (n ∷ groups) tree names are named = (are.0, one_more_groups trees groups tree names are.1 named)
+
+pub group_count : (trees : List Tree) (groups : Groups) → AreGroupsOf trees groups → length groups ≡ length trees
+group_count [] groups are = ap length are
+group_count (tree ∷ trees) [] are = absurd are
+group_count (tree ∷ trees) (names ∷ groups) are = ap suc (group_count trees groups are.1)
+
+-- ---- as many as were gone through
+
+taken : {X Y : Type 0} (xs : List X) (f : X → Y) (k : ℕ) (x : X) → k < length xs → x ≡ get_or xs k x → take (suc k) (map f xs) ≡ take k (map f xs) ++ f x ∷ []
+taken [] f k x lt is = absurd (omega (arith, lt))
+taken (y ∷ xs) f zero x lt is = ap (λ z. f z ∷ []) (sym is)
+taken (y ∷ xs) f (suc k) x lt is = ap (λ ys. f y ∷ ys) (taken xs f k x (omega (arith, lt)) is)
+
+pub taken_more : {X Y : Type 0} (xs : List X) (f : X → Y) (k : ℕ) (x : X) → k < length xs → x ≡ get_or xs k x → take (k + 1) (map f xs) ≡ take k (map f xs) ++ f x ∷ []
+taken_more xs f k x lt is = let more : k + 1 ≡ suc k = omega arith in ap (λ n. take n (map f xs)) more ∙ taken xs f k x lt is
+
+pub taken_all : {X Y : Type 0} (xs : List X) (f : X → Y) (k : ℕ) → length xs ≤ k → take k (map f xs) ≡ map f xs
+taken_all [] f zero le = refl
+taken_all [] f (suc k) le = refl
+taken_all (y ∷ xs) f zero le = absurd (omega (arith, le))
+taken_all (y ∷ xs) f (suc k) le = ap (λ ys. f y ∷ ys) (taken_all xs f k (omega (arith, le)))
+
+taken_one : {X : Type 0} (xs : List X) (k : ℕ) (x : X) → slice_get xs k ≡ Some x → take (suc k) xs ≡ take k xs ++ x ∷ []
+taken_one [] k x there = absurd (none-some x there)
+taken_one (y ∷ xs) zero x there = ap (λ o. unwrap_or o y ∷ []) there
+taken_one (y ∷ xs) (suc k) x there = ap (λ ys. y ∷ ys) (taken_one xs k x there)
+
+pub taken_there : {X : Type 0} (xs : List X) (k : ℕ) (x : X) → slice_get xs k ≡ Some x → take (k + 1) xs ≡ take k xs ++ x ∷ []
+taken_there xs k x there = let more : k + 1 ≡ suc k = omega arith in ap (λ n. take n xs) more ∙ taken_one xs k x there

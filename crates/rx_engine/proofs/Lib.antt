@@ -1,2 +1,3 @@
 mod BuildLaws
 mod GroupLaws
+pub mod CountLaws

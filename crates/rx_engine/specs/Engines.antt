@@ -1,11 +1,11 @@
--- What an engine holds of a pattern, and of what that was built.
-use Rattle.std.specs.Prelude.{◌≡◌, ◌↔◌, ◌<◌, ◌≤◌, ℕ, ◌+◌, Bool, true, List, [], ◌∷◌, length, Option, Some, None, slice_get, unwrap_or}
+-- What an engine holds of patterns, and of what that was built.
+use Rattle.std.specs.Prelude.{◌≡◌, ◌↔◌, ◌<◌, ◌≤◌, ℕ, ◌+◌, Bool, true, List, [], ◌∷◌, All, length, take, Option, Some, None, slice_get, unwrap_or}
 use Rattle.std.specs.Option.{option_or}
 use Rattle.std.specs.Str.{chars}
 use Rattle.rx_util.specs.declared.search.MatchKind.{MatchKind}
 use Rattle.rx_util.specs.Groups.{Groups, Name}
 use Rattle.rx_grammar.specs.declared.error.SyntaxError.{SyntaxError}
-use Rattle.rx_grammar.specs.declared.error.SyntaxError.TheVariants as syntax
+use Rattle.rx_grammar.specs.declared.error.SyntaxError.TheVariants as errors
 use Rattle.rx_grammar.specs.Trees.{Tree, numbers_of}
 use Rattle.rx_grammar.specs.Subtrees.{HasName, IsWellFormed}
 use Rattle.rx_grammar.specs.Settings.{Settings, default_settings}
@@ -16,7 +16,7 @@ use Rattle.rx_program.specs.Code.{program_of}
 use Rattle.rx_program.specs.Programs.{ByteProgram, characters_of}
 use Rattle.rx_program.specs.Sizes.{IsTooLarge, told_limit, weight_of_all}
 
--- a program, the groups that it notes, and whether it passes over empty matches inside a character
+-- a program, the groups of its patterns, and whether it passes over empty matches inside a character
 pub record Engine : Type 0 where
   pub program : ByteProgram
   pub groups : Groups
@@ -66,43 +66,87 @@ pub record AreNamesOf (tree : Tree) (names : List (Option Name)) : Type 0 where
   pub named : (k : ℕ) (name : Name)
       → (slice_get names k ≡ Some (Some name)) ↔ HasName tree (k + 1) name
 
--- the groups of a tree that stands alone
-pub record AreGroupsOf (tree : Tree) (groups : Groups) : Type 0 where
-  pub names : List (Option Name)
-  pub are_names : AreNamesOf tree names
-  pub groups_are : groups ≡ names ∷ []
+-- the groups of trees that stand beside one another, those of each from group 1 on
+abbrev pub AreGroupsOf : List Tree → Groups → Type 0
+AreGroupsOf [] groups = groups ≡ []
+AreGroupsOf (tree ∷ trees) [] = ⊥
+AreGroupsOf (tree ∷ trees) (names ∷ groups) = AreNamesOf tree names × AreGroupsOf trees groups
 
--- the program and the groups of an engine are those of a tree, which is one that a text may spell
-pub record IsOfTree (e : Engine) (tree : Tree) : Type 0 where
-  pub well_formed : IsWellFormed tree
-  pub program : characters_of e.program ≡ program_of (tree ∷ []) e.program.line_terminator
-  pub groups : AreGroupsOf tree e.groups
+-- the program and the groups of an engine are those of trees, which are such as texts may spell
+pub record IsOfTrees (e : Engine) (trees : List Tree) : Type 0 where
+  pub well_formed : All IsWellFormed trees
+  pub program : characters_of e.program ≡ program_of trees e.program.line_terminator
+  pub groups : AreGroupsOf trees e.groups
 
 abbrev pub IsEngine : Engine → Type 0
-IsEngine e = (tree : Tree) × IsOfTree e tree
+IsEngine e = (trees : List Tree) × IsOfTrees e trees
 
--- it was built of a pattern: of the tree that the pattern spells, which isn't too large
+-- it was built of these trees, which together aren't too large
+pub record IsBuiltOfTrees (trees : List Tree) (settings : EngineSettings) (e : Engine)
+    : Type 0 where
+  pub fits : IsTooLarge (size_limit_of settings) (weight_of_all trees) → ⊥
+  pub of_trees : IsOfTrees e trees
+  pub line_terminator : e.program.line_terminator ≡ unwrap_or settings.line_terminator 10
+  pub utf8_empty : e.utf8_empty ≡ unwrap_or settings.utf8_empty true
+
+-- it was built of a pattern: of the tree that the pattern spells
 pub record IsBuiltOf (text : List ℕ) (wanted : Wanted) (e : Engine) : Type 0 where
   pub tree : Tree
   pub spells : Spells (chars text) wanted.syntax tree
-  pub fits : IsTooLarge (size_limit_of wanted.settings) (weight_of_all (tree ∷ [])) → ⊥
-  pub of_tree : IsOfTree e tree
-  pub line_terminator : e.program.line_terminator ≡ unwrap_or wanted.settings.line_terminator 10
-  pub utf8_empty : e.utf8_empty ≡ unwrap_or wanted.settings.utf8_empty true
+  pub built : IsBuiltOfTrees (tree ∷ []) wanted.settings e
+
+-- each text, given as its bytes, spells the tree beside it
+abbrev pub Spell : List (List ℕ) → Settings → List Tree → Type 0
+Spell [] syntax trees = trees ≡ []
+Spell (text ∷ texts) syntax [] = ⊥
+Spell (text ∷ texts) syntax (tree ∷ trees) =
+    Spells (chars text) syntax tree × Spell texts syntax trees
+
+-- it was built of patterns: of the trees that they spell
+pub record IsBuiltOfAll (texts : List (List ℕ)) (wanted : Wanted) (e : Engine) : Type 0 where
+  pub trees : List Tree
+  pub spell : Spell texts wanted.syntax trees
+  pub built : IsBuiltOfTrees trees wanted.settings e
+
+-- why a text spells no tree
+pub data IsRefusedText (text : List ℕ) (syntax : Settings) : SyntaxError → Type 0 where
+  too_long : 65536 < length text → IsRefusedText text syntax errors.TooLong
+  nesting : IsTooDeep (chars text) syntax → IsRefusedText text syntax errors.Nesting
+  outside : length text ≤ 65536 → NeverSpells (chars text) syntax
+      → IsRefusedText text syntax errors.Outside
+
+-- why these trees have no engine with these settings
+pub data AreRefused (trees : List Tree) (settings : EngineSettings) : BuildError → Type 0 where
+  too_large : IsTooLarge (size_limit_of settings) (weight_of_all trees)
+      → AreRefused trees settings (build.Size (told_limit (size_limit_of settings)))
+  no_memory : AreRefused trees settings build.Memory
 
 -- why a pattern, given as its bytes, has no engine with these settings
 pub data IsRefused (text : List ℕ) (wanted : Wanted) : BuildError → Type 0 where
-  too_long : 65536 < length text → IsRefused text wanted (build.Syntax 0 syntax.TooLong)
-  nesting : IsTooDeep (chars text) wanted.syntax
-      → IsRefused text wanted (build.Syntax 0 syntax.Nesting)
-  outside : length text ≤ 65536 → NeverSpells (chars text) wanted.syntax
-      → IsRefused text wanted (build.Syntax 0 syntax.Outside)
-  too_large : {tree : Tree} → Spells (chars text) wanted.syntax tree
-      → IsTooLarge (size_limit_of wanted.settings) (weight_of_all (tree ∷ []))
-      → IsRefused text wanted (build.Size (told_limit (size_limit_of wanted.settings)))
+  by_text : {error : SyntaxError} → IsRefusedText text wanted.syntax error
+      → IsRefused text wanted (build.Syntax 0 error)
+  by_weight : {error : BuildError} (tree : Tree) → Spells (chars text) wanted.syntax tree
+      → AreRefused (tree ∷ []) wanted.settings error → IsRefused text wanted error
   memory : IsRefused text wanted build.Memory
 
--- what a refusal of a pattern's text is as one of an engine
-abbrev pub refusal_of : SyntaxError → BuildError
-refusal_of syntax.Memory = build.Memory
-refusal_of error = build.Syntax 0 error
+-- why patterns have no engine: the text of one is refused, and each before it spells a tree; or all
+-- spell trees, and these are refused
+pub data IsRefusedOfAll (texts : List (List ℕ)) (wanted : Wanted) : BuildError → Type 0 where
+  by_first_text : {k : ℕ} {error : SyntaxError} (text : List ℕ) (trees : List Tree)
+      → slice_get texts k ≡ Some text → Spell (take k texts) wanted.syntax trees
+      → IsRefusedText text wanted.syntax error
+      → IsRefusedOfAll texts wanted (build.Syntax k error)
+  by_weight_of_all : {error : BuildError} (trees : List Tree) → Spell texts wanted.syntax trees
+      → AreRefused trees wanted.settings error → IsRefusedOfAll texts wanted error
+  want_of_memory : IsRefusedOfAll texts wanted build.Memory
+
+-- why the pattern with this number has no engine: its text is refused, or there was no memory
+pub data IsRefusedAt (k : ℕ) (text : List ℕ) (syntax : Settings) : BuildError → Type 0 where
+  text_there : {error : SyntaxError} → IsRefusedText text syntax error
+      → IsRefusedAt k text syntax (build.Syntax k error)
+  memory_there : IsRefusedAt k text syntax build.Memory
+
+-- what a refusal of the text of the pattern with this number is as one of an engine
+abbrev pub refusal_of : ℕ → SyntaxError → BuildError
+refusal_of k errors.Memory = build.Memory
+refusal_of k error = build.Syntax k error

@@ -1,23 +1,24 @@
-//! What builds what an engine holds of a pattern.
+//! What builds what an engine holds of patterns.
 
-ghost use Rattle.std.specs.Prelude.{◌≡◌, IfOk, IfErr};
+ghost use Rattle.std.specs.Prelude.{◌≡◌, ◌<◌, [], ◌∷◌, IfOk, IfErr, Some, length, map, slice_get};
 ghost use Rattle.std.specs.Str.{chars};
+ghost use Rattle.rx_util.specs.declared.search.MatchError.{MatchError};
 ghost use Rattle.rx_grammar.specs.Grammar.{Spells};
 ghost use Rattle.rx_grammar.specs.Settings.{default_settings};
 ghost use Rattle.rx_grammar.specs.Postorder.{tree_of};
-ghost use Rattle.rx_engine.specs.Engines.{EngineSettings, IsBuiltOf, IsRefused, nothing_set, refusal_of, settings_over};
+ghost use Rattle.rx_engine.specs.Engines.{AreRefused, EngineSettings, IsBuiltOf, IsBuiltOfAll, IsBuiltOfTrees, IsRefused, IsRefusedAt, IsRefusedOfAll, Spell, nothing_set, refusal_of, settings_over};
 
 use crate::compiled::Compiled;
 use crate::config::Config;
 use crate::groups::groups_of;
 use rx_grammar::{Hir, SyntaxError, parse, syntax};
 use rx_program::{BuildError, Program, compile};
-use rx_util::PatternID;
+use rx_util::{MatchError, PatternID};
 use std::alloc::{AllocError, Global};
 use std::marker::Model;
 use std::rc::Rc;
 
-/// Builds what an engine holds of a pattern.
+/// Builds what an engine holds of patterns.
 #[derive(Debug, Drop)]
 pub struct Builder {
     config: Config,
@@ -41,6 +42,17 @@ impl Builder {
             config: Config::new(),
             syntax: syntax::Config::new(),
         }
+    }
+
+    /// Returns a builder in which the same is set. The one error is `Memory`.
+    pub fn clone(&self) -> Result<Builder, MatchError>
+        ensures same { IfOk result (λ builder. builder ≡ self.now) }
+        ensures refused { IfErr result (λ error. error ≡ MatchError.Memory) }
+    {
+        Ok(Builder {
+            config: self.config.clone()?,
+            syntax: self.syntax.clone()?,
+        })
     }
 
     /// Takes over the settings that are set in these, and leaves the others.
@@ -74,11 +86,51 @@ impl Builder {
         ensures built { IfOk result (λ compiled. IsBuiltOf pattern.now self.now compiled) }
         ensures refused { IfErr result (λ error. IsRefused pattern.now self.now error) }
     {
-        let hir = spelled(alloc, pattern, &self.syntax)?;
-        let groups = groups_of(alloc, &hir)?;
+        self.build_many(alloc, &[pattern])
+    }
+
+    /// Returns what an engine holds of patterns that are searched for together: where matches of
+    /// several start at one place, those of an earlier pattern are preferred. With no pattern it
+    /// never finds a match. Time and memory are those of all patterns.
+    ///
+    /// Errors: those of `build`, for the first pattern whose text is refused; and then `Size` where
+    /// the patterns together, and 1 more unless there is exactly one, weigh too much.
+    pub fn build_many(&self, alloc: Global, patterns: &[&str]) -> Result<Compiled, BuildError>
+        ensures built { IfOk result (λ compiled.
+            IsBuiltOfAll (map (λ text. text.now) patterns.now) self.now compiled) }
+        ensures refused { IfErr result (λ error.
+            IsRefusedOfAll (map (λ text. text.now) patterns.now) self.now error) }
+    {
+        let hirs = spelled(alloc, patterns, &self.syntax)?;
+        let borrowed = borrowed(alloc, &hirs)?;
+        self.build_many_from_hir(alloc, &borrowed)
+    }
+
+    /// Returns what an engine holds of what a pattern spells, as `build` does. The settings of the
+    /// syntax are those that it was parsed with.
+    ///
+    /// Errors: `Size` where it is too large, and else perhaps `Memory`.
+    pub fn build_from_hir(&self, alloc: Global, hir: &Hir) -> Result<Compiled, BuildError>
+        ensures built { IfOk result (λ compiled.
+            IsBuiltOfTrees (tree_of hir.now ∷ []) self.now.settings compiled) }
+        ensures refused { IfErr result (λ error.
+            AreRefused (tree_of hir.now ∷ []) self.now.settings error) }
+    {
+        self.build_many_from_hir(alloc, &[hir])
+    }
+
+    /// Returns what an engine holds of what patterns spell, as `build_many` does, with the errors
+    /// of `build_from_hir`.
+    pub fn build_many_from_hir(&self, alloc: Global, hirs: &[&Hir]) -> Result<Compiled, BuildError>
+        ensures built { IfOk result (λ compiled. IsBuiltOfTrees
+            (map (λ hir. tree_of hir.now) hirs.now) self.now.settings compiled) }
+        ensures refused { IfErr result (λ error. AreRefused
+            (map (λ hir. tree_of hir.now) hirs.now) self.now.settings error) }
+    {
+        let groups = groups_of(alloc, hirs)?;
         let terminator = self.config.get_line_terminator();
         let limit = self.config.get_nfa_size_limit();
-        let program = compile(alloc, &[&hir], terminator, limit)?;
+        let program = compile(alloc, hirs, terminator, limit)?;
         Ok(Compiled {
             program: shared(alloc, program)?,
             groups,
@@ -87,29 +139,76 @@ impl Builder {
     }
 }
 
-/// Why a pattern whose text is refused has no engine.
-fn refusal(error: SyntaxError) -> BuildError
-    ensures { result ≡ refusal_of error }
+/// Why patterns have no engine where the text of one, which has this number, is refused.
+fn refusal(number: usize, error: SyntaxError) -> BuildError
+    ensures { result ≡ refusal_of number error }
 {
     match error {
         SyntaxError::Memory => BuildError::Memory,
         _ => BuildError::Syntax {
-            pattern: PatternID::ZERO,
+            pattern: PatternID::new(number),
             error,
         },
     }
 }
 
-/// What a pattern spells under these settings.
-fn spelled(alloc: Global, pattern: &str, settings: &syntax::Config) -> Result<Hir, BuildError>
+/// What a text spells under these settings, or why it has no engine as the pattern with this
+/// number.
+fn tree(
+    alloc: Global,
+    number: usize,
+    pattern: &str,
+    settings: &syntax::Config,
+) -> Result<Hir, BuildError>
     ensures spells { IfOk result (λ hir. Spells (chars pattern.now) settings.now (tree_of hir)) }
-    ensures refused { IfErr result (λ error. (limits : EngineSettings) → IsRefused pattern.now
-        (record { settings = limits; syntax = settings.now }) error) }
+    ensures refused { IfErr result (λ error. IsRefusedAt number pattern.now settings.now error) }
 {
     match parse(alloc, pattern, settings) {
         Ok(hir) => Ok(hir),
-        Err(error) => Err(refusal(error)),
+        Err(error) => Err(refusal(number, error)),
     }
+}
+
+/// The text of the pattern with this number.
+fn text_at<'p>(patterns: &[&'p str], number: usize) -> &'p str
+    requires { number < length patterns.now }
+    ensures { slice_get (map (λ text. text.now) patterns.now) number ≡ Some result.now }
+{
+    patterns[number]
+}
+
+/// What patterns spell under these settings.
+fn spelled(
+    alloc: Global,
+    patterns: &[&str],
+    settings: &syntax::Config,
+) -> Result<Vec<Hir>, BuildError>
+    ensures spell { IfOk result (λ hirs.
+        Spell (map (λ text. text.now) patterns.now) settings.now (map tree_of hirs.items)) }
+    ensures refused { IfErr result (λ error. (limits : EngineSettings)
+        → IsRefusedOfAll (map (λ text. text.now) patterns.now)
+        (record { settings = limits; syntax = settings.now }) error) }
+{
+    let mut hirs = Vec::with_capacity(alloc, patterns.len())?;
+    for number in 0..patterns.len() {
+        let hir = tree(alloc, number, text_at(patterns, number), settings)?;
+        let Ok(()) = hirs.push(hir) else {
+            return Err(BuildError::Memory);
+        };
+    }
+    Ok(hirs)
+}
+
+/// These, each borrowed.
+fn borrowed<'h>(alloc: Global, hirs: &'h [Hir]) -> Result<Vec<&'h Hir>, AllocError>
+    ensures { IfOk result (λ borrowed.
+        map (λ hir. tree_of hir.now) borrowed.items ≡ map tree_of hirs.now) }
+{
+    let mut borrowed = Vec::with_capacity(alloc, hirs.len())?;
+    for hir in hirs {
+        borrowed.push(hir)?;
+    }
+    Ok(borrowed)
 }
 
 /// A program, to be shared by clones.

@@ -1,10 +1,10 @@
-//! What an engine holds of a pattern.
+//! What an engine holds of patterns.
 
-ghost use Rattle.std.specs.Prelude.{◌≡◌, ◌≤◌, IfOk, IfErr, length};
+ghost use Rattle.std.specs.Prelude.{◌≡◌, ◌*◌, ◌≤◌, IfOk, IfErr, length, map};
 ghost use Rattle.rx_util.specs.declared.search.MatchError.{MatchError};
 ghost use Rattle.rx_util.specs.Groups.{slot_len};
 ghost use Rattle.rx_util.specs.Captured.{nothing_noted};
-ghost use Rattle.rx_engine.specs.Engines.{IsBuiltOf, IsEngine, IsRefused, by_default};
+ghost use Rattle.rx_engine.specs.Engines.{IsBuiltOf, IsBuiltOfAll, IsEngine, IsRefused, IsRefusedOfAll, by_default};
 
 use crate::builder::Builder;
 use rx_program::{BuildError, Program};
@@ -13,8 +13,8 @@ use std::alloc::Global;
 use std::marker::Model;
 use std::rc::Rc;
 
-/// A pattern as engines hold it. Contracts see its program, its groups, and whether empty matches
-/// inside a character are passed over.
+/// Patterns as engines hold them. Contracts see their program, their groups, and whether empty
+/// matches inside a character are passed over.
 #[derive(Debug, Drop)]
 pub struct Compiled {
     pub(crate) program: Rc<Program>,
@@ -50,6 +50,17 @@ impl Compiled {
         Builder::new().build(alloc, pattern)
     }
 
+    /// Returns what an engine holds of patterns that are searched for together, under default
+    /// settings. Errors are those of `Builder::build_many`.
+    pub fn new_many(alloc: Global, patterns: &[&str]) -> Result<Compiled, BuildError>
+        ensures built { IfOk result (λ compiled.
+            IsBuiltOfAll (map (λ text. text.now) patterns.now) by_default compiled) }
+        ensures refused { IfErr result (λ error.
+            IsRefusedOfAll (map (λ text. text.now) patterns.now) by_default error) }
+    {
+        Builder::new().build_many(alloc, patterns)
+    }
+
     /// Returns the same, which shares program and groups. The one error is `Memory`. `O(1)`.
     pub fn clone(&self) -> Result<Compiled, MatchError>
         ensures same { IfOk result (λ compiled. compiled ≡ self.now) }
@@ -64,7 +75,8 @@ impl Compiled {
 
     /// Returns the program. `O(1)`.
     pub fn program(&self) -> &Program
-        ensures { result.now ≡ self.now.program }
+        ensures program { result.now ≡ self.now.program }
+        ensures engine { IsEngine self.now }
     {
         &self.program
     }
@@ -73,6 +85,7 @@ impl Compiled {
     pub fn group_info(&self) -> &GroupInfo
         ensures groups { result.now ≡ self.now.groups }
         ensures engine { IsEngine self.now }
+        ensures patterns { length self.now.program.patterns ≡ length self.now.groups }
     {
         &self.groups
     }
@@ -89,7 +102,8 @@ impl Compiled {
     pub fn create_captures(&self) -> Result<Captures, MatchError>
         ensures made { IfOk result (λ caps. caps
             ≡ nothing_noted self.now.groups (slot_len self.now.groups)) }
-        ensures room { IfOk result (λ caps. 2 ≤ length caps.slots) }
+        ensures room { IfOk result
+            (λ caps. 2 * length self.now.groups ≤ length caps.slots) }
         ensures refused { IfErr result (λ error. error ≡ MatchError.Memory) }
     {
         Captures::all(self.program.allocator(), &self.groups)

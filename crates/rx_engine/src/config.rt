@@ -1,14 +1,15 @@
 //! Settings of engines.
 
-ghost use Rattle.std.specs.Prelude.{◌≡◌, Some, unwrap_or, true};
+ghost use Rattle.std.specs.Prelude.{◌≡◌, IfErr, IfOk, Some, unwrap_or, true};
+ghost use Rattle.rx_util.specs.declared.search.MatchError.{MatchError};
 ghost use Rattle.rx_util.specs.declared.search.MatchKind.{MatchKind};
 ghost use Rattle.rx_engine.specs.Engines.{nothing_set, settings_over, size_limit_of};
 
-use rx_util::MatchKind;
+use rx_util::{MatchError, MatchKind};
 use std::marker::Model;
 
 /// Settings of an engine. One that wasn't set is the default.
-#[derive(Clone, Copy, Debug, PartialEq, Eq)]
+#[derive(Debug, Drop, PartialEq, Eq)]
 pub struct Config {
     match_kind: Option<MatchKind>,
     utf8_empty: Option<bool>,
@@ -47,6 +48,19 @@ impl Config {
             line_terminator: None,
             nfa_size_limit: None,
         }
+    }
+
+    /// Returns the same settings. The one error is `Memory`.
+    pub fn clone(&self) -> Result<Config, MatchError>
+        ensures same { IfOk result (λ config. config ≡ self.now) }
+        ensures refused { IfErr result (λ error. error ≡ MatchError.Memory) }
+    {
+        Ok(Config {
+            match_kind: self.match_kind,
+            utf8_empty: self.utf8_empty,
+            line_terminator: self.line_terminator,
+            nfa_size_limit: self.nfa_size_limit,
+        })
     }
 
     /// Sets which of all matches a search finds.

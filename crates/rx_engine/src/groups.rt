@@ -1,6 +1,6 @@
-//! The groups of a pattern, and their names.
+//! The groups of patterns, and their names.
 
-ghost use Rattle.std.specs.Prelude.{◌≡◌, ◌<◌, IfOk, None, Some, MatchOption, [], replicate, set, vec_len};
+ghost use Rattle.std.specs.Prelude.{◌≡◌, ◌<◌, All, IfOk, OnOk, None, Some, MatchOption, [], map, replicate, set, vec_len};
 ghost use Rattle.rx_util.specs.Groups.{names_of};
 ghost use Rattle.rx_grammar.specs.Subtrees.{IsWellFormed, a_group};
 ghost use Rattle.rx_grammar.specs.Nodes.{kind_of};
@@ -57,13 +57,16 @@ fn group_names(alloc: Global, hir: &Hir) -> Result<Vec<Option<String>>, AllocErr
     Ok(names)
 }
 
-/// The groups of a pattern.
-pub(crate) fn groups_of(alloc: Global, hir: &Hir) -> Result<GroupInfo, AllocError>
-    ensures groups { IfOk result (λ groups. AreGroupsOf (tree_of hir.now) groups) }
-    ensures well_formed { IsWellFormed (tree_of hir.now) }
+/// The groups of patterns.
+pub(crate) fn groups_of(alloc: Global, hirs: &[&Hir]) -> Result<GroupInfo, AllocError>
+    ensures groups { IfOk result
+        (λ groups. AreGroupsOf (map (λ hir. tree_of hir.now) hirs.now) groups) }
+    ensures well_formed { OnOk result
+        (All IsWellFormed (map (λ hir. tree_of hir.now) hirs.now)) }
 {
-    let names = group_names(alloc, hir)?;
-    let mut patterns = Vec::new(alloc);
-    patterns.push(names)?;
+    let mut patterns = Vec::with_capacity(alloc, hirs.len())?;
+    for hir in hirs {
+        patterns.push(group_names(alloc, hir)?)?;
+    }
     GroupInfo::new(alloc, patterns)
 }

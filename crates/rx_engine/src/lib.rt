@@ -1,4 +1,4 @@
-//! What engines hold of a pattern: the program that it compiles to, its groups, and a setting.
+//! What engines hold of patterns: the program that they compile to, their groups, and a setting.
 #![tactic(auto)]
 
 mod builder;

@@ -1,6 +1,6 @@
 -- Needles that stand for others.
-use Rattle.std.proofs.Common.{◌≡◌, ℕ, zero, suc, ◌+◌, ◌<◌, ◌⊎◌, List, [], ◌∷◌, ◌++◌, map, get_or, length, refl, sym, ap, subst, ◌∙◌, arith, inl, inr}
-use Rattle.std.proofs.lemmas.List.{map-append}
+use Rattle.std.proofs.Common.{◌≡◌, ℕ, zero, suc, ◌+◌, ◌<◌, ◌≤◌, ◌⊎◌, List, [], ◌∷◌, ◌++◌, map, take, get_or, length, refl, sym, ap, subst, ◌∙◌, arith, inl, inr}
+use Rattle.std.proofs.lemmas.List.{map-append, take_more, take_all}
 use Rattle.memchr.specs.Find.{OccursAt}
 use Rattle.rx_literals.specs.Needles.{OneOccursAt, this_occurs, other_occurs}
 use Rattle.rx_literals.specs.Ways.{StandFor}
@@ -94,3 +94,24 @@ module _ {X : Type 0} (f : X → List ℕ) where
 
 pub stand_on : (first second third : List (List ℕ)) → StandFor second first → StandFor third second → StandFor third first
 stand_on first second third a b bytes i h = b bytes i (a bytes i h)
+
+-- needles that stand for the first literals of a list
+module _ {X : Type 0} (f : X → List ℕ) (needles : List (List ℕ)) (xs : List X) where
+  pub stand_for_none : StandFor needles (map f (take 0 xs))
+  stand_for_none bytes i h = absurd (nothing h refl)
+    where
+      nothing : {ys : List (List ℕ)} → OneOccursAt bytes i ys → ys ≡ [] → ⊥
+      nothing (this_occurs h') e = absurd (cc e)
+      nothing (other_occurs h') e = absurd (cc e)
+
+  pub stand_for_more : (n : ℕ) (x : X) → n < length xs → x ≡ get_or xs n x → ((bytes : List ℕ) (i : ℕ) → OccursAt bytes (f x) i → OneOccursAt bytes i needles) → StandFor needles (map f (take n xs)) → StandFor needles (map f (take (n + 1) xs))
+  stand_for_more n x lt is begins so_far bytes i h =
+      let first : take (n + 1) xs ≡ take n xs ++ x ∷ [] = take_more xs n x lt ∙ ap (λ y. take n xs ++ y ∷ []) (sym is) in
+      let parts : map f (take (n + 1) xs) ≡ map f (take n xs) ++ (f x ∷ []) = ap (map f) first ∙ map-append f (take n xs) (x ∷ []) in
+      elim (occurs_either bytes i (map f (take n xs)) (f x ∷ []) (subst (λ ys. OneOccursAt bytes i ys) parts h)) [
+        | inl here ↦ so_far bytes i here
+        | inr last ↦ begins bytes i (occurs_alone bytes i (f x) last)
+      ]
+
+  pub stand_for_all : (n : ℕ) → length xs ≤ n → StandFor needles (map f (take n xs)) → StandFor needles (map f xs)
+  stand_for_all n le so_far = subst (λ ys. StandFor needles (map f ys)) (take_all n xs le) so_far

@@ -254,6 +254,39 @@ fn begins_with_one(literals: &[String], literal: &String) -> bool
     false
 }
 
+/// Whether a literal begins with these bytes.
+fn begins_with_bytes(literal: &String, bytes: &[u8]) -> bool
+    ensures { IsTrue result → OccursAt (string_bytes literal.now) bytes.now 0 }
+{
+    is_prefix(literal.as_bytes(), bytes)
+}
+
+/// Whether what begins with a literal begins with one of these needles too.
+fn begins_with_needle(needles: &[Vec<u8>], literal: &String) -> bool
+    ensures { IsTrue result → (bytes : List ℕ) (i : ℕ) → OccursAt bytes (string_bytes literal.now) i
+        → OneOccursAt bytes i (map (λ needle. needle.items) needles.now) }
+{
+    for needle in needles {
+        if begins_with_bytes(literal, needle) {
+            return true;
+        }
+    }
+    false
+}
+
+/// Whether what begins with one of these literals begins with one of these needles too.
+fn begin_with_needles(needles: &[Vec<u8>], literals: &[String]) -> bool
+    ensures { IsTrue result → StandFor (map (λ needle. needle.items) needles.now)
+        (map (λ literal. string_bytes literal) literals.now) }
+{
+    for literal in literals {
+        if !begins_with_needle(needles, literal) {
+            return false;
+        }
+    }
+    true
+}
+
 /// Keeps a literal beside these, unless it begins with one of them.
 fn keep(kept: &mut Vec<String>, literal: String) -> Result<(), AllocError>
     ensures { OnOk result (StandFor (map (λ other. string_bytes other) kept.new.items)
@@ -340,5 +373,22 @@ impl Prefilter {
         let kept = without_longer(alloc, literals)?;
         let shortest = without_longer(alloc, kept)?;
         prefilter_of(alloc, kind, &shortest)
+    }
+
+    /// Whether it may be used for a program: only where it is known of the program, by its patterns
+    /// alone, that each of its matches begins with one of the needles. Then nothing matches where
+    /// no needle occurs, and the first match doesn't start before the first needle. For a prefilter
+    /// that isn't known to serve a program, neither is so.
+    ///
+    /// It is read of the program what its matches begin with, as far as `from_program` reads it; so
+    /// it may answer `false` of needles of which it would be so. It takes time for at most 256
+    /// states, and memory for the literals that are read. The one refusal is want of memory.
+    pub fn serves(&self, alloc: Global, program: &Program) -> Result<bool, AllocError>
+        ensures { IfOk result (λ serves. IsTrue serves
+            → BeginsWith self.now (characters_of program.now)) }
+    {
+        let beginnings = Beginnings::of(alloc, program)?;
+        let literals = beginnings.literals()?;
+        Ok(begin_with_needles(self.needles(), &literals))
     }
 }

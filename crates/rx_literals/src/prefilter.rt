@@ -1,6 +1,7 @@
 //! Prefilters: few literals that are looked for before an engine is asked.
 
-ghost use Rattle.std.specs.Prelude.{◌≡◌, ◌≤◌, ◌<◌, ◌↔◌, ℕ, All, IfOk, IsTrue, List, MatchOption, [], ◌∷◌, length, map};
+ghost use Rattle.std.specs.Prelude.{◌≡◌, ◌≤◌, ◌<◌, ◌↔◌, ℕ, All, IfErr, IfOk, IsTrue, List, MatchOption, [], ◌∷◌, length, map};
+ghost use Rattle.rx_util.specs.declared.search.MatchError.{MatchError};
 ghost use Rattle.rx_literals.specs.Needles.{AreNeedles, FoundAt, FoundBetween, IsNeedle};
 ghost use Rattle.rx_literals.specs.FirstBytes.{BeginAmong};
 ghost use Rattle.rx_literals.specs.Prefilters.{Searches, AreParts};
@@ -8,7 +9,7 @@ ghost use Rattle.rx_literals.specs.Prefilters.{Searches, AreParts};
 use crate::first_bytes::FirstBytes;
 use memchr::arch::all::is_prefix;
 use memchr::memmem::Finder;
-use rx_util::{MatchKind, Span};
+use rx_util::{MatchError, MatchKind, Span};
 use std::alloc::{AllocError, Global};
 use std::marker::Model;
 use std::rc::Rc;
@@ -237,9 +238,10 @@ impl Prefilter {
         Ok(Some(Prefilter { parts }))
     }
 
-    /// The same prefilter, which shares its needles. `O(1)`.
-    pub fn clone(&self) -> Result<Prefilter, AllocError>
-        ensures { IfOk result (λ prefilter. prefilter ≡ self.now) }
+    /// The same prefilter, which shares its needles. The one refusal is `Memory`. `O(1)`.
+    pub fn clone(&self) -> Result<Prefilter, MatchError>
+        ensures same { IfOk result (λ prefilter. prefilter ≡ self.now) }
+        ensures refused { IfErr result (λ error. error ≡ MatchError.Memory) }
     {
         Ok(Prefilter {
             parts: self.parts.clone()?,

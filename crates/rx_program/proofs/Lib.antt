@@ -12,6 +12,7 @@ pub mod RepeatLaws
 pub mod StartLaws
 pub mod NodeLaws
 pub mod PatternLaws
+pub mod ManyLaws
 pub mod ClosedLaws
 pub mod NoteLaws
 pub mod GroupLaws

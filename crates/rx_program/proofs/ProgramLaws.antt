@@ -7,10 +7,17 @@ use Rattle.rx_utf8.specs.Automata.{is_in}
 use Rattle.rx_walks.specs.Characters.{member_len}
 use Rattle.rx_walks.specs.Bytes.{run}
 use Rattle.rx_walks.specs.Looks as walks
-use Rattle.rx_walks.specs.Programs.{Node, set}
+use Rattle.rx_walks.specs.Laws.{byte_machine_of}
+use Rattle.rx_walks.specs.Programs.{Node, set, put_note, fresh_notes}
+use Rattle.rx_walks.specs.ProgramFinds.{machine_of, first_by, haystack_of, holds_in}
+use Rattle.rx_walks.specs.Refinements.{Refines}
+use Rattle.rx_walks.proofs.AllFindLaws.{paths_agree}
+use Rattle.rx_walks.proofs.ForwardLaws.{number_told, pair_told}
+use Rattle.rx_walks.proofs.ProgramLaws.{bytes_refine}
+use Rattle.rx_walks.proofs.RefinementLaws.{refined, unrefined, least_refined}
 use Rattle.rx_program.specs.declared.states.State.{State}
 use Rattle.rx_program.specs.declared.states.State.TheVariants as state
-use Rattle.rx_program.specs.Programs.{node_of, automaton_of, ReadsItsSet, ByteProgram, IsByteProgram}
+use Rattle.rx_program.specs.Programs.{node_of, automaton_of, automata_of, characters_of, ReadsItsSet, ByteProgram, IsByteProgram, HasWalksOfProgram}
 
 -- a state whose node is over a set
 of_state : (s : State) (x : List Range) (r : ℕ) → ReadsItsSet s → node_of s ≡ set x r → (bytes : List ℕ) → run (automaton_of (Some s)) 0 bytes ≡ member_len (is_in x) bytes
@@ -44,3 +51,16 @@ reads_members p all q r x e bytes =
     let on = state_at p.states q (set x r) e in
     let reads : ReadsItsSet on.state = subst ReadsItsSet on.found (All-get_or ReadsItsSet p.states q on.state on.below all) in
     ap (λ o. run (automaton_of o) 0 bytes) on.at ∙ of_state on.state x r reads on.is bytes
+
+-- so its walks over bytes are those over characters
+pub walks_of : (p : ByteProgram) → All ReadsItsSet p.states → HasWalksOfProgram p (characters_of p)
+walks_of p all is_word s =
+    let characters = characters_of p in
+    let step = automata_of p in
+    let refines : Refines (machine_of is_in is_word characters s) (byte_machine_of is_word characters step s) (λ q. (q, 0)) =
+    bytes_refine put_note (first_by is_in) step characters.nodes (haystack_of (holds_in is_word p.line_terminator s) s) (reads_members p all) in
+    record {
+      walks = λ n q i choices t. ((λ walk. refined refines walk), (λ walk. unrefined [] q refines walk));
+      least = λ n q i t. least_refined refines;
+      paths = λ q i a e. paths_agree q i a e refines number_told pair_told (fresh_notes 0);
+    }

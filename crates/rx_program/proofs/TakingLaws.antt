@@ -15,10 +15,10 @@ use Rattle.rx_walks.specs.Machines.{Move, Machine, ends, goes, reads}
 use Rattle.rx_walks.specs.Paths.{Path, at_end, by_edge, by_read}
 use Rattle.rx_walks.specs.Programs.{match, pass, note, look, set, Haystack, only_if, is_within, left_from, read_up_to, by_character, over_characters, Program, Notes, put_note}
 use Rattle.rx_walks.specs.Finds.{Search, IsInside}
-use Rattle.rx_walks.specs.ProgramFinds.{first_by, holds_in, haystack_of, machine_of, lowest, highest}
+use Rattle.rx_walks.specs.ProgramFinds.{first_by, holds_in, haystack_of, lowest, highest}
 use Rattle.rx_utf8.specs.Automata.{is_in}
 use Rattle.rx_program.specs.Code.{Code, place_of, fork, entry_of, copies, optional, repetition_code, branch_starts, code_of, row_code, branches_code, pattern_code, patterns_code, pattern_starts, program_of}
-use Rattle.rx_program.specs.Taking.{Times, IsUpTo, Takes, TakesInTurn, TakesOneOf, TakesIn, PathsAreTaken}
+use Rattle.rx_program.specs.Taking.{Times, IsUpTo, Takes, TakesInTurn, TakesOneOf, machine_by, PathsAreTaken, SearchesTakePaths}
 use Rattle.rx_program.proofs.ClosedLaws.{copies_length, repetition_length, pattern_length, several}
 use Rattle.rx_program.proofs.NoteLaws.{all_left, all_right, same_edges, only_edge, only_ends, only_reads, no_edge, read_not_ends, read_not_goes, ends_by, goes_by, reads_by}
 use Rattle.rx_program.proofs.GroupLaws.{ANode, Stands, stands_left, stands_right, stands_first, stands_behind}
@@ -673,7 +673,7 @@ unmapped : {X Y : Type 0} (P : Y → Type 0) (f : X → Y) (xs : List X) → All
 unmapped P f [] all = All-nil (λ x. P (f x))
 unmapped P f (x ∷ xs) all = All-cons (λ x. P (f x)) x xs (All-head P (f x) (map f xs) all) (unmapped P f xs (All-tail P (f x) (map f xs) all))
 
-got : {X : Type 0} (P : X → Type 0) (xs : List X) (k : ℕ) (x : X) → All P xs → slice_get xs k ≡ Some x → P x
+pub got : {X : Type 0} (P : X → Type 0) (xs : List X) (k : ℕ) (x : X) → All P xs → slice_get xs k ≡ Some x → P x
 got P xs k x all at = subst P (get_or_from_slice_get xs k x x at) (All-get_or P xs k x (slice_get_within xs k x at) all)
 
 pub is_bounded : (tree : Tree) → IsWellFormed tree → All (λ part. IsBounded (root_of part)) (subtrees_of tree)
@@ -690,17 +690,24 @@ inside_from s i within =
     (omega (arith, low), omega (arith, high), omega (arith, low), omega (arith, high), omega (arith, high))
 
 pub paths_are_taken : PathsAreTaken
-paths_are_taken trees terminator well is_word p s same k q tree is is' i pattern e inside = subst Holds (sym same) of_program is'
+paths_are_taken trees terminator well first h p same k q tree is is' i pattern e from = subst Holds (sym same) of_program is'
   where
     Holds : Program walks.Look (List Range) → Type 0
-    Holds p = slice_get p.patterns k ≡ Some q → Path (machine_of is_in is_word p s) q i pattern e ↔ ((pattern ≡ k) × IsInside s e × TakesIn is_word p.line_terminator s tree i e)
+    Holds p = slice_get p.patterns k ≡ Some q → Path (machine_by first p h) q i pattern e ↔ ((pattern ≡ k) × IsTrue (is_within h.low h.high e) × Takes first h tree i e)
 
     of_program : Holds (program_of trees terminator)
     of_program is' =
         let program = program_of trees terminator in
-        let h = haystack_of (holds_in is_word program.line_terminator s) s in
         let code = code_of_pattern trees terminator k q tree is is' in
         let bounded = is_bounded tree (got IsWellFormed trees k tree well is) in (
-          (λ path. let taken = path_takes (first_by is_in) h program.nodes pattern e code.slots k tree bounded q code.stands i path in (taken.0, inside_from s e taken.1, taken.2)),
-          (λ all. taken_path (first_by is_in) h program.nodes pattern e code.slots k tree bounded q code.stands i all.0 (omega (arith, inside)) (within_from s e all.1) all.2),
+          (λ path. path_takes first h program.nodes pattern e code.slots k tree bounded q code.stands i path),
+          (λ all. taken_path first h program.nodes pattern e code.slots k tree bounded q code.stands i all.0 from all.1 all.2),
         )
+
+pub searches_take_paths : SearchesTakePaths
+searches_take_paths trees terminator well is_word p s same k q tree is is' i pattern e inside =
+    let h = haystack_of (holds_in is_word p.line_terminator s) s in
+    let both = paths_are_taken trees terminator well (first_by is_in) h p same k q tree is is' i pattern e (omega (arith, inside)) in (
+      (λ path. let taken = both.0 path in (taken.0, inside_from s e taken.1, taken.2)),
+      (λ all. both.1 (all.0, within_from s e all.1, all.2)),
+    )

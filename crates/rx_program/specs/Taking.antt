@@ -7,7 +7,8 @@ use Rattle.rx_grammar.specs.Subtrees.{IsWellFormed}
 use Rattle.rx_grammar.specs.Weights.{may_be_empty}
 use Rattle.rx_walks.specs.Looks as walks
 use Rattle.rx_walks.specs.Paths.{Path}
-use Rattle.rx_walks.specs.Programs.{Program, Haystack, left_from}
+use Rattle.rx_walks.specs.Programs.{Program, Haystack, Notes, is_within, left_from, over_characters, put_note}
+use Rattle.rx_walks.specs.Machines.{Machine}
 use Rattle.rx_walks.specs.Finds.{Search, IsInside}
 use Rattle.rx_walks.specs.ProgramFinds.{first_by, haystack_of, holds_in, machine_of}
 use Rattle.rx_program.specs.Code.{place_of, program_of}
@@ -47,15 +48,32 @@ module _ (first : List Range → List ℕ → Option ℕ) (h : Haystack walks.Lo
     TakesOneOf (two one other) i j = Takes one i j ⊎ Takes other i j
     TakesOneOf (more one others) i j = Takes one i j ⊎ TakesOneOf others i j
 
+-- the machine that a program's nodes are, where `first` tells of a set how many bytes of one of its
+-- characters stand first
+abbrev pub machine_by : (List Range → List ℕ → Option ℕ) → Program walks.Look (List Range)
+    → Haystack walks.Look → Machine ℕ Notes
+machine_by first p h = over_characters put_note first p.nodes h
+
+-- The paths that lead from a place that isn't before the first one, from the start node of a
+-- pattern, end where walks may stand, where the pattern's tree takes it to, and match that pattern:
+-- in any haystack, whatever characters its sets have there, and whichever looks hold.
+abbrev pub PathsAreTaken : Type 0
+PathsAreTaken = (trees : List Tree) (terminator : ℕ) → All IsWellFormed trees
+    → (first : List Range → List ℕ → Option ℕ) (h : Haystack walks.Look)
+    (p : Program walks.Look (List Range)) → p ≡ program_of trees terminator
+    → (k q : ℕ) (tree : Tree) → slice_get trees k ≡ Some tree → slice_get p.patterns k ≡ Some q
+    → (i pattern e : ℕ) → h.low ≤ i
+    → Path (machine_by first p h) q i pattern e
+    ↔ ((pattern ≡ k) × IsTrue (is_within h.low h.high e) × Takes first h tree i e)
+
 -- what a tree takes in a search
 abbrev pub TakesIn : (ℕ → Bool) → ℕ → Search → Tree → ℕ → ℕ → Type 0
 TakesIn is_word terminator s tree i j =
     Takes (first_by is_in) (haystack_of (holds_in is_word terminator s) s) tree i j
 
--- the paths of a search that lead from a place inside, from the start node of a pattern, end inside,
--- where the pattern's tree takes it to, and match that pattern
-abbrev pub PathsAreTaken : Type 0
-PathsAreTaken = (trees : List Tree) (terminator : ℕ) → All IsWellFormed trees
+-- so it is of the paths of a search that lead from a place inside: they end inside
+abbrev pub SearchesTakePaths : Type 0
+SearchesTakePaths = (trees : List Tree) (terminator : ℕ) → All IsWellFormed trees
     → (is_word : ℕ → Bool) (p : Program walks.Look (List Range)) (s : Search)
     → p ≡ program_of trees terminator
     → (k q : ℕ) (tree : Tree) → slice_get trees k ≡ Some tree → slice_get p.patterns k ≡ Some q
@@ -75,3 +93,11 @@ looks_hold = record { content = []; low = 0; high = 0; holds = λ asked i. true 
 abbrev pub MayBeEmptyIsTold : Type 0
 MayBeEmptyIsTold = (tree : Tree) → IsWellFormed tree
     → IsTrue (may_be_empty tree) ↔ Takes no_character looks_hold tree 0 0
+
+-- which is whether a path leads from its start node to its match that reads no character, whatever
+-- looks stand on it
+abbrev pub EmptyPathsAreTold : Type 0
+EmptyPathsAreTold = (trees : List Tree) (terminator : ℕ) → All IsWellFormed trees
+    → (p : Program walks.Look (List Range)) → p ≡ program_of trees terminator
+    → (k q : ℕ) (tree : Tree) → slice_get trees k ≡ Some tree → slice_get p.patterns k ≡ Some q
+    → IsTrue (may_be_empty tree) ↔ Path (machine_by no_character p looks_hold) q 0 k 0

@@ -3,7 +3,7 @@
 
 ghost use Rattle.rx_program.specs.Closed.{PatternIsClosed, ProgramsAreClosed};
 ghost use Rattle.rx_program.specs.Owned.{ProgramsHaveOwners, ProgramsKeepPatterns};
-ghost use Rattle.rx_program.specs.Taking.{MayBeEmptyIsTold, PathsAreTaken};
+ghost use Rattle.rx_program.specs.Taking.{EmptyPathsAreTold, MayBeEmptyIsTold, PathsAreTaken, SearchesTakePaths};
 ghost use Rattle.rx_program.specs.Laws.{GroupsAreNotedWhole, MatchesNoteTheirPlaces, ProgramsAreAbovePatterns, ProgramsNoteTheirPlaces};
 
 use rx_sets::CharacterSet;
@@ -45,17 +45,22 @@ pub fn programs_are_above_patterns()
     ensures { ProgramsAreAbovePatterns }
 {}
 
-/// What the program of a pattern matches is what the pattern's tree takes: in each search of any
-/// content a path leads from a pattern's start node, from a place inside, to the end of a match of
-/// it exactly where its tree takes what stands between.
+/// What the program of a pattern matches is what the pattern's tree takes: a path leads from a
+/// pattern's start node to the end of a match of it exactly where its tree takes what stands
+/// between. So it is in any content, whatever is read there as a character of a set, and whichever
+/// looks hold; and from a place inside in each search.
 pub fn paths_are_taken()
-    ensures { PathsAreTaken }
+    ensures anywhere { PathsAreTaken }
+    ensures searches { SearchesTakePaths }
 {}
 
 /// What is said of a tree by its parts, that it may be empty, by which its program is laid out, is
-/// whether it matches where there is no character and all looks hold.
+/// whether it matches where there is no character and all looks hold; and whether a path through
+/// the program of the patterns among which it is, from its start node to its match, reads no
+/// character, whatever looks stand on it.
 pub fn may_be_empty_is_told()
-    ensures { MayBeEmptyIsTold }
+    ensures trees { MayBeEmptyIsTold }
+    ensures paths { EmptyPathsAreTold }
 {}
 
 /// The edges of the program of patterns stay with their pattern: of each node but the one above the

@@ -1,10 +1,12 @@
 //! Patterns compiled to a program.
 
-ghost use Rattle.std.specs.Prelude.{◌≡◌, ◌+◌, ◌<◌, ◌↔◌, ◌⊎◌, ◌^◌, [], ◌∷◌, ◌++◌, length, map, All, IfOk, IfErr, OnOk};
+ghost use Rattle.std.specs.Prelude.{ℕ, ◌≡◌, ◌+◌, ◌-◌, ◌*◌, ◌<◌, ◌↔◌, ◌⊎◌, ◌^◌, [], ◌∷◌, ◌++◌, length, map, All, IfOk, IfErr, IfSome, OnOk};
+ghost use Rattle.rx_grammar.specs.Trees.{numbers_of};
 ghost use Rattle.rx_grammar.specs.Postorder.{tree_of};
-ghost use Rattle.rx_grammar.specs.Weights.{pattern_weight};
-ghost use Rattle.rx_program.specs.Code.{pattern_code, program_of};
-ghost use Rattle.rx_program.specs.Sizes.{IsTooLarge, told_limit, weight_of_all};
+ghost use Rattle.rx_grammar.specs.Weights.{held, pattern_weight, size_of};
+ghost use Rattle.rx_walks.specs.Programs.{pass};
+ghost use Rattle.rx_program.specs.Code.{pattern_code, pattern_starts, patterns_code, program_of};
+ghost use Rattle.rx_program.specs.Sizes.{IsTooLarge, sum_of_weights, told_limit, weight_of_all};
 ghost use Rattle.rx_program.specs.Programs.{node_of, ReadsItsSet, characters_of, HasWalksOfProgram};
 
 use crate::compiler::{Compiler, Job};
@@ -15,6 +17,9 @@ use crate::states::State;
 use rx_grammar::Hir;
 use rx_util::{PatternID, StateID};
 use std::alloc::{AllocError, Global};
+
+/// The greatest number of a slot.
+const GREATEST_SLOT: usize = usize::MAX / 2;
 
 impl Compiler {
     /// The pattern with this number, after the states that there are: with the group of the whole
@@ -48,8 +53,67 @@ impl Compiler {
     }
 }
 
+/// How many states a pattern is, with the group of the whole match, and the end.
+fn state_count(hir: &Hir) -> usize
+    requires { pattern_weight (tree_of hir.now) < 2 ^ 63 }
+    ensures { result ≡ 3 + size_of (tree_of hir.now) }
+{
+    3 + hir.properties()[hir.nodes().len() - 1].size
+}
+
+/// Where patterns begin that stand one after the other, the first one at this state.
+fn pattern_starts(alloc: Global, hirs: &[&Hir], mut at: usize) -> Result<Vec<StateID>, AllocError>
+    requires { at + sum_of_weights (map (λ hir. tree_of hir.now) hirs.now) < 2 ^ 63 }
+    ensures { IfOk result (λ starts. starts.items
+        ≡ pattern_starts (map (λ hir. tree_of hir.now) hirs.now) at) }
+{
+    let mut starts = Vec::new(alloc);
+    for hir in hirs {
+        starts.push(StateID::new(at))?;
+        at += state_count(hir);
+    }
+    Ok(starts)
+}
+
+/// The slots that come after these and those of the groups of a pattern, if they are so few.
+fn slots_after(slots: usize, hir: &Hir) -> Option<usize>
+    ensures { IfSome result (λ more. (more ≡ slots + 2 * length (numbers_of (tree_of hir.now)))
+        × (more < 2 ^ 63)) }
+{
+    let more = slots.checked_add(2 * hir.group_count())?;
+    if more <= GREATEST_SLOT {
+        Some(more)
+    } else {
+        None
+    }
+}
+
+impl Compiler {
+    /// The patterns one after the other, after the states that there are.
+    fn patterns(&mut self, hirs: &[&Hir]) -> Result<(), AllocError>
+        requires slots { self.old.slots < 2 ^ 63 }
+        requires idle { self.old.jobs.items ≡ [] }
+        requires room { length self.old.states.items
+            + sum_of_weights (map (λ hir. tree_of hir.now) hirs.now) < 2 ^ 63 }
+        requires reads { All ReadsItsSet self.old.states.items }
+        ensures nodes { OnOk result (map node_of self.new.states.items
+            ≡ map node_of self.old.states.items ++ patterns_code self.old.slots 0
+            (map (λ hir. tree_of hir.now) hirs.now) (length self.old.states.items)) }
+        ensures reads { OnOk result (All ReadsItsSet self.new.states.items) }
+    {
+        for number in 0..hirs.len() {
+            self.pattern(hirs[number], number)?;
+            let Some(slots) = slots_after(self.slots, hirs[number]) else {
+                return Err(AllocError);
+            };
+            self.slots = slots;
+        }
+        Ok(())
+    }
+}
+
 /// The states of a pattern that stands alone.
-fn states_of(alloc: Global, hir: &Hir) -> Result<Vec<State>, AllocError>
+fn states_of_one(alloc: Global, hir: &Hir) -> Result<Vec<State>, AllocError>
     requires { pattern_weight (tree_of hir.now) < 2 ^ 63 }
     ensures nodes { IfOk result (λ states. map node_of states.items
         ≡ pattern_code 0 0 (tree_of hir.now) 0) }
@@ -60,21 +124,65 @@ fn states_of(alloc: Global, hir: &Hir) -> Result<Vec<State>, AllocError>
     Ok(compiler.states)
 }
 
-/// Where the walks of a pattern that stands alone start.
-fn first_state(alloc: Global) -> Result<Vec<StateID>, AllocError>
-    ensures { IfOk result (λ starts. starts.items ≡ 0 ∷ []) }
+/// The states of several patterns, or of none: one with ordered edges to those that begin here, and
+/// the patterns.
+fn states_of_several(
+    alloc: Global,
+    hirs: &[&Hir],
+    starts: &[StateID],
+) -> Result<Vec<State>, AllocError>
+    requires { 1 + sum_of_weights (map (λ hir. tree_of hir.now) hirs.now) < 2 ^ 63 }
+    ensures nodes { let trees = map (λ hir. tree_of hir.now) hirs.now in
+        IfOk result (λ states. map node_of states.items ≡ pass starts.now
+        ∷ patterns_code (2 * length trees - 2) 0 trees 1) }
+    ensures reads { IfOk result (λ states. All ReadsItsSet states.items) }
 {
-    let mut starts = Vec::new(alloc);
-    starts.push(StateID::ZERO)?;
-    Ok(starts)
+    let mut compiler = Compiler::new(alloc, (2 * hirs.len()).saturating_sub(2));
+    compiler.states.push(State::Union(starts.to_vec(alloc)?))?;
+    compiler.patterns(hirs)?;
+    Ok(compiler.states)
 }
 
-/// A pattern compiled to a program: for now exactly one. In each search of any content the walks of
-/// the program over bytes are those of the program over characters that the pattern stands for.
+/// The states of patterns, and where each of these begins.
+fn states_of(alloc: Global, hirs: &[&Hir]) -> Result<(Vec<State>, Vec<StateID>), AllocError>
+    requires { weight_of_all (map (λ hir. tree_of hir.now) hirs.now) < 2 ^ 63 }
+    ensures nodes { (terminator : ℕ) → IfOk result (λ made. map node_of made.0.items
+        ≡ (program_of (map (λ hir. tree_of hir.now) hirs.now) terminator).nodes) }
+    ensures starts { (terminator : ℕ) → IfOk result (λ made. made.1.items
+        ≡ (program_of (map (λ hir. tree_of hir.now) hirs.now) terminator).patterns) }
+    ensures reads { IfOk result (λ made. All ReadsItsSet made.0.items) }
+{
+    if hirs.len() == 1 {
+        let states = states_of_one(alloc, hirs[0])?;
+        return Ok((states, pattern_starts(alloc, hirs, 0)?));
+    }
+    let starts = pattern_starts(alloc, hirs, 1)?;
+    let states = states_of_several(alloc, hirs, &starts)?;
+    Ok((states, starts))
+}
+
+/// What patterns weigh together, and 1 more unless there is exactly one: `usize::MAX` where they
+/// weigh more.
+fn weight_of_all(hirs: &[&Hir]) -> usize
+    ensures { result ≡ held (weight_of_all (map (λ hir. tree_of hir.now) hirs.now)) }
+{
+    let mut weight: usize = if hirs.len() == 1 { 0 } else { 1 };
+    for hir in hirs {
+        weight = weight.saturating_add(hir.weight());
+    }
+    weight
+}
+
+/// Patterns compiled to a program. One stands alone; more, or none, stand under one state with
+/// edges to them in their order, so that of walks that start at one place those of an earlier
+/// pattern are preferred. Without a pattern it is a program that never matches. In each search of
+/// any content the walks of the program over bytes are those of the program over characters that
+/// the patterns stand for.
 ///
-/// Patterns are refused as `Size` exactly where 40 for each unit of weight is above the limit, and
-/// without one where the weight is above 2,147,483,646. This is asked before anything of that size
-/// is made. Else `Memory` may stand in place of a program.
+/// The weight of patterns is that of each in turn, and 1 more unless there is exactly one. They are
+/// refused as `Size` exactly where 40 for each unit of weight is above the limit, and without one
+/// where the weight is above 2,147,483,646. This is asked before anything of that size is made.
+/// Else `Memory` may stand in place of a program.
 ///
 /// Takes time and memory in proportion to the weight, and to the automata of its sets.
 pub fn compile(
@@ -83,7 +191,6 @@ pub fn compile(
     line_terminator: u8,
     size_limit: Option<usize>,
 ) -> Result<Program, BuildError>
-    requires { length hirs.now ≡ 1 }
     ensures program { IfOk result (λ program. characters_of program
         ≡ program_of (map (λ hir. tree_of hir.now) hirs.now) line_terminator) }
     ensures walks { IfOk result (λ program. HasWalksOfProgram program
@@ -93,14 +200,11 @@ pub fn compile(
     ensures errors { IfErr result (λ e. (e ≡ BuildError.Size (told_limit size_limit))
         ⊎ (e ≡ BuildError.Memory)) }
 {
-    let hir = hirs[0];
-    if is_too_large(hir.weight(), size_limit) {
+    if is_too_large(weight_of_all(hirs), size_limit) {
         return Err(BuildError::Size {
             limit: told_limit(size_limit),
         });
     }
-    let states = states_of(alloc, hir)?;
-    let program = Program::new(states, first_state(alloc)?, line_terminator);
-    program.walks_are_those_of_characters();
-    Ok(program)
+    let (states, starts) = states_of(alloc, hirs)?;
+    Ok(Program::new(states, starts, line_terminator))
 }

@@ -4,9 +4,7 @@ ghost use Rattle.std.specs.Prelude.{◌≡◌, All};
 ghost use Rattle.rx_program.specs.Programs.{ReadsItsSet, characters_of, IsByteProgram, HasWalksOfProgram};
 
 use crate::states::State;
-use rx_sets::CharacterSet;
 use rx_util::StateID;
-use rx_walks::laws::program_walks_agree;
 use std::alloc::Global;
 use std::marker::Model;
 
@@ -96,7 +94,6 @@ impl Program {
         ensures reads { IsByteProgram self.now }
         ensures walks { HasWalksOfProgram self.now (characters_of self.now) }
     {
-        let _states = self.states();
-        program_walks_agree::<CharacterSet>();
+        let _states = self.states(); // tells that each automaton reads its set
     }
 }

@@ -12,9 +12,7 @@ use crate::automata::ReverseAutomata;
 use crate::program::Program;
 use crate::reverse_states::ReverseState;
 use crate::states::State;
-use rx_sets::CharacterSet;
 use rx_util::{PatternID, StateID};
-use rx_walks::laws_back::program_turns_in_bytes;
 use std::alloc::{AllocError, Global};
 use std::marker::Model;
 
@@ -86,7 +84,7 @@ impl ReverseProgram {
     pub fn reads_backwards(&self)
         ensures { IsReverseByteProgram self.now }
     {
-        let _states = self.states();
+        let _states = self.states(); // tells that each automaton reads its set
     }
 }
 
@@ -248,14 +246,11 @@ impl Program {
         push_edges_back(alloc, &mut states, self.states())?;
         push_matches(&mut states, self.patterns())?;
         push_starts(alloc, &mut states, self.states(), self.patterns())?;
-        let back = ReverseProgram {
+        Ok(ReverseProgram {
             states,
             start: StateID::new(start),
             patterns: numbers_from(alloc, start + 1, self.patterns())?,
             line_terminator: self.line_terminator(),
-        };
-        back.reads_backwards();
-        program_turns_in_bytes::<CharacterSet>();
-        Ok(back)
+        })
     }
 }

@@ -109,7 +109,7 @@ only_next place i q (state.Union alternates) = tt
 only_next place i q (state.Capture slot r) = tt
 only_next place i q (state.Match k) = tt
 
-behind_reads : (place : Place) (i : ℕ) (q : ℕ × ℕ) (x : State) → width_of x ≤ q.1 → MayStand (Some x) q.1 → move_at place i q x ≡ goes []
+pub behind_reads : (place : Place) (i : ℕ) (q : ℕ × ℕ) (x : State) → width_of x ≤ q.1 → MayStand (Some x) q.1 → move_at place i q x ≡ goes []
 behind_reads place i q (state.Ranges automaton r) past may = no_byte place.byte
   where
     no_byte : (o : Option ℕ) → read_next (step_of automaton.value) q.0 r q.1 i o ≡ goes []
@@ -194,7 +194,7 @@ pub entered_new : (m : SlotMachine) (i : ℕ) (threads : List Thread) (p : ByteP
 entered_new m i threads p place ids q k x met' w w' others next next' moves here at none made way =
     follow_new m i threads (widths_of p) ids q k (move_at place i q x) (noted_at place x w.slots) met' w w' others next next' at none (moves.at_state q x here) (moves.notes q x here w.slots) (only_next place i q x) made way
 
-no_width : (first : ℕ) (states : List State) (q s : ℕ) → slice_get states q ≡ None → index_from first (map width_of states) q s ≡ None
+pub no_width : (first : ℕ) (states : List State) (q s : ℕ) → slice_get states q ≡ None → index_from first (map width_of states) q s ≡ None
 no_width first [] q s e = refl
 no_width first (y ∷ states) zero s e = absurd (cc e)
 no_width first (y ∷ states) (suc q) s e = no_width (first + width_of y) states q s e

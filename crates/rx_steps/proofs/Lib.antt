@@ -21,3 +21,9 @@ pub mod UnreadLaws
 pub mod ThinLaws
 pub mod AskedLaws
 pub mod PartLaws
+pub mod EndLaws
+pub mod AllFollowLaws
+pub mod AllComeLaws
+pub mod AllPartLaws
+pub mod AllAnswerLaws
+pub mod AllIdleLaws

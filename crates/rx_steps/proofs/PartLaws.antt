@@ -26,10 +26,10 @@ use Rattle.rx_steps.proofs.IdleLaws.{AreSkipped, SkippedStep, skipped_step, way_
 -- ---- the machine of a part
 
 -- the place at which it is cut is its last one
-part_highest : (s : Search) (e : ℕ) → e ≤ highest s → highest (up_to_place s e) ≡ e
+pub part_highest : (s : Search) (e : ℕ) → e ≤ highest s → highest (up_to_place s e) ≡ e
 part_highest s e le = omega (arith, le)
 
-inside_part : (s : Search) (e i : ℕ) → IsInside s i → i ≤ e → IsInside (up_to_place s e) i
+pub inside_part : (s : Search) (e i : ℕ) → IsInside s i → i ≤ e → IsInside (up_to_place s e) i
 inside_part s e i inside le = (inside.0, inside.1, inside.2, le, inside.4)
 
 same_byte : (content : List ℕ) (n n' i : ℕ) → i < n → i < n' → slice_get (drop i (take (min n (length content)) content)) 0 ≡ slice_get (drop i (take (min n' (length content)) content)) 0
@@ -39,7 +39,7 @@ read_alike : (step : Automaton) (q r s i : ℕ) (xs ys : List ℕ) → slice_get
 read_alike step q r s i xs ys e = reads_first step q r s i xs ∙ ap (λ o. read_next step q r s i o) e ∙ sym (reads_first step q r s i ys)
 
 -- a move without its read
-abbrev stopped : Move (ℕ × ℕ) → Move (ℕ × ℕ)
+abbrev pub stopped : Move (ℕ × ℕ) → Move (ℕ × ℕ)
 stopped (ends k) = ends k
 stopped (goes rs) = goes rs
 stopped (reads r j) = goes []
@@ -69,10 +69,10 @@ module _ (p : ByteProgram) (s : Search) where
   node_alike e i q (Some (look l r)) same = refl
   node_alike e i q (Some (set x r)) same = read_alike (automata_of p q.0) q.0 r q.1 i (left_from (haystack_in p.line_terminator s) i) (left_from (haystack_in p.line_terminator (up_to_place s e)) i) same
 
-  abbrev MovesAlike : ℕ → ℕ → Type 0
+  abbrev pub MovesAlike : ℕ → ℕ → Type 0
   MovesAlike e i = (q : ℕ × ℕ) → (machine_in p (up_to_place s e)).move i q ≡ (machine_in p s).move i q
 
-  moves_alike : (e i : ℕ) → IsInside s i → i < e → e ≤ highest s → MovesAlike e i
+  pub moves_alike : (e i : ℕ) → IsInside s i → i < e → e ≤ highest s → MovesAlike e i
   moves_alike e i inside lt le q =
       let o = slice_get (characters_of p).nodes q.0 in
       let h = haystack_in p.line_terminator s in
@@ -92,10 +92,10 @@ module _ (p : ByteProgram) (s : Search) where
   node_cut i q (Some (look l r)) none = stopped_if ((haystack_in p.line_terminator s).holds l i) ((r, 0) ∷ [])
   node_cut i q (Some (set x r)) none = ap (λ bytes. read_byte (automata_of p q.0) q.0 r q.1 i bytes) none ∙ sym (stopped_byte (automata_of p q.0) q.0 r q.1 i (left_from (haystack_in p.line_terminator s) i))
 
-  abbrev MovesStop : ℕ → Type 0
+  abbrev pub MovesStop : ℕ → Type 0
   MovesStop i = (q : ℕ × ℕ) → (machine_in p (up_to_place s i)).move i q ≡ stopped ((machine_in p s).move i q)
 
-  moves_stop : (i : ℕ) → IsInside s i → MovesStop i
+  pub moves_stop : (i : ℕ) → IsInside s i → MovesStop i
   moves_stop i inside q =
       let o = slice_get (characters_of p).nodes q.0 in
       let h = haystack_in p.line_terminator s in
@@ -123,7 +123,7 @@ module _ (p : ByteProgram) (s : Search) where
   steps_cut i stop (opened {q = q} rs new is rest) = opened rs new (stop q ∙ ap stopped is) (steps_cut i stop rest)
   steps_cut i stop (read {q = q} r new is rest) = opened [] new (stop q ∙ ap stopped is) (steps_cut i stop rest)
 
-  begins_whole : (e i : ℕ) → i ≤ s.end → Begins (up_to_place s e) i → Begins s i
+  pub begins_whole : (e i : ℕ) → i ≤ s.end → Begins (up_to_place s e) i → Begins s i
   begins_whole e i le begins = let inside = begins.0.0 in (((inside.0, inside.1, inside.2, le, inside.4), begins.0.1), begins.1)
 
   started_in_part : (q e i : ℕ) (pattern : Option ℕ) (live : ThreadListView) (threads : List Thread) → IsInside s i → i ≤ e → HasStarted s q i pattern live threads → HasStarted (up_to_place s e) q i pattern live threads

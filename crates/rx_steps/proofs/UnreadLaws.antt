@@ -1,18 +1,18 @@
 -- A step of threads without slots meets the same end where the next byte isn't read, and leaves no thread.
-use Rattle.std.proofs.Common.{◌≡◌, ℕ, ◌+◌, Bool, true, false, List, [], ◌∷◌, ◌++◌, map, Option, Some, None, slice_get, refl, sym, ap, subst, ◌∙◌}
+use Rattle.std.proofs.Common.{◌≡◌, ℕ, Bool, true, false, List, [], ◌∷◌, ◌++◌, map, Option, Some, None, slice_get, refl, sym, ap, subst, ◌∙◌}
 use Rattle.rx_program.specs.declared.states.State.{State}
 use Rattle.rx_program.specs.declared.states.State.TheVariants as state
 use Rattle.rx_program.specs.Programs.{ByteProgram, characters_of}
 use Rattle.rx_program.specs.Code.{place_of}
 use Rattle.rx_utf8.specs.Automata.{step_of}
-use Rattle.rx_walks.specs.Machines.{Machine, Move, Outcome, ends, goes, reads}
+use Rattle.rx_walks.specs.Machines.{Move, Outcome, ends, goes, reads}
 use Rattle.rx_walks.specs.Looks as walks
 use Rattle.rx_walks.specs.Programs.{Haystack, only_if}
 use Rattle.rx_walks.specs.Bytes.{Automaton, read_on}
 use Rattle.rx_walks.specs.Steps.{Steps, done, passed, met, opened, read}
 use Rattle.rx_steps.specs.declared.place.Place.{Place}
 use Rattle.rx_steps.specs.Threads.{Slots, Thread, first_node}
-use Rattle.rx_steps.specs.Lists.{IsPlace, is_among, met_at, move_at, read_next, slot_machine}
+use Rattle.rx_steps.specs.Lists.{IsPlace, is_among, move_at, read_next, slot_machine}
 use Rattle.rx_steps.specs.Alike.{AreBare}
 use Rattle.rx_steps.specs.Unread.{EndsAreMetUnread}
 use Rattle.rx_steps.proofs.PlaceLaws.{moves_at_place}

@@ -67,7 +67,7 @@ no_read step h i j q r (Some (set x r')) none e = nowhere (sym (ap (λ bytes. re
     nowhere : goes [] ≡ reads r j → ⊥
     nowhere g = absurd (cc g)
 
-none_within : {L S : Type 0} (b : Bool) (step : ℕ → Automaton) (h : Haystack L) (i j : ℕ) (q r : ℕ × ℕ) (o : Option (Node L S)) → left_from h i ≡ [] → only_if b (by_byte step h i q.0 q.1 o) ≡ reads r j → ⊥
+pub none_within : {L S : Type 0} (b : Bool) (step : ℕ → Automaton) (h : Haystack L) (i j : ℕ) (q r : ℕ × ℕ) (o : Option (Node L S)) → left_from h i ≡ [] → only_if b (by_byte step h i q.0 q.1 o) ≡ reads r j → ⊥
 none_within true step h i j q r o none e = no_read step h i j q r o none e
 none_within false step h i j q r o none e = absurd (cc e)
 

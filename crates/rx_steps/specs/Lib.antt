@@ -2,12 +2,15 @@ pub mod Nodes
 pub mod Threads
 pub mod Frames
 pub mod Lists
+pub mod ListsAll
 pub mod Alike
 pub mod Unread
 pub mod Asked
 pub mod Sides
 pub mod Searching
+pub mod SearchingAll
 pub mod Standing
 pub mod Idle
 pub mod Caches
 pub mod Coming
+pub mod ComingAll

@@ -93,7 +93,7 @@ noted_at place _ slots = slots
 abbrev pub IsMade : Move (ℕ × ℕ) → Slots → Option ℕ → Waiting → Waiting → List Thread → List Thread
     → Type 0
 IsMade (ends k) noted met w w' next next' =
-    (met ≡ Some k) × (w'.slots ≡ w.slots) × (next' ≡ next)
+    (met ≡ Some k) × (w'.slots ≡ w.slots) × (next' ≡ next) × (w'.threads ≡ w.threads)
 IsMade (goes rs) noted met w w' next next' =
     (met ≡ None) × (w'.threads ≡ map (λ r. (noted, r)) rs ++ w.threads) × (next' ≡ next)
 IsMade (reads r j) noted met w w' next next' =

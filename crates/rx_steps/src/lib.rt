@@ -2,6 +2,7 @@
 //! side.
 #![tactic(auto)]
 
+mod all_walks;
 mod asked;
 mod followed;
 mod idle;
@@ -11,6 +12,7 @@ mod pending;
 mod place;
 mod search;
 mod sides;
+mod started;
 mod stepper;
 mod thread_list;
 mod visited;
@@ -19,6 +21,7 @@ pub use asked::AskedLooks;
 pub use idle::last_place;
 pub use node::Node;
 pub use place::{Looks, Place};
-pub use search::{Cache, begins, enter, search_slots, start_state};
+pub use search::{Cache, begins, enter, search_all, search_slots, start_state};
+pub use started::{MetEnd, StartedNode};
 pub use stepper::Stepper;
 pub use thread_list::ThreadList;

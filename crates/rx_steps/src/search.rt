@@ -17,10 +17,12 @@ ghost use Rattle.rx_steps.specs.Idle.{IsPassedAt};
 ghost use Rattle.rx_steps.specs.Threads.{Slots, IsThreadOf, no_slots, first_node};
 ghost use Rattle.std.specs.Option.{ForSome};
 ghost use Rattle.rx_steps.specs.Searching.{search_of, anchoring_of, IsAnswerAt};
+ghost use Rattle.rx_steps.specs.SearchingAll.{IsAnswerAllAt};
 ghost use Rattle.rx_steps.specs.Standing.{StopsAt};
 ghost use Rattle.rx_steps.specs.Caches.{AreOfProgram, IsCacheOf, place_count};
 ghost use Rattle.rx_steps.specs.Coming.{machine_in, HasStarted, IsUnderWay, IsUnderWayInParts, IsOver, IsOverAt, IsStopped, KeepsFirst, StandsSince};
 
+use crate::all_walks::AllWalks;
 use crate::asked::AskedLooks;
 use crate::idle::{IdleBytes, last_place, skip};
 use crate::node::Node;
@@ -30,8 +32,11 @@ use crate::thread_list::ThreadList;
 use rx_input::{Cursor, Input};
 use rx_program::Program;
 use rx_sets::CharacterSet;
-use rx_util::{Anchored, MatchError, NonMaxUsize, PatternID, StateID};
-use rx_walks::laws::program_is_searched_keeping;
+use rx_util::{Anchored, Match, MatchError, NonMaxUsize, PatternID, StateID};
+use rx_walks::laws::{
+    finds_all_at_most_one, finds_exist, program_is_searched_for_all, program_is_searched_keeping,
+};
+use rx_walks::laws_all::finds_agree;
 use std::alloc::{AllocError, Global};
 use std::marker::Model;
 use std::mem;
@@ -64,7 +69,7 @@ pub fn enter<C: Cursor>(input: &mut Input<C>) -> bool
 }
 
 /// Moves an input to the next place inside its span, its slice and its content, if there is one.
-fn advance<C: Cursor>(input: &mut Input<C>) -> bool
+pub(crate) fn advance<C: Cursor>(input: &mut Input<C>) -> bool
     ensures next { result ≡ true → input.new.position ≡ input.old.position + 1 }
     ensures inside { result ≡ true → (utf8_empty : Bool)
         → IsInside (search_of utf8_empty input.old) input.old.position
@@ -121,12 +126,12 @@ fn came_to_nothing(
 
 /// Walks through a program that are followed side by side, from place to place.
 #[derive(Debug, Drop)]
-struct Walks {
-    stepper: Stepper,
+pub(crate) struct Walks {
+    pub(crate) stepper: Stepper,
     // Whether the program asks for looks.
-    asks_looks: bool,
+    pub(crate) asks_looks: bool,
     // Bytes before which no match begins, as far as searches have met them.
-    idle: IdleBytes,
+    pub(crate) idle: IdleBytes,
     // The threads at the place, in order of preference.
     live: ThreadList,
     // Room for those at the next place.
@@ -347,6 +352,8 @@ impl Walks {
 #[derive(Debug, Drop)]
 pub struct Cache {
     walks: Walks,
+    // Those of searches for all matches.
+    all: AllWalks,
 }
 
 impl Model for Cache {
@@ -378,6 +385,7 @@ impl Cache {
                 next: ThreadList::new(alloc, 0),
                 met: None,
             },
+            all: AllWalks::new(alloc),
         })
     }
 
@@ -397,6 +405,7 @@ impl Cache {
                 next: ThreadList::new(alloc, 0),
                 met: None,
             },
+            all: AllWalks::new(alloc),
         })
     }
 
@@ -421,6 +430,7 @@ impl Cache {
             .memory_usage()
             .saturating_add(self.walks.live.memory_usage())
             .saturating_add(self.walks.next.memory_usage())
+            .saturating_add(self.all.memory_usage())
     }
 }
 
@@ -480,4 +490,49 @@ pub fn search_slots<C: Cursor>(
         }
     };
     Ok(pattern)
+}
+
+/// Searches where all matches are wanted: answers the match of the greatest end, of those the one
+/// of the least start, and of those the one of the least pattern. `utf8_empty` passes over empty
+/// matches inside a character. The cache must be one for searches with the program, and still is
+/// one afterwards. The one refusal is `Memory`.
+///
+/// With `earliest` it stops at the first end of a match: the answer tells whether there is one, and
+/// is what is found up to that place. Without it a search that isn't anchored goes through all of
+/// its span. It follows each node of the program once at most at each place, which takes time in
+/// proportion to the edges of that node.
+pub fn search_all<C: Cursor>(
+    program: &Program,
+    cache: &mut Cache,
+    input: &mut Input<C>,
+    utf8_empty: bool,
+    earliest: bool,
+) -> Result<Option<Match>, MatchError>
+    requires made { IsCacheOf program.now cache.old }
+    ensures answer { IfOk result (λ found. IsAnswerAllAt earliest program.now
+        (search_of utf8_empty input.old) input.new.position found) }
+    ensures made { IsCacheOf program.now cache.new }
+    ensures work { cache.new.followed ≤ cache.old.followed
+        + node_count program.now * place_count (search_of utf8_empty input.old) }
+    ensures same { IsSameContent input.old.cursor input.new.cursor }
+    ensures asked { input.new.asked ≡ input.old.asked }
+    ensures refused { IfErr result (λ error. error ≡ MatchError.Memory) }
+{
+    let Some(start) = start_state(program, input.get_anchored()) else {
+        return Ok(None);
+    };
+    // Laws, for the proof alone.
+    program.walks_are_those_of_characters();
+    program_is_searched_for_all::<CharacterSet>();
+    finds_agree::<CharacterSet>();
+    finds_exist::<CharacterSet>();
+    finds_all_at_most_one::<CharacterSet>();
+    if !enter(input) {
+        return Ok(None);
+    }
+    let walks = &mut cache.walks;
+    let all = &mut cache.all;
+    // Bound, for the proof alone: the answer tells of where the input stands then.
+    let found = all.follow(walks, program, input, start, utf8_empty, earliest)?;
+    Ok(found)
 }

@@ -9,10 +9,12 @@ ghost use Rattle.rx_utf8.specs.Automata.{step_of};
 ghost use Rattle.rx_steps.specs.Nodes.{widths_of, node_count, IsNodeOf, MayStand, AreCounted};
 ghost use Rattle.rx_steps.specs.Threads.{Slots, Thread, Waiting, IsThreadOf};
 ghost use Rattle.rx_steps.specs.Lists.{IsNextList, IsMade, move_at, noted_at, fan_of, MakesMoves, AreUnderWay, AreFollowed, IsThinning, read_next, work_left};
+ghost use Rattle.rx_steps.specs.ListsAll.{FollowsAll, IsNextListAll, IsStartedOf, nodes_of, end_of};
 
 use crate::node::Node;
 use crate::pending::Pending;
 use crate::place::Place;
+use crate::started::{MetEnd, StartedNode, better, met_end, push_started};
 use crate::thread_list::ThreadList;
 use crate::visited::Visited;
 use rx_program::{Program, State};
@@ -131,6 +133,10 @@ impl Closure {
             ((self.old.pending.slots, node) ∷ self.old.pending.threads ++ others) next.old.threads
             → AreFollowed m i threads (widths_of program.now) self.new.visited.ids
             (self.new.pending.threads ++ others) next.new.threads self.new.pending.slots met) }
+        ensures all { IfOk result (λ met. (start : ℕ) → FollowsAll program.now place.now start
+            (node ∷ nodes_of self.old.pending.threads) (nodes_of self.new.pending.threads)
+            self.old.visited.ids self.new.visited.ids next.old.threads next.new.threads
+            (end_of start met)) }
         ensures threads { OnOk result (All (IsThreadOf program.now.states) next.old.threads
             → All (IsThreadOf program.now.states) next.new.threads) }
         ensures widths { self.new.visited.widths ≡ self.old.visited.widths }
@@ -195,6 +201,41 @@ impl Closure {
 }
 
 impl Closure {
+    /// Follows a walk and all to which empty edges lead from it, past ends of matches too: answers
+    /// the best end that is met.
+    fn follow_all(
+        &mut self,
+        program: &Program,
+        place: &Place,
+        from: StartedNode,
+        next: &mut ThreadList,
+    ) -> Result<Option<MetEnd>, AllocError>
+        requires made { self.old.visited.widths ≡ widths_of program.now }
+        requires node { IsNodeOf program.now.states from.1 }
+        requires slots { next.old.slot_len ≡ 0 }
+        ensures followed { IfOk result (λ met. FollowsAll program.now place.now from.0
+            (from.1 ∷ []) [] self.old.visited.ids self.new.visited.ids next.old.threads
+            next.new.threads met) }
+        ensures threads { OnOk result (All (IsThreadOf program.now.states) next.old.threads
+            → All (IsThreadOf program.now.states) next.new.threads) }
+        ensures widths { self.new.visited.widths ≡ self.old.visited.widths }
+        ensures counted { AreCounted self.old.visited self.new.visited }
+        ensures room { length self.old.visited.ids ≤ node_count program.now
+            → length self.new.visited.ids ≤ node_count program.now }
+        ensures slot_len { next.new.slot_len ≡ next.old.slot_len }
+    {
+        self.pending.begin(&[])?;
+        let start = from.start();
+        let mut best = met_end(start, self.enter(program, place, from.node(), next)?);
+        while let Some(state) = self.pending.pop() {
+            let met = self.enter(program, place, Node::first(state), next)?;
+            best = better(best, met_end(start, met));
+        }
+        Ok(best)
+    }
+}
+
+impl Closure {
     /// Puts out a thread, unless one stood at its node before.
     fn put_first(
         &mut self,
@@ -231,6 +272,8 @@ impl Closure {
 #[derive(Debug, Drop)]
 pub struct Stepper {
     closure: Closure,
+    // Room for the nodes to which one walk leads where all are followed.
+    reached: ThreadList,
 }
 
 impl Model for Stepper {
@@ -257,6 +300,7 @@ impl Stepper {
                 visited: Visited::new(alloc, program)?,
                 pending: Pending::new(alloc),
             },
+            reached: ThreadList::new(alloc, 0),
         })
     }
 
@@ -272,6 +316,7 @@ impl Stepper {
                 visited: self.closure.visited.another()?,
                 pending: Pending::new(self.allocator()),
             },
+            reached: ThreadList::new(self.allocator(), 0),
         })
     }
 
@@ -286,6 +331,7 @@ impl Stepper {
             .visited
             .memory_usage()
             .saturating_add(self.closure.pending.memory_usage())
+            .saturating_add(self.reached.memory_usage())
     }
 
     /// The slots of the match whose end the last step met, if it met one.
@@ -331,6 +377,47 @@ impl Stepper {
         }
         Ok(None)
     }
+
+    /// Puts into `next` all walks at the next place that stand as these do here, each with where it
+    /// began: an end of a match cuts none. Of the ends that are met it answers the best: the one of
+    /// the least start, then of the least pattern. A node is followed once at a place, for the walk
+    /// that is first in the list; nothing is noted. The one refusal is `Memory`; what `next` then
+    /// holds has no meaning.
+    ///
+    /// It follows each node once at most, and takes time in proportion to the edges of those that
+    /// it follows, and no memory but what the program asks for. Its definition speaks of any
+    /// machine, and places and walks know of no direction: a step back, over a program turned
+    /// round, differs in the states that it reads, and there all walks begin at one place.
+    pub fn next_list_all(
+        &mut self,
+        program: &Program,
+        place: &Place,
+        threads: &[StartedNode],
+        next: &mut Vec<StartedNode>,
+    ) -> Result<Option<MetEnd>, MatchError>
+        requires made { self.old.widths ≡ widths_of program.now }
+        requires threads { All (IsStartedOf program.now.states) threads.now }
+        ensures list { IfOk result (λ met. IsNextListAll program.now place.now threads.now
+            next.new.items met) }
+        ensures threads { OnOk result (All (IsStartedOf program.now.states) next.new.items) }
+        ensures made { self.new.widths ≡ self.old.widths }
+        ensures work { self.new.followed ≤ self.old.followed + node_count program.now }
+        ensures refused { IfErr result (λ error. error ≡ MatchError.Memory) }
+    {
+        self.closure.visited.clear();
+        next.clear();
+        let mut best = None;
+        for thread in threads {
+            self.reached.clear(0);
+            let met = self
+                .closure
+                .follow_all(program, place, *thread, &mut self.reached)?;
+            push_started(next, thread.start(), &self.reached)?;
+            best = better(best, met);
+        }
+        Ok(best)
+    }
+
     /// Puts into `thin` these threads without those that stand at a node at which one stood before:
     /// a step follows each node once, so these come to nothing more. The one refusal is `Memory`;
     /// what `thin` then holds has no meaning. `O(n)` in the threads and their slots.

@@ -1,6 +1,6 @@
 //! Engines of `rx_chunk`: a match with its groups, all matches, and settings.
 
-use rx_chunk::pikevm::{self, Config, PikeVM};
+use rx_chunk::pikevm::{self, Builder, Config, PikeVM};
 use rx_input::{ChunkCursor, Input};
 use rx_util::{MatchKind, Span};
 use std::test::Fail;
@@ -50,12 +50,26 @@ fn where_searches_stop(rt: HostRuntime) -> Result<(), Fail> {
 
 /// A setting that isn't set is the default, and one that is set is told.
 #[test]
-fn settings(rt: HostRuntime) {
+fn settings(rt: HostRuntime) -> Result<(), Fail> {
     let config = Config::new().line_terminator(b';').utf8_empty(false);
-    let config = config.match_kind(MatchKind::LeftmostFirst);
+    let config = config.match_kind(MatchKind::LeftmostFirst).clone()?;
     assert!(rt; config.get_match_kind() == MatchKind::LeftmostFirst);
     assert!(rt; !config.get_utf8_empty() && config.get_line_terminator() == b';');
     let config = Config::default();
     assert!(rt; config.get_match_kind() == MatchKind::LeftmostFirst);
     assert!(rt; config.get_utf8_empty() && config.get_line_terminator() == b'\n');
+    Ok(())
+}
+
+/// A builder and its clone build the same, and a clone of a cache serves as its source does.
+#[test]
+fn clones(rt: HostRuntime) -> Result<(), Fail> {
+    let mut builder = Builder::new();
+    builder.configure(Config::new().utf8_empty(false));
+    let vm = builder.clone()?.build(rt.alloc(), "a*")?;
+    let mut cache = vm.create_cache()?.clone()?;
+    let mut input = Input::new("\u{e9}").range(1..2);
+    let found = pikevm::find(&vm, &mut cache, &mut input)?;
+    assert_eq!(rt; found.map(|m| m.span()), Some(Span { start: 1, end: 1 }));
+    Ok(())
 }

@@ -3,6 +3,8 @@
 #![tactic(auto)]
 
 #[cfg(test)]
+mod all;
+#[cfg(test)]
 mod chunk;
 #[cfg(test)]
 mod grammar;

@@ -6,7 +6,9 @@ ghost use Rattle.regex_cursor.specs.Regexes.{IsCacheOf};
 use regex_cursor::engines::meta::{Builder, Cache, CapturesMatches, FindMatches, Regex, Split};
 use regex_cursor::engines::pikevm::{self, PikeVM};
 use regex_cursor::util::syntax;
-use regex_cursor::{BuildError, ChunkCursor, Cursor, Input, Match, MatchError, RopeyCursor, Span};
+use regex_cursor::{
+    BuildError, ChunkCursor, Cursor, Input, Match, MatchError, NonMaxUsize, RopeyCursor, Span,
+};
 use ropey::Rope;
 use std::alloc::Global;
 use std::test::Fail;
@@ -107,10 +109,11 @@ fn captures_matches(rt: HostRuntime) -> Result<(), Fail> {
 /// Why there is no regex: here the pattern isn't in the grammar.
 #[test]
 fn builder(rt: HostRuntime) -> Result<(), Fail> {
-    let re = Builder::new().build(rt.alloc(), "(a)|b")?;
+    let re = Builder::new().clone()?.build(rt.alloc(), "(a)|b")?;
     assert!(rt; re.pattern_len() == 1);
     assert!(rt; re.captures_len() == 2);
     assert!(rt; re.group_info().slot_len() == 4);
+    assert!(rt; re.is_match(Input::new("b"))?);
     let refused: Option<BuildError> = Regex::builder().build(rt.alloc(), "(").err();
     assert!(rt; refused.is_some_and(|error| error.syntax_error().is_some()));
     Ok(())
@@ -161,6 +164,46 @@ fn cache(rt: HostRuntime) -> Result<(), Fail> {
     assert!(rt; found.0 == Some(Span { start: 2, end: 3 }));
     assert!(rt; found.1 == Some(Span { start: 1, end: 2 }));
     assert!(rt; first.create_cache()?.memory_usage() > 0);
+    Ok(())
+}
+
+/// The places of the match that comes next in an input with a cache which is lent.
+fn next_with(
+    re: &Regex,
+    cache: &mut Cache,
+    input: &mut Input<&str>,
+    last: Option<usize>,
+) -> Result<[Option<NonMaxUsize>; 2], MatchError>
+    requires { IsCacheOf re.now cache.old }
+    ensures { IsCacheOf re.now cache.new }
+{
+    let mut slots = [None; 2];
+    if re.pattern_len() == 1 {
+        re.next_slots_with(cache, input, &mut slots, last)?;
+    }
+    Ok(slots)
+}
+
+fn next_after(re: &Regex, input: &mut Input<&str>, last: usize) -> Result<bool, MatchError> {
+    let mut cache = re.create_cache()?;
+    let slots = next_with(re, &mut cache, input, Some(last))?;
+    Ok(slots == [NonMaxUsize::new(3), NonMaxUsize::new(3)])
+}
+
+/// An empty match where the last match ended is passed over, and the one behind it found.
+#[test]
+fn next_slots_with(rt: HostRuntime) -> Result<(), Fail> {
+    let re = Regex::new(rt.alloc(), "x*")?;
+    let mut input = Input::new("x-b").range(2..);
+    assert!(rt; next_after(&re, &mut input, 2)?);
+    Ok(())
+}
+
+/// Parts are counted.
+#[test]
+fn counted_parts(rt: HostRuntime) -> Result<(), Fail> {
+    let re = Regex::new(rt.alloc(), ",")?;
+    assert!(rt; re.split(Input::new("a,b,c"))?.count() == 3);
     Ok(())
 }
 

@@ -1,5 +1,8 @@
 -- The groups of patterns, and the slots in which a search notes them.
-use Rattle.std.specs.Prelude.{◌≡◌, ℕ, ◌+◌, ◌*◌, List, map, length, take, sum_by, zero, suc, nat_lt, unwrap_or, if◌then◌else◌, Option, Some, None, option_map, slice_get, String, string_bytes, Vec}
+use Rattle.std.specs.Prelude.{◌≡◌, ℕ, ◌+◌, ◌*◌, List, [], map, replicate, length, take, sum_by, zero, suc, nat_lt, unwrap_or, if◌then◌else◌, Option, Some, None, option_map, slice_get, String, string_bytes, Vec}
+use Rattle.rx_util.specs.declared.captures.WhichCaptures.{WhichCaptures}
+use Rattle.rx_util.specs.declared.captures.WhichCaptures.TheVariants as which
+use Rattle.rx_util.specs.declared.captures.WhichCaptures.TheVariants.{All, Implicit}
 use Rattle.std.specs.Option.{option_map_or, option_and_then}
 
 -- the name of a group, as its UTF-8
@@ -51,3 +54,9 @@ slot_place groups p (suc k) = 2 * (length groups + further_groups (take p groups
 -- the first of the two slots of a group, if there is the group
 abbrev pub first_slot : Groups → ℕ → ℕ → Option ℕ
 first_slot groups p g = if nat_lt g (group_len groups p) then Some (slot_place groups p g) else None
+
+-- the groups that are noted: all of them, or the groups 0 alone
+abbrev pub noted_groups : WhichCaptures → Groups → Groups
+noted_groups All groups = groups
+noted_groups Implicit groups = replicate (length groups) []
+noted_groups which.None groups = replicate (length groups) []

@@ -1,9 +1,9 @@
 //! Groups of patterns, their slots, and what a search notes in them.
 
-ghost use Rattle.std.specs.Prelude.{ℕ, ◌≡◌, ◌+◌, ◌*◌, ◌^◌, ◌<◌, ◌≤◌, ◌↔◌, List, length, map, replicate, Option, Some, None, IsTrue, IsSome, IfOk, IfErr, MatchOption, option_map, slice_get, string_bytes};
+ghost use Rattle.std.specs.Prelude.{ℕ, ◌≡◌, [], ◌+◌, ◌*◌, ◌^◌, ◌<◌, ◌≤◌, ◌↔◌, List, length, map, replicate, Option, Some, None, IsTrue, IsSome, IfOk, IfErr, IfSome, MatchOption, option_map, slice_get, string_bytes};
 ghost use Rattle.std.specs.Option.{option_copied, ForSome};
 ghost use Rattle.rx_util.specs.declared.search.MatchError.{MatchError};
-ghost use Rattle.rx_util.specs.Groups.{names_of, named_groups, name_among, group_len, name_of, HasDistinctNames, slot_len, first_slot};
+ghost use Rattle.rx_util.specs.Groups.{names_of, named_groups, name_among, group_len, name_of, HasDistinctNames, slot_len, first_slot, noted_groups};
 
 use crate::primitives::{NonMaxUsize, PatternID};
 use crate::search::{Match, MatchError, Span};
@@ -111,20 +111,63 @@ impl Clone for GroupInfo {
     }
 }
 
+/// How many slots there are with those of further groups, if a `usize` tells it.
+fn slots_after(slots: usize, groups: usize) -> Option<usize>
+    ensures { IfSome result (λ more. (more ≡ slots + 2 * groups) × (more < 2 ^ 64)) }
+{
+    slots.checked_add(groups.checked_mul(2)?)
+}
+
+/// So many patterns without a further group.
+fn without_further_groups(
+    alloc: Global,
+    count: usize,
+) -> Result<Vec<Vec<Option<String>>>, AllocError>
+    ensures { IfOk result (λ names. named_groups names.items ≡ replicate count []) }
+{
+    let mut names = Vec::new(alloc);
+    for _ in 0..count {
+        names.push(Vec::new(alloc))?;
+    }
+    Ok(names)
+}
+
 impl GroupInfo {
+    /// The groups of patterns that are noted, given as for `new`: all of them, and under `Implicit`
+    /// and `None` the groups 0 alone. It is refused as `new` is. `O(n)` in the number of patterns.
+    pub fn noted(
+        alloc: Global,
+        which: WhichCaptures,
+        names: Vec<Vec<Option<String>>>,
+    ) -> Result<GroupInfo, AllocError>
+        requires distinct { HasDistinctNames (named_groups names.items) }
+        ensures { IfOk result (λ info. info ≡ noted_groups which (named_groups names.items)) }
+    {
+        match which {
+            WhichCaptures::All => GroupInfo::new(alloc, names),
+            WhichCaptures::Implicit | WhichCaptures::None => {
+                GroupInfo::new(alloc, without_further_groups(alloc, names.len())?)
+            }
+        }
+    }
+
     /// The groups of patterns, given for each pattern the names of its groups from group 1 on. No
-    /// two groups of a pattern have one name, and the number of slots fits a `usize`. `O(n)` in
-    /// the number of patterns.
+    /// two groups of a pattern have one name. It is refused for want of memory, also where a
+    /// `usize` doesn't tell how many slots there are. `O(n)` in the number of patterns.
     pub fn new(alloc: Global, names: Vec<Vec<Option<String>>>) -> Result<GroupInfo, AllocError>
         requires distinct { HasDistinctNames (named_groups names.items) }
-        requires fits { slot_len (named_groups names.items) < 2 ^ 64 }
         ensures { IfOk result (λ info. info ≡ named_groups names.items) }
     {
         let mut starts = Vec::new(alloc);
-        let mut slot_len = 2 * names.len();
+        let Some(mut slot_len) = slots_after(0, names.len()) else {
+            return Err(AllocError);
+        };
         for pattern in &names {
             starts.push(slot_len)?;
-            slot_len += 2 * pattern.len();
+            let Some(more) = slots_after(slot_len, pattern.len()) else {
+                return Err(AllocError);
+            };
+            slot_len = more;
         }
         let inner = Rc::new(
             alloc,

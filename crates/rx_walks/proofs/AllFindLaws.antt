@@ -20,7 +20,7 @@ path_read content at_whole (at_end is) = inl refl
 path_read content at_whole (by_edge rs r k is at path) = path_read content at_whole path
 path_read content at_whole (by_read {q = q} {i = i} r j is path) = inr (at_whole i j q r is)
 
-begins_all : {Q N : Type 0} {m : Machine Q N} {fresh : ℕ → N} {s : Search} {q : Q} {a : PatternMatch} → ((i j : ℕ) (q r : Q) → m.move i q ≡ reads r j → IsCharBoundary s.content i) → CountsAmongAll m fresh s q a
+pub begins_all : {Q N : Type 0} {m : Machine Q N} {fresh : ℕ → N} {s : Search} {q : Q} {a : PatternMatch} → ((i j : ℕ) (q r : Q) → m.move i q ≡ reads r j → IsCharBoundary s.content i) → CountsAmongAll m fresh s q a
     → Begins s a.start
 begins_all {s = s} at_whole counts = (
   counts.possible,

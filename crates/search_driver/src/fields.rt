@@ -114,12 +114,22 @@ impl<'a> Fields<'a> {
         }
     }
 
-    /// The pattern, which is the first field behind the word.
-    pub fn pattern(&self, alloc: Global) -> Result<String, Fault> {
-        match String::from_utf8(self.bytes(alloc, 1)?) {
-            Ok(pattern) => Ok(pattern),
+    /// The text that these hexadecimal digits spell.
+    pub fn text(alloc: Global, digits: &str) -> Result<String, Fault> {
+        let bytes = match hex::decode(alloc, digits) {
+            Ok(bytes) => bytes,
+            Err(FromHexError::OutOfMemory) => return Err(Fault::Memory),
+            Err(_) => return Err(Fault::Line),
+        };
+        match String::from_utf8(bytes) {
+            Ok(text) => Ok(text),
             Err(_) => Err(Fault::Line),
         }
+    }
+
+    /// The pattern, which is the first field behind the word.
+    pub fn pattern(&self, alloc: Global) -> Result<String, Fault> {
+        Fields::text(alloc, self.word(1))
     }
 
     /// The settings that the pattern is read under.

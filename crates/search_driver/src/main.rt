@@ -29,6 +29,13 @@
 //!   `advance_half,..` where each ends, as calls of a `Searcher` tell them.
 //! - `slots,PATTERN,SETTINGS,CUT,HAYSTACK,ASKED,INSIDE,COUNT`: what the first match notes in so
 //!   many slots.
+//! - `all,PATTERNS,SETTINGS,CUT,HAYSTACK,ASKED,INSIDE,EARLIEST,AGAIN`: of all matches of several
+//!   patterns, parted by dots (a dash stands for no pattern), the one of the greatest end, then of
+//!   the least start, then of the least pattern, as its pattern, start and end, or `none`. Any
+//!   match will do where `EARLIEST` is 1, and the cache serves a second time where `AGAIN` is 1.
+//! - `several,PATTERNS,SETTINGS,CUT,HAYSTACK,ASKED`: all matches of several patterns, each with the
+//!   number of its pattern where there are two or more, by a `Regex` of them; the first of them
+//!   must be found by each other engine too. It has no settings: these fields aren't read.
 //! - `regex,PATTERN,SETTINGS,CUT,HAYSTACK,ASKED`: all matches, with their groups, by a `Regex`. It
 //!   has no settings: these fields aren't read.
 //! - `rope,PATTERN,SETTINGS,CUT,HAYSTACK,ASKED,START,END,AT,TIMES`: the same in the part from the
@@ -43,6 +50,9 @@
 //!   served so many searches before. It has no settings either.
 //! - `dense,PATTERN,SETTINGS,CUT,HAYSTACK,ASKED,TIMES`: the same by one all of whose states are
 //!   made before.
+//! - `warm,PATTERN,ENGINE,HAYSTACK,LENGTH`: where the first match ends in so many bytes of the
+//!   haystack, by an engine, `pikevm`, `hybrid`, `dfa` or `meta`, that has searched the first four
+//!   of them before with the same cache.
 //! - `pieces,CUT,HAYSTACK`: the pieces that a cursor shows.
 //! - `chunks,CUT,HAYSTACK,START,END,AT`: those that a cursor over such a part of a rope shows.
 //! - `places,CUT,HAYSTACK,ASKED,TERMINATOR`: what is seen at each place of the slice, where lines
@@ -56,6 +66,7 @@
 #![tactic(auto)]
 
 mod automata;
+mod every;
 mod fields;
 mod haystacks;
 mod inputs;
@@ -68,7 +79,9 @@ mod ropes;
 mod searchers;
 mod searches;
 mod sets;
+mod several;
 mod slots;
+mod warm;
 
 use fields::{Fault, Fields};
 use std::alloc::Global;
@@ -89,10 +102,13 @@ fn answer(alloc: Global, line: &str) -> Result<String, Fault> {
         "search" => searches::matches(alloc, &fields),
         "advance" | "advance_half" => searchers::matches(alloc, &fields),
         "slots" => slots::noted(alloc, &fields),
+        "all" => every::found(alloc, &fields),
+        "several" => several::matches(alloc, &fields),
         "regex" => regexes::in_pieces(alloc, &fields),
         "rope" | "counts" | "split" => regexes::in_rope(alloc, &fields),
         "lazy" => automata::lazy(alloc, &fields),
         "dense" => automata::dense(alloc, &fields),
+        "warm" => warm::end(alloc, &fields),
         "pieces" => inputs::pieces(alloc, &fields),
         "chunks" => inputs::chunks(alloc, &fields),
         "places" => inputs::places(alloc, &fields),

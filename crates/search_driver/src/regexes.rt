@@ -216,6 +216,44 @@ fn found_with<C: Cursor>(
     }
 }
 
+/// How many matches so many calls of `next` of `find_iter` give, and how many `count` tells then.
+fn count_found<C: Cursor + Drop>(
+    re: &Regex,
+    input: Input<C>,
+    calls: usize,
+) -> Result<(usize, usize), Fault> {
+    let mut found = re.find_iter(input)?;
+    let mut given = 0_usize;
+    for _ in 0..calls {
+        if found.next().is_some() {
+            given = given.saturating_add(1);
+        }
+    }
+    if found.regex().captures_len() != re.captures_len() {
+        return Err(Fault::Differs);
+    }
+    Ok((given, found.count()))
+}
+
+/// The same of `captures_iter`.
+fn count_captured<C: Cursor + Drop>(
+    re: &Regex,
+    input: Input<C>,
+    calls: usize,
+) -> Result<(usize, usize), Fault> {
+    let mut captured = re.captures_iter(input)?;
+    let mut given = 0_usize;
+    for _ in 0..calls {
+        if captured.next().is_some() {
+            given = given.saturating_add(1);
+        }
+    }
+    if captured.regex().captures_len() != re.captures_len() {
+        return Err(Fault::Differs);
+    }
+    Ok((given, captured.count()))
+}
+
 /// Of `find_iter` and of `captures_iter`, how many matches so many calls of `next` give, and how
 /// many `count` tells then.
 fn counts<C: Cursor + Clone + Drop>(
@@ -227,27 +265,9 @@ fn counts<C: Cursor + Clone + Drop>(
     requires infallible { (c : C) → C.is_infallible c }
     requires equal { (c d : C) → C.is_clone c d → d ≡ c }
 {
-    let mut found = re.find_iter(input.clone())?;
-    let mut captured = re.captures_iter(input.clone())?;
-    let mut given = (0_usize, 0_usize);
-    for _ in 0..calls {
-        if found.next().is_some() {
-            given.0 = given.0.saturating_add(1);
-        }
-        if captured.next().is_some() {
-            given.1 = given.1.saturating_add(1);
-        }
-    }
-    if found.regex().captures_len() != captured.regex().captures_len() {
-        return Err(Fault::Differs);
-    }
-    Ok(format!(in alloc;
-        "{} {} {} {}",
-        given.0,
-        found.count(),
-        given.1,
-        captured.count()
-    )?)
+    let found = count_found(re, input.clone(), calls)?;
+    let captured = count_captured(re, input.clone(), calls)?;
+    Ok(format!(in alloc; "{} {} {} {}", found.0, found.1, captured.0, captured.1)?)
 }
 
 /// The parts between matches, at most so many where a limit is told.

@@ -1,6 +1,6 @@
 //! All matches of a pattern in a haystack that lies in pieces.
 
-ghost use Rattle.std.specs.Prelude.{◌≡◌, ◌^◌, ◌<◌, ◌≤◌, OnOk, length};
+ghost use Rattle.std.specs.Prelude.{◌≡◌, ◌*◌, ◌^◌, ◌<◌, ◌≤◌, OnOk, length};
 ghost use Rattle.rx_steps.specs.Caches.{IsCacheOf};
 ghost use Rattle.rx_input.specs.Chunks.{joined};
 
@@ -107,7 +107,7 @@ fn tell_all(
 ) -> Result<String, Fault>
     requires made { IsCacheOf vm.now.program cache.old }
     requires groups { caps.old.groups ≡ vm.now.groups }
-    requires slots { 2 ≤ length caps.old.slots }
+    requires slots { 2 * length vm.now.groups ≤ length caps.old.slots }
 {
     if is_match(alloc, vm, cache, input)? == found.is_empty() {
         return Err(Fault::Differs);
@@ -153,10 +153,10 @@ fn next_or_again(
 ) -> Result<Option<Match>, Fault>
     requires made { IsCacheOf vm.now.program cache.old }
     requires groups { caps.old.groups ≡ vm.now.groups }
-    requires slots { 2 ≤ length caps.old.slots }
+    requires slots { 2 * length vm.now.groups ≤ length caps.old.slots }
     ensures made { IsCacheOf vm.now.program cache.new }
     ensures groups { caps.new.groups ≡ vm.now.groups }
-    ensures slots { 2 ≤ length caps.new.slots }
+    ensures slots { 2 * length vm.now.groups ≤ length caps.new.slots }
 {
     if let Ok(found) = next_match(vm, cache, input, caps, last) {
         return Ok(found);
@@ -175,10 +175,10 @@ fn next_match(
 ) -> Result<Option<Match>, MatchError>
     requires made { IsCacheOf vm.now.program cache.old }
     requires groups { caps.old.groups ≡ vm.now.groups }
-    requires slots { 2 ≤ length caps.old.slots }
+    requires slots { 2 * length vm.now.groups ≤ length caps.old.slots }
     ensures made { IsCacheOf vm.now.program cache.new }
     ensures groups { caps.new.groups ≡ vm.now.groups }
-    ensures slots { 2 ≤ length caps.new.slots }
+    ensures slots { 2 * length vm.now.groups ≤ length caps.new.slots }
 {
     let start = last.unwrap_or(input.start());
     let found = find_from(vm, cache, input, caps, start)?;
@@ -202,10 +202,10 @@ fn find_from(
 ) -> Result<Option<Match>, MatchError>
     requires made { IsCacheOf vm.now.program cache.old }
     requires groups { caps.old.groups ≡ vm.now.groups }
-    requires slots { 2 ≤ length caps.old.slots }
+    requires slots { 2 * length vm.now.groups ≤ length caps.old.slots }
     ensures made { IsCacheOf vm.now.program cache.new }
     ensures groups { caps.new.groups ≡ vm.now.groups }
-    ensures slots { 2 ≤ length caps.new.slots }
+    ensures slots { 2 * length vm.now.groups ≤ length caps.new.slots }
 {
     if start > input.end() {
         return Ok(None);
@@ -215,12 +215,16 @@ fn find_from(
     Ok(caps.get_match())
 }
 
-/// Writes the groups of a match.
+/// Writes the groups of a match, and before them the number of its pattern, if there are several.
 pub fn tell(alloc: Global, out: &mut String, caps: &Captures) -> Result<(), AllocError> {
     if !out.is_empty() {
         out.push(' ')?;
     }
-    for group in 0..caps.group_info().group_len(PatternID::ZERO) {
+    let pattern = caps.pattern().unwrap_or(PatternID::ZERO);
+    if caps.group_info().pattern_len() > 1 {
+        out.push_str(format!(in alloc; "{}:", pattern.as_usize())?.as_str())?;
+    }
+    for group in 0..caps.group_info().group_len(pattern) {
         if group > 0 {
             out.push(',')?;
         }

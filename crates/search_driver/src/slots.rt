@@ -3,8 +3,9 @@
 use crate::fields::{Fault, Fields};
 use crate::haystacks::{Asked, haystack, input, pieces};
 use crate::searches::{ASKED, CUT, HAYSTACK, engine};
-use rx_chunk::pikevm;
-use rx_util::NonMaxUsize;
+use rx_chunk::pikevm::{self, PikeVM};
+use rx_input::{Cursor, Input};
+use rx_util::{MatchError, NonMaxUsize, PatternID};
 use std::alloc::{AllocError, Global};
 
 /// Where the number of slots stands in a line.
@@ -19,16 +20,32 @@ fn used_slots(alloc: Global, count: usize) -> Result<Vec<Option<NonMaxUsize>>, A
     Ok(slots)
 }
 
+/// Searches by an engine, with a cache of its own.
+fn note<C: Cursor>(
+    vm: &PikeVM,
+    input: &mut Input<C>,
+    slots: &mut [Option<NonMaxUsize>],
+) -> Result<Option<PatternID>, MatchError> {
+    pikevm::search_slots(vm, &mut vm.create_cache()?, input, slots)
+}
+
+/// What one search notes in so many slots, and the pattern that it finds.
+fn noted_slots(
+    alloc: Global,
+    fields: &Fields,
+    haystack: &[u8],
+) -> Result<(Option<PatternID>, Vec<Option<NonMaxUsize>>), Fault> {
+    let mut slots = used_slots(alloc, fields.number(COUNT).unwrap_or(0))?;
+    let pieces = pieces(alloc, haystack, fields.word(CUT))?;
+    let mut input = input(&pieces, &Asked::read(fields, ASKED));
+    let pattern = note(&engine(alloc, fields)?, &mut input, &mut slots)?;
+    Ok((pattern, slots))
+}
+
 /// The pattern of the match that is found, or `none`, and each slot's place, or a dash.
 pub fn noted(alloc: Global, fields: &Fields) -> Result<String, Fault> {
-    let haystack = haystack(alloc, fields, HAYSTACK)?;
-    let vm = engine(alloc, fields)?;
-    let asked = Asked::read(fields, ASKED);
-    let pieces = pieces(alloc, &haystack, fields.word(CUT))?;
-    let mut cache = vm.create_cache()?;
-    let mut slots = used_slots(alloc, fields.number(COUNT).unwrap_or(0))?;
-    let mut input = input(&pieces, &asked);
-    let mut out = match pikevm::search_slots(&vm, &mut cache, &mut input, &mut slots)? {
+    let (pattern, slots) = noted_slots(alloc, fields, &haystack(alloc, fields, HAYSTACK)?)?;
+    let mut out = match pattern {
         Some(pattern) => format!(in alloc; "{}", pattern.as_usize())?,
         None => String::from_str(alloc, "none")?,
     };

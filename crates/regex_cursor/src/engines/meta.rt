@@ -7,6 +7,7 @@ mod dense;
 mod find_matches;
 mod finder;
 mod left;
+mod literals;
 mod regex;
 mod split;
 mod split_n;

@@ -4,9 +4,7 @@ ghost use Rattle.rx_steps.specs.Caches.{IsCacheOf};
 
 use super::{Cache, PikeVM, find_next};
 use rx_input::{Cursor, Input};
-use rx_sets::CharacterSet;
 use rx_util::{Match, MatchError};
-use rx_walks::laws::finds_lie_inside;
 use std::iter::FusedIterator;
 
 /// Matches one after the other, each or a refusal, after which there are no more. An empty match
@@ -64,8 +62,6 @@ impl<'r, 'c, C: Cursor + Drop> Iterator for FindMatches<'r, 'c, C> {
         if self.is_over {
             return None;
         }
-        // A law, for the proof alone.
-        finds_lie_inside::<CharacterSet>();
         match find_next(self.vm, self.cache, &mut self.input, self.last_match_end) {
             Ok(Some(found)) => {
                 let end = found.end();

@@ -3,6 +3,7 @@
 ghost use Rattle.std.specs.Prelude.{◌≡◌, IfErr, IfOk, OnErr, OnOk};
 ghost use Rattle.rx_util.specs.declared.search.MatchError.{MatchError};
 ghost use Rattle.rx_input.specs.Cursors.{IsSameContent};
+ghost use Rattle.rx_steps.specs.Caches as steps;
 ghost use Rattle.rx_dfa.specs.Searching.{IsHalfAnswer};
 ghost use Rattle.regex_cursor.specs.Regexes.{IsCacheOf, search_by};
 ghost use Rattle.regex_cursor.specs.Cores.{AreCachesOf};
@@ -119,6 +120,16 @@ impl Cache {
         ensures refused { IfErr result (λ error. error ≡ MatchError.Memory) }
     {
         let vm = pikevm::Cache::new(alloc, core.vm())?;
+        Cache::with_vm(alloc, core, vm)
+    }
+
+    /// The same, where the cache of the PikeVM is there.
+    fn with_vm(alloc: Global, core: Rc<Core>, vm: pikevm::Cache) -> Result<Cache, MatchError>
+        requires { steps.IsCacheOf core.value.vm.program vm }
+        ensures program { IfOk result (λ cache. cache.program ≡ core.value.vm.program) }
+        ensures utf8_empty { IfOk result (λ cache. cache.utf8_empty ≡ core.value.vm.utf8_empty) }
+        ensures refused { IfErr result (λ error. error ≡ MatchError.Memory) }
+    {
         let automaton = rx_dfa::Cache::new(alloc, core.program(), core.dfa())?;
         let kept = Kept {
             core,

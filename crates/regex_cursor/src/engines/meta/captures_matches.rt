@@ -4,11 +4,8 @@ ghost use Rattle.regex_cursor.specs.Regexes.{HasRoom, IsCacheOf};
 
 use super::cache::Cache;
 use super::regex::Regex;
-use rx_chunk::laws::fewer_are_left;
 use rx_input::{Cursor, Input};
-use rx_sets::CharacterSet;
 use rx_util::{Captures, MatchError};
-use rx_walks::laws::first_matches_grow;
 use std::iter::FusedIterator;
 
 /// Matches one after the other with all their groups, each or a refusal, after which there are no
@@ -29,7 +26,7 @@ pub struct CapturesMatches<'r, C: Cursor> {
 impl<'r, C: Cursor> CapturesMatches<'r, C> {
     ghost use Rattle.std.specs.Prelude.{◌≡◌, ◌<◌, ◌^◌};
     ghost use Rattle.std.specs.Iterator.{size};
-    ghost use Rattle.regex_cursor.specs.Capturing.{GivesAll, left_of, regex_of};
+    ghost use Rattle.regex_cursor.specs.Capturing.{GivesAll, input_of, left_of, regex_of};
     ghost use Rattle.regex_cursor.specs.Iterating.{matches_from, matches_left};
     ghost use Rattle.std.specs.Borrow.{sem};
     ghost use Rattle.regex_cursor.specs.Lending.{CapturesLendInput};
@@ -50,9 +47,7 @@ impl<'r, C: Cursor> CapturesMatches<'r, C> {
         ensures all { GivesAll re.now (search_by re.now input) result }
         ensures few { size (matches_left (left_of result)) < 2 ^ 64 }
     {
-        // A law, and how long the content may be, for the proof alone.
-        first_matches_grow::<CharacterSet>();
-        let _ = input.position();
+        let _at = input.position(); // tells how long the content may be
         CapturesMatches {
             re,
             cache,
@@ -71,9 +66,10 @@ impl<'r, C: Cursor> CapturesMatches<'r, C> {
     }
 
     /// Returns the input in which the next match is searched, which may be changed. The end of the
-    /// last match is kept: an empty match that ends there is passed over, and no other.
+    /// last match is kept: an empty match that is found there at once is passed over, and no other.
     pub fn input(&mut self) -> &mut Input<C>
         ensures* writes_back { sem 𝓛 (CapturesLendInput C.row C.Cursor self.entry result) }
+        ensures input { result.now ≡ input_of self.old }
         ensures search { search_by (regex_of self.old) result.now ≡ (left_of self.old).search }
     {
         &mut self.input
@@ -90,12 +86,11 @@ impl<'r, C: Cursor + Drop> Iterator for CapturesMatches<'r, C> {
 
     ghost remaining = { λ m. matches_left (left_of m) };
 
+    #[tactic(auto, using(crate::proofs::FewLaws::fewer_behind, crate::proofs::FewLaws::fewer_over))]
     fn next(&mut self) -> Option<Result<Captures, MatchError>> {
         if self.is_over {
             return None;
         }
-        // A law, for the proof alone.
-        fewer_are_left();
         let strategy = self.re.strategy();
         let last = self.last_match_end;
         let cache = &mut self.cache;

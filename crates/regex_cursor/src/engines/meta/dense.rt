@@ -1,6 +1,7 @@
 //! Automata all of whose states are made with a regex: those of few states.
 
 ghost use Rattle.std.specs.Prelude.{IfOk, IfSome};
+ghost use Rattle.rx_dfa.specs.Caches.{IsWithin};
 ghost use Rattle.rx_dfa.specs.DenseTables.{IsClosedOf};
 ghost use Rattle.rx_dfa.specs.Alphabets.{IsAlphabetOf};
 
@@ -36,7 +37,9 @@ pub(super) fn closed_of(
     dfa: &Alphabet,
 ) -> Result<Option<DenseTable>, AllocError>
     requires { IsAlphabetOf program.now dfa.now }
-    ensures { IfOk result (λ closed. IfSome closed (IsClosedOf program.now dfa.now)) }
+    ensures closed { IfOk result (λ closed. IfSome closed (IsClosedOf program.now dfa.now)) }
+    ensures small { IfOk result
+        (λ closed. IfSome closed (IsWithin DFA_STATE_LIMIT DFA_SIZE_LIMIT)) }
 {
     if state_count(program) > DFA_STATE_LIMIT {
         return Ok(None);

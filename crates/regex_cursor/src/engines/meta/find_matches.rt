@@ -6,9 +6,7 @@ use super::cache::Cache;
 use super::finder::Finder;
 use super::regex::Regex;
 use rx_input::{Cursor, Input};
-use rx_sets::CharacterSet;
 use rx_util::{Match, MatchError};
-use rx_walks::laws::first_matches_grow;
 use std::iter::FusedIterator;
 
 /// Matches one after the other, each or a refusal, after which there are no more. An empty match
@@ -23,7 +21,7 @@ impl<'r, C: Cursor> FindMatches<'r, C> {
     ghost use Rattle.std.specs.Prelude.{◌≡◌, ◌<◌, ◌^◌};
     ghost use Rattle.std.specs.Iterator.{size};
     ghost use Rattle.std.specs.Borrow.{sem};
-    ghost use Rattle.regex_cursor.specs.Iterating.{GivesAll, left_of, matches_from, matches_left, regex_of};
+    ghost use Rattle.regex_cursor.specs.Iterating.{GivesAll, input_of, left_of, matches_from, matches_left, regex_of};
     ghost use Rattle.regex_cursor.specs.Lending.{LendsInput};
     ghost use Rattle.regex_cursor.specs.Regexes.{search_by};
 
@@ -36,9 +34,7 @@ impl<'r, C: Cursor> FindMatches<'r, C> {
         ensures all { GivesAll re.now (search_by re.now input) result }
         ensures few { size (matches_left (left_of result)) < 2 ^ 64 }
     {
-        // A law, and how long the content may be, for the proof alone.
-        first_matches_grow::<CharacterSet>();
-        let _ = input.position();
+        let _at = input.position(); // tells how long the content may be
         FindMatches {
             finder: Finder::new(re, cache),
             input,
@@ -53,9 +49,10 @@ impl<'r, C: Cursor> FindMatches<'r, C> {
     }
 
     /// Returns the input in which the next match is searched, which may be changed. The end of the
-    /// last match is kept: an empty match that ends there is passed over, and no other.
+    /// last match is kept: an empty match that is found there at once is passed over, and no other.
     pub fn input(&mut self) -> &mut Input<C>
         ensures* writes_back { sem 𝓛 (LendsInput C.row C.Cursor self.entry result) }
+        ensures input { result.now ≡ input_of self.old }
         ensures search { search_by (regex_of self.old) result.now ≡ (left_of self.old).search }
     {
         &mut self.input

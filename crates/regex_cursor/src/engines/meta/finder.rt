@@ -4,7 +4,6 @@ ghost use Rattle.regex_cursor.specs.Regexes.{IsCacheOf};
 
 use super::cache::Cache;
 use super::regex::Regex;
-use rx_chunk::laws::fewer_are_left;
 use rx_input::{Cursor, Input};
 use rx_util::{Match, MatchError};
 
@@ -51,6 +50,7 @@ impl<'r> Finder<'r> {
 
     /// The match that comes next in an input, whose span then starts at its end; or a refusal, which
     /// is `Memory`. None comes after a refusal.
+    #[tactic(auto, using(crate::proofs::FewLaws::fewer_behind, crate::proofs::FewLaws::fewer_over))]
     pub(super) fn next<C: Cursor>(
         &mut self,
         input: &mut Input<C>,
@@ -66,8 +66,6 @@ impl<'r> Finder<'r> {
         if self.is_over {
             return None;
         }
-        // A law, for the proof alone.
-        fewer_are_left();
         let last = self.last_match_end;
         match self.re.strategy().find_next(&mut self.cache, input, last) {
             Ok(Some(found)) => {

@@ -8,17 +8,16 @@ ghost use Rattle.rx_input.specs.Cursors.{IsSameContent};
 ghost use Rattle.rx_input.specs.Inputs.{IsSpan};
 ghost use Rattle.rx_walks.specs.Finds.{Search};
 ghost use Rattle.rx_steps.specs.Searching.{answer_slots, search_of};
+ghost use Rattle.rx_steps.specs.Threads.{no_slots};
 ghost use Rattle.rx_program.specs.Programs.{ByteProgram, characters_of};
+ghost use Rattle.rx_literals.specs.Needles.{AreNeedles, FoundInSpan};
 ghost use Rattle.rx_literals.specs.Literals.{FindsLiteral, IsLiteralOf, literal_match};
 ghost use Rattle.rx_chunk.specs.Engines.{Finds};
 ghost use Rattle.regex_cursor.specs.Strategies.{HoldsNext, IsLeft, IsPart, IsPartLeft, IsStart, IsTold};
 
 use rx_input::{Cursor, Input};
-use rx_literals::laws::literals_find;
 use rx_literals::{Prefilter, literal};
-use rx_sets::CharacterSet;
-use rx_util::{Anchored, Captures, Match, NonMaxUsize, PatternID, Span};
-use rx_walks::laws::{finds_at_most_one, finds_lie_inside, finds_stay_in_cut_spans};
+use rx_util::{Anchored, Captures, NonMaxUsize, Span};
 
 /// What a literal tells of a search whose span isn't done.
 #[derive(Clone, Copy, Debug)]
@@ -68,10 +67,6 @@ impl Told {
         ensures { (p : ByteProgram) (s : Search) → s.start ≡ span.start → s.end ≡ span.end
             → IsTold p s self → IsLeft p s result }
     {
-        // Laws, for the proof alone.
-        finds_at_most_one::<CharacterSet>();
-        finds_lie_inside::<CharacterSet>();
-        finds_stay_in_cut_spans::<CharacterSet>();
         match self {
             Told::NoMatch => Left::Nothing,
             Told::EndsAt(end) => Left::In(Part {
@@ -94,9 +89,6 @@ impl Left {
     pub(super) fn part(self) -> Option<Part>
         ensures { (p : ByteProgram) (s : Search) → IsLeft p s self → IsPartLeft p s result }
     {
-        // Laws, for the proof alone.
-        finds_at_most_one::<CharacterSet>();
-        finds_lie_inside::<CharacterSet>();
         match self {
             Left::Nothing => None,
             Left::Match(span) => Some(Part {
@@ -129,9 +121,6 @@ impl Part {
         ensures { (p : ByteProgram) (s : Search) → s.start ≡ whole.start → s.end ≡ whole.end
             → IsPart p s self → HoldsNext p s last_match_end result.span }
     {
-        // Laws, for the proof alone.
-        finds_at_most_one::<CharacterSet>();
-        finds_lie_inside::<CharacterSet>();
         if self.may_end_at(last_match_end) {
             Part {
                 span: whole,
@@ -191,6 +180,17 @@ fn start_at<C: Cursor>(found: Option<Span>, input: &Input<C>) -> Start
     }
 }
 
+/// Where the first literal of a prefilter lies in the span. The position may move.
+pub(super) fn find_literal<C: Cursor>(prefilter: &Prefilter, input: &mut Input<C>) -> Option<Span>
+    ensures needles { AreNeedles prefilter.now }
+    ensures found { FoundInSpan prefilter.now input.old result }
+    ensures same { IsSameContent input.old.cursor input.new.cursor }
+    ensures asked { input.new.asked ≡ input.old.asked }
+{
+    prefilter.needles_are_lawful(); // for the proof alone
+    literal::find(prefilter, input)
+}
+
 /// Where the match lies of a program whose matches are a literal, which is looked for in the span,
 /// or at its start if the search is anchored. The span must not be done. The position may move.
 pub(super) fn start_of_literal<C: Cursor>(needle: &Prefilter, input: &mut Input<C>) -> Start
@@ -201,9 +201,7 @@ pub(super) fn start_of_literal<C: Cursor>(needle: &Prefilter, input: &mut Input<
     ensures asked { input.new.asked ≡ input.old.asked }
     ensures same { IsSameContent input.old.cursor input.new.cursor }
 {
-    // Laws, for the proof alone.
-    literals_find();
-    needle.needles_are_lawful();
+    needle.needles_are_lawful(); // for the proof alone
     match input.get_anchored() {
         Anchored::No => {
             let found = literal::find(needle, input);
@@ -217,18 +215,10 @@ pub(super) fn start_of_literal<C: Cursor>(needle: &Prefilter, input: &mut Input<
     }
 }
 
-/// The match of the first pattern that takes a span.
-pub(super) fn match_in(span: Span) -> Match
-    requires { span.start ≤ span.end }
-    ensures pattern { result.pattern ≡ 0 }
-    ensures span { result.span ≡ span }
-{
-    Match::new(PatternID::ZERO, span)
-}
-
 /// Puts none into each slot.
 pub(super) fn clear_slots(slots: &mut [Option<NonMaxUsize>])
-    ensures { slots.new ≡ replicate (length slots.old) None }
+    ensures all { slots.new ≡ replicate (length slots.old) None }
+    ensures none { slots.new ≡ no_slots (length slots.new) }
 {
     slots.fill(None);
 }
@@ -253,7 +243,8 @@ pub(super) fn put_match(slots: &mut [Option<NonMaxUsize>], span: Span)
 
 /// Notes that nothing is found.
 pub(super) fn note_nothing(caps: &mut Captures)
-    ensures { caps.new ≡ nothing_noted caps.old.groups (length caps.old.slots) }
+    ensures nothing { caps.new ≡ nothing_noted caps.old.groups (length caps.old.slots) }
+    ensures none { caps.new.slots ≡ no_slots (length caps.new.slots) }
 {
     caps.set_pattern(None);
     clear_slots(caps.slots_mut());

@@ -1,37 +1,40 @@
 //! A regular expression that is searched for.
 
-ghost use Rattle.std.specs.Prelude.{◌≡◌, ◌+◌, ◌<◌, ◌≤◌, ◌^◌, ℕ, List, IfErr, IfOk, IfSome, None, OnErr, OnOk, length};
+ghost use Rattle.std.specs.Prelude.{◌≡◌, ◌+◌, ◌<◌, ◌≤◌, ◌^◌, ℕ, List, IfErr, IfOk, IfSome, None, OnErr, OnOk, length, ◌*◌, map};
 ghost use Rattle.std.specs.Iterator.{size};
+ghost use Rattle.std.specs.Option.{ForSome};
 ghost use Rattle.rx_input.specs.Cursors.{IsSameContent};
+ghost use Rattle.rx_input.specs.Searchers.{EndsInside};
 ghost use Rattle.rx_util.specs.declared.search.MatchError.{MatchError};
 ghost use Rattle.rx_util.specs.Captured.{nothing_noted};
-ghost use Rattle.rx_util.specs.Groups.{group_len, slot_len};
+ghost use Rattle.rx_util.specs.Groups.{further_groups, slot_len};
+ghost use Rattle.rx_steps.specs.Threads.{no_slots};
+ghost use Rattle.rx_chunk.specs.Iterating.{IsNextAnswer, StartsFrom};
 ghost use Rattle.regex_cursor.specs.Capturing as capturing;
 ghost use Rattle.regex_cursor.specs.Splitting as splitting;
 ghost use Rattle.regex_cursor.specs.SplittingFew as few;
 ghost use Rattle.regex_cursor.specs.Iterating.{GivesAll, left_of, matches_from, matches_left, regex_of};
 ghost use Rattle.regex_cursor.specs.Patterns.{HasNoMatchBetween};
-ghost use Rattle.regex_cursor.specs.Regexes.{HasRoom, HoldsMatches, IsCacheOf, IsRefusedAsRegex, IsRegex, IsRegexOf, TellsMatch, TellsSlots, TellsWhether, TellsWhole, search_by};
+ghost use Rattle.regex_cursor.specs.Regexes.{AreRefusedAsRegex, HasRoom, HoldsMatches, IsCacheOf, IsRefusedAsRegex, IsRegex, IsRegexOf, IsRegexOfAll, TellsMatch, TellsSlots, TellsWhether, TellsWhole, search_by};
 
 use super::builder::Builder;
 use super::cache::Cache;
 use super::captures_matches::CapturesMatches;
 use super::find_matches::FindMatches;
+use super::left::{clear_slots, find_literal, note_nothing};
 use super::split::Split;
 use super::split_n::SplitN;
 use super::strategy::Strategy;
 use rx_chunk::pikevm::PikeVM;
 use rx_input::{Cursor, Input};
-use rx_literals::laws::no_needle_no_match;
-use rx_literals::literal;
 use rx_program::BuildError;
 use rx_util::{Captures, GroupInfo, Match, MatchError, NonMaxUsize, PatternID};
 use std::alloc::{AllocError, Global};
 use std::marker::Model;
 use std::rc::Rc;
 
-/// A regular expression that is searched for in contents that lie in pieces. Contracts see its
-/// program, its groups, and that it passes over empty matches inside a character.
+/// A regular expression, or several, searched for in contents that lie in pieces. Contracts see the
+/// program, the groups of each pattern, and that it passes over empty matches inside a character.
 ///
 /// The plain calls make a cache each, which takes memory and time in proportion to the pattern's
 /// program; those named `_with` are handed one, and take none of either for it.
@@ -56,6 +59,16 @@ impl Regex {
         ensures refused { IfErr result (λ error. IsRefusedAsRegex pattern.now error) }
     {
         Regex::builder().build(alloc, pattern)
+    }
+
+    /// Returns the regex for patterns that are searched for together, with the default settings.
+    /// Errors are those of `Builder::build_many`.
+    pub fn new_many(alloc: Global, patterns: &[&str]) -> Result<Regex, BuildError>
+        ensures built { IfOk result (IsRegexOfAll (map (λ text. text.now) patterns.now)) }
+        ensures refused { IfErr result
+            (AreRefusedAsRegex (map (λ text. text.now) patterns.now)) }
+    {
+        Regex::builder().build_many(alloc, patterns)
     }
 
     /// Returns a builder with the default settings.
@@ -110,6 +123,7 @@ impl Regex {
     /// Returns the match that is found, as `search` does.
     pub fn find<C: Cursor + Drop>(&self, input: Input<C>) -> Result<Option<Match>, MatchError>
         ensures answer { IfOk result (λ found. TellsMatch self.now input found) }
+        ensures inside { IfOk result (λ found. ForSome found (λ m. EndsInside input m.span.end)) }
         ensures refused { IfErr result (λ error. error ≡ MatchError.Memory) }
     {
         self.search(input)
@@ -128,6 +142,7 @@ impl Regex {
         ensures groups { caps.new.groups ≡ caps.old.groups }
         ensures slot_len { length caps.new.slots ≡ length caps.old.slots }
         ensures no_answer { OnErr result (caps.new.pattern ≡ None) }
+        ensures none { OnErr result (caps.new.slots ≡ no_slots (length caps.new.slots)) }
         ensures refused { IfErr result (λ error. error ≡ MatchError.Memory) }
     {
         self.search_captures(input, caps)
@@ -170,7 +185,8 @@ impl Regex {
     }
 
     /// Returns an iterator over the parts between the matches, from 0 to the end of the input's
-    /// span, at most to that of its content. The one error is `Memory`.
+    /// span, at most to that of its content. They are few enough that `count` may be called. The
+    /// one error is `Memory`.
     pub fn split<'r, C: Cursor + Drop>(
         &'r self,
         input: Input<C>,
@@ -180,6 +196,8 @@ impl Regex {
         ensures regex { IfOk result (λ m. splitting.regex_of m ≡ self.now) }
         ensures gaps { IfOk result
             (λ m. splitting.GivesGaps self.now (search_by self.now input) m) }
+        ensures few { IfOk result
+            (λ m. size (splitting.parts_left (splitting.left_of m)) < 2 ^ 64) }
         ensures refused { IfErr result (λ error. error ≡ MatchError.Memory) }
     {
         let cache = self.create_cache()?;
@@ -207,10 +225,11 @@ impl Regex {
     }
 
     /// Returns the match that is found: of those that start first the one that the pattern prefers.
-    /// Where `earliest` is set, only whether there is a match is promised. The one error is
-    /// `Memory`.
+    /// It ends in the span. Where `earliest` is set, only that, and whether there is a match, is
+    /// promised. The one error is `Memory`.
     pub fn search<C: Cursor + Drop>(&self, mut input: Input<C>) -> Result<Option<Match>, MatchError>
         ensures answer { IfOk result (λ found. TellsMatch self.now input found) }
+        ensures inside { IfOk result (λ found. ForSome found (λ m. EndsInside input m.span.end)) }
         ensures refused { IfErr result (λ error. error ≡ MatchError.Memory) }
     {
         let mut cache = self.create_cache()?;
@@ -230,9 +249,10 @@ impl Regex {
         ensures groups { caps.new.groups ≡ caps.old.groups }
         ensures slot_len { length caps.new.slots ≡ length caps.old.slots }
         ensures no_answer { OnErr result (caps.new.pattern ≡ None) }
+        ensures none { OnErr result (caps.new.slots ≡ no_slots (length caps.new.slots)) }
         ensures refused { IfErr result (λ error. error ≡ MatchError.Memory) }
     {
-        caps.set_pattern(None);
+        note_nothing(caps);
         let mut cache = self.create_cache()?;
         self.search_captures_with(&mut cache, &mut input, caps)
     }
@@ -245,8 +265,10 @@ impl Regex {
     ) -> Result<Option<PatternID>, MatchError>
         ensures answer { IfOk result
             (λ pattern. TellsSlots self.now input pattern slots.new) }
+        ensures none { OnErr result (slots.new ≡ no_slots (length slots.new)) }
         ensures refused { IfErr result (λ error. error ≡ MatchError.Memory) }
     {
+        clear_slots(slots);
         let mut cache = self.create_cache()?;
         self.search_slots_with(&mut cache, &mut input, slots)
     }
@@ -261,6 +283,8 @@ impl Regex {
     ) -> Result<Option<Match>, MatchError>
         requires made { IsCacheOf self.now cache.old }
         ensures answer { IfOk result (λ found. TellsMatch self.now input.old found) }
+        ensures inside { IfOk result
+            (λ found. ForSome found (λ m. EndsInside input.old m.span.end)) }
         ensures made { IsCacheOf self.now cache.new }
         ensures asked { input.new.asked ≡ input.old.asked }
         ensures same { IsSameContent input.old.cursor input.new.cursor }
@@ -272,8 +296,8 @@ impl Regex {
     /// Notes what is found in captures: its pattern, and the places in as many slots as they have.
     /// In captures that the regex made group 0 is then the whole match. Where `earliest` is set,
     /// only whether there is a match is promised. Span, slice, anchoring and `earliest` of the
-    /// input stay as they are. The one error is `Memory`: then no pattern is noted. Requires that
-    /// the cache is one for this regex, as it is afterwards too.
+    /// input stay as they are. The one error is `Memory`: then no pattern is noted, and no slot
+    /// holds a place. Requires that the cache is one for this regex, as it is afterwards too.
     pub fn search_captures_with<C: Cursor>(
         &self,
         cache: &mut Cache,
@@ -288,6 +312,7 @@ impl Regex {
         ensures groups { caps.new.groups ≡ caps.old.groups }
         ensures slot_len { length caps.new.slots ≡ length caps.old.slots }
         ensures no_answer { OnErr result (caps.new.pattern ≡ None) }
+        ensures none { OnErr result (caps.new.slots ≡ no_slots (length caps.new.slots)) }
         ensures made { IsCacheOf self.now cache.new }
         ensures asked { input.new.asked ≡ input.old.asked }
         ensures same { IsSameContent input.old.cursor input.new.cursor }
@@ -298,9 +323,10 @@ impl Regex {
 
     /// Returns the pattern of the match that is found, if there is one, and puts its places into
     /// the slots, as many as there are; all others hold none. Those of group k are 2k and 2k + 1.
-    /// Where `earliest` is set, only whether there is a match is promised. Span, slice, anchoring
-    /// and `earliest` of the input stay as they are. The one error is `Memory`: what the slots then
-    /// hold has no meaning. Requires that the cache is one for this regex, as it is afterwards too.
+    /// Where `earliest` is set, only whether there is a match is promised, and that no slot holds a
+    /// place where there is none. Span, slice, anchoring and `earliest` of the input stay as they
+    /// are. The one error is `Memory`: then no slot holds a place. Requires that the cache is one
+    /// for this regex, as it is afterwards too.
     pub fn search_slots_with<C: Cursor>(
         &self,
         cache: &mut Cache,
@@ -310,12 +336,40 @@ impl Regex {
         requires made { IsCacheOf self.now cache.old }
         ensures answer { IfOk result
             (λ pattern. TellsSlots self.now input.old pattern slots.new) }
+        ensures none { OnErr result (slots.new ≡ no_slots (length slots.new)) }
         ensures made { IsCacheOf self.now cache.new }
         ensures asked { input.new.asked ≡ input.old.asked }
         ensures same { IsSameContent input.old.cursor input.new.cursor }
         ensures refused { IfErr result (λ error. error ≡ MatchError.Memory) }
     {
         self.strategy.search_slots(cache, input, slots)
+    }
+
+    /// Returns the pattern of the match that comes next where the last one, if there was one, ended
+    /// at `last_match_end`, and puts its places into the slots, as many as there are; all others
+    /// hold none. An empty match there is passed over, and the search goes on one byte further than
+    /// the span starts. It is a whole match, also where `earliest` is set. Slice, anchoring,
+    /// `earliest` and the span's end stay as they are; the span may start elsewhere then. The one
+    /// error is `Memory`: then no slot holds a place. Requires that the cache is one for this
+    /// regex, as it is afterwards too, and two slots for each of its patterns or more.
+    pub fn next_slots_with<C: Cursor>(
+        &self,
+        cache: &mut Cache,
+        input: &mut Input<C>,
+        slots: &mut [Option<NonMaxUsize>],
+        last_match_end: Option<usize>,
+    ) -> Result<Option<PatternID>, MatchError>
+        requires made { IsCacheOf self.now cache.old }
+        requires slots { 2 * length self.now.groups ≤ length slots.old }
+        ensures answer { IfOk result (λ pattern. IsNextAnswer self.now.program
+            (search_by self.now input.old) last_match_end pattern slots.new) }
+        ensures none { OnErr result (slots.new ≡ no_slots (length slots.new)) }
+        ensures made { IsCacheOf self.now cache.new }
+        ensures same { (start : ℕ) × StartsFrom input.old input.new start }
+        ensures refused { IfErr result (λ error. error ≡ MatchError.Memory) }
+    {
+        self.strategy
+            .next_slots(cache, input, slots, last_match_end)
     }
 
     /// Returns a place of the input's span up to which no match lies, told by the literals that
@@ -334,11 +388,8 @@ impl Regex {
         ensures asked { input.new.asked ≡ input.old.asked }
         ensures same { IsSameContent input.old.cursor input.new.cursor }
     {
-        // A law, for the proof alone.
-        no_needle_no_match();
         let prefilter = self.strategy.prefilter()?;
-        prefilter.needles_are_lawful();
-        match literal::find(prefilter, input) {
+        match find_literal(prefilter, input) {
             Some(span) => Some(span.start),
             None => Some(input.end()),
         }
@@ -365,21 +416,22 @@ impl Regex {
         Cache::new(self.strategy.program().allocator(), self)
     }
 
-    /// Returns how many patterns it has: one.
+    /// Returns how many patterns it has. `O(1)`.
     pub fn pattern_len(&self) -> usize
         ensures { result ≡ length self.now.groups }
     {
         self.group_info().pattern_len()
     }
 
-    /// Returns how many groups its pattern has, the whole match among them.
+    /// Returns how many groups its patterns have together, the whole match of each among them.
+    /// `O(1)`.
     pub fn captures_len(&self) -> usize
-        ensures { result ≡ group_len self.now.groups 0 }
+        ensures { result ≡ length self.now.groups + further_groups self.now.groups }
     {
-        self.group_info().group_len(PatternID::ZERO)
+        self.group_info().slot_len() / 2
     }
 
-    /// Returns the groups of its pattern. `O(1)`.
+    /// Returns the groups of its patterns. `O(1)`.
     pub fn group_info(&self) -> &GroupInfo
         ensures groups { result.now ≡ self.now.groups }
         ensures regex { IsRegex self.now }

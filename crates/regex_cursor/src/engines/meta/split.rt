@@ -7,9 +7,7 @@ use super::finder::Finder;
 use super::regex::Regex;
 use super::splitter::Splitter;
 use rx_input::{Cursor, Input};
-use rx_sets::CharacterSet;
 use rx_util::{MatchError, Span};
-use rx_walks::laws::first_matches_grow;
 use std::iter::FusedIterator;
 
 /// The parts between the matches, one after the other, from 0 to the end of the input's span, at
@@ -22,12 +20,13 @@ pub struct Split<'r, C: Cursor> {
 }
 
 impl<'r, C: Cursor> Split<'r, C> {
-    ghost use Rattle.std.specs.Prelude.{◌≡◌};
+    ghost use Rattle.std.specs.Prelude.{◌≡◌, ◌<◌, ◌^◌};
     ghost use Rattle.std.specs.Borrow.{sem};
+    ghost use Rattle.std.specs.Iterator.{size};
     ghost use Rattle.regex_cursor.specs.Iterating.{matches_from};
     ghost use Rattle.regex_cursor.specs.Lending.{SplitLendsInput};
     ghost use Rattle.regex_cursor.specs.Regexes.{search_by};
-    ghost use Rattle.regex_cursor.specs.Splitting.{GivesGaps, left_of, parts_of, regex_of};
+    ghost use Rattle.regex_cursor.specs.Splitting.{GivesGaps, input_of, left_of, parts_left, parts_of, regex_of};
 
     /// None of the parts of an input has come yet.
     pub(super) fn new(re: &'r Regex, cache: Cache, input: Input<C>) -> Split<'r, C>
@@ -35,9 +34,9 @@ impl<'r, C: Cursor> Split<'r, C> {
         ensures left { left_of result ≡ parts_of (matches_from (search_by re.now input)) }
         ensures regex { regex_of result ≡ re.now }
         ensures gaps { GivesGaps re.now (search_by re.now input) result }
+        ensures few { size (parts_left (left_of result)) < 2 ^ 64 }
     {
-        // A law, for the proof alone.
-        first_matches_grow::<CharacterSet>();
+        let _at = input.position(); // tells how long the content may be
         Split {
             splitter: Splitter::new(Finder::new(re, cache)),
             input,
@@ -48,6 +47,7 @@ impl<'r, C: Cursor> Split<'r, C> {
     /// `FindMatches`. The next part starts at the end of the last match all the same.
     pub fn input(&mut self) -> &mut Input<C>
         ensures* writes_back { sem 𝓛 (SplitLendsInput C.row C.Cursor self.entry result) }
+        ensures input { result.now ≡ input_of self.old }
         ensures search { search_by (regex_of self.old) result.now
             ≡ (left_of self.old).matches.search }
     {

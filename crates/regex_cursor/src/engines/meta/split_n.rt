@@ -7,9 +7,7 @@ use super::finder::Finder;
 use super::regex::Regex;
 use super::splitter::Splitter;
 use rx_input::{Cursor, Input};
-use rx_sets::CharacterSet;
 use rx_util::{MatchError, Span};
-use rx_walks::laws::first_matches_grow;
 use std::iter::FusedIterator;
 
 /// Parts as those of `Split`, at most as many as a limit: the last of so many goes to the end.
@@ -28,7 +26,7 @@ impl<'r, C: Cursor> SplitN<'r, C> {
     ghost use Rattle.regex_cursor.specs.Lending.{SplitNLendsInput};
     ghost use Rattle.regex_cursor.specs.Regexes.{search_by};
     ghost use Rattle.regex_cursor.specs.Splitting.{parts_of};
-    ghost use Rattle.regex_cursor.specs.SplittingFew.{GivesFewGaps, left_of, regex_of};
+    ghost use Rattle.regex_cursor.specs.SplittingFew.{GivesFewGaps, input_of, left_of, regex_of};
 
     /// None of the parts of an input has come yet, at most so many of which are to come.
     pub(super) fn new(re: &'r Regex, cache: Cache, input: Input<C>, limit: usize) -> SplitN<'r, C>
@@ -40,8 +38,6 @@ impl<'r, C: Cursor> SplitN<'r, C> {
         ensures regex { regex_of result ≡ re.now }
         ensures gaps { GivesFewGaps re.now (search_by re.now input) limit result }
     {
-        // A law, for the proof alone.
-        first_matches_grow::<CharacterSet>();
         SplitN {
             splitter: Splitter::new(Finder::new(re, cache)),
             input,
@@ -53,6 +49,7 @@ impl<'r, C: Cursor> SplitN<'r, C> {
     /// `Split`.
     pub fn input(&mut self) -> &mut Input<C>
         ensures* writes_back { sem 𝓛 (SplitNLendsInput C.row C.Cursor self.entry result) }
+        ensures input { result.now ≡ input_of self.old }
         ensures search { search_by (regex_of self.old) result.now
             ≡ (left_of self.old).parts.matches.search }
     {

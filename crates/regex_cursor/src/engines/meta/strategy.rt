@@ -1,42 +1,41 @@
 //! The engines of a regex, and how it chooses among them: the literals that matches begin with are
 //! looked for first, then the automaton is asked, and what it leaves is searched by the PikeVM.
 
-ghost use Rattle.std.specs.Prelude.{◌≡◌, ℕ, ◌≤◌, IfOk, IfErr, IfSome, OnOk, OnErr, None, length};
+ghost use Rattle.std.specs.Prelude.{◌≡◌, ℕ, ◌*◌, ◌<◌, ◌≤◌, ◌^◌, IfOk, IfErr, IfSome, OnOk, OnErr, None, length};
 ghost use Rattle.std.specs.Option.{ForSome};
 ghost use Rattle.rx_util.specs.declared.search.MatchError.{MatchError};
 ghost use Rattle.rx_util.specs.Captured.{group_span, match_found};
 ghost use Rattle.rx_input.specs.Cursors.{IsSameContent};
+ghost use Rattle.rx_input.specs.Searchers.{EndsInside};
 ghost use Rattle.rx_walks.specs.Finds.{from_place_on};
 ghost use Rattle.rx_program.specs.Programs.{characters_of};
 ghost use Rattle.rx_literals.specs.Beginnings.{BeginsWith};
 ghost use Rattle.rx_dfa.specs.Searching.{IsHalfAnswer};
+ghost use Rattle.rx_steps.specs.Threads.{no_slots};
+ghost use Rattle.rx_engine.specs.Engines.{IsEngine};
 ghost use Rattle.rx_chunk.specs.Engines.{TellsWhether};
 ghost use Rattle.rx_chunk.specs.Iterating.{EndsAhead, HasNotedNext, IsFoundNext, IsNextAnswer, StartsFrom};
 ghost use Rattle.regex_cursor.specs.Regexes.{HoldsMatches, IsCacheOf, TellsMatch, TellsSlots, TellsWhole, search_by};
 ghost use Rattle.regex_cursor.specs.Cores.{IsCore};
-ghost use Rattle.regex_cursor.specs.Strategies.{AreKeptFor, IsLeft, IsStart, IsTold};
+ghost use Rattle.regex_cursor.specs.Literals.{AreLiteralsOf};
+ghost use Rattle.regex_cursor.specs.Strategies.{AreKeptFor, IsLeft, IsNextLeft, IsStart, IsTold};
 
 use super::cache::{Cache, Kept};
 use super::dense::closed_of;
 use super::left::{
-    Left, Start, Told, clear_slots, match_in, note_nothing, put_back, put_match, start_of_literal,
+    Left, Part, Start, Told, clear_slots, find_literal, note_nothing, put_back, put_match,
+    start_of_literal,
 };
+use super::literals::Literals;
 use rx_chunk::pikevm::{self, PikeVM};
-use rx_dfa::{Alphabet, DenseTable};
+use rx_dfa::{Alphabet, CACHE_CAPACITY, DenseTable};
 use rx_input::{Cursor, Input};
-use rx_literals::laws::{matches_come_behind, no_needle_no_match};
-use rx_literals::{Prefilter, literal};
+use rx_literals::Prefilter;
 use rx_program::Program;
-use rx_program::laws::matches_note_their_places;
-use rx_sets::CharacterSet;
-use rx_util::{Captures, HalfMatch, Match, MatchError, MatchKind, NonMaxUsize, PatternID};
-use rx_walks::laws::{finds_exist, finds_lie_inside};
+use rx_util::{Captures, HalfMatch, Match, MatchError, NonMaxUsize, PatternID};
 use std::alloc::{AllocError, Global};
 use std::marker::Model;
 use std::rc::Rc;
-
-/// How many bytes the states of an automaton may take in a cache, about.
-const CACHE_CAPACITY: usize = 2_097_152;
 
 /// What a regex shares with its clones and its caches: the engine that serves any search, and the
 /// automaton of its program.
@@ -57,18 +56,18 @@ impl Model for Core {
 }
 
 impl Core {
-    /// A PikeVM, and the automaton of its program. `utf8_empty` is as the PikeVM has it.
-    fn new(alloc: Global, vm: PikeVM, utf8_empty: bool) -> Result<Core, AllocError>
-        requires { utf8_empty ≡ vm.utf8_empty }
+    /// A PikeVM, and the automaton of its program.
+    fn new(alloc: Global, vm: PikeVM) -> Result<Core, AllocError>
         ensures { IfOk result (λ core. core.vm ≡ vm) }
     {
-        let dfa = Alphabet::new(alloc, vm.program(), utf8_empty, CACHE_CAPACITY)?;
+        let dfa = Alphabet::new(alloc, vm.program(), vm.utf8_empty(), CACHE_CAPACITY)?;
         Ok(Core { vm, dfa })
     }
 
     /// The engine that serves any search.
     pub(super) fn vm(&self) -> &PikeVM
-        ensures { result.now ≡ self.now.vm }
+        ensures vm { result.now ≡ self.now.vm }
+        ensures engine { IsEngine self.now.vm }
     {
         &self.vm
     }
@@ -95,10 +94,7 @@ pub(super) struct Strategy {
     core: Rc<Core>,
     // Where program and automaton are small.
     closed: Option<DenseTable>,
-    // Of the literals of which each match begins with one, if they are known.
-    prefilter: Option<Prefilter>,
-    // Of the literal that each match is, if that is known.
-    literal: Option<Prefilter>,
+    literals: Literals,
 }
 
 impl Model for Strategy {
@@ -110,16 +106,14 @@ impl Model for Strategy {
       vm = s.core.value.vm;
       dfa = s.core.value.dfa;
       closed = s.closed;
-      prefilter = s.prefilter;
-      literal = s.literal;
+      literals = s.literals;
     } };
 
     ghost invariant = { λ s. AreEngines (record {
       vm = s.core.value.vm;
       dfa = s.core.value.dfa;
       closed = s.closed;
-      prefilter = s.prefilter;
-      literal = s.literal;
+      literals = s.literals;
     }) };
 }
 
@@ -134,23 +128,38 @@ fn bytes_of<C: Cursor>(answer: &Result<Option<HalfMatch>, MatchError>, input: &I
 
 impl Strategy {
     /// A PikeVM, the automaton of its program, with all its states where they are few, and the
-    /// literals that matches begin with, or the one that they are, if these are known. `utf8_empty`
-    /// is as the PikeVM has it. It takes time in proportion to the program's states and the ranges
-    /// of their automata.
-    pub(super) fn new(alloc: Global, vm: PikeVM, utf8_empty: bool) -> Result<Strategy, AllocError>
-        requires { utf8_empty ≡ vm.utf8_empty }
+    /// literals that matches begin with, or the one that they are, if these are known. It takes
+    /// time in proportion to the program's states and the ranges of their automata.
+    pub(super) fn new(alloc: Global, vm: PikeVM) -> Result<Strategy, AllocError>
         ensures { IfOk result (λ strategy. strategy.vm ≡ vm) }
     {
-        let core = Core::new(alloc, vm, utf8_empty)?;
+        let core = Rc::new(alloc, Core::new(alloc, vm)?)?;
+        Strategy::over(alloc, core)
+    }
+
+    /// The engines beside what a regex shares with its caches. They are made by functions in turn,
+    /// each of which owns few things, and so is proved quickly.
+    fn over(alloc: Global, core: Rc<Core>) -> Result<Strategy, AllocError>
+        ensures { IfOk result (λ strategy. strategy.vm ≡ core.value.vm) }
+    {
+        let literals = Literals::of(alloc, core.program())?;
+        Strategy::with_literals(alloc, core, literals)
+    }
+
+    /// The same, where the literals of the program are known.
+    fn with_literals(
+        alloc: Global,
+        core: Rc<Core>,
+        literals: Literals,
+    ) -> Result<Strategy, AllocError>
+        requires { AreLiteralsOf core.value.vm.program literals }
+        ensures { IfOk result (λ strategy. strategy.vm ≡ core.value.vm) }
+    {
         let closed = closed_of(alloc, core.program(), core.dfa())?;
-        let kind = MatchKind::LeftmostFirst;
-        let prefilter = Prefilter::from_program(alloc, kind, core.program())?;
-        let literal = Prefilter::of_literal(alloc, core.program())?;
         Ok(Strategy {
-            core: Rc::new(alloc, core)?,
+            core,
             closed,
-            prefilter,
-            literal,
+            literals,
         })
     }
 
@@ -163,7 +172,8 @@ impl Strategy {
 
     /// The engine that serves any search.
     pub(super) fn vm(&self) -> &PikeVM
-        ensures { result.now ≡ self.now.vm }
+        ensures vm { result.now ≡ self.now.vm }
+        ensures engine { IsEngine self.now.vm }
     {
         self.core.vm()
     }
@@ -180,7 +190,7 @@ impl Strategy {
         ensures begins { IfSome result
             (λ needles. BeginsWith needles.now (characters_of self.now.vm.program)) }
     {
-        self.prefilter.as_ref()
+        self.literals.beginnings.as_ref()
     }
 
     /// Where the match ends, by the automaton. Where all states are made already, those that are
@@ -214,12 +224,11 @@ impl Strategy {
         ensures core { kept.new.core ≡ kept.old.core }
         ensures asked { input.new.asked ≡ input.old.asked }
         ensures same { IsSameContent input.old.cursor input.new.cursor }
+        ensures bound { length input.old.cursor.content < 2 ^ 63 }
         ensures refused { IfErr result (λ error. error ≡ MatchError.Memory) }
     {
+        let _at = input.position(); // tells how long the content may be
         if input.is_done() {
-            // Laws, for the proof alone.
-            finds_exist::<CharacterSet>();
-            finds_lie_inside::<CharacterSet>();
             return Ok(Left::Nothing);
         }
         match self.first_start(input) {
@@ -296,7 +305,7 @@ impl Strategy {
         ensures asked { input.new.asked ≡ input.old.asked }
         ensures same { IsSameContent input.old.cursor input.new.cursor }
     {
-        match &self.literal {
+        match &self.literals.whole {
             Some(needle) => start_of_literal(needle, input),
             None => self.first_beginning(input),
         }
@@ -310,13 +319,9 @@ impl Strategy {
         ensures asked { input.new.asked ≡ input.old.asked }
         ensures same { IsSameContent input.old.cursor input.new.cursor }
     {
-        match &self.prefilter {
+        match &self.literals.beginnings {
             Some(prefilter) if !input.get_anchored().is_anchored() => {
-                // Laws, for the proof alone.
-                no_needle_no_match();
-                matches_come_behind();
-                prefilter.needles_are_lawful();
-                match literal::find(prefilter, input) {
+                match find_literal(prefilter, input) {
                     Some(span) => Start::From(span.start),
                     None => Start::Nowhere,
                 }
@@ -353,8 +358,8 @@ impl Strategy {
         }
     }
 
-    /// The match that is found. The cache must be one for the regex, and still is one afterwards.
-    /// The one refusal is `Memory`.
+    /// The match that is found, which ends in the span. The cache must be one for the regex, and
+    /// still is one afterwards. The one refusal is `Memory`.
     pub(super) fn find<C: Cursor>(
         &self,
         cache: &mut Cache,
@@ -362,6 +367,8 @@ impl Strategy {
     ) -> Result<Option<Match>, MatchError>
         requires made { IsCacheOf self.now.vm cache.old }
         ensures answer { IfOk result (λ found. TellsMatch self.now.vm input.old found) }
+        ensures inside { IfOk result
+            (λ found. ForSome found (λ m. EndsInside input.old m.span.end)) }
         ensures made { IsCacheOf self.now.vm cache.new }
         ensures asked { input.new.asked ≡ input.old.asked }
         ensures same { IsSameContent input.old.cursor input.new.cursor }
@@ -369,7 +376,7 @@ impl Strategy {
     {
         match self.ask(&mut cache.kept, input)? {
             Left::Nothing => Ok(None),
-            Left::Match(span) => Ok(Some(match_in(span))),
+            Left::Match(span) => Ok(Some(Match::new(PatternID::ZERO, span))),
             Left::In(part) => {
                 let whole = part.cut(input);
                 let found = pikevm::find(self.vm(), &mut cache.kept.vm, input);
@@ -381,7 +388,7 @@ impl Strategy {
 
     /// The pattern of the match that is found; its places are put into the slots, as many as there
     /// are, and all others hold none. The cache must be one for the regex, and still is one
-    /// afterwards. The one refusal is `Memory`: what the slots then hold has no meaning.
+    /// afterwards. The one refusal is `Memory`: then no slot holds a place.
     pub(super) fn search_slots<C: Cursor>(
         &self,
         cache: &mut Cache,
@@ -391,20 +398,16 @@ impl Strategy {
         requires made { IsCacheOf self.now.vm cache.old }
         ensures answer { IfOk result
             (λ pattern. TellsSlots self.now.vm input.old pattern slots.new) }
+        ensures none { OnErr result (slots.new ≡ no_slots (length slots.new)) }
         ensures made { IsCacheOf self.now.vm cache.new }
         ensures asked { input.new.asked ≡ input.old.asked }
         ensures same { IsSameContent input.old.cursor input.new.cursor }
         ensures refused { IfErr result (λ error. error ≡ MatchError.Memory) }
     {
+        clear_slots(slots);
         match self.ask(&mut cache.kept, input)? {
-            Left::Nothing => {
-                clear_slots(slots);
-                Ok(None)
-            }
+            Left::Nothing => Ok(None),
             Left::Match(span) => {
-                // A law, for the proof alone.
-                finds_lie_inside::<CharacterSet>();
-                let _at = input.position(); // tells how long the content may be
                 put_match(slots, span);
                 Ok(Some(PatternID::ZERO))
             }
@@ -418,8 +421,9 @@ impl Strategy {
     }
 
     /// Notes what is found, as `search_slots` does. In captures of the regex's groups with two
-    /// slots and more group 0 is then the whole match. The cache must be one for the regex, and
-    /// still is one afterwards. The one refusal is `Memory`: then no pattern is noted.
+    /// slots for each pattern and more group 0 is then the whole match. The cache must be one for
+    /// the regex, and still is one afterwards. The one refusal is `Memory`: then no pattern is
+    /// noted, and no slot holds a place.
     pub(super) fn search<C: Cursor>(
         &self,
         cache: &mut Cache,
@@ -434,17 +438,15 @@ impl Strategy {
         ensures groups { caps.new.groups ≡ caps.old.groups }
         ensures slot_len { length caps.new.slots ≡ length caps.old.slots }
         ensures no_answer { OnErr result (caps.new.pattern ≡ None) }
+        ensures none { OnErr result (caps.new.slots ≡ no_slots (length caps.new.slots)) }
         ensures made { IsCacheOf self.now.vm cache.new }
         ensures asked { input.new.asked ≡ input.old.asked }
         ensures same { IsSameContent input.old.cursor input.new.cursor }
         ensures refused { IfErr result (λ error. error ≡ MatchError.Memory) }
     {
-        caps.set_pattern(None);
+        note_nothing(caps);
         match self.ask(&mut cache.kept, input)?.part() {
-            None => {
-                note_nothing(caps);
-                Ok(())
-            }
+            None => Ok(()),
             Some(part) => {
                 let whole = part.cut(input);
                 let told = pikevm::search(self.vm(), &mut cache.kept.vm, input, caps);
@@ -454,11 +456,35 @@ impl Strategy {
         }
     }
 
+    /// The part of an input's span in which that comes next which comes next in the span, where the
+    /// last match, if there was one, ended at `last_match_end`; none where nothing more is found.
+    /// The one refusal is `Memory`.
+    fn next_part<C: Cursor>(
+        &self,
+        kept: &mut Kept,
+        input: &mut Input<C>,
+        last_match_end: Option<usize>,
+    ) -> Result<Option<Part>, MatchError>
+        requires serve { AreKeptFor self.now kept.old }
+        ensures next { IfOk result (IsNextLeft self.now.vm.program
+            (search_by self.now.vm input.old) last_match_end) }
+        ensures serve { AreKeptFor self.now kept.new }
+        ensures core { kept.new.core ≡ kept.old.core }
+        ensures asked { input.new.asked ≡ input.old.asked }
+        ensures same { IsSameContent input.old.cursor input.new.cursor }
+        ensures refused { IfErr result (λ error. error ≡ MatchError.Memory) }
+    {
+        match self.ask(kept, input)?.part() {
+            None => Ok(None),
+            Some(part) => Ok(Some(part.behind(last_match_end, input.get_span()))),
+        }
+    }
+
     /// The pattern of the match that comes next where the last one, if there was one, ended at
-    /// `last_match_end`; its places are put into the slots, two or more, and all others hold none.
-    /// An empty match there is passed over, and the search goes on one byte further than the span
-    /// starts. The cache must be one for the regex, and still is one afterwards. The one refusal is
-    /// `Memory`: what the slots then hold has no meaning.
+    /// `last_match_end`; its places are put into the slots, two for each pattern or more, and all
+    /// others hold none. An empty match there is passed over, and the search goes on one byte
+    /// further than the span starts. The cache must be one for the regex, and still is one
+    /// afterwards. The one refusal is `Memory`: then no slot holds a place.
     pub(super) fn next_slots<C: Cursor>(
         &self,
         cache: &mut Cache,
@@ -467,27 +493,24 @@ impl Strategy {
         last_match_end: Option<usize>,
     ) -> Result<Option<PatternID>, MatchError>
         requires made { IsCacheOf self.now.vm cache.old }
-        requires slots { 2 ≤ length slots.old }
+        requires slots { 2 * length self.now.vm.groups ≤ length slots.old }
         ensures answer { IfOk result (λ pattern. IsNextAnswer self.now.vm.program
             (search_by self.now.vm input.old) last_match_end pattern slots.new) }
+        ensures none { OnErr result (slots.new ≡ no_slots (length slots.new)) }
         ensures made { IsCacheOf self.now.vm cache.new }
         ensures same { (start : ℕ) × StartsFrom input.old input.new start }
+        ensures engine { IsEngine self.now.vm }
         ensures refused { IfErr result (λ error. error ≡ MatchError.Memory) }
     {
-        match self.ask(&mut cache.kept, input)?.part() {
-            None => {
-                clear_slots(slots);
-                Ok(None)
-            }
-            Some(part) => {
-                let next = part.behind(last_match_end, input.get_span());
-                let whole = next.cut(input);
-                let room = &mut cache.kept.vm;
-                let found = pikevm::next_slots(self.vm(), room, input, slots, last_match_end);
-                put_back(input, whole);
-                found
-            }
-        }
+        clear_slots(slots);
+        let vm = self.vm();
+        let Some(part) = self.next_part(&mut cache.kept, input, last_match_end)? else {
+            return Ok(None);
+        };
+        let whole = part.cut(input);
+        let found = pikevm::next_slots(vm, &mut cache.kept.vm, input, slots, last_match_end);
+        put_back(input, whole);
+        found
     }
 
     /// The match that comes next, as `next_slots` finds it. The cache must be one for the regex,
@@ -507,21 +530,18 @@ impl Strategy {
         ensures same { (start : ℕ) × StartsFrom input.old input.new start }
         ensures refused { IfErr result (λ error. error ≡ MatchError.Memory) }
     {
-        // Laws, for the proof alone.
-        matches_note_their_places();
-        finds_lie_inside::<CharacterSet>();
-        let _groups = self.vm().group_info(); // tells that the program is that of a tree
-        let mut slots = [None; 2];
-        let next = self.next_slots(cache, input, &mut slots, last_match_end)?;
-        let Some(pattern) = next else {
+        let Some(part) = self.next_part(&mut cache.kept, input, last_match_end)? else {
             return Ok(None);
         };
-        Ok(pikevm::match_in(pattern, &slots))
+        let whole = part.cut(input);
+        let found = pikevm::find_next(self.vm(), &mut cache.kept.vm, input, last_match_end);
+        put_back(input, whole);
+        found
     }
 
     /// Notes the match that comes next, as `next_slots` finds it, with all its groups, in captures
-    /// of the regex's groups with two slots or more. The cache must be one for the regex, and still
-    /// is one afterwards. The one refusal is `Memory`: then no pattern is noted.
+    /// of the regex's groups with two slots for each pattern or more. The cache must be one for the
+    /// regex, and still is one afterwards. The one refusal is `Memory`: then no pattern is noted.
     pub(super) fn search_next<C: Cursor>(
         &self,
         cache: &mut Cache,
@@ -531,7 +551,7 @@ impl Strategy {
     ) -> Result<(), MatchError>
         requires made { IsCacheOf self.now.vm cache.old }
         requires groups { caps.old.groups ≡ self.now.vm.groups }
-        requires slots { 2 ≤ length caps.old.slots }
+        requires slots { 2 * length self.now.vm.groups ≤ length caps.old.slots }
         ensures answer { OnOk result (HasNotedNext self.now.vm.program
             (search_by self.now.vm input.old) last_match_end caps.new) }
         ensures ordered { OnOk result (ForSome (group_span caps.new 0)
@@ -545,10 +565,6 @@ impl Strategy {
         ensures same { (start : ℕ) × StartsFrom input.old input.new start }
         ensures refused { IfErr result (λ error. error ≡ MatchError.Memory) }
     {
-        // Laws, for the proof alone.
-        matches_note_their_places();
-        finds_lie_inside::<CharacterSet>();
-        let _groups = self.vm().group_info(); // tells that the program is that of a tree
         caps.set_pattern(None);
         let found = self.next_slots(cache, input, caps.slots_mut(), last_match_end)?;
         caps.set_pattern(found);

@@ -1,9 +1,7 @@
-use Rattle.std.proofs.Common.{◌≡◌, ◌+◌, ◌-◌, ◌≤◌, refl, sym, ap, subst, ◌∙◌, arith}
-use Rattle.str_indices.specs.Text.{breaks}
-use Rattle.ropey.specs.Chunks.{is_break}
+use Rattle.std.proofs.Common.{◌≡◌, ◌+◌, ◌-◌, ◌≤◌, ℕ, min, refl, sym, ap, subst, ◌∙◌, arith}
 use Rattle.rope_search_reports.specs.Drafts.{AddsRows, AreBare, lines_between}
 use Rattle.rope_search_reports.specs.Ticks.{MakesAtMost}
-use Rattle.rope_search_reports.proofs.BareLemmas.{adds-none, bare-added, bare-shown, counted-start, counted-few, most-grows, rows-so}
+use Rattle.rope_search_reports.proofs.BareLemmas.{adds-none, bare-added, counted-start, counted-few, looked-many, looked-most, rows-so}
 use Rattle.rope_search_reports.proofs.reports.pass_over.Goals as goal
 
 pub returns-then-left-eq0-clause-rows : goal.returns-then-left-eq0-clause-rows
@@ -17,30 +15,27 @@ returns-then-left-eq0-clause-each c = counted-start c.args.tick.now
 
 pub returns-in_err-push_bare-clause-count : goal.returns-in_err-push_bare-clause-count
 returns-in_err-push_bare-clause-count c =
-    most-grows c.min-passed.result _ c.args.tick.now c.push_bare.new.tick c.push_bare.ensures.count (omega (arith, c.min-passed.ensures, c.line_idx.ensures.line))
+    looked-most c.bare_lines-passed.result _ c.args.tick.now c.bare_lines-passed.new.tick c.push_bare.new.tick c.bare_lines-passed.ensures.count c.bare_lines-passed.ensures.wholes
+    c.push_bare.ensures.count (omega (arith, c.bare_lines-passed.ensures.within, c.line_idx.ensures.line))
 
 pub returns-clause-count : goal.returns-clause-count
 returns-clause-count c =
-    most-grows c.min-passed.result _ c.args.tick.now c.push_bare.new.tick c.push_bare.ensures.count (omega (arith, c.min-passed.ensures, c.line_idx.ensures.line))
+    looked-most c.bare_lines-passed.result _ c.args.tick.now c.bare_lines-passed.new.tick c.push_bare.new.tick c.bare_lines-passed.ensures.count c.bare_lines-passed.ensures.wholes
+    c.push_bare.ensures.count (omega (arith, c.bare_lines-passed.ensures.within, c.line_idx.ensures.line))
+
+pub returns-clause-each : goal.returns-clause-each
+returns-clause-each c =
+    looked-many c.bare_lines-passed.result c.args.tick.now c.bare_lines-passed.new.tick c.push_bare.new.tick c.bare_lines-passed.ensures.count c.bare_lines-passed.ensures.wholes c.in_ok-push_bare.ensures.each
 
 pub push_bare-requires : goal.push_bare-requires
-push_bare-requires c = λ some. c.bare_lines.ensures.empty (omega (arith, some, c.min-passed.ensures))
-
-pub skip-requires : goal.skip-requires
-skip-requires c = omega (arith, c.min-passed.ensures, c.bare_lines.ensures.within, ap (breaks is_break) c.rest.ensures.rest)
-
-pub returns-clause-within : goal.returns-clause-within
-returns-clause-within c = omega (arith, c.min-passed.ensures, c.line_idx.ensures.line, c.requires.ordered)
+push_bare-requires c = λ some. c.bare_lines-passed.ensures.empty some
 
 pub returns-clause-rows : goal.returns-clause-rows
 returns-clause-rows c =
     let pattern = c.args.finder.now in
     let walk = c.args.walk.now in
-    let passed = c.min-passed.result in
-    let few : passed ≤ breaks is_break walk.rest = omega (arith, c.min-passed.ensures, c.bare_lines.ensures.within, ap (breaks is_break) c.rest.ensures.rest) in
-    let all : AreBare pattern walk.rest 0 c.bare_lines.result = subst (λ t. AreBare pattern t 0 c.bare_lines.result) c.rest.ensures.rest c.bare_lines.ensures.bare in
-    let bare : AreBare pattern walk.rest 0 passed = λ line low high. all line low (omega (arith, high, c.min-passed.ensures)) in
+    let passed = c.bare_lines-passed.result in
     bare-added pattern walk.text walk.line (walk.line + passed) c.args.rows.now.items c.push_bare.new.rows.items (omega arith)
-    (omega (arith, c.min-passed.ensures, c.line_idx.ensures.line, c.requires.ordered, c.requires.within))
-    (bare-shown pattern walk.text walk.rest walk.line passed c.rest.ensures.lines few bare)
+    (omega (arith, c.bare_lines-passed.ensures.within, c.line_idx.ensures.line, c.requires.ordered, c.requires.within))
+    c.bare_lines-passed.ensures.bare
     (rows-so c.args.rows.now.items c.push_bare.new.rows.items walk.line passed c.in_ok-push_bare.ensures.rows)

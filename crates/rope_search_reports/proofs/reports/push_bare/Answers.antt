@@ -7,7 +7,7 @@ use Rattle.rope_search_reports.proofs.ReportLaws.{IsRow-one}
 use Rattle.rope_search_reports.proofs.reports.push_bare.Goals as goal
 
 pub loop-done-init : goal.loop-done-init
-loop-done-init c = (sym (append-nil c.args.rows.now.items), refl, counted-start c.args.tick.now)
+loop-done-init c = (sym (append-nil c.args.rows.now.items), refl, counted-start c.args.tick.now, refl)
 
 pub returns-in_err-row_of-clause-count : goal.returns-in_err-row_of-clause-count
 returns-in_err-row_of-clause-count c =
@@ -27,6 +27,7 @@ loop-done-preserved c =
       bare-more c.args.rows.now.items c.loop-done.rows.items c.push.new.self.items c.in_ok-row_of.field-0 c.loop-done._done inv.0 empty c.in_ok-push.ensures.items,
       c.row_of.ensures.finder ∙ inv.1,
       counted-more c.loop-done._done c.args.tick.now c.loop-done.tick c.row_of.new.tick inv.2 c.row_of.ensures.count c.row_of.ensures.wholes,
+      c.row_of.ensures.looked ∙ inv.3,
     )
 
 pub returns-clause-rows : goal.returns-clause-rows

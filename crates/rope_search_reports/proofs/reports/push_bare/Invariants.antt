@@ -7,3 +7,4 @@ abbrev pub invariant-loop-done : goal.invariant-loop-done
 invariant-loop-done l =
     (l.rows.items ≡ l.initial.rows.items ++ replicate l._done [])
     × (l.finder ≡ l.initial.finder) × MakesAsMany l._done l.initial.tick l.tick
+    × (l.tick.looked ≡ l.initial.tick.looked)

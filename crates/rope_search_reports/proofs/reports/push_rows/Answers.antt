@@ -8,7 +8,7 @@ use Rattle.rope_search_reports.proofs.BareLemmas.{adds-none, adds-one, counted-s
 use Rattle.rope_search_reports.proofs.reports.push_rows.Goals as goal
 
 pub loop-done-init : goal.loop-done-init
-loop-done-init c = (adds-none c.args.finder.now c.args.walk.now.text c.args.walk.now.line c.args.rows.now.items, refl, counted-start c.args.tick.now, refl, omega arith)
+loop-done-init c = (adds-none c.args.finder.now c.args.walk.now.text c.args.walk.now.line c.args.rows.now.items, refl, counted-start c.args.tick.now, refl, omega arith, refl)
 
 pub next-requires : goal.next-requires
 next-requires c =
@@ -38,6 +38,7 @@ loop-done-preserved c =
       counted-more done c.args.tick.now c.loop-done.tick c.row_of.new.tick inv.2 c.row_of.ensures.count c.row_of.ensures.wholes,
       c.next.ensures.text ∙ inv.3,
       omega (arith, next, inv.4),
+      c.row_of.ensures.looked ∙ inv.5,
     )
 
 pub returns-clause-line : goal.returns-clause-line

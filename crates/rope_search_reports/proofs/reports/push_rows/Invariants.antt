@@ -9,3 +9,4 @@ invariant-loop-done l =
     AddsRows l.initial.finder (lines_between l.initial.walk.text l.initial.walk.line (l.initial.walk.line + l._done)) l.initial.rows.items l.rows.items
     × (l.finder ≡ l.initial.finder) × MakesAsMany l._done l.initial.tick l.tick
     × (l.walk.text ≡ l.initial.walk.text) × (l.walk.line ≡ l.initial.walk.line + l._done)
+    × (l.tick.looked ≡ l.initial.tick.looked)

@@ -1,12 +1,16 @@
--- What is built so far.
-use Rattle.std.proofs.Common.{drop}
+-- What is built so far, and what is left of the old text.
+use Rattle.std.proofs.Common.{◌≡◌, drop}
 use Rattle.ropey.specs.Chunks.{text_of}
-use Rattle.rope_search_reports.specs.Text.{bytes_of}
-use Rattle.rope_search_reports.specs.Replacement.{replaced}
+use Rattle.rope_search_changes.specs.Text.{bytes_of}
+use Rattle.rope_search_changes.specs.Replacement.{replaced}
+use Rattle.rope_search_templates.specs.Matches.{matched}
+use Rattle.rope_search_templates.specs.Told.{IsToldOf}
 use Rattle.rope_search_templates.proofs.BuildingLemmas.{IsBuilt}
 use Rattle.rope_search_templates.proofs.replacing.rebuilt.Given as goal
 
-abbrev pub invariant-loop-groups : goal.invariant-loop-groups
-invariant-loop-groups l =
+abbrev pub invariant-loop-index : goal.invariant-loop-index
+invariant-loop-index l =
     let content = bytes_of (text_of l.text) in
-    IsBuilt content l.template l.at (drop l.groups-index l.matches) l.builder (replaced content l.template 0 l.matches)
+    let matches = matched l.matches in
+    IsBuilt content l.template l.at (drop l.index matches) l.builder (replaced content l.template 0 matches)
+    × (l.left.bytes ≡ drop l.at content) × IsToldOf l.template l.told

@@ -1,6 +1,8 @@
-use Rattle.std.proofs.Common.{◌≤◌, length, arith}
+use Rattle.std.proofs.Common.{◌*◌, ◌≤◌, length, arith}
 use Rattle.rx_steps.specs.Searching.{search_of}
 use Rattle.rx_chunk.proofs.EarlyLaws.{nothing_at, match_at, match_in_order}
+use Rattle.rx_chunk.proofs.LowerLaws.{inside_law}
+use Rattle.rx_chunk.proofs.FoundLaws.{notes_places}
 use Rattle.rx_chunk.proofs.pikevm.look_for.Goals as goal
 
 pub returns-in_default-clause-answer : goal.returns-in_default-clause-answer
@@ -12,10 +14,10 @@ match_in-requires g c =
     let vm = c.args.vm.now in
     let s = search_of vm.utf8_empty c.args.input.now in
     let slots = c.seek.new.slots in
-    let two : 2 ≤ length slots = omega arith in
+    let room : 2 * length vm.groups ≤ length slots = omega (arith, c.in_ok-slots.ensures.room) in
     record {
-      ordered = match_in_order c.args.earliest vm s c.seek.new.input.position c.in_ok-found.found c.in-Some.pattern slots c.group_info-groups.ensures.engine c.matches_note_their_places.ensures c.finds_lie_inside.ensures
-          two c.in-Some.is c.in_ok-found.ensures.answer;
+      ordered = match_in_order c.args.earliest vm s c.seek.new.input.position c.in_ok-found.found c.in-Some.pattern slots (notes_places vm c.seek.ensures.engine) inside_law
+          room c.in-Some.is c.in_ok-found.ensures.answer;
     }
 
 pub returns-clause-answer : goal.returns-clause-answer
@@ -23,8 +25,8 @@ returns-clause-answer g c =
     let vm = c.args.vm.now in
     let s = search_of vm.utf8_empty c.args.input.now in
     let slots = c.seek.new.slots in
-    let two : 2 ≤ length slots = omega arith in
-    match_at c.args.earliest vm s c.seek.new.input.position c.in_ok-found.found c.in-Some.pattern slots c.match_in.result c.group_info-groups.ensures.engine c.matches_note_their_places.ensures two c.in-Some.is
+    let room : 2 * length vm.groups ≤ length slots = omega (arith, c.in_ok-slots.ensures.room) in
+    match_at c.args.earliest vm s c.seek.new.input.position c.in_ok-found.found c.in-Some.pattern slots c.match_in.result (notes_places vm c.seek.ensures.engine) room c.in-Some.is
     c.match_in.ensures c.in_ok-found.ensures.answer
 
 pub returns-clause-stops : goal.returns-clause-stops

@@ -1,12 +1,9 @@
-use Rattle.rx_chunk.proofs.FoundLaws.{span_there, match_there}
+use Rattle.std.proofs.Common.{sym, ap, ap₂, ◌∙◌}
+use Rattle.rx_util.specs.Captured.{span_between}
 use Rattle.rx_chunk.proofs.pikevm.match_in.Goals as goal
 
 pub new-requires : goal.new-requires
 new-requires c =
-    let start = c.in_ok-start.start in
-    let end = c.in_ok-end.end in
-    record { ordered = c.requires.ordered (record { start = start; end = end }) (span_there c.args.slots.now start end c.in_ok-start.ensures c.in_ok-end.ensures) }
-
-pub returns : goal.returns
-returns c =
-    match_there c.args.slots.now c.in_ok-start.start c.in_ok-end.end c.args.pattern c.new.result c.in_ok-start.ensures c.in_ok-end.ensures c.new.ensures.pattern c.new.ensures.span
+    let start = sym (ap (λ places. places.0) c.whole_places.ensures) ∙ c.in-Some-Some.is-0 in
+    let end = sym (ap (λ places. places.1) c.whole_places.ensures) ∙ c.in-Some-Some.is-1 in
+    record { ordered = c.requires.ordered (record { start = c.in-Some-Some.start; end = c.in-Some-Some.end }) (ap₂ (λ i j. span_between i j) start end) }

@@ -1,10 +1,12 @@
-use Rattle.std.proofs.Common.{◌≡◌, ◌≤◌, ◌<◌, ◌^◌, length, subst, ◌∙◌, arith}
+use Rattle.std.proofs.Common.{◌≡◌, ◌*◌, ◌≤◌, ◌<◌, ◌^◌, length, subst, ◌∙◌, arith}
 use Rattle.std.specs.Prelude.{OnOk}
 use Rattle.std.specs.Option.{ForSome}
 use Rattle.rx_steps.specs.Standing.{StopsAt}
 use Rattle.rx_steps.specs.Searching.{search_of, IsAnswerAt}
 use Rattle.rx_chunk.proofs.EngineLaws.{on_ok}
 use Rattle.rx_chunk.proofs.EarlyLaws.{AreFoundAt, captured_at, tells_slots}
+use Rattle.rx_chunk.proofs.LowerLaws.{cut_law, inside_law}
+use Rattle.rx_chunk.proofs.FoundLaws.{notes_places}
 use Rattle.rx_chunk.proofs.pikevm.search.Goals as goal
 
 -- the answer, with what the input asks for
@@ -15,21 +17,21 @@ answered g c =
     on_ok c.note.result (λ is. subst (λ b. IsAnswerAt b p s c.note.new.input.position c.note.new.caps.pattern c.note.new.caps.slots) c.get_earliest-earliest.ensures is) c.note.ensures.answer
 
 -- what they tell, where they were those of the engine
-told : (g : _) (c : goal.After-note g) → c.args.caps.now.groups ≡ c.args.vm.now.groups → 2 ≤ length c.args.caps.now.slots
+told : (g : _) (c : goal.After-note g) → c.args.caps.now.groups ≡ c.args.vm.now.groups → 2 * length c.args.vm.now.groups ≤ length c.args.caps.now.slots
     → IsAnswerAt c.args.input.now.asked.earliest c.args.vm.now.program (search_of c.args.vm.now.utf8_empty c.args.input.now) c.note.new.input.position c.note.new.caps.pattern c.note.new.caps.slots
     → AreFoundAt c.args.input.now.asked.earliest c.args.vm.now.program (search_of c.args.vm.now.utf8_empty c.args.input.now) c.note.new.caps
-told g c same two is =
+told g c same room is =
     let s = search_of c.args.vm.now.utf8_empty c.args.input.now in
     let caps = c.note.new.caps in
-    let few : 2 ≤ length caps.slots = omega (arith, two, c.note.ensures.slot_len) in
-    captured_at c.args.input.now.asked.earliest c.args.vm.now s c.note.new.input.position caps c.group_info-groups.ensures.engine c.matches_note_their_places.ensures c.finds_lie_inside.ensures c.cut_spans_tell.ensures
+    let few : 2 * length c.args.vm.now.groups ≤ length caps.slots = omega (arith, room, c.note.ensures.slot_len) in
+    captured_at c.args.input.now.asked.earliest c.args.vm.now s c.note.new.input.position caps (notes_places c.args.vm.now c.note.ensures.engine) inside_law cut_law
     (c.note.ensures.groups ∙ same) few is
 
 pub returns-clause-answer : goal.returns-clause-answer
 returns-clause-answer g c =
     let s = search_of c.args.vm.now.utf8_empty c.args.input.now in
     let caps = c.note.new.caps in
-    on_ok c.note.result (λ is. tells_slots c.args.input.now.asked.earliest c.args.vm.now.program s c.note.new.input.position caps.pattern caps.slots c.cut_spans_tell.ensures is) (answered g c)
+    on_ok c.note.result (λ is. tells_slots c.args.input.now.asked.earliest c.args.vm.now.program s c.note.new.input.position caps.pattern caps.slots cut_law is) (answered g c)
 
 pub returns-clause-stops : goal.returns-clause-stops
 returns-clause-stops g c =
@@ -38,7 +40,7 @@ returns-clause-stops g c =
 
 pub returns-clause-whole : goal.returns-clause-whole
 returns-clause-whole g c = λ holds.
-    let content : length c.args.input.now.cursor.content < 2 ^ 63 = c.position-at.ensures.holds.lawful.bound in
+    let content : length c.args.input.now.cursor.content < 2 ^ 63 = c.note.ensures.bound in
     on_ok c.note.result
     (λ is.
     let are = told g c holds.0 holds.1 is in

@@ -1,10 +1,12 @@
-use Rattle.std.proofs.Common.{◌≡◌, ◌≤◌, length, arith, sym, ap, subst, ◌∙◌}
+use Rattle.std.proofs.Common.{◌≡◌, ◌*◌, ◌≤◌, length, arith, sym, ap, subst, ◌∙◌}
 use Rattle.std.specs.Option.{ForSome}
 use Rattle.rx_util.specs.Captured.{Captured, group_span}
 use Rattle.rx_steps.specs.Searching.{search_of}
 use Rattle.rx_chunk.specs.Iterating.{HasNotedNext, IsNextAnswer}
 use Rattle.rx_chunk.proofs.EngineLaws.{lent_slots}
 use Rattle.rx_chunk.proofs.NextLaws.{next_ends, noted_next}
+use Rattle.rx_chunk.proofs.LowerLaws.{inside_law}
+use Rattle.rx_chunk.proofs.FoundLaws.{notes_places}
 use Rattle.rx_chunk.proofs.pikevm.search_next.Goals as goal
 
 -- what the captures have noted then, whose whole match is in order
@@ -24,8 +26,8 @@ noted g c =
     let groups : caps.groups ≡ vm.groups = ap (λ (x : Captured). x.groups) c.set_pattern-2.ensures ∙ ap (λ (x : Captured). x.groups) c.set_pattern.ensures ∙ c.requires.groups in
     let filled : length caps.slots ≡ length slots = ap length (ap (λ (x : Captured). x.slots) c.set_pattern-2.ensures ∙ lent_slots before slots len) in
     let as_before : length before.slots ≡ length c.args.caps.now.slots = ap (λ (x : Captured). length x.slots) c.set_pattern.ensures in
-    let two : 2 ≤ length caps.slots = omega (arith, filled, len, as_before, c.requires.slots) in
-    noted_next vm c.group_info-groups.ensures.engine c.matches_note_their_places.ensures s last caps c.finds_lie_inside.ensures groups two answer
+    let room : 2 * length vm.groups ≤ length caps.slots = omega (arith, filled, len, as_before, c.requires.slots) in
+    noted_next vm (notes_places vm c.next_slots.ensures.engine) s last caps inside_law groups room answer
 
 pub returns-clause-answer : goal.returns-clause-answer
 returns-clause-answer g c = (noted g c).0
@@ -35,4 +37,4 @@ returns-clause-ordered g c = (noted g c).1
 
 pub returns-clause-ahead : goal.returns-clause-ahead
 returns-clause-ahead g c =
-    next_ends c.args.vm.now.program (search_of c.args.vm.now.utf8_empty c.args.input.now) c.args.last_match_end c.set_pattern-2.new.self c.finds_lie_inside.ensures (noted g c).0
+    next_ends c.args.vm.now.program (search_of c.args.vm.now.utf8_empty c.args.input.now) c.args.last_match_end c.set_pattern-2.new.self inside_law (noted g c).0

@@ -4,6 +4,7 @@ use Rattle.rx_steps.specs.Standing.{StopsAt}
 use Rattle.rx_steps.specs.Searching.{search_of, IsAnswerAt}
 use Rattle.rx_chunk.proofs.EngineLaws.{if_ok}
 use Rattle.rx_chunk.proofs.EarlyLaws.{tells_slots}
+use Rattle.rx_chunk.proofs.LowerLaws.{cut_law}
 use Rattle.rx_chunk.proofs.pikevm.search_slots.Goals as goal
 
 pub returns-clause-answer_at : goal.returns-clause-answer_at
@@ -20,7 +21,7 @@ returns-clause-answer g c =
     let s = search_of c.args.vm.now.utf8_empty c.args.input.now in
     let i = c.seek.new.input.position in
     let slots = c.seek.new.slots in
-    if_ok c.seek.result (λ pattern is. tells_slots c.args.input.now.asked.earliest p s i pattern slots c.cut_spans_tell.ensures is) (returns-clause-answer_at g c)
+    if_ok c.seek.result (λ pattern is. tells_slots c.args.input.now.asked.earliest p s i pattern slots cut_law is) (returns-clause-answer_at g c)
 
 pub returns-clause-stops : goal.returns-clause-stops
 returns-clause-stops g c =

@@ -7,6 +7,7 @@ use Rattle.rx_dfa.specs.Tables.{HasStepped}
 use Rattle.rx_dfa.proofs.TableLaws.{there_is}
 use Rattle.rx_dfa.proofs.PassLaws.{quits_by, one_passed}
 use Rattle.rx_dfa.proofs.ScanLaws.{cache_in, lacks_among, state_at}
+use Rattle.rx_steps.proofs.AlikeLaws.{steps_are_alike}
 use Rattle.rx_dfa.proofs.scan.pass.Goals as goal
 
 pub returns-in-Ok-None-clause-refused : goal.returns-in-Ok-None-clause-refused
@@ -40,7 +41,7 @@ returns-in-Ok-Some-clause-passed g c = λ x stands.
     let next = c.in-Ok-Some.next in
     let to : LeadsTo a.program.now a.alphabet.now states x (ahead_in a.alphabet.now c.class-column.result) next =
     subst (λ o. HasStepped a states x c.class-column.result o) c.in-Ok-Some.field-0-is (c.in-Ok-Some.ensures.step x stands) in
-    one_passed c.steps_are_alike.ensures a states x c.args.byte c.args.at next c.args.met.now c.met_behind.result c.requires.is
+    one_passed steps_are_alike a states x c.args.byte c.args.at next c.args.met.now c.met_behind.result c.requires.is
     (state_at a.program.now a.alphabet.now old c.args.number x (cache_in g.T.Table.is_whole a old c.requires.table) stands).bare
     (omega (arith, c.ranges.byte.fits)) (subst (λ k. LeadsTo a.program.now a.alphabet.now states x (ahead_in a.alphabet.now k) next) c.class-column.ensures to)
     (λ y at. c.met_behind.ensures y (subst (λ (v : CacheView). slice_get v.states next ≡ Some y) (sym c.known.ensures) at))

@@ -5,6 +5,9 @@ use Rattle.rx_dfa.proofs.LoopLaws.{Laws}
 use Rattle.rx_dfa.proofs.EndLaws.{last_answers}
 use Rattle.rx_dfa.proofs.SearchLaws.{byte_there}
 use Rattle.rx_dfa.proofs.ScanLaws.{cache_in, lacks_there, quit_there, state_at}
+use Rattle.rx_dfa.proofs.LowerLaws.{first_character, keeping_law, last_character}
+use Rattle.rx_steps.proofs.AlikeLaws.{steps_are_alike, steps_end}
+use Rattle.rx_walks.proofs.LookLaws.{one_byte_tells}
 use Rattle.rx_dfa.proofs.search.finish.Goals as goal
 
 pub returns-in-Some-clause-refused : goal.returns-in-Some-clause-refused
@@ -35,8 +38,8 @@ returns-in-Ok-clause-answer g c = λ q starts at.
     let s = search_by a c.args.input.now in
     let i = c.args.input.now.position in
     let is : IsLastColumn a s i c.last_column-column.result = c.last_column-column.ensures c.requires.last (c.byte_seen-seen.ensures a.alphabet.now.utf8_empty) (c.byte_that_quits.ensures.none c.in_default.is) in
-    let laws : Laws = record { alike = c.steps_are_alike.ensures; end = c.steps_end.ensures; one_byte = c.one_byte_tells.ensures; first = c.first_character_stands.ensures; last = c.last_character_stands.ensures } in
-    let whole = last_answers laws a s q i c.last_column-column.result at.state c.in-Ok.ended c.args.met c.walks_are_those_of_characters.ensures.reads c.program_is_searched_keeping.ensures starts c.requires.is.asked
+    let laws : Laws = record { alike = steps_are_alike; end = steps_end; one_byte = one_byte_tells; first = first_character; last = last_character } in
+    let whole = last_answers laws a s q i c.last_column-column.result at.state c.in-Ok.ended c.args.met c.requires.is.reads keeping_law starts c.requires.is.asked
     (state_at a.program.now a.alphabet.now old c.args.number at.state (cache_in g.T.Table.is_whole a old c.requires.table) at.stands).bare c.requires.inside c.requires.last is at.behind (c.in-Ok.ensures.step at.state at.stands) at.reached in
     subst (λ o. IsHalfAnswer a.program.now s o) (ap (λ k. met_after k c.in-Ok.ended c.args.met) (sym c.position-at.ensures.position) ∙ sym c.last_met.ensures) whole
 

@@ -11,6 +11,7 @@ use Rattle.rx_dfa.specs.Passing.{IsOverAt, StandsAt, search_by}
 use Rattle.rx_dfa.specs.Searching.{IsHalfAnswer}
 use Rattle.rx_dfa.proofs.TableLaws.{the_same}
 use Rattle.rx_dfa.proofs.LoopLaws.{over_answers}
+use Rattle.rx_dfa.proofs.LowerLaws.{keeping_law}
 use Rattle.rx_dfa.proofs.search.follow.Goals as goal
 
 pub is_over-requires : goal.is_over-requires
@@ -23,7 +24,7 @@ returns-then-is_over-clause-answer g c = λ q starts at.
     let now = c.loop-met.invariant.stands q at in
     let over = subst (λ (v : CacheView). IsOverAt v.states c.loop-met.number) c.known.ensures (c.is_over.ensures c.if-is_over.true) in
     let same = the_same now.stands over.stands in
-    over_answers a.program.now s q c.loop-met.input.position now.state c.loop-met.met c.walks_are_those_of_characters.ensures.reads c.program_is_searched_keeping.ensures starts
+    over_answers a.program.now s q c.loop-met.input.position now.state c.loop-met.met c.requires.is.reads keeping_law starts
     (ap (λ (x : AutomatonState). x.threads.threads) same ∙ over.threads) (ap (λ (x : AutomatonState). x.starting) same ∙ over.starting) now.reached
 
 pub finish-requires-clause-last : goal.finish-requires-clause-last

@@ -6,6 +6,9 @@ use Rattle.rx_dfa.specs.Tables.{IsRefusalAmong}
 use Rattle.rx_dfa.proofs.TableLaws.{there_is}
 use Rattle.rx_dfa.proofs.LoopLaws.{Laws}
 use Rattle.rx_dfa.proofs.ScanLaws.{content_long, refused_there, stands_on}
+use Rattle.rx_dfa.proofs.LowerLaws.{first_character, last_character}
+use Rattle.rx_steps.proofs.AlikeLaws.{steps_are_alike, steps_end}
+use Rattle.rx_walks.proofs.LookLaws.{one_byte_tells}
 use Rattle.rx_dfa.proofs.search.pass_piece.Goals as goal
 
 pub returns-in-Err-clause-refused : goal.returns-in-Err-clause-refused
@@ -35,7 +38,7 @@ returns-in-Ok-clause-stands g c = λ q at.
     let n = c.in-Ok.passed in
     let there = c.bytes_ahead.ensures.stand a.alphabet.now.utf8_empty c.requires.inside in
     let long = content_long s input.position bytes there c.requires.inside.4 in
-    let laws : Laws = record { alike = c.steps_are_alike.ensures; end = c.steps_end.ensures; one_byte = c.one_byte_tells.ensures; first = c.first_character_stands.ensures; last = c.last_character_stands.ensures } in
+    let laws : Laws = record { alike = steps_are_alike; end = steps_end; one_byte = one_byte_tells; first = first_character; last = last_character } in
     let far : input.position + n ≡ c.move_to.new.self.position = omega (arith, c.move_to.ensures.position_is, c.position-at.ensures.position, long, c.in-Ok.ensures.within) in
     let passed : (x : AutomatonState) → slice_get old c.args.number ≡ Some x → HasPassed a new x (take n bytes) input.position c.args.met.now c.in-Ok.next c.scan.new.met =
     λ x stands. subst (λ i. HasPassed a new x (take n bytes) i c.args.met.now c.in-Ok.next c.scan.new.met) c.position-at.ensures.position (c.in-Ok.ensures.passed x stands) in

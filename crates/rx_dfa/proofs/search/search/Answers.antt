@@ -11,6 +11,7 @@ use Rattle.rx_dfa.specs.Passing.{search_by}
 use Rattle.rx_dfa.specs.Searching.{IsHalfAnswer}
 use Rattle.rx_dfa.specs.Tables.{IsRefusalBy}
 use Rattle.rx_dfa.proofs.ScanLaws.{half_of_none}
+use Rattle.rx_dfa.proofs.LowerLaws.{keeping_law}
 use Rattle.rx_dfa.proofs.search.search.Goals as goal
 
 pub returns-in_default-clause-answer : goal.returns-in_default-clause-answer
@@ -28,7 +29,7 @@ returns-then-not-enter-clause-answer g c =
     let s = search_by a c.args.input.now in
     let starts : start_node (characters_of p) (anchoring_of c.args.input.now.asked.anchored) ≡ Some c.in-Some.first =
     subst (λ z. start_node (characters_of p) (anchoring_of z) ≡ Some c.in-Some.first) c.get_anchored.ensures (sym c.start_state.ensures ∙ c.in-Some.is) in
-    half_of_none p s [] (none_inside p s c.in-Some.first [] c.walks_are_those_of_characters.ensures.reads c.program_is_searched_keeping.ensures starts (λ j inside. c.enter.ensures.none c.if-not-enter.true a.alphabet.now.utf8_empty j inside) refl)
+    half_of_none p s [] (none_inside p s c.in-Some.first [] c.requires.is.reads keeping_law starts (λ j inside. c.enter.ensures.none c.if-not-enter.true a.alphabet.now.utf8_empty j inside) refl)
 
 pub start-requires-clause-start : goal.start-requires-clause-start
 start-requires-clause-start g c =

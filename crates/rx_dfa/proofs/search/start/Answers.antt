@@ -57,8 +57,8 @@ first-requires-clause-begins g c =
       starts = c.requires.start;
       starting_is = starts_from s q new.position c.first_starting-starting.result None (c.first_starting-starting.ensures b first);
       byte = c.byte_behind-behind.result;
-      may_be = c.may_be_byte.ensures;
-      behind_is = c.side-side.ensures;
+      may_be = c.side-side.ensures.byte;
+      behind_is = c.side-side.ensures.side;
     }
 
 pub returns-in-Err-clause-refused : goal.returns-in-Err-clause-refused
@@ -99,6 +99,6 @@ returns-in-Ok-clause-answer g c =
       behind = behind_is p alphabet.asked s i x byte c.requires.is.asked
           (λ e. c.byte_behind-behind.ensures.asked (any ∙ e) b c.requires.inside ∙ ap₂ (λ z k. byte_before z k) (sym same) (sym moved.position_is))
           (λ e. c.byte_behind-behind.ensures.unasked (any ∙ e))
-          (found.first.behind_is ∙ c.side-side.ensures) (c.byte_that_quits.ensures.none c.in_default.is);
+          (found.first.behind_is ∙ c.side-side.ensures.side) (c.byte_that_quits.ensures.none c.in_default.is);
     } in
     if_ok c.follow.result (λ found' answer. subst (λ z. IsHalfAnswer p z found') same (answer q starts stands)) c.follow.ensures.answer

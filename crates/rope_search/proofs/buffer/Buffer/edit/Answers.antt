@@ -7,11 +7,13 @@ use Rattle.ropey.specs.Chunks.{text_of}
 use Rattle.rope_search.specs.declared.search.Search.{Search}
 use Rattle.rope_search.specs.Session.{BufferState, LimitedBuffer, current_text}
 use Rattle.rope_search_reports.specs.Changes.{AreChanges}
-use Rattle.rope_search_reports.specs.Text.{line_count}
+use Rattle.rope_search_reports.specs.Text.{line_count, IsText}
 use Rattle.rope_search.specs.Cost.{rows_anew}
 use Rattle.rope_search.specs.Places.{IsMarked}
 use Rattle.rope_search.specs.Histories.{Texts, with_changes}
 use Rattle.rope_search.proofs.KeepLemmas.{keeps_edit}
+use Rattle.rope_search.proofs.ChangedLemmas.{replaces-told}
+use Rattle.rope_search.proofs.PartLaws.{cutting_scalars}
 use Rattle.rope_search.proofs.buffer.Buffer.edit.Goals as goal
 
 pub returns-in_err-patches-clause-rows : goal.returns-in_err-patches-clause-rows
@@ -84,3 +86,39 @@ returns-clause-kept c =
     let bytes : byte_len (chars c.args.inserted.now) ≡ len = ap length (encodes-chars c.args.inserted.now c.utf8.inserted) in
     keeps_edit c.args.self.now _ c.args.from c.args.to (current_text c.args.self.now.state) (chars c.args.inserted.now) c.in_ok-part.part c.change-change.result len refl
     c.in_ok-part.ensures.part c.change-change.ensures.places bytes (ap (λ (t : Texts). t.changes) c.in_ok-add-2.ensures.ok ∙ ap (λ (b : LimitedBuffer). with_changes b (c.change-change.result ∷ [])) c.self.view_is)
+
+pub returns-clause-changed : goal.returns-clause-changed
+returns-clause-changed c =
+    let history = c.self.inside.history in
+    let finder = c.in-Some.search.finder in
+    let state : BufferState = record { texts = history.texts; current = history.current; pattern = Some finder } in
+    let one : c.self.inside.search ≡ Some c.in-Some.search = c.in-Some.is in
+    let same : state ≡ c.args.self.now.state =
+    ap (λ (o : Option Search). record { texts = history.texts; current = history.current; pattern = option_map (λ (s : Search). s.finder) o }) (sym one)
+    ∙ ap (λ (v : LimitedBuffer). v.state) c.self.view_is in
+    let is : c.args.self.now.state.pattern ≡ Some finder = ap (λ (b : BufferState). b.pattern) (sym same) in
+    let here : text_of c.current-old.result.now ≡ current_text c.args.self.now.state = c.current-old.ensures.text ∙ ap current_text same in
+    let after : BufferState = record { texts = c.add-2.new.self.texts; current = c.add-2.new.self.current; pattern = Some c.apply.new.self.finder } in
+    replaces-told c.args.self.now.state after finder (text_of c.current-old.result.now) (text_of c.in_ok-new.new) c.in_ok-patches.patches.changed
+    is (ap Some (c.apply.ensures.finder ∙ c.patches.ensures.finder)) here (sym c.in_ok-add-2.ensures.current) c.in_ok-patches.ensures.changed
+
+pub returns-clause-added : goal.returns-clause-added
+returns-clause-added c =
+    let history = c.self.inside.history in
+    let finder = c.in-Some.search.finder in
+    let state : BufferState = record { texts = history.texts; current = history.current; pattern = Some finder } in
+    let one : c.self.inside.search ≡ Some c.in-Some.search = c.in-Some.is in
+    let same : state ≡ c.args.self.now.state =
+    ap (λ (o : Option Search). record { texts = history.texts; current = history.current; pattern = option_map (λ (s : Search). s.finder) o }) (sym one)
+    ∙ ap (λ (v : LimitedBuffer). v.state) c.self.view_is in
+    let is : c.args.self.now.state.pattern ≡ Some finder = ap (λ (b : BufferState). b.pattern) (sym same) in
+    let here : text_of c.current-old.result.now ≡ current_text c.args.self.now.state = c.current-old.ensures.text ∙ ap current_text same in
+    let old = text_of c.current-old.result.now in
+    let inserted = chars c.args.inserted.now in
+    let marked : IsMarked old c.in_ok-part.part = subst (λ t. IsMarked t c.in_ok-part.part) (sym here) c.in_ok-part.ensures.part.marked in
+    let changed : AreChanges (c.change-change.result ∷ []) 0 0 old (text_of c.in_ok-new.new) (line_count inserted) =
+    subst (λ t. AreChanges (c.change-change.result ∷ []) 0 0 old t (line_count inserted)) (sym c.in_ok-new.ensures.text) (c.change-change.ensures.changes old marked) in
+    let rows : rows_anew c.args.self.now.state inserted ≡ line_count inserted = ap (λ p. if is_some p then line_count inserted else 0) is in
+    let is_text : IsText (text_of c.in_ok-new.new) = cutting_scalars c.in_ok-new.new c.len_bytes.ensures.cut.cut in
+    let lines = c.changes_put_lines.ensures (c.change-change.result ∷ []) old (text_of c.in_ok-new.new) (line_count inserted) is_text changed in
+    omega (arith, c.in_ok-patches.ensures.added, lines, rows)

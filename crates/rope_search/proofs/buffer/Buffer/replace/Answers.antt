@@ -1,10 +1,12 @@
-use Rattle.std.proofs.Common.{◌≡◌, sym, ap, ◌∙◌}
+use Rattle.std.proofs.Common.{◌≡◌, sym, ap, ◌∙◌, subst}
 use Rattle.std.specs.Prelude.{Option, Some, option_map}
 use Rattle.std.specs.Str.{chars}
 use Rattle.ropey.specs.Chunks.{text_of}
 use Rattle.rope_search.specs.declared.search.Search.{Search}
 use Rattle.rope_search.specs.Session.{BufferState, LimitedBuffer, current_text}
-use Rattle.rope_search.proofs.MatchLemmas.{rows_of}
+use Rattle.rope_search.proofs.MatchLemmas.{rows_of, long_with}
+use Rattle.rope_search.specs.Replacing.{GetsTooLongWith}
+use Rattle.rope_search.proofs.ChangedLemmas.{replaces-told}
 use Rattle.rope_search.proofs.buffer.Buffer.replace.Goals as goal
 
 pub returns-in_err-replaced-clause-rows : goal.returns-in_err-replaced-clause-rows
@@ -45,3 +47,34 @@ returns-clause-rows c = λ n rows.
     let is : c.args.self.now.state.pattern ≡ Some finder = ap (λ (b : BufferState). b.pattern) (sym same) in
     let here : text_of c.current-old.result.now ≡ current_text c.args.self.now.state = c.current-old.ensures.text ∙ ap current_text same in
     c.replaced.ensures.count n (rows_of c.args.self.now.state finder (text_of c.current-old.result.now) (chars c.args.template.now) n is here rows)
+
+pub returns-clause-changed : goal.returns-clause-changed
+returns-clause-changed c =
+    let history = c.self.inside.history in
+    let finder = c.in-Some.search.finder in
+    let state : BufferState = record { texts = history.texts; current = history.current; pattern = Some finder } in
+    let one : c.self.inside.search ≡ Some c.in-Some.search = c.in-Some.is in
+    let same : state ≡ c.args.self.now.state =
+    ap (λ (o : Option Search). record { texts = history.texts; current = history.current; pattern = option_map (λ (s : Search). s.finder) o }) (sym one)
+    ∙ ap (λ (v : LimitedBuffer). v.state) c.self.view_is in
+    let is : c.args.self.now.state.pattern ≡ Some finder = ap (λ (b : BufferState). b.pattern) (sym same) in
+    let here : text_of c.current-old.result.now ≡ current_text c.args.self.now.state = c.current-old.ensures.text ∙ ap current_text same in
+    let after : BufferState = record { texts = c.add.new.self.texts; current = c.add.new.self.current; pattern = Some c.apply.new.self.finder } in
+    replaces-told c.args.self.now.state after finder (text_of c.current-old.result.now) (text_of c.in_ok-replaced.replaced.text) c.in_ok-replaced.replaced.patches.changed
+    is (ap Some (c.apply.ensures.finder ∙ c.replaced.ensures.finder)) here (sym c.in_ok-add.ensures.current) c.in_ok-replaced.ensures.changed
+
+pub returns-clause-unmade : goal.returns-clause-unmade
+returns-clause-unmade c = λ over.
+    let history = c.self.inside.history in
+    let finder = c.in-Some.search.finder in
+    let state : BufferState = record { texts = history.texts; current = history.current; pattern = Some finder } in
+    let one : c.self.inside.search ≡ Some c.in-Some.search = c.in-Some.is in
+    let same : state ≡ c.args.self.now.state =
+    ap (λ (o : Option Search). record { texts = history.texts; current = history.current; pattern = option_map (λ (s : Search). s.finder) o }) (sym one)
+    ∙ ap (λ (v : LimitedBuffer). v.state) c.self.view_is in
+    let is : c.args.self.now.state.pattern ≡ Some finder = ap (λ (b : BufferState). b.pattern) (sym same) in
+    let here : text_of c.current-old.result.now ≡ current_text c.args.self.now.state = c.current-old.ensures.text ∙ ap current_text same in
+    let limit : c.self.inside.limits.text ≡ c.args.self.now.limit = ap (λ (v : LimitedBuffer). v.limit) c.self.view_is in
+    let template = chars c.args.template.now in
+    c.in_ok-replaced.ensures.unmade ((long_with c.self.inside.limits.text c.args.self.now.state finder (text_of c.current-old.result.now) template is here).1
+    (subst (λ n. GetsTooLongWith n c.args.self.now.state template) (sym limit) over))

@@ -1,9 +1,13 @@
-use Rattle.std.proofs.Common.{◌≡◌, ◌-◌, ℕ, List, sym, subst, ◌∙◌}
+use Rattle.std.proofs.Common.{◌≡◌, ◌-◌, ℕ, List, sym, subst, ◌∙◌, ap}
 use Rattle.ropey.specs.Chunks.{text_of}
 use Rattle.rope_search_reports.specs.Turned.{Lead, listed, turned}
-use Rattle.rope_search_reports.specs.declared.changes.Change.{Change}
-use Rattle.rope_search.specs.Histories.{text_at}
+use Rattle.rope_search_changes.specs.declared.Change.{Change}
+use Rattle.rope_search.specs.Histories.{text_at, Texts}
 use Rattle.rope_search.proofs.HistoryLemmas.{led-to}
+use Rattle.std.specs.Prelude.{Option, Some, option_map}
+use Rattle.rope_search.specs.declared.search.Search.{Search}
+use Rattle.rope_search.specs.Session.{BufferState, LimitedBuffer, current_text}
+use Rattle.rope_search.proofs.ChangedLemmas.{replaces-told}
 use Rattle.rope_search.proofs.buffer.Buffer.undo.Goals as goal
 
 pub turned-requires : goal.turned-requires
@@ -32,3 +36,19 @@ follow-requires-clause-led c =
     subst (λ (cs : List Change). Lead cs (text_of c.current-current.result.now) (text_of c.in-Some.text.now)) (sym told)
     (subst (λ (t : List ℕ). Lead (turned 0 0 last) t (text_of c.in-Some.text.now)) (sym c.current-current.ensures.text)
     (subst (λ (t : List ℕ). Lead (turned 0 0 last) here t) (sym c.in-Some.ensures.text) back))
+
+pub returns-clause-changed : goal.returns-clause-changed
+returns-clause-changed c =
+    let history = c.self.inside.history in
+    let finder = c.in-Some-search.search.finder in
+    let state : BufferState = record { texts = history.texts; current = history.current; pattern = Some finder } in
+    let one : c.self.inside.search ≡ Some c.in-Some-search.search = c.in-Some-search.is in
+    let same : state ≡ c.args.self.now.state =
+    ap (λ (o : Option Search). record { texts = history.texts; current = history.current; pattern = option_map (λ (s : Search). s.finder) o }) (sym one)
+    ∙ ap (λ (v : LimitedBuffer). v.state) c.self.view_is in
+    let is : c.args.self.now.state.pattern ≡ Some finder = ap (λ (b : BufferState). b.pattern) (sym same) in
+    let here : text_of c.current-current.result.now ≡ current_text c.args.self.now.state = c.current-current.ensures.text ∙ ap current_text same in
+    let after : BufferState = record { texts = c.step_back-2.new.self.texts; current = c.step_back-2.new.self.current; pattern = Some c.follow.new.self.finder } in
+    let there : text_of c.in-Some.text.now ≡ current_text after = c.in-Some.ensures.text ∙ sym (ap (λ (t : Texts). text_at t.texts t.current) c.step_back-2.ensures) in
+    replaces-told c.args.self.now.state after finder (text_of c.current-current.result.now) (text_of c.in-Some.text.now) c.in_ok-self-inside.field-0
+    is (ap Some c.follow.ensures.finder) here there c.in_ok-self-inside.ensures.changed

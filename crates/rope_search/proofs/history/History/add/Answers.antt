@@ -2,7 +2,7 @@ use Rattle.std.proofs.Common.{◌≡◌, ◌+◌, ◌<◌, List, ℕ, [], ◌∷
 use Rattle.std.proofs.lemmas.List.{length-map}
 use Rattle.ropey.specs.Chunks.{text_of}
 use Rattle.rope_search_reports.specs.Turned.{Lead, listed}
-use Rattle.rope_search_reports.specs.declared.changes.Change.{Change}
+use Rattle.rope_search_changes.specs.declared.Change.{Change}
 use Rattle.rope_search.specs.Histories.{Texts, LeadOn, text_at}
 use Rattle.rope_search.specs.declared.history.Version.{Version}
 use Rattle.rope_search.proofs.HistoryLemmas.{text_in, changes_in, shown-more, led-more}

@@ -1,8 +1,8 @@
 use Rattle.std.proofs.Common.{◌^◌, ◌<◌, length, sym, subst, arith}
 use Rattle.ropey.specs.Chunks.{text_of}
-use Rattle.rope_search_reports.specs.Patches.{patched, AreInTurn, made_by}
+use Rattle.rope_search_reports.specs.Patches.{patched, AreInTurn, growth_by, made_by}
 use Rattle.rope_search.specs.Searched.{HasRoom}
-use Rattle.rope_search.proofs.PatchLemmas.{made-within}
+use Rattle.rope_search.proofs.PatchLemmas.{growth-made, made-within}
 use Rattle.rope_search.proofs.search.Search.patches.Goals as goal
 
 pub room_for-requires-clause-few : goal.room_for-requires-clause-few
@@ -13,7 +13,8 @@ room_for-requires-clause-few c =
     let patches = c.in_ok-patches.patches.items in
     let long = c.a_row_a_line.ensures new search.finder (patched 0 rows patches) (c.in_ok-patches.ensures.report rows c.requires.report) in
     let few : made_by patches < 2 ^ 64 = omega (arith, made-within 0 rows patches, long, c.len_lines-len.ensures) in
-    subst (λ ps. made_by ps < 2 ^ 64) (sym c.deref.ensures.value) few
+    let grown : growth_by patches < 2 ^ 64 = omega (arith, few, growth-made patches) in
+    subst (λ ps. growth_by ps < 2 ^ 64) (sym c.deref.ensures.value) grown
 
 pub returns-clause-fit : goal.returns-clause-fit
 returns-clause-fit c =
@@ -33,3 +34,6 @@ returns-clause-few c =
     let patches = c.in_ok-patches.patches.items in
     let few = c.few_matches.ensures new search.finder (patched 0 rows patches) (c.in_ok-patches.ensures.report rows c.requires.report) in
     omega (arith, few, c.len_bytes.ensures.bytes, c.len_bytes.ensures.fits)
+
+pub returns-clause-changed : goal.returns-clause-changed
+returns-clause-changed c = c.stretch_of-changed.ensures.rows c.args.self.now.finder

@@ -14,6 +14,7 @@ use Rattle.rope_search_reports.specs.Text.{IsText}
 use Rattle.rope_search.proofs.TextLemmas.{Encodes-chars}
 use Rattle.rope_search.proofs.TextLaws.{holds_edit}
 use Rattle.rope_search.proofs.HoldLemmas.{AllKept, kept_set, kept_limit, kept_holds}
+use Rattle.rope_search.proofs.ChangedLemmas.{tells-edit}
 use Rattle.rope_search.proofs.session.Session.edit.Goals as goal
 
 pub returns-in_err-edit-in-Ok-clause-step : goal.returns-in_err-edit-in-Ok-clause-step
@@ -132,3 +133,16 @@ invariant_of-self-in-Ok c =
     let holds = holds_edit c.index_mut.result.now.state new.state c.args.from c.args.to (chars c.in-Ok.text.now) held is told.ok in
     let all = kept_set items k new inside (told.limit ∙ kept_limit items k c.index_mut.result.now inside c.index_mut.ensures.value kept) holds kept in
     (c.self.invariant.0, (all.limits, all.texts))
+
+pub returns-in_ok-edit-in-Ok-clause-changed : goal.returns-in_ok-edit-in-Ok-clause-changed
+returns-in_ok-edit-in-Ok-clause-changed c = λ bytes stands.
+    let inside = c.self.inside in
+    let old = c.index_mut.result.now in
+    let limit = limit_in inside.buffers.items inside.chosen in
+    let chosen : Chosen inside.buffers.items inside.chosen limit old c.args.self.now =
+    record { inside = omega (arith, inside.buffers.ok.0); is = c.index_mut.ensures.value; all = c.self.invariant.1.0; seen = c.self.view_is } in
+    let given : bytes ≡ c.in-Kept.bytes.now = rw c.in-Kept.is at stands in
+    let same : c.in-Ok.text.now ≡ bytes = c.in-Ok.ensures.cases.0 ∙ sym given in
+    let told = c.in_ok-edit-in-Ok.ensures in
+    tells-edit c.args.from c.args.to bytes inside.buffers.items inside.chosen limit old c.edit.new.self c.args.self.now chosen told.changed
+    (omega (arith, told.added, ap (λ t. rows_anew old.state (chars t)) same))

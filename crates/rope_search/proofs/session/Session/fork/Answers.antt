@@ -1,4 +1,4 @@
-use Rattle.std.proofs.Common.{◌≡◌, ◌<◌, ◌∷◌, ◌++◌, [], length, ap, sym, subst, ◌∙◌, arith}
+use Rattle.std.proofs.Common.{◌<◌, length, ap, sym, subst, ◌∙◌, arith}
 use Rattle.std.specs.Vec.{vec_len}
 use Rattle.rope_search.specs.Session.{LimitedBuffer, limit_in}
 use Rattle.rope_search.proofs.HoldLemmas.{AllKept, kept_push, kept_limit, kept_holds, holds_forked}

@@ -4,6 +4,8 @@ use Rattle.rope_search_reports.specs.Ticks.{Ticks}
 use Rattle.rope_search.specs.Session.{limit_in}
 use Rattle.rope_search.proofs.SessionLemmas.{Chosen}
 use Rattle.rope_search.proofs.EditLemmas.{Step-redone, rows_redone}
+use Rattle.rope_search.proofs.ChangedLemmas.{tells}
+use Rattle.rope_search.specs.Order.{RedoEdit}
 use Rattle.rope_search.proofs.session.Session.redo.Goals as goal
 
 pub returns-clause-step : goal.returns-clause-step
@@ -37,3 +39,12 @@ returns-clause-rows c = λ cost costs.
     record { inside = omega (arith, inside.buffers.ok.0); is = c.index_mut.ensures.value; all = c.self.invariant.1.0; seen = c.self.view_is } in
     rows_redone inside.buffers.items inside.chosen (limit_in inside.buffers.items inside.chosen) old c.args.self.now c.redo.new.tick.count c.args.tick.now.count chosen
     (λ none. omega (arith, ap (λ (t : Ticks). t.count) (told.refused (told.nothing.1 none)))) told.rows.made cost costs
+
+pub returns-clause-changed : goal.returns-clause-changed
+returns-clause-changed c =
+    let inside = c.self.inside in
+    let old = c.index_mut.result.now in
+    let limit = limit_in inside.buffers.items inside.chosen in
+    let chosen : Chosen inside.buffers.items inside.chosen limit old c.args.self.now =
+    record { inside = omega (arith, inside.buffers.ok.0); is = c.index_mut.ensures.value; all = c.self.invariant.1.0; seen = c.self.view_is } in
+    tells RedoEdit inside.buffers.items inside.chosen limit old c.redo.new.self c.args.self.now chosen c.in_ok-redo.ensures.changed tt

@@ -13,6 +13,8 @@ use Rattle.rope_search_reports.specs.Text.{IsText}
 use Rattle.rope_search.proofs.TextLemmas.{Encodes-chars}
 use Rattle.rope_search.proofs.TextLaws.{holds_replaced}
 use Rattle.rope_search.proofs.HoldLemmas.{AllKept, kept_set, kept_limit, kept_holds}
+use Rattle.rope_search.proofs.ChangedLemmas.{tells-replace}
+use Rattle.rope_search.specs.Changed.{SpansMatches}
 use Rattle.rope_search.proofs.session.Session.replace.Goals as goal
 
 pub returns-in_err-number-in-Ok-clause-step : goal.returns-in_err-number-in-Ok-clause-step
@@ -122,3 +124,16 @@ invariant_of-self-in-Ok c =
     let holds = holds_replaced c.replaced_is_text.ensures c.index_mut.result.now.state new.state (chars c.in-Ok.template.now) c.in_ok-number-in-Ok.number held is told.ok in
     let all = kept_set items k new inside (told.limit ∙ kept_limit items k c.index_mut.result.now inside c.index_mut.ensures.value kept) holds kept in
     (c.self.invariant.0, (all.limits, all.texts))
+
+pub returns-in_ok-number-in-Ok-clause-changed : goal.returns-in_ok-number-in-Ok-clause-changed
+returns-in_ok-number-in-Ok-clause-changed c = λ bytes stands.
+    let inside = c.self.inside in
+    let old = c.index_mut.result.now in
+    let limit = limit_in inside.buffers.items inside.chosen in
+    let chosen : Chosen inside.buffers.items inside.chosen limit old c.args.self.now =
+    record { inside = omega (arith, inside.buffers.ok.0); is = c.index_mut.ensures.value; all = c.self.invariant.1.0; seen = c.self.view_is } in
+    let given : bytes ≡ c.in-Kept.bytes.now = rw c.in-Kept.is at stands in
+    let same : c.in-Ok.template.now ≡ bytes = c.in-Ok.ensures.cases.0 ∙ sym given in
+    let told = c.in_ok-number-in-Ok.ensures in
+    tells-replace bytes inside.buffers.items inside.chosen limit old c.replace.new.self c.args.self.now chosen told.changed
+    (subst (λ t. SpansMatches old.state (chars t) c.replace.new.self.state c.replace.new.self.changed) same told.added)

@@ -11,6 +11,7 @@ use Rattle.rope_search_reports.specs.Pattern.{IsTooHeavy, SpellsNone}
 use Rattle.rope_search.proofs.SessionLemmas.{Chosen, Chosen-kept, Step-take_pattern, Step-pattern_err, pattern_rows}
 use Rattle.rope_search.proofs.TextLemmas.{Encodes-chars}
 use Rattle.rope_search.proofs.HoldLemmas.{AllKept, kept_set, kept_limit, kept_holds, holds_pattern}
+use Rattle.rope_search.proofs.ChangedLemmas.{tells}
 use Rattle.rope_search.proofs.session.Session.set_pattern.Goals as goal
 
 pub returns-in_ok-set_pattern-in-Ok-clause-step : goal.returns-in_ok-set_pattern-in-Ok-clause-step
@@ -94,3 +95,12 @@ invariant_of-self-in-Ok c =
     let holds = holds_pattern c.index_mut.result.now.state new.state (chars c.in-Ok.pattern.now) (kept_holds items k c.index_mut.result.now inside c.index_mut.ensures.value kept) is told.is_pattern told.ok in
     let all = kept_set items k new inside (told.limit ∙ kept_limit items k c.index_mut.result.now inside c.index_mut.ensures.value kept) holds kept in
     (c.self.invariant.0, (all.limits, all.texts))
+
+pub returns-in_ok-set_pattern-in-Ok-clause-changed : goal.returns-in_ok-set_pattern-in-Ok-clause-changed
+returns-in_ok-set_pattern-in-Ok-clause-changed c = λ bytes stands.
+    let inside = c.self.inside in
+    let old = c.index_mut.result.now in
+    let limit = limit_in inside.buffers.items inside.chosen in
+    let chosen : Chosen inside.buffers.items inside.chosen limit old c.args.self.now =
+    record { inside = omega (arith, inside.buffers.ok.0); is = c.index_mut.ensures.value; all = c.self.invariant.1.0; seen = c.self.view_is } in
+    tells (SetPattern bytes) inside.buffers.items inside.chosen limit old c.set_pattern.new.self c.args.self.now chosen c.in_ok-set_pattern-in-Ok.ensures.changed tt

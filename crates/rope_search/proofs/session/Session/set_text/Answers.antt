@@ -4,9 +4,11 @@ use Rattle.rope_search_reports.specs.Ticks.{Ticks}
 use Rattle.rope_search_reports.specs.Text.{IsText}
 use Rattle.rope_search.specs.Session.{with_text, limit_in}
 use Rattle.rope_search.specs.Cost.{rows_anew}
-use Rattle.rope_search.proofs.SessionLemmas.{Step-take_text, rows_taken}
+use Rattle.rope_search.proofs.SessionLemmas.{Step-take_text, rows_taken, Chosen}
 use Rattle.rope_search.proofs.TextLemmas.{Encodes-chars}
 use Rattle.rope_search.proofs.HoldLemmas.{AllKept, kept_set, kept_limit, kept_holds, holds_text}
+use Rattle.rope_search.proofs.ChangedLemmas.{tells}
+use Rattle.rope_search.specs.Order.{SetText}
 use Rattle.rope_search.proofs.session.Session.set_text.Goals as goal
 
 pub returns-in_ok-set_text-in-Ok-clause-step : goal.returns-in_ok-set_text-in-Ok-clause-step
@@ -67,3 +69,12 @@ invariant_of-self-in-Ok c =
     let holds = holds_text c.index_mut.result.now.state new.state (chars c.in-Ok.text.now) (kept_holds items k c.index_mut.result.now inside c.index_mut.ensures.value kept) is (c.in_ok-set_text-in-Ok.ensures.ok) in
     let all = kept_set items k new inside (told.limit ∙ kept_limit items k c.index_mut.result.now inside c.index_mut.ensures.value kept) holds kept in
     (c.self.invariant.0, (all.limits, all.texts))
+
+pub returns-in_ok-set_text-in-Ok-clause-changed : goal.returns-in_ok-set_text-in-Ok-clause-changed
+returns-in_ok-set_text-in-Ok-clause-changed c = λ bytes stands.
+    let inside = c.self.inside in
+    let old = c.index_mut.result.now in
+    let limit = limit_in inside.buffers.items inside.chosen in
+    let chosen : Chosen inside.buffers.items inside.chosen limit old c.args.self.now =
+    record { inside = omega (arith, inside.buffers.ok.0); is = c.index_mut.ensures.value; all = c.self.invariant.1.0; seen = c.self.view_is } in
+    tells (SetText bytes) inside.buffers.items inside.chosen limit old c.set_text.new.self c.args.self.now chosen c.in_ok-set_text-in-Ok.ensures.changed tt

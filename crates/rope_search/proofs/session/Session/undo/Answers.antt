@@ -3,6 +3,8 @@ use Rattle.rope_search_reports.specs.Ticks.{Ticks}
 use Rattle.rope_search.specs.Session.{limit_in}
 use Rattle.rope_search.proofs.SessionLemmas.{Chosen}
 use Rattle.rope_search.proofs.EditLemmas.{Step-undone, rows_undone}
+use Rattle.rope_search.proofs.ChangedLemmas.{tells}
+use Rattle.rope_search.specs.Order.{UndoEdit}
 use Rattle.rope_search.proofs.session.Session.undo.Goals as goal
 
 pub returns-clause-step : goal.returns-clause-step
@@ -33,3 +35,12 @@ returns-clause-rows c = λ cost costs.
     record { inside = omega (arith, inside.buffers.ok.0); is = c.index_mut.ensures.value; all = c.self.invariant.1.0; seen = c.self.view_is } in
     rows_undone inside.buffers.items inside.chosen (limit_in inside.buffers.items inside.chosen) old c.args.self.now c.undo.new.tick.count c.args.tick.now.count chosen
     (λ none. omega (arith, ap (λ (t : Ticks). t.count) (told.refused (told.nothing.1 none)))) told.rows.made cost costs
+
+pub returns-clause-changed : goal.returns-clause-changed
+returns-clause-changed c =
+    let inside = c.self.inside in
+    let old = c.index_mut.result.now in
+    let limit = limit_in inside.buffers.items inside.chosen in
+    let chosen : Chosen inside.buffers.items inside.chosen limit old c.args.self.now =
+    record { inside = omega (arith, inside.buffers.ok.0); is = c.index_mut.ensures.value; all = c.self.invariant.1.0; seen = c.self.view_is } in
+    tells UndoEdit inside.buffers.items inside.chosen limit old c.undo.new.self c.args.self.now chosen c.in_ok-undo.ensures.changed tt

@@ -1,6 +1,7 @@
-use Rattle.std.proofs.Common.{ℕ, ap, sym, subst, length, arith, ◌<◌}
+use Rattle.std.proofs.Common.{ℕ, length, ap, sym, subst, ◌∙◌}
 use Rattle.std.proofs.lemmas.Str.{encodes-chars}
-use Rattle.rope_search_reports.specs.Text.{bytes_of}
+use Rattle.rope_search_changes.specs.Text.{bytes_of}
+use Rattle.rope_search_templates.specs.Matches.{groups_in}
 use Rattle.rope_search_templates.specs.Pieces.{IsPiece}
 use Rattle.rope_search_templates.proofs.SpanLemmas.{utf8-of, span-of, span-len}
 use Rattle.rope_search_templates.proofs.pieces.Piece.len.Goals as goal
@@ -13,7 +14,6 @@ pub returns-in-Some : goal.returns-in-Some
 returns-in-Some c =
     λ text scalars spans.
     let span : ℕ × ℕ = (c.in-Some.start, c.in-Some.end) in
-    let digit = subst IsPiece c.in-Group.is c.requires.piece in
-    let number : c.in-Group.number < length c.args.groups.now = omega (arith, digit) in
-    let in-text = span-of (bytes_of text) c.args.groups.now c.in-Group.number span spans number c.in-Some.is in
-    rw (c.in-Group.is, c.in-Some.is) (sym (span-len (bytes_of text) span (utf8-of text scalars) in-text))
+    let is = sym c.group.ensures ∙ c.in-Some.is in
+    let in-text = span-of (bytes_of text) (groups_in c.args.found) c.in-Group.number span spans is in
+    rw (c.in-Group.is, is) (sym (span-len (bytes_of text) span (utf8-of text scalars) in-text))

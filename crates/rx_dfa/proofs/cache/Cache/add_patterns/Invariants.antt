@@ -1,11 +1,11 @@
 use Rattle.std.proofs.Common.{◌≡◌, ℕ, ◌<◌, Some, slice_get}
-use Rattle.rx_dfa.specs.Tables.{IsCacheBy}
+use Rattle.rx_dfa.specs.Tables.{HoldsBy}
 use Rattle.rx_dfa.specs.DenseTables.{HasStartsFrom}
 use Rattle.rx_dfa.proofs.cache.Cache.add_patterns.Given as goal
 
 -- the states are there for the patterns so far
 abbrev pub invariant-loop-start : goal.invariant-loop-start
 invariant-loop-start l = record {
-  made : IsCacheBy l.automaton l.self;
+  made : HoldsBy l.automaton l.self;
   starts : (k q : ℕ) → k < l.start-index → slice_get l.automaton.program.now.patterns k ≡ Some q → HasStartsFrom l.automaton.program.now l.automaton.alphabet.now l.self.states q;
 }

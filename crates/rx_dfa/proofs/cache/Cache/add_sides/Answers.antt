@@ -12,7 +12,7 @@ pub loop-column-preserved : goal.loop-column-preserved
 loop-column-preserved c =
     let p = c.args.automaton.now.program.now in
     let alphabet = c.args.automaton.now.alphabet.now in
-    let side = c.side-side.ensures ∙ ap (λ o. behind_of alphabet.asked p.line_terminator o) c.byte.ensures in
+    let side = c.side-side.ensures.side ∙ ap (λ o. behind_of alphabet.asked p.line_terminator o) c.byte.ensures in
     record {
       made = c.add_starts.ensures.made;
       kept = λ number x e. c.in_ok-add_starts.ensures.kept number x (c.loop-column.invariant.kept number x e);

@@ -1,6 +1,6 @@
 use Rattle.std.proofs.Common.{ℕ, ◌<◌, slice_get}
 use Rattle.rx_dfa.specs.Behind.{behind_of}
-use Rattle.rx_dfa.specs.Tables.{IsCacheBy}
+use Rattle.rx_dfa.specs.Tables.{HoldsBy}
 use Rattle.rx_dfa.specs.Caches.{KeepNumbers}
 use Rattle.rx_dfa.specs.DenseTables.{HasStarts}
 use Rattle.rx_dfa.proofs.cache.Cache.add_sides.Given as goal
@@ -8,7 +8,7 @@ use Rattle.rx_dfa.proofs.cache.Cache.add_sides.Given as goal
 -- the states are there for what stands in the columns so far
 abbrev pub invariant-loop-column : goal.invariant-loop-column
 invariant-loop-column l = record {
-  made : IsCacheBy l.automaton l.self;
+  made : HoldsBy l.automaton l.self;
   kept : KeepNumbers l.fn.self.states l.self.states;
   starts : (k : ℕ) → k < l.column → HasStarts l.self.states l.start (behind_of l.automaton.alphabet.now.asked l.automaton.program.now.line_terminator (slice_get l.automaton.alphabet.now.classes.bytes k));
 }

@@ -2,11 +2,12 @@ use Rattle.std.proofs.Common.{sym, arith}
 use Rattle.std.proofs.lemmas.Option.{slice_get_within}
 use Rattle.rx_dfa.specs.Alphabets.{column_count}
 use Rattle.rx_dfa.proofs.TableLaws.{keep_all, there_is}
-use Rattle.rx_dfa.proofs.DenseLaws.{known_grown, known_more, row_more}
+use Rattle.rx_dfa.proofs.DenseLaws.{known_grown, known_more, row_more, rows_both}
+use Rattle.rx_dfa.specs.DenseTables.{no_more}
 use Rattle.rx_dfa.proofs.cache.Cache.fill_row.Goals as goal
 
 pub loop-column-init : goal.loop-column-init
-loop-column-init c = record { made = c.requires.made; number = c.requires.number; kept = keep_all c.args.self.now.states; before = c.requires.known; row = λ column lt. absurd (omega (arith, lt)) }
+loop-column-init c = record { made = c.requires.made; number = c.requires.number; kept = keep_all c.args.self.now.states; before = c.requires.known; row = λ column lt. absurd (omega (arith, lt)); rows = no_more (omega arith) }
 
 pub loop-column-preserved : goal.loop-column-preserved
 loop-column-preserved c =
@@ -23,6 +24,7 @@ loop-column-preserved c =
       kept = λ number x e. grows.numbers number x (was.kept number x e);
       before = known_grown p alphabet old new c.args.number was.made c.fill.ensures.made grows was.before;
       row = row_more p alphabet old new c.args.number c.loop-column.column was.made c.fill.ensures.made grows was.row c.in_ok-fill.ensures.known;
+      rows = rows_both c.args.self.now old new (sym was.made.width) (sym c.fill.ensures.made.width) was.rows c.in_ok-fill.ensures.rows;
     }
 
 pub returns-clause-known : goal.returns-clause-known

@@ -5,7 +5,7 @@ use Rattle.rx_dfa.specs.Behind.{quits}
 use Rattle.rx_dfa.specs.States.{IsStep}
 use Rattle.rx_dfa.specs.Alphabets.{ahead_in}
 use Rattle.rx_dfa.specs.Caches.{CacheView, IsCacheOf, LeadsTo}
-use Rattle.rx_dfa.proofs.TableLaws.{there_is, quit_set, step_set, leads_to_found}
+use Rattle.rx_dfa.proofs.TableLaws.{there_is, quit_set, same_bounded, step_set, leads_to_found}
 use Rattle.rx_dfa.proofs.cache.Cache.make_step.Goals as goal
 use Rattle.rx_dfa.proofs.cache.Cache.make_step.Goals.{then-not-was_cleared, else-not-was_cleared}
 
@@ -14,8 +14,11 @@ returns-then-quits_at-clause-made c =
     let alphabet = c.args.automaton.now.alphabet.now in
     let told : quits alphabet.asked (ahead_in alphabet c.args.column).seen ≡ true =
     sym (ap (λ (y : Ahead). quits alphabet.asked y.seen) c.ahead-ahead.ensures) ∙ sym c.quits_at.ensures ∙ c.if-quits_at.true in
-    quit_set c.args.automaton.now.program.now alphabet c.args.self.now c.set_entry.new.self c.args.number c.args.column c.requires.made c.requires.number c.requires.column told
-    c.set_entry.ensures.table c.set_entry.ensures.states c.set_entry.ensures.widths c.set_entry.ensures.width
+    record {
+      steps = quit_set c.args.automaton.now.program.now alphabet c.args.self.now c.set_entry.new.self c.args.number c.args.column c.requires.made.steps c.requires.number c.requires.column told
+          c.set_entry.ensures.table c.set_entry.ensures.states c.set_entry.ensures.widths c.set_entry.ensures.width c.set_entry.ensures.used;
+      bounded = same_bounded alphabet.capacity c.args.self.now c.set_entry.new.self c.set_entry.ensures.states c.set_entry.ensures.used c.requires.made.bounded;
+    }
 
 pub entry_to-entry-requires-clause-next : goal.entry_to-entry-requires-clause-next
 entry_to-entry-requires-clause-next c =
@@ -33,7 +36,7 @@ returns-clause-made c =
     let p = c.args.automaton.now.program.now in
     let alphabet = c.args.automaton.now.alphabet.now in
     let cache = c.number_of.new.self in
-    let made = c.in_ok-next.ensures.made in
+    let made = c.number_of.ensures.made in
     elim c.if-not-was_cleared.branch [
       | then-not-was_cleared w ↦
           let here = there_is c.args.self.now.states c.args.number c.requires.number in
@@ -44,8 +47,11 @@ returns-clause-made c =
           let to = leads_to_found p alphabet cache.states here.0 c.in_ok-state.state (ahead_in alphabet c.args.column) c.in_ok-next.next step told c.in_ok-next.ensures.number in
           let entered = w.set_entry-then-not-was_cleared in
           subst (λ v. IsCacheOf p alphabet v) (sym w.self-is)
-          (step_set p alphabet cache entered.new.self c.args.number c.args.column c.in_ok-next.next w.entry_to-entry.result here.0 made still (omega (arith, c.requires.column, c.requires.made.width, made.width)) to
-          w.entry_to-entry.ensures entered.ensures.table entered.ensures.states entered.ensures.widths entered.ensures.width)
+          (record {
+            steps = step_set p alphabet cache entered.new.self c.args.number c.args.column c.in_ok-next.next w.entry_to-entry.result here.0 made.steps still (omega (arith, c.requires.column, c.requires.made.steps.width, made.steps.width)) to
+                w.entry_to-entry.ensures entered.ensures.table entered.ensures.states entered.ensures.widths entered.ensures.width entered.ensures.used;
+            bounded = same_bounded alphabet.capacity cache entered.new.self entered.ensures.states entered.ensures.used made.bounded;
+          })
       | else-not-was_cleared w ↦ subst (λ v. IsCacheOf p alphabet v) (sym w.self-is) made
     ]
 

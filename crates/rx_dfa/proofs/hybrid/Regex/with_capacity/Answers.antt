@@ -1,8 +1,8 @@
 use Rattle.std.proofs.lemmas.Result.{err_from_is_err_and}
-use Rattle.rx_engine.specs.Engines.{memory}
+use Rattle.rx_engine.specs.Engines.{want_of_memory}
 use Rattle.rx_dfa.proofs.hybrid.Regex.with_capacity.Goals as goal
 
 pub returns-in_err-over-clause-refused : goal.returns-in_err-over-clause-refused
 returns-in_err-over-clause-refused c =
     let p = err_from_is_err_and c.from_residual-in_err-over.result c.from_residual-in_err-over.ensures.1 in
-    rw (p.1, p.2) (λ pattern stands. memory)
+    rw (p.1, p.2) want_of_memory

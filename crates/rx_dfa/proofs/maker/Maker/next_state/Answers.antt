@@ -21,5 +21,5 @@ returns-clause-step c =
           (subst (λ (threads : List Thread). IsNextList p c.place_of-place.result threads next ended slots) from c.in_ok-ended.ensures.list);
       thins = c.in_ok-thin.ensures.thin;
       starting = c.after.ensures;
-      behind = c.side.ensures;
+      behind = c.side.ensures.side;
     }

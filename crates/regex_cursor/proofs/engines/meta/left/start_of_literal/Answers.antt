@@ -7,6 +7,7 @@ use Rattle.rx_program.specs.Programs.{characters_of}
 use Rattle.rx_literals.specs.Needles.{FoundAtStart, FoundInSpan}
 use Rattle.regex_cursor.specs.Strategies.{BeginsFrom}
 use Rattle.regex_cursor.proofs.LeftLaws.{from_start}
+use Rattle.rx_literals.proofs.LiteralLaws.{literals_find}
 use Rattle.regex_cursor.proofs.engines.meta.left.start_of_literal.Goals as goal
 
 pub returns-in-No-clause-start : goal.returns-in-No-clause-start
@@ -14,7 +15,7 @@ returns-in-No-clause-start g c = λ p utf8_empty literal.
     let i = c.args.input.now in
     let needles = c.args.needle.now in
     let s = search_of utf8_empty i in
-    let law = c.literals_find.ensures needles (characters_of p) is_word_char s c.needles_are_lawful.ensures literal in
+    let law = literals_find needles (characters_of p) is_word_char s c.needles_are_lawful.ensures literal in
     let free : s.anchoring ≡ unanchored = ap anchoring_of (sym c.get_anchored.ensures ∙ c.in-No.is) in
     let asked = sym c.find-found.ensures.asked in
     let found = c.find-found.ensures.found in
@@ -30,7 +31,7 @@ returns-in-Yes-clause-start g c = λ p utf8_empty literal.
     let i = c.args.input.now in
     let needles = c.args.needle.now in
     let s = search_of utf8_empty i in
-    let law = c.literals_find.ensures needles (characters_of p) is_word_char s c.needles_are_lawful.ensures literal in
+    let law = literals_find needles (characters_of p) is_word_char s c.needles_are_lawful.ensures literal in
     let kept : s.anchoring ≡ anchored = ap anchoring_of (sym c.get_anchored.ensures ∙ c.in-Yes.is) in
     let asked = sym c.prefix-found.ensures.asked in
     let found = c.prefix-found.ensures.found in

@@ -5,6 +5,7 @@ use Rattle.rx_chunk.specs.Engines.{match_of}
 use Rattle.rx_chunk.specs.Iterating.{MatchesLeft, IsFoundNext, left_behind}
 use Rattle.rx_chunk.specs.FindMatches.{left_of, program_of}
 use Rattle.rx_chunk.proofs.IterLaws.{found_ends, left_there, moved_search, moved_on, set_to, gives_match, gives_none, fewer_left, none_left}
+use Rattle.rx_chunk.proofs.LowerLaws.{inside_law}
 use Rattle.rx_chunk.proofs.pikevm.find_matches.FindMatchesIterator.next.Goals as goal
 
 -- ---- nothing comes any more
@@ -22,7 +23,7 @@ set_start-requires g c =
     let p = program_of c.args.self.now in
     let a = c.in-Ok-Some.found in
     let is : IsFoundNext p m.search m.last_end (Some a) = rw c.in-Ok-Some.field-0-is at c.in-Ok-Some.ensures.answer in
-    let ends = found_ends p m.last_end m.search a c.finds_lie_inside.ensures is in
+    let ends = found_ends p m.last_end m.search a inside_law is in
     let last : c.find_next.new.input.asked.span.end ≡ c.args.self.now.input.asked.span.end = ap (λ x. x.span.end) c.in-Ok-Some.ensures.same.1.asked in
     omega (arith, ends.in_span, last, c.end-end.ensures.end)
 
@@ -57,7 +58,7 @@ returns-in-Ok-Some-clause-goes g c =
     let is : IsFoundNext p m.search m.last_end (Some a) = rw c.in-Ok-Some.field-0-is at c.in-Ok-Some.ensures.answer in
     let starts = moved_on old c.find_next.new.input new c.in-Ok-Some.ensures.same.0 c.end-end.result c.in-Ok-Some.ensures.same.1 (set_to c.find_next.new.input new c.end-end.result c.set_start.ensures) in
     let search : search_of b new ≡ from_place_on m.search a.span.end = moved_search b old new c.end-end.result starts ∙ ap (λ k. from_place_on m.search k) c.end-end.ensures.end in
-    let ends = found_ends p m.last_end m.search a c.finds_lie_inside.ensures is in
+    let ends = found_ends p m.last_end m.search a inside_law is in
     let left : n ≡ left_behind m a.span.end = left_there m (search_of b new) a.span.end c.end-end.result search c.end-end.ensures.end c.if-self.false in
     let fewer = fewer_left m n a.span.end c.if-self.false ends left in
     record { on = λ _. (tt, tt, fewer); keeps = tt; rests = λ _. tt }

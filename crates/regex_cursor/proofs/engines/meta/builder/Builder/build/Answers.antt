@@ -2,12 +2,7 @@ use Rattle.std.proofs.lemmas.Result.{err_from_is_err_and}
 use Rattle.rx_engine.specs.Engines.{memory}
 use Rattle.regex_cursor.proofs.engines.meta.builder.Builder.build.Goals as goal
 
-pub returns-in_err-strategy-clause-refused : goal.returns-in_err-strategy-clause-refused
-returns-in_err-strategy-clause-refused c =
-    let p = err_from_is_err_and c.from_residual-in_err-strategy.result c.from_residual-in_err-strategy.ensures.1 in
-    rw (p.1, p.2) memory
-
-pub returns-in_err-over-clause-refused : goal.returns-in_err-over-clause-refused
-returns-in_err-over-clause-refused c =
-    let p = err_from_is_err_and c.from_residual-in_err-over.result c.from_residual-in_err-over.ensures.1 in
+pub returns-in_err-regex_of-clause-refused : goal.returns-in_err-regex_of-clause-refused
+returns-in_err-regex_of-clause-refused c =
+    let p = err_from_is_err_and c.from_residual-in_err-regex_of.result c.from_residual-in_err-regex_of.ensures.1 in
     rw (p.1, p.2) memory

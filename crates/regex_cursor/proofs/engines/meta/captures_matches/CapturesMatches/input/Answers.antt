@@ -11,5 +11,5 @@ returns g c =
         refl,
         λ w. ap₂ (λ (p : IsCacheOf m.re.now m.cache) (q : HasRoom m.re.now m.caps). record m { input = w; serves = p; holds = q }) (same-serves m.re.now m.cache _ m.serves) (same-room m.re.now m.caps _ m.holds),
       ),
-      record { writes_back = tt; search = refl },
+      record { writes_back = tt; input = refl; search = refl },
     )

@@ -1,6 +1,7 @@
 use Rattle.std.proofs.Common.{subst}
 use Rattle.regex_cursor.specs.Strategies.{IsLeft}
 use Rattle.regex_cursor.proofs.LeftLaws.{literal_left}
+use Rattle.regex_cursor.proofs.LowerLaws.{inside_law, one_law}
 use Rattle.regex_cursor.proofs.engines.meta.left.Left.part.Goals as goal
 
 pub returns-in-Nothing : goal.returns-in-Nothing
@@ -8,7 +9,7 @@ returns-in-Nothing c = λ p s left. subst (λ x. IsLeft p s x) c.in-Nothing.is l
 
 pub returns-in-Match : goal.returns-in-Match
 returns-in-Match c = λ p s left.
-    literal_left p s c.finds_at_most_one.ensures c.finds_lie_inside.ensures c.in-Match.span (subst (λ x. IsLeft p s x) c.in-Match.is left)
+    literal_left p s one_law inside_law c.in-Match.span (subst (λ x. IsLeft p s x) c.in-Match.is left)
 
 pub returns-in-In : goal.returns-in-In
 returns-in-In c = λ p s left. subst (λ x. IsLeft p s x) c.in-In.is left

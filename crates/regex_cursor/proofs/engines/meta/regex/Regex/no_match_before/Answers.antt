@@ -6,6 +6,7 @@ use Rattle.regex_cursor.specs.Patterns.{HasNoMatchBetween}
 use Rattle.regex_cursor.specs.Regexes.{Engine}
 use Rattle.regex_cursor.specs.Strategies.{Engines}
 use Rattle.regex_cursor.proofs.BetweenLaws.{none_at_all, none_before, found_within, none_between}
+use Rattle.rx_literals.proofs.SkipLaws.{no_needle_no_match}
 use Rattle.regex_cursor.proofs.engines.meta.regex.Regex.no_match_before.Goals as goal
 
 pub returns-in-Some-clause-no_match : goal.returns-in-Some-clause-no_match
@@ -15,7 +16,7 @@ returns-in-Some-clause-no_match g c = λ text built.
     let vm : c.deref.result.now.vm ≡ c.args.self.now = ap (λ (e : Engines). e.vm) c.deref.ensures ∙ c.self.view_is in
     let begins : BeginsWith needles (characters_of c.args.self.now.program) =
     subst (λ (e : Engine). BeginsWith needles (characters_of e.program)) vm c.in_ok-prefilter.ensures.begins in
-    none_between text c.args.self.now built needles begins c.needles_are_lawful.ensures c.no_needle_no_match.ensures i.cursor.content i.asked.span.start c.in-Some.span.start i.asked.span.end
+    none_between text c.args.self.now built needles begins c.find_literal.ensures.needles no_needle_no_match i.cursor.content i.asked.span.start c.in-Some.span.start i.asked.span.end
     (found_within c.in-Some.ensures.found refl) (none_before c.in-Some.ensures.found refl)
 
 pub returns-in-Some-clause-within : goal.returns-in-Some-clause-within
@@ -30,5 +31,5 @@ returns-in-None-clause-no_match g c = λ text built.
     subst (λ (e : Engine). BeginsWith needles (characters_of e.program)) vm c.in_ok-prefilter.ensures.begins in
     let place : c.end.result ≡ i.asked.span.end = c.end.ensures ∙ ap (λ (a : Asked). a.span.end) c.in-None.ensures.asked in
     subst (λ n. HasNoMatchBetween built.tree i.cursor.content i.asked.span.start n) (sym place)
-    (none_between text c.args.self.now built needles begins c.needles_are_lawful.ensures c.no_needle_no_match.ensures i.cursor.content i.asked.span.start i.asked.span.end i.asked.span.end
+    (none_between text c.args.self.now built needles begins c.find_literal.ensures.needles no_needle_no_match i.cursor.content i.asked.span.start i.asked.span.end i.asked.span.end
     (omega arith) (none_at_all c.in-None.ensures.found refl))

@@ -5,13 +5,14 @@ use Rattle.rx_chunk.proofs.EngineLaws.{if_ok}
 use Rattle.regex_cursor.specs.Strategies.{BeginsFrom, IsLeft, IsStart}
 use Rattle.regex_cursor.proofs.LeftLaws.{done_span, left_from, none_done}
 use Rattle.regex_cursor.proofs.StartLaws.{same_search}
+use Rattle.regex_cursor.proofs.LowerLaws.{exist_law, inside_law}
 use Rattle.regex_cursor.proofs.engines.meta.strategy.Strategy.ask.Goals as goal
 
 pub returns-then-is_done-clause-left : goal.returns-then-is_done-clause-left
 returns-then-is_done-clause-left g c =
     let i = c.args.input.now in
     let re = c.args.self.now.vm in
-    none_done re.program (search_of re.utf8_empty i) c.finds_exist.ensures c.finds_lie_inside.ensures (done_span i.asked.span.start i.asked.span.end c.is_done.result c.is_done.ensures c.if-is_done.true)
+    none_done re.program (search_of re.utf8_empty i) exist_law inside_law (done_span i.asked.span.start i.asked.span.end c.is_done.result c.is_done.ensures c.if-is_done.true)
 
 pub returns-in-Nowhere-clause-left : goal.returns-in-Nowhere-clause-left
 returns-in-Nowhere-clause-left g c =

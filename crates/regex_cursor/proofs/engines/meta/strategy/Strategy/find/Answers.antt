@@ -1,17 +1,20 @@
-use Rattle.std.proofs.Common.{subst, arith}
+use Rattle.std.proofs.Common.{◌≡◌, sym, ap, subst, ◌∙◌, arith}
+use Rattle.std.proofs.lemmas.Option.{same_Some}
+use Rattle.rx_util.specs.declared.search.Span.{Span}
+use Rattle.rx_util.specs.Search.{Found}
 use Rattle.rx_steps.specs.Searching.{search_of}
 use Rattle.rx_engine.specs.Engines.{Engine}
 use Rattle.rx_chunk.specs.Searches as engines
 use Rattle.rx_chunk.proofs.EngineLaws.{if_ok}
 use Rattle.regex_cursor.specs.Strategies.{IsLeft}
-use Rattle.regex_cursor.specs.declared.engines.meta.left.Left.TheVariants.{Nothing, Match, In}
-use Rattle.regex_cursor.proofs.StrategyLaws.{cut_asked, cut_search, whole_is_span, no_match_told, literal_told, whole_match}
+use Rattle.regex_cursor.proofs.StrategyLaws.{cut_asked, cut_search, whole_inside, whole_is_span, no_match_told, literal_inside, literal_told, whole_match}
+use Rattle.regex_cursor.proofs.LowerLaws.{inside_law}
 use Rattle.regex_cursor.proofs.engines.meta.strategy.Strategy.find.Goals as goal
 
-pub match_in-requires : goal.match_in-requires
-match_in-requires g c =
+pub new-requires : goal.new-requires
+new-requires g c =
     let literal = subst (λ left. IsLeft c.args.self.now.vm.program (search_of c.args.self.now.vm.utf8_empty c.args.input.now) left) c.in-Match.is c.in_ok-ask.ensures.left in
-    omega (arith, literal.some)
+    record { ordered = omega (arith, literal.some) }
 
 pub cut-whole-requires : goal.cut-whole-requires
 cut-whole-requires g c =
@@ -35,7 +38,7 @@ returns-in-In-clause-answer g c =
     let search = cut_search re.utf8_empty i c.ask.new.input k part c.in_ok-ask.ensures.same c.in_ok-ask.ensures.asked c.cut-whole.ensures.same c.cut-whole.ensures.asked in
     let asked = cut_asked i c.ask.new.input k part c.in_ok-ask.ensures.asked c.cut-whole.ensures.asked in
     if_ok c.find-found.result
-    (λ found told. whole_match re.program (search_of re.utf8_empty i) part is.holds re.utf8_empty i k found asked search (subst (λ (e : Engine). engines.TellsMatch e k found) c.vm.ensures told))
+    (λ found told. whole_match re.program (search_of re.utf8_empty i) part is.holds re.utf8_empty i k found asked search (subst (λ (e : Engine). engines.TellsMatch e k found) c.vm.ensures.vm told))
     c.find-found.ensures.answer
 
 pub returns-in-Match-clause-answer : goal.returns-in-Match-clause-answer
@@ -43,10 +46,32 @@ returns-in-Match-clause-answer g c =
     let i = c.args.input.now in
     let re = c.args.self.now.vm in
     let literal = subst (λ left. IsLeft re.program (search_of re.utf8_empty i) left) c.in-Match.is c.in_ok-ask.ensures.left in
-    literal_told re.program (search_of re.utf8_empty i) i.asked.earliest c.in-Match.span c.match_in.result c.match_in.ensures.pattern c.match_in.ensures.span literal
+    literal_told re.program (search_of re.utf8_empty i) i.asked.earliest c.in-Match.span c.new.result c.new.ensures.pattern c.new.ensures.span literal
 
 pub returns-in-Nothing-clause-answer : goal.returns-in-Nothing-clause-answer
 returns-in-Nothing-clause-answer g c =
     let i = c.args.input.now in
     let none = subst (λ left. IsLeft c.args.self.now.vm.program (search_of c.args.self.now.vm.utf8_empty i) left) c.in-Nothing.is c.in_ok-ask.ensures.left in
     no_match_told c.args.self.now.vm.program (search_of c.args.self.now.vm.utf8_empty i) i.asked.earliest none
+
+pub returns-in-Nothing-clause-inside : goal.returns-in-Nothing-clause-inside
+returns-in-Nothing-clause-inside g c = λ m some. absurd (cc some)
+
+pub returns-in-Match-clause-inside : goal.returns-in-Match-clause-inside
+returns-in-Match-clause-inside g c = λ m some.
+    let i = c.args.input.now in
+    let re = c.args.self.now.vm in
+    let literal = subst (λ left. IsLeft re.program (search_of re.utf8_empty i) left) c.in-Match.is c.in_ok-ask.ensures.left in
+    let ends : m.span ≡ c.in-Match.span = ap (λ (o : Found). o.span) (sym (same_Some c.new.result m some)) ∙ c.new.ensures.span in
+    literal_inside re.program re.utf8_empty i c.in-Match.span m.span.end (ap (λ (x : Span). x.end) ends) inside_law c.ask.ensures.bound literal
+
+pub returns-in-In-clause-inside : goal.returns-in-In-clause-inside
+returns-in-In-clause-inside g c =
+    let i = c.args.input.now in
+    let re = c.args.self.now.vm in
+    let part = c.in-In.part.span in
+    let is = subst (λ left. IsLeft re.program (search_of re.utf8_empty i) left) c.in-In.is c.in_ok-ask.ensures.left in
+    let asked = cut_asked i c.ask.new.input c.cut-whole.new.input part c.in_ok-ask.ensures.asked c.cut-whole.ensures.asked in
+    if_ok c.find-found.result
+    (λ found inside a some. whole_inside i c.cut-whole.new.input part a.span.end asked is.holds.behind is.holds.before (inside a some))
+    c.find-found.ensures.inside

@@ -1,37 +1,43 @@
-use Rattle.std.proofs.Common.{◌≤◌, length, arith, subst}
+use Rattle.std.proofs.Common.{None, refl, subst}
+use Rattle.rx_walks.specs.Iterating.{nothing}
 use Rattle.rx_steps.specs.Searching.{search_of}
-use Rattle.rx_engine.specs.Engines.{IsEngine}
+use Rattle.rx_engine.specs.Engines.{Engine}
+use Rattle.rx_chunk.specs.Iterating.{IsFoundNext}
+use Rattle.rx_chunk.proofs.EngineLaws.{if_ok}
 use Rattle.rx_chunk.proofs.IterLaws.{all_end}
-use Rattle.rx_chunk.proofs.NextLaws.{found_next, in_order, nothing_next}
+use Rattle.regex_cursor.specs.Strategies.{IsNextLeft}
+use Rattle.regex_cursor.proofs.LowerLaws.{inside_law}
+use Rattle.regex_cursor.proofs.StrategyLaws.{cut_search, next_there, whole_found_next, whole_is_span}
 use Rattle.regex_cursor.proofs.engines.meta.strategy.Strategy.find_next.Goals as goal
 
-pub returns-in_default-clause-answer : goal.returns-in_default-clause-answer
-returns-in_default-clause-answer g c =
-    let vm = c.args.self.now.vm in
-    let of_a_tree = subst (λ e. IsEngine e) c.vm.ensures c.group_info-groups.ensures.engine in
-    nothing_next vm of_a_tree c.matches_note_their_places.ensures (search_of vm.utf8_empty c.args.input.now) c.args.last_match_end c.in_ok-next.next c.next_slots.new.slots c.in_default.is c.in_ok-next.ensures.answer
+pub cut-whole-requires : goal.cut-whole-requires
+cut-whole-requires g c = (next_there c.args.self.now.vm.program (search_of c.args.self.now.vm.utf8_empty c.args.input.now) c.args.last_match_end _ c.in-Some.part c.in_ok-part.ensures.next c.in-Some.is).holds.ordered
 
-pub match_in-requires : goal.match_in-requires
-match_in-requires g c =
-    let vm = c.args.self.now.vm in
-    let of_a_tree = subst (λ e. IsEngine e) c.vm.ensures c.group_info-groups.ensures.engine in
-    let slots = c.next_slots.new.slots in
-    let two : 2 ≤ length slots = omega arith in
-    record {
-      ordered = in_order vm of_a_tree c.matches_note_their_places.ensures (search_of vm.utf8_empty c.args.input.now) c.args.last_match_end c.in_ok-next.next c.in-Some.pattern slots c.finds_lie_inside.ensures c.in-Some.is two
-          c.in_ok-next.ensures.answer;
-    }
+pub put_back-requires : goal.put_back-requires
+put_back-requires g c =
+    let re = c.args.self.now.vm in
+    whole_is_span re.program re.utf8_empty c.args.input.now c.next_part.new.input c.in-Some.part.span c.cut-whole.result (next_there c.args.self.now.vm.program (search_of c.args.self.now.vm.utf8_empty c.args.input.now) c.args.last_match_end _ c.in-Some.part c.in_ok-part.ensures.next c.in-Some.is).holds c.in_ok-part.ensures.asked c.cut-whole.ensures.whole
 
 pub returns-clause-answer : goal.returns-clause-answer
 returns-clause-answer g c =
-    let vm = c.args.self.now.vm in
-    let of_a_tree = subst (λ e. IsEngine e) c.vm.ensures c.group_info-groups.ensures.engine in
-    let slots = c.next_slots.new.slots in
-    let two : 2 ≤ length slots = omega arith in
-    found_next vm of_a_tree c.matches_note_their_places.ensures (search_of vm.utf8_empty c.args.input.now) c.args.last_match_end c.in_ok-next.next c.in-Some.pattern slots c.match_in.result c.in-Some.is two c.match_in.ensures
-    c.in_ok-next.ensures.answer
+    let i = c.args.input.now in
+    let re = c.args.self.now.vm in
+    let part = c.in-Some.part.span in
+    let k = c.cut-whole.new.input in
+    let search = cut_search re.utf8_empty i c.next_part.new.input k part c.in_ok-part.ensures.same c.in_ok-part.ensures.asked c.cut-whole.ensures.same c.cut-whole.ensures.asked in
+    let last = c.args.last_match_end in
+    if_ok c.find_next-found.result
+    (λ found is. whole_found_next re.program (search_of re.utf8_empty i) last part (next_there c.args.self.now.vm.program (search_of c.args.self.now.vm.utf8_empty c.args.input.now) c.args.last_match_end _ c.in-Some.part c.in_ok-part.ensures.next c.in-Some.is) found
+    (subst (λ x. IsFoundNext re.program x last found) search (subst (λ (e : Engine). IsFoundNext e.program (search_of e.utf8_empty k) last found) c.vm.ensures.vm is)))
+    c.find_next-found.ensures.answer
 
 pub returns-clause-ahead : goal.returns-clause-ahead
 returns-clause-ahead g c =
-    let vm = c.args.self.now.vm in
-    all_end vm.program c.args.last_match_end (search_of vm.utf8_empty c.args.input.now) c.match_in.result c.finds_lie_inside.ensures (returns-clause-answer g c)
+    let re = c.args.self.now.vm in
+    if_ok c.find_next-found.result (λ found is. all_end re.program c.args.last_match_end (search_of re.utf8_empty c.args.input.now) found inside_law is) (returns-clause-answer g c)
+
+pub returns-in_default-clause-answer : goal.returns-in_default-clause-answer
+returns-in_default-clause-answer g c =
+    let re = c.args.self.now.vm in
+    let none = subst (λ o. IsNextLeft re.program (search_of re.utf8_empty c.args.input.now) c.args.last_match_end o) c.in_default.is c.in_ok-part.ensures.next in
+    (None, nothing none, refl)

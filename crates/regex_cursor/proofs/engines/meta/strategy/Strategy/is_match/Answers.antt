@@ -4,7 +4,6 @@ use Rattle.rx_chunk.specs.Engines.{TellsWhether}
 use Rattle.rx_engine.specs.Engines.{Engine}
 use Rattle.rx_chunk.proofs.EngineLaws.{if_ok}
 use Rattle.regex_cursor.specs.Strategies.{IsLeft}
-use Rattle.regex_cursor.specs.declared.engines.meta.left.Left.TheVariants.{Nothing, Match, In}
 use Rattle.regex_cursor.proofs.StrategyLaws.{cut_search, whole_is_span, literal_there, none_there, match_there, whole_whether}
 use Rattle.regex_cursor.proofs.engines.meta.strategy.Strategy.is_match.Goals as goal
 
@@ -29,7 +28,7 @@ returns-in-In-2-clause-answer g c =
     let k = c.cut-whole.new.input in
     let search = cut_search re.utf8_empty i c.ask.new.input k part c.in_ok-ask.ensures.same c.in_ok-ask.ensures.asked c.cut-whole.ensures.same c.cut-whole.ensures.asked in
     if_ok c.is_match-yes.result
-    (λ yes told. whole_whether re.program (search_of re.utf8_empty i) part is.holds yes (subst (λ x. TellsWhether re.program x yes) search (subst (λ (e : Engine). TellsWhether e.program (search_of e.utf8_empty k) yes) c.vm.ensures told)))
+    (λ yes told. whole_whether re.program (search_of re.utf8_empty i) part is.holds yes (subst (λ x. TellsWhether re.program x yes) search (subst (λ (e : Engine). TellsWhether e.program (search_of e.utf8_empty k) yes) c.vm.ensures.vm told)))
     c.is_match-yes.ensures.answer
 
 pub returns-in-Match-clause-answer : goal.returns-in-Match-clause-answer

@@ -1,4 +1,5 @@
-use Rattle.std.proofs.Common.{None, Some, length, replicate, refl, sym, ap, subst, ◌∙◌, arith}
+use Rattle.std.proofs.Common.{◌≡◌, None, length, replicate, refl, sym, ap, subst, ◌∙◌, arith}
+use Rattle.std.proofs.lemmas.List.{length-replicate}
 use Rattle.rx_util.specs.Captured.{Captured, match_found}
 use Rattle.rx_steps.specs.Searching.{search_of}
 use Rattle.rx_chunk.specs.Engines.{TellsSlots}
@@ -34,7 +35,7 @@ returns-in-Some-clause-answer g c =
     let asked = cut_asked i c.ask.new.input k part c.in_ok-ask.ensures.asked c.cut-whole.ensures.asked in
     let caps = c.search-told.new.caps in
     on_ok c.search-told.result
-    (λ told. whole_slots re.program (search_of re.utf8_empty i) part is.holds re.utf8_empty i k caps.pattern caps.slots asked search (subst (λ (e : Engine). engines.TellsSlots e k caps.pattern caps.slots) c.vm.ensures told))
+    (λ told. whole_slots re.program (search_of re.utf8_empty i) part is.holds re.utf8_empty i k caps.pattern caps.slots asked search (subst (λ (e : Engine). engines.TellsSlots e k caps.pattern caps.slots) c.vm.ensures.vm told))
     c.search-told.ensures.answer
 
 pub returns-in-Some-clause-whole : goal.returns-in-Some-clause-whole
@@ -47,27 +48,28 @@ returns-in-Some-clause-whole g c = λ holds.
     let search = cut_search re.utf8_empty i c.ask.new.input k part c.in_ok-ask.ensures.same c.in_ok-ask.ensures.asked c.cut-whole.ensures.same c.cut-whole.ensures.asked in
     let asked = cut_asked i c.ask.new.input k part c.in_ok-ask.ensures.asked c.cut-whole.ensures.asked in
     let found = match_found c.search-told.new.caps in
-    let groups = ap (λ (x : Captured). x.groups) c.set_pattern.ensures in
-    let slots = ap (λ (x : Captured). length x.slots) c.set_pattern.ensures in
+    let groups = ap (λ (x : Captured). x.groups) c.note_nothing.ensures.nothing in
+    let n = length c.args.caps.now.slots in
+    let slots : length c.note_nothing.new.caps.slots ≡ n = ap (λ (x : Captured). length x.slots) c.note_nothing.ensures.nothing ∙ length-replicate n None in
     on_ok c.search-told.result
     (λ whole. record {
-      match = whole_match re.program (search_of re.utf8_empty i) part is.holds re.utf8_empty i k found asked search (subst (λ (e : Engine). engines.TellsMatch e k found) c.vm.ensures whole.match);
+      match = whole_match re.program (search_of re.utf8_empty i) part is.holds re.utf8_empty i k found asked search (subst (λ (e : Engine). engines.TellsMatch e k found) c.vm.ensures.vm whole.match);
       ordered = whole.ordered;
       inside = λ a some. whole_inside i k part a.span.end asked is.holds.behind is.holds.before (whole.inside a some);
     })
-    (c.search-told.ensures.whole (groups ∙ holds.0 ∙ sym (ap (λ (e : Engine). e.groups) c.vm.ensures), omega (arith, slots, holds.1)))
+    (c.search-told.ensures.whole (groups ∙ holds.0 ∙ sym (ap (λ (e : Engine). e.groups) c.vm.ensures.vm), omega (arith, slots, holds.1, ap (λ (e : Engine). length e.groups) c.vm.ensures.vm)))
 
 pub returns-in-None-clause-answer : goal.returns-in-None-clause-answer
 returns-in-None-clause-answer g c =
     let i = c.args.input.now in
     let re = c.args.self.now.vm in
     let none = subst (λ o. IsPartLeft re.program (search_of re.utf8_empty i) o) c.in-None.is (c.part.ensures re.program (search_of re.utf8_empty i) c.in_ok-ask.ensures.left) in
-    let n = length c.set_pattern.new.self.slots in
-    subst (λ (x : Captured). TellsSlots i.asked.earliest re.program (search_of re.utf8_empty i) x.pattern x.slots) (sym c.note_nothing.ensures) (no_slots_told re.program (search_of re.utf8_empty i) i.asked.earliest (replicate n None) n none refl)
+    let n = length c.args.caps.now.slots in
+    subst (λ (x : Captured). TellsSlots i.asked.earliest re.program (search_of re.utf8_empty i) x.pattern x.slots) (sym c.note_nothing.ensures.nothing) (no_slots_told re.program (search_of re.utf8_empty i) i.asked.earliest (replicate n None) n none refl)
 
 pub returns-in-None-clause-whole : goal.returns-in-None-clause-whole
 returns-in-None-clause-whole g c = λ holds.
     let i = c.args.input.now in
     let re = c.args.self.now.vm in
     let none = subst (λ o. IsPartLeft re.program (search_of re.utf8_empty i) o) c.in-None.is (c.part.ensures re.program (search_of re.utf8_empty i) c.in_ok-ask.ensures.left) in
-    nothing_whole re i c.note_nothing.new.caps c.set_pattern.new.self.groups (length c.set_pattern.new.self.slots) none c.note_nothing.ensures
+    nothing_whole re i c.note_nothing.new.caps c.args.caps.now.groups (length c.args.caps.now.slots) none c.note_nothing.ensures.nothing

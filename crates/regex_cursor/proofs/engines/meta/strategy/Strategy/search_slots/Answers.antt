@@ -4,8 +4,8 @@ use Rattle.rx_engine.specs.Engines.{Engine}
 use Rattle.rx_chunk.specs.Searches as engines
 use Rattle.rx_chunk.proofs.EngineLaws.{if_ok}
 use Rattle.regex_cursor.specs.Strategies.{IsLeft}
-use Rattle.regex_cursor.specs.declared.engines.meta.left.Left.TheVariants.{Nothing, Match, In}
 use Rattle.regex_cursor.proofs.StrategyLaws.{cut_asked, cut_search, whole_is_span, no_slots_told, literal_fits, literal_slots_told, whole_slots}
+use Rattle.regex_cursor.proofs.LowerLaws.{inside_law}
 use Rattle.regex_cursor.proofs.engines.meta.strategy.Strategy.search_slots.Goals as goal
 
 pub put_match-requires : goal.put_match-requires
@@ -13,7 +13,7 @@ put_match-requires g c =
     let i = c.args.input.now in
     let re = c.args.self.now.vm in
     let literal = subst (λ left. IsLeft re.program (search_of re.utf8_empty i) left) c.in-Match.is c.in_ok-ask.ensures.left in
-    let fits = literal_fits re.program re.utf8_empty i c.ask.new.input.cursor c.in-Match.span c.finds_lie_inside.ensures c.in_ok-ask.ensures.same c.position-at.ensures.holds.lawful literal in
+    let fits = literal_fits re.program re.utf8_empty i c.in-Match.span inside_law c.ask.ensures.bound literal in
     record { start = fits.0; end = fits.1 }
 
 pub cut-whole-requires : goal.cut-whole-requires
@@ -39,7 +39,7 @@ returns-in-In-clause-answer g c =
     let asked = cut_asked i c.ask.new.input k part c.in_ok-ask.ensures.asked c.cut-whole.ensures.asked in
     let slots = c.search_slots-found.new.slots in
     if_ok c.search_slots-found.result
-    (λ pattern told. whole_slots re.program (search_of re.utf8_empty i) part is.holds re.utf8_empty i k pattern slots asked search (subst (λ (e : Engine). engines.TellsSlots e k pattern slots) c.vm.ensures told))
+    (λ pattern told. whole_slots re.program (search_of re.utf8_empty i) part is.holds re.utf8_empty i k pattern slots asked search (subst (λ (e : Engine). engines.TellsSlots e k pattern slots) c.vm.ensures.vm told))
     c.search_slots-found.ensures.answer
 
 pub returns-in-Match-clause-answer : goal.returns-in-Match-clause-answer
@@ -47,10 +47,10 @@ returns-in-Match-clause-answer g c =
     let i = c.args.input.now in
     let re = c.args.self.now.vm in
     let literal = subst (λ left. IsLeft re.program (search_of re.utf8_empty i) left) c.in-Match.is c.in_ok-ask.ensures.left in
-    literal_slots_told re.program (search_of re.utf8_empty i) i.asked.earliest c.in-Match.span c.put_match.new.slots (length c.args.slots.now) c.put_match.ensures literal
+    literal_slots_told re.program (search_of re.utf8_empty i) i.asked.earliest c.in-Match.span c.put_match.new.slots (length c.clear_slots.new.slots) c.put_match.ensures literal
 
 pub returns-in-Nothing-clause-answer : goal.returns-in-Nothing-clause-answer
 returns-in-Nothing-clause-answer g c =
     let i = c.args.input.now in
     let none = subst (λ left. IsLeft c.args.self.now.vm.program (search_of c.args.self.now.vm.utf8_empty i) left) c.in-Nothing.is c.in_ok-ask.ensures.left in
-    no_slots_told c.args.self.now.vm.program (search_of c.args.self.now.vm.utf8_empty i) i.asked.earliest c.clear_slots.new.slots (length c.args.slots.now) none c.clear_slots.ensures
+    no_slots_told c.args.self.now.vm.program (search_of c.args.self.now.vm.utf8_empty i) i.asked.earliest c.clear_slots.new.slots (length c.args.slots.now) none c.clear_slots.ensures.all

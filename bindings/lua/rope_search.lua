@@ -1,0 +1,275 @@
+-- A regular expression kept live over a text that is edited, undone and forked: the library of
+-- include/rope_search.h, by LuaJIT's ffi, as in Neovim.
+--
+--     local rope_search = require("rope_search")
+--     local session = assert(rope_search.open())
+--     assert(session:set_text("one two\none"))
+--     assert(session:set_pattern("one"))
+--     for _, match in ipairs(session:matches()) do print(match.line, match.start, match.stop) end
+--
+-- Lines and columns begin at 0, a column counts UTF-16 code units. A call that is refused returns
+-- nil and the word of its reason, one of rope_search.faults, and leaves the session as it was. A
+-- session stays on the thread that opened it, and is ended by `close`, or with its last use.
+-- docs/protocol.md says what each command does, docs/patterns.md what patterns there are.
+--
+-- The library is the file that the environment's ROPE_SEARCH_LIBRARY names, else
+-- bin/librope_search.so of this repository, else the system's.
+local ffi = require("ffi")
+
+ffi.cdef([[
+typedef struct { void *at; bool is_open; } rope_search;
+typedef struct { uint64_t rows, wholes, looked; } rope_search_ticks;
+typedef struct { uint64_t rows, wholes; } rope_search_counts;
+typedef struct { size_t line, column; } rope_search_position;
+typedef struct { bool found; rope_search_position start, stop; } rope_search_match;
+typedef struct { size_t line, start, stop; } rope_search_span;
+typedef struct { size_t first, removed, added; } rope_search_stretch;
+uint32_t rope_search_open(size_t, rope_search_ticks, rope_search *);
+void rope_search_close(rope_search *);
+uint32_t rope_search_set_text(rope_search *, const uint8_t *, size_t);
+uint32_t rope_search_edit(rope_search *, rope_search_position, rope_search_position, const uint8_t *, size_t);
+uint32_t rope_search_undo(rope_search *);
+uint32_t rope_search_redo(rope_search *);
+uint32_t rope_search_set_pattern(rope_search *, const uint8_t *, size_t);
+uint32_t rope_search_off(rope_search *);
+uint32_t rope_search_next(rope_search *, rope_search_position, rope_search_match *);
+uint32_t rope_search_replace(rope_search *, const uint8_t *, size_t, size_t *);
+uint32_t rope_search_fork(rope_search *, size_t *);
+uint32_t rope_search_choose(rope_search *, uint64_t);
+uint32_t rope_search_forget(rope_search *);
+size_t rope_search_buffers(rope_search *);
+size_t rope_search_chosen(rope_search *);
+bool rope_search_can_undo(rope_search *);
+bool rope_search_can_redo(rope_search *);
+uint32_t rope_search_byte_of(rope_search *, rope_search_position, size_t *);
+uint32_t rope_search_position_of(rope_search *, size_t, rope_search_position *);
+uint32_t rope_search_column_in(rope_search *, uint32_t, rope_search_position, size_t *);
+uint32_t rope_search_position_in(rope_search *, uint32_t, size_t, size_t, rope_search_position *);
+size_t rope_search_text_len(rope_search *);
+size_t rope_search_text_lines(rope_search *);
+bool rope_search_copy_text(rope_search *, size_t, size_t, uint8_t *, size_t);
+size_t rope_search_rows(rope_search *);
+size_t rope_search_count_matches(rope_search *, size_t, size_t);
+size_t rope_search_copy_matches(rope_search *, size_t, size_t, rope_search_span *, size_t);
+rope_search_stretch rope_search_changed(rope_search *);
+rope_search_counts rope_search_counted(rope_search *);
+]])
+
+local M = {}
+
+-- Why a call is refused, by what it answers.
+M.faults = { "none", "range", "utf8", "pattern", "limit", "size", "memory", "closed" }
+
+local function is_there(path)
+  local file = io.open(path, "rb")
+  return file ~= nil and file:close()
+end
+
+local function library_path()
+  local here = debug.getinfo(1, "S").source:match("^@(.*[/\\])") or "./"
+  local built = here .. "../../bin/librope_search.so"
+  return os.getenv("ROPE_SEARCH_LIBRARY") or (is_there(built) and built) or "rope_search"
+end
+
+local calls
+local function library()
+  calls = calls or ffi.load(library_path())
+  return calls
+end
+
+-- What a call answers that tells nothing else: true, or nil and why it is refused.
+local function told(status, answer)
+  if status ~= 0 then
+    return nil, M.faults[status]
+  end
+  return answer == nil and true or answer
+end
+
+local function position(spot)
+  return ffi.new("rope_search_position", spot[1] or spot.line, spot[2] or spot.column)
+end
+
+local function spot(of)
+  return { line = tonumber(of.line), column = tonumber(of.column) }
+end
+
+local ALL = ffi.cast("size_t", -1)
+-- How C names what columns count.
+local BITS = { ["utf-8"] = 8, ["utf-32"] = 32 }
+
+local Session = {}
+Session.__index = Session
+
+-- Opens a session whose texts have at most `limit` bytes, 1 GiB where it isn't given.
+function M.open(limit)
+  local handle = ffi.gc(ffi.new("rope_search"), library().rope_search_close)
+  local ticks = ffi.new("rope_search_ticks")
+  return told(calls.rope_search_open(limit or 2 ^ 30, ticks, handle), setmetatable({ handle = handle }, Session))
+end
+
+-- Ends the session: all further calls are refused with "closed". It may be called again.
+function Session:close()
+  calls.rope_search_close(self.handle)
+end
+
+function Session:is_open()
+  return self.handle.is_open
+end
+
+-- Sets the text; its history begins anew.
+function Session:set_text(text)
+  return told(calls.rope_search_set_text(self.handle, text, #text))
+end
+
+-- Replaces what stands from one position to another, each { line, column }.
+function Session:edit(start, stop, text)
+  return told(calls.rope_search_edit(self.handle, position(start), position(stop), text, #text))
+end
+
+function Session:undo()
+  return told(calls.rope_search_undo(self.handle))
+end
+
+function Session:redo()
+  return told(calls.rope_search_redo(self.handle))
+end
+
+function Session:set_pattern(pattern)
+  return told(calls.rope_search_set_pattern(self.handle, pattern, #pattern))
+end
+
+-- Drops the pattern, if there is one.
+function Session:off()
+  return told(calls.rope_search_off(self.handle))
+end
+
+-- The first match in the whole text at a position or behind it, as its two positions, or false.
+function Session:next(start)
+  local match = ffi.new("rope_search_match")
+  local status = calls.rope_search_next(self.handle, position(start), match)
+  return told(status, match.found and { start = spot(match.start), stop = spot(match.stop) })
+end
+
+-- Replaces all matches, and tells how many there were.
+function Session:replace(template)
+  local count = ffi.new("size_t[1]")
+  local status = calls.rope_search_replace(self.handle, template, #template, count)
+  return told(status, tonumber(count[0]))
+end
+
+-- Adds a buffer with this text alone, and tells its number.
+function Session:fork()
+  local number = ffi.new("size_t[1]")
+  return told(calls.rope_search_fork(self.handle, number), tonumber(number[0]))
+end
+
+-- Chooses a buffer by its number, from 0.
+function Session:choose(number)
+  return told(calls.rope_search_choose(self.handle, number))
+end
+
+-- Drops the history: the current text alone is left.
+function Session:forget()
+  return told(calls.rope_search_forget(self.handle))
+end
+
+-- How many buffers there are, and the number of the chosen one.
+function Session:buffers()
+  return tonumber(calls.rope_search_buffers(self.handle))
+end
+
+function Session:chosen()
+  return tonumber(calls.rope_search_chosen(self.handle))
+end
+
+-- Whether there is a text to go back to, and one to go forward to.
+function Session:can_undo()
+  return calls.rope_search_can_undo(self.handle)
+end
+
+function Session:can_redo()
+  return calls.rope_search_can_redo(self.handle)
+end
+
+-- The byte of the text at which a position is, and the position of a byte.
+function Session:byte_of(at)
+  local byte = ffi.new("size_t[1]")
+  return told(calls.rope_search_byte_of(self.handle, position(at), byte), tonumber(byte[0]))
+end
+
+function Session:position_of(byte)
+  local at = ffi.new("rope_search_position")
+  return told(calls.rope_search_position_of(self.handle, byte, at), spot(at))
+end
+
+-- The column of a position in bytes, for "utf-8", or in characters, for "utf-32", and the position of
+-- a line and such a column.
+function Session:column_in(encoding, at)
+  local column = ffi.new("size_t[1]")
+  local status = calls.rope_search_column_in(self.handle, BITS[encoding] or 0, position(at), column)
+  return told(status, tonumber(column[0]))
+end
+
+function Session:position_in(encoding, line, column)
+  local at = ffi.new("rope_search_position")
+  return told(calls.rope_search_position_in(self.handle, BITS[encoding] or 0, line, column, at), spot(at))
+end
+
+-- How many bytes the text has, and how many lines.
+function Session:text_len()
+  return tonumber(calls.rope_search_text_len(self.handle))
+end
+
+function Session:text_lines()
+  return tonumber(calls.rope_search_text_lines(self.handle))
+end
+
+-- The text, or its bytes from one place to another: nil and "range" where they aren't in the text,
+-- or cut a character.
+function Session:text(start, stop)
+  start, stop = start or 0, stop or self:text_len()
+  local room = math.max(0, math.min(stop, self:text_len()) - start)
+  local out = ffi.new("uint8_t[?]", math.max(1, room))
+  if not calls.rope_search_copy_text(self.handle, start, stop, out, room) then
+    return nil, self:is_open() and "range" or "closed"
+  end
+  return ffi.string(out, room)
+end
+
+-- How many rows the report has: the text's lines, or 0 without a pattern.
+function Session:rows()
+  return tonumber(calls.rope_search_rows(self.handle))
+end
+
+-- How many matches the rows from one line to another have; all, where none are given.
+function Session:count_matches(start, stop)
+  return tonumber(calls.rope_search_count_matches(self.handle, start or 0, stop or ALL))
+end
+
+-- These matches, each with its line and its two columns.
+function Session:matches(start, stop)
+  local count = self:count_matches(start, stop)
+  local out = ffi.new("rope_search_span[?]", math.max(1, count))
+  calls.rope_search_copy_matches(self.handle, start or 0, stop or ALL, out, count)
+  local matches = {}
+  for i = 0, count - 1 do
+    local span = out[i]
+    matches[i + 1] = { line = tonumber(span.line), start = tonumber(span.start), stop = tonumber(span.stop) }
+  end
+  return matches
+end
+
+-- Which rows the last accepted command on the chosen buffer replaced, of those that may: `removed`
+-- rows made way from the first on, for `added` others.
+function Session:changed()
+  local stretch = calls.rope_search_changed(self.handle)
+  return { first = tonumber(stretch.first), removed = tonumber(stretch.removed), added = tonumber(stretch.added) }
+end
+
+-- The rows that were made so far, and the searches of a whole text.
+function Session:counted()
+  local counts = calls.rope_search_counted(self.handle)
+  return { rows = tonumber(counts.rows), wholes = tonumber(counts.wholes) }
+end
+
+return M

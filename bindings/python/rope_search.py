@@ -1,0 +1,383 @@
+"""A regular expression kept live over a text that is edited, undone and forked: the library of include/rope_search.h.
+
+    with rope_search.Session() as session:
+        session.set_text("one two\\none")
+        session.set_pattern("one")
+        session.edit((1, 0), (1, 0), "no ")
+        print(session.matches())
+
+Lines and columns begin at 0, a column counts UTF-16 code units. A call that is refused raises the class of its reason,
+and leaves the session as it was. A session stays on the thread that opened it. docs/protocol.md says what each command
+does, docs/patterns.md what patterns there are.
+
+The library is the file that ROPE_SEARCH_LIBRARY names, else bin/librope_search.so of this repository, else the
+system's. It is opened when the first session is.
+"""
+import ctypes
+import ctypes.util
+import os
+from typing import List, NamedTuple, Optional, Tuple, Type, Union
+
+Text = Union[str, bytes]
+
+
+class Position(NamedTuple):
+    """A line, and a column in it."""
+    line: int
+    column: int
+
+
+class Match(NamedTuple):
+    """A match in a whole text."""
+    start: Position
+    stop: Position
+
+
+class Span(NamedTuple):
+    """A match in a line: the columns where it starts and where it ends."""
+    line: int
+    start: int
+    stop: int
+
+
+class Stretch(NamedTuple):
+    """Rows of a report that others took the place of: how many made way from the first on, and how many came. All before
+    them are as they were, and so are all behind them, which may have moved."""
+    first: int
+    removed: int
+    added: int
+
+
+class Counts(NamedTuple):
+    """What a session counted: the rows that were made, and the searches of a whole text."""
+    rows: int
+    wholes: int
+
+
+class Fault(Exception):
+    """Why a call is refused."""
+
+
+class Nothing(Fault):
+    """There is no such buffer, no pattern, or no text to go back or forward to."""
+
+
+class Range(Fault):
+    """A position is nowhere in the text, or the second one is before the first."""
+
+
+class Utf8(Fault):
+    """The bytes aren't UTF-8."""
+
+
+class Pattern(Fault):
+    """It is no pattern."""
+
+
+class Limit(Fault):
+    """The pattern has more than 65,536 bytes, or weighs too much."""
+
+
+class Size(Fault):
+    """The text, or the template, would have more bytes than the limit."""
+
+
+class Memory(Fault):
+    """Memory was refused."""
+
+
+class Closed(Fault):
+    """The session isn't open."""
+
+
+FAULTS: Tuple[Type[Fault], ...] = (Nothing, Range, Utf8, Pattern, Limit, Size, Memory, Closed)
+
+
+class _Handle(ctypes.Structure):
+    _fields_ = [("at", ctypes.c_void_p), ("is_open", ctypes.c_bool)]
+
+
+class _Ticks(ctypes.Structure):
+    _fields_ = [("rows", ctypes.c_uint64), ("wholes", ctypes.c_uint64), ("looked", ctypes.c_uint64)]
+
+
+class _Counts(ctypes.Structure):
+    _fields_ = [("rows", ctypes.c_uint64), ("wholes", ctypes.c_uint64)]
+
+
+class _Position(ctypes.Structure):
+    _fields_ = [("line", ctypes.c_size_t), ("column", ctypes.c_size_t)]
+
+
+class _Match(ctypes.Structure):
+    _fields_ = [("found", ctypes.c_bool), ("start", _Position), ("stop", _Position)]
+
+
+class _Span(ctypes.Structure):
+    _fields_ = [("line", ctypes.c_size_t), ("start", ctypes.c_size_t), ("stop", ctypes.c_size_t)]
+
+
+class _Stretch(ctypes.Structure):
+    _fields_ = [("first", ctypes.c_size_t), ("removed", ctypes.c_size_t), ("added", ctypes.c_size_t)]
+
+
+_HANDLE, _BYTES, _SIZE, _STATUS = ctypes.POINTER(_Handle), ctypes.c_char_p, ctypes.c_size_t, ctypes.c_uint32
+_CALLS = {
+    "open": (_STATUS, _SIZE, _Ticks, _HANDLE),
+    "close": (None, _HANDLE),
+    "set_text": (_STATUS, _HANDLE, _BYTES, _SIZE),
+    "edit": (_STATUS, _HANDLE, _Position, _Position, _BYTES, _SIZE),
+    "undo": (_STATUS, _HANDLE),
+    "redo": (_STATUS, _HANDLE),
+    "set_pattern": (_STATUS, _HANDLE, _BYTES, _SIZE),
+    "off": (_STATUS, _HANDLE),
+    "next": (_STATUS, _HANDLE, _Position, ctypes.POINTER(_Match)),
+    "replace": (_STATUS, _HANDLE, _BYTES, _SIZE, ctypes.POINTER(_SIZE)),
+    "fork": (_STATUS, _HANDLE, ctypes.POINTER(_SIZE)),
+    "choose": (_STATUS, _HANDLE, ctypes.c_uint64),
+    "forget": (_STATUS, _HANDLE),
+    "buffers": (_SIZE, _HANDLE),
+    "chosen": (_SIZE, _HANDLE),
+    "can_undo": (ctypes.c_bool, _HANDLE),
+    "can_redo": (ctypes.c_bool, _HANDLE),
+    "byte_of": (_STATUS, _HANDLE, _Position, ctypes.POINTER(_SIZE)),
+    "position_of": (_STATUS, _HANDLE, _SIZE, ctypes.POINTER(_Position)),
+    "column_in": (_STATUS, _HANDLE, ctypes.c_uint32, _Position, ctypes.POINTER(_SIZE)),
+    "position_in": (_STATUS, _HANDLE, ctypes.c_uint32, _SIZE, _SIZE, ctypes.POINTER(_Position)),
+    "text_len": (_SIZE, _HANDLE),
+    "text_lines": (_SIZE, _HANDLE),
+    "copy_text": (ctypes.c_bool, _HANDLE, _SIZE, _SIZE, _BYTES, _SIZE),
+    "rows": (_SIZE, _HANDLE),
+    "count_matches": (_SIZE, _HANDLE, _SIZE, _SIZE),
+    "copy_matches": (_SIZE, _HANDLE, _SIZE, _SIZE, ctypes.POINTER(_Span), _SIZE),
+    "changed": (_Stretch, _HANDLE),
+    "counted": (_Counts, _HANDLE),
+}
+_ALL = (1 << (8 * ctypes.sizeof(ctypes.c_size_t))) - 1
+# How C names what columns count.
+_BITS = {"utf-8": 8, "utf-32": 32}
+_library: Optional[ctypes.CDLL] = None
+
+
+def library_path() -> str:
+    """Where the library is."""
+    here = os.path.dirname(os.path.abspath(__file__))
+    built = os.path.normpath(os.path.join(here, "..", "..", "bin", "librope_search.so"))
+    if named := os.environ.get("ROPE_SEARCH_LIBRARY"):
+        return named
+    return built if os.path.exists(built) else ctypes.util.find_library("rope_search") or ""
+
+
+def library() -> ctypes.CDLL:
+    """The library, with its calls declared. OSError where it isn't found."""
+    global _library
+    if _library is None:
+        path = library_path()
+        if not path:
+            raise OSError("librope_search.so was not found: make lib builds it, ROPE_SEARCH_LIBRARY names it")
+        opened = ctypes.CDLL(path)
+        for name, (result, *arguments) in _CALLS.items():
+            call = getattr(opened, "rope_search_" + name)
+            call.restype, call.argtypes = result, arguments
+        _library = opened
+    return _library
+
+
+def _bytes_of(text: Text) -> bytes:
+    """Its UTF-8. A lone surrogate has none, and is then refused as bytes that aren't UTF-8."""
+    return text if isinstance(text, bytes) else text.encode("utf-8", "surrogatepass")
+
+
+def _check(status: int) -> None:
+    if status:
+        raise FAULTS[status - 1]()
+
+
+class Session:
+    """Buffers, of which one is chosen: all calls are about that one. Their texts have at most `limit` bytes."""
+
+    def __init__(self, limit: int = 1 << 30) -> None:
+        self._calls = library()
+        self._handle = _Handle()
+        _check(self._calls.rope_search_open(limit, _Ticks(), self._handle))
+
+    def __enter__(self) -> "Session":
+        return self
+
+    def __exit__(self, *_: object) -> None:
+        self.close()
+
+    def __del__(self) -> None:
+        if hasattr(self, "_handle"):
+            self.close()
+
+    def close(self) -> None:
+        """Ends the session: all further calls are refused with Closed. It may be called again."""
+        self._calls.rope_search_close(self._handle)
+
+    @property
+    def is_open(self) -> bool:
+        """Whether it wasn't closed."""
+        return self._handle.is_open
+
+    # ---- commands
+
+    def set_text(self, text: Text) -> None:
+        """Sets the text; its history begins anew. Refused: Utf8, Size, Memory."""
+        text = _bytes_of(text)
+        _check(self._calls.rope_search_set_text(self._handle, text, len(text)))
+
+    def edit(self, start: Tuple[int, int], stop: Tuple[int, int], text: Text) -> None:
+        """Replaces what stands from one position to another. Refused: Range, Utf8, Size, Memory."""
+        text = _bytes_of(text)
+        _check(self._calls.rope_search_edit(self._handle, _Position(*start), _Position(*stop), text, len(text)))
+
+    def undo(self) -> None:
+        """Goes one text back. Refused: Nothing, Memory."""
+        _check(self._calls.rope_search_undo(self._handle))
+
+    def redo(self) -> None:
+        """Goes one text forward. Refused: Nothing, Memory."""
+        _check(self._calls.rope_search_redo(self._handle))
+
+    def set_pattern(self, pattern: Text) -> None:
+        """Sets the pattern. Refused: Utf8, Pattern, Limit, Memory."""
+        pattern = _bytes_of(pattern)
+        _check(self._calls.rope_search_set_pattern(self._handle, pattern, len(pattern)))
+
+    def off(self) -> None:
+        """Drops the pattern, if there is one."""
+        _check(self._calls.rope_search_off(self._handle))
+
+    def next(self, start: Tuple[int, int]) -> Optional[Match]:
+        """The first match in the whole text at a position or behind it. Refused: Nothing, Range, Memory."""
+        match = _Match()
+        _check(self._calls.rope_search_next(self._handle, _Position(*start), match))
+        if not match.found:
+            return None
+        return Match(Position(match.start.line, match.start.column), Position(match.stop.line, match.stop.column))
+
+    def replace(self, template: Text) -> int:
+        """Replaces all matches, and tells how many there were. Refused: Nothing, Utf8, Size, Memory."""
+        template, count = _bytes_of(template), ctypes.c_size_t()
+        _check(self._calls.rope_search_replace(self._handle, template, len(template), count))
+        return count.value
+
+    def fork(self) -> int:
+        """Adds a buffer with this text alone, and tells its number. Refused: Memory."""
+        number = ctypes.c_size_t()
+        _check(self._calls.rope_search_fork(self._handle, number))
+        return number.value
+
+    def choose(self, number: int) -> None:
+        """Chooses a buffer by its number, from 0. Refused: Nothing."""
+        _check(self._calls.rope_search_choose(self._handle, number))
+
+    def forget(self) -> None:
+        """Drops the history: the current text alone is left."""
+        _check(self._calls.rope_search_forget(self._handle))
+
+    # ---- reading
+
+    @property
+    def buffers(self) -> int:
+        """How many buffers there are."""
+        return self._calls.rope_search_buffers(self._open())
+
+    @property
+    def chosen(self) -> int:
+        """The number of the chosen one."""
+        return self._calls.rope_search_chosen(self._open())
+
+    @property
+    def can_undo(self) -> bool:
+        """Whether there is a text to go back to."""
+        return self._calls.rope_search_can_undo(self._open())
+
+    @property
+    def can_redo(self) -> bool:
+        """Whether there is a text to go forward to."""
+        return self._calls.rope_search_can_redo(self._open())
+
+    def byte_of(self, position: Tuple[int, int]) -> int:
+        """The byte of the text at which a position is. Refused: Range."""
+        byte = ctypes.c_size_t()
+        _check(self._calls.rope_search_byte_of(self._handle, _Position(*position), byte))
+        return byte.value
+
+    def position_of(self, byte: int) -> Position:
+        """The position of a byte of the text. Refused: Range, where it begins no character."""
+        position = _Position()
+        _check(self._calls.rope_search_position_of(self._handle, byte, position))
+        return Position(position.line, position.column)
+
+    def column_in(self, encoding: str, position: Tuple[int, int]) -> int:
+        """The column of a position in bytes, for "utf-8", or in characters, for "utf-32". Refused: Range."""
+        column = ctypes.c_size_t()
+        _check(self._calls.rope_search_column_in(self._handle, _BITS.get(encoding, 0), _Position(*position), column))
+        return column.value
+
+    def position_in(self, encoding: str, line: int, column: int) -> Position:
+        """The position of a line and a column in bytes or in characters. Refused: Range, where they are nowhere."""
+        position = _Position()
+        _check(self._calls.rope_search_position_in(self._handle, _BITS.get(encoding, 0), line, column, position))
+        return Position(position.line, position.column)
+
+    @property
+    def text_len(self) -> int:
+        """How many bytes the text has."""
+        return self._calls.rope_search_text_len(self._open())
+
+    @property
+    def text_lines(self) -> int:
+        """How many lines the text has."""
+        return self._calls.rope_search_text_lines(self._open())
+
+    def text_bytes(self, start: int = 0, stop: Optional[int] = None) -> bytes:
+        """Bytes of the text. Refused: Range, where they aren't in the text, or cut a character."""
+        stop = self.text_len if stop is None else stop
+        room = max(0, min(stop, self.text_len) - start)
+        out = ctypes.create_string_buffer(max(1, room))
+        if not self._calls.rope_search_copy_text(self._open(), start, stop, out, room):
+            raise Range()
+        return out.raw[:room]
+
+    @property
+    def text(self) -> str:
+        """The text."""
+        return self.text_bytes().decode("utf-8")
+
+    @property
+    def rows(self) -> int:
+        """How many rows the report has: the text's lines, or 0 without a pattern."""
+        return self._calls.rope_search_rows(self._open())
+
+    def count_matches(self, start: int = 0, stop: Optional[int] = None) -> int:
+        """How many matches the rows from one line to another have."""
+        return self._calls.rope_search_count_matches(self._open(), start, _ALL if stop is None else stop)
+
+    def matches(self, start: int = 0, stop: Optional[int] = None) -> List[Span]:
+        """The matches in the rows from one line to another."""
+        stop = _ALL if stop is None else stop
+        count = self.count_matches(start, stop)
+        out = (_Span * max(1, count))()
+        self._calls.rope_search_copy_matches(self._open(), start, stop, out, count)
+        return [Span(span.line, span.start, span.stop) for span in out[:count]]
+
+    @property
+    def changed(self) -> Stretch:
+        """Which rows the last accepted command on the chosen buffer replaced, of those that may: all but next and fork."""
+        stretch = self._calls.rope_search_changed(self._open())
+        return Stretch(stretch.first, stretch.removed, stretch.added)
+
+    @property
+    def counted(self) -> Counts:
+        """What was counted so far."""
+        counts = self._calls.rope_search_counted(self._open())
+        return Counts(counts.rows, counts.wholes)
+
+    def _open(self) -> _Handle:
+        """The handle, of a session that is open: else Closed is raised."""
+        if not self._handle.is_open:
+            raise Closed()
+        return self._handle

@@ -1,0 +1,43 @@
+-- Columns in bytes and in characters, for those who count by them. A position's own column counts
+-- UTF-16 code units.
+use Rattle.std.specs.Prelude.{◌≡◌, ℕ, ◌-◌, ◌≤◌, List, length}
+use Rattle.std.specs.Str.{IsCharBoundary}
+use Rattle.str_indices.specs.Laws.{AnyTexts, EndsAddUp, RisesWithPlace, NoMoreThanBytes, ComesBack, EndsAndPlacesAgree, LastEndIsBefore, CharsAndBoundariesAgree}
+use Rattle.str_indices.specs.Text.{char_ends, ends_up_to}
+use Rattle.rope_search_reports.specs.Text.{bytes_of}
+use Rattle.rope_search_reports.specs.Position.{line_at, line_start, text_end}
+use Rattle.rope_search.specs.declared.encodings.Encoding.{Encoding}
+use Rattle.rope_search.specs.declared.encodings.Encoding.TheVariants.{Utf8, Utf32}
+
+-- how many bytes, or characters, stand before a place
+abbrev pub before_place : Encoding → List ℕ → ℕ → ℕ
+before_place Utf8 text place = place
+before_place Utf32 text place = ends_up_to place (char_ends text)
+
+-- how many stand from where the place's line starts up to the place
+abbrev pub column_in : Encoding → List ℕ → ℕ → ℕ
+column_in encoding text place =
+    before_place encoding text place
+    - before_place encoding text (line_start text (line_at text place))
+
+-- the line and the column are at this place: a boundary, in the line's text or at its end
+pub record IsAtIn (encoding : Encoding) (text : List ℕ) (line column place : ℕ) : Type 0 where
+  pub boundary : IsCharBoundary (bytes_of text) place
+  pub line_is : line ≡ line_at text place
+  pub column_is : column ≡ column_in encoding text place
+  pub within : place ≤ text_end text line
+
+-- they are at no place: inside a character or a break, behind the line's text, or past the last line
+abbrev pub IsNowhereIn : Encoding → List ℕ → ℕ → ℕ → Type 0
+IsNowhereIn encoding text line column =
+    (place : ℕ) → IsAtIn encoding text line column place → ⊥
+
+-- what is known of where the characters of a text end
+pub record CharLaws : Type 0 where
+  pub add : EndsAddUp AnyTexts length char_ends
+  pub rise : RisesWithPlace char_ends
+  pub few : NoMoreThanBytes length
+  pub back : ComesBack char_ends
+  pub places : EndsAndPlacesAgree char_ends
+  pub last : LastEndIsBefore char_ends
+  pub agree : CharsAndBoundariesAgree

@@ -1,0 +1,146 @@
+//! Columns in bytes and in characters, for those who count by them: language servers that agree on
+//! `utf-8` or `utf-32` with their editor.
+ghost use Rattle.std.specs.Prelude.{◌≡◌, ℕ, ◌+◌, ◌<◌, ◌≤◌, Some, IfSome, IfOk, IfErr};
+ghost use Rattle.std.specs.Str.{IsCharBoundary};
+ghost use Rattle.str_indices.specs.Text.{byte_len};
+ghost use Rattle.ropey.specs.Chunks.{text_of};
+ghost use Rattle.rope_search_reports.specs.Text.{bytes_of, line_count};
+ghost use Rattle.rope_search_reports.specs.Position.{IsAt, IsNowhere, line_at, line_start};
+ghost use Rattle.rope_search.specs.Session.{current_text};
+ghost use Rattle.rope_search.specs.Encodings.{CharLaws, IsAtIn, IsNowhereIn, before_place};
+ghost use Rattle.rope_search.specs.Encodings as encodings;
+
+use crate::buffer::Buffer;
+use rope_search_io::Fault;
+use rope_search_reports::Position;
+use ropey::Rope;
+
+/// What columns count.
+#[derive(Clone, Copy, Debug, PartialEq, Eq)]
+pub enum Encoding {
+    /// Bytes of UTF-8.
+    Utf8,
+    /// Characters, as UTF-32 has them: Unicode scalar values.
+    Utf32,
+}
+
+/// Where the characters of a text end: laws, for the proofs alone.
+fn char_laws()
+    ensures { CharLaws }
+{
+    str_indices::laws::ends_of_a_part();
+    str_indices::laws::from_byte_idx_is_monotone();
+    str_indices::laws::counts_are_at_most_bytes();
+    str_indices::laws::conversion_there_and_back();
+    str_indices::laws::ends_and_places_agree();
+    str_indices::laws::place_there_and_back();
+    str_indices::laws::boundaries_and_indices_agree();
+}
+
+/// How much stands between where a line starts and a place in it.
+fn column_of(text: &Rope, encoding: Encoding, line: usize, place: usize) -> usize
+    requires line { line ≡ line_at (text_of text.now) place }
+    requires within { place ≤ byte_len (text_of text.now) }
+    ensures { result ≡ encodings.column_in encoding (text_of text.now) place }
+{
+    // Laws, and the text's facts, for the proof alone.
+    char_laws();
+    str_indices::laws::place_there_and_back();
+    let _ = text.len_lines();
+    match encoding {
+        Encoding::Utf8 => place - text.line_to_byte(line),
+        Encoding::Utf32 => text.byte_to_char(place) - text.line_to_char(line),
+    }
+}
+
+/// The place so far behind where a line starts: the one that has the column, if any has.
+fn place_behind(text: &Rope, encoding: Encoding, line: usize, column: usize) -> Option<usize>
+    requires { line < line_count (text_of text.now) }
+    ensures within { IfSome result (λ place. place ≤ byte_len (text_of text.now)) }
+    ensures column { IfSome result (λ place. before_place encoding (text_of text.now) place
+        ≡ before_place encoding (text_of text.now) (line_start (text_of text.now) line) + column) }
+    ensures only { (place : ℕ) → IsCharBoundary (bytes_of (text_of text.now)) place
+        → before_place encoding (text_of text.now) place
+        ≡ before_place encoding (text_of text.now) (line_start (text_of text.now) line) + column
+        → result ≡ Some place }
+{
+    // Laws, and the text's facts, for the proof alone.
+    char_laws();
+    let _ = text.len_bytes();
+    match encoding {
+        Encoding::Utf8 => {
+            let place = text.line_to_byte(line).checked_add(column)?;
+            if text.len_bytes() < place {
+                return None;
+            }
+            Some(place)
+        }
+        Encoding::Utf32 => {
+            let char_idx = text.line_to_char(line).checked_add(column)?;
+            if text.len_chars() < char_idx {
+                return None;
+            }
+            Some(text.char_to_byte(char_idx))
+        }
+    }
+}
+
+impl Buffer {
+    /// Returns the column of a position in bytes or in characters: how many stand between where its
+    /// line starts and the position, whose own column counts UTF-16 code units. `O(log n)`.
+    ///
+    /// Errors: `Fault::Range` where it is nowhere in the text.
+    pub fn column_in(&self, encoding: Encoding, position: Position) -> Result<usize, Fault>
+        ensures column { IfOk result (λ column. (place : ℕ)
+            × IsAt (current_text self.now.state) (position.line, position.column) place
+            × IsAtIn encoding (current_text self.now.state) position.line column place) }
+        ensures range { IfErr result (λ fault.
+            IsNowhere (current_text self.now.state) (position.line, position.column)) }
+        ensures fault { IfErr result (λ fault. fault ≡ Fault.Range) }
+    {
+        let place = self.byte_of(position)?;
+        Ok(column_of(self.text(), encoding, position.line, place))
+    }
+
+    /// Returns the position of a line and a column in it that counts bytes or characters.
+    /// `O(log n)`.
+    ///
+    /// Errors: `Fault::Range` where they are nowhere in the text: inside a character or a break,
+    /// behind the line's text, or past the last line.
+    pub fn position_in(
+        &self,
+        encoding: Encoding,
+        line: usize,
+        column: usize,
+    ) -> Result<Position, Fault>
+        ensures position { IfOk result (λ told. (place : ℕ)
+            × IsAtIn encoding (current_text self.now.state) line column place
+            × IsAt (current_text self.now.state) (told.line, told.column) place) }
+        ensures range { IfErr result (λ fault.
+            IsNowhereIn encoding (current_text self.now.state) line column) }
+        ensures fault { IfErr result (λ fault. fault ≡ Fault.Range) }
+    {
+        // Laws, for the proof alone.
+        char_laws();
+        str_indices::laws::place_there_and_back();
+        rope_search_reports::laws::one_place();
+        rope_search_reports::laws::places_are_in_lines();
+        let text = self.text();
+        let _ = text.len_bytes();
+        if text.len_lines() <= line {
+            return Err(Fault::Range);
+        }
+        let Some(place) = place_behind(text, encoding, line, column) else {
+            return Err(Fault::Range);
+        };
+        let position = self.position_of(place)?;
+        if position.line != line {
+            return Err(Fault::Range);
+        }
+        // Between a CR and an LF, too, a place has a position, which is nowhere.
+        if self.byte_of(position)? != place {
+            return Err(Fault::Range);
+        }
+        Ok(position)
+    }
+}

@@ -1,0 +1,103 @@
+//! Which rows of a report others took the place of.
+ghost use Rattle.std.specs.Prelude.{◌≡◌, ◌≤◌, List, ℕ, [], ◌∷◌};
+ghost use Rattle.ropey.specs.Chunks.{text_of};
+ghost use Rattle.rope_search_reports.specs.Text.{bytes_of};
+ghost use Rattle.rope_search_reports.specs.Report.{line_texts};
+ghost use Rattle.rope_search_reports.specs.Turned.{Lead, lines_put};
+ghost use Rattle.rope_search.specs.Stretches.{IsStretch, ReplacesIn, hull_of, lines_spanned};
+ghost use Rattle.rope_search.specs.Stretches as stretches;
+
+use rope_search_reports::Change;
+use ropey::Rope;
+
+/// Rows of a report that others took the place of: all rows before them are as they were, and so
+/// are all behind them, which may have moved.
+#[repr(C)]
+#[derive(Clone, Copy, Debug, PartialEq, Eq)]
+pub struct Stretch {
+    /// The first row that another one took the place of, or where rows came or went.
+    pub first: usize,
+    /// How many rows of the old report are gone, from the first on.
+    pub removed: usize,
+    /// How many rows of the new report stand in their place.
+    pub added: usize,
+}
+
+impl Stretch {
+    /// No row.
+    pub(crate) fn none() -> Stretch
+        ensures { result ≡ stretches.none }
+    {
+        Stretch {
+            first: 0,
+            removed: 0,
+            added: 0,
+        }
+    }
+
+    /// All rows of a report, by how many there were and are.
+    pub(crate) fn whole(removed: usize, added: usize) -> Stretch
+        ensures { result ≡ stretches.whole removed added }
+    {
+        Stretch {
+            first: 0,
+            removed,
+            added,
+        }
+    }
+}
+
+/// The change from where the first of some starts to where the last ends.
+fn hull(changes: &[Change]) -> Option<Change>
+    ensures { result ≡ hull_of changes.now }
+{
+    let first = changes.first()?;
+    let last = changes.last()?;
+    Some(Change {
+        old_end: last.old_end,
+        new_start: first.new_start,
+        new_end: last.new_end,
+    })
+}
+
+/// The lines of a text that a change touches, and those that it makes of them.
+fn lines_by(old: &Rope, new: &Rope, change: Change) -> Stretch
+    requires { Lead (change ∷ []) (text_of old.now) (text_of new.now) }
+    ensures lines { IsStretch (line_texts (text_of old.now)) (line_texts (text_of new.now)) result }
+    ensures added { result.added ≤ lines_put (bytes_of (text_of new.now)) (change ∷ []) }
+{
+    // Laws, and the texts' facts, for the proof alone.
+    rope_search_reports::laws::changes_keep_lines();
+    rope_search_reports::laws::tails_keep_lines();
+    rope_search_reports::laws::changes_put_lines();
+    rope_search_reports::laws::places_are_in_lines();
+    let _ = old.len_lines();
+    let _ = new.len_lines();
+    let _ = new.len_bytes();
+    let first = new.byte_to_line(change.new_start);
+    let gone = old.byte_to_line(change.old_end) + 1;
+    let end = new.byte_to_line(change.new_end) + 1;
+    Stretch {
+        first,
+        removed: gone - first,
+        added: end - first,
+    }
+}
+
+/// The rows of a report that make way where changes lead to another text: those of the lines from
+/// where the first change starts to where the last ends. Requires changes that lead from the old
+/// text to the new one. `O(log n)`.
+pub fn stretch_of(old: &Rope, new: &Rope, changes: &[Change]) -> Stretch
+    requires { Lead changes.now (text_of old.now) (text_of new.now) }
+    ensures rows { (pattern : List ℕ)
+        → ReplacesIn (text_of old.now) (text_of new.now) pattern result }
+    ensures added { result.added
+        ≤ lines_spanned (bytes_of (text_of new.now)) changes.now }
+{
+    // A law, for the proof alone.
+    rope_search_reports::laws::one_list_of_matches();
+    match hull(changes) {
+        None => Stretch::none(),
+        Some(change) => lines_by(old, new, change),
+    }
+}

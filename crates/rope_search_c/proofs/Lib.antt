@@ -1,0 +1,5 @@
+pub mod BitLemmas
+pub mod Walks
+pub mod HandleSteps
+pub mod SpanLemmas
+pub mod TextLemmas

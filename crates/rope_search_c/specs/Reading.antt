@@ -1,0 +1,128 @@
+-- What is read of a session's chosen buffer.
+use Rattle.std.specs.Prelude.{◌≡◌, ℕ, ◌+◌, ◌-◌, ◌<◌, ◌≤◌, ◌⊎◌, List, [], ◌∷◌, ◌++◌, take, drop, map, length, slice_index_or, Bool, true, false, Some}
+use Rattle.std.specs.Str.{IsCharBoundary}
+use Rattle.ropey_walk.specs.Clips.{between}
+use Rattle.ropey_walk.specs.Ranges.{IsByteRangeIn}
+use Rattle.rope_search_reports.specs.Text.{bytes_of}
+use Rattle.rope_search_reports.specs.Report.{match_count}
+use Rattle.rope_search_reports.specs.Position.{IsAt, IsNowhere, position}
+use Rattle.rope_search_reports.specs.declared.positions.Position.{Position}
+use Rattle.rope_search.specs.Encodings.{IsAtIn, IsNowhereIn}
+use Rattle.rope_search.specs.declared.encodings.Encoding.{Encoding}
+use Rattle.rope_search.specs.declared.encodings.Encoding.TheVariants.{Utf8, Utf32}
+use Rattle.rope_search.specs.Session.{IsReportIn, chosen_buffer, current_text}
+use Rattle.rope_search.specs.Stretches.{none}
+use Rattle.rope_search.specs.declared.stretches.Stretch.{Stretch}
+use Rattle.rope_search_c.specs.declared.counting.CountingSession.{CountingSession}
+use Rattle.rope_search_c.specs.declared.matches.Span.{Span}
+
+-- its text, and the UTF-8 of that
+abbrev pub text_in : CountingSession → List ℕ
+text_in session = current_text (chosen_buffer session.session.state)
+
+abbrev pub bytes_in : CountingSession → List ℕ
+bytes_in session = bytes_of (text_in session)
+
+-- its report, which has no rows without a pattern
+abbrev pub AreRowsOf : CountingSession → List (List (ℕ × ℕ)) → Type 0
+AreRowsOf session rows = IsReportIn (chosen_buffer session.session.state) rows
+
+-- rows `from` up to `to`, as far as there are such
+abbrev pub rows_between : ℕ → ℕ → List (List (ℕ × ℕ)) → List (List (ℕ × ℕ))
+rows_between from to rows = take (to - from) (drop from rows)
+
+-- the report has so many rows
+pub record CountsRows (session : CountingSession) (count : ℕ) : Type 0 where
+  pub rows : List (List (ℕ × ℕ))
+  pub are : AreRowsOf session rows
+  pub counted : count ≡ length rows
+
+-- rows `from` up to `to` of the report have so many matches
+pub record CountsMatches (session : CountingSession) (from to count : ℕ) : Type 0 where
+  pub rows : List (List (ℕ × ℕ))
+  pub are : AreRowsOf session rows
+  pub counted : count ≡ match_count (rows_between from to rows)
+
+-- which rows of the report were replaced last
+abbrev pub changed_in : CountingSession → Stretch
+changed_in session =
+    slice_index_or session.session.changed session.session.state.chosen none
+
+-- ---- where a position and a byte are
+
+-- the byte at which a position is, with status 0; or the position is nowhere, with status 2, and
+-- what stood in the byte's place still does
+abbrev pub TellsByte : CountingSession → Position → ℕ → ℕ → ℕ → Type 0
+TellsByte session position status old new =
+    ((status ≡ 0) × IsAt (text_in session) (position.line, position.column) new)
+    ⊎ ((status ≡ 2) × IsNowhere (text_in session) (position.line, position.column) × (new ≡ old))
+
+-- the position of a byte, with status 0; or no character begins there and the text doesn't end
+-- there, with status 2, and what stood in the position's place still does
+abbrev pub TellsPosition : CountingSession → ℕ → ℕ → Position → Position → Type 0
+TellsPosition session byte status old new =
+    ((status ≡ 0) × ((new.line, new.column) ≡ position (text_in session) byte))
+    ⊎ ((status ≡ 2) × (IsCharBoundary (bytes_in session) byte → ⊥) × (new ≡ old))
+
+-- ---- columns in bytes and in characters
+
+-- how C names what columns count
+abbrev pub bits_of : Encoding → ℕ
+bits_of Utf8 = 8
+bits_of Utf32 = 32
+
+-- the column of a position, with status 0; or it is nowhere, or what is to be counted has no such
+-- name, with status 2, and what stood in the column's place still does
+abbrev pub TellsColumn : CountingSession → ℕ → Position → ℕ → ℕ → ℕ → Type 0
+TellsColumn session bits spot status old new =
+    ((encoding : Encoding) × (place : ℕ) × (bits ≡ bits_of encoding) × (status ≡ 0)
+    × IsAt (text_in session) (spot.line, spot.column) place
+    × IsAtIn encoding (text_in session) spot.line new place)
+    ⊎ ((status ≡ 2) × (new ≡ old) × ((encoding : Encoding) → bits ≡ bits_of encoding
+    → IsNowhere (text_in session) (spot.line, spot.column)))
+
+-- the position of a line and a column, with status 0; or they are nowhere, or what is counted has no
+-- such name, with status 2, and what stood in the position's place still does
+abbrev pub TellsPositionIn : CountingSession → ℕ → ℕ → ℕ → ℕ → Position → Position → Type 0
+TellsPositionIn session bits line column status old new =
+    ((encoding : Encoding) × (place : ℕ) × (bits ≡ bits_of encoding) × (status ≡ 0)
+    × IsAtIn encoding (text_in session) line column place
+    × IsAt (text_in session) (new.line, new.column) place)
+    ⊎ ((status ≡ 2) × (new ≡ old) × ((encoding : Encoding) → bits ≡ bits_of encoding
+    → IsNowhereIn encoding (text_in session) line column))
+
+-- ---- what a caller's buffer holds
+
+-- a buffer with these elements in place of its first ones, as many as it has room for
+abbrev pub with_front : {X : Type 0} → List X → List X → List X
+with_front elements buffer = take (length buffer) elements ++ drop (length elements) buffer
+
+-- a match of a line, and the matches of rows in turn, the first of which is that of this line
+abbrev pub span_in : ℕ → ℕ × ℕ → Span
+span_in line columns = record { line = line; start = columns.0; stop = columns.1 }
+
+unfoldable pub spans_from : ℕ → List (List (ℕ × ℕ)) → List Span
+spans_from line [] = []
+spans_from line (row ∷ rows) = map (span_in line) row ++ spans_from (line + 1) rows
+
+-- the matches of rows `from` up to `to` of the report stand at the buffer's front, as many as fit,
+-- and so many they are
+pub record CopiesMatches (session : CountingSession) (from to count : ℕ)
+    (old new : List Span) : Type 0 where
+  pub rows : List (List (ℕ × ℕ))
+  pub are : AreRowsOf session rows
+  pub counted : count ≡ match_count (rows_between from to rows)
+  pub copied : new ≡ with_front (spans_from from (rows_between from to rows)) old
+
+-- bytes `from` up to `to` are bytes of the text that cut no character
+abbrev pub AreBytesIn : CountingSession → ℕ → ℕ → Type 0
+AreBytesIn session from to =
+    IsByteRangeIn (text_in session) (record { start = Some from; end = Some to })
+
+-- they are, and fit, and stand at the buffer's front; else the buffer is as it was
+abbrev pub CopiesText : CountingSession → ℕ → ℕ → Bool → List ℕ → List ℕ → Type 0
+CopiesText session from to true old new =
+    AreBytesIn session from to × (to - from ≤ length old)
+    × (new ≡ with_front (between from to (bytes_in session)) old)
+CopiesText session from to false old new =
+    (AreBytesIn session from to → length old < to - from) × (new ≡ old)

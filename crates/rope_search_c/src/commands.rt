@@ -1,0 +1,230 @@
+//! The calls for commands: one each, which answers 0, or why it is refused.
+ghost use Rattle.std.specs.Prelude.{◌≡◌, ◌^◌, ◌≤◌, ◌↔◌, ◌⊎◌, None, MatchOption};
+ghost use Rattle.rope_search.specs.declared.commands.CommandOf.TheVariants.{Text as SetText, Edit as EditText, Undo as UndoEdit, Redo as RedoEdit, Fork as ForkBuffer, Pattern as SetPattern, Off as DropPattern, Next as FindNext, Replace as ReplaceAll, Use as UseBuffer};
+ghost use Rattle.rope_search.specs.Session.{opened};
+ghost use Rattle.rope_search_c.specs.Calls.{Counts, Does, Finds, Forgets, Leads};
+
+use crate::counting::CountingSession;
+use crate::handles::{CLOSED, Handle};
+use crate::matches::Match;
+use rope_search::{Lines, Position};
+use std::alloc::Global;
+
+/// Opens a handle: its session has one buffer, with an empty text and no pattern, and texts of at
+/// most `limit` bytes; it counts from `lines` on. A session that the handle holds is ended.
+///
+/// Returns 0; 6 for a limit above `isize::MAX`, or 7 where memory is refused, and the handle holds
+/// then what it held.
+#[unsafe(no_mangle)]
+pub extern "C" fn rope_search_open(
+    alloc: Global,
+    limit: usize,
+    lines: Lines,
+    handle: &mut Handle,
+) -> u32
+    ensures ok { result ≡ 0 → MatchOption handle.new.held ⊥ (λ new.
+        (new.session ≡ opened limit) × (new.lines ≡ lines)) }
+    ensures size { (result ≡ 6) ↔ (2 ^ 63 ≤ limit) }
+    ensures status { (result ≡ 0) ⊎ ((result ≡ 6) ⊎ (result ≡ 7)) }
+    ensures refused { (result ≡ 0 → ⊥) → handle.new.held ≡ handle.old.held }
+{
+    match CountingSession::new(alloc, limit, lines) {
+        Ok(session) => {
+            *handle = Handle::of(session);
+            0
+        }
+        Err(fault) => u32::from(fault.rank()),
+    }
+}
+
+/// Closes a handle: its session is ended, where it holds one.
+#[unsafe(no_mangle)]
+pub extern "C" fn rope_search_close(alloc: Global, handle: &mut Handle)
+    ensures { handle.new.held ≡ None }
+{
+    *handle = Handle::closed(alloc);
+}
+
+/// Makes the bytes the chosen buffer's text, as `Command::Text` does.
+#[unsafe(no_mangle)]
+pub extern "C" fn rope_search_set_text(alloc: Global, handle: &mut Handle, text: &[u8]) -> u32
+    ensures { Leads handle.old.held result handle.new.held (λ old new.
+        Does old (SetText text.now) result new) }
+{
+    let Some(session) = handle.take(alloc) else {
+        return CLOSED;
+    };
+    let mut session = session;
+    let status = session.set_text(text);
+    *handle = Handle::of(session);
+    status
+}
+
+/// Puts the bytes in the place of what stands between two positions, as `Command::Edit` does.
+#[unsafe(no_mangle)]
+pub extern "C" fn rope_search_edit(
+    alloc: Global,
+    handle: &mut Handle,
+    from: Position,
+    to: Position,
+    text: &[u8],
+) -> u32
+    ensures { Leads handle.old.held result handle.new.held (λ old new.
+        Does old (EditText from to text.now) result new) }
+{
+    let Some(session) = handle.take(alloc) else {
+        return CLOSED;
+    };
+    let mut session = session;
+    let status = session.edit(from, to, text);
+    *handle = Handle::of(session);
+    status
+}
+
+/// Goes one text back, as `Command::Undo` does.
+#[unsafe(no_mangle)]
+pub extern "C" fn rope_search_undo(alloc: Global, handle: &mut Handle) -> u32
+    ensures { Leads handle.old.held result handle.new.held (λ old new.
+        Does old UndoEdit result new) }
+{
+    let Some(session) = handle.take(alloc) else {
+        return CLOSED;
+    };
+    let mut session = session;
+    let status = session.undo();
+    *handle = Handle::of(session);
+    status
+}
+
+/// Goes one text forward, as `Command::Redo` does.
+#[unsafe(no_mangle)]
+pub extern "C" fn rope_search_redo(alloc: Global, handle: &mut Handle) -> u32
+    ensures { Leads handle.old.held result handle.new.held (λ old new.
+        Does old RedoEdit result new) }
+{
+    let Some(session) = handle.take(alloc) else {
+        return CLOSED;
+    };
+    let mut session = session;
+    let status = session.redo();
+    *handle = Handle::of(session);
+    status
+}
+
+/// Makes the bytes the chosen buffer's pattern, as `Command::Pattern` does.
+#[unsafe(no_mangle)]
+pub extern "C" fn rope_search_set_pattern(alloc: Global, handle: &mut Handle, pattern: &[u8]) -> u32
+    ensures { Leads handle.old.held result handle.new.held (λ old new.
+        Does old (SetPattern pattern.now) result new) }
+{
+    let Some(session) = handle.take(alloc) else {
+        return CLOSED;
+    };
+    let mut session = session;
+    let status = session.set_pattern(pattern);
+    *handle = Handle::of(session);
+    status
+}
+
+/// Drops the chosen buffer's pattern, as `Command::Off` does.
+#[unsafe(no_mangle)]
+pub extern "C" fn rope_search_off(alloc: Global, handle: &mut Handle) -> u32
+    ensures { Leads handle.old.held result handle.new.held (λ old new.
+        Does old DropPattern result new) }
+{
+    let Some(session) = handle.take(alloc) else {
+        return CLOSED;
+    };
+    let mut session = session;
+    let status = session.off();
+    *handle = Handle::of(session);
+    status
+}
+
+/// Finds the first match at a position or behind it, as `Command::Next` does.
+/// `found` is written unless the handle is closed.
+#[unsafe(no_mangle)]
+pub extern "C" fn rope_search_next(
+    alloc: Global,
+    handle: &mut Handle,
+    from: Position,
+    found: &mut Match,
+) -> u32
+    ensures { Leads handle.old.held result handle.new.held (λ old new.
+        Finds old (FindNext from) result found.new new) }
+{
+    let Some(session) = handle.take(alloc) else {
+        return CLOSED;
+    };
+    let mut session = session;
+    let status = session.next(from, found);
+    *handle = Handle::of(session);
+    status
+}
+
+/// Replaces all matches by what a template stands for at each, as `Command::Replace` does, and
+/// tells how many: 0 where it is refused. `count` is written unless the handle is closed.
+#[unsafe(no_mangle)]
+pub extern "C" fn rope_search_replace(
+    alloc: Global,
+    handle: &mut Handle,
+    template: &[u8],
+    count: &mut usize,
+) -> u32
+    ensures { Leads handle.old.held result handle.new.held (λ old new.
+        Counts old (ReplaceAll template.now) result count.new new) }
+{
+    let Some(session) = handle.take(alloc) else {
+        return CLOSED;
+    };
+    let mut session = session;
+    let status = session.replace(template, count);
+    *handle = Handle::of(session);
+    status
+}
+
+/// Adds a buffer with the chosen one's text, as `Command::Fork` does, and tells its number: 0 where
+/// it is refused. `number` is written unless the handle is closed.
+#[unsafe(no_mangle)]
+pub extern "C" fn rope_search_fork(alloc: Global, handle: &mut Handle, number: &mut usize) -> u32
+    ensures { Leads handle.old.held result handle.new.held (λ old new.
+        Counts old ForkBuffer result number.new new) }
+{
+    let Some(session) = handle.take(alloc) else {
+        return CLOSED;
+    };
+    let mut session = session;
+    let status = session.fork(number);
+    *handle = Handle::of(session);
+    status
+}
+
+/// Chooses a buffer by its number, as `Command::Use` does.
+#[unsafe(no_mangle)]
+pub extern "C" fn rope_search_choose(alloc: Global, handle: &mut Handle, number: u64) -> u32
+    ensures { Leads handle.old.held result handle.new.held (λ old new.
+        Does old (UseBuffer number) result new) }
+{
+    let Some(session) = handle.take(alloc) else {
+        return CLOSED;
+    };
+    let mut session = session;
+    let status = session.choose(number);
+    *handle = Handle::of(session);
+    status
+}
+
+/// Drops the chosen buffer's history, as `Session::forget` does: its text, its pattern and its
+/// report stay. It takes no memory.
+#[unsafe(no_mangle)]
+pub extern "C" fn rope_search_forget(alloc: Global, handle: &mut Handle) -> u32
+    ensures { Leads handle.old.held result handle.new.held (λ old new. Forgets old result new) }
+{
+    let Some(session) = handle.take(alloc) else {
+        return CLOSED;
+    };
+    let mut session = session;
+    let status = session.forget();
+    *handle = Handle::of(session);
+    status
+}

@@ -1,0 +1,165 @@
+//! A session that counts its searches, and its commands with a status for an answer.
+ghost use Rattle.std.specs.Prelude.{◌≡◌, ◌^◌, ◌≤◌, ◌↔◌, ◌⊎◌, Err, IfOk, IfErr};
+ghost use Rattle.rope_search.specs.declared.commands.CommandOf.TheVariants.{Text as SetText, Edit as EditText, Undo as UndoEdit, Redo as RedoEdit, Fork as ForkBuffer, Pattern as SetPattern, Off as DropPattern, Next as FindNext, Replace as ReplaceAll, Use as UseBuffer};
+ghost use Rattle.rope_search.specs.Session.{opened};
+ghost use Rattle.rope_search.specs.Stands.{ForOrders};
+ghost use Rattle.rope_search_c.specs.Calls.{Carries, Counts, Does, Finds, Forgets, Tells};
+ghost use Rattle.rope_search_c.specs.Calls as calls;
+
+use crate::matches::Match;
+use rope_search::{Command, Fault, Limits, Lines, Payload, Position, Reply, Session};
+use std::alloc::Global;
+
+/// A session, and the counts of its searches.
+#[derive(Drop)]
+pub struct CountingSession {
+    pub(crate) session: Session,
+    pub(crate) lines: Lines,
+}
+
+/// 0 where a command is done, else the rank of what refuses it.
+fn status_of(answer: Result<Reply, Fault>) -> u32
+    ensures { result ≡ calls.status_of answer }
+{
+    match answer {
+        Ok(_) => 0,
+        Err(fault) => u32::from(fault.rank()),
+    }
+}
+
+/// The number that a command is answered, else 0.
+fn number_of(answer: Result<Reply, Fault>) -> usize
+    ensures { result ≡ calls.number_of answer }
+{
+    match answer {
+        Ok(Reply::Number(number)) => number,
+        _ => 0,
+    }
+}
+
+/// The match that is found, or that there is none.
+fn match_of(answer: Result<Reply, Fault>) -> Match
+    ensures { Tells answer result }
+{
+    match answer {
+        Ok(Reply::Found(start, stop)) => Match {
+            found: true,
+            start,
+            stop,
+        },
+        _ => {
+            let none = Position { line: 0, column: 0 };
+            Match {
+                found: false,
+                start: none,
+                stop: none,
+            }
+        }
+    }
+}
+
+impl CountingSession {
+    /// A session of one buffer, with an empty text and no pattern, whose texts have at most `limit`
+    /// bytes; it counts from `lines` on. It is refused with `Fault::Size` for a limit above
+    /// `isize::MAX`, and perhaps with `Fault::Memory`.
+    pub(crate) fn new(
+        alloc: Global,
+        limit: usize,
+        lines: Lines,
+    ) -> Result<Box<CountingSession>, Fault>
+        ensures session { IfOk result (λ new. new.value.session ≡ opened limit) }
+        ensures lines { IfOk result (λ new. new.value.lines ≡ lines) }
+        ensures size { (result ≡ Err Fault.Size) ↔ (2 ^ 63 ≤ limit) }
+        ensures fault { IfErr result (λ fault. (fault ≡ Fault.Size) ⊎ (fault ≡ Fault.Memory)) }
+    {
+        if limit > isize::MAX as usize {
+            return Err(Fault::Size);
+        }
+        let session = Session::new(alloc, Limits { text: limit })?;
+        let Ok(counting) = Box::new(alloc, CountingSession { session, lines }) else {
+            return Err(Fault::Memory);
+        };
+        Ok(counting)
+    }
+
+    /// Carries out a command on the chosen buffer, as `Session::apply` does.
+    fn apply(&mut self, command: Command<'_>) -> Result<Reply, Fault>
+        ensures { ForOrders self.old.session.limit command.entry (λ order.
+            Carries self.old order result self.new) }
+    {
+        self.session.apply(&mut self.lines, command)
+    }
+
+    pub(crate) fn set_text(&mut self, text: &[u8]) -> u32
+        ensures { Does self.old (SetText text.now) result self.new }
+    {
+        status_of(self.apply(Command::Text(Payload::Kept(text))))
+    }
+
+    pub(crate) fn edit(&mut self, from: Position, to: Position, text: &[u8]) -> u32
+        ensures { Does self.old (EditText from to text.now) result self.new }
+    {
+        status_of(self.apply(Command::Edit(from, to, Payload::Kept(text))))
+    }
+
+    pub(crate) fn undo(&mut self) -> u32
+        ensures { Does self.old UndoEdit result self.new }
+    {
+        status_of(self.apply(Command::Undo))
+    }
+
+    pub(crate) fn redo(&mut self) -> u32
+        ensures { Does self.old RedoEdit result self.new }
+    {
+        status_of(self.apply(Command::Redo))
+    }
+
+    pub(crate) fn set_pattern(&mut self, pattern: &[u8]) -> u32
+        ensures { Does self.old (SetPattern pattern.now) result self.new }
+    {
+        status_of(self.apply(Command::Pattern(Payload::Kept(pattern))))
+    }
+
+    pub(crate) fn off(&mut self) -> u32
+        ensures { Does self.old DropPattern result self.new }
+    {
+        status_of(self.apply(Command::Off))
+    }
+
+    pub(crate) fn choose(&mut self, number: u64) -> u32
+        ensures { Does self.old (UseBuffer number) result self.new }
+    {
+        status_of(self.apply(Command::Use(number)))
+    }
+
+    pub(crate) fn next(&mut self, from: Position, found: &mut Match) -> u32
+        ensures { Finds self.old (FindNext from) result found.new self.new }
+    {
+        let answer = self.apply(Command::Next(from));
+        *found = match_of(answer);
+        status_of(answer)
+    }
+
+    pub(crate) fn replace(&mut self, template: &[u8], count: &mut usize) -> u32
+        ensures { Counts self.old (ReplaceAll template.now) result count.new self.new }
+    {
+        let answer = self.apply(Command::Replace(Payload::Kept(template)));
+        *count = number_of(answer);
+        status_of(answer)
+    }
+
+    pub(crate) fn fork(&mut self, number: &mut usize) -> u32
+        ensures { Counts self.old ForkBuffer result number.new self.new }
+    {
+        let answer = self.apply(Command::Fork);
+        *number = number_of(answer);
+        status_of(answer)
+    }
+
+    pub(crate) fn forget(&mut self) -> u32
+        ensures { Forgets self.old result self.new }
+    {
+        self.session.forget();
+        0
+    }
+}

@@ -1,0 +1,28 @@
+//! Sessions for callers in C: `include/rope_search.h` of the repository declares these calls.
+//!
+//! A call takes a handle, which holds a session or is closed, and none ends the program: what is
+//! refused is told by a status. No call requires anything of what C passes but what
+//! `include/rope_search.h` says of pointers and of copies of a handle.
+#![tactic(auto)]
+
+mod commands;
+mod counting;
+mod handles;
+mod look_ups;
+mod matches;
+mod reading;
+
+pub use commands::{
+    rope_search_choose, rope_search_close, rope_search_edit, rope_search_forget, rope_search_fork,
+    rope_search_next, rope_search_off, rope_search_open, rope_search_redo, rope_search_replace,
+    rope_search_set_pattern, rope_search_set_text, rope_search_undo,
+};
+pub use counting::CountingSession;
+pub use handles::Handle;
+pub use look_ups::{
+    Counted, rope_search_buffers, rope_search_byte_of, rope_search_can_redo, rope_search_can_undo,
+    rope_search_changed, rope_search_chosen, rope_search_column_in, rope_search_copy_matches,
+    rope_search_copy_text, rope_search_count_matches, rope_search_counted, rope_search_position_in,
+    rope_search_position_of, rope_search_rows, rope_search_text_len, rope_search_text_lines,
+};
+pub use matches::{Match, Span};

@@ -1,0 +1,369 @@
+//! The regex of a pattern, and each way to search by it. Each is counted as it begins: a line, a
+//! whole text, or how many lines were looked through. Nothing else of the crate has a regex.
+ghost use Rattle.std.specs.Prelude.{◌≡◌, ◌+◌, ◌-◌, ◌^◌, ◌<◌, ◌≤◌, ◌⊎◌, ℕ, List, [], length, map, min, chars, IfOk, IfErr, IfSome, OnOk, Err};
+ghost use Rattle.std.specs.Str.{IsCharBoundary, IsUtf8};
+ghost use Rattle.str_indices.specs.Text.{breaks, byte_len};
+ghost use Rattle.ropey.specs.Chunks.{is_break, text_of};
+ghost use Rattle.ropey_walk.specs.Comparing.{slice_bytes};
+ghost use Rattle.ropey_walk.specs.Slices.{slice_text};
+ghost use Rattle.regex_cursor.specs.Regexes.{IsCacheOf, IsRegexOf};
+ghost use Rattle.rope_search_reports.specs.Text.{bytes_of, line_count};
+ghost use Rattle.rope_search_reports.specs.Pattern.{IsPattern, IsTooHeavy, SpellsNone, Finds, pattern_limit};
+ghost use Rattle.rope_search_reports.specs.Report.{IsRow};
+ghost use Rattle.rope_search_reports.specs.Matches.{AreGroups, IsMatches};
+ghost use Rattle.rope_search_reports.specs.Replacement.{AreMatchesIn, alone};
+ghost use Rattle.rope_search_reports.specs.Finders.{IsRowOf, matches_in};
+ghost use Rattle.rope_search_reports.specs.Drafts.{AreBare, HasNoneBetween, HoldsText, own_text};
+
+use super::Lines;
+use super::matches::Found;
+use super::searching::{all_groups, all_spans, find, find_next, input_from, input_over};
+use crate::laws;
+use crate::line::Line;
+use crate::pattern_text::PatternText;
+use crate::walk::Walk;
+use regex_cursor::engines::meta::{Cache, Regex};
+use regex_cursor::{BuildError, Cursor, RopeyCursor};
+use rope_search_changes::Groups;
+use rope_search_io::Fault;
+use ropey::{Rope, RopeSlice, breaks};
+use std::alloc::Global;
+use std::marker::Model;
+
+/// How many bytes a pattern has at most.
+pub const PATTERN_LEN: usize = 65_536;
+
+/// A pattern that is ready to search, with what its searches keep from one to the next: all of it
+/// is made once. It can't be copied.
+#[derive(Drop)]
+pub struct Finder {
+    alloc: Global,
+    regex: Regex,
+    cache: Cache,
+    // Whether it is known that it doesn't match the empty text.
+    is_never_empty: bool,
+    // The columns of the matches in the line that was searched last.
+    columns: Vec<(usize, usize)>,
+    // For contracts alone.
+    pattern: PatternText,
+}
+
+impl Model for Finder {
+    ghost use Rattle.std.specs.Prelude.{ℕ, List};
+    ghost use Rattle.rope_search_reports.specs.Finders.{IsFinderOf};
+
+    ghost Value = { List ℕ };
+
+    ghost view = { λ f. f.pattern };
+
+    ghost invariant = { λ f. IsFinderOf f.pattern f.regex f.cache f.is_never_empty };
+}
+
+impl Finder {
+    /// Returns a finder of a pattern's matches, by the default settings of a regex. Time and memory
+    /// are in proportion to the pattern's weight.
+    ///
+    /// Errors: `Fault::Limit` for more than 65,536 bytes, before anything is allocated, and for a
+    /// weight above 262,144; `Fault::Pattern` outside the grammar; `Fault::Memory`.
+    pub fn new(alloc: Global, pattern: &str) -> Result<Finder, Fault>
+        ensures ok { IfOk result (λ finder. finder ≡ chars pattern.now) }
+        ensures is_pattern { IfOk result (λ finder. IsPattern finder) }
+        ensures too_long { pattern_limit < length pattern.now → result ≡ Err Fault.Limit }
+        ensures limit { result ≡ Err Fault.Limit
+            → (pattern_limit < length pattern.now) ⊎ IsTooHeavy (chars pattern.now) }
+        ensures no_pattern { result ≡ Err Fault.Pattern
+            → (length pattern.now ≤ pattern_limit) × SpellsNone (chars pattern.now) }
+        ensures fault { IfErr result (λ fault.
+            (fault ≡ Fault.Limit) ⊎ ((fault ≡ Fault.Pattern) ⊎ (fault ≡ Fault.Memory))) }
+    {
+        // A law, for the proof alone.
+        regex_cursor::laws::regexes_have_trees();
+        if pattern.len() > PATTERN_LEN {
+            return Err(Fault::Limit);
+        }
+        let regex = match Regex::new(alloc, pattern) {
+            Ok(regex) => regex,
+            Err(BuildError::Syntax { .. }) => return Err(Fault::Pattern),
+            Err(BuildError::Size { .. }) => return Err(Fault::Limit),
+            Err(BuildError::Memory) => return Err(Fault::Memory),
+        };
+        let Ok(cache) = regex.create_cache() else {
+            return Err(Fault::Memory);
+        };
+        // By its literals, no search.
+        let is_never_empty = regex.no_match_before(&mut input_over("", 0, 0)).is_some();
+        Ok(Finder {
+            alloc,
+            regex,
+            cache,
+            is_never_empty,
+            columns: Vec::new(alloc),
+            pattern: PatternText::new(pattern),
+        })
+    }
+
+    /// The allocator that the finder was made with.
+    pub(super) fn alloc(&self) -> Global {
+        self.alloc
+    }
+
+    /// A place of the text in a line's chunk before which nothing matches: no part of it up to
+    /// there has a match, searched by itself. That is told by the literals that each match begins
+    /// with, and by no search; `None` where no such literals are known. Time is linear in the text
+    /// up to the place.
+    fn no_match_before(&self, text: &str) -> Option<usize>
+        ensures no_match { IfSome result (λ place. HasNoneBetween self.now text.now 0 place) }
+        ensures within { IfSome result (λ place. place ≤ length text.now) }
+    {
+        self.regex
+            .no_match_before(&mut input_over(text, text.len(), 0))
+    }
+
+    /// The same of a slice, from a place on.
+    fn no_match_from(&self, text: RopeSlice<'_>, from: usize) -> Option<usize>
+        requires { from ≤ byte_len (slice_text text) }
+        ensures no_match { IfSome result (λ place.
+            HasNoneBetween self.now (slice_bytes text.entry) from place) }
+        ensures within { IfSome result (λ place. place ≤ byte_len (slice_text text.entry)) }
+    {
+        self.regex.no_match_before(&mut input_from(text, from))
+    }
+
+    /// How many of the lines that come next end before the place at which a match may begin, as far
+    /// as the literals tell that each match begins with. They are looked for from the next line on,
+    /// over chunks.
+    fn lines_from(&self, walk: &Walk<'_>) -> usize
+        requires { walk.now.line < line_count walk.now.text }
+        ensures within { walk.now.line + result < line_count walk.now.text }
+        ensures bare { AreBare self.now walk.now.text walk.now.line (walk.now.line + result) }
+        ensures empty { 0 < result → IsRow self.now [] [] }
+    {
+        // Laws, for the proof alone.
+        laws::places();
+        str_indices::laws::to_byte_idx_is_monotone();
+        regex_cursor::laws::finds_of_trees();
+        let text = walk.text();
+        let line_idx = walk.line_idx();
+        let start = text.line_to_byte(line_idx);
+        match self.no_match_from(text, start) {
+            Some(place) => text.byte_to_line(place).saturating_sub(line_idx),
+            None => 0,
+        }
+    }
+
+    /// The same, but they are looked for in what is left of the chunk at first.
+    fn lines_before(&self, walk: &Walk<'_>) -> usize
+        requires { walk.now.line < line_count walk.now.text }
+        ensures within { walk.now.line + result < line_count walk.now.text }
+        ensures fits { result + 1 < 2 ^ 64 }
+        ensures bare { AreBare self.now walk.now.text walk.now.line (walk.now.line + result) }
+        ensures empty { 0 < result → IsRow self.now [] [] }
+    {
+        // Laws, for the proof alone.
+        laws::places();
+        str_indices::laws::to_byte_idx_is_monotone();
+        regex_cursor::laws::finds_of_trees();
+        let rest = walk.rest();
+        match self.no_match_before(rest) {
+            None => 0,
+            Some(place) => {
+                if place < rest.len() {
+                    breaks::from_byte_idx(rest, place)
+                } else {
+                    self.lines_from(walk)
+                }
+            }
+        }
+    }
+
+    /// How many of the next `left` lines end before the place at which a match may begin, as far as
+    /// the literals tell that each match begins with. These lines and the one behind them are
+    /// counted as looked through. Requires that no line of the walk comes behind them, but for an
+    /// empty one. Time is linear in the text up to that place.
+    pub(crate) fn bare_lines(&self, tick: &mut Lines, walk: &Walk<'_>, left: usize) -> usize
+        requires some { 0 < left }
+        requires within { walk.now.line + left ≤ line_count walk.now.text }
+        requires all { line_count walk.now.text ≤ walk.now.line + left + 1 }
+        ensures within { result ≤ left }
+        ensures bare { AreBare self.now walk.now.text walk.now.line (walk.now.line + result) }
+        ensures empty { 0 < result → IsRow self.now [] [] }
+        ensures count { tick.new.count ≡ tick.old.count }
+        ensures wholes { tick.new.wholes ≡ tick.old.wholes }
+        ensures looked { tick.new.looked
+            ≡ min (tick.old.looked + min (result + 1) left) (2 ^ 64 - 1) }
+    {
+        let passed = self.lines_before(walk);
+        tick.add_looked((passed + 1).min(left));
+        passed
+    }
+
+    /// The matches in a line, by their columns. One row is counted, also after an error.
+    ///
+    /// Errors: `Fault::Memory`; the finder serves on.
+    pub(super) fn columns_of(&mut self, tick: &mut Lines, line: Line<'_>) -> Result<Found, Fault>
+        requires { HoldsText line }
+        ensures row { IfOk result
+            (λ found. IsRow self.old (own_text line.entry) (matches_in found)) }
+        ensures fault { IfErr result (λ fault. fault ≡ Fault.Memory) }
+        ensures finder { self.new ≡ self.old }
+        ensures count { tick.new.count ≡ min (tick.old.count + 1) (2 ^ 64 - 1) }
+        ensures wholes { tick.new.wholes ≡ tick.old.wholes }
+        ensures looked { tick.new.looked ≡ tick.old.looked }
+    {
+        // A law, for the proof alone.
+        regex_cursor::laws::finds_of_trees();
+        if self.is_never_empty && line.len_bytes() == 0 {
+            tick.add_row();
+            return Ok(Found::Nothing);
+        }
+        self.columns.clear();
+        columns_in_line(tick, &mut self.columns, &self.regex, &mut self.cache, line)?;
+        Ok(Found::of(self.alloc, self.columns.as_slice())?)
+    }
+
+    /// The first match in a whole text from a place on. One search of a whole text is counted, also
+    /// after an error.
+    ///
+    /// Errors: `Fault::Memory`; the finder serves on.
+    pub(super) fn first_in(
+        &mut self,
+        tick: &mut Lines,
+        text: &Rope,
+        from: usize,
+    ) -> Result<Option<(usize, usize)>, Fault>
+        requires { IsCharBoundary (bytes_of (text_of text.now)) from }
+        ensures found { IfOk result (λ span.
+            Finds self.old (bytes_of (text_of text.now)) from span) }
+        ensures fault { IfErr result (λ fault. fault ≡ Fault.Memory) }
+        ensures finder { self.new ≡ self.old }
+        ensures count { tick.new.count ≡ tick.old.count }
+        ensures wholes { tick.new.wholes ≡ min (tick.old.wholes + 1) (2 ^ 64 - 1) }
+        ensures looked { tick.new.looked ≡ tick.old.looked }
+    {
+        tick.add_whole();
+        let mut input = input_from(text.slice(..), from);
+        find(&self.regex, &mut self.cache, &mut input, &mut [None; 2])
+    }
+
+    /// All matches in a whole text with their groups. One search of a whole text is counted, also
+    /// after an error.
+    ///
+    /// Errors: `Fault::Memory`; the finder serves on.
+    pub(super) fn groups_of(&mut self, tick: &mut Lines, text: &Rope) -> Result<Vec<Groups>, Fault>
+        ensures found { IfOk result (λ groups.
+            AreGroups self.old (bytes_of (text_of text.now)) groups.items) }
+        ensures stand { IfOk result (λ groups.
+            AreMatchesIn (bytes_of (text_of text.now)) groups.items) }
+        ensures fault { IfErr result (λ fault. fault ≡ Fault.Memory) }
+        ensures finder { self.new ≡ self.old }
+        ensures count { tick.new.count ≡ tick.old.count }
+        ensures wholes { tick.new.wholes ≡ min (tick.old.wholes + 1) (2 ^ 64 - 1) }
+        ensures looked { tick.new.looked ≡ tick.old.looked }
+    {
+        all_groups(
+            tick,
+            self.alloc,
+            &self.regex,
+            &mut self.cache,
+            text.slice(..),
+        )
+    }
+
+    /// The spans of all matches in a whole text. One search of a whole text is counted, also after
+    /// an error.
+    ///
+    /// Errors: `Fault::Memory`; the finder serves on.
+    pub(super) fn spans_of(
+        &mut self,
+        tick: &mut Lines,
+        text: &Rope,
+    ) -> Result<Vec<(usize, usize)>, Fault>
+        ensures found { IfOk result (λ spans.
+            IsMatches self.old (bytes_of (text_of text.now)) spans.items) }
+        ensures stand { IfOk result (λ spans.
+            AreMatchesIn (bytes_of (text_of text.now)) (map alone spans.items)) }
+        ensures fault { IfErr result (λ fault. fault ≡ Fault.Memory) }
+        ensures finder { self.new ≡ self.old }
+        ensures count { tick.new.count ≡ tick.old.count }
+        ensures wholes { tick.new.wholes ≡ min (tick.old.wholes + 1) (2 ^ 64 - 1) }
+        ensures looked { tick.new.looked ≡ tick.old.looked }
+    {
+        all_spans(
+            tick,
+            self.alloc,
+            &self.regex,
+            &mut self.cache,
+            text.slice(..),
+        )
+    }
+}
+
+/// Puts the columns of all matches in a line into a list, which is empty. One row is counted.
+fn columns_in_line(
+    tick: &mut Lines,
+    columns: &mut Vec<(usize, usize)>,
+    regex: &Regex,
+    cache: &mut Cache,
+    line: Line<'_>,
+) -> Result<(), Fault>
+    requires made { IsCacheOf regex.now cache.old }
+    requires built { (text : List ℕ) × IsRegexOf text regex.now }
+    requires holds { HoldsText line }
+    requires empty { columns.old.items ≡ [] }
+    ensures row { (text : List ℕ) → (built : IsRegexOf text regex.now)
+        → OnOk result (IsRowOf built.tree (own_text line.entry) columns.new.items) }
+    ensures made { IsCacheOf regex.now cache.new }
+    ensures fault { IfErr result (λ fault. fault ≡ Fault.Memory) }
+    ensures count { tick.new.count ≡ min (tick.old.count + 1) (2 ^ 64 - 1) }
+    ensures wholes { tick.new.wholes ≡ tick.old.wholes }
+    ensures looked { tick.new.looked ≡ tick.old.looked }
+{
+    match line {
+        Line::Whole(text) => columns_in(tick, columns, regex, cache, text, &line),
+        Line::Parted(slice) => {
+            columns_in(tick, columns, regex, cache, RopeyCursor::new(slice), &line)
+        }
+    }
+}
+
+/// Puts the columns of all matches in a line, which the cursor shows, into a list, which is empty.
+/// One row is counted as it begins.
+fn columns_in<C: Cursor + Drop>(
+    tick: &mut Lines,
+    columns: &mut Vec<(usize, usize)>,
+    regex: &Regex,
+    cache: &mut Cache,
+    cursor: C,
+    line: &Line<'_>,
+) -> Result<(), Fault>
+    requires made { IsCacheOf regex.now cache.old }
+    requires built { (text : List ℕ) × IsRegexOf text regex.now }
+    requires holds { HoldsText line.now }
+    requires shows { (C.state cursor).content ≡ bytes_of (own_text line.now) }
+    requires empty { columns.old.items ≡ [] }
+    ensures row { (text : List ℕ) → (built : IsRegexOf text regex.now)
+        → OnOk result (IsRowOf built.tree (own_text line.now) columns.new.items) }
+    ensures made { IsCacheOf regex.now cache.new }
+    ensures fault { IfErr result (λ fault. fault ≡ Fault.Memory) }
+    ensures count { tick.new.count ≡ min (tick.old.count + 1) (2 ^ 64 - 1) }
+    ensures wholes { tick.new.wholes ≡ tick.old.wholes }
+    ensures looked { tick.new.looked ≡ tick.old.looked }
+{
+    // A law, for the proof alone.
+    regex_cursor::laws::finds_of_trees();
+    tick.add_row();
+    let mut input = input_over(cursor, line.len_bytes(), 0);
+    let mut slots = [None; 2];
+    // Where the last match ended, and its column there.
+    let mut last = None;
+    let (mut place, mut column) = (0, 0);
+    while let Some((start, end)) = find_next(regex, cache, &mut input, &mut slots, last)? {
+        let start_column = line.column_from(place, column, start);
+        column = line.column_from(start, start_column, end);
+        columns.push((start_column, column))?;
+        input.set_start(end);
+        last = Some(end);
+        place = end;
+    }
+    Ok(())
+}

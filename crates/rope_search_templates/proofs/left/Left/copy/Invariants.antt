@@ -1,0 +1,11 @@
+-- What was copied so far.
+use Rattle.std.proofs.Common.{◌≡◌, ℕ, ◌+◌, List, ◌++◌}
+use Rattle.std.specs.Str.{chars}
+use Rattle.rope_search_templates.proofs.LeftLemmas.{IsTaken}
+use Rattle.rope_search_templates.proofs.left.Left.copy.Given as goal
+
+abbrev pub invariant-loop-left : goal.invariant-loop-left
+invariant-loop-left l = (taken : List ℕ) × IsTaken l.fn.self.bytes l.self.bytes taken l.len l.left × (l.builder ≡ l.fn.builder ++ chars taken)
+
+abbrev pub decreases-loop-left : goal.decreases-loop-left
+decreases-loop-left l = l.left + l.self.chunks

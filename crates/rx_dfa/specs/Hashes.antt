@@ -1,0 +1,41 @@
+-- The numbers by which states are looked up: same states have the same.
+use Rattle.std.specs.Prelude.{ℕ, ◌+◌, ◌*◌, ◌%◌, ◌^◌, List, [], ◌∷◌, Option, Some, None}
+use Rattle.std.specs.Int.{w64, from_bool, rotate_left}
+use Rattle.rx_steps.specs.Threads.{Thread}
+use Rattle.rx_dfa.specs.declared.states.AutomatonState.{AutomatonState}
+use Rattle.rx_dfa.specs.declared.states.Starting.{Starting}
+use Rattle.rx_dfa.specs.declared.states.Starting.TheVariants.{Never, Once, Always}
+use Rattle.rx_dfa.specs.declared.behind.Behind.{Behind}
+use Rattle.rx_dfa.specs.declared.behind.Behind.TheVariants.{Edge, Byte}
+
+-- a hash with a further number mixed in
+unfoldable pub mixed : ℕ → ℕ → ℕ
+mixed hash number =
+    ((rotate_left w64 hash 29 + 15111065706836454659) % 2 ^ 64 + number) % 2 ^ 64
+    * 11400714819323198485 % 2 ^ 64
+
+-- the hash of where walks start
+abbrev pub starting_hash : Starting → ℕ
+starting_hash Never = mixed 1 0
+starting_hash (Once q) = mixed 2 q
+starting_hash (Always q) = mixed 3 q
+
+-- a number for each side on which looks may see a place
+abbrev pub side_number : Behind → ℕ
+side_number Edge = 4
+side_number (Byte ends_line is_word) = from_bool ends_line + 2 * from_bool is_word
+
+-- with the pattern mixed in whose end was met
+abbrev pub with_end : ℕ → Option ℕ → ℕ
+with_end hash None = hash
+with_end hash (Some pattern) = mixed ((hash + 1) % 2 ^ 64) pattern
+
+-- and with the nodes of these threads
+abbrev pub with_nodes : ℕ → List Thread → ℕ
+with_nodes hash [] = hash
+with_nodes hash (t ∷ threads) = with_nodes (mixed (mixed hash t.1.0) t.1.1) threads
+
+abbrev pub hash_of : AutomatonState → ℕ
+hash_of x = with_nodes
+    (with_end (mixed (starting_hash x.starting) (side_number x.behind)) x.ended)
+    x.threads.threads

@@ -1,0 +1,102 @@
+-- The step from the nodes at a place to those at the next one where no end of a match cuts it: all
+-- walks go on, each with the place at which it began.
+use Rattle.std.specs.Prelude.{◌≡◌, ℕ, ◌≤◌, List, [], ◌++◌, map, Option, Some, None, option_map, slice_get}
+use Rattle.rx_program.specs.declared.states.State.{State}
+use Rattle.rx_program.specs.Programs.{ByteProgram, characters_of, automata_of}
+use Rattle.rx_walks.specs.Machines.{goes, Machine}
+use Rattle.rx_walks.specs.Looks as walks
+use Rattle.rx_walks.specs.Programs.{Haystack, Notes, put_note}
+use Rattle.rx_walks.specs.Bytes.{over_bytes}
+use Rattle.rx_walks.specs.StepsAll.{StepsAll, Met}
+use Rattle.rx_steps.specs.declared.place.Place.{Place}
+use Rattle.rx_steps.specs.declared.started.MetEnd.{MetEnd}
+use Rattle.rx_steps.specs.Nodes.{widths_of, IsNodeOf}
+use Rattle.rx_steps.specs.Threads.{Thread}
+use Rattle.rx_steps.specs.Lists.{IsPlace, Tells, move_at}
+
+-- where a walk began, and the node at which it stands
+abbrev pub Started : Type 0
+Started = ℕ × (ℕ × ℕ)
+
+-- a walk at a node of a program
+abbrev pub IsStartedOf : List State → Started → Type 0
+IsStartedOf states thread = IsNodeOf states thread.1
+
+-- walks at these nodes that began at one place, and the ends of these patterns' matches that did
+abbrev pub started_at : ℕ → List (ℕ × ℕ) → List Started
+started_at s nodes = map (λ q. (s, q)) nodes
+
+abbrev pub ended_from : ℕ → List ℕ → List (ℕ × ℕ)
+ended_from s patterns = map (λ k. (s, k)) patterns
+
+-- the machine of a program's bytes
+abbrev pub byte_machine : ByteProgram → Haystack walks.Look → Machine (ℕ × ℕ) Notes
+byte_machine p h = over_bytes put_note (automata_of p) (characters_of p).nodes h
+
+-- of two ends at one place the first has the lesser start, or else the lesser pattern; or the same
+pub record IsNoWorse (one other : MetEnd) : Type 0 where
+  pub by_start : one.start ≤ other.start
+  pub by_pattern : one.start ≡ other.start → one.pattern ≤ other.pattern
+
+-- of the ends that are met, each as its start and its pattern, the one of the least start, then of
+-- the least pattern; none where none is met
+abbrev pub IsBestMet : List (ℕ × ℕ) → Option MetEnd → Type 0
+IsBestMet ends None = (s k : ℕ) → Met s k ends → ⊥
+IsBestMet ends (Some best) = Met best.start best.pattern ends
+    × ((s k : ℕ) → Met s k ends → IsNoWorse best (record { start = s; pattern = k }))
+
+-- a step of all walks: from these threads it gives those, and of the ends that it meets it tells
+-- the best
+pub record IsStepAll {N : Type 0} (m : Machine (ℕ × ℕ) N) (i : ℕ) (threads next : List Started)
+    (met : Option MetEnd) : Type 0 where
+  pub ends : List (ℕ × ℕ)
+  pub steps : StepsAll m i [] threads next ends
+  pub best : IsBestMet ends met
+
+-- so it is at this place, in whatever content
+abbrev pub IsNextListAll : ByteProgram → Place → List Started → List Started → Option MetEnd
+    → Type 0
+IsNextListAll p place threads next met =
+    (h : Haystack walks.Look) (i : ℕ) → IsPlace p.states h i place
+    → IsStepAll (byte_machine p h) i threads next met
+
+-- ---- inside a step
+
+-- the end of this pattern's match that began at a place, if there is one
+abbrev pub end_of : ℕ → Option ℕ → Option MetEnd
+end_of start pattern = option_map (λ k. record { start = start; pattern = k }) pattern
+
+-- the nodes of threads
+abbrev pub nodes_of : List Thread → List (ℕ × ℕ)
+nodes_of threads = map (λ t. t.1) threads
+
+-- a machine makes these moves at a place
+pub record MovesSo {N : Type 0} (m : Machine (ℕ × ℕ) N) (i : ℕ) (states : List State)
+    (place : Place) : Type 0 where
+  pub at_state : (q : ℕ × ℕ) (x : State) → slice_get states q.0 ≡ Some x
+      → m.move i q ≡ move_at place i q x
+  pub elsewhere : (q : ℕ × ℕ) → slice_get states q.0 ≡ None → m.move i q ≡ goes []
+
+-- a step of all walks that is not done yet, from these threads: what was seen, what is left, what
+-- was put out, and the ends that were met
+pub record AreUnderWayAll {N : Type 0} (m : Machine (ℕ × ℕ) N) (i : ℕ) (threads : List Started)
+    (widths ids : List ℕ) (left out : List Started) (ends : List (ℕ × ℕ)) : Type 0 where
+  pub seen : List (ℕ × ℕ)
+  pub tells : Tells widths ids seen
+  pub so_far : (next : List Started) (more : List (ℕ × ℕ)) → StepsAll m i seen left next more
+      → StepsAll m i [] threads (out ++ next) (ends ++ more)
+
+-- Nodes are followed: from those left, which all walks of one start have come to, to those left
+-- then. Reached are those put out for the next place, and these patterns' matches ended, of which
+-- one is told.
+pub record FollowsAll (p : ByteProgram) (place : Place) (start : ℕ) (left left' : List (ℕ × ℕ))
+    (ids ids' : List ℕ) (next next' : List Thread) (met : Option MetEnd) : Type 0 where
+  pub reached : List (ℕ × ℕ)
+  pub ended : List ℕ
+  pub put : nodes_of next' ≡ nodes_of next ++ reached
+  pub best : IsBestMet (ended_from start ended) met
+  pub goes_on : (m : Machine (ℕ × ℕ) Notes) (i : ℕ) (threads others out : List Started)
+      (ends : List (ℕ × ℕ)) → MovesSo m i p.states place
+      → AreUnderWayAll m i threads (widths_of p) ids (started_at start left ++ others) out ends
+      → AreUnderWayAll m i threads (widths_of p) ids' (started_at start left' ++ others)
+      (out ++ started_at start reached) (ends ++ ended_from start ended)

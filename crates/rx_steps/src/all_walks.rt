@@ -1,0 +1,255 @@
+//! The loop over the places of a content where all matches are wanted.
+
+ghost use Rattle.std.specs.Prelude.{ℕ, Bool, List, ◌≡◌, ◌+◌, ◌*◌, ◌<◌, ◌≤◌, ◌⊎◌, ◌↔◌, [], ◌∷◌, Some, None, true, false, All, IsTrue, IfOk, IfErr, IfSome, OnOk, length, max};
+ghost use Rattle.rx_util.specs.declared.search.MatchError.{MatchError};
+ghost use Rattle.rx_walks.specs.Finds.{IsInside, is_anchored, up_to_place};
+ghost use Rattle.rx_walks.specs.ProgramFinds.{start_node, highest};
+ghost use Rattle.rx_program.specs.Programs.{characters_of};
+ghost use Rattle.rx_input.specs.Cursors.{IsSameContent};
+ghost use Rattle.rx_input.specs.Inputs.{IsMoved};
+ghost use Rattle.rx_steps.specs.Nodes.{node_count};
+ghost use Rattle.rx_steps.specs.Threads.{first_node};
+ghost use Rattle.rx_steps.specs.Idle.{IsPassedAt};
+ghost use Rattle.rx_steps.specs.Searching.{search_of, anchoring_of};
+ghost use Rattle.rx_steps.specs.Caches.{AreOfProgram, place_count};
+ghost use Rattle.rx_steps.specs.ListsAll.{IsStartedOf, IsStepAll};
+ghost use Rattle.rx_steps.specs.ComingAll.{byte_machine_in, HasMetNoneAll, HasStartedAll, IsOverAll, IsOverAllAt, IsUnderWayAll, IsUnderWayAllInParts};
+
+use crate::idle::{IdleBytes, skip};
+use crate::node::Node;
+use crate::place::Place;
+use crate::search::{Walks, advance, begins};
+use crate::started::{MetEnd, StartedNode};
+use rx_input::{Cursor, Input};
+use rx_program::Program;
+use rx_util::{Anchored, Match, MatchError, Span, StateID};
+use std::alloc::{AllocError, Global};
+use std::mem::{self, size_of};
+
+/// Whether there is one walk alone, at a program's start.
+fn is_fresh(program: &Program, threads: &[StartedNode]) -> bool
+    ensures { result ≡ true → (start : ℕ)
+        × (threads.now ≡ (start, first_node program.now.start) ∷ []) }
+{
+    match threads {
+        [thread] => thread.node() == Node::first(program.start()),
+        _ => false,
+    }
+}
+
+/// Walks of a search for all matches that are followed side by side, from place to place. What a
+/// step needs they take from the walks of other searches of the same program.
+#[derive(Debug, Drop)]
+pub(crate) struct AllWalks {
+    // Those at the place, the one first that began first.
+    live: Vec<StartedNode>,
+    // Room for those at the next place.
+    next: Vec<StartedNode>,
+    // The best match whose end was met.
+    best: Option<Match>,
+}
+
+impl AllWalks {
+    /// None yet.
+    pub(crate) fn new(alloc: Global) -> AllWalks {
+        AllWalks {
+            live: Vec::new(alloc),
+            next: Vec::new(alloc),
+            best: None,
+        }
+    }
+
+    /// About how many bytes their lists take.
+    pub(crate) fn memory_usage(&self) -> usize {
+        self.live
+            .capacity()
+            .saturating_add(self.next.capacity())
+            .saturating_mul(size_of::<StartedNode>())
+    }
+
+    /// Starts a walk where an input stands, after the others, if a match may begin there.
+    fn start_walk<C: Cursor>(
+        &mut self,
+        input: &Input<C>,
+        start: StateID,
+        utf8_empty: bool,
+    ) -> Result<(), AllocError>
+        requires inside { IsInside (search_of utf8_empty input.now) input.now.position }
+        ensures started { OnOk result (HasStartedAll (search_of utf8_empty input.now) start
+            input.now.position self.old.live.items self.new.live.items) }
+        ensures best { self.new.best ≡ self.old.best }
+    {
+        if begins(input, utf8_empty) {
+            let walk = StartedNode::new(input.position(), Node::first(start));
+            self.live.push(walk)?;
+        }
+        Ok(())
+    }
+
+    /// Whether a step of these walks was one of a walk alone, from a program's start, and came to
+    /// nothing.
+    fn came_to_nothing(&self, program: &Program, has_ended: bool) -> bool
+        ensures fresh { result ≡ true → (start : ℕ)
+            × (self.now.live.items ≡ (start, first_node program.now.start) ∷ []) }
+        ensures nothing { result ≡ true → (self.now.next.items ≡ []) × (has_ended ≡ false) }
+    {
+        !has_ended && self.next.is_empty() && is_fresh(program, &self.live)
+    }
+
+    /// The step from the place at which an input stands: the walks at the next place are those that
+    /// live then.
+    fn pass<C: Cursor>(
+        &mut self,
+        walks: &mut Walks,
+        program: &Program,
+        input: &mut Input<C>,
+    ) -> Result<Option<MetEnd>, MatchError>
+        requires made { AreOfProgram program.now walks.old.stepper.widths walks.old.asks_looks
+            walks.old.idle }
+        requires threads { All (IsStartedOf program.now.states) self.old.live.items }
+        ensures step { IfOk result (λ met. (utf8_empty : Bool)
+            → IsInside (search_of utf8_empty input.old) input.old.position
+            → IsStepAll (byte_machine_in program.now (search_of utf8_empty input.old))
+            input.old.position self.old.live.items self.new.live.items met) }
+        ensures threads { OnOk result (All (IsStartedOf program.now.states) self.new.live.items) }
+        ensures best { self.new.best ≡ self.old.best }
+        ensures made { AreOfProgram program.now walks.new.stepper.widths walks.new.asks_looks
+            walks.new.idle }
+        ensures work { walks.new.stepper.followed
+            ≤ walks.old.stepper.followed + node_count program.now }
+        ensures same { IsMoved input.old input.new input.old.position input.old.asked }
+        ensures refused { IfErr result (λ error. error ≡ MatchError.Memory) }
+    {
+        let place = Place::of(input, program.line_terminator(), walks.asks_looks);
+        let met = walks
+            .stepper
+            .next_list_all(program, &place, &self.live, &mut self.next)?;
+        // Where looks are asked for they may be why nothing came of it.
+        if !walks.asks_looks && self.came_to_nothing(program, met.is_some()) {
+            walks.idle.insert(place.byte);
+        }
+        mem::swap(&mut self.live, &mut self.next);
+        Ok(met)
+    }
+
+    /// Visits the place at which an input stands: a walk starts there if a match may begin there;
+    /// and where an end is met, the best one is the answer, as its end is greater than each before.
+    fn visit<C: Cursor>(
+        &mut self,
+        walks: &mut Walks,
+        program: &Program,
+        input: &mut Input<C>,
+        start: StateID,
+        utf8_empty: bool,
+    ) -> Result<(), MatchError>
+        requires made { AreOfProgram program.now walks.old.stepper.widths walks.old.asks_looks
+            walks.old.idle }
+        requires inside { IsInside (search_of utf8_empty input.old) input.old.position }
+        requires way { IsUnderWayAll program.now (search_of utf8_empty input.old) start
+            input.old.position self.old.live.items self.old.best }
+        requires parts { IsUnderWayAllInParts program.now (search_of utf8_empty input.old) start
+            input.old.position self.old.live.items self.old.best }
+        ensures way { OnOk result (IsUnderWayAll program.now (search_of utf8_empty input.old)
+            start (input.old.position + 1) self.new.live.items self.new.best) }
+        ensures parts { OnOk result (IsUnderWayAllInParts program.now
+            (search_of utf8_empty input.old) start (input.old.position + 1)
+            self.new.live.items self.new.best) }
+        ensures so_far { OnOk result (IsOverAll program.now
+            (up_to_place (search_of utf8_empty input.old) input.old.position) start
+            self.new.best) }
+        ensures ends_here { OnOk result (IfSome self.new.best (λ best.
+            self.old.best ≡ None → best.span.end ≡ input.old.position)) }
+        ensures none_before { OnOk result (self.new.best ≡ None → self.old.best ≡ None) }
+        ensures made { AreOfProgram program.now walks.new.stepper.widths walks.new.asks_looks
+            walks.new.idle }
+        ensures work { walks.new.stepper.followed
+            ≤ walks.old.stepper.followed + node_count program.now }
+        ensures same { IsMoved input.old input.new input.old.position input.old.asked }
+        ensures refused { IfErr result (λ error. error ≡ MatchError.Memory) }
+    {
+        self.start_walk(input, start, utf8_empty)?;
+        if let Some(met) = self.pass(walks, program, input)? {
+            let span = Span {
+                start: met.start,
+                end: input.position(),
+            };
+            self.best = Some(Match::new(met.pattern, span));
+        }
+        Ok(())
+    }
+
+    /// Whether no walk lives, and none will start at a further place.
+    fn are_over(&self, anchored: Anchored) -> bool
+        ensures live { result ≡ true → self.now.live.items ≡ [] }
+        ensures starts { result ≡ true → IsTrue (is_anchored (anchoring_of anchored)) }
+        ensures goes_on { result ≡ false → self.now.live.items ≡ []
+            → is_anchored (anchoring_of anchored) ≡ false }
+    {
+        self.live.is_empty() && anchored.is_anchored()
+    }
+
+    /// Moves an input to the next place inside its span, its slice and its content, if there is
+    /// one; while no walk lives, to the next one at which a match may begin.
+    fn go_on<C: Cursor>(&self, idle: &IdleBytes, input: &mut Input<C>, utf8_empty: bool) -> bool
+        ensures above { result ≡ true → input.old.position + 1 ≤ input.new.position }
+        ensures inside { result ≡ true
+            → IsInside (search_of utf8_empty input.old) input.old.position
+            → IsInside (search_of utf8_empty input.old) input.new.position }
+        ensures skipped { result ≡ true → (k : ℕ) → input.old.position + 1 ≤ k
+            → k < input.new.position → (self.now.live.items ≡ [])
+            × IsPassedAt idle.now utf8_empty input.old.cursor.content k }
+        ensures last { result ≡ false
+            → highest (search_of utf8_empty input.old) < input.old.position + 1 }
+        ensures same { IsMoved input.old input.new input.new.position input.old.asked }
+    {
+        if !advance(input) {
+            return false;
+        }
+        if self.live.is_empty() {
+            skip(idle, input, utf8_empty);
+        }
+        true
+    }
+
+    /// Follows the walks from a state, from the place at which an input stands on, which is the
+    /// first one inside: answers the match of the greatest end, then of the least start, then of
+    /// the least pattern. With `earliest` it stops at the first end of a match.
+    pub(crate) fn follow<C: Cursor>(
+        &mut self,
+        walks: &mut Walks,
+        program: &Program,
+        input: &mut Input<C>,
+        start: StateID,
+        utf8_empty: bool,
+        earliest: bool,
+    ) -> Result<Option<Match>, MatchError>
+        requires made { AreOfProgram program.now walks.old.stepper.widths walks.old.asks_looks
+            walks.old.idle }
+        requires start { start_node (characters_of program.now)
+            (anchoring_of input.old.asked.anchored) ≡ Some start }
+        requires inside { IsInside (search_of utf8_empty input.old) input.old.position }
+        requires first { input.old.position
+            ≡ max input.old.asked.slice.start input.old.asked.span.start }
+        ensures over { IfOk result (λ best. IsOverAllAt earliest program.now
+            (search_of utf8_empty input.old) start input.old.position input.new.position best) }
+        ensures made { AreOfProgram program.now walks.new.stepper.widths walks.new.asks_looks
+            walks.new.idle }
+        ensures work { walks.new.stepper.followed ≤ walks.old.stepper.followed
+            + node_count program.now * place_count (search_of utf8_empty input.old) }
+        ensures same { IsSameContent input.old.cursor input.new.cursor }
+        ensures asked { input.new.asked ≡ input.old.asked }
+        ensures refused { IfErr result (λ error. error ≡ MatchError.Memory) }
+    {
+        self.live.clear();
+        self.best = None;
+        loop {
+            self.visit(walks, program, input, start, utf8_empty)?;
+            if earliest && self.best.is_some() {
+                return Ok(self.best);
+            }
+            if self.are_over(input.get_anchored()) || !self.go_on(&walks.idle, input, utf8_empty) {
+                return Ok(self.best);
+            }
+        }
+    }
+}

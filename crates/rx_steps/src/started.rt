@@ -1,0 +1,114 @@
+//! Walks as a search for all matches follows them, and what they end with.
+
+ghost use Rattle.std.specs.Prelude.{◌≡◌, ℕ, List, ◌++◌, true, false, OnOk};
+ghost use Rattle.rx_steps.specs.ListsAll.{IsBestMet, IsNoWorse, end_of, nodes_of, started_at};
+
+use crate::node::Node;
+use crate::thread_list::ThreadList;
+use rx_util::PatternID;
+use std::alloc::AllocError;
+use std::marker::Model;
+
+/// Where a walk began, and the node at which it stands. Contracts see the pair of both.
+#[derive(Clone, Copy, Debug, PartialEq, Eq, Hash)]
+pub struct StartedNode {
+    start: usize,
+    node: Node,
+}
+
+impl Model for StartedNode {
+    ghost use Rattle.std.specs.Prelude.{ℕ};
+
+    ghost Value = { ℕ × (ℕ × ℕ) };
+
+    ghost view = { λ started. (started.start, started.node) };
+
+    ghost inverse = { λ pair. record { start = pair.0; node = pair.1 } };
+}
+
+impl StartedNode {
+    /// A walk at a node that began at a place.
+    pub fn new(start: usize, node: Node) -> StartedNode
+        ensures { result ≡ (start, node) }
+    {
+        StartedNode { start, node }
+    }
+
+    /// Where it began.
+    pub fn start(&self) -> usize
+        ensures { result ≡ self.now.0 }
+    {
+        self.start
+    }
+
+    /// The node at which it stands.
+    pub fn node(&self) -> Node
+        ensures { result ≡ self.now.1 }
+    {
+        self.node
+    }
+}
+
+/// An end of a match that walks met: where the match began, and its pattern.
+#[derive(Clone, Copy, Debug, PartialEq, Eq, Hash)]
+pub struct MetEnd {
+    /// Where the match began.
+    pub start: usize,
+    /// The pattern that matches.
+    pub pattern: PatternID,
+}
+
+impl MetEnd {
+    /// Whether it is better than another one at the same place: its start is lesser, or else its
+    /// pattern.
+    fn is_better(&self, other: &MetEnd) -> bool
+        ensures yes { result ≡ true → IsNoWorse self.now other.now }
+        ensures no { result ≡ false → IsNoWorse other.now self.now }
+    {
+        self.start < other.start
+            || self.start == other.start && self.pattern.as_usize() < other.pattern.as_usize()
+    }
+}
+
+/// The end of this pattern's match that began at a place, if there is one.
+pub(crate) fn met_end(start: usize, pattern: Option<PatternID>) -> Option<MetEnd>
+    ensures { result ≡ end_of start pattern }
+{
+    let Some(pattern) = pattern else {
+        return None;
+    };
+    Some(MetEnd { start, pattern })
+}
+
+/// The better of two ends at one place: the one of the lesser start, or else of the lesser pattern.
+pub(crate) fn better(first: Option<MetEnd>, second: Option<MetEnd>) -> Option<MetEnd>
+    ensures { (ends : List (ℕ × ℕ)) → (others : List (ℕ × ℕ)) → IsBestMet ends first
+        → IsBestMet others second → IsBestMet (ends ++ others) result }
+{
+    let Some(other) = second else {
+        return first;
+    };
+    let Some(one) = first else {
+        return Some(other);
+    };
+    if other.is_better(&one) {
+        Some(other)
+    } else {
+        Some(one)
+    }
+}
+
+/// Adds walks that began at one place, at the nodes of these threads.
+pub(crate) fn push_started(
+    list: &mut Vec<StartedNode>,
+    start: usize,
+    nodes: &ThreadList,
+) -> Result<(), AllocError>
+    ensures { OnOk result (list.new.items
+        ≡ list.old.items ++ started_at start (nodes_of nodes.now.threads)) }
+{
+    for index in 0..nodes.len() {
+        list.push(StartedNode::new(start, nodes.node(index)))?;
+    }
+    Ok(())
+}

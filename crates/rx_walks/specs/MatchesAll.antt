@@ -1,0 +1,130 @@
+-- The matches of a program where all matches are wanted: the first members of their list, what comes
+-- next, and what an iterator over them gives. `finds` says what a search finds, and `item_of` what
+-- is told of a match.
+use Rattle.std.specs.Prelude.{◌≡◌, ℕ, ◌+◌, ◌↔◌, Bool, true, false, IsTrue, List, [], ◌∷◌, ◌++◌, map, Option, Some, None, Result, Ok, Err, All}
+use Rattle.std.specs.Str.{IsUtf8, IsCharBoundary}
+use Rattle.std.specs.Iterator.{Yields, Drains}
+use Rattle.rx_walks.specs.Looks.{Look}
+use Rattle.rx_walks.specs.Finds.{Search, from_place_on, PatternMatch}
+use Rattle.rx_walks.specs.Matches.{ComesNext, FirstMatches}
+use Rattle.rx_walks.specs.Programs.{Program}
+use Rattle.rx_walks.specs.ProgramFinds.{ProgramFinds, ProgramFindsAll, ProgramMatchesAll}
+use Rattle.rx_walks.specs.Iterating.{MatchesLeft, matches_from, not_refused}
+
+-- the first members of the list: more may come
+abbrev pub ProgramFirstMatchesAll : {S : Type 0} → (S → ℕ → Bool) → (ℕ → Bool) → Program Look S
+    → Search → List PatternMatch → Type 0
+ProgramFirstMatchesAll member is_word p s ms =
+    FirstMatches (λ i out. ProgramFindsAll member is_word p (from_place_on s i) out)
+    (λ a. a.start) (λ a. a.end) s.start ms
+
+-- what comes next in it behind these, or that none comes
+abbrev pub ProgramComesNextAll : {S : Type 0} → (S → ℕ → Bool) → (ℕ → Bool) → Program Look S
+    → Search → List PatternMatch → Option PatternMatch → Type 0
+ProgramComesNextAll member is_word p s ms out =
+    ComesNext (λ i out. ProgramFindsAll member is_word p (from_place_on s i) out)
+    (λ a. a.start) (λ a. a.end) s.start ms out
+
+-- what the first members are: none are; with what comes next they are one more; and they are all
+-- where none comes next
+pub record HasFirstMatchesAll {S : Type 0} (member : S → ℕ → Bool) (is_word : ℕ → Bool)
+    (p : Program Look S) (s : Search) : Type 0 where
+  pub none : ProgramFirstMatchesAll member is_word p s []
+  pub one_more : (ms : List PatternMatch) (a : PatternMatch)
+      → (ProgramFirstMatchesAll member is_word p s ms
+      × ProgramComesNextAll member is_word p s ms (Some a))
+      ↔ ProgramFirstMatchesAll member is_word p s (ms ++ a ∷ [])
+  pub all : (ms : List PatternMatch)
+      → (ProgramFirstMatchesAll member is_word p s ms
+      × ProgramComesNextAll member is_word p s ms None)
+      ↔ ProgramMatchesAll member is_word p s ms
+  pub next : (ms : List PatternMatch)
+      → (out : Option PatternMatch) × ProgramComesNextAll member is_word p s ms out
+  pub next_is_one : (ms : List PatternMatch) (out out' : Option PatternMatch)
+      → ProgramComesNextAll member is_word p s ms out
+      → ProgramComesNextAll member is_word p s ms out' → out ≡ out'
+
+abbrev pub FirstMatchesAllGrow : {S : Type 0} → (S → ℕ → Bool) → (ℕ → Bool) → Program Look S
+    → Type 0
+FirstMatchesAllGrow member is_word p = (s : Search) → HasFirstMatchesAll member is_word p s
+
+-- it starts and ends at boundaries of the content's characters
+abbrev pub StandsWhole : List ℕ → PatternMatch → Type 0
+StandsWhole content a = IsCharBoundary content a.start × IsCharBoundary content a.end
+
+-- in UTF-8 they are whole characters, where empty matches inside one are passed over
+abbrev pub MatchesAllStandAtBoundaries : {S : Type 0} → (S → ℕ → Bool) → (ℕ → Bool)
+    → Program Look S → Type 0
+MatchesAllStandAtBoundaries member is_word p = (s : Search) (ms : List PatternMatch)
+    → IsUtf8 s.content → IsTrue s.utf8_empty → ProgramMatchesAll member is_word p s ms
+    → All (StandsWhole s.content) ms
+
+-- where all matches are wanted something is found exactly where the leftmost one is
+abbrev pub FindsAgree : {S : Type 0} → (S → ℕ → Bool) → (ℕ → Bool) → Program Look S → Type 0
+FindsAgree member is_word p = (s : Search)
+    → ProgramFinds member is_word p s None ↔ ProgramFindsAll member is_word p s None
+
+-- ---- iterators
+
+-- what searches find
+abbrev pub FindingAll : Type 1
+FindingAll = Search → Option PatternMatch → Type 0
+
+-- an empty match where the last one ended
+abbrev pub IsEmptyAtLastAll : Option ℕ → PatternMatch → Type 0
+IsEmptyAtLastAll last a = (a.start ≡ a.end) × (last ≡ Some a.end)
+
+-- what a search finds next, where the last match, if there was one, ended at `last`: an empty match
+-- there is passed over, for what is found from one byte further on
+pub data FindsNextAll (finds : FindingAll) (s : Search) (last : Option ℕ) : Option PatternMatch
+    → Type 0 where
+  nothing : finds s None → FindsNextAll finds s last None
+  at_once : {a : PatternMatch} → finds s (Some a) → (IsEmptyAtLastAll last a → ⊥)
+      → FindsNextAll finds s last (Some a)
+  passed : {a : PatternMatch} {out : Option PatternMatch} → finds s (Some a)
+      → IsEmptyAtLastAll last a → finds (from_place_on s (s.start + 1)) out
+      → FindsNextAll finds s last out
+
+-- a match comes next, and what is left is what comes after its end
+pub record GivesFoundAll {A : Type 0} (finds : FindingAll) (item_of : PatternMatch → A)
+    (m : MatchesLeft) (item : A) (n : MatchesLeft) : Type 0 where
+  pub goes_on : m.is_over ≡ false
+  pub found : PatternMatch
+  pub next : FindsNextAll finds m.search m.last_end (Some found)
+  pub item_is : item ≡ item_of found
+  pub left_is : n ≡ record {
+    search = from_place_on m.search found.end;
+    last_end = Some found.end;
+    is_over = false;
+  }
+
+-- a step of an iterator: a match, a refusal, or none; after a refusal and after none, none comes
+abbrev pub GivesMatchAll : {A E : Type 0} → FindingAll → (PatternMatch → A) → MatchesLeft
+    → Option (Result A E) → MatchesLeft → Type 0
+GivesMatchAll finds item_of m None n =
+    (m.is_over ≡ false → FindsNextAll finds m.search m.last_end None) × (n.is_over ≡ true)
+GivesMatchAll finds item_of m (Some (Ok item)) n = GivesFoundAll finds item_of m item n
+GivesMatchAll finds item_of m (Some (Err error)) n = (m.is_over ≡ false) × (n.is_over ≡ true)
+
+-- what an iterator of such steps gives from a search on: before a refusal and before it is drained
+-- the first matches, drained all of them, and nothing after a refusal
+pub record GivesAllInOrder {S A E F : Type 0} (member : S → ℕ → Bool) (is_word : ℕ → Bool)
+    (p : Program Look S) (item_of : PatternMatch → A) (gives : F → Option (Result A E) → F → Type 0)
+    (s : Search) (m : F) : Type 0 where
+  pub first : (n : F) (items : List A) → Yields gives m (not_refused items) n
+      → (ms : List PatternMatch) × ProgramFirstMatchesAll member is_word p s ms
+      × (items ≡ map item_of ms)
+  pub all : (items : List A) → Drains gives m (not_refused items)
+      → (ms : List PatternMatch) × ProgramMatchesAll member is_word p s ms
+      × (items ≡ map item_of ms)
+  pub refused : (n : F) (items : List A) (error : E) (others : List (Result A E))
+      → Yields gives m (not_refused items ++ Err error ∷ others) n → others ≡ []
+
+abbrev pub IteratorsGiveAllInOrder : {S A E F : Type 0} → (S → ℕ → Bool) → (ℕ → Bool)
+    → Program Look S → (PatternMatch → A) → (F → MatchesLeft)
+    → (F → Option (Result A E) → F → Type 0) → Type 0
+IteratorsGiveAllInOrder {S} {A} {E} {F} member is_word p item_of left gives =
+    ((m n : F) (item : Option (Result A E)) → gives m item n
+    → GivesMatchAll (ProgramFindsAll member is_word p) item_of (left m) item (left n))
+    → (s : Search) (m : F) → left m ≡ matches_from s
+    → GivesAllInOrder member is_word p item_of gives s m

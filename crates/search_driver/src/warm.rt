@@ -1,0 +1,119 @@
+//! What is found in a content by an engine that has searched the first few bytes of it before.
+
+ghost use Rattle.rx_dfa.specs.Caches as automata;
+ghost use Rattle.rx_steps.specs.Caches as steps;
+ghost use Rattle.regex_cursor.specs.Regexes.{IsCacheOf};
+
+use crate::fields::{Fault, Fields};
+use regex_cursor::engines::meta::{self, Regex};
+use regex_cursor::engines::pikevm::{self, PikeVM};
+use regex_cursor::engines::{dfa, hybrid};
+use regex_cursor::{Input, MatchError};
+use std::alloc::Global;
+
+/// Where the word of the engine stands in a line, and the haystack and the length of the content
+/// behind it.
+const ENGINE: usize = 2;
+
+const HAYSTACK: usize = 3;
+
+const LENGTH: usize = 4;
+
+/// How many bytes are searched before.
+const BEFORE: usize = 4;
+
+/// The end of the match in as much of the haystack as the line says, or none, by an engine which
+/// has searched the first four bytes of it before, with the same cache.
+pub fn end(alloc: Global, fields: &Fields) -> Result<String, Fault> {
+    let pattern = fields.pattern(alloc)?;
+    let haystack = fields.bytes(alloc, HAYSTACK)?;
+    let length = fields.number(LENGTH).unwrap_or(0).min(haystack.len());
+    let before = &haystack[..BEFORE.min(haystack.len())];
+    let content = &haystack[..length];
+    let end = match fields.word(ENGINE) {
+        "pikevm" => by_pikevm(&PikeVM::new(alloc, &pattern)?, before, content)?,
+        "hybrid" => by_hybrid(&hybrid::Regex::new(alloc, &pattern)?, before, content)?,
+        "dfa" => by_dfa(&dfa::Regex::new(alloc, &pattern)?, before, content)?,
+        "meta" => by_meta(&Regex::new(alloc, &pattern)?, before, content)?,
+        _ => return Err(Fault::Line),
+    };
+    match end {
+        Some(end) => Ok(format!(in alloc; "{end}")?),
+        None => Ok(String::from_str(alloc, "none")?),
+    }
+}
+
+fn by_pikevm(vm: &PikeVM, before: &[u8], content: &[u8]) -> Result<Option<usize>, Fault> {
+    let mut cache = vm.create_cache()?;
+    Ok(end_by_pikevm(
+        vm,
+        &mut cache,
+        &mut Input::new(before),
+        &mut Input::new(content),
+    )?)
+}
+
+fn end_by_pikevm(
+    vm: &PikeVM,
+    cache: &mut pikevm::Cache,
+    before: &mut Input<&[u8]>,
+    content: &mut Input<&[u8]>,
+) -> Result<Option<usize>, MatchError>
+    requires { steps.IsCacheOf vm.now.program cache.old }
+{
+    pikevm::find(vm, cache, before)?;
+    let found = pikevm::find(vm, cache, content)?;
+    Ok(found.map(|found| found.end()))
+}
+
+fn by_hybrid(re: &hybrid::Regex, before: &[u8], content: &[u8]) -> Result<Option<usize>, Fault> {
+    let mut cache = re.create_cache()?;
+    Ok(end_by_hybrid(
+        re,
+        &mut cache,
+        &mut Input::new(before),
+        &mut Input::new(content),
+    )?)
+}
+
+fn end_by_hybrid(
+    re: &hybrid::Regex,
+    cache: &mut hybrid::Cache,
+    before: &mut Input<&[u8]>,
+    content: &mut Input<&[u8]>,
+) -> Result<Option<usize>, MatchError>
+    requires { automata.IsCacheOf re.now.engine.program re.now.dfa cache.old }
+{
+    hybrid::try_search_fwd(re, cache, before)?;
+    let found = hybrid::try_search_fwd(re, cache, content)?;
+    Ok(found.map(|found| found.offset()))
+}
+
+fn by_dfa(re: &dfa::Regex, before: &[u8], content: &[u8]) -> Result<Option<usize>, Fault> {
+    dfa::try_search_fwd(re, &mut Input::new(before))?;
+    let found = dfa::try_search_fwd(re, &mut Input::new(content))?;
+    Ok(found.map(|found| found.offset()))
+}
+
+fn by_meta(re: &Regex, before: &[u8], content: &[u8]) -> Result<Option<usize>, Fault> {
+    let mut cache = re.create_cache()?;
+    Ok(end_by_meta(
+        re,
+        &mut cache,
+        &mut Input::new(before),
+        &mut Input::new(content),
+    )?)
+}
+
+fn end_by_meta(
+    re: &Regex,
+    cache: &mut meta::Cache,
+    before: &mut Input<&[u8]>,
+    content: &mut Input<&[u8]>,
+) -> Result<Option<usize>, MatchError>
+    requires { IsCacheOf re.now cache.old }
+{
+    re.search_with(cache, before)?;
+    let found = re.search_with(cache, content)?;
+    Ok(found.map(|found| found.end()))
+}

@@ -1,0 +1,320 @@
+-- A search that is kept live over a buffer of Neovim: the matches in its windows are painted, and
+-- counted, as one types and undoes. It stands on bindings/lua, and needs the shared library that
+-- `make lib` builds. Matches are those of docs/patterns.md, line by line.
+--
+-- The buffer's text is its lines with an LF behind each, so the last line of the session, behind the
+-- last LF, is no line of the buffer, and what matches there isn't told. Places go between Neovim and
+-- the session as bytes of that text: a CR ends a line of the session and none of Neovim's.
+local rope_search = require("rope_search")
+
+local M = {}
+
+local NAMESPACE = vim.api.nvim_create_namespace("live_search")
+local GROUP = vim.api.nvim_create_augroup("live_search", { clear = true })
+-- The session of each buffer that is searched, and whether it doesn't have the buffer's text.
+local sessions, stale = {}, {}
+-- Which rows of Neovim are painted of each buffer, by its windows; and which of the session's rows
+-- were replaced since: nothing where all are to be painted.
+local painted, replaced = {}, {}
+
+local function text_of(buffer)
+  return table.concat(vim.api.nvim_buf_get_lines(buffer, 0, -1, true), "\n") .. "\n"
+end
+
+-- The byte at which a row begins. Neovim knows none of an empty buffer.
+local function offset_of(buffer, row)
+  return math.max(0, vim.api.nvim_buf_get_offset(buffer, row))
+end
+
+-- The session of a buffer, with the buffer's text.
+local function session_of(buffer)
+  local session = sessions[buffer]
+  if session and stale[buffer] then
+    assert(session:set_text(text_of(buffer)))
+    stale[buffer] = nil
+  end
+  return session
+end
+
+-- How many of the session's lines are the buffer's.
+local function lines_of(session)
+  return session:text_lines() - 1
+end
+
+-- How many bytes that is, without the text.
+local function length_of(buffer)
+  local last = vim.api.nvim_buf_line_count(buffer) - 1
+  local line = vim.api.nvim_buf_get_lines(buffer, last, last + 1, true)[1]
+  return offset_of(buffer, last) + #line + 1
+end
+
+-- The byte at which a row of Neovim begins, or, behind the last row, at which the text ends.
+local function byte_of_row(buffer, row)
+  if row < vim.api.nvim_buf_line_count(buffer) then
+    return offset_of(buffer, row)
+  end
+  return sessions[buffer]:text_len()
+end
+
+-- The row and the column of Neovim at which a byte of the text is, among rows from `first` on.
+local function place_of(buffer, byte, first)
+  local row, last = first, vim.api.nvim_buf_line_count(buffer) - 1
+  while row < last do
+    local middle = math.ceil((row + last) / 2)
+    if offset_of(buffer, middle) <= byte then
+      row = middle
+    else
+      last = middle - 1
+    end
+  end
+  return row, byte - offset_of(buffer, row)
+end
+
+-- The matches in some rows of Neovim, each as rows and columns in bytes.
+function M.matches(buffer, first_row, last_row)
+  local session = session_of(buffer)
+  if not session or session:rows() == 0 then
+    return {}
+  end
+  local first = session:position_of(byte_of_row(buffer, first_row))
+  local last = session:position_of(byte_of_row(buffer, last_row + 1))
+  local found = {}
+  for i, match in ipairs(session:matches(first.line, last.line)) do
+    local row, column = place_of(buffer, session:byte_of({ match.line, match.start }), first_row)
+    local to_row, to_column = place_of(buffer, session:byte_of({ match.line, match.stop }), row)
+    found[i] = { row = row, column = column, to_row = to_row, to_column = to_column }
+  end
+  return found
+end
+
+-- Paints the matches in some rows, in place of what was painted there.
+local function paint_rows(buffer, first_row, last_row)
+  if first_row > last_row then
+    return
+  end
+  vim.api.nvim_buf_clear_namespace(buffer, NAMESPACE, first_row, last_row + 1)
+  for _, match in ipairs(M.matches(buffer, first_row, last_row)) do
+    vim.api.nvim_buf_set_extmark(buffer, NAMESPACE, match.row, match.column, {
+      end_row = match.to_row,
+      end_col = match.to_column,
+      hl_group = "Search",
+    })
+  end
+end
+
+-- Paints the matches in some rows, in place of all that was painted.
+function M.paint(buffer, first_row, last_row)
+  vim.api.nvim_buf_clear_namespace(buffer, NAMESPACE, 0, -1)
+  paint_rows(buffer, first_row, last_row)
+  painted[buffer] = nil
+end
+
+-- The rows of Neovim in which rows of the session stand that were replaced.
+local function replaced_rows(buffer)
+  local session, rows = sessions[buffer], replaced[buffer]
+  local first_row = place_of(buffer, session:byte_of({ rows.first, 0 }), 0)
+  return first_row, (place_of(buffer, session:byte_of({ rows.last - 1, 0 }), first_row))
+end
+
+-- Paints the matches in a buffer's windows: where the same rows are shown as before and none has
+-- moved, in the replaced rows alone.
+function M.paint_windows(buffer)
+  local session = session_of(buffer)
+  if not session or not vim.api.nvim_buf_is_valid(buffer) then
+    return
+  end
+  local windows, shown = {}, ""
+  for i, window in ipairs(vim.fn.win_findbuf(buffer)) do
+    windows[i] = vim.fn.getwininfo(window)[1]
+    shown = ("%s %d-%d"):format(shown, windows[i].topline, windows[i].botline)
+  end
+  local rows = painted[buffer] == shown and replaced[buffer]
+  if not rows then
+    vim.api.nvim_buf_clear_namespace(buffer, NAMESPACE, 0, -1)
+    for _, window in ipairs(windows) do
+      paint_rows(buffer, window.topline - 1, window.botline - 1)
+    end
+  elseif rows.first < rows.last then
+    local first_row, last_row = replaced_rows(buffer)
+    for _, window in ipairs(windows) do
+      paint_rows(buffer, math.max(first_row, window.topline - 1), math.min(last_row, window.botline - 1))
+    end
+  end
+  painted[buffer], replaced[buffer] = shown, { first = math.huge, last = 0 }
+end
+
+-- Keeps in mind which rows of the session an edit replaced.
+local function note_replaced(buffer)
+  local rows, changed = replaced[buffer], sessions[buffer]:changed()
+  if not rows or stale[buffer] or changed.removed ~= changed.added then
+    replaced[buffer] = nil
+  else
+    rows.first = math.min(rows.first, changed.first)
+    rows.last = math.max(rows.last, changed.first + changed.added)
+  end
+end
+
+-- What an edit puts in, or nothing where it can't be told.
+local function inserted(buffer, row, column, rows, columns)
+  local to_row = row + rows
+  local to_column = (rows == 0 and column or 0) + columns
+  if to_row >= vim.api.nvim_buf_line_count(buffer) then
+    return nil
+  end
+  local done, lines = pcall(vim.api.nvim_buf_get_text, buffer, row, column, to_row, to_column, {})
+  return done and table.concat(lines, "\n") or nil
+end
+
+-- Has the session follow an edit of the buffer. Where its places are nowhere in the session's
+-- text, as between a CR and an LF, or the buffer has gone on before its edits are told, as in
+-- `:move`, the whole text is given anew once it is asked for.
+local function follow(buffer, row, column, byte, old_len, rows, columns, new_len)
+  local session = sessions[buffer]
+  local text = inserted(buffer, row, column, rows, columns)
+  local start, stop = session:position_of(byte), session:position_of(byte + old_len)
+  local done = text and #text == new_len and start and stop and session:edit(start, stop, text)
+  stale[buffer] = not done or session:text_len() ~= length_of(buffer) or nil
+  note_replaced(buffer)
+  -- Neovim keeps the history.
+  session:forget()
+end
+
+local function on_bytes(_, buffer, _, row, column, byte, _, _, old_len, rows, columns, new_len)
+  if not sessions[buffer] then
+    return true
+  end
+  if not stale[buffer] then
+    follow(buffer, row, column, byte, old_len, rows, columns, new_len)
+  end
+  vim.schedule(function()
+    M.paint_windows(buffer)
+  end)
+end
+
+local function end_search(buffer)
+  if sessions[buffer] then
+    sessions[buffer]:close()
+    sessions[buffer], stale[buffer] = nil, nil
+    painted[buffer], replaced[buffer] = nil, nil
+  end
+end
+
+-- Searches a buffer for a pattern, live. It returns true, or nil and why the pattern is refused.
+function M.search(buffer, pattern)
+  if not sessions[buffer] then
+    local session = assert(rope_search.open())
+    local done, why = session:set_text(text_of(buffer))
+    if not done then
+      return nil, why
+    end
+    sessions[buffer] = session
+    vim.api.nvim_buf_attach(buffer, false, {
+      on_bytes = on_bytes,
+      on_reload = function()
+        stale[buffer], replaced[buffer] = true, nil
+      end,
+      on_detach = function()
+        end_search(buffer)
+      end,
+    })
+    vim.api.nvim_create_autocmd({ "WinScrolled", "BufWinEnter" }, {
+      group = GROUP,
+      buffer = buffer,
+      callback = function()
+        M.paint_windows(buffer)
+      end,
+    })
+  end
+  local done, why = sessions[buffer]:set_pattern(pattern)
+  replaced[buffer] = nil
+  M.paint_windows(buffer)
+  return done, why
+end
+
+-- Ends the search of a buffer.
+function M.stop(buffer)
+  vim.api.nvim_clear_autocmds({ group = GROUP, buffer = buffer })
+  vim.api.nvim_buf_clear_namespace(buffer, NAMESPACE, 0, -1)
+  end_search(buffer)
+end
+
+-- How many matches start at the cursor or before it, and how many there are.
+function M.count(window)
+  local session = session_of(vim.api.nvim_win_get_buf(window))
+  if not session then
+    return 0, 0
+  end
+  local at = M.position(window)
+  local before = session:count_matches(0, at.line)
+  for _, match in ipairs(session:matches(at.line, at.line + 1)) do
+    before = before + (match.start <= at.column and 1 or 0)
+  end
+  return before, session:count_matches(0, lines_of(session))
+end
+
+-- The cursor's position in the session.
+function M.position(window)
+  local buffer = vim.api.nvim_win_get_buf(window)
+  local cursor = vim.api.nvim_win_get_cursor(window)
+  -- Before Neovim has begun there is no row.
+  local row = math.max(0, cursor[1] - 1)
+  local text = vim.api.nvim_buf_get_lines(buffer, row, row + 1, true)[1]
+  return session_of(buffer):position_of(offset_of(buffer, row) + math.min(cursor[2], #text))
+end
+
+local function go_to(window, match)
+  local buffer = vim.api.nvim_win_get_buf(window)
+  local row, column = place_of(buffer, sessions[buffer]:byte_of({ match.line, match.start }), 0)
+  vim.api.nvim_win_set_cursor(window, { row + 1, column })
+end
+
+-- Goes to the first match behind the cursor, or else to the first of all.
+function M.next(window)
+  local session, at = session_of(vim.api.nvim_win_get_buf(window)), M.position(window)
+  for line = at.line, lines_of(session) - 1 do
+    for _, match in ipairs(session:matches(line, line + 1)) do
+      if line > at.line or match.start > at.column then
+        return go_to(window, match)
+      end
+    end
+  end
+  for line = 0, at.line do
+    for _, match in ipairs(session:matches(line, line + 1)) do
+      return go_to(window, match)
+    end
+  end
+end
+
+-- Goes to the last match before the cursor, or else to the last of all.
+function M.previous(window)
+  local session, at = session_of(vim.api.nvim_win_get_buf(window)), M.position(window)
+  for step = 0, lines_of(session) do
+    local line = (at.line - step) % lines_of(session)
+    local matches = session:matches(line, line + 1)
+    for i = #matches, 1, -1 do
+      if step > 0 or matches[i].start < at.column then
+        return go_to(window, matches[i])
+      end
+    end
+  end
+end
+
+-- Replaces all matches of the whole text, as `replace` of docs/protocol.md does, as one edit of the
+-- buffer, and returns how many there were.
+function M.replace(buffer, template)
+  local session = session_of(buffer)
+  local count, why = session:replace(template)
+  if not count then
+    return nil, why
+  end
+  local text = session:text()
+  local lines = vim.split(text, "\n", { plain = true })
+  if lines[#lines] == "" then
+    table.remove(lines)
+  end
+  session:undo()
+  vim.api.nvim_buf_set_lines(buffer, 0, -1, true, lines)
+  return count
+end
+
+return M

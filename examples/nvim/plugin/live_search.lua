@@ -1,0 +1,35 @@
+-- :LiveSearch PATTERN searches the buffer, :LiveSearch alone ends that. :LiveSearchNext and
+-- :LiveSearchPrevious go from match to match, :LiveSearchReplace TEMPLATE replaces all.
+local live = require("live_search")
+
+local function tell()
+  vim.api.nvim_echo({ { ("%d of %d"):format(live.count(0)) } }, false, {})
+end
+
+vim.api.nvim_create_user_command("LiveSearch", function(given)
+  local buffer = vim.api.nvim_get_current_buf()
+  if given.args == "" then
+    return live.stop(buffer)
+  end
+  local done, why = live.search(buffer, given.args)
+  if done then
+    tell()
+  else
+    vim.notify("refused: " .. why, vim.log.levels.WARN)
+  end
+end, { nargs = "?" })
+
+vim.api.nvim_create_user_command("LiveSearchNext", function()
+  live.next(0)
+  tell()
+end, {})
+
+vim.api.nvim_create_user_command("LiveSearchPrevious", function()
+  live.previous(0)
+  tell()
+end, {})
+
+vim.api.nvim_create_user_command("LiveSearchReplace", function(given)
+  local count, why = live.replace(vim.api.nvim_get_current_buf(), given.args)
+  vim.notify(count and ("%d replaced"):format(count) or "refused: " .. why)
+end, { nargs = 1 })

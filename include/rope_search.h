@@ -1,0 +1,242 @@
+/*
+ * A regular expression kept live over a text that is edited, undone and forked.
+ *
+ * A session has buffers, of which one is chosen. A buffer has a text with its history, and perhaps
+ * a pattern; with one it has a report: a row for each line of the text, with the matches in that
+ * line alone. The report is never stale: an edit makes the rows of the lines that it touches anew.
+ * docs/protocol.md of the repository says what each command does, docs/patterns.md what patterns
+ * there are. Every call below is proved to do what it says; docs/proved.md says how far that goes.
+ *
+ * Lines and columns begin at 0. A column counts UTF-16 code units from its line's start. A text is
+ * UTF-8; LF, CR and CR LF end a line, and nothing else does.
+ *
+ *     rope_search session = {0};
+ *     if (rope_search_open(1 << 30, (rope_search_ticks){0}, &session) != ROPE_SEARCH_DONE) ...
+ *     ...
+ *     rope_search_close(&session);
+ *
+ * What a caller owes:
+ *
+ * - A `rope_search` is zeroed before its first use, and is then changed by these calls alone. It
+ *   may be moved, but of two copies of an open one no more than one is used.
+ * - A session stays on the thread that opened it. Several sessions on several threads are fine. No
+ *   call is made from a signal handler, or from the forked child of a process with threads.
+ * - A pointer is never null, not even where the length beside it is 0, and is aligned for what it
+ *   points to. A length is at most PTRDIFF_MAX bytes. While a call runs, nothing else changes what
+ *   it was given, and what a call writes to overlaps nothing else that it was given.
+ * - `malloc`, `realloc` and `free` are of one allocator, which aligns to 16 bytes.
+ *
+ * A call of a closed session is harmless: it answers ROPE_SEARCH_CLOSED, or 0, or false. No call
+ * ends the program: where memory is refused, that is told, and nothing has changed.
+ */
+#ifndef ROPE_SEARCH_H
+#define ROPE_SEARCH_H
+
+#include <stdbool.h>
+#include <stddef.h>
+#include <stdint.h>
+
+#ifdef __cplusplus
+extern "C" {
+#endif
+
+/*
+ * What a call answers that may be refused: that it is done, or why it is refused; where several
+ * reasons apply, the one with the least number, unless want of memory comes before it is found.
+ * After a refusal the session is as it was.
+ */
+enum {
+    ROPE_SEARCH_DONE = 0,
+    ROPE_SEARCH_NONE = 1,    /* no such buffer, no pattern, no text to go back or forward to */
+    ROPE_SEARCH_RANGE = 2,   /* a position is nowhere, or the second is before the first */
+    ROPE_SEARCH_UTF8 = 3,    /* the bytes aren't UTF-8 */
+    ROPE_SEARCH_PATTERN = 4, /* the bytes are no pattern */
+    ROPE_SEARCH_LIMIT = 5,   /* the pattern has more than 65,536 bytes, or weighs too much */
+    ROPE_SEARCH_SIZE = 6,    /* the text, or the template, would have more bytes than the limit */
+    ROPE_SEARCH_MEMORY = 7,  /* memory was refused */
+    ROPE_SEARCH_CLOSED = 8   /* the session isn't open */
+};
+
+/* A session, open or closed: zeros are a closed one. */
+typedef struct {
+    void *at;
+    bool is_open;
+} rope_search;
+
+/* What a session counts from, zeros as a rule. `looked` is for proofs alone; nothing tells it. */
+typedef struct {
+    uint64_t rows, wholes, looked;
+} rope_search_ticks;
+
+/* What a session counted: the rows that were made, and the searches of a whole text. */
+typedef struct {
+    uint64_t rows, wholes;
+} rope_search_counts;
+
+/* A line, and a column in it. */
+typedef struct {
+    size_t line, column;
+} rope_search_position;
+
+/* A match in a whole text. Where there is none, its positions say nothing. */
+typedef struct {
+    bool found;
+    rope_search_position start, stop;
+} rope_search_match;
+
+/* A match in a line: the columns where it starts and where it ends. */
+typedef struct {
+    size_t line, start, stop;
+} rope_search_span;
+
+/*
+ * Rows of a report that others took the place of: `removed` rows of the old report, from the first
+ * on, made way for `added` rows of the new one. All rows before them are as they were, and so are
+ * all behind them, which may have moved.
+ */
+typedef struct {
+    size_t first, removed, added;
+} rope_search_stretch;
+
+/* ---- opening and closing ---- */
+
+/*
+ * Opens a session of one buffer, with an empty text and no pattern, whose texts have at most
+ * `limit` bytes. One that is open already is ended first. Refused are a limit above PTRDIFF_MAX
+ * with ROPE_SEARCH_SIZE, and with ROPE_SEARCH_MEMORY; what was open is then still open.
+ */
+uint32_t rope_search_open(size_t limit, rope_search_ticks ticks, rope_search *session);
+
+/* Closes a session, if it is open. It may be opened again. */
+void rope_search_close(rope_search *session);
+
+/* ---- commands, on the chosen buffer ---- */
+
+/* Sets the text; its history begins anew, its pattern stays. Refused: UTF8, SIZE, MEMORY. */
+uint32_t rope_search_set_text(rope_search *session, const uint8_t *text, size_t len);
+
+/*
+ * Replaces what stands from one position to another, as one step of the history. What could be
+ * redone is dropped. Refused: RANGE, UTF8, SIZE, MEMORY.
+ */
+uint32_t rope_search_edit(rope_search *session, rope_search_position from, rope_search_position to,
+                          const uint8_t *text, size_t len);
+
+/* Go one text back, and one forward. Refused: NONE; with a pattern, MEMORY. */
+uint32_t rope_search_undo(rope_search *session);
+uint32_t rope_search_redo(rope_search *session);
+
+/* Sets the pattern, in place of any other. Refused: UTF8, PATTERN, LIMIT, MEMORY. */
+uint32_t rope_search_set_pattern(rope_search *session, const uint8_t *pattern, size_t len);
+
+/* Drops the pattern, if there is one. */
+uint32_t rope_search_off(rope_search *session);
+
+/*
+ * Finds the first match in the whole text that starts at a position or behind it. `match` is
+ * written unless the session is closed, and tells none where there is none, or where this is
+ * refused: NONE, RANGE, MEMORY.
+ */
+uint32_t rope_search_next(rope_search *session, rope_search_position from,
+                          rope_search_match *match);
+
+/*
+ * Replaces all matches in the whole text, as one step of the history. In what takes their place,
+ * `$` and a digit stand for that group's text, `$$` for a dollar. `count` is written unless the
+ * session is closed: how many matches there were, or 0 where this is refused: NONE, UTF8, SIZE,
+ * MEMORY.
+ */
+uint32_t rope_search_replace(rope_search *session, const uint8_t *by, size_t len, size_t *count);
+
+/*
+ * Adds a buffer with the chosen one's text, and neither its history nor its pattern. The chosen one
+ * stays chosen. `number` is written unless the session is closed: the new one's number, or 0 where
+ * this is refused: MEMORY.
+ */
+uint32_t rope_search_fork(rope_search *session, size_t *number);
+
+/* Chooses a buffer by its number, from 0. Refused: NONE. */
+uint32_t rope_search_choose(rope_search *session, uint64_t number);
+
+/*
+ * Drops the history: the current text alone is left, and nothing can be undone or redone. The
+ * pattern and the report stay. It takes no memory.
+ */
+uint32_t rope_search_forget(rope_search *session);
+
+/* ---- buffers, and the chosen one's history ---- */
+
+/* How many buffers there are, and the number of the chosen one. */
+size_t rope_search_buffers(rope_search *session);
+size_t rope_search_chosen(rope_search *session);
+
+/* Whether there is a text to go back to, and one to go forward to. */
+bool rope_search_can_undo(rope_search *session);
+bool rope_search_can_redo(rope_search *session);
+
+/* ---- reading the chosen buffer ---- */
+
+/* How many bytes the text has, and how many lines: at least 1. */
+size_t rope_search_text_len(rope_search *session);
+size_t rope_search_text_lines(rope_search *session);
+
+/*
+ * Copies bytes `from` up to `to` of the text to the front of `out`, and tells whether it did: they
+ * must be bytes of the text, begin and end where characters do, and fit. Else `out` is as it was.
+ */
+bool rope_search_copy_text(rope_search *session, size_t from, size_t to, uint8_t *out,
+                           size_t out_len);
+
+/*
+ * Tells the byte of the text at which a position is. Refused: RANGE, where it is nowhere: behind
+ * its line's text, inside a surrogate pair, or past the last line; `byte` is then as it was.
+ */
+uint32_t rope_search_byte_of(rope_search *session, rope_search_position position, size_t *byte);
+
+/*
+ * Tells the position of a byte of the text; between the CR and the LF of a break that is one past
+ * its line's text. Refused: RANGE, where no character begins there and the text doesn't end there;
+ * `position` is then as it was.
+ */
+uint32_t rope_search_position_of(rope_search *session, size_t byte,
+                                 rope_search_position *position);
+
+/*
+ * Tell the column of a position in bytes (`bits` 8) or in characters (`bits` 32), and the position of
+ * a line and such a column, for servers that agree on `utf-8` or `utf-32` with their editor. Refused:
+ * RANGE, where it is nowhere, or `bits` is another number; `column`, or `position`, is then as it
+ * was.
+ */
+uint32_t rope_search_column_in(rope_search *session, uint32_t bits, rope_search_position position,
+                               size_t *column);
+uint32_t rope_search_position_in(rope_search *session, uint32_t bits, size_t line, size_t column,
+                                 rope_search_position *position);
+
+/* How many rows the report has: one for each line of the text, or 0 without a pattern. */
+size_t rope_search_rows(rope_search *session);
+
+/* How many matches rows `from` up to `to` have, as far as there are such rows. */
+size_t rope_search_count_matches(rope_search *session, size_t from, size_t to);
+
+/*
+ * Copies the matches of rows `from` up to `to` to the front of `out`, as many as fit, and tells how
+ * many there are. The rest of `out` is as it was.
+ */
+size_t rope_search_copy_matches(rope_search *session, size_t from, size_t to, rope_search_span *out,
+                                size_t out_len);
+
+/*
+ * Which rows of the report the last accepted command on the chosen buffer replaced, of those that
+ * may: set_text, edit, undo, redo, set_pattern, off and replace. An edit adds no more rows than what
+ * it inserts has lines; where there is no pattern there are none. What is painted is right again
+ * once these rows are, and those behind them moved.
+ */
+rope_search_stretch rope_search_changed(rope_search *session);
+
+/* What the session counted. */
+rope_search_counts rope_search_counted(rope_search *session);
+
+#ifdef __cplusplus
+}
+#endif
+#endif

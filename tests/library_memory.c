@@ -1,0 +1,158 @@
+/* A session of many kinds of calls, carried out once for each of its requests for memory, which is refused: the call
+ * that asked answers so, and leaves all as it was; carried out again it is done. It is linked with
+ * --wrap=malloc,--wrap=realloc. */
+#include "rope_search.h"
+#include <stdio.h>
+#include <stdlib.h>
+#include <string.h>
+
+void *__real_malloc(size_t bytes);
+void *__real_realloc(void *old, size_t bytes);
+void *__wrap_malloc(size_t bytes);
+void *__wrap_realloc(void *old, size_t bytes);
+
+static unsigned long asked, refused_at;
+static int wrong;
+
+static int is_refused(void)
+{
+    asked++;
+    return asked == refused_at;
+}
+
+void *__wrap_malloc(size_t bytes)
+{
+    return is_refused() ? NULL : __real_malloc(bytes);
+}
+
+void *__wrap_realloc(void *old, size_t bytes)
+{
+    return is_refused() ? NULL : __real_realloc(old, bytes);
+}
+
+/* What can be seen of a session: the text and the matches of the chosen buffer. */
+struct seen {
+    size_t len, rows, count;
+    uint8_t text[4096];
+    rope_search_span spans[512];
+};
+
+static void see(rope_search *s, struct seen *seen)
+{
+    memset(seen, 0, sizeof *seen);
+    seen->len = rope_search_text_len(s);
+    seen->rows = rope_search_rows(s);
+    if (!rope_search_copy_text(s, 0, seen->len, seen->text, sizeof seen->text))
+        wrong++;
+    seen->count = rope_search_copy_matches(s, 0, SIZE_MAX, seen->spans, 512);
+}
+
+enum kind { SET_TEXT, EDIT, UNDO, REDO, SET_PATTERN, OFF, NEXT, REPLACE, FORK, CHOOSE };
+
+struct call {
+    enum kind kind;
+    size_t line, column, to_line, to_column;
+    const char *text;
+};
+
+static uint32_t carry_out(rope_search *s, const struct call *call)
+{
+    rope_search_position from, to;
+    rope_search_match match;
+    size_t len = call->text ? strlen(call->text) : 0, number;
+    const uint8_t *text = (const uint8_t *)(call->text ? call->text : "");
+    from.line = call->line;
+    from.column = call->column;
+    to.line = call->to_line;
+    to.column = call->to_column;
+    switch (call->kind) {
+    case SET_TEXT: return rope_search_set_text(s, text, len);
+    case EDIT: return rope_search_edit(s, from, to, text, len);
+    case UNDO: return rope_search_undo(s);
+    case REDO: return rope_search_redo(s);
+    case SET_PATTERN: return rope_search_set_pattern(s, text, len);
+    case OFF: return rope_search_off(s);
+    case NEXT: return rope_search_next(s, from, &match);
+    case REPLACE: return rope_search_replace(s, text, len, &number);
+    case FORK: return rope_search_fork(s, &number);
+    default: return rope_search_choose(s, call->line);
+    }
+}
+
+static const struct call calls[] = {
+    {SET_TEXT, 0, 0, 0, 0, "one two\none\r\nthree one\none one one\nnone\n"},
+    {SET_PATTERN, 0, 0, 0, 0, "(?i)(o)n\\w|e$"},
+    {EDIT, 1, 0, 2, 3, "ONE\nof many\none\n"},
+    {NEXT, 0, 2, 0, 0, NULL},
+    {UNDO, 0, 0, 0, 0, NULL},
+    {REDO, 0, 0, 0, 0, NULL},
+    {REPLACE, 0, 0, 0, 0, "<$1\n$0>"},
+    {UNDO, 0, 0, 0, 0, NULL},
+    {FORK, 0, 0, 0, 0, NULL},
+    {CHOOSE, 1, 0, 0, 0, NULL},
+    {EDIT, 0, 0, 0, 0, "a letter"},
+    {SET_PATTERN, 0, 0, 0, 0, "\\be"},
+    {UNDO, 0, 0, 0, 0, NULL},
+    {OFF, 0, 0, 0, 0, NULL},
+    {REDO, 0, 0, 0, 0, NULL},
+    {CHOOSE, 0, 0, 0, 0, NULL},
+    {REDO, 0, 0, 0, 0, NULL},
+};
+
+static int may_ask(enum kind kind)
+{
+    return kind != OFF && kind != CHOOSE;
+}
+
+/* The calls in turn, where one request is refused; how many requests there were. */
+static unsigned long run(unsigned long at, struct seen *last)
+{
+    static struct seen before, after;
+    rope_search s = {0};
+    rope_search_ticks ticks = {0, 0, 0};
+    size_t i;
+    asked = 0;
+    refused_at = at;
+    if (rope_search_open(1 << 20, ticks, &s) != ROPE_SEARCH_DONE) {
+        if (s.is_open || at == 0 || rope_search_open(1 << 20, ticks, &s) != ROPE_SEARCH_DONE)
+            wrong++;
+    }
+    for (i = 0; i < sizeof calls / sizeof *calls; i++) {
+        uint32_t status;
+        see(&s, &before);
+        status = carry_out(&s, &calls[i]);
+        if (status == ROPE_SEARCH_MEMORY && at != 0 && may_ask(calls[i].kind)) {
+            see(&s, &after);
+            if (memcmp(&before, &after, sizeof before) != 0) {
+                wrong++;
+                printf("request %lu: call %lu is refused and changes something\n", at, (unsigned long)i);
+            }
+            status = carry_out(&s, &calls[i]);
+        }
+        if (status != ROPE_SEARCH_DONE) {
+            wrong++;
+            printf("request %lu: call %lu answers %u\n", at, (unsigned long)i, (unsigned)status);
+        }
+    }
+    see(&s, last);
+    rope_search_close(&s);
+    return asked;
+}
+
+int main(void)
+{
+    static struct seen due, last;
+    unsigned long count = run(0, &due), at;
+    for (at = 1; at <= count; at++) {
+        run(at, &last);
+        if (memcmp(&due, &last, sizeof due) != 0) {
+            wrong++;
+            printf("request %lu: what is left differs\n", at);
+        }
+    }
+    if (count < 50) {
+        wrong++;
+        printf("only %lu requests\n", count);
+    }
+    return wrong != 0;
+}

@@ -1,0 +1,427 @@
+"""The library that C links: its declarations, the worked inputs and sessions at random by its calls beside what the
+program replies, what its copies leave in a caller's array, calls of closed sessions, and programs in C, C++ and Lua,
+under the address, undefined-behaviour and thread sanitizers, and with each of its requests for memory refused in turn.
+"""
+import ctypes
+import itertools
+import os
+import random
+import re
+import shutil
+import subprocess
+import sys
+
+from harness import LIBRARY, LIBRARY_FOLDER, ROOM, SECONDS, TOP, short, test
+from library import replies, reply, rope_search
+from library_changes import wrong_changes
+from protocol import Session, lines_of, place_of, position_at, positions_of, read_commands, spelled, units
+from test_edits import BACK_AND_FORWARD, OF_ALL_KINDS, SESSIONS, SESSIONS_IN_RUN, some_sessions
+from test_replies import MORE_EXAMPLES, examples_of_page
+
+HEADER = os.path.join(TOP, "include", "rope_search.h")
+STRICT = ["-std=c99", "-pedantic", "-O1", "-g", "-Wall", "-Wextra", "-Werror"]
+SANITIZED = ["-fsanitize=address,undefined", "-fno-sanitize-recover=all"]
+# The thread sanitizer's own memory isn't found where addresses are laid out at random too widely.
+FIXED = ["setarch", "-R"] if shutil.which("setarch") else []
+# The name of a parameter of C, behind its type.
+PARAMETER = re.compile(r"\s*\b(?!const\b|size_t\b|bool\b|void\b|u?int\d+_t\b|rope_search\w*\b)\w+$")
+# Where programs find the modules of the bindings, and these the library.
+PATHS = {
+    "PYTHONPATH": os.path.join(TOP, "bindings", "python"),
+    "LUA_PATH": os.path.join(TOP, "bindings", "lua", "?.lua"),
+    "ROPE_SEARCH_LIBRARY": LIBRARY,
+}
+
+
+# Neovim, which runs the file of Lua that is named behind these words, and tells how that ended.
+NEOVIM = ["nvim", "--clean", "--headless", "-n", "-c", "lua local done, why = pcall(dofile, vim.v.argv[#vim.v.argv]) "
+          "if not done then io.stdout:write(why, '\\n') vim.cmd('cquit 1') end", "-c", "qall!", "--"]
+
+
+def declared(text):
+    """The declarations of calls in C: each call's name, and its types, without names of parameters."""
+    text = re.sub(r"/\*.*?\*/|#[^\n]*", "", text, flags=re.S)
+    calls = {}
+    for result, name, parameters in re.findall(r"(\w+) (rope_search_\w+)\(([^)]*)\);", text):
+        kinds = [PARAMETER.sub("", " ".join(one.split())) for one in parameters.split(",")]
+        calls[name] = (result, *(kind.replace("* ", "*").strip() for kind in kinds))
+    return calls
+
+
+def structures(text):
+    """The structures that C declares, each with its fields."""
+    text = re.sub(r"/\*.*?\*/", "", text, flags=re.S)
+    return {name: " ".join(fields.split()) for fields, name in re.findall(r"typedef struct \{([^}]*)\} (\w+);", text)}
+
+
+def exported():
+    """The names that the shared library shows."""
+    shown = subprocess.run(["nm", "-D", "--defined-only", LIBRARY], stdout=subprocess.PIPE, text=True, check=True)
+    return {line.split()[-1] for line in shown.stdout.splitlines() if line}
+
+
+def differing(what, one, other):
+    names = sorted(name for name in {*one, *other} if one.get(name) != other.get(name))
+    return [f"{what}: {name}: {one.get(name)}, not {other.get(name)}" for name in names]
+
+
+def read(*names):
+    with open(os.path.join(TOP, *names), encoding="utf-8") as file:
+        return file.read()
+
+
+def test_declarations():
+    header, lua = read("include", "rope_search.h"), read("bindings", "lua", "rope_search.lua")
+    calls, in_lua = declared(header), declared(lua)
+    names = {name: None for name in exported()}
+    wrong = differing("shown", names, dict.fromkeys(calls))
+    test("the shared library shows the calls of its header, and nothing else", wrong)
+    wrong = differing("calls", in_lua, calls) + differing("structures", structures(lua), structures(header))
+    test("bindings/lua declares what the header does", wrong)
+    counts = {f"rope_search_{name}": len(kinds) - 1 for name, kinds in rope_search._CALLS.items()}
+    wrong = differing("parameters", counts, {name: len(kinds) - 1 for name, kinds in calls.items()})
+    test("bindings/python declares what the header does", wrong)
+
+
+def wrong_replies(commands, expected):
+    told = replies(commands)
+    for place, (got, due) in enumerate(zip(told, expected)):
+        if got != due:
+            yield f"command {place}, {commands[place][:2]}, is answered {short(got)}, not {short(due)}"
+            return
+
+
+def test_worked():
+    wrong = []
+    for data, out, _ in [*examples_of_page(), *MORE_EXAMPLES]:
+        commands, _ = read_commands(data)
+        told = b"".join(replies(commands))
+        closing = {b"error command\n", b"error end\n", b""}
+        if not out.startswith(told) or out[len(told):] not in closing:
+            wrong.append(f"{short(data)} is answered {short(told)}, not {short(out)}")
+    test("the worked inputs, by calls, beside what the program replies", wrong)
+
+
+def test_sessions():
+    for kind, weights in (("of all kinds", OF_ALL_KINDS), ("back and forward", BACK_AND_FORWARD)):
+        wrong = []
+        for seed in range(SESSIONS // SESSIONS_IN_RUN // 2):
+            writer = some_sessions(("library", kind, seed).__repr__(), SESSIONS_IN_RUN, weights)
+            wrong += wrong_replies(writer.commands, writer.replies)
+        test(f"{SESSIONS // 2} sessions at random {kind}, by calls, beside the model", wrong)
+
+
+def filled(kind, count):
+    """An array of which each byte is 0xA5."""
+    made = (kind * count)()
+    ctypes.memset(made, 0xA5, ctypes.sizeof(made))
+    return made
+
+
+def wrong_copies(session, calls, handle, chosen):
+    """What is wrong with copies of a session's matches and text: whatever is asked, the array's first elements are what
+    was asked for, as many as fit, and the others are as they were."""
+    spans, text = session.matches(), session.text_bytes()
+    rows, most = session.rows, (1 << 64) - 1
+    for _ in range(60):
+        first, last = (chosen.choice((0, 1, rows, chosen.randint(0, rows + 2), most)) for _ in range(2))
+        due = [span for span in spans if first <= span.line < last]
+        room = chosen.choice((0, 1, len(due), max(0, len(due) - 1), len(due) + 2))
+        out, before = filled(rope_search._Span, room + 1), bytes(filled(rope_search._Span, room + 1))
+        count = calls.rope_search_copy_matches(handle, first, last, out, room)
+        if count != len(due) or calls.rope_search_count_matches(handle, first, last) != len(due):
+            yield f"rows {first} to {last} have {count} matches, not {len(due)}"
+        got = [(span.line, span.start, span.stop) for span in out[:min(count, room)]]
+        kept = 24 * min(len(due), room)
+        if got != [tuple(span) for span in due[:room]] or bytes(out)[kept:] != before[kept:]:
+            yield f"of rows {first} to {last}, {room} of {len(due)} were copied wrong"
+        start, stop = (chosen.choice((0, len(text), chosen.randint(0, len(text) + 2))) for _ in range(2))
+        fits, room = max(0, stop - start), max(0, stop - start) + chosen.randint(-1, 1)
+        room = max(0, room)
+        cut = any(text[place : place + 1] and text[place] & 0xC0 == 0x80 for place in (start, stop))
+        whole = start <= stop <= len(text) and not cut
+        out = ctypes.create_string_buffer(b"\xa5" * (room + 1), room + 1)
+        done = calls.rope_search_copy_text(handle, start, stop, out, room)
+        due = whole and fits <= room
+        if done != due or out.raw != (text[start:stop] if due else b"") + b"\xa5" * (room + 1 - (fits if due else 0)):
+            yield f"bytes {start} to {stop} of {len(text)} were copied wrong into {room}"
+
+
+def test_copies():
+    wrong, chosen = [], random.Random(1)
+    texts = ("", "a", "aé🐸a\na\r\n\naa🐸\r", "ab\n" * 400, "é" * 3_000 + "\n" + "a" * 900)
+    for text in texts:
+        for pattern in (None, "a", "x*", "é|\\n"):
+            with rope_search.Session() as session:
+                session.set_text(text)
+                if pattern is not None:
+                    session.set_pattern(pattern)
+                wrong += wrong_copies(session, rope_search.library(), session._handle, chosen)
+    test("what copies leave in a caller's array", wrong)
+
+
+def wrong_places(session, text):
+    """What is wrong with the bytes of a text's positions, and with the positions of its bytes."""
+    places = {position: len(text[:place_of(text, *position)].encode()) for position in positions_of(text)}
+    for position in itertools.product(range(len(lines_of(text)) + 2), range(units(text) + 2)):
+        if (told := answered(session.byte_of, position)) != places.get(position, rope_search.Range):
+            yield f"the byte of {position} in {text!r} is {told}"
+    begins = {len(text[:place].encode()): tuple(position_at(text, place)) for place in range(len(text) + 1)}
+    for byte in range(len(text.encode()) + 3):
+        if (told := answered(session.position_of, byte)) != begins.get(byte, rope_search.Range):
+            yield f"the position of byte {byte} in {text!r} is {told}"
+
+
+def wrong_columns(session, text):
+    """What is wrong with columns in bytes and in characters, and with the positions of these."""
+    lines, most = lines_of(text), len(text.encode()) + 2
+    for encoding, count in (("utf-8", lambda part: len(part.encode())), ("utf-32", len)):
+        known = {position: count(text[lines[position[0]][0] : place_of(text, *position)]) for position in positions_of(text)}
+        back = {(line, known[line, column]): (line, column) for line, column in known}
+        for spot in itertools.product(range(len(lines) + 2), (*range(most), (1 << 64) - 1)):
+            if (told := answered(session.column_in, encoding, spot)) != known.get(spot, rope_search.Range):
+                yield f"the column of {spot} in {text!r} by {encoding} is {told}"
+            if (told := answered(session.position_in, encoding, *spot)) != back.get(spot, rope_search.Range):
+                yield f"the position of {spot} in {text!r} by {encoding} is {told}"
+
+
+def test_places():
+    wrong = []
+    for text in ("", "a", "aé🐸b\r\nx\ry\n", "\r\n", "\n\r", "🐸\n" * 3, "\u2028a\v"):
+        with rope_search.Session() as session:
+            session.set_text(text)
+            wrong += wrong_places(session, text)
+            wrong += wrong_columns(session, text)
+    test("the bytes of positions and the positions of bytes, also by columns in bytes and in characters", wrong)
+
+
+def test_histories():
+    """Sessions at random once more, with a history dropped now and then: what is there to undo and to redo."""
+    wrong, chosen = [], random.Random(2)
+    commands = some_sessions("histories", SESSIONS_IN_RUN, BACK_AND_FORWARD).commands
+    model = Session()
+    with rope_search.Session() as session:
+        for place, command in enumerate(commands):
+            if chosen.random() < 0.1:
+                session.forget()
+                model.buffer.texts, model.buffer.at = [model.buffer.text], 0
+            if (got := reply(session, command)) != (due := model.reply(command)):
+                wrong.append(f"command {place}, {command[:2]}, is answered {short(got)}, not {short(due)}")
+                break
+            buffer = model.buffer
+            due = (len(model.buffers), model.chosen, buffer.at > 0, buffer.at + 1 < len(buffer.texts))
+            if (session.buffers, session.chosen, session.can_undo, session.can_redo) != due:
+                wrong.append(f"after command {place}: not {due}")
+                break
+    test("histories that are dropped, and what is there to undo and to redo", wrong)
+
+
+def test_changes():
+    """Sessions at random, after each command of which it is asked which rows were replaced."""
+    for kind, weights in (("of all kinds", OF_ALL_KINDS), ("back and forward", BACK_AND_FORWARD)):
+        wrong = []
+        for seed in range(SESSIONS // SESSIONS_IN_RUN // 4):
+            with rope_search.Session() as session:
+                wrong += wrong_changes(session, some_sessions(("changes", kind, seed).__repr__(), SESSIONS_IN_RUN, weights).commands)
+        test(f"which rows commands replace, {SESSIONS // 4} sessions at random {kind}", wrong)
+
+
+def answered(call, *arguments):
+    """What a call answers, or why it is refused."""
+    try:
+        return call(*arguments)
+    except rope_search.Fault as fault:
+        return type(fault)
+
+
+def raised(call):
+    try:
+        call()
+    except rope_search.Fault as fault:
+        return type(fault)
+    return None
+
+
+def test_closed():
+    wrong, session = [], rope_search.Session()
+    session.close()
+    session.close()
+    calls, handle, origin = rope_search.library(), session._handle, rope_search._Position(0, 0)
+    refused = {
+        "set_text": (b"a", 1), "edit": (origin, origin, b"a", 1), "undo": (), "redo": (),
+        "set_pattern": (b"a", 1), "off": (), "next": (origin, rope_search._Match()),
+        "replace": (b"a", 1, ctypes.c_size_t(7)), "fork": (ctypes.c_size_t(7),), "choose": (0,),
+        "column_in": (8, origin, ctypes.c_size_t(7)), "position_in": (8, 0, 0, rope_search._Position()),
+        "forget": (), "byte_of": (origin, ctypes.c_size_t(7)), "position_of": (0, rope_search._Position()),
+    }
+    read_only = {
+        "buffers": (), "chosen": (), "can_undo": (), "can_redo": (), "text_len": (), "text_lines": (), "rows": (),
+        "count_matches": (0, 9), "copy_text": (0, 0, ctypes.create_string_buffer(4), 4),
+        "copy_matches": (0, 9, (rope_search._Span * 1)(), 1),
+    }
+    named = {"open", "close", "counted", "changed", *refused, *read_only}
+    wrong += [f"no test calls {name}" for name in sorted(set(rope_search._CALLS) - named)]
+    for name, arguments in refused.items():
+        if (status := getattr(calls, "rope_search_" + name)(handle, *arguments)) != 8:
+            wrong.append(f"{name} answers {status}")
+    for name, arguments in read_only.items():
+        if answer := getattr(calls, "rope_search_" + name)(handle, *arguments):
+            wrong.append(f"{name} answers {answer}")
+    stretch = calls.rope_search_changed(handle)
+    if (stretch.first, stretch.removed, stretch.added) != (0, 0, 0):
+        wrong.append("some rows of a closed session are told as changed")
+    counts = calls.rope_search_counted(handle)
+    if (counts.rows, counts.wholes, handle.is_open) != (0, 0, False):
+        wrong.append("counted, or the handle, is something")
+    if raised(lambda: session.matches()) is not rope_search.Closed:
+        wrong.append("matches of a closed session are told")
+    test("each call of a closed session", wrong)
+
+
+def test_opening():
+    wrong = []
+    limits = {0: None, 4: None, (1 << 63) - 1: None, 1 << 63: rope_search.Size, (1 << 64) - 1: rope_search.Size}
+    for limit, due in limits.items():
+        if (got := raised(lambda: rope_search.Session(limit).close())) is not due:
+            wrong.append(f"a limit of {limit} is answered {got}")
+    with rope_search.Session(4) as session:
+        if raised(lambda: session.set_text("abcde")) is not rope_search.Size or session.text != "":
+            wrong.append("a text above the limit is taken")
+        session.set_text("abcd")
+        calls = rope_search.library()
+        if calls.rope_search_open(1 << 63, rope_search._Ticks(), session._handle) != 6 or session.text != "abcd":
+            wrong.append("a refused opening ends what was open")
+        if calls.rope_search_open(1 << 20, rope_search._Ticks(5, 7, 0), session._handle) != 0 or session.text != "":
+            wrong.append("an opening keeps what was open")
+        if session.counted != (5, 7):
+            wrong.append(f"it counts from {session.counted}")
+    test("opening: limits, an open session in its place, counts from others", wrong)
+
+
+def built(name, sources, flags, compiler="cc"):
+    """A program of these sources and the static library, or None where it can't be built."""
+    made = os.path.join(ROOM, name)
+    words = [os.environ.get("CC" if compiler == "cc" else "CXX", compiler), *flags, "-I", os.path.join(TOP, "include")]
+    words += ["-o", made, *sources, os.path.join(LIBRARY_FOLDER, "librope_search.a"), "-lpthread"]
+    settings = {"stdin": subprocess.DEVNULL, "stderr": subprocess.PIPE, "text": True, "errors": "replace"}
+    done = subprocess.run(words, check=False, **settings)
+    test(f"{name} is built", [] if done.returncode == 0 else done.stderr.splitlines()[:5] or ["the compiler failed"])
+    return made if done.returncode == 0 else None
+
+
+def ended(words, **more):
+    done = subprocess.run(words, stdin=subprocess.DEVNULL, stdout=subprocess.PIPE, stderr=subprocess.STDOUT, text=True,
+                          errors="replace", timeout=SECONDS, cwd=ROOM, check=False, env=dict(os.environ, **more))
+    return [] if done.returncode == 0 else [*done.stdout.splitlines()[:20], f"ended with {done.returncode}"]
+
+
+def at(*names):
+    return os.path.join(TOP, *names)
+
+
+def test_programs():
+    if made := built("library-calls", [at("tests", "library_calls.c")], [*STRICT, *SANITIZED]):
+        test("calls in C, under the address and undefined-behaviour sanitizers", ended([made]))
+    wraps = ["-Wl,--wrap=malloc,--wrap=realloc"]
+    if made := built("library-memory", [at("tests", "library_memory.c")], [*STRICT, *wraps]):
+        test("each request of the library for memory refused in turn", ended([made]))
+    if made := built("library-threads", [at("tests", "library_threads.c")], [*STRICT, "-fsanitize=thread"]):
+        test("sessions on several threads, under the thread sanitizer", ended([*FIXED, made]))
+    if made := built("library-c", [at("examples", "session.c")], STRICT):
+        test("examples/session.c", ended([made]))
+    flags = ["-std=c++11", "-O1", "-Wall", "-Wextra", "-Werror"]
+    if made := built("library-cpp", [at("examples", "session.cpp")], flags, "c++"):
+        test("examples/session.cpp", ended([made]))
+
+
+def test_page():
+    """The code of docs/embedding.md, each with what it prints."""
+    page = read("docs", "embedding.md")
+    blocks = re.findall(r"```(c|python|lua)\n(.*?)```\n\nIt prints\n\n```text\n(.*?)```", page, flags=re.S)
+    kinds = [kind for kind, _, _ in blocks]
+    test("docs/embedding.md has code in three languages", [] if kinds == ["c", "python", "lua"] else [f"in {kinds}"])
+    for kind, code, due in blocks:
+        file = os.path.join(ROOM, "embedded." + kind.replace("python", "py"))
+        with open(file, "w", encoding="utf-8") as out:
+            out.write(code)
+        words = {"python": [sys.executable, file], "lua": [shutil.which("luajit"), file]}.get(kind)
+        if kind == "c" and (made := built("embedded", [file], STRICT)):
+            words = [made]
+        if words and words[0]:
+            done = subprocess.run(words, stdin=subprocess.DEVNULL, stdout=subprocess.PIPE, stderr=subprocess.STDOUT,
+                                  timeout=SECONDS, cwd=ROOM, check=False, env=dict(os.environ, **PATHS))
+            is_due = (done.returncode, done.stdout.decode()) == (0, due)
+            wrong = [] if is_due else [f"it prints {short(done.stdout)}"]
+            test(f"the {kind} code of docs/embedding.md", wrong)
+
+
+def test_pane():
+    """What the search pane goes by in place of the program: it answers as that does, one command at a time."""
+    sys.path.insert(0, os.path.join(TOP, "examples"))
+    from calls import Calls
+    from client import command
+
+    wrong = []
+    with Calls() as search:
+        for data in (*(data for data, _, _ in examples_of_page()), b"fork\nuse 1\nprint\n"):
+            commands, _ = read_commands(data)
+            model = Session()
+            search.session.close()
+            search.session = rope_search.Session()
+            for one in commands:
+                if (got := search.ask(spelled(*one))) != (due := model.reply(one)):
+                    wrong.append(f"{one[:2]} is answered {short(got)}, not {short(due)}")
+        for sent in (b"jump\n", b"print", command(b"text", b"a") + b"b"):
+            try:
+                wrong.append(f"{sent} is answered {search.ask(sent)}")
+            except ValueError:
+                pass
+    test("the client of the pane that goes by calls", wrong)
+
+
+def test_readme():
+    code = re.search(r"```python\n(.*?)```", read("README.md"), flags=re.S)
+    test("the Python code of README.md", ended([sys.executable, "-c", code[1]], **PATHS) if code else ["there is none"])
+
+
+def lua():
+    """What runs a file of Lua: LuaJIT, or Neovim, which has it; nothing where neither is at hand."""
+    if shutil.which("luajit"):
+        return ["luajit"]
+    return NEOVIM if shutil.which("nvim") else [None]
+
+
+def test_neovim():
+    """The live search of examples/nvim, where Neovim is at hand."""
+    if shutil.which("nvim"):
+        found = {"LUA_PATH": ";".join((at("examples", "nvim", "lua", "?.lua"), PATHS["LUA_PATH"]))}
+        words = [*NEOVIM, at("tests", "nvim_live_search.lua")]
+        test("examples/nvim, after keys at random", ended(words, **{**PATHS, **found}))
+    else:
+        print("no Neovim: examples/nvim isn't run")
+
+
+def test_lua():
+    words = lua()
+    if words[0]:
+        test(f"bindings/lua, by {words[0]}", ended([*words, at("tests", "library.lua")], **PATHS))
+    else:
+        print("no LuaJIT and no Neovim: bindings/lua isn't run")
+
+
+def test_all():
+    test_declarations()
+    test_worked()
+    test_opening()
+    test_copies()
+    test_closed()
+    test_places()
+    test_histories()
+    test_changes()
+    test_programs()
+    test_lua()
+    test_neovim()
+    test_page()
+    test_readme()
+    test_pane()
+    test_sessions()

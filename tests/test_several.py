@@ -1,0 +1,99 @@
+"""What is found of several patterns that are searched for together, on bin/search-driver, which asks each engine: all
+matches in haystacks that lie in pieces, each with its pattern and its groups, perhaps in slices and spans, anchored, and
+anchored to a pattern; and why patterns are refused.
+
+Its answers are those that stand here, and those of the model of tests/walks.py to cases at random.
+"""
+import random
+
+from driver import WANT, Case, Settings, check_memory, line_of, problems, written
+from harness import short, test
+from random_patterns import Maker
+from test_all import ANYWHERE, AT_START, FIRST, SECOND, SIZES
+from test_searches import asked_at_random, listed
+from walks import Search, spelled
+
+RANDOM_CASES = 6_000
+
+# Patterns, haystacks, and all matches; where not all is asked for, also the slice, the span and where matches start.
+VECTORS = [
+    # Where several start at one place the first pattern's is found, whichever is longer.
+    (["a", "ab"], "ab", "0:0-1"),
+    (["ab", "a"], "ab", "0:0-2"),
+    (["b", "ab"], "abb", "1:0-2 0:2-3"),
+    (["a", "b", "c"], "cab", "2:0-1 0:1-2 1:2-3"),
+    (["x", "a|ab", "b"], "ab", "1:0-1 2:1-2"),
+    # Each has its groups, and of the others nothing is told.
+    (["(a)(b)", "(a)", "b()"], "abab", "0:0-2,0-1,1-2 0:2-4,2-3,3-4"),
+    (["(a)(b)", "(a)", "b()"], "aab", "1:0-1,0-1 0:1-3,1-2,2-3"),
+    (["(a)|(b)", "(c)"], "cb", "1:0-1,0-1 0:1-2,-,1-2"),
+    # Empty matches, also behind one of another pattern.
+    (["", "a"], "a", "0:0-0 0:1-1"),
+    (["a", ""], "ab", "0:0-1 1:2-2"),
+    (["x*", "."], "せ", "0:0-0 0:3-3"),
+    (["b*", "a"], "ab", "0:0-0 0:1-2"),
+    # The same pattern twice, one that never matches, and none.
+    (["a", "a"], "aa", "0:0-1 0:1-2"),
+    (["a\\bb", "b"], "ab", "1:1-2"),
+    ([], "ab", ""),
+    ([], "", ""),
+    (["a"], "ba", "1-2"),
+    # Slices, spans, and where matches start.
+    (["^b", "ab$"], "abab", "1:2-4"),
+    (["^b", "a"], "abab", "0:1-2 1:2-3", ((1, 4), (1, 3), ANYWHERE)),
+    (["b", "ab"], "abb", "1:0-2 0:2-3", ((0, 9), (0, 9), AT_START)),
+    (["b", "ab"], "abb", "", ((0, 9), (0, 9), FIRST)),
+    (["b", "ab"], "abb", "1:0-2", ((0, 9), (0, 9), SECOND)),
+    (["b", "ab"], "abb", "", ((0, 9), (0, 9), 4)),
+    (["b", "bb?"], "abb", "1:1-3", ((0, 9), (1, 9), SECOND)),
+    # Words, over bytes at which automata quit.
+    (["\\bé", "e\\b"], "é e", "0:0-2 1:3-4"),
+]
+
+# Why patterns are refused: for the first text that is no pattern, and else for their weight together, and 1.
+REFUSED = [
+    (["a", "b(", "c)"], "the pattern isn't in the grammar"),
+    (["(", "a" * 65_537], "the pattern isn't in the grammar"),
+    (["^a{65535}a{65533}", ""], "the patterns are too large"),
+]
+
+
+def about(patterns, haystack, answer, cut=0, asked=None):
+    slice_, span, anchored = asked or ((None, None), (None, None), None)
+    texts = ".".join(map(written, patterns)) if patterns else "-"
+    fields = [texts, *Settings().fields(), cut, haystack.hex(), *slice_, *span, anchored]
+    shown = [pattern[:40] for pattern in patterns]
+    return Case(f"{shown} in {short(haystack)}, cut by {cut}, {asked}", line_of("several", *fields), answer)
+
+
+def answer_of(trees, haystack, asked):
+    """The matches that the model finds, as the program writes them."""
+    slice_, span, anchored = asked
+    pattern = anchored - FIRST if anchored >= FIRST else None
+    told = Search(trees, haystack, slice_, span, anchored != ANYWHERE, pattern=pattern).told()
+    return " ".join((f"{number}:" if len(trees) > 1 else "") + listed([groups]) for number, groups in told)
+
+
+def vectors():
+    for patterns, haystack, answer, *asked in VECTORS:
+        for size in SIZES:
+            yield about(patterns, haystack.encode(), answer, size, *asked)
+
+
+def at_random(count=RANDOM_CASES):
+    chance = random.Random(37)
+    maker = Maker(chance, most_nodes=30)
+    for _ in range(count):
+        trees = tuple(maker.tree() for _ in range(chance.choice((0, 1, 2, 2, 2, 3, 3, 4))))
+        haystack = "".join(map(maker.haystack, trees[:2])).encode()[:14]
+        slice_, span, is_tied = asked_at_random(chance, len(haystack))
+        asked = slice_, span, chance.randint(AT_START, len(trees) + FIRST) if is_tied else ANYWHERE
+        answer = answer_of(trees, haystack, asked)
+        yield about([spelled(tree) for tree in trees], haystack, answer, chance.choice(SIZES), asked)
+
+
+def test_all():
+    test("several patterns are found as they should", problems(vectors()))
+    test("several patterns at random are found as by the model", problems(at_random()))
+    test("why several patterns are refused", problems(about(patterns, b"", answer) for patterns, answer in REFUSED))
+    check_memory(about(["a|ab", "(b)+"], b"abb", "0:0-1,- 1:1-3,2-3", 1), [WANT])
