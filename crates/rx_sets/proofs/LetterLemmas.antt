@@ -126,6 +126,12 @@ IfOk-seen (Err e) view set P same is = tt
 pub IsSetOf-along : (set other : List Range) (P : ℕ → Type 0) → other ≡ set → IsSetOf set P → IsSetOf other P
 IsSetOf-along set other P same is = subst (λ (s : List Range). IsSetOf s P) (sym same) is
 
+-- what is equal to a list is what the list is
+pub IfOk-along : {T E : Type 0} (r : Result T E) (view : T → List Range) (others : List Range) (Q : List Range → Type 0) → Q others → IfOk r (λ x. view x ≡ others)
+    → IfOk r (λ x. Q (view x))
+IfOk-along (Ok x) view others Q is same = subst Q (sym same) is
+IfOk-along (Err e) view others Q is same = tt
+
 pub IfOk-changed : {T E : Type 0} (r : Result T E) (view : T → List Range) (P Q : ℕ → Type 0) → ((c : ℕ) → IsScalar c → P c ↔ Q c) → IfOk r (λ x. IsSetOf (view x) P) → IfOk r (λ x. IsSetOf (view x) Q)
 IfOk-changed (Ok x) view P Q iff is = IsSetOf-map (view x) P Q iff is
 IfOk-changed (Err e) view P Q iff is = tt

@@ -86,11 +86,17 @@ fn all_but(alloc: Global, c: char) -> Result<CharacterSet, AllocError>
     one.complement()
 }
 
-/// Makes the sets of a pattern's atoms. The set of a letter class is made once and shared.
+/// How many sets of classes in brackets are kept, at most, to be shared.
+const KEPT_CLASSES: usize = 8;
+
+/// Makes the sets of a pattern's atoms. The set of a letter class is made once and shared, and so
+/// is that of a class in brackets where it is one of the last few: a pattern that says one again
+/// and again takes memory for one.
 #[derive(Drop)]
 pub struct AtomSets {
     alloc: Global,
     letters: Vec<LetterSet>,
+    classes: Vec<Rc<CharacterSet>>,
 }
 
 impl AtomSets {
@@ -99,7 +105,26 @@ impl AtomSets {
         AtomSets {
             alloc,
             letters: Vec::new(alloc),
+            classes: Vec::new(alloc),
         }
+    }
+
+    /// This set, or one of those that are kept, if it is the same.
+    fn shared(&mut self, mut set: CharacterSet) -> Result<Rc<CharacterSet>, AllocError>
+        ensures { IfOk result (λ shared. shared.value ≡ set) }
+    {
+        for kept in &self.classes {
+            if kept.is_same(&set) {
+                return kept.clone();
+            }
+        }
+        if self.classes.len() >= KEPT_CLASSES {
+            self.classes.clear();
+        }
+        set.shrink_to_fit();
+        let made = Rc::new(self.alloc, set)?;
+        self.classes.push(made.clone()?)?;
+        Ok(made)
     }
 
     /// What a letter class names, closed under folding or as it is.
@@ -209,7 +234,7 @@ impl AtomSets {
             return self.letters(fold, kind, negated);
         }
         let set = self.union(fold, items)?;
-        Ok(Rc::new(self.alloc, set)?)
+        self.shared(set)
     }
 
     /// What a class in brackets stands for, closed under folding before it is negated, or as it is.
@@ -225,6 +250,6 @@ impl AtomSets {
         if !negated {
             return Ok(named);
         }
-        Ok(Rc::new(self.alloc, named.complement()?)?)
+        self.shared(named.complement()?)
     }
 }

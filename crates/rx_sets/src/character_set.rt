@@ -132,6 +132,20 @@ impl CharacterSet {
         Ok(CharacterSet { ranges: gaps })
     }
 
+    /// Whether the two are the same set.
+    pub fn is_same(&self, other: &CharacterSet) -> bool
+        ensures { IsTrue result ↔ (self.now ≡ other.now) }
+    {
+        self.ranges() == other.ranges()
+    }
+
+    /// Gives back what room its ranges don't take.
+    pub(crate) fn shrink_to_fit(&mut self)
+        ensures { self.new ≡ self.old }
+    {
+        self.ranges.shrink_to_fit();
+    }
+
     /// Whether the scalar value with this ordinal is in the set.
     pub fn contains(&self, ordinal: u32) -> bool
         ensures { result ≡ in_ranges self.now ordinal }

@@ -109,6 +109,7 @@ pub(crate) fn target(
         }
     }
     let state = rows.len();
+    row.shrink_to_fit();
     rows.push(row)?;
     Ok(Some(Some(state)))
 }
