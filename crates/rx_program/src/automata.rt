@@ -1,20 +1,13 @@
 //! The automata of a program's sets, each made once and shared.
 
-ghost use Rattle.std.specs.Prelude.{◌≡◌, IsTrue, IfOk};
+ghost use Rattle.std.specs.Prelude.{◌≡◌, IfOk};
 ghost use Rattle.rx_utf8.specs.Automata.{IsReader, IsReverseReader};
 
-use rx_sets::{CharacterSet, Range};
+use rx_sets::{CharacterSet, is_same};
 use rx_utf8::{ReverseAutomaton, SetAutomaton};
 use std::alloc::{AllocError, Global};
 use std::cmp::Ordering;
 use std::rc::Rc;
-
-/// Whether the ranges are the same.
-fn is_same(ranges: &[Range], others: &[Range]) -> bool
-    ensures { IsTrue result → ranges.now ≡ others.now }
-{
-    ranges == others
-}
 
 /// The order of two sets, by their ranges. Of one that is shared the ranges aren't looked at.
 fn order(set: &Rc<CharacterSet>, other: &Rc<CharacterSet>) -> Ordering {

@@ -5,7 +5,7 @@ ghost use Rattle.rx_sets.specs.Sets.{IsSetOf, FoldedIf, InPerl};
 ghost use Rattle.rx_sets.specs.Items.{InItems, InClass};
 ghost use Rattle.rx_sets.specs.Unions.{Adds, OneOf, InLetters};
 
-use crate::character_set::{CharacterSet, Range};
+use crate::character_set::{CharacterSet, Range, is_same};
 use crate::foldings::{push_folded_if, push_items};
 use crate::items::{ClassItem, ClassPerlKind};
 use crate::letter_set::LetterSet;
@@ -114,7 +114,7 @@ impl AtomSets {
         ensures { IfOk result (λ shared. shared.value ≡ set) }
     {
         for kept in &self.classes {
-            if kept.is_same(&set) {
+            if is_same(kept.ranges(), set.ranges()) {
                 return kept.clone();
             }
         }

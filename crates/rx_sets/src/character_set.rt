@@ -49,6 +49,14 @@ pub(crate) fn is_scalar(code: u32) -> bool
     code < 0xD800 || (0xE000 <= code && code <= 0x10_FFFF)
 }
 
+/// Returns whether they are the same ranges in the same order. Those of sets are so exactly where the
+/// sets are the same. `O(n)`.
+pub fn is_same(ranges: &[Range], others: &[Range]) -> bool
+    ensures { IsTrue result ↔ (ranges.now ≡ others.now) }
+{
+    ranges == others
+}
+
 /// Appends the ordinals from `start` up to `end`, if there are any between them.
 pub(crate) fn push_part(ranges: &mut Vec<Range>, start: u32, end: u32) -> Result<(), AllocError>
     ensures { OnOk result (ranges.new.items ≡ ranges.old.items ++ part start end) }
@@ -130,13 +138,6 @@ impl CharacterSet {
         }
         push_part(&mut gaps, next, SCALARS)?;
         Ok(CharacterSet { ranges: gaps })
-    }
-
-    /// Whether the two are the same set.
-    pub fn is_same(&self, other: &CharacterSet) -> bool
-        ensures { IsTrue result ↔ (self.now ≡ other.now) }
-    {
-        self.ranges() == other.ranges()
     }
 
     /// Gives back what room its ranges don't take.

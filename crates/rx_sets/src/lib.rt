@@ -9,5 +9,5 @@ pub mod laws;
 mod letter_set;
 
 pub use atom_sets::AtomSets;
-pub use character_set::{CharacterSet, Range, from_ordinal, ordinal};
+pub use character_set::{CharacterSet, Range, from_ordinal, is_same, ordinal};
 pub use items::{ClassItem, ClassPerlKind};

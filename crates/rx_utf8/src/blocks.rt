@@ -70,6 +70,16 @@ fn size(rest: u32) -> u32
     }
 }
 
+/// Appends a row, which gives back what room its ranges don't take: an automaton has hundreds of
+/// short ones.
+fn push_row(rows: &mut Vec<Vec<ByteRange>>, mut row: Vec<ByteRange>) -> Result<(), AllocError>
+    ensures { OnOk result (rows_of rows.new.items ≡ rows_of rows.old.items ++ (row.items ∷ [])) }
+{
+    row.shrink_to_fit();
+    rows.push(row)?;
+    Ok(())
+}
+
 /// Where the bytes lead after which `rest` more are to come, and whose value so far is `value`.
 pub(crate) fn target(
     rows: &mut Vec<Vec<ByteRange>>,
@@ -109,8 +119,7 @@ pub(crate) fn target(
         }
     }
     let state = rows.len();
-    row.shrink_to_fit();
-    rows.push(row)?;
+    push_row(rows, row)?;
     Ok(Some(Some(state)))
 }
 

@@ -51,7 +51,7 @@ returns-clause-fits t c =
     let p = in_ranges c.ranges_up_to-part.result.now in
     let row = c.loop-byte.row.items in
     let inv = c.loop-byte.invariant in
-    let pushed : R ++ row ∷ [] ≡ rows_of c.push.new.self.items = sym (ap rows_of c.in_ok-push.ensures.items ∙ map-append (λ x. x.items) c.loop-byte.rows.items (c.loop-byte.row ∷ [])) in
+    let pushed : R ++ row ∷ [] ≡ rows_of c.push_row.new.rows.items = sym c.in_ok-push_row.ensures in
     let same : length c.loop-byte.rows.items ≡ c.len-state.result = search rules in
     let state : length R ≡ c.len-state.result = length-map c.loop-byte.rows.items (λ x. x.items) ∙ same in
     let end : c.loop-byte.byte ≡ 192 = omega (arith, c.loop-byte-test.false, c.loop-byte.auto.byte, c.loop-byte.auto.byte-end) in
@@ -64,7 +64,7 @@ returns-clause-fits t c =
     c.ranges_up_to-part.ensures x (subst (λ n. x ≤ v * n + (c.size-2.result - 1)) (sym c.size.ensures) (subst (λ n. x ≤ v * size r + (n - 1)) (sym c.size-2.ensures) high))
     ∙ c.ranges_from.ensures x (subst (λ n. v * n ≤ x) (sym c.size.ensures) low) in
     let fits = part_fits (R ++ row ∷ []) p q r v (Some (Some (length R))) c.requires.rest same (filled_fits R p r v row (omega (arith, c.if-rest-eq0.false)) more filled) in
-    subst (λ s. Fits (step_in (rows_of c.push.new.self.items)) (length (rows_of c.push.new.self.items)) q r v (Some (Some s))) state
+    subst (λ s. Fits (step_in (rows_of c.push_row.new.rows.items)) (length (rows_of c.push_row.new.rows.items)) q r v (Some (Some s))) state
     (subst (λ S. Fits (step_in S) (length S) q r v (Some (Some (length R)))) pushed fits)
 
 pub returns-clause-kept : goal.returns-clause-kept
@@ -72,6 +72,6 @@ returns-clause-kept t c =
     let R = rows_of c.loop-byte.rows.items in
     let row = c.loop-byte.row.items in
     let inv = c.loop-byte.invariant in
-    let pushed : R ++ row ∷ [] ≡ rows_of c.push.new.self.items = sym (ap rows_of c.in_ok-push.ensures.items ∙ map-append (λ x. x.items) c.loop-byte.rows.items (c.loop-byte.row ∷ [])) in
+    let pushed : R ++ row ∷ [] ≡ rows_of c.push_row.new.rows.items = sym c.in_ok-push_row.ensures in
     let few : c.loop-byte.byte ≤ 256 = omega (arith, c.loop-byte.auto.byte-end) in
     subst (All IsRow) pushed (rows_one_more R row c.loop-byte.byte few inv.kept inv.filled.rises)

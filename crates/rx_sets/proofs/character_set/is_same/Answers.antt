@@ -1,8 +1,8 @@
-use Rattle.std.proofs.Common.{◌≡◌, ℕ, Bool, true, false, ◌&&◌, ◌==◌, IsTrue, refl, sym, ap, ap₂, ◌∙◌}
+use Rattle.std.proofs.Common.{◌≡◌, ℕ, Bool, true, false, ◌&&◌, ◌==◌, IsTrue, refl, ap, ap₂}
 use Rattle.std.proofs.lemmas.Bool.Decides.{Decides-eqb}
 use Rattle.std.proofs.lemmas.Slice.Eq.{slice_eq-Decides}
 use Rattle.std.specs.Bool.{Decides}
-use Rattle.rx_sets.proofs.character_set.CharacterSet.is_same.Goals as goal
+use Rattle.rx_sets.proofs.character_set.is_same.Goals as goal
 
 both : (a b : Bool) → (a && b) ≡ true → (a ≡ true) × (b ≡ true)
 both true b e = (refl, e)
@@ -20,7 +20,4 @@ pairs_decide x y = (
 )
 
 pub returns : goal.returns
-returns c =
-    let same = slice_eq-Decides pairs_decide _ _ _ c.eq.ensures in
-    ((λ is. sym c.ranges-2.ensures ∙ same.0 is ∙ c.ranges-3.ensures),
-      λ e. same.1 (c.ranges-2.ensures ∙ e ∙ sym c.ranges-3.ensures))
+returns c = slice_eq-Decides pairs_decide _ _ _ c.eq.ensures
