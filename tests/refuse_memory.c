@@ -1,8 +1,9 @@
 // A library to preload into a program: it counts the program's requests for memory and can refuse
-// one of them, or one and all that follow. It asks the GNU C library itself for what it grants.
+// one of them, or one and all that follow, or those for many bytes. It asks the GNU C library itself for what it grants.
 //
 //   REFUSE_MEMORY_AT=N       refuses the N-th request alone, counted from 1
 //   REFUSE_MEMORY_FROM=N     refuses the N-th request and each one after it
+//   REFUSE_MEMORY_ABOVE=N    refuses each request for more than N bytes
 //   REFUSE_MEMORY_TELL=FILE  writes 'COUNT LARGEST TOTAL PEAK' and LF to FILE as the program ends: the
 //                            number of requests, the most bytes that one of them asked for, the bytes
 //                            that all of them asked for, and the most that were held at a time
@@ -31,6 +32,7 @@ static unsigned long held;
 static unsigned long peak;
 static unsigned long refuse_at;
 static unsigned long refuse_from;
+static unsigned long refuse_above;
 
 // Counts a request for so many bytes, and answers whether it is refused.
 static int refused(size_t bytes)
@@ -41,7 +43,8 @@ static int refused(size_t bytes)
     total += bytes;
     if (bytes > largest)
         largest = bytes;
-    return count == refuse_at || (refuse_from != 0 && count >= refuse_from);
+    return count == refuse_at || (refuse_from != 0 && count >= refuse_from) ||
+           (refuse_above != 0 && bytes > refuse_above);
 }
 
 static void *refusal(void)
@@ -130,6 +133,7 @@ __attribute__((constructor)) static void set_up(void)
 {
     refuse_at = setting("REFUSE_MEMORY_AT");
     refuse_from = setting("REFUSE_MEMORY_FROM");
+    refuse_above = setting("REFUSE_MEMORY_ABOVE");
     ready = 1;
 }
 

@@ -233,7 +233,22 @@ def wrong_refused(before, last, rows, wholes):
         yield "no request was refused to a command"
 
 
+def wrong_sink():
+    """What is wrong where the room that a sink asks for is refused."""
+    line = Run(b"print\n", room=1 << 24).line().encode()
+
+    def run(environment):
+        return end_of(start(environment=environment, program=RUN_PROGRAM, stdin=open_input(line)))
+
+    ended, _, largest = counted(run, above=(1 << 24) - 1)
+    yield from differences(ended, b"memory\n", 0)
+    if largest != 1 << 24:
+        yield f"the most that is asked for is {largest} bytes"
+
+
 def test_refused():
+    if library() is not None:
+        test("a sink of 16 MB is refused its room", wrong_sink())
     for pair in LAST:
         if len(pair[0]) < LONG and library() is not None:
             test(f"{short(pair[1])} behind {short(pair[0])}, refused memory, makes no more rows", wrong_refused(*pair))
