@@ -1,29 +1,10 @@
 /* A letter typed in each of many random lines of a text under a pattern, undone, and the fifty rows of a window, by
  * calls of the library: embedded LINES EDITS. It prints the median nanoseconds of each, one a line. */
+#include "medians.h"
 #include "rope_search.h"
 #include <stdio.h>
 #include <stdlib.h>
 #include <string.h>
-#include <time.h>
-
-static double now(void)
-{
-    struct timespec at;
-    clock_gettime(CLOCK_MONOTONIC, &at);
-    return at.tv_sec * 1e9 + at.tv_nsec;
-}
-
-static int by_size(const void *a, const void *b)
-{
-    double x = *(const double *)a, y = *(const double *)b;
-    return (x > y) - (x < y);
-}
-
-static void tell(const char *what, double *times, size_t count)
-{
-    qsort(times, count, sizeof *times, by_size);
-    printf("%s %.0f\n", what, times[count / 2]);
-}
 
 int main(int argc, char **argv)
 {

@@ -1,32 +1,13 @@
 /* A letter typed in each of many random lines of a text under a pattern, and undone, by commands over pipes: piped
  * PROGRAM LINES EDITS. It prints the median nanoseconds of each, one a line, as embedded.c does by calls. */
+#include "medians.h"
 #include <stdio.h>
 #include <stdlib.h>
 #include <string.h>
 #include <sys/types.h>
-#include <time.h>
 #include <unistd.h>
 
 static int to_program, from_program;
-
-static double now(void)
-{
-    struct timespec at;
-    clock_gettime(CLOCK_MONOTONIC, &at);
-    return at.tv_sec * 1e9 + at.tv_nsec;
-}
-
-static int by_size(const void *a, const void *b)
-{
-    double x = *(const double *)a, y = *(const double *)b;
-    return (x > y) - (x < y);
-}
-
-static void tell(const char *what, double *times, size_t count)
-{
-    qsort(times, count, sizeof *times, by_size);
-    printf("%s %.0f\n", what, times[count / 2]);
-}
 
 /* Starts the program, with a pipe each way. */
 static int start(const char *program)
