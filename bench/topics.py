@@ -162,4 +162,9 @@ TOPICS = {
         over(TEXTS, "", *EXPRESSIONS, "TODO", ".*x", "(a*)*b")
         + over([("short", 400_000)], "TODO", "[0-9]+|0x[0-9a-f]+"),
     ),
+    "many": (
+        "all matches of the first 1, 10 and 100 words of a text, each a pattern of one `Regex`, beside one pattern that is "
+        "their alternation; the aim is at most 1.2 times its time",
+        over(TEXTS[:1], "1", "10", "100"),
+    ),
 }
