@@ -65,7 +65,7 @@ from_place_up_to content i high inside = ap (λ n. drop i (take n content)) (ome
 
 -- ---- walks
 
-on_from : {Q N : Type 0} {m : Machine Q N} {seen : List Q} {n : N} {q : Q} {i : ℕ} {cs : List ℕ} {t : Outcome N} → IsForward m → Walk m seen n q i cs t → i ≤ t.end
+pub on_from : {Q N : Type 0} {m : Machine Q N} {seen : List Q} {n : N} {q : Q} {i : ℕ} {cs : List ℕ} {t : Outcome N} → IsForward m → Walk m seen n q i cs t → i ≤ t.end
 on_from forward (ended new is) = omega arith
 on_from forward (went rs r new is at w) = on_from forward w
 on_from forward (took {q = q} {i = i} r j new is w) = omega (arith, forward i j q r is, on_from forward w)

@@ -73,7 +73,7 @@ least_number P known (suc n) = elim (least_number P known n) [
 
 -- ---- lists of nodes
 
-contained : {Q : Type 0} → IsTold Q → (xs : List Q) (x : Q) → Contains xs x ⊎ IsNew xs x
+pub contained : {Q : Type 0} → IsTold Q → (xs : List Q) (x : Q) → Contains xs x ⊎ IsNew xs x
 contained told [] x = inr (none_seen x)
 contained told (y ∷ xs) x = elim (told y x) [
   | inl e ↦ inl (Contains-head xs y x e)
@@ -81,12 +81,12 @@ contained told (y ∷ xs) x = elim (told y x) [
 ]
 
 -- a list without one of its members
-record Without {Q : Type 0} (xs : List Q) (x : Q) : Type 0 where
-  rest : List Q
-  shorter : length xs ≡ length rest + 1
-  kept : (y : Q) → Contains xs y → (x ≡ y) ⊎ Contains rest y
+pub record Without {Q : Type 0} (xs : List Q) (x : Q) : Type 0 where
+  pub rest : List Q
+  pub shorter : length xs ≡ length rest + 1
+  pub kept : (y : Q) → Contains xs y → (x ≡ y) ⊎ Contains rest y
 
-without : {Q : Type 0} (xs : List Q) (x : Q) → Contains xs x → Without xs x
+pub without : {Q : Type 0} (xs : List Q) (x : Q) → Contains xs x → Without xs x
 without [] x c = absurd (none_seen x c)
 without (y ∷ xs) x c = elim (Contains-cases xs y x c) [
   | inl e ↦ record { rest = xs; shorter = omega arith; kept = λ z d. elim (Contains-cases xs y z d) [ inl e' ↦ inl (sym e ∙ e') | inr d' ↦ inr d' ] }

@@ -15,7 +15,7 @@ renoted_by same (ended {q = q} {i = i} new is) = ended new (same.moves i q ∙ i
 renoted_by same (went {n = n} {q = q} {i = i} rs r new is at w) = went rs r new (same.moves i q ∙ is) at (with_notes (sym (same.notes i q n)) (renoted_by same w))
 renoted_by same (took {q = q} {i = i} r j new is w) = took r j new (same.moves i q ∙ is) (renoted_by same w)
 
-noted_back : {Q N M : Type 0} {m : Machine Q N} {other : Machine Q M} {h : N → M} {seen : List Q} {n' : M} {q : Q} {i : ℕ} {cs : List ℕ} {u : Outcome M} (n : N) → HasNotes m other h
+pub noted_back : {Q N M : Type 0} {m : Machine Q N} {other : Machine Q M} {h : N → M} {seen : List Q} {n' : M} {q : Q} {i : ℕ} {cs : List ℕ} {u : Outcome M} (n : N) → HasNotes m other h
     → Walk other seen n' q i cs u → (t : Outcome N) × Walk m seen n q i cs t
 noted_back n same (ended {q = q} {i = i} new is) = (_, ended new (sym (same.moves i q) ∙ is))
 noted_back {m = m} n same (went {q = q} {i = i} rs r new is at w) = let on = noted_back (m.note i q n) same w in (on.0, went rs r new (sym (same.moves i q) ∙ is) at on.1)

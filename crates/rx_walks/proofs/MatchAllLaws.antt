@@ -1,11 +1,11 @@
 -- The list of matches where all are wanted.
-use Rattle.std.proofs.Common.{◌≡◌, ◌↔◌, ℕ, Bool, IsTrue, List, [], ◌∷◌, length, All, Option, Some, None, append_assoc, refl, sym, ap, subst}
+use Rattle.std.proofs.Common.{◌≡◌, ◌↔◌, ℕ, Bool, IsTrue, List, [], ◌∷◌, length, All, Option, Some, None, append_assoc, refl, sym, subst}
 use Rattle.std.specs.Str.{IsUtf8}
 use Rattle.std.specs.List.{last_or}
 use Rattle.std.proofs.lemmas.List.{append-nil}
 use Rattle.rx_walks.specs.Machines.{Outcome}
 use Rattle.rx_walks.specs.Looks.{Look}
-use Rattle.rx_walks.specs.Finds.{Search, from_place_on, PatternMatch, IsFind, IsFindAll, not_found, is_found, none_at_all}
+use Rattle.rx_walks.specs.Finds.{Search, from_place_on, PatternMatch, IsFind, IsFindAll, is_found, none_at_all}
 use Rattle.rx_walks.specs.Programs.{Program, Notes, fresh_notes, put_note}
 use Rattle.rx_walks.specs.ProgramFinds.{ProgramFinds, ProgramFindsAll, ProgramMatchesAll, IfStarts, haystack_of, holds_in, machine_of, start_node}
 use Rattle.rx_walks.specs.MatchesAll.{HasFirstMatchesAll, StandsWhole}

@@ -1,0 +1,92 @@
+-- Laws of nodes that lead, and of what is found by them.
+use Rattle.std.specs.Prelude.{◌≡◌, ℕ, ◌+◌, ◌≤◌, ◌⊎◌, ◌↔◌, Bool, false, IsTrue, List, [], ◌∷◌, map, Some, None, Contains}
+use Rattle.rx_walks.specs.Machines.{Machine, Outcome, IsForward, goes, reads}
+use Rattle.rx_walks.specs.Walks.{IsLeast}
+use Rattle.rx_walks.specs.Looks.{Look}
+use Rattle.rx_walks.specs.Finds.{Search, from_place_on, Counts}
+use Rattle.rx_walks.specs.Programs.{Node, Haystack, Program, Notes, fresh_notes, put_note}
+use Rattle.rx_walks.specs.ProgramFinds.{ProgramMatches, machine_of, start_node, first_by, haystack_of, holds_in}
+use Rattle.rx_walks.specs.Bytes.{Automaton, over_bytes}
+use Rattle.rx_walks.specs.Likenesses.{noted_by}
+use Rattle.rx_walks.specs.Laws.{Begins, IsTold, ReadsMembers}
+use Rattle.rx_walks.specs.Leading.{LeadsToMatch, Follows, LeadsBy}
+use Rattle.rx_walks.specs.Listings.{Listing}
+
+-- what is followed over nodes that lead is the least walk; where nothing is found, the node doesn't
+-- lead
+pub record FollowsLeast {Q N : Type 0} (m : Machine Q N) (n : N) (q : Q) (i : ℕ) : Type 0 where
+  pub least : (t : Outcome N) → Follows m i [] ((n, q) ∷ []) (Some t) ↔ IsLeast m [] n q i t
+  pub leads_not : Follows m i [] ((n, q) ∷ []) None ↔ (LeadsToMatch m q i → ⊥)
+
+-- there is something to do up to a last place and at listed nodes alone
+pub record IsFinite {Q N : Type 0} (m : Machine Q N) : Type 0 where
+  pub high : ℕ
+  pub nodes : List Q
+  pub still_or_there : (i : ℕ) (q : Q) → (m.move i q ≡ goes []) ⊎ ((i ≤ high) × Contains nodes q)
+
+-- it is known of each node whether it leads
+abbrev pub LeadsIsKnown : {Q N : Type 0} → Machine Q N → Type 0
+LeadsIsKnown {Q} {N} m = N → IsTold Q → IsForward m → IsFinite m → (q : Q) (i : ℕ)
+    → LeadsToMatch m q i ⊎ (LeadsToMatch m q i → ⊥)
+
+-- each read is of one place
+abbrev pub IsStepped : {Q N : Type 0} → Machine Q N → Type 0
+IsStepped {Q} m = (i j : ℕ) (q r : Q) → m.move i q ≡ reads r j → j ≡ i + 1
+
+-- the nodes that lead at a place are told by those that lead at the next
+abbrev pub LeadsIsToldBack : {Q N : Type 0} → Machine Q N → Type 0
+LeadsIsToldBack {Q} m = IsStepped m → (i : ℕ) (beyond : Q → Bool)
+    → ((r : Q) → IsTrue (beyond r) ↔ LeadsToMatch m r (i + 1))
+    → (q : Q) → LeadsBy m i (λ r. IsTrue (beyond r)) q ↔ LeadsToMatch m q i
+
+-- from each node the least walk is followed, or the node doesn't lead
+abbrev pub LeastIsFollowed : {Q N : Type 0} → Machine Q N → Type 0
+LeastIsFollowed {Q} {N} m = IsTold Q → IsForward m → IsFinite m → (n : N) (q : Q) (i : ℕ)
+    → FollowsLeast m n q i
+
+-- what is followed is the least walk in any machine
+abbrev pub FollowedIsLeast : {Q N : Type 0} → Machine Q N → Type 0
+FollowedIsLeast {Q} {N} m = IsTold Q → (n : N) (q : Q) (i : ℕ) (t : Outcome N)
+    → Follows m i [] ((n, q) ∷ []) (Some t) → IsLeast m [] n q i t
+
+-- a start counts exactly where one begins and the node leads
+abbrev pub StartsCountWhereTheyLead : {S : Type 0} → (S → ℕ → Bool) → (ℕ → Bool) → Program Look S
+    → Type 0
+StartsCountWhereTheyLead member is_word p = (s : Search) (q i : ℕ)
+    → ((t : Outcome Notes) × Counts (machine_of member is_word p s) fresh_notes s q i t)
+    ↔ (Begins s i × LeadsToMatch (machine_of member is_word p s) q i)
+
+-- a list made by nodes that lead is the list of matches; a find from a place on may begin at the
+-- places of the search from there
+abbrev pub begins_from : Search → ℕ → ℕ → Type 0
+begins_from s from i = Begins (from_place_on s from) i
+
+abbrev pub ListingsAreMatches : {S : Type 0} → (S → ℕ → Bool) → (ℕ → Bool) → Program Look S → Type 0
+ListingsAreMatches member is_word p = (s : Search) (q : ℕ) (ms : List (Outcome Notes))
+    → start_node p s.anchoring ≡ Some q
+    → Listing (machine_of member is_word p s) (begins_from s) fresh_notes q false s.start s.start ms
+    → ProgramMatches member is_word p s ms
+
+-- and there is such a list
+abbrev pub ListingsExist : {S : Type 0} → (S → ℕ → Bool) → (ℕ → Bool) → Program Look S → Type 0
+ListingsExist member is_word p = (s : Search) (q : ℕ) → (ms : List (Outcome Notes))
+    × Listing (machine_of member is_word p s) (begins_from s) fresh_notes q false s.start s.start ms
+
+-- a program's bytes are read one by one
+abbrev pub BytesAreStepped : {L S N : Type 0} → (ℕ → ℕ → N → N) → (ℕ → Automaton)
+    → List (Node L S) → Haystack L → Type 0
+BytesAreStepped put step nodes h = IsStepped (over_bytes put step nodes h)
+
+-- so is a list that is made over bytes; where machines keep something else of what is noted, it has
+-- what they keep of the matches
+abbrev pub ByteListingsAreMatches : {S N : Type 0} → (ℕ → ℕ → N → N) → (Notes → N)
+    → (S → ℕ → Bool) → (ℕ → Bool) → Program Look S → (ℕ → Automaton) → Type 0
+ByteListingsAreMatches {S} {N} put kept member is_word p step =
+    ReadsMembers (first_by member) step p.nodes
+    → ((slot i : ℕ) (n : Notes) → put slot i (kept n) ≡ kept (put_note slot i n))
+    → (s : Search) (q : ℕ) (ms : List (Outcome N)) → start_node p s.anchoring ≡ Some q
+    → Listing
+    (over_bytes put step p.nodes (haystack_of (holds_in is_word p.line_terminator s) s))
+    (begins_from s) (λ i. kept (fresh_notes i)) (q, 0) false s.start s.start ms
+    → (own : List (Outcome Notes)) × (map (noted_by kept) own ≡ ms)
+    × ProgramMatches member is_word p s own
