@@ -42,7 +42,7 @@ module _ {L S N : Type 0} (put : ℕ → ℕ → N → N) (first : S → List �
   one_of r r' zero e = same_some refl e
   one_of r r' (suc k) e = absurd (cc e)
 
-  went_is : (q i r k : ℕ) (rs : List ℕ) (b : Bool) (o : Option (Node L S)) → is_within h.low h.high i ≡ b → slice_get nodes q ≡ o → only_if b (by_character first h i o) ≡ goes rs → slice_get rs k ≡ Some r
+  pub went_is : (q i r k : ℕ) (rs : List ℕ) (b : Bool) (o : Option (Node L S)) → is_within h.low h.high i ≡ b → slice_get nodes q ≡ o → only_if b (by_character first h i o) ≡ goes rs → slice_get rs k ≡ Some r
       → Within h.low h.high i × Edge first nodes h q i r i
   went_is q i r k rs false o is at e got = absurd (cc (subst (λ z. slice_get z k ≡ Some r) (sym (same_open refl e)) got))
   went_is q i r k rs true None is at e got = absurd (cc (subst (λ z. slice_get z k ≡ Some r) (sym (same_open refl e)) got))

@@ -1,5 +1,5 @@
 -- Paths of a program, and those of the program turned round.
-use Rattle.std.proofs.Common.{◌≡◌, ℕ, zero, suc, ◌+◌, ◌-◌, ◌*◌, ◌≤◌, Bool, true, ◌==◌, List, [], ◌∷◌, ◌++◌, length, take, drop, reverse, Option, Some, slice_get, refl, sym, ap, subst, ◌∙◌, arith, inl, inr}
+use Rattle.std.proofs.Common.{◌≡◌, ℕ, zero, suc, ◌+◌, ◌-◌, ◌*◌, ◌<◌, ◌≤◌, Bool, true, ◌==◌, List, [], ◌∷◌, ◌++◌, length, take, drop, reverse, Option, Some, slice_get, refl, sym, ap, subst, ◌∙◌, arith, inl, inr}
 use Rattle.std.proofs.lemmas.Bool.{eqb-true, eq-eqb}
 use Rattle.std.specs.Char.{len_utf8}
 use Rattle.rx_walks.specs.Programs.{Node, match, pass, note, look, set, Haystack}
@@ -155,7 +155,7 @@ module _ {L S : Type 0} (member : S → ℕ → Bool) (nodes : List (Node L S)) 
     edge_unturned j' at_j within (by_set x k is read to) = by_reading j' x k at_j within node at leads (node_back is) read to
 
   -- a node of the program turned round, and the node that walks have come back to
-  data Came (x q : ℕ) : Type 0 where
+  pub data Came (x q : ℕ) : Type 0 where
     at_node : (node : Node L S) → x ≡ q → slice_get nodes q ≡ Some node → Came x q
     at_edge : (p : ℕ) (node : Node L S) → x ≡ n + p → slice_get nodes p ≡ Some node → leads_to q node ≡ true → Came x q
     at_start : (k : ℕ) → x ≡ 2 * n + k → slice_get patterns k ≡ Some q → Came x q
@@ -312,3 +312,73 @@ module _ {L S : Type 0} (member : S → ℕ → Bool) (nodes : List (Node L S)) 
       let which = those_are is_match 0 nodes one.1 one.0 one.2 in
       let some = some_match which.1 which.3 in
       (some.0, whole_from k s' e some.0 one.0 high (node_is one.0 which.0 which.1 (matching some.0) which.4 which.2 some.1) one.3)
+
+  -- ---- what the program turned round comes to
+
+  abbrev begin : ℕ
+  begin = back_start nodes patterns
+
+  -- edge by edge, the last one last
+  pub data CameBy (x i' : ℕ) : ℕ → ℕ → Type 0 where
+    came_here : CameBy x i' x i'
+    came_on : {y j' z k' : ℕ} → CameBy x i' y j' → Within (mirrored h).low (mirrored h).high j' → Edge (last_by member) (back_nodes nodes patterns) (mirrored h) y j' z k' → CameBy x i' z k'
+
+  pub leads_came : {q i t e : ℕ} → Forth q i t e → (i' : ℕ) → i' + i ≡ size → CameBy begin (size - e) q i'
+  leads_came (trail_end {q = q} {i = i} {p = t} within at) i' mirror =
+      let one = those_in is_match 0 nodes q (match t) at refl in
+      let place : size - i ≡ i' = omega (arith, mirror) in
+      let node : 0 + q ≡ q = omega arith in
+      subst (λ z. CameBy begin z q i') (sym place)
+      (came_on came_here (within_back i i' mirror within) (by_pass (those is_match 0 nodes) one.0 (start_at nodes patterns) (one.1 ∙ ap Some node)))
+  leads_came (trail_on {q = q} {i = i} {r = r} {j = j} within edge trail) i' mirror =
+      let there = here trail in
+      let from = leaves edge in
+      let node = first_node trail in
+      let way = those_in (leads_to r) n nodes q from.node from.at from.leads in
+      let at_j : size - j + j ≡ size = omega (arith, there.below, high_in) in
+      let inside = within_back j (size - j) at_j there in
+      came_on (came_on (leads_came trail (size - j) at_j) inside (by_pass (arrived nodes patterns r) way.0 (arrival_at nodes patterns r node.0 node.1) (in_first (those (leads_to r) n nodes) _ way.0 (n + q) way.1)))
+      inside (edge_turned i' (size - j) mirror at_j within there edge)
+
+  pub data Stands (e x i' : ℕ) : Type 0 where
+    at_begin : x ≡ begin → i' + e ≡ size → Stands e x i'
+    behind : (q j t : ℕ) → i' + j ≡ size → Came x q → Forth q j t e → Stands e x i'
+
+  came_stands : {e x i' : ℕ} → e ≤ size → CameBy begin (size - e) x i' → Within (mirrored h).low (mirrored h).high i' → Stands e x i'
+  came_stands {e = e} high came_here within = at_begin refl (omega (arith, high))
+  came_stands {e = e} {x = x} high (came_on {y = y} {j' = j'} {k' = k'} before inside edge) within = by_stands (came_stands high before inside)
+    where
+      at_match : (d : ℕ) → slice_get (those is_match 0 nodes) d ≡ Some x → k' + e ≡ size → Stands e x k'
+      at_match d got mirror =
+          let which = those_are is_match 0 nodes d x got in
+          let some = some_match which.1 which.3 in
+          let node : slice_get nodes x ≡ Some (matching some.0) = ap (slice_get nodes) (omega (arith, which.4)) ∙ which.2 ∙ ap Some some.1 in
+          behind x e some.0 mirror (at_node (matching some.0) refl node) (trail_end (within_forth e k' mirror within) node)
+
+      by_came : (q j t : ℕ) → j' + j ≡ size → Forth q j t e → Came y q → Stands e x k'
+      by_came q j t mirror trail (at_node node same at) =
+          let on = from_pass (arrived nodes patterns q) (subst (λ z. slice_get (back_nodes nodes patterns) z ≡ Some (passing (arrived nodes patterns q))) (sym same) (arrival_at nodes patterns q node at)) edge in
+          behind q j t (omega (arith, mirror, on.2)) (from_arrived x q on.0 on.1) trail
+      by_came q j t mirror trail (at_edge p node same at leads) =
+          let one = edge_unturned p q node at leads j' mirror (here trail) (subst (λ z. Edge (last_by member) (back_nodes nodes patterns) (mirrored h) z j' x k') same edge) in
+          let within_there = within_forth one.place k' one.mirror within in
+          behind p one.place t one.mirror (at_node node one.node_is at) (trail_on within_there (one.edge within_there) trail)
+      by_came q j t mirror trail (at_start k same at) =
+          absurd (no_edge k (subst (λ z. slice_get (back_nodes nodes patterns) z ≡ Some (matching k)) (sym same) (end_at nodes patterns k q at)) edge)
+
+      by_stands : Stands e y j' → Stands e x k'
+      by_stands (at_begin same mirror) =
+          let on = from_pass (those is_match 0 nodes) (subst (λ z. slice_get (back_nodes nodes patterns) z ≡ Some (passing (those is_match 0 nodes))) (sym same) (start_at nodes patterns)) edge in
+          at_match on.0 on.1 (omega (arith, mirror, on.2))
+      by_stands (behind q j t mirror came trail) = by_came q j t mirror trail came
+
+  pub came_leads : (q i e : ℕ) → q < n → e ≤ size → i ≤ size → Within h.low h.high i → CameBy begin (size - e) q (size - i) → (t : ℕ) × Forth q i t e
+  came_leads q i e below high in_content within came = by_stands (came_stands high came (within_back i (size - i) (omega (arith, in_content)) within))
+    where
+      by_stands : Stands e q (size - i) → (t : ℕ) × Forth q i t e
+      by_stands (at_begin same mirror) = absurd (omega (arith, same, below))
+      by_stands (behind q' j t mirror (at_node node same at) trail) =
+          let place : j ≡ i = omega (arith, mirror, in_content) in
+          (t, subst (λ z. Forth z i t e) (sym same) (subst (λ z. Forth q' z t e) place trail))
+      by_stands (behind q' j t mirror (at_edge p node same at leads) trail) = absurd (omega (arith, same, below))
+      by_stands (behind q' j t mirror (at_start k same at) trail) = absurd (omega (arith, same, below))

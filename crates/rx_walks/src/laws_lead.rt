@@ -1,11 +1,12 @@
 //! Laws of nodes that lead to a match. Each function does nothing: its contract is the law.
 
 ghost use Rattle.rx_walks.specs.LeadLaws.{FollowedIsLeast, LeadsIsKnown, LeastIsFollowed, StartsCountWhereTheyLead, ListingsAreMatches, ByteListingsAreMatches, ListingsExist, LeadsIsToldBack, BytesAreStepped};
+ghost use Rattle.rx_walks.specs.LeadBackLaws.{BytesComeAlike, ListsHoldReached, ListsTellLeads, ReverseTellsLeads};
 ghost use Rattle.rx_walks.specs.Machines.{Machine};
 ghost use Rattle.rx_walks.specs.Programs.{Node, Haystack, Program, Notes};
 ghost use Rattle.rx_walks.specs.Looks.{Look};
 ghost use Rattle.rx_walks.specs.Bytes.{Automaton};
-ghost use Rattle.std.specs.Prelude.{ℕ, Bool, List};
+ghost use Rattle.std.specs.Prelude.{ℕ, Bool, List, Option};
 
 /// It is known of each node at each place whether it leads to a match.
 pub fn leads_is_known<Q, N>()
@@ -56,4 +57,27 @@ pub fn listings_exist<S>()
 pub fn bytes_are_stepped<L, S, N>()
     ensures { (put : ℕ → ℕ → N → N) (step : ℕ → Automaton) (nodes : List (Node L S))
         (h : Haystack L) → BytesAreStepped put step nodes h }
+{}
+
+/// Which nodes lead is told by the program turned round, begun at every place.
+pub fn reverse_tells_leads<L, S, N>()
+    ensures { (put : ℕ → ℕ → N → N) (member : S → ℕ → Bool) (p : Program L S) (h : Haystack L)
+        → ReverseTellsLeads put member p h }
+{}
+
+/// The threads of a search stand at all nodes that walks come to, where one starts at every place.
+pub fn lists_hold_reached<Q, N>()
+    ensures { (m : Machine Q N) → ListsHoldReached m }
+{}
+
+/// A program's bytes come to the nodes to which its characters come.
+pub fn bytes_come_alike<L, S, N>()
+    ensures { (put : ℕ → ℕ → N → N) (first : S → List ℕ → Option ℕ) (step : ℕ → Automaton)
+        (nodes : List (Node L S)) (h : Haystack L) → BytesComeAlike put first step nodes h }
+{}
+
+/// The threads of the search through the program turned round tell which nodes lead.
+pub fn lists_tell_leads<L, S, N>()
+    ensures { (put : ℕ → ℕ → N → N) (member : S → ℕ → Bool) (step : ℕ → Automaton)
+        (p : Program L S) (h : Haystack L) → ListsTellLeads put member step p h }
 {}

@@ -1,0 +1,72 @@
+-- Laws of nodes that lead, told by the program turned round.
+use Rattle.std.specs.Prelude.{◌≡◌, ℕ, ◌+◌, ◌-◌, ◌<◌, ◌≤◌, ◌↔◌, Bool, List, [], ◌∷◌, ◌++◌, length, Option, Some}
+use Rattle.rx_walks.specs.Machines.{Machine}
+use Rattle.rx_walks.specs.Programs.{Node, Program, Haystack, over_characters}
+use Rattle.rx_walks.specs.ProgramFinds.{first_by}
+use Rattle.rx_walks.specs.Bytes.{Automaton, over_bytes}
+use Rattle.rx_walks.specs.Laws.{ReadsMembers}
+use Rattle.rx_walks.specs.StepsAll.{StepsAll}
+use Rattle.rx_walks.specs.Transposed.{NeverReturns}
+use Rattle.rx_walks.specs.Reversed.{mirrored, last_by, back_program}
+use Rattle.rx_walks.specs.Leading.{LeadsToMatch}
+use Rattle.rx_walks.specs.LeadLaws.{IsStepped}
+use Rattle.rx_walks.specs.Reached.{Comes, Reached, ReadTo, Closes, StandsAt}
+
+-- a node leads at a place exactly where the program turned round comes to that node there, from its
+-- start at some place
+abbrev pub ReverseTellsLeads : {L S N : Type 0} → (ℕ → ℕ → N → N) → (S → ℕ → Bool) → Program L S
+    → Haystack L → Type 0
+ReverseTellsLeads put member p h = h.low ≤ length h.content → h.high ≤ length h.content
+    → (q i : ℕ) → q < length p.nodes → h.low ≤ i → i ≤ h.high
+    → LeadsToMatch (over_characters put (first_by member) p.nodes h) q i
+    ↔ ((e : ℕ) × (e ≤ length h.content)
+    × Comes (over_characters put (last_by member) (back_program p).nodes (mirrored h))
+    (back_program p).start (length h.content - e) q (length h.content - i))
+
+-- the threads at a place stand at the nodes that reads come to; then so they do at the next place,
+-- and the nodes reached here are those that empty edges lead to
+abbrev pub ListsHoldReached : {Q N : Type 0} → Machine Q N → Type 0
+ListsHoldReached {Q} m = IsStepped m → (start : Q) (i : ℕ) (live next : List (ℕ × Q))
+    (ms : List (ℕ × ℕ)) → ((q : Q) → StandsAt live q ↔ ReadTo m start i q)
+    → StepsAll m i [] (live ++ (i, start) ∷ []) next ms
+    → ((q : Q) → StandsAt next q ↔ ReadTo m start (i + 1) q)
+    × ((q : Q) → Reached m start i q ↔ Closes m i (StandsAt (live ++ (i, start) ∷ [])) q)
+
+-- no byte leads to the first state of a node's automaton
+abbrev pub NoneReturns : (ℕ → Automaton) → Type 0
+NoneReturns step = (q : ℕ) → NeverReturns (step q)
+
+-- then a program's bytes come to the nodes to which its characters come
+abbrev pub BytesComeAlike : {L S N : Type 0} → (ℕ → ℕ → N → N) → (S → List ℕ → Option ℕ)
+    → (ℕ → Automaton) → List (Node L S) → Haystack L → Type 0
+BytesComeAlike put first step nodes h = ReadsMembers first step nodes → NoneReturns step
+    → (x i z j : ℕ) → Comes (over_characters put first nodes h) x i z j
+    ↔ Comes (over_bytes put step nodes h) (x, 0) i (z, 0) j
+
+-- the machine that reads a content's bytes back, from its end
+abbrev pub back_machine : {L S N : Type 0} → (ℕ → ℕ → N → N) → (ℕ → Automaton) → Program L S
+    → Haystack L → Machine (ℕ × ℕ) N
+back_machine put step p h = over_bytes put step (back_program p).nodes (mirrored h)
+
+abbrev pub back_start_of : {L S : Type 0} → Program L S → ℕ × ℕ
+back_start_of p = ((back_program p).start, 0)
+
+-- it reads nothing up to its first place, so that there are no threads there; and where its threads
+-- stand at the nodes that reads come to, the nodes that lead are those that empty edges lead to
+pub record TellsLeads {L S N : Type 0} (put : ℕ → ℕ → N → N) (member : S → ℕ → Bool)
+    (step : ℕ → Automaton) (p : Program L S) (h : Haystack L) : Type 0 where
+  pub none_at_first : (q : ℕ × ℕ)
+      → ReadTo (back_machine put step p h) (back_start_of p) (length h.content - h.high) q → ⊥
+  pub leads : (i : ℕ) → h.low ≤ i → i ≤ h.high → (live : List (ℕ × (ℕ × ℕ)))
+      → ((q : ℕ × ℕ) → StandsAt live q
+      ↔ ReadTo (back_machine put step p h) (back_start_of p) (length h.content - i) q)
+      → (q : ℕ) → q < length p.nodes
+      → LeadsToMatch (over_characters put (first_by member) p.nodes h) q i
+      ↔ Closes (back_machine put step p h) (length h.content - i)
+      (StandsAt (live ++ (length h.content - i, back_start_of p) ∷ [])) (q, 0)
+
+abbrev pub ListsTellLeads : {L S N : Type 0} → (ℕ → ℕ → N → N) → (S → ℕ → Bool)
+    → (ℕ → Automaton) → Program L S → Haystack L → Type 0
+ListsTellLeads put member step p h = h.low ≤ length h.content → h.high ≤ length h.content
+    → ReadsMembers (last_by member) step (back_program p).nodes → NoneReturns step
+    → TellsLeads put member step p h
