@@ -118,8 +118,8 @@ impl Builder {
     }
 }
 
-/// An engine that searches for a pattern, or for several. Contracts see their program, their
-/// groups, and whether it passes over empty matches inside a character.
+/// An engine that searches for a pattern, or for several. Contracts see their program, those of
+/// their groups that are noted, and whether it passes over empty matches inside a character.
 #[derive(Debug, Drop)]
 pub struct PikeVM {
     compiled: Compiled,
@@ -200,6 +200,15 @@ impl PikeVM {
         ensures engine { IsEngine self.now }
     {
         self.compiled.program()
+    }
+
+    /// Returns how many groups its patterns have together, the whole match of each among them,
+    /// whether they are noted or not. `O(1)`.
+    pub fn captures_len(&self) -> usize
+        ensures len { result ≡ self.now.captures_len }
+        ensures engine { IsEngine self.now }
+    {
+        self.compiled.captures_len()
     }
 
     /// Returns whether empty matches inside a character are passed over, for these engines too.

@@ -3,6 +3,10 @@ use Rattle.std.proofs.Common.{◌≡◌, ℕ, zero, suc, ◌*◌, ◌<◌, ◌�
 use Rattle.std.proofs.lemmas.List.{length-replicate}
 use Rattle.std.proofs.lemmas.Option.{none-some}
 use Rattle.rx_sets.specs.Sets.{Range}
+use Rattle.rx_util.specs.declared.search.MatchKind.{MatchKind}
+use Rattle.rx_util.specs.declared.search.MatchKind.TheVariants.{LeftmostFirst}
+use Rattle.rx_util.specs.declared.captures.WhichCaptures.{WhichCaptures}
+use Rattle.rx_util.specs.declared.captures.WhichCaptures.TheVariants as which
 use Rattle.rx_util.specs.Groups.{Groups, slot_len}
 use Rattle.rx_util.specs.Captured.{Captured, nothing_noted}
 use Rattle.rx_grammar.specs.declared.error.SyntaxError.{SyntaxError}
@@ -18,7 +22,7 @@ use Rattle.rx_program.specs.declared.error.BuildError.TheVariants as build
 use Rattle.rx_program.specs.Code.{program_of}
 use Rattle.rx_program.specs.Programs.{ByteProgram, characters_of}
 use Rattle.rx_program.specs.Sizes.{IsTooLarge, told_limit, weight_of_all}
-use Rattle.rx_engine.specs.Engines.{AreGroupsOf, AreRefused, Engine, EngineSettings, IsBuiltOf, IsBuiltOfAll, IsBuiltOfTrees, IsOfTrees, IsRefused, IsRefusedAt, IsRefusedOfAll, IsRefusedText, Spell, Wanted, by_first_text, by_text, by_weight, by_weight_of_all, memory, memory_there, no_memory, nesting, outside, refusal_of, size_limit_of, text_there, too_large, too_long, want_of_memory}
+use Rattle.rx_engine.specs.Engines.{AreNotedOf, AreRefused, Engine, EngineSettings, IsBuiltOf, IsBuiltOfAll, IsBuiltOfTrees, IsOfTrees, IsRefused, IsRefusedAt, IsRefusedOfAll, IsRefusedText, Spell, Wanted, by_first_text, by_text, by_weight, by_weight_of_all, memory, captures_len_of, memory_there, no_memory, nesting, outside, refusal_of, size_limit_of, text_there, too_large, too_long, want_of_memory}
 
 -- ---- why texts are refused
 
@@ -101,22 +105,44 @@ terminator_of p [] terminator is = ap (λ (q : Program walks.Look (List Range)).
 terminator_of p (tree ∷ []) terminator is = ap (λ (q : Program walks.Look (List Range)). q.line_terminator) is
 terminator_of p (tree ∷ other ∷ trees) terminator is = ap (λ (q : Program walks.Look (List Range)). q.line_terminator) is
 
-abbrev pub engine_of : ByteProgram → Groups → Bool → Engine
-engine_of p groups utf8_empty = record { program = p; groups = groups; utf8_empty = utf8_empty }
+-- an engine without its program
+pub record Beside : Type 0 where
+  pub match_kind : MatchKind
+  pub groups : Groups
+  pub which_captures : WhichCaptures
+  pub captures_len : ℕ
+  pub utf8_empty : Bool
 
-pub of_trees : (p : ByteProgram) (groups : Groups) (utf8_empty : Bool) (trees : List Tree) (terminator : ℕ) → All IsWellFormed trees → characters_of p ≡ program_of trees terminator → AreGroupsOf trees groups
-    → IsOfTrees (engine_of p groups utf8_empty) trees
-of_trees p groups utf8_empty trees terminator formed is are =
-    record { well_formed = formed; program = is ∙ ap (λ t. program_of trees t) (sym (terminator_of p trees terminator is)); groups = are }
+abbrev pub engine_of : ByteProgram → Beside → Engine
+engine_of p b =
+    record { program = p; match_kind = b.match_kind; groups = b.groups; which_captures = b.which_captures; captures_len = b.captures_len; utf8_empty = b.utf8_empty }
 
-pub built : (settings : EngineSettings) (p : ByteProgram) (groups : Groups) (utf8_empty : Bool) (trees : List Tree) (terminator : ℕ) → All IsWellFormed trees
-    → (IsTooLarge (size_limit_of settings) (weight_of_all trees) → ⊥) → characters_of p ≡ program_of trees terminator → AreGroupsOf trees groups
-    → terminator ≡ unwrap_or settings.line_terminator 10 → utf8_empty ≡ unwrap_or settings.utf8_empty true → IsBuiltOfTrees trees settings (engine_of p groups utf8_empty)
-built settings p groups utf8_empty trees terminator formed fits is are set set' = record {
+-- its groups are those of trees
+pub record AreOfTrees (trees : List Tree) (b : Beside) : Type 0 where
+  pub well_formed : All IsWellFormed trees
+  pub groups : AreNotedOf b.which_captures trees b.groups
+  pub captures_len : b.captures_len ≡ captures_len_of trees
+
+-- and it is as it was set
+pub record IsAsSet (settings : EngineSettings) (b : Beside) : Type 0 where
+  pub match_kind : b.match_kind ≡ unwrap_or settings.match_kind LeftmostFirst
+  pub utf8_empty : b.utf8_empty ≡ unwrap_or settings.utf8_empty true
+  pub which_captures : b.which_captures ≡ unwrap_or settings.which_captures which.All
+
+pub of_trees : (p : ByteProgram) (b : Beside) (trees : List Tree) (terminator : ℕ) → AreOfTrees trees b → characters_of p ≡ program_of trees terminator → IsOfTrees (engine_of p b) trees
+of_trees p b trees terminator are is =
+    record { well_formed = are.well_formed; program = is ∙ ap (λ t. program_of trees t) (sym (terminator_of p trees terminator is)); groups = are.groups; captures_len = are.captures_len }
+
+pub built : (settings : EngineSettings) (p : ByteProgram) (b : Beside) (trees : List Tree) (terminator : ℕ) → AreOfTrees trees b → IsAsSet settings b
+    → (IsTooLarge (size_limit_of settings) (weight_of_all trees) → ⊥) → characters_of p ≡ program_of trees terminator
+    → terminator ≡ unwrap_or settings.line_terminator 10 → IsBuiltOfTrees trees settings (engine_of p b)
+built settings p b trees terminator are as_set fits is set = record {
   fits = fits;
-  of_trees = of_trees p groups utf8_empty trees terminator formed is are;
+  of_trees = of_trees p b trees terminator are is;
+  match_kind = as_set.match_kind;
   line_terminator = terminator_of p trees terminator is ∙ set;
-  utf8_empty = set';
+  utf8_empty = as_set.utf8_empty;
+  which_captures = as_set.which_captures;
 }
 
 pub room_for_matches : (e : Engine) (caps : Captured) → caps ≡ nothing_noted e.groups (slot_len e.groups) → 2 * length e.groups ≤ length caps.slots

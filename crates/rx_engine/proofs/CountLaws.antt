@@ -7,7 +7,7 @@ use Rattle.rx_grammar.specs.Trees.{Tree}
 use Rattle.rx_grammar.specs.Weights.{size_of}
 use Rattle.rx_program.specs.Code.{pattern_starts, program_of}
 use Rattle.rx_engine.specs.Engines.{Engine, IsEngine}
-use Rattle.rx_engine.proofs.GroupLaws.{group_count}
+use Rattle.rx_engine.proofs.GroupLaws.{noted_count}
 
 start_count : (trees : List Tree) (at : ℕ) → length (pattern_starts trees at) ≡ length trees
 start_count [] at = refl
@@ -21,4 +21,4 @@ pattern_count (tree ∷ other ∷ trees) terminator = start_count (tree ∷ othe
 -- the groups are those of as many patterns as the program has
 pub as_many : (e : Engine) → IsEngine e → length e.program.patterns ≡ length e.groups
 as_many e of_trees =
-    ap (λ (q : Program walks.Look (List Range)). length q.patterns) of_trees.1.program ∙ pattern_count of_trees.0 e.program.line_terminator ∙ sym (group_count of_trees.0 e.groups of_trees.1.groups)
+    ap (λ (q : Program walks.Look (List Range)). length q.patterns) of_trees.1.program ∙ pattern_count of_trees.0 e.program.line_terminator ∙ sym (noted_count of_trees.0 e.groups e.which_captures of_trees.1.groups)

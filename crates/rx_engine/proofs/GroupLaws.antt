@@ -5,6 +5,7 @@ use Rattle.std.proofs.lemmas.Bool.Decides.{Decides-eqb}
 use Rattle.std.proofs.Math.Seq.{take-suc}
 use Rattle.std.proofs.lemmas.List.{map-append, take-append-drop, take_all, length-set, length-replicate, get_or-replicate, get_or-set_same, get_or-set_other, length-map, map-set}
 use Rattle.std.proofs.lemmas.List.Concat.{flat_map-append}
+use Rattle.std.proofs.lemmas.List.Sums.{sum_by_push}
 use Rattle.std.proofs.lemmas.List.Elements.{All-head, All-tail, Contains-append_left, Contains-append_right, Contains-append_cases}
 use Rattle.std.proofs.lemmas.Option.{none-some, slice_get_within, slice_get-get_or}
 use Rattle.std.specs.Prelude.{String, string_bytes, option_map}
@@ -14,7 +15,9 @@ use Rattle.rx_grammar.specs.Subtrees.{NodeKind, a_group, root_of, subtrees_of, a
 use Rattle.rx_grammar.specs.declared.hir.Node.{Node}
 use Rattle.rx_grammar.specs.Nodes.{kind_of}
 use Rattle.rx_grammar.specs.Postorder.{own_names, names_in}
-use Rattle.rx_engine.specs.Engines.{AreNamesOf, AreGroupsOf}
+use Rattle.rx_util.specs.declared.captures.WhichCaptures.{WhichCaptures}
+use Rattle.rx_util.specs.declared.captures.WhichCaptures.TheVariants as notes
+use Rattle.rx_engine.specs.Engines.{AreNamesOf, AreGroupsOf, AreNotedOf, captures_len_of}
 
 -- ---- names
 
@@ -447,6 +450,16 @@ pub group_count : (trees : List Tree) (groups : Groups) → AreGroupsOf trees gr
 group_count [] groups are = ap length are
 group_count (tree ∷ trees) [] are = absurd are
 group_count (tree ∷ trees) (names ∷ groups) are = ap suc (group_count trees groups are.1)
+
+-- and as many are noted
+pub noted_count : (trees : List Tree) (groups : Groups) (which : WhichCaptures) → AreNotedOf which trees groups → length groups ≡ length trees
+noted_count trees groups notes.All are = ap length are.noted ∙ group_count trees are.all_groups are.are_groups
+noted_count trees groups notes.Implicit are = ap length are.noted ∙ length-replicate (length are.all_groups) [] ∙ group_count trees are.all_groups are.are_groups
+noted_count trees groups notes.None are = ap length are.noted ∙ length-replicate (length are.all_groups) [] ∙ group_count trees are.all_groups are.are_groups
+
+-- how many groups there are with those of one tree more
+pub one_more_counted : (trees : List Tree) (tree : Tree) → captures_len_of (trees ++ tree ∷ []) ≡ captures_len_of trees + (length (numbers_of tree) + 1)
+one_more_counted trees tree = sum_by_push (λ x. length (numbers_of x) + 1) trees tree
 
 -- ---- as many as were gone through
 

@@ -1,9 +1,12 @@
 -- What an engine holds of patterns, and of what that was built.
-use Rattle.std.specs.Prelude.{◌≡◌, ◌↔◌, ◌<◌, ◌≤◌, ℕ, ◌+◌, Bool, true, List, [], ◌∷◌, All, length, take, Option, Some, None, slice_get, unwrap_or}
+use Rattle.std.specs.Prelude.{◌≡◌, ◌↔◌, ◌<◌, ◌≤◌, ℕ, ◌+◌, Bool, true, List, [], ◌∷◌, All, length, take, sum_by, Option, Some, None, slice_get, unwrap_or}
 use Rattle.std.specs.Option.{option_or}
 use Rattle.std.specs.Str.{chars}
 use Rattle.rx_util.specs.declared.search.MatchKind.{MatchKind}
-use Rattle.rx_util.specs.Groups.{Groups, Name}
+use Rattle.rx_util.specs.declared.search.MatchKind.TheVariants.{LeftmostFirst}
+use Rattle.rx_util.specs.declared.captures.WhichCaptures.{WhichCaptures}
+use Rattle.rx_util.specs.declared.captures.WhichCaptures.TheVariants as which
+use Rattle.rx_util.specs.Groups.{Groups, Name, noted_groups}
 use Rattle.rx_grammar.specs.declared.error.SyntaxError.{SyntaxError}
 use Rattle.rx_grammar.specs.declared.error.SyntaxError.TheVariants as errors
 use Rattle.rx_grammar.specs.Trees.{Tree, numbers_of}
@@ -16,10 +19,15 @@ use Rattle.rx_program.specs.Code.{program_of}
 use Rattle.rx_program.specs.Programs.{ByteProgram, characters_of}
 use Rattle.rx_program.specs.Sizes.{IsTooLarge, told_limit, weight_of_all}
 
--- a program, the groups of its patterns, and whether it passes over empty matches inside a character
+-- a program, which match is found, the groups of its patterns that are noted, which ones these are,
+-- how many there are with those that aren't, and whether it passes over empty matches inside a
+-- character
 pub record Engine : Type 0 where
   pub program : ByteProgram
+  pub match_kind : MatchKind
   pub groups : Groups
+  pub which_captures : WhichCaptures
+  pub captures_len : ℕ
   pub utf8_empty : Bool
 
 -- settings that were set; the others are the defaults
@@ -29,6 +37,7 @@ pub record EngineSettings : Type 0 where
   pub line_terminator : Option ℕ
   -- how many bytes of upstream's measure a program may take; or without a limit
   pub nfa_size_limit : Option (Option ℕ)
+  pub which_captures : Option WhichCaptures
 
 abbrev pub nothing_set : EngineSettings
 nothing_set = record {
@@ -36,6 +45,7 @@ nothing_set = record {
   utf8_empty = None;
   line_terminator = None;
   nfa_size_limit = None;
+  which_captures = None;
 }
 
 -- the limit that was set; without one a program may weigh as much as numbers of states allow
@@ -49,6 +59,7 @@ settings_over new old = record {
   utf8_empty = option_or new.utf8_empty old.utf8_empty;
   line_terminator = option_or new.line_terminator old.line_terminator;
   nfa_size_limit = option_or new.nfa_size_limit old.nfa_size_limit;
+  which_captures = option_or new.which_captures old.which_captures;
 }
 
 -- what a builder was given: the engine's settings, and those of the syntax
@@ -72,11 +83,22 @@ AreGroupsOf [] groups = groups ≡ []
 AreGroupsOf (tree ∷ trees) [] = ⊥
 AreGroupsOf (tree ∷ trees) (names ∷ groups) = AreNamesOf tree names × AreGroupsOf trees groups
 
+-- those of them that are noted: all, or the groups 0 alone
+pub record AreNotedOf (which : WhichCaptures) (trees : List Tree) (groups : Groups) : Type 0 where
+  pub all_groups : Groups
+  pub are_groups : AreGroupsOf trees all_groups
+  pub noted : groups ≡ noted_groups which all_groups
+
+-- how many groups trees have together, the whole match of each among them
+abbrev pub captures_len_of : List Tree → ℕ
+captures_len_of trees = sum_by (λ tree. length (numbers_of tree) + 1) trees
+
 -- the program and the groups of an engine are those of trees, which are such as texts may spell
 pub record IsOfTrees (e : Engine) (trees : List Tree) : Type 0 where
   pub well_formed : All IsWellFormed trees
   pub program : characters_of e.program ≡ program_of trees e.program.line_terminator
-  pub groups : AreGroupsOf trees e.groups
+  pub groups : AreNotedOf e.which_captures trees e.groups
+  pub captures_len : e.captures_len ≡ captures_len_of trees
 
 abbrev pub IsEngine : Engine → Type 0
 IsEngine e = (trees : List Tree) × IsOfTrees e trees
@@ -86,8 +108,10 @@ pub record IsBuiltOfTrees (trees : List Tree) (settings : EngineSettings) (e : E
     : Type 0 where
   pub fits : IsTooLarge (size_limit_of settings) (weight_of_all trees) → ⊥
   pub of_trees : IsOfTrees e trees
+  pub match_kind : e.match_kind ≡ unwrap_or settings.match_kind LeftmostFirst
   pub line_terminator : e.program.line_terminator ≡ unwrap_or settings.line_terminator 10
   pub utf8_empty : e.utf8_empty ≡ unwrap_or settings.utf8_empty true
+  pub which_captures : e.which_captures ≡ unwrap_or settings.which_captures which.All
 
 -- it was built of a pattern: of the tree that the pattern spells
 pub record IsBuiltOf (text : List ℕ) (wanted : Wanted) (e : Engine) : Type 0 where

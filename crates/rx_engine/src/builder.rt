@@ -10,7 +10,7 @@ ghost use Rattle.rx_engine.specs.Engines.{AreRefused, EngineSettings, IsBuiltOf,
 
 use crate::compiled::Compiled;
 use crate::config::Config;
-use crate::groups::groups_of;
+use crate::groups::{count_groups, groups_of};
 use rx_grammar::{Hir, SyntaxError, parse, syntax};
 use rx_program::{BuildError, Program, compile};
 use rx_util::{MatchError, PatternID};
@@ -127,13 +127,20 @@ impl Builder {
         ensures refused { IfErr result (λ error. AreRefused
             (map (λ hir. tree_of hir.now) hirs.now) self.now.settings error) }
     {
-        let groups = groups_of(alloc, hirs)?;
+        let which_captures = self.config.get_which_captures();
+        let groups = groups_of(alloc, hirs, which_captures)?;
+        let Some(captures_len) = count_groups(hirs) else {
+            return Err(BuildError::Memory);
+        };
         let terminator = self.config.get_line_terminator();
         let limit = self.config.get_nfa_size_limit();
         let program = compile(alloc, hirs, terminator, limit)?;
         Ok(Compiled {
             program: shared(alloc, program)?,
+            match_kind: self.config.get_match_kind(),
             groups,
+            which_captures,
+            captures_len,
             utf8_empty: self.config.get_utf8_empty(),
         })
     }

@@ -8,17 +8,21 @@ ghost use Rattle.rx_engine.specs.Engines.{IsBuiltOf, IsBuiltOfAll, IsEngine, IsR
 
 use crate::builder::Builder;
 use rx_program::{BuildError, Program};
-use rx_util::{Captures, GroupInfo, MatchError};
+use rx_util::{Captures, GroupInfo, MatchError, MatchKind, WhichCaptures};
 use std::alloc::Global;
 use std::marker::Model;
 use std::rc::Rc;
 
-/// Patterns as engines hold them. Contracts see their program, their groups, and whether empty
-/// matches inside a character are passed over.
+/// Patterns as engines hold them. Contracts see their program, which match is found, those of their
+/// groups that are noted, which ones these are, how many groups there are with the others, and
+/// whether empty matches inside a character are passed over.
 #[derive(Debug, Drop)]
 pub struct Compiled {
     pub(crate) program: Rc<Program>,
+    pub(crate) match_kind: MatchKind,
     pub(crate) groups: GroupInfo,
+    pub(crate) which_captures: WhichCaptures,
+    pub(crate) captures_len: usize,
     pub(crate) utf8_empty: bool,
 }
 
@@ -29,13 +33,19 @@ impl Model for Compiled {
 
     ghost view = { λ c. record {
       program = c.program.value;
+      match_kind = c.match_kind;
       groups = c.groups;
+      which_captures = c.which_captures;
+      captures_len = c.captures_len;
       utf8_empty = c.utf8_empty;
     } };
 
     ghost invariant = { λ c. IsEngine (record {
       program = c.program.value;
+      match_kind = c.match_kind;
       groups = c.groups;
+      which_captures = c.which_captures;
+      captures_len = c.captures_len;
       utf8_empty = c.utf8_empty;
     }) };
 }
@@ -68,7 +78,10 @@ impl Compiled {
     {
         Ok(Compiled {
             program: self.program.clone()?,
+            match_kind: self.match_kind,
             groups: self.groups.clone()?,
+            which_captures: self.which_captures,
+            captures_len: self.captures_len,
             utf8_empty: self.utf8_empty,
         })
     }
@@ -81,13 +94,29 @@ impl Compiled {
         &self.program
     }
 
-    /// Returns the groups. `O(1)`.
+    /// Returns which of all matches a search finds. `O(1)`.
+    pub fn match_kind(&self) -> MatchKind
+        ensures { result ≡ self.now.match_kind }
+    {
+        self.match_kind
+    }
+
+    /// Returns the groups that are noted. `O(1)`.
     pub fn group_info(&self) -> &GroupInfo
         ensures groups { result.now ≡ self.now.groups }
         ensures engine { IsEngine self.now }
         ensures patterns { length self.now.program.patterns ≡ length self.now.groups }
     {
         &self.groups
+    }
+
+    /// Returns how many groups the patterns have together, the whole match of each among them,
+    /// whether they are noted or not. `O(1)`.
+    pub fn captures_len(&self) -> usize
+        ensures len { result ≡ self.now.captures_len }
+        ensures engine { IsEngine self.now }
+    {
+        self.captures_len
     }
 
     /// Returns whether empty matches inside a character are passed over.
@@ -97,8 +126,8 @@ impl Compiled {
         self.utf8_empty
     }
 
-    /// Returns captures with slots for all groups, in which nothing is noted. The one error is
-    /// `Memory`. `O(n)` in the number of groups.
+    /// Returns captures with slots for all groups that are noted, in which nothing is noted yet.
+    /// The one error is `Memory`. `O(n)` in the number of groups.
     pub fn create_captures(&self) -> Result<Captures, MatchError>
         ensures made { IfOk result (λ caps. caps
             ≡ nothing_noted self.now.groups (slot_len self.now.groups)) }

@@ -3,9 +3,10 @@
 ghost use Rattle.std.specs.Prelude.{◌≡◌, IfErr, IfOk, Some, unwrap_or, true};
 ghost use Rattle.rx_util.specs.declared.search.MatchError.{MatchError};
 ghost use Rattle.rx_util.specs.declared.search.MatchKind.{MatchKind};
+ghost use Rattle.rx_util.specs.declared.captures.WhichCaptures.{WhichCaptures};
 ghost use Rattle.rx_engine.specs.Engines.{nothing_set, settings_over, size_limit_of};
 
-use rx_util::{MatchError, MatchKind};
+use rx_util::{MatchError, MatchKind, WhichCaptures};
 use std::marker::Model;
 
 /// Settings of an engine. One that wasn't set is the default.
@@ -15,6 +16,7 @@ pub struct Config {
     utf8_empty: Option<bool>,
     line_terminator: Option<u8>,
     nfa_size_limit: Option<Option<usize>>,
+    which_captures: Option<WhichCaptures>,
 }
 
 impl Model for Config {
@@ -27,6 +29,7 @@ impl Model for Config {
       utf8_empty = c.utf8_empty;
       line_terminator = c.line_terminator;
       nfa_size_limit = c.nfa_size_limit;
+      which_captures = c.which_captures;
     } };
 
     ghost inverse = { λ s. record {
@@ -34,6 +37,7 @@ impl Model for Config {
       utf8_empty = s.utf8_empty;
       line_terminator = s.line_terminator;
       nfa_size_limit = s.nfa_size_limit;
+      which_captures = s.which_captures;
     } };
 }
 
@@ -47,6 +51,7 @@ impl Config {
             utf8_empty: None,
             line_terminator: None,
             nfa_size_limit: None,
+            which_captures: None,
         }
     }
 
@@ -60,6 +65,7 @@ impl Config {
             utf8_empty: self.utf8_empty,
             line_terminator: self.line_terminator,
             nfa_size_limit: self.nfa_size_limit,
+            which_captures: self.which_captures,
         })
     }
 
@@ -97,6 +103,17 @@ impl Config {
         self
     }
 
+    /// Sets which groups are noted: those of the engine, and so of captures, are then all groups of
+    /// its patterns, or under `Implicit` and `None` alike group 0 of each alone. A pattern weighs
+    /// the same. A search notes places in as many slots as it is given: what stands in those behind
+    /// the slots of the engine's groups has no meaning.
+    pub fn which_captures(mut self, which: WhichCaptures) -> Config
+        ensures { result ≡ record self { which_captures = Some which } }
+    {
+        self.which_captures = Some(which);
+        self
+    }
+
     /// Returns which of all matches a search finds: by default the leftmost one.
     pub fn get_match_kind(&self) -> MatchKind
         ensures { result ≡ unwrap_or self.now.match_kind MatchKind.LeftmostFirst }
@@ -125,6 +142,13 @@ impl Config {
         self.nfa_size_limit.unwrap_or(None)
     }
 
+    /// Returns which groups are noted: by default all.
+    pub fn get_which_captures(&self) -> WhichCaptures
+        ensures { result ≡ unwrap_or self.now.which_captures WhichCaptures.All }
+    {
+        self.which_captures.unwrap_or(WhichCaptures::All)
+    }
+
     /// These settings, and where one isn't set that of the others.
     pub(crate) fn or(&self, others: &Config) -> Config
         ensures { result ≡ settings_over self.now others.now }
@@ -134,6 +158,7 @@ impl Config {
             utf8_empty: self.utf8_empty.or(others.utf8_empty),
             line_terminator: self.line_terminator.or(others.line_terminator),
             nfa_size_limit: self.nfa_size_limit.or(others.nfa_size_limit),
+            which_captures: self.which_captures.or(others.which_captures),
         }
     }
 }

@@ -1,14 +1,14 @@
 //! The groups of patterns, and their names.
 
-ghost use Rattle.std.specs.Prelude.{◌≡◌, ◌<◌, All, IfOk, OnOk, None, Some, MatchOption, [], map, replicate, set, vec_len};
-ghost use Rattle.rx_util.specs.Groups.{names_of};
+ghost use Rattle.std.specs.Prelude.{◌≡◌, ◌<◌, All, IfOk, IfSome, OnOk, None, Some, MatchOption, [], map, replicate, set, vec_len};
+ghost use Rattle.rx_util.specs.Groups.{named_groups, names_of};
 ghost use Rattle.rx_grammar.specs.Subtrees.{IsWellFormed, a_group};
 ghost use Rattle.rx_grammar.specs.Nodes.{kind_of};
 ghost use Rattle.rx_grammar.specs.Postorder.{own_names, tree_of};
-ghost use Rattle.rx_engine.specs.Engines.{AreGroupsOf, AreNamesOf};
+ghost use Rattle.rx_engine.specs.Engines.{AreGroupsOf, AreNamesOf, AreNotedOf, captures_len_of};
 
 use rx_grammar::{Hir, Node};
-use rx_util::GroupInfo;
+use rx_util::{GroupInfo, WhichCaptures};
 use std::alloc::{AllocError, Global};
 
 /// The number and the name of a group that has a name.
@@ -57,10 +57,10 @@ fn group_names(alloc: Global, hir: &Hir) -> Result<Vec<Option<String>>, AllocErr
     Ok(names)
 }
 
-/// The groups of patterns.
-pub(crate) fn groups_of(alloc: Global, hirs: &[&Hir]) -> Result<GroupInfo, AllocError>
-    ensures groups { IfOk result
-        (λ groups. AreGroupsOf (map (λ hir. tree_of hir.now) hirs.now) groups) }
+/// The names of patterns' groups, of each from group 1 on.
+fn all_names(alloc: Global, hirs: &[&Hir]) -> Result<Vec<Vec<Option<String>>>, AllocError>
+    ensures groups { IfOk result (λ names.
+        AreGroupsOf (map (λ hir. tree_of hir.now) hirs.now) (named_groups names.items)) }
     ensures well_formed { OnOk result
         (All IsWellFormed (map (λ hir. tree_of hir.now) hirs.now)) }
 {
@@ -68,5 +68,32 @@ pub(crate) fn groups_of(alloc: Global, hirs: &[&Hir]) -> Result<GroupInfo, Alloc
     for hir in hirs {
         patterns.push(group_names(alloc, hir)?)?;
     }
-    GroupInfo::new(alloc, patterns)
+    Ok(patterns)
+}
+
+/// The groups of patterns that are noted.
+pub(crate) fn groups_of(
+    alloc: Global,
+    hirs: &[&Hir],
+    which: WhichCaptures,
+) -> Result<GroupInfo, AllocError>
+    ensures groups { IfOk result
+        (λ groups. AreNotedOf which (map (λ hir. tree_of hir.now) hirs.now) groups) }
+    ensures well_formed { OnOk result
+        (All IsWellFormed (map (λ hir. tree_of hir.now) hirs.now)) }
+{
+    GroupInfo::noted(alloc, which, all_names(alloc, hirs)?)
+}
+
+/// How many groups patterns have together, the whole match of each among them, if a `usize` tells
+/// it.
+pub(crate) fn count_groups(hirs: &[&Hir]) -> Option<usize>
+    ensures { IfSome result
+        (λ len. len ≡ captures_len_of (map (λ hir. tree_of hir.now) hirs.now)) }
+{
+    let mut len: usize = 0;
+    for hir in hirs {
+        len = len.checked_add(hir.group_count())?.checked_add(1)?;
+    }
+    Some(len)
 }

@@ -2,7 +2,7 @@
 
 use rx_chunk::pikevm::{self, Builder, Config, PikeVM};
 use rx_input::{ChunkCursor, Input};
-use rx_util::{MatchKind, Span};
+use rx_util::{MatchKind, Span, WhichCaptures};
 use std::test::Fail;
 
 /// A match is told with its groups, and then all matches one after the other, in content that lies
@@ -55,9 +55,28 @@ fn settings(rt: HostRuntime) -> Result<(), Fail> {
     let config = config.match_kind(MatchKind::LeftmostFirst).clone()?;
     assert!(rt; config.get_match_kind() == MatchKind::LeftmostFirst);
     assert!(rt; !config.get_utf8_empty() && config.get_line_terminator() == b';');
+    let config = config.which_captures(WhichCaptures::Implicit);
+    assert!(rt; config.get_which_captures() == WhichCaptures::Implicit);
     let config = Config::default();
+    assert!(rt; config.get_which_captures() == WhichCaptures::All);
     assert!(rt; config.get_match_kind() == MatchKind::LeftmostFirst);
     assert!(rt; config.get_utf8_empty() && config.get_line_terminator() == b'\n');
+    Ok(())
+}
+
+/// Where group 0 alone is noted, captures have no other group, and all groups are still counted.
+#[test]
+fn whole_matches_alone(rt: HostRuntime) -> Result<(), Fail> {
+    let mut builder = Builder::new();
+    builder.configure(Config::new().which_captures(WhichCaptures::Implicit));
+    let vm = builder.build(rt.alloc(), "(a)(?<name>b)")?;
+    let mut cache = vm.create_cache()?;
+    let mut caps = vm.create_captures()?;
+    pikevm::search(&vm, &mut cache, &mut Input::new("xab"), &mut caps)?;
+    assert_eq!(rt; caps.get_group(0), Some(Span { start: 1, end: 3 }));
+    assert_eq!(rt; caps.get_group(1), None);
+    assert_eq!(rt; caps.get_group_by_name("name"), None);
+    assert!(rt; vm.group_info().slot_len() == 2 && vm.captures_len() == 3);
     Ok(())
 }
 

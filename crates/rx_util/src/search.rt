@@ -229,6 +229,9 @@ impl Anchored {
 pub enum MatchKind {
     /// The leftmost one, and of those that start there the one that the pattern prefers.
     LeftmostFirst,
+    /// Of all matches one with the greatest end: of these one with the least start, and of these the
+    /// one of the first pattern.
+    All,
 }
 
 impl Default for MatchKind {

@@ -5,7 +5,7 @@ use Rattle.rx_program.specs.declared.error.BuildError.TheVariants as build
 use Rattle.rx_program.specs.Sizes.{IsTooLarge, told_limit, weight_of_all}
 use Rattle.rx_program.specs.Programs.{characters_of}
 use Rattle.rx_engine.specs.Engines.{AreRefused, IsBuiltOfTrees, no_memory}
-use Rattle.rx_engine.proofs.BuildLaws.{built, engine_of, not_refused, of_trees, refused_trees}
+use Rattle.rx_engine.proofs.BuildLaws.{AreOfTrees, Beside, IsAsSet, built, engine_of, not_refused, of_trees, refused_trees}
 use Rattle.rx_engine.proofs.builder.Builder.build_many_from_hir.Goals as goal
 
 pub returns-in_err-groups-clause-refused : goal.returns-in_err-groups-clause-refused
@@ -33,18 +33,36 @@ invariant_of-result c =
     let trees = map (λ hir. tree_of hir.now) c.args.hirs.now in
     let p = c.in_ok-shared.field-0.value in
     let is = ap characters_of c.in_ok-shared.ensures ∙ c.in_ok-program.ensures.program in
-    (trees, of_trees p c.in_ok-groups.groups c.get_utf8_empty.result trees c.get_line_terminator-terminator.result c.in_ok-groups.ensures.well_formed is c.in_ok-groups.ensures.groups)
+    let beside : Beside = record {
+      match_kind = c.get_match_kind.result;
+      groups = c.in_ok-groups.groups;
+      which_captures = c.get_which_captures-which_captures.result;
+      captures_len = c.in-Some.captures_len;
+      utf8_empty = c.get_utf8_empty.result;
+    } in
+    let are : AreOfTrees trees beside = record { well_formed = c.in_ok-groups.ensures.well_formed; groups = c.in_ok-groups.ensures.groups; captures_len = c.in-Some.ensures } in
+    (trees, of_trees p beside trees c.get_line_terminator-terminator.result are is)
 
 pub returns-clause-built : goal.returns-clause-built
 returns-clause-built c =
     let trees = map (λ hir. tree_of hir.now) c.args.hirs.now in
     let p = c.in_ok-shared.field-0.value in
     let is = ap characters_of c.in_ok-shared.ensures ∙ c.in_ok-program.ensures.program in
-    let groups = c.in_ok-groups.groups in
-    let utf8_empty = c.get_utf8_empty.result in
-    subst (λ w. IsBuiltOfTrees trees w.settings (engine_of p groups utf8_empty)) c.self.view_is
-    (built c.self.inside.config p groups utf8_empty trees c.get_line_terminator-terminator.result c.in_ok-groups.ensures.well_formed
+    let beside : Beside = record {
+      match_kind = c.get_match_kind.result;
+      groups = c.in_ok-groups.groups;
+      which_captures = c.get_which_captures-which_captures.result;
+      captures_len = c.in-Some.captures_len;
+      utf8_empty = c.get_utf8_empty.result;
+    } in
+    let are : AreOfTrees trees beside = record { well_formed = c.in_ok-groups.ensures.well_formed; groups = c.in_ok-groups.ensures.groups; captures_len = c.in-Some.ensures } in
+    let as_set : IsAsSet c.self.inside.config beside =
+    record { match_kind = c.get_match_kind.ensures; utf8_empty = c.get_utf8_empty.ensures; which_captures = c.get_which_captures-which_captures.ensures } in
+    subst (λ w. IsBuiltOfTrees trees w.settings (engine_of p beside)) c.self.view_is
+    (built c.self.inside.config p beside trees c.get_line_terminator-terminator.result are as_set
     (λ large. let limit = c.get_nfa_size_limit-limit.result in
     not_refused c.in_ok-program.program (build.Size (told_limit limit)) (c.in_ok-program.ensures.size.1 (subst (λ l. IsTooLarge l (weight_of_all trees)) (sym c.get_nfa_size_limit-limit.ensures) large)))
-    is c.in_ok-groups.ensures.groups
-    c.get_line_terminator-terminator.ensures c.get_utf8_empty.ensures)
+    is c.get_line_terminator-terminator.ensures)
+
+pub returns-in_default-clause-refused : goal.returns-in_default-clause-refused
+returns-in_default-clause-refused c = no_memory

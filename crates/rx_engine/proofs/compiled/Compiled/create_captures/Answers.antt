@@ -6,4 +6,4 @@ pub returns-clause-room : goal.returns-clause-room
 returns-clause-room c =
     let vm = c.self.inside in
     subst (λ e. IfOk c.all.result (λ caps. 2 * length e.groups ≤ length caps.slots)) c.self.view_is
-    (if_ok c.all.result (λ caps is. room_for_matches (engine_of vm.program.value vm.groups vm.utf8_empty) caps is) c.all.ensures.made)
+    (if_ok c.all.result (λ caps is. room_for_matches (engine_of vm.program.value (record { match_kind = vm.match_kind; groups = vm.groups; which_captures = vm.which_captures; captures_len = vm.captures_len; utf8_empty = vm.utf8_empty })) caps is) c.all.ensures.made)

@@ -3,7 +3,7 @@ use Rattle.rx_util.specs.Groups.{named_groups}
 use Rattle.rx_grammar.specs.Subtrees.{IsWellFormed}
 use Rattle.rx_grammar.specs.Postorder.{tree_of}
 use Rattle.rx_engine.specs.Engines.{AreGroupsOf}
-use Rattle.rx_engine.proofs.groups.groups_of.Given as goal
+use Rattle.rx_engine.proofs.groups.all_names.Given as goal
 
 -- the groups of the patterns so far
 abbrev pub invariant-loop-hir : goal.invariant-loop-hir
