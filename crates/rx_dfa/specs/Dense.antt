@@ -1,22 +1,26 @@
 -- Engines that search by closed automata.
 use Rattle.std.specs.Prelude.{◌≡◌}
 use Rattle.rx_engine.specs.Engines.{Engine}
+use Rattle.rx_program.specs.Reversed.{ReverseByteProgram}
+use Rattle.rx_steps.specs.Reversed.{IsReverseOf}
 use Rattle.rx_dfa.specs.Alphabets.{AlphabetView, IsAlphabetOf}
 use Rattle.rx_dfa.specs.Caches.{CacheView}
 use Rattle.rx_dfa.specs.DenseTables.{IsClosedOf}
 
--- an automaton, and all its states and steps
+-- an automaton, all its states and steps, and its program turned round
 pub record AutomatonView : Type 0 where
   pub dfa : AlphabetView
   pub closed : CacheView
+  pub reverse : ReverseByteProgram
 
 -- an engine, and the automaton of its program
 pub record DenseView : Type 0 where
   pub engine : Engine
   pub automaton : AutomatonView
 
--- they pass over the same empty matches, and the automaton is closed
+-- they pass over the same empty matches, the automaton is closed, and the program is turned round
 pub record IsDense (re : DenseView) : Type 0 where
   pub dfa : IsAlphabetOf re.engine.program re.automaton.dfa
   pub utf8_empty : re.automaton.dfa.utf8_empty ≡ re.engine.utf8_empty
   pub closed : IsClosedOf re.engine.program re.automaton.dfa re.automaton.closed
+  pub reverse : IsReverseOf re.engine.program re.automaton.reverse

@@ -1,9 +1,11 @@
 //! The engine that searches by an automaton whose states are all made as it is built.
 
-ghost use Rattle.std.specs.Prelude.{◌≡◌, true, map, IfErr, IfOk};
+ghost use Rattle.std.specs.Prelude.{◌≡◌, true, map, IfErr, IfOk, IsTrue, OnOk};
 ghost use Rattle.rx_util.specs.declared.search.MatchError.{MatchError};
 ghost use Rattle.rx_input.specs.Cursors.{IsSameContent};
-ghost use Rattle.rx_steps.specs.Searching.{search_of};
+ghost use Rattle.rx_walks.specs.Finds.{is_anchored};
+ghost use Rattle.rx_steps.specs.Reversed.{IsHalfAnswerBack, IsRefusalBack, IsReverseOf};
+ghost use Rattle.rx_steps.specs.Searching.{anchoring_of, search_of};
 ghost use Rattle.rx_grammar.specs.Postorder.{tree_of};
 ghost use Rattle.rx_engine.specs.Engines.{AreRefused, IsBuiltOf, IsBuiltOfAll, IsBuiltOfTrees, IsRefused, IsRefusedOfAll, by_default, nothing_set};
 ghost use Rattle.rx_dfa.specs.DenseTables.{IsClosedOf, IsQuit};
@@ -12,20 +14,23 @@ ghost use Rattle.rx_dfa.specs.Searching.{IsHalfAnswer};
 
 use crate::alphabet::Alphabet;
 use crate::dense_table::DenseTable;
+use crate::reverse::reverse_of;
 use rx_engine::{Builder, Compiled};
 use rx_grammar::Hir;
 use rx_input::{Cursor, Input};
-use rx_program::{BuildError, Program};
+use rx_program::{BuildError, Program, ReverseProgram};
+use rx_steps::{ReverseCache, search_rev};
 use rx_util::{HalfMatch, MatchError};
 use std::alloc::{AllocError, Global};
 use std::marker::Model;
 use std::rc::Rc;
 
-/// An automaton, with all its states and steps.
+/// An automaton, with all its states and steps, and its program turned round.
 #[derive(Debug, Drop)]
 struct Automaton {
     dfa: Alphabet,
     closed: DenseTable,
+    reverse: ReverseProgram,
 }
 
 impl Model for Automaton {
@@ -33,12 +38,12 @@ impl Model for Automaton {
 
     ghost Value = { AutomatonView };
 
-    ghost view = { λ a. record { dfa = a.dfa; closed = a.closed } };
+    ghost view = { λ a. record { dfa = a.dfa; closed = a.closed; reverse = a.reverse } };
 }
 
 /// An engine that searches for patterns by an automaton, all of whose states are made as it is
 /// built. Contracts see the engine that was built of the patterns, and the automaton of its
-/// program.
+/// program with the program turned round, by which it searches backwards.
 #[derive(Debug, Drop)]
 pub struct Regex {
     compiled: Compiled,
@@ -73,10 +78,18 @@ fn shared_automaton(alloc: Global, compiled: &Compiled) -> Result<Rc<Automaton>,
     ensures utf8_empty { IfOk result (λ automaton. automaton.value.dfa.utf8_empty ≡ true) }
     ensures closed { IfOk result (λ automaton.
         IsClosedOf compiled.now.program automaton.value.dfa automaton.value.closed) }
+    ensures reverse { IfOk result (λ automaton.
+        IsReverseOf compiled.now.program automaton.value.reverse) }
 {
+    let reverse = reverse_of(compiled)?;
     let dfa = Alphabet::new(alloc, compiled.program(), true, usize::MAX)?;
     let closed = closed_of(alloc, compiled.program(), &dfa)?;
-    Ok(Rc::new(alloc, Automaton { dfa, closed })?)
+    let automaton = Automaton {
+        dfa,
+        closed,
+        reverse,
+    };
+    Ok(Rc::new(alloc, automaton)?)
 }
 
 impl Regex {
@@ -171,4 +184,29 @@ pub fn try_search_fwd<C: Cursor>(
     automaton
         .closed
         .try_search_fwd(re.compiled.program(), &automaton.dfa, input)
+}
+
+/// Searches backwards, on an anchored input: of the matches that end at the end of the span and lie
+/// inside span and slice, answers the least start, and the least pattern with it; with
+/// `Anchored::Pattern` of that pattern's alone.
+///
+/// The refusals are `UnsupportedAnchored` where the input isn't anchored, and else `Memory`. It
+/// reads back to the span's start, or to where no match may start any more; at each place it
+/// follows walks through the program side by side, without an automaton, and takes memory in
+/// proportion to the program for it.
+pub fn try_search_rev<C: Cursor>(
+    re: &Regex,
+    input: &mut Input<C>,
+) -> Result<Option<HalfMatch>, MatchError>
+    ensures answer { IfOk result (IsHalfAnswerBack re.now.engine.program
+        (search_of re.now.engine.utf8_empty input.old)) }
+    ensures anchored { OnOk result (IsTrue (is_anchored (anchoring_of input.old.asked.anchored))) }
+    ensures same { IsSameContent input.old.cursor input.new.cursor }
+    ensures asked { input.new.asked ≡ input.old.asked }
+    ensures refused { IfErr result (IsRefusalBack
+        (search_of re.now.engine.utf8_empty input.old)) }
+{
+    let reverse = &re.automaton.reverse;
+    let mut room = ReverseCache::new(reverse.allocator(), reverse)?;
+    search_rev(reverse, &mut room, input, re.compiled.utf8_empty())
 }

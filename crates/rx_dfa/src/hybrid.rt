@@ -1,34 +1,42 @@
 //! The engine that searches by an automaton whose states are made as a search comes to them.
 
-ghost use Rattle.std.specs.Prelude.{◌≡◌, true, map, IfErr, IfOk, OnErr, OnOk};
+ghost use Rattle.std.specs.Prelude.{◌≡◌, true, map, IfErr, IfOk, IsTrue, OnErr, OnOk};
 ghost use Rattle.rx_util.specs.declared.search.MatchError.{MatchError};
 ghost use Rattle.rx_program.specs.declared.error.BuildError.{BuildError};
 ghost use Rattle.rx_input.specs.Cursors.{IsSameContent};
-ghost use Rattle.rx_steps.specs.Searching.{search_of};
+ghost use Rattle.rx_walks.specs.Finds.{is_anchored};
+ghost use Rattle.rx_steps.specs.Reversed.{IsHalfAnswerBack, IsRefusalBack};
+ghost use Rattle.rx_steps.specs.Searching.{anchoring_of, search_of};
 ghost use Rattle.rx_grammar.specs.Postorder.{tree_of};
 ghost use Rattle.rx_engine.specs.Engines.{AreRefused, IsBuiltOf, IsBuiltOfAll, IsBuiltOfTrees, IsRefused, IsRefusedOfAll, by_default, nothing_set};
-ghost use Rattle.rx_dfa.specs.Caches.{GivesUpLate, IsCacheOf};
+ghost use Rattle.rx_dfa.specs.Caches.{GivesUpLate};
+ghost use Rattle.rx_dfa.specs.Hybrid.{IsHybridCacheOf};
 ghost use Rattle.rx_dfa.specs.Alphabets.{IsAlphabetOf};
 ghost use Rattle.rx_dfa.specs.Passing.{IsRefusal};
 ghost use Rattle.rx_dfa.specs.Searching.{IsHalfAnswer};
 
 use crate::alphabet::{Alphabet, CACHE_CAPACITY};
+use crate::reverse::reverse_of;
 use crate::{cache as states, search};
 use rx_engine::{Builder, Compiled};
 use rx_grammar::Hir;
 use rx_input::{Cursor, Input};
-use rx_program::BuildError;
+use rx_program::{BuildError, ReverseProgram};
+use rx_steps::{ReverseCache, search_rev};
 use rx_util::{HalfMatch, MatchError};
 use std::alloc::{AllocError, Global};
 use std::marker::Model;
 use std::rc::Rc;
 
 /// An engine that searches for patterns by an automaton, whose states a cache keeps. Contracts see
-/// the engine that was built of the patterns, and the automaton of its program.
+/// the engine that was built of the patterns, the automaton of its program, and the program turned
+/// round, by which it searches backwards.
 #[derive(Debug, Drop)]
 pub struct Regex {
     compiled: Compiled,
     dfa: Rc<Alphabet>,
+    // The program turned round.
+    reverse: Rc<ReverseProgram>,
 }
 
 impl Model for Regex {
@@ -36,9 +44,17 @@ impl Model for Regex {
 
     ghost Value = { HybridView };
 
-    ghost view = { λ re. record { engine = re.compiled; dfa = re.dfa.value } };
+    ghost view = { λ re. record {
+      engine = re.compiled;
+      dfa = re.dfa.value;
+      reverse = re.reverse.value;
+    } };
 
-    ghost invariant = { λ re. IsHybrid (record { engine = re.compiled; dfa = re.dfa.value }) };
+    ghost invariant = { λ re. IsHybrid (record {
+      engine = re.compiled;
+      dfa = re.dfa.value;
+      reverse = re.reverse.value;
+    }) };
 }
 
 /// The automaton of an engine's program, to be shared by an engine and its clones.
@@ -63,7 +79,12 @@ impl Regex {
         ensures capacity { IfOk result (λ re. re.dfa.capacity ≡ capacity) }
     {
         let dfa = shared_dfa(alloc, &compiled, capacity)?;
-        Ok(Regex { compiled, dfa })
+        let reverse = Rc::new(alloc, reverse_of(&compiled)?)?;
+        Ok(Regex {
+            compiled,
+            dfa,
+            reverse,
+        })
     }
 
     /// The engine for a pattern, under default settings. The states in its caches may take about
@@ -130,60 +151,66 @@ impl Regex {
         Ok(Regex {
             compiled: self.compiled.clone()?,
             dfa: self.dfa.clone()?,
+            reverse: self.reverse.clone()?,
         })
     }
 
     /// A cache for searches with it. The one refusal is `Memory`.
     pub fn create_cache(&self) -> Result<Cache, MatchError>
-        ensures made { IfOk result
-            (λ cache. IsCacheOf self.now.engine.program self.now.dfa cache) }
+        ensures made { IfOk result (IsHybridCacheOf self.now) }
         ensures refused { IfErr result (λ error. error ≡ MatchError.Memory) }
     {
         Cache::new(self.compiled.program().allocator(), self)
     }
 }
 
-/// What searches with an engine keep from one to the next: the states that they have come to. It
-/// serves the engine that it was made for or reset for, after each search again, refused or not.
+/// What searches with an engine keep from one to the next: the states that they have come to, and
+/// room for searches backwards. It serves the engine that it was made for or reset for, after each
+/// search again, refused or not. Contracts see both.
 #[derive(Debug, Drop)]
 pub struct Cache {
     states: states::Cache,
+    back: ReverseCache,
 }
 
 impl Model for Cache {
-    ghost use Rattle.rx_dfa.specs.Caches.{CacheView};
+    ghost use Rattle.rx_dfa.specs.Hybrid.{HybridCacheView};
 
-    ghost Value = { CacheView };
+    ghost Value = { HybridCacheView };
 
-    ghost view = { λ c. c.states };
+    ghost view = { λ c. record { states = c.states; back = c.back } };
 }
 
 impl Cache {
     /// A cache for searches with an engine, as `create_cache` makes it. The one refusal is
     /// `Memory`.
     pub fn new(alloc: Global, re: &Regex) -> Result<Cache, MatchError>
-        ensures made { IfOk result (λ cache. IsCacheOf re.now.engine.program re.now.dfa cache) }
+        ensures made { IfOk result (IsHybridCacheOf re.now) }
         ensures refused { IfErr result (λ error. error ≡ MatchError.Memory) }
     {
         Ok(Cache {
             states: states::Cache::new(alloc, re.compiled.program(), &re.dfa)?,
+            back: ReverseCache::new(alloc, &re.reverse)?,
         })
     }
 
     /// Makes the cache one for searches with this engine. The one refusal is `Memory`; the cache is
     /// then as it was.
     pub fn reset(&mut self, re: &Regex) -> Result<(), MatchError>
-        ensures made { OnOk result (IsCacheOf re.now.engine.program re.now.dfa self.new) }
+        ensures made { OnOk result (IsHybridCacheOf re.now self.new) }
         ensures kept { OnErr result (self.new ≡ self.old) }
         ensures refused { IfErr result (λ error. error ≡ MatchError.Memory) }
     {
-        self.states.reset(re.compiled.program(), &re.dfa)
+        let back = ReverseCache::new(re.compiled.program().allocator(), &re.reverse)?;
+        self.states.reset(re.compiled.program(), &re.dfa)?;
+        self.back = back;
+        Ok(())
     }
 
     /// About how many bytes its states take: of each the nodes, the row in the table, and what is
     /// kept of it beside. Where there are more than two states, it is at most the capacity.
     pub fn memory_usage(&self) -> usize
-        ensures { result ≡ self.now.used }
+        ensures { result ≡ self.now.states.used }
     {
         self.states.memory_usage()
     }
@@ -198,16 +225,48 @@ pub fn try_search_fwd<C: Cursor>(
     cache: &mut Cache,
     input: &mut Input<C>,
 ) -> Result<Option<HalfMatch>, MatchError>
-    requires made { IsCacheOf re.now.engine.program re.now.dfa cache.old }
+    requires made { IsHybridCacheOf re.now cache.old }
     ensures answer { IfOk result (IsHalfAnswer re.now.engine.program
         (search_of re.now.engine.utf8_empty input.old)) }
-    ensures made { IsCacheOf re.now.engine.program re.now.dfa cache.new }
+    ensures made { IsHybridCacheOf re.now cache.new }
     ensures same { IsSameContent input.old.cursor input.new.cursor }
     ensures asked { input.new.asked ≡ input.old.asked }
     ensures refused { IfErr result (IsRefusal re.now.dfa.asked
         (search_of re.now.engine.utf8_empty input.old)) }
-    ensures late { IfErr result (GivesUpLate cache.new) }
+    ensures late { IfErr result (GivesUpLate cache.new.states) }
     ensures dfa { IsAlphabetOf re.now.engine.program re.now.dfa }
 {
     search::try_search_fwd(re.compiled.program(), &re.dfa, &mut cache.states, input)
+}
+
+/// Searches backwards, on an anchored input: of the matches that end at the end of the span and lie
+/// inside span and slice, answers the least start, and the least pattern with it; with
+/// `Anchored::Pattern` of that pattern's alone. The cache must be one for the engine, and still is
+/// one afterwards, whatever is answered.
+///
+/// The refusals are `UnsupportedAnchored` where the input isn't anchored, and else `Memory`. It
+/// reads back to the span's start, or to where no match may start any more; at each place it
+/// follows walks through the program side by side, without an automaton.
+pub fn try_search_rev<C: Cursor>(
+    re: &Regex,
+    cache: &mut Cache,
+    input: &mut Input<C>,
+) -> Result<Option<HalfMatch>, MatchError>
+    requires made { IsHybridCacheOf re.now cache.old }
+    ensures answer { IfOk result (IsHalfAnswerBack re.now.engine.program
+        (search_of re.now.engine.utf8_empty input.old)) }
+    ensures anchored { OnOk result (IsTrue (is_anchored (anchoring_of input.old.asked.anchored))) }
+    ensures made { IsHybridCacheOf re.now cache.new }
+    ensures states { cache.new.states ≡ cache.old.states }
+    ensures same { IsSameContent input.old.cursor input.new.cursor }
+    ensures asked { input.new.asked ≡ input.old.asked }
+    ensures refused { IfErr result (IsRefusalBack
+        (search_of re.now.engine.utf8_empty input.old)) }
+{
+    search_rev(
+        &re.reverse,
+        &mut cache.back,
+        input,
+        re.compiled.utf8_empty(),
+    )
 }

@@ -11,6 +11,7 @@ mod dense_table;
 mod determinize;
 pub mod hybrid;
 mod maker;
+mod reverse;
 mod scan;
 mod search;
 mod states;

@@ -27,3 +27,6 @@ pub mod AllComeLaws
 pub mod AllPartLaws
 pub mod AllAnswerLaws
 pub mod AllIdleLaws
+pub mod BackStepLaws
+pub mod BackComeLaws
+pub mod BackAnswerLaws

@@ -14,3 +14,5 @@ pub mod Idle
 pub mod Caches
 pub mod Coming
 pub mod ComingAll
+pub mod Reversed
+pub mod ComingBack

@@ -1,12 +1,13 @@
 //! Which looks a program asks for.
 
-ghost use Rattle.std.specs.Prelude.{◌≡◌, ◌↔◌, ◌||◌, IsTrue};
+ghost use Rattle.std.specs.Prelude.{◌≡◌, ◌↔◌, ◌||◌, IsTrue, map};
 ghost use Rattle.rx_walks.specs.Looks.{asks_characters};
 ghost use Rattle.rx_program.specs.Code.{place_of};
 ghost use Rattle.rx_steps.specs.Asked.{AsksSome, asks_for, is_look, is_of_lines};
+ghost use Rattle.rx_steps.specs.Reversed.{state_of};
 
 use rx_grammar::Look;
-use rx_program::State;
+use rx_program::{ReverseState, State};
 
 /// Which kinds of looks a program asks for.
 #[derive(Clone, Copy, Debug, Default, PartialEq, Eq)]
@@ -66,6 +67,38 @@ impl AskedLooks {
         let mut asked = AskedLooks::default();
         for state in states {
             asked = asked.with(state);
+        }
+        asked
+    }
+
+    /// With what a further state of a program turned round asks for.
+    fn with_back(self, state: &ReverseState) -> AskedLooks
+        ensures any { result.any ≡ (asks_for is_look (state_of state.now) || self.any) }
+        ensures lines { result.lines
+            ≡ (asks_for is_of_lines (state_of state.now) || self.lines) }
+        ensures words { result.words
+            ≡ (asks_for asks_characters (state_of state.now) || self.words) }
+    {
+        match state {
+            ReverseState::Look(look, _) => AskedLooks {
+                any: true,
+                lines: is_line_look(*look) || self.lines,
+                words: is_word_look(*look) || self.words,
+            },
+            _ => self,
+        }
+    }
+
+    /// Those that some of these states of a program turned round asks for. `O(n)` in the states.
+    pub fn of_back(states: &[ReverseState]) -> AskedLooks
+        ensures any { IsTrue result.any ↔ AsksSome (map state_of states.now) is_look }
+        ensures lines { IsTrue result.lines ↔ AsksSome (map state_of states.now) is_of_lines }
+        ensures words { IsTrue result.words
+            ↔ AsksSome (map state_of states.now) asks_characters }
+    {
+        let mut asked = AskedLooks::default();
+        for state in states {
+            asked = asked.with_back(state);
         }
         asked
     }

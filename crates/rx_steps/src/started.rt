@@ -98,6 +98,25 @@ pub(crate) fn better(first: Option<MetEnd>, second: Option<MetEnd>) -> Option<Me
     }
 }
 
+/// The lesser of two patterns whose matches began at one place.
+pub(crate) fn least(first: Option<PatternID>, second: Option<PatternID>) -> Option<PatternID>
+    ensures { (start : ℕ) → (ends : List (ℕ × ℕ)) → (others : List (ℕ × ℕ))
+        → IsBestMet ends (end_of start first) → IsBestMet others (end_of start second)
+        → IsBestMet (ends ++ others) (end_of start result) }
+{
+    let Some(other) = second else {
+        return first;
+    };
+    let Some(one) = first else {
+        return Some(other);
+    };
+    if other.as_usize() < one.as_usize() {
+        Some(other)
+    } else {
+        Some(one)
+    }
+}
+
 /// Adds walks that began at one place, at the nodes of these threads.
 pub(crate) fn push_started(
     list: &mut Vec<StartedNode>,

@@ -108,9 +108,9 @@ fn make_move(
 
 /// What empty edges lead to, while they are followed.
 #[derive(Debug, Drop)]
-struct Closure {
-    visited: Visited,
-    pending: Pending,
+pub(crate) struct Closure {
+    pub(crate) visited: Visited,
+    pub(crate) pending: Pending,
 }
 
 impl Closure {
@@ -271,9 +271,9 @@ impl Closure {
 /// nodes its steps have followed.
 #[derive(Debug, Drop)]
 pub struct Stepper {
-    closure: Closure,
+    pub(crate) closure: Closure,
     // Room for the nodes to which one walk leads where all are followed.
-    reached: ThreadList,
+    pub(crate) reached: ThreadList,
 }
 
 impl Model for Stepper {

@@ -1,6 +1,6 @@
 //! The nodes that were seen at a place.
 
-ghost use Rattle.std.specs.Prelude.{◌≡◌, ◌<◌, ◌≤◌, [], true, map, length, slice_get, IfSome, IfOk, IfErr};
+ghost use Rattle.std.specs.Prelude.{◌≡◌, ◌<◌, ◌≤◌, ℕ, List, [], true, map, length, slice_get, IfSome, IfOk, IfErr};
 ghost use Rattle.rx_util.specs.declared.search.MatchError.{MatchError};
 ghost use Rattle.rx_steps.specs.Nodes.{widths_of, width_of, starts_from, end_from, index_from, IsInserted, IsMember, AreCounted};
 
@@ -83,6 +83,22 @@ impl Visited {
         ensures refused { IfErr result (λ error. error ≡ MatchError.Memory) }
     {
         let (starts, end) = starts_of(alloc, program.states())?;
+        let set = SparseSet::new(alloc, end)?;
+        Ok(Visited {
+            starts,
+            set,
+            followed: Followed::new(),
+        })
+    }
+
+    /// The empty set, for nodes of states that start and end there.
+    pub(crate) fn over(alloc: Global, starts: Vec<usize>, end: usize) -> Result<Visited, MatchError>
+        requires starts { (widths : List ℕ) × (starts.items ≡ starts_from 0 widths)
+            × (end ≡ end_from 0 widths) }
+        ensures widths { IfOk result (λ v. (widths : List ℕ)
+            → starts.items ≡ starts_from 0 widths → v.widths ≡ widths) }
+        ensures refused { IfErr result (λ error. error ≡ MatchError.Memory) }
+    {
         let set = SparseSet::new(alloc, end)?;
         Ok(Visited {
             starts,

@@ -1,6 +1,6 @@
 //! What searches by automata answer.
 
-ghost use Rattle.rx_dfa.specs.Caches.{IsCacheOf};
+ghost use Rattle.rx_dfa.specs.Hybrid.{IsHybridCacheOf};
 
 use crate::fields::{Fault, Fields};
 use crate::haystacks::{Asked, haystack, input, pieces};
@@ -61,7 +61,7 @@ fn answer_twice<C: Cursor>(
     input: &mut Input<C>,
     times: usize,
 ) -> Result<String, Fault>
-    requires { IsCacheOf re.now.engine.program re.now.dfa cache.old }
+    requires { IsHybridCacheOf re.now cache.old }
 {
     let mut out = String::new(alloc);
     let answer = answer_after(alloc, &mut out, re, cache, input, times)?;
@@ -86,8 +86,8 @@ fn answer_after<C: Cursor>(
     input: &mut Input<C>,
     times: usize,
 ) -> Result<String, Fault>
-    requires { IsCacheOf re.now.engine.program re.now.dfa cache.old }
-    ensures { IsCacheOf re.now.engine.program re.now.dfa cache.new }
+    requires { IsHybridCacheOf re.now cache.old }
+    ensures { IsHybridCacheOf re.now cache.new }
 {
     for _ in 0..times {
         let _before = hybrid::try_search_fwd(re, cache, input);

@@ -1,6 +1,6 @@
 //! What is found in a content by an engine that has searched the first few bytes of it before.
 
-ghost use Rattle.rx_dfa.specs.Caches as automata;
+ghost use Rattle.rx_dfa.specs.Hybrid.{IsHybridCacheOf};
 ghost use Rattle.rx_steps.specs.Caches as steps;
 ghost use Rattle.regex_cursor.specs.Regexes.{IsCacheOf};
 
@@ -82,7 +82,7 @@ fn end_by_hybrid(
     before: &mut Input<&[u8]>,
     content: &mut Input<&[u8]>,
 ) -> Result<Option<usize>, MatchError>
-    requires { automata.IsCacheOf re.now.engine.program re.now.dfa cache.old }
+    requires { IsHybridCacheOf re.now cache.old }
 {
     hybrid::try_search_fwd(re, cache, before)?;
     let found = hybrid::try_search_fwd(re, cache, content)?;

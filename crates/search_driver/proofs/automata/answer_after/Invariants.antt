@@ -1,6 +1,6 @@
-use Rattle.rx_dfa.specs.Caches.{IsCacheOf}
+use Rattle.rx_dfa.specs.Hybrid.{IsHybridCacheOf}
 use Rattle.search_driver.proofs.automata.answer_after.Given as goal
 
 -- the cache serves the engine
 abbrev pub invariant-loop : goal.invariant-loop
-invariant-loop g l = IsCacheOf l.re.engine.program l.re.dfa l.cache
+invariant-loop g l = IsHybridCacheOf l.re l.cache

@@ -1,0 +1,90 @@
+-- How far a search has come that reads backwards.
+use Rattle.std.specs.Prelude.{◌≡◌, ℕ, ◌+◌, ◌-◌, ◌<◌, ◌≤◌, ◌⊎◌, Bool, false, List, [], length, Option, Some, None, option_map, slice_get, cond, nat_lt}
+use Rattle.rx_util.specs.Search.{HalfFound}
+use Rattle.rx_walks.specs.Backward.{IsToldBack, mirrored_search}
+use Rattle.rx_walks.specs.Finds.{Search, PatternMatch}
+use Rattle.rx_walks.specs.Laws.{Begins}
+use Rattle.rx_walks.specs.Machines.{Machine}
+use Rattle.rx_walks.specs.ProgramFinds.{lowest}
+use Rattle.rx_walks.specs.Programs.{Notes}
+use Rattle.rx_walks.specs.Reversed.{mirrored}
+use Rattle.rx_walks.specs.StepsAll.{StepsAll, Latest, SearchesAll}
+use Rattle.rx_walks.specs.Looks as walks
+use Rattle.rx_program.specs.Programs.{ByteProgram}
+use Rattle.rx_program.specs.Reversed.{ReverseByteProgram}
+use Rattle.rx_steps.specs.Lists.{Asks}
+use Rattle.rx_steps.specs.Nodes.{widths_of}
+use Rattle.rx_steps.specs.Reversed.{bytes_of}
+use Rattle.rx_steps.specs.ListsAll.{IsStepAll, Started, byte_machine, end_of, started_at}
+use Rattle.rx_steps.specs.Searching.{haystack_in}
+
+-- the machine of a program turned round, over the content turned round
+abbrev pub back_machine_in : ByteProgram → Search → Machine (ℕ × ℕ) Notes
+back_machine_in p s = byte_machine p (mirrored (haystack_in p.line_terminator s))
+
+-- the place that a place is in the content turned round
+abbrev pub mirror_of : Search → ℕ → ℕ
+mirror_of s i = length s.content - i
+
+-- the byte before a place that a walk back may take
+abbrev pub byte_taken_back : Search → ℕ → Option ℕ
+byte_taken_back s i = cond (nat_lt (lowest s) i) (slice_get s.content (i - 1)) None
+
+-- a search goes back from a place to the one before it, unless it is the first one inside
+abbrev pub HasSteppedBack : Search → ℕ → ℕ → Type 0
+HasSteppedBack s i j = ((lowest s < i) × (j + 1 ≡ i)) ⊎ ((i ≤ lowest s) × (j ≡ i))
+
+-- the step of walks back at a place, which all began at the span's end
+abbrev pub IsStepBack : ByteProgram → Search → ℕ → List (ℕ × ℕ) → List (ℕ × ℕ) → Option ℕ → Type 0
+IsStepBack p s i nodes next met =
+    IsStepAll (back_machine_in p s) (mirror_of s i) (started_at (mirror_of s s.end) nodes)
+    (started_at (mirror_of s s.end) next) (end_of (mirror_of s s.end) met)
+
+-- a match that began so, as one of the content turned round
+abbrev pub mirror_match : Search → HalfFound → PatternMatch
+mirror_match s met = record {
+  start = mirror_of s s.end;
+  pattern = met.pattern;
+  end = mirror_of s met.offset;
+}
+
+-- a search is over, from a start node: the best match that was met
+abbrev pub IsOverBack : ByteProgram → Search → ℕ → Option HalfFound → Type 0
+IsOverBack p s q best =
+    SearchesAll (back_machine_in p s) (Begins (mirrored_search s)) (q, 0) (mirror_of s s.end) []
+    None (option_map (mirror_match s) best)
+
+-- a search has come back to a place with walks at these nodes, and this is the best match that was
+-- met: what it comes to by a step from there, and then on, is what it comes to at all
+abbrev pub HasComeBack : ByteProgram → Search → ℕ → ℕ → List (ℕ × ℕ) → Option HalfFound → Type 0
+HasComeBack p s q i nodes best =
+    (next : List Started) (ends : List (ℕ × ℕ)) (after out : Option PatternMatch)
+    → StepsAll (back_machine_in p s) (mirror_of s i) [] (started_at (mirror_of s s.end) nodes) next
+    ends
+    → Latest (mirror_of s i) (option_map (mirror_match s) best) ends after
+    → SearchesAll (back_machine_in p s) (Begins (mirrored_search s)) (q, 0) (mirror_of s i + 1) next
+    after out
+    → SearchesAll (back_machine_in p s) (Begins (mirrored_search s)) (q, 0) (mirror_of s s.end) []
+    None out
+
+-- how many nodes each state is of the program turned round that a cache was made for, and whether
+-- that asks for looks
+pub record ReverseCacheView : Type 0 where
+  pub widths : List ℕ
+  pub asks_looks : Bool
+
+-- they are those of this program turned round: where no look is asked for, no state asks for one
+pub record AreOfReverse (turned : ReverseByteProgram) (widths : List ℕ) (asks_looks : Bool)
+    : Type 0 where
+  pub widths_are : widths ≡ widths_of (bytes_of turned)
+  pub looks : asks_looks ≡ false → (l : walks.Look) → Asks (bytes_of turned).states l → ⊥
+
+-- a cache made for a program turned round
+abbrev pub IsReverseCacheOf : ReverseByteProgram → ReverseCacheView → Type 0
+IsReverseCacheOf turned cache = AreOfReverse turned cache.widths cache.asks_looks
+
+-- what is told of the best match that was met, if one was: an empty one only where it may stand
+pub record IsHalfToldBack (s : Search) (best answer : Option HalfFound) : Type 0 where
+  pub found : Option PatternMatch
+  pub is : answer ≡ option_map (λ a. record { pattern = a.pattern; offset = a.start }) found
+  pub told : IsToldBack s (option_map (mirror_match s) best) found

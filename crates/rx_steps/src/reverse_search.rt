@@ -1,0 +1,299 @@
+//! The loop back over the places of a content, from the end of matches to where they start.
+
+ghost use Rattle.std.specs.Prelude.{ℕ, Bool, List, ◌≡◌, ◌↔◌, ◌-◌, ◌<◌, [], ◌∷◌, Some, None, true, false, All, IsTrue, IfOk, IfErr, IfSome, OnOk};
+ghost use Rattle.std.specs.Str.{IsCharBoundary};
+ghost use Rattle.rx_util.specs.declared.search.MatchError.{MatchError};
+ghost use Rattle.rx_walks.specs.Finds.{IsInside, Search, is_anchored};
+ghost use Rattle.rx_walks.specs.Looks as walks;
+ghost use Rattle.rx_walks.specs.ProgramFinds.{start_node};
+ghost use Rattle.rx_program.specs.declared.states.State.{State};
+ghost use Rattle.rx_program.specs.Programs.{ByteProgram};
+ghost use Rattle.rx_program.specs.Reversed.{back_characters_of};
+ghost use Rattle.rx_input.specs.Cursors.{IsSameContent};
+ghost use Rattle.rx_input.specs.Inputs.{IsMoved};
+ghost use Rattle.rx_steps.specs.Lists.{Asks, is_among};
+ghost use Rattle.rx_steps.specs.ListsAll.{nodes_of};
+ghost use Rattle.rx_steps.specs.Threads.{IsThreadOf, first_node};
+ghost use Rattle.rx_steps.specs.Searching.{search_of, anchoring_of, haystack_in};
+ghost use Rattle.rx_steps.specs.Reversed.{IsHalfAnswerBack, IsRefusalBack, IsReverseOf, bytes_of};
+ghost use Rattle.rx_steps.specs.ComingBack.{AreOfReverse, HasSteppedBack, IsHalfToldBack, IsOverBack, IsReverseCacheOf, IsStepBack, byte_taken_back};
+
+use crate::asked::AskedLooks;
+use crate::node::Node;
+use crate::place::{Looks, Place};
+use crate::stepper::Stepper;
+use crate::thread_list::ThreadList;
+use rx_input::{Cursor, Input};
+use rx_program::ReverseProgram;
+use rx_sets::CharacterSet;
+use rx_util::{Anchored, HalfMatch, MatchError, NonMaxUsize, PatternID, StateID};
+use rx_walks::laws_back::program_is_searched_back;
+use std::alloc::{AllocError, Global};
+use std::marker::Model;
+use std::mem;
+
+/// The state from which walks back of a search start, if there is one: an unknown pattern has none.
+fn start_state(program: &ReverseProgram, anchored: Anchored) -> Option<StateID>
+    ensures { result ≡ start_node (back_characters_of program.now) (anchoring_of anchored) }
+{
+    match anchored {
+        Anchored::No | Anchored::Yes => Some(program.start()),
+        Anchored::Pattern(pattern) => program.patterns().get(pattern.as_usize()).copied(),
+    }
+}
+
+/// Moves an input to the end of its span, and tells whether that lies inside slice and content and
+/// not before the start; where it doesn't, the input stands anywhere.
+fn enter_end<C: Cursor>(input: &mut Input<C>) -> bool
+    ensures inside { result ≡ true → (utf8_empty : Bool)
+        → IsInside (search_of utf8_empty input.old) input.new.position }
+    ensures end { result ≡ true → input.new.position ≡ input.old.asked.span.end }
+    ensures none { result ≡ false → (utf8_empty : Bool)
+        → IsInside (search_of utf8_empty input.old) input.old.asked.span.end → ⊥ }
+    ensures same { IsMoved input.old input.new input.new.position input.old.asked }
+{
+    let end = input.end();
+    let slice = input.get_slice();
+    if end < input.start() || end < slice.start || slice.end < end {
+        return false;
+    }
+    input.move_to(end);
+    input.position() == end
+}
+
+/// The looks that hold where an input stands, if looks are asked for. The piece that is shown may
+/// be another afterwards.
+fn looks_at<C: Cursor>(input: &mut Input<C>, line_terminator: u8, asks_looks: bool) -> Looks
+    ensures looks { (states : List State) → (utf8_empty : Bool)
+        → IsInside (search_of utf8_empty input.old) input.old.position
+        → (asks_looks ≡ false → (l : walks.Look) → Asks states l → ⊥)
+        → (l : walks.Look) → Asks states l
+        → (haystack_in line_terminator (search_of utf8_empty input.old)).holds l input.old.position
+        ≡ is_among result l }
+    ensures same { IsMoved input.old input.new input.old.position input.old.asked }
+{
+    Place::of(input, line_terminator, asks_looks).looks
+}
+
+/// Moves an input to the place before, if that lies inside, and answers the byte that stands there.
+fn step_back<C: Cursor>(input: &mut Input<C>) -> Option<u8>
+    ensures byte { (utf8_empty : Bool)
+        → IsInside (search_of utf8_empty input.old) input.old.position
+        → result ≡ byte_taken_back (search_of utf8_empty input.old) input.old.position }
+    ensures moved { (utf8_empty : Bool)
+        → IsInside (search_of utf8_empty input.old) input.old.position
+        → HasSteppedBack (search_of utf8_empty input.old) input.old.position
+        input.new.position }
+    ensures same { IsMoved input.old input.new input.new.position input.old.asked }
+{
+    let at = input.position();
+    let first = input.start().max(input.get_slice().start);
+    if at <= first {
+        return None;
+    }
+    input.move_to(at - 1);
+    input.chunk().get(input.chunk_pos()).copied()
+}
+
+/// Whether an empty match may stand where an input stands, if those inside a character are passed
+/// over or not.
+fn may_be_empty<C: Cursor>(input: &Input<C>, utf8_empty: bool) -> bool
+    ensures { IsTrue result
+        ↔ (IsTrue utf8_empty → IsCharBoundary input.now.cursor.content input.now.position) }
+{
+    !utf8_empty || input.is_char_boundary()
+}
+
+/// Walks back through a program turned round that are followed side by side, from place to place.
+#[derive(Debug, Drop)]
+struct WalksBack {
+    stepper: Stepper,
+    // Whether the program asks for looks.
+    asks_looks: bool,
+    // Those at the place. All began at the span's end.
+    live: ThreadList,
+    // Room for those at the place before.
+    next: ThreadList,
+}
+
+impl WalksBack {
+    /// Begins with one walk, at a state.
+    fn begin(&mut self, start: StateID) -> Result<(), AllocError>
+        ensures live { OnOk result (self.new.live.threads ≡ ([], first_node start) ∷ []) }
+        ensures stepper { self.new.stepper ≡ self.old.stepper }
+        ensures asks_looks { self.new.asks_looks ≡ self.old.asks_looks }
+    {
+        self.live.clear(0);
+        self.live.push(Node::first(start), &[])
+    }
+
+    /// The step from the place at which an input stands, which stands at the place before then, if
+    /// that lies inside: the walks there are those that live then.
+    fn pass<C: Cursor>(
+        &mut self,
+        program: &ReverseProgram,
+        input: &mut Input<C>,
+    ) -> Result<Option<PatternID>, MatchError>
+        requires made { AreOfReverse program.now self.old.stepper.widths self.old.asks_looks }
+        requires threads { All (IsThreadOf (bytes_of program.now).states) self.old.live.threads }
+        ensures step { IfOk result (λ met. (utf8_empty : Bool)
+            → IsInside (search_of utf8_empty input.old) input.old.position
+            → IsStepBack (bytes_of program.now) (search_of utf8_empty input.old)
+            input.old.position (nodes_of self.old.live.threads)
+            (nodes_of self.new.live.threads) met) }
+        ensures moved { (utf8_empty : Bool)
+            → IsInside (search_of utf8_empty input.old) input.old.position
+            → HasSteppedBack (search_of utf8_empty input.old) input.old.position
+            input.new.position }
+        ensures threads { OnOk result
+            (All (IsThreadOf (bytes_of program.now).states) self.new.live.threads) }
+        ensures made { AreOfReverse program.now self.new.stepper.widths self.new.asks_looks }
+        ensures same { IsMoved input.old input.new input.new.position input.old.asked }
+        ensures refused { IfErr result (λ error. error ≡ MatchError.Memory) }
+    {
+        let looks = looks_at(input, program.line_terminator(), self.asks_looks);
+        let place = Place {
+            at: NonMaxUsize::new(0).unwrap(),
+            byte: step_back(input),
+            looks,
+        };
+        let met = self
+            .stepper
+            .next_list_back(program, &place, &self.live, &mut self.next)?;
+        mem::swap(&mut self.live, &mut self.next);
+        Ok(met)
+    }
+
+    /// Follows the walk back from a state, from the place at which an input stands, the end of its
+    /// span, on: answers the match of the least start, then of the least pattern.
+    fn follow<C: Cursor>(
+        &mut self,
+        program: &ReverseProgram,
+        input: &mut Input<C>,
+        start: StateID,
+    ) -> Result<Option<HalfMatch>, MatchError>
+        requires made { AreOfReverse program.now self.old.stepper.widths self.old.asks_looks }
+        requires inside { (utf8_empty : Bool)
+            → IsInside (search_of utf8_empty input.old) input.old.position }
+        requires end { input.old.position ≡ input.old.asked.span.end }
+        ensures over { IfOk result (λ best. (utf8_empty : Bool)
+            → IsOverBack (bytes_of program.now) (search_of utf8_empty input.old) start best) }
+        ensures inside { IfOk result (λ best. IfSome best (λ met. (utf8_empty : Bool)
+            → IsInside (search_of utf8_empty input.old) met.offset)) }
+        ensures made { AreOfReverse program.now self.new.stepper.widths self.new.asks_looks }
+        ensures same { IsSameContent input.old.cursor input.new.cursor }
+        ensures asked { input.new.asked ≡ input.old.asked }
+        ensures refused { IfErr result (λ error. error ≡ MatchError.Memory) }
+    {
+        self.begin(start)?;
+        let mut best = None;
+        loop {
+            let at = input.position();
+            if let Some(pattern) = self.pass(program, input)? {
+                best = Some(HalfMatch::new(pattern, at));
+            }
+            if self.live.len() == 0 || input.position() == at {
+                return Ok(best);
+            }
+        }
+    }
+}
+
+/// What searches back through a program turned round keep from one to the next: room. Contracts see
+/// how many nodes each state is of the program that it was made for, and whether that asks for
+/// looks.
+#[derive(Debug, Drop)]
+pub struct ReverseCache {
+    walks: WalksBack,
+}
+
+impl Model for ReverseCache {
+    ghost use Rattle.rx_steps.specs.ComingBack.{ReverseCacheView};
+
+    ghost Value = { ReverseCacheView };
+
+    ghost view = { λ c. record {
+      widths = c.walks.stepper.widths;
+      asks_looks = c.walks.asks_looks;
+    } };
+}
+
+impl ReverseCache {
+    /// Room for searches back through a program. The one refusal is `Memory`. It takes memory in
+    /// proportion to the program's states and those of their automata.
+    pub fn new(alloc: Global, program: &ReverseProgram) -> Result<ReverseCache, MatchError>
+        ensures made { IfOk result (IsReverseCacheOf program.now) }
+        ensures refused { IfErr result (λ error. error ≡ MatchError.Memory) }
+    {
+        Ok(ReverseCache {
+            walks: WalksBack {
+                stepper: Stepper::new_back(alloc, program)?,
+                asks_looks: AskedLooks::of_back(program.states()).any,
+                live: ThreadList::new(alloc, 0),
+                next: ThreadList::new(alloc, 0),
+            },
+        })
+    }
+}
+
+/// What is told of the match that was met, if one was: an empty one, which starts at the span's
+/// end, only where it may stand there.
+fn told(best: Option<HalfMatch>, end: usize, may_be_empty: bool) -> Option<HalfMatch>
+    ensures { (s : Search) → s.end ≡ end → IsInside s s.end
+        → IfSome best (λ met. IsInside s met.offset)
+        → (IsTrue may_be_empty ↔ (IsTrue s.utf8_empty → IsCharBoundary s.content s.end))
+        → IsHalfToldBack s best result }
+{
+    let Some(found) = best else {
+        return None;
+    };
+    if found.offset() == end && !may_be_empty {
+        return None;
+    }
+    Some(found)
+}
+
+/// Searches backwards: of the matches that end at the end of the span and lie inside span and
+/// slice, answers the least start, and the least pattern with it. The program has to be turned
+/// round; the answer is that of the program that it was. The cache must be one for the program, and
+/// still is one afterwards, whatever is answered. `utf8_empty` passes over an empty match inside a
+/// character. The refusals are `UnsupportedAnchored` where the input isn't anchored, and else
+/// `Memory`.
+///
+/// It reads back from the end of the span to its start, or to where no walk lives. It follows each
+/// node of the program once at most at each place, which takes time in proportion to the edges of
+/// that node.
+pub fn search_rev<C: Cursor>(
+    program: &ReverseProgram,
+    cache: &mut ReverseCache,
+    input: &mut Input<C>,
+    utf8_empty: bool,
+) -> Result<Option<HalfMatch>, MatchError>
+    requires made { IsReverseCacheOf program.now cache.old }
+    ensures answer { IfOk result (λ found. (p : ByteProgram) → IsReverseOf p program.now
+        → IsHalfAnswerBack p (search_of utf8_empty input.old) found) }
+    ensures anchored { OnOk result
+        (IsTrue (is_anchored (anchoring_of input.old.asked.anchored))) }
+    ensures made { IsReverseCacheOf program.now cache.new }
+    ensures same { IsSameContent input.old.cursor input.new.cursor }
+    ensures asked { input.new.asked ≡ input.old.asked }
+    ensures refused { IfErr result (IsRefusalBack (search_of utf8_empty input.old)) }
+{
+    let mode = input.get_anchored();
+    if !mode.is_anchored() {
+        return Err(MatchError::UnsupportedAnchored { mode });
+    }
+    // Laws, for the proof alone.
+    program.reads_backwards();
+    program_is_searched_back::<CharacterSet>();
+    if !enter_end(input) {
+        return Ok(None);
+    }
+    let Some(start) = start_state(program, mode) else {
+        return Ok(None);
+    };
+    let end = input.position();
+    let may = may_be_empty(input, utf8_empty);
+    let best = cache.walks.follow(program, input, start)?;
+    Ok(told(best, end, may))
+}
