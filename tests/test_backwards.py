@@ -1,6 +1,6 @@
-"""What searches backwards find, of one pattern or of several, on bin/search-driver: of the matches that end at the end of
-the span the least start, then the least pattern, in haystacks that lie in pieces, and perhaps in slices and spans and
-under settings. Both engines over automata must answer so too.
+"""What searches backwards find, of one pattern or of several, on bin/search-driver: of the matches that end at the end
+of the span the least start, then the least pattern, in haystacks that lie in pieces, and perhaps in slices and spans
+and under settings. Both engines over automata must answer so too.
 
 Its answers are those that stand here, and those of the model of tests/walks.py to cases at random and to all spans of
 short haystacks.

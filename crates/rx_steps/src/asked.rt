@@ -41,6 +41,19 @@ fn is_word_look(look: Look) -> bool
 }
 
 impl AskedLooks {
+    /// With a further look that is asked for.
+    fn with_look(self, look: Look) -> AskedLooks
+        ensures any { result.any ≡ (is_look (place_of look) || self.any) }
+        ensures lines { result.lines ≡ (is_of_lines (place_of look) || self.lines) }
+        ensures words { result.words ≡ (asks_characters (place_of look) || self.words) }
+    {
+        AskedLooks {
+            any: true,
+            lines: is_line_look(look) || self.lines,
+            words: is_word_look(look) || self.words,
+        }
+    }
+
     /// With what a further state asks for.
     fn with(self, state: &State) -> AskedLooks
         ensures any { result.any ≡ (asks_for is_look state.now || self.any) }
@@ -48,11 +61,7 @@ impl AskedLooks {
         ensures words { result.words ≡ (asks_for asks_characters state.now || self.words) }
     {
         match state {
-            State::Look(look, _) => AskedLooks {
-                any: true,
-                lines: is_line_look(*look) || self.lines,
-                words: is_word_look(*look) || self.words,
-            },
+            State::Look(look, _) => self.with_look(*look),
             _ => self,
         }
     }
@@ -80,11 +89,7 @@ impl AskedLooks {
             ≡ (asks_for asks_characters (state_of state.now) || self.words) }
     {
         match state {
-            ReverseState::Look(look, _) => AskedLooks {
-                any: true,
-                lines: is_line_look(*look) || self.lines,
-                words: is_word_look(*look) || self.words,
-            },
+            ReverseState::Look(look, _) => self.with_look(*look),
             _ => self,
         }
     }
