@@ -10,3 +10,4 @@ pub mod BuildingLemmas
 mod LeftLemmas
 mod ChunkLemmas
 mod AloneLemmas
+mod SubstitutionLemmas

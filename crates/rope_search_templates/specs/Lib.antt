@@ -4,3 +4,4 @@ pub mod Told
 pub mod Pieces
 pub mod Left
 pub mod Laws
+pub mod Substitutions

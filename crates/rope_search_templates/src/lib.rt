@@ -1,4 +1,4 @@
-//! Matches replaced by what a template stands for.
+//! Matches replaced by what a template stands for, and parts of a text by others.
 #![tactic(auto)]
 
 pub mod laws;
@@ -6,9 +6,11 @@ mod left;
 mod matches;
 mod pieces;
 mod replacing;
+mod substitutions;
 mod templates;
 mod told;
 
 pub use matches::Matches;
 pub use replacing::{Replacement, is_over, replace_all};
+pub use substitutions::{Substitution, substitute_all};
 pub use templates::Template;
