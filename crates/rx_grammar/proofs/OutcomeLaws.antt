@@ -10,7 +10,7 @@ use Rattle.rx_grammar.specs.Stacks.{IsRefusal, IsReason}
 not_never : {text : List ℕ} {settings : Settings} → IsTooDeep text settings → NeverSpells text settings → ⊥
 not_never deep never = never deep.limit deep.tree deep.spells
 
-never_here : {text : List ℕ} {settings : Settings} {tree : Tree} → Spells text settings tree → NeverSpells text settings → ⊥
+pub never_here : {text : List ℕ} {settings : Settings} {tree : Tree} → Spells text settings tree → NeverSpells text settings → ⊥
 never_here {settings = settings} {tree = tree} spells never = never settings.nest_limit tree spells
 
 pub nesting_exactly : {T : Type 0} (text : List ℕ) (settings : Settings) (tree : T → Tree) (r : Result T SyntaxError) → IfOk r (λ x. Spells text settings (tree x)) → IfErr r (λ e. IsReason e text settings)

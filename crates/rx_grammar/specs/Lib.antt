@@ -12,6 +12,7 @@ pub mod Groups
 pub mod Grammar
 pub mod Postorder
 pub mod Nodes
+pub mod Refusals
 pub mod Laws
 pub mod Examples
 -- the words of the parser's own parts

@@ -37,7 +37,7 @@ fn is_literal(c: char) -> bool
 }
 
 /// The look that an escape spells, by its letter.
-fn look_of(letter: char) -> Option<Look>
+pub(crate) fn look_of(letter: char) -> Option<Look>
     ensures { result ≡ look_of letter }
 {
     match letter {

@@ -20,7 +20,7 @@ fn is_class_literal(c: char) -> bool
 }
 
 /// Whether two of the character in a row don't stand in a class: `&`, `-` and `~`.
-fn doubles(c: char) -> bool
+pub(crate) fn doubles(c: char) -> bool
     ensures { result ≡ doubles c }
 {
     c == '&' || c == '-' || c == '~'

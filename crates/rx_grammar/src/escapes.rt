@@ -26,7 +26,7 @@ pub(crate) fn escaped_by(c: char) -> Option<char>
 }
 
 /// The greatest scalar value.
-const MAX_SCALAR: u32 = 0x10_FFFF;
+pub(crate) const MAX_SCALAR: u32 = 0x10_FFFF;
 
 /// The scalar value that hexadecimal digits spell, and `None` where they spell none.
 fn scalar_of(digits: &[char]) -> Option<char>

@@ -108,7 +108,7 @@ fn flag_changes<'a>(
 }
 
 /// Whether a name may begin with the character.
-fn is_name_start(c: char) -> bool
+pub(crate) fn is_name_start(c: char) -> bool
     ensures { result ≡ is_name_start c }
 {
     c.is_ascii_alphabetic() || c == '_'

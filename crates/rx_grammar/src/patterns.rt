@@ -13,7 +13,7 @@ use crate::syntax::Config;
 use std::alloc::{AllocError, Global};
 
 /// The greatest number of bytes of a pattern.
-const MAX_BYTES: usize = 65_536;
+pub(crate) const MAX_BYTES: usize = 65_536;
 
 /// Whether the name stands among the names.
 fn stands_in(name: &str, names: &[&str]) -> bool

@@ -14,6 +14,7 @@
 //! - `parse,PATTERN,SETTINGS`: the pattern's weight, its tree, and what is known of its parts.
 //! - `weigh,PATTERN,SETTINGS`: how many nodes the tree has, its weight, and its program's size.
 //! - `groups,PATTERN,SETTINGS`: the names of the groups, a dash for one without a name.
+//! - `explain,PATTERN,SETTINGS`: the place and the reason for which the pattern is refused.
 //! - `compile,PATTERN,SETTINGS,LIMIT`: the states of the program.
 //! - `build,PATTERN,SETTINGS,LIMIT`: how many they are.
 //! - `reversed,PATTERN,SETTINGS,LIMIT`: the program turned round: where its walks start, its
@@ -67,6 +68,7 @@
 
 mod automata;
 mod every;
+mod explained;
 mod fields;
 mod haystacks;
 mod inputs;
@@ -94,6 +96,7 @@ fn answer(alloc: Global, line: &str) -> Result<String, Fault> {
         "parse" => patterns::tree(alloc, &fields),
         "weigh" => patterns::weight(alloc, &fields),
         "groups" => patterns::groups(alloc, &fields),
+        "explain" => explained::refusal(alloc, &fields),
         "compile" => programs::states(alloc, &fields),
         "build" => programs::size(alloc, &fields),
         "reversed" => reversed::states(alloc, &fields),
