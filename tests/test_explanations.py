@@ -104,6 +104,8 @@ def endings(front):
         ends += count_ends(front)
     if "(?" in front:
         ends += HEAD_ENDS
+    if front.endswith("("):
+        ends.append("?i)")
     return [end + ")" * count for count in range(front.count("(") + 1) for end in ends]
 
 
@@ -154,7 +156,7 @@ def wrong_at_random(texts):
 def deep_texts(limit):
     """Texts that are patterns, but not where groups and repetitions stand in one another so deep at most, and the place
     of the first character with which no pattern of that depth goes on."""
-    texts = [text for text, due in texts_over("", NESTED, 5) if due == PATTERN]
+    texts = [text for text, due in texts_over("", NESTED, 4 + (limit > 0)) if due == PATTERN]
     with_limit, pattern_model.NEST_LIMIT = pattern_model.NEST_LIMIT, limit
     try:
         deep = [text for text in texts if not is_pattern(text)]
