@@ -5,8 +5,6 @@
 #[cfg(test)]
 mod all;
 #[cfg(test)]
-mod backwards;
-#[cfg(test)]
 mod chunk;
 #[cfg(test)]
 mod grammar;
