@@ -349,6 +349,18 @@ class Search:
         places = range(self.low, min(end, self.high) + 1)
         return next((place for place in places if end in self.ends(place) and self.counts(place, end)), None)
 
+    def find_backwards(self, pattern=None):
+        """Of the walks that end where the span ends and count the least start, then the least pattern, as pattern and
+        start, or None. With `pattern` those of that pattern alone."""
+        if pattern is not None and pattern >= len(self.trees):
+            return None
+        node, end = self.program.start if pattern is None else self.program.patterns[pattern], self.span[1]
+        for place in range(self.low, min(end, self.high) + 1):
+            matched = [matched for matched, last in self.walked(node, place) if last == end]
+            if matched and self.counts(place, end):
+                return min(matched), place
+        return None
+
     def find_all(self, start, pattern=None):
         """Where all matches are wanted: of the walks that count, from all places from `start` on, or from that one
         alone, the greatest end, then the least start, then the least pattern, as pattern, start and end, or None.

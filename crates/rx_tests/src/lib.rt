@@ -5,6 +5,8 @@
 #[cfg(test)]
 mod all;
 #[cfg(test)]
+mod backwards;
+#[cfg(test)]
 mod chunk;
 #[cfg(test)]
 mod grammar;

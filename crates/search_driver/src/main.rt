@@ -34,6 +34,11 @@
 //!   patterns, parted by dots (a dash stands for no pattern), the one of the greatest end, then of
 //!   the least start, then of the least pattern, as its pattern, start and end, or `none`. Any
 //!   match will do where `EARLIEST` is 1, and the cache serves a second time where `AGAIN` is 1.
+//! - `backwards,PATTERNS,SETTINGS,CUT,HAYSTACK,ASKED,INSIDE,TIMES`: of the matches of several
+//!   patterns that end at the end of the span the one of the least start, then of the least
+//!   pattern, as its pattern and start, or `none`, or why there is no answer; once the cache has
+//!   served so many searches before. Where no byte is told that ends lines and `INSIDE` isn't 1,
+//!   both engines over automata must answer the same.
 //! - `several,PATTERNS,SETTINGS,CUT,HAYSTACK,ASKED`: all matches of several patterns, each with the
 //!   number of its pattern where there are two or more, by a `Regex` of them; the first of them
 //!   must be found by each other engine too. It has no settings: these fields aren't read.
@@ -67,6 +72,7 @@
 #![tactic(auto)]
 
 mod automata;
+mod backwards;
 mod every;
 mod explained;
 mod fields;
@@ -106,6 +112,7 @@ fn answer(alloc: Global, line: &str) -> Result<String, Fault> {
         "advance" | "advance_half" => searchers::matches(alloc, &fields),
         "slots" => slots::noted(alloc, &fields),
         "all" => every::found(alloc, &fields),
+        "backwards" => backwards::found(alloc, &fields),
         "several" => several::matches(alloc, &fields),
         "regex" => regexes::in_pieces(alloc, &fields),
         "rope" | "counts" | "split" => regexes::in_rope(alloc, &fields),
