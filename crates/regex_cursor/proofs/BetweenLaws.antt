@@ -9,7 +9,7 @@ use Rattle.rx_literals.specs.Needles.{AreNeedles, FoundAt, no_needle, this_needl
 use Rattle.rx_literals.specs.Beginnings.{BeginsWith, NoNeedleNoMatch}
 use Rattle.rx_literals.proofs.NeedleLaws.{found_start}
 use Rattle.regex_cursor.specs.Patterns.{HasNoMatchBetween, TreeFinds, program_for, search_from}
-use Rattle.regex_cursor.specs.Regexes.{Engine, IsRegexOf}
+use Rattle.regex_cursor.specs.Regexes.{RegexView, IsRegexOf}
 use Rattle.regex_cursor.proofs.PatternLemmas.{program-is}
 
 -- a place of a part of a content is a place of the content, which may be cut behind that part
@@ -58,7 +58,7 @@ found_within {bytes} {needles} (at_least_place i low high here before) e =
 
 -- ---- what that tells of a regex whose matches begin with the needles
 
-module _ (text : List ℕ) (re : Engine) (built : IsRegexOf text re) (needles : List (List ℕ)) (begins : BeginsWith needles (characters_of re.program)) (are : AreNeedles needles) (law : NoNeedleNoMatch) where
+module _ (text : List ℕ) (re : RegexView) (built : IsRegexOf text re) (needles : List (List ℕ)) (begins : BeginsWith needles (characters_of re.engine.program)) (are : AreNeedles needles) (law : NoNeedleNoMatch) where
   none_there : (part : List ℕ) → ((i : ℕ) → i < length part → FoundAt part i needles None) → TreeFinds built.tree part 0 None
   none_there part none =
       let of_tree : BeginsWith needles (program_for built.tree) = subst (λ p. BeginsWith needles p) (program-is text re built) begins in

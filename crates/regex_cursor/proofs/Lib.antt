@@ -1,10 +1,12 @@
 pub mod BetweenLaws
+pub mod BuildLaws
 pub mod FewLaws
 pub mod OrderLaws
 pub mod ShowingLaws
 pub mod PatternLemmas
 pub mod PlaceLaws
 pub mod LeftLaws
+pub mod LiteralLaws
 pub mod StrategyLaws
 pub mod SetLaws
 pub mod StartLaws

@@ -27,7 +27,7 @@ use Rattle.regex_cursor.specs.declared.engines.meta.find_matches.FindMatches.{Fi
 use Rattle.regex_cursor.specs.declared.engines.meta.split.Split.{Split}
 use Rattle.regex_cursor.specs.declared.engines.meta.split_n.SplitN.{SplitN}
 use Rattle.regex_cursor.specs.Patterns.{FoundMatch, start_of, end_of}
-use Rattle.regex_cursor.specs.Regexes.{Engine, HasRoom}
+use Rattle.regex_cursor.specs.Regexes.{RegexView, HasRoom}
 use Rattle.regex_cursor.specs.Iterating as iterating
 use Rattle.regex_cursor.specs.Capturing as capturing
 use Rattle.regex_cursor.specs.Splitting as splitting
@@ -157,26 +157,26 @@ module _ (p : ByteProgram) (grow : (s : Search) → HasFirstMatches is_in is_wor
       refused = λ n items error others run. after_refusal m n items error others searches run;
     }
 
-abbrev pub MatchesGrow : Engine → Type 0
-MatchesGrow re = (s : Search) → HasFirstMatches is_in is_word_char (characters_of re.program) s
+abbrev pub MatchesGrow : RegexView → Type 0
+MatchesGrow re = (s : Search) → HasFirstMatches is_in is_word_char (characters_of re.engine.program) s
 
-pub finds_in_order : {C : Type 0} (re : Engine) (s : Search) (m : FindMatches C) → MatchesGrow re → iterating.regex_of m ≡ re → iterating.left_of m ≡ matches_from s
+pub finds_in_order : {C : Type 0} (re : RegexView) (s : Search) (m : FindMatches C) → MatchesGrow re → iterating.regex_of m ≡ re → iterating.left_of m ≡ matches_from s
     → iterating.GivesAll re s m
 finds_in_order {C} re s m grow is stands =
-    in_order re.program grow s match_of iterating.left_of iterating.Gives (λ n. iterating.regex_of n ≡ re)
+    in_order re.engine.program grow s match_of iterating.left_of iterating.Gives (λ n. iterating.regex_of n ≡ re)
     (λ (a b : FindMatches C) (item : Option (Result Found MatchError)) (of : iterating.regex_of a ≡ re) (step : iterating.Gives a item b). (
       step.same_regex ∙ of,
-      subst (λ r. GivesMatch (Finds r.program) match_of (iterating.left_of a) item (iterating.left_of b)) of step.next.gives,
+      subst (λ r. GivesMatch (Finds r.engine.program) match_of (iterating.left_of a) item (iterating.left_of b)) of step.next.gives,
     ))
     m is stands
 
-pub captures_in_order : {C : Type 0} {cursor : Ghosts C} (re : Engine) (s : Search) (m : CapturesMatches C cursor) → MatchesGrow re → capturing.regex_of m ≡ re → capturing.left_of m ≡ matches_from s
+pub captures_in_order : {C : Type 0} {cursor : Ghosts C} (re : RegexView) (s : Search) (m : CapturesMatches C cursor) → MatchesGrow re → capturing.regex_of m ≡ re → capturing.left_of m ≡ matches_from s
     → capturing.GivesAll re s m
 captures_in_order {C} {cursor} re s m grow is stands =
-    in_order re.program grow s (captured_of re.groups (slot_len re.groups)) capturing.left_of capturing.Gives (λ n. capturing.regex_of n ≡ re)
+    in_order re.engine.program grow s (captured_of re.engine.groups (slot_len re.engine.groups)) capturing.left_of capturing.Gives (λ n. capturing.regex_of n ≡ re)
     (λ (a b : CapturesMatches C cursor) (item : Option (Result Captured MatchError)) (of : capturing.regex_of a ≡ re) (step : capturing.Gives a item b). (
       step.same_regex ∙ of,
-      subst (λ r. GivesMatch (Finds r.program) (captured_of r.groups (slot_len r.groups)) (capturing.left_of a) item (capturing.left_of b)) of step.next.gives,
+      subst (λ r. GivesMatch (Finds r.engine.program) (captured_of r.engine.groups (slot_len r.engine.groups)) (capturing.left_of a) item (capturing.left_of b)) of step.next.gives,
     ))
     m is stands
 
@@ -320,27 +320,27 @@ take-none : (n : ℕ) → take {A = FoundMatch} n [] ≡ []
 take-none zero = refl
 take-none (suc n) = refl
 
-module _ (C : Type 0) (re : Engine) (grow : MatchesGrow re) (s : Search) where
+module _ (C : Type 0) (re : RegexView) (grow : MatchesGrow re) (s : Search) where
   abbrev Splits : Split C → Type 0
   Splits m = splitting.regex_of m ≡ re
 
   abbrev First : List FoundMatch → Type 0
-  First ms = ProgramFirstMatches is_in is_word_char (characters_of re.program) s ms
+  First ms = ProgramFirstMatches is_in is_word_char (characters_of re.engine.program) s ms
 
   abbrev All : List FoundMatch → Type 0
-  All ms = ProgramMatches is_in is_word_char (characters_of re.program) s ms
+  All ms = ProgramMatches is_in is_word_char (characters_of re.engine.program) s ms
 
   abbrev Stands : List FoundMatch → PartsLeft → Type 0
   Stands ms a = a ≡ parts_behind s (last_or None ms)
 
   step-of : (m n : Split C) (item : Option (Result Span MatchError)) → Splits m → splitting.Gives m item n
-      → Splits n × SplitsOff re.program (splitting.left_of m) (splitting.left_of n) item
-  step-of m n item of step = (step.same_regex ∙ of, subst (λ r. SplitsOff r.program (splitting.left_of m) (splitting.left_of n) item) of step.next)
+      → Splits n × SplitsOff re.engine.program (splitting.left_of m) (splitting.left_of n) item
+  step-of m n item of step = (step.same_regex ∙ of, subst (λ r. SplitsOff r.engine.program (splitting.left_of m) (splitting.left_of n) item) of step.next)
 
   over-none : (m n : Split C) (items : List (Result Span MatchError)) → Splits m → (splitting.left_of m).is_over ≡ true → Yields splitting.Gives m items n → items ≡ []
   over-none m n [] of done run = refl
   over-none m n (item ∷ items) of done run =
-      absurd (over-gives re.program (splitting.left_of m) (splitting.left_of run.0) item done (step-of m run.0 (Some item) of run.1).1)
+      absurd (over-gives re.engine.program (splitting.left_of m) (splitting.left_of run.0) item done (step-of m run.0 (Some item) of run.1).1)
 
   -- where the matches are, behind so many of them
   matches-stand : (ms : List FoundMatch) (a : PartsLeft) → Stands ms a → a.matches ≡ left_behind s (last_or None ms)
@@ -349,10 +349,10 @@ module _ (C : Type 0) (re : Engine) (grow : MatchesGrow re) (s : Search) where
   starts-at : (ms : List FoundMatch) (a : PartsLeft) → Stands ms a → a.last ≡ part_start (last_or None ms)
   starts-at ms a stands = ap (λ x. x.last) stands ∙ starts_behind s (last_or None ms)
 
-  all-matches : (ms : List FoundMatch) (a b : PartsLeft) → First ms → Stands ms a → GivesNext {A = Found} re.program match_of a.matches None b.matches → All ms
+  all-matches : (ms : List FoundMatch) (a b : PartsLeft) → First ms → Stands ms a → GivesNext {A = Found} re.engine.program match_of a.matches None b.matches → All ms
   all-matches ms a b are stands next =
       let there = matches-stand ms a stands in
-      all_of re.program grow s ms a.matches are there (next.gives.0 (ap (λ x. x.is_over) there ∙ never_over s (last_or None ms)))
+      all_of re.engine.program grow s ms a.matches are there (next.gives.0 (ap (λ x. x.is_over) there ∙ never_over s (last_or None ms)))
 
   end-is : (ms : List FoundMatch) (a : PartsLeft) → Stands ms a → end_of_search a.matches.search ≡ end_of_search s
   end-is ms a stands = ap (λ x. end_of_search x.search) (matches-stand ms a stands) ∙ ends_there s (last_or None ms)
@@ -364,17 +364,17 @@ module _ (C : Type 0) (re : Engine) (grow : MatchesGrow re) (s : Search) where
     stands : Stands (ms ++ t ∷ []) b
     part_is : x ≡ between (part_start (last_or None ms)) (start_of t)
 
-  one-more : (ms : List FoundMatch) (a b : PartsLeft) (x : Span) → First ms → Stands ms a → AtMatch re.program a b x → OneMore ms b x
+  one-more : (ms : List FoundMatch) (a b : PartsLeft) (x : Span) → First ms → Stands ms a → AtMatch re.engine.program a b x → OneMore ms b x
   one-more ms a b x are stands at =
       let there = matches-stand ms a stands in
-      let step : GivesFound (Finds re.program) match_of a.matches at.found b.matches = at.next.gives in
+      let step : GivesFound (Finds re.engine.program) match_of a.matches at.found b.matches = at.next.gives in
       let t = step.found in
-      let behind = stands_behind re.program grow s ms a.matches b.matches t there step.left_is in
+      let behind = stands_behind re.engine.program grow s ms a.matches b.matches t there step.left_is in
       let last_is = at.last_is ∙ ap (λ f. f.span.end) step.item_is in
       let shown : last_or None (ms ++ t ∷ []) ≡ Some t = last_of_more None ms t in
       record {
         t = t;
-        first = one_more re.program grow s ms a.matches t are there step.next;
+        first = one_more re.engine.program grow s ms a.matches t are there step.next;
         stands = parts-are s b t (behind ∙ ap (left_behind s) shown) last_is at.goes_on ∙ ap (parts_behind s) (sym shown);
         part_is = at.part_is ∙ ap₂ between (starts-at ms a stands) (ap (λ f. f.span.start) step.item_is);
       }
@@ -406,7 +406,7 @@ module _ (C : Type 0) (re : Engine) (grow : MatchesGrow re) (s : Search) where
   first-parts ms m n (x ∷ xs) of are stands run =
       let j = run.0 in
       let step = step-of m j (Some (Ok x)) of run.1 in
-      elim (gives-part re.program (splitting.left_of m) (splitting.left_of j) x step.1) [
+      elim (gives-part re.engine.program (splitting.left_of m) (splitting.left_of j) x step.1) [
         | inl at ↦
             let one = one-more ms (splitting.left_of m) (splitting.left_of j) x are stands at in
             let on = first-parts (ms ++ one.t ∷ []) j n xs step.0 one.first one.stands run.2 in (
@@ -429,7 +429,7 @@ module _ (C : Type 0) (re : Engine) (grow : MatchesGrow re) (s : Search) where
   all-parts ms m t u [] of are stands run last =
       let step = step-of m u None of (subst (λ k. splitting.Gives k None u) (sym run) last) in
       let going = ap (λ a. a.is_over) stands ∙ parts_go_on s (last_or None ms) in
-      let no = gives-none re.program (splitting.left_of m) (splitting.left_of u) going step.1 in (
+      let no = gives-none re.engine.program (splitting.left_of m) (splitting.left_of u) going step.1 in (
         [],
         subst All (sym (append-nil ms)) (all-matches ms (splitting.left_of m) (splitting.left_of u) are stands no.next),
         sym (no-gap ms (splitting.left_of m) stands no.rest),
@@ -437,7 +437,7 @@ module _ (C : Type 0) (re : Engine) (grow : MatchesGrow re) (s : Search) where
   all-parts ms m t u (x ∷ xs) of are stands run last =
       let j = run.0 in
       let step = step-of m j (Some (Ok x)) of run.1 in
-      elim (gives-part re.program (splitting.left_of m) (splitting.left_of j) x step.1) [
+      elim (gives-part re.engine.program (splitting.left_of m) (splitting.left_of j) x step.1) [
         | inl at ↦
             let one = one-more ms (splitting.left_of m) (splitting.left_of j) x are stands at in
             let on = all-parts (ms ++ one.t ∷ []) j t u xs step.0 one.first one.stands run.2 last in (
@@ -457,7 +457,7 @@ module _ (C : Type 0) (re : Engine) (grow : MatchesGrow re) (s : Search) where
       → Yields splitting.Gives m (not_refused xs ++ Err error ∷ others) n → others ≡ []
   none-behind-refusal m n [] error others of run =
       let step = step-of m run.0 (Some (Err error)) of run.1 in
-      over-none run.0 n others step.0 (is-refused re.program (splitting.left_of m) (splitting.left_of run.0) error step.1) run.2
+      over-none run.0 n others step.0 (is-refused re.engine.program (splitting.left_of m) (splitting.left_of run.0) error step.1) run.2
   none-behind-refusal m n (x ∷ xs) error others of run =
       none-behind-refusal run.0 n xs error others (step-of m run.0 (Some (Ok x)) of run.1).0 run.2
 
@@ -476,13 +476,13 @@ module _ (C : Type 0) (re : Engine) (grow : MatchesGrow re) (s : Search) where
   abbrev PartsOf : SplitN C → PartsLeft
   PartsOf m = (few.left_of m).parts
 
-  few-step : (m n : SplitN C) (item : Option (Result Span MatchError)) → SplitsToo m → few.Gives m item n → SplitsToo n × SplitsFew re.program (PartsOf m) (PartsOf n) m.limit n.limit item
-  few-step m n item of step = (step.same_regex ∙ of, subst (λ r. SplitsFew r.program (PartsOf m) (PartsOf n) m.limit n.limit item) of step.next)
+  few-step : (m n : SplitN C) (item : Option (Result Span MatchError)) → SplitsToo m → few.Gives m item n → SplitsToo n × SplitsFew re.engine.program (PartsOf m) (PartsOf n) m.limit n.limit item
+  few-step m n item of step = (step.same_regex ∙ of, subst (λ r. SplitsFew r.engine.program (PartsOf m) (PartsOf n) m.limit n.limit item) of step.next)
 
   few-give-none : (m n : SplitN C) (items : List (Result Span MatchError)) → SplitsToo m → (m.limit ≡ 0) ⊎ ((PartsOf m).is_over ≡ true) → Yields few.Gives m items n → items ≡ []
   few-give-none m n [] of done run = refl
   few-give-none m n (item ∷ items) of done run =
-      absurd (few-over re.program (PartsOf m) (PartsOf run.0) m.limit run.0.limit (Some item) item refl done (few-step m run.0 (Some item) of run.1).1)
+      absurd (few-over re.engine.program (PartsOf m) (PartsOf run.0) m.limit run.0.limit (Some item) item refl done (few-step m run.0 (Some item) of run.1).1)
 
   few-give-no-part : (m n : SplitN C) (xs : List Span) → SplitsToo m → (m.limit ≡ 0) ⊎ ((PartsOf m).is_over ≡ true) → Yields few.Gives m (not_refused xs) n → xs ≡ []
   few-give-no-part m n xs of done run = none-refused xs (few-give-none m n (not_refused xs) of done run)
@@ -511,8 +511,8 @@ module _ (C : Type 0) (re : Engine) (grow : MatchesGrow re) (s : Search) where
   few-first ms m n (x ∷ xs) of are stands run =
       let j = run.0 in
       let step = few-step m j (Some (Ok x)) of run.1 in
-      elim (few-part re.program (PartsOf m) (PartsOf j) m.limit j.limit (Some (Ok x)) x refl step.1) [
-        | inl next ↦ elim (gives-part re.program (PartsOf m) (PartsOf j) x next.step) [
+      elim (few-part re.engine.program (PartsOf m) (PartsOf j) m.limit j.limit (Some (Ok x)) x refl step.1) [
+        | inl next ↦ elim (gives-part re.engine.program (PartsOf m) (PartsOf j) x next.step) [
           | inl at ↦
               let one = one-more ms (PartsOf m) (PartsOf j) x are stands at in
               let on = few-first (ms ++ one.t ∷ []) j n xs step.0 one.first one.stands run.2 in (
@@ -543,10 +543,10 @@ module _ (C : Type 0) (re : Engine) (grow : MatchesGrow re) (s : Search) where
   few-all ms m t u [] of are stands run last =
       let step = few-step m u None of (subst (λ k. few.Gives k None u) (sym run) last) in
       let going = ap (λ a. a.is_over) stands ∙ parts_go_on s (last_or None ms) in
-      elim (few-none re.program (PartsOf m) (PartsOf u) m.limit u.limit None refl going step.1) [
+      elim (few-none re.engine.program (PartsOf m) (PartsOf u) m.limit u.limit None refl going step.1) [
         | inl zero_left ↦ (are.0, are.1, ap (λ k. FewGaps k ms are.0) (sym zero_left))
         | inr (inl next) ↦
-            let no = gives-none re.program (PartsOf m) (PartsOf u) going next.step in (
+            let no = gives-none re.engine.program (PartsOf m) (PartsOf u) going next.step in (
               [],
               subst All (sym (append-nil ms)) (all-matches ms (PartsOf m) (PartsOf u) are stands no.next),
               sym (ap (λ k. FewGaps k ms []) next.limit_is ∙ few-gaps-last u.limit ms ∙ no-gap ms (PartsOf m) stands no.rest),
@@ -556,8 +556,8 @@ module _ (C : Type 0) (re : Engine) (grow : MatchesGrow re) (s : Search) where
   few-all ms m t u (x ∷ xs) of are stands run last =
       let j = run.0 in
       let step = few-step m j (Some (Ok x)) of run.1 in
-      elim (few-part re.program (PartsOf m) (PartsOf j) m.limit j.limit (Some (Ok x)) x refl step.1) [
-        | inl next ↦ elim (gives-part re.program (PartsOf m) (PartsOf j) x next.step) [
+      elim (few-part re.engine.program (PartsOf m) (PartsOf j) m.limit j.limit (Some (Ok x)) x refl step.1) [
+        | inl next ↦ elim (gives-part re.engine.program (PartsOf m) (PartsOf j) x next.step) [
           | inl at ↦
               let one = one-more ms (PartsOf m) (PartsOf j) x are stands at in
               let on = few-all (ms ++ one.t ∷ []) j t u xs step.0 one.first one.stands run.2 last in (
@@ -584,7 +584,7 @@ module _ (C : Type 0) (re : Engine) (grow : MatchesGrow re) (s : Search) where
       → Yields few.Gives m (not_refused xs ++ Err error ∷ others) n → others ≡ []
   few-none-behind-refusal m n [] error others of run =
       let step = few-step m run.0 (Some (Err error)) of run.1 in
-      few-give-none run.0 n others step.0 (inr (few-refused re.program (PartsOf m) (PartsOf run.0) m.limit run.0.limit (Some (Err error)) error refl step.1)) run.2
+      few-give-none run.0 n others step.0 (inr (few-refused re.engine.program (PartsOf m) (PartsOf run.0) m.limit run.0.limit (Some (Err error)) error refl step.1)) run.2
   few-none-behind-refusal m n (x ∷ xs) error others of run =
       few-none-behind-refusal run.0 n xs error others (few-step m run.0 (Some (Ok x)) of run.1).0 run.2
 
@@ -596,5 +596,5 @@ module _ (C : Type 0) (re : Engine) (grow : MatchesGrow re) (s : Search) where
   }
 
 -- that captures have room is told in one way
-pub same-room : (re : Engine) (caps : Captured) (one other : HasRoom re caps) → one ≡ other
+pub same-room : (re : RegexView) (caps : Captured) (one other : HasRoom re caps) → one ≡ other
 same-room re caps = hlevel props

@@ -22,11 +22,11 @@ use Rattle.unicode.specs.Perl.{is_word_char}
 use Rattle.rx_utf8.specs.Automata.{is_in}
 use Rattle.regex_cursor.specs.Patterns.{FoundMatch, ProgramFinds, AsksFrom, TreeFinds, TreeFindsIn, answer_slots, match_of, pattern_weight, program_for, search_from, weight_limit}
 use Rattle.regex_cursor.specs.PatternLaws.{HasNotedGroups, SaysOfText}
-use Rattle.regex_cursor.specs.Regexes.{Engine, IsRegexOf, IsRefusedAsRegex, TellsMatch, TellsSlots, search_by}
+use Rattle.regex_cursor.specs.Regexes.{RegexView, IsRegexOf, IsRefusedAsRegex, TellsMatch, TellsSlots, search_by}
 
-pub light-of : (text : List ℕ) (re : Engine) → (built : IsRegexOf text re) → pattern_weight built.tree ≤ weight_limit
+pub light-of : (text : List ℕ) (re : RegexView) → (built : IsRegexOf text re) → pattern_weight built.tree ≤ weight_limit
 light-of text re built = elim (cases_lt weight_limit (pattern_weight built.tree)) [
-  | inl heavy ↦ absurd (built.built.fits (omega (arith, heavy)))
+  | inl heavy ↦ absurd (built.built.engine.fits (omega (arith, heavy)))
   | inr light ↦ omega (arith, light)
 ]
 
@@ -42,11 +42,11 @@ search_with content asked utf8_empty = record {
   utf8_empty = utf8_empty;
 }
 
-search-is : (re : Engine) (content : List ℕ) (from : ℕ) (input : InputState) → re.utf8_empty ≡ true → AsksFrom content from input → search_by re input ≡ search_from content from
+search-is : (re : RegexView) (content : List ℕ) (from : ℕ) (input : InputState) → re.engine.utf8_empty ≡ true → AsksFrom content from input → search_by re.engine input ≡ search_from content from
 unfolding search_with
 search-is re content from input utf8 asks =
-    ap (λ c. search_with c input.asked re.utf8_empty) asks.content_is
-    ∙ ap (λ a. search_with content a re.utf8_empty) asks.asked_is
+    ap (λ c. search_with c input.asked re.engine.utf8_empty) asks.content_is
+    ∙ ap (λ a. search_with content a re.engine.utf8_empty) asks.asked_is
     ∙ ap (λ u. search_with content (record {
       span = record { start = from; end = length content };
       slice = record { start = 0; end = length content };
@@ -54,45 +54,45 @@ search-is re content from input utf8 asks =
       earliest = false;
     }) u) utf8
 
-pub program-is : (text : List ℕ) (re : Engine) → (built : IsRegexOf text re) → characters_of re.program ≡ program_for built.tree
-program-is text re built = built.built.of_trees.program ∙ ap (λ t. program_of (built.tree ∷ []) t) built.built.line_terminator
+pub program-is : (text : List ℕ) (re : RegexView) → (built : IsRegexOf text re) → characters_of re.engine.program ≡ program_for built.tree
+program-is text re built = built.built.engine.of_trees.program ∙ ap (λ t. program_of (built.tree ∷ []) t) built.built.engine.line_terminator
 
 -- what its program finds for an input is what the tree has there
-tree-finds : (text : List ℕ) (re : Engine) → (built : IsRegexOf text re) → (content : List ℕ) (from : ℕ) (input : InputState) (out : Option FoundMatch) → AsksFrom content from input
-    → ProgramFinds is_in is_word_char (characters_of re.program) (search_by re input) out → TreeFinds built.tree content from out
+tree-finds : (text : List ℕ) (re : RegexView) → (built : IsRegexOf text re) → (content : List ℕ) (from : ℕ) (input : InputState) (out : Option FoundMatch) → AsksFrom content from input
+    → ProgramFinds is_in is_word_char (characters_of re.engine.program) (search_by re.engine input) out → TreeFinds built.tree content from out
 tree-finds text re built content from input out asks finds =
-    let P : Program Look (List Range) → Type 0 = λ p. ProgramFinds is_in is_word_char p (search_by re input) out in
+    let P : Program Look (List Range) → Type 0 = λ p. ProgramFinds is_in is_word_char p (search_by re.engine input) out in
     let Q : Search → Type 0 = λ s. ProgramFinds is_in is_word_char (program_for built.tree) s out in
-    subst Q (search-is re content from input built.built.utf8_empty asks) (subst P (program-is text re built) finds)
+    subst Q (search-is re content from input built.built.engine.utf8_empty asks) (subst P (program-is text re built) finds)
 
 -- the same of whatever an input asks for
-asked-finds : (text : List ℕ) (re : Engine) → (built : IsRegexOf text re) → (s : Search) (out : Option FoundMatch) → ProgramFinds is_in is_word_char (characters_of re.program) s out → TreeFindsIn built.tree s out
+asked-finds : (text : List ℕ) (re : RegexView) → (built : IsRegexOf text re) → (s : Search) (out : Option FoundMatch) → ProgramFinds is_in is_word_char (characters_of re.engine.program) s out → TreeFindsIn built.tree s out
 asked-finds text re built s out finds =
     let P : Program Look (List Range) → Type 0 = λ p. ProgramFinds is_in is_word_char p s out in
     subst P (program-is text re built) finds
 
-pub tells-of : (text : List ℕ) (re : Engine) → (built : IsRegexOf text re) → (input : InputState) (found : Option Found) → input.asked.earliest ≡ false → TellsMatch re input found
-    → (out : Option FoundMatch) × TreeFindsIn built.tree (search_by re input) out × (found ≡ option_map match_of out)
+pub tells-of : (text : List ℕ) (re : RegexView) → (built : IsRegexOf text re) → (input : InputState) (found : Option Found) → input.asked.earliest ≡ false → TellsMatch re.engine input found
+    → (out : Option FoundMatch) × TreeFindsIn built.tree (search_by re.engine input) out × (found ≡ option_map match_of out)
 tells-of text re built input found earliest tells =
     let is = tells.exact earliest in
-    (is.0, asked-finds text re built (search_by re input) is.0 is.1, is.2)
+    (is.0, asked-finds text re built (search_by re.engine input) is.0 is.1, is.2)
 
-pub tells_slots-of : (text : List ℕ) (re : Engine) → (built : IsRegexOf text re) → (input : InputState) (pattern : Option ℕ) (slots : List (Option ℕ)) → input.asked.earliest ≡ false → TellsSlots re input pattern slots
-    → (out : Option FoundMatch) × TreeFindsIn built.tree (search_by re input) out × (pattern ≡ option_map (λ t. t.pattern) out) × (slots ≡ answer_slots (length slots) out)
+pub tells_slots-of : (text : List ℕ) (re : RegexView) → (built : IsRegexOf text re) → (input : InputState) (pattern : Option ℕ) (slots : List (Option ℕ)) → input.asked.earliest ≡ false → TellsSlots re.engine input pattern slots
+    → (out : Option FoundMatch) × TreeFindsIn built.tree (search_by re.engine input) out × (pattern ≡ option_map (λ t. t.pattern) out) × (slots ≡ answer_slots (length slots) out)
 tells_slots-of text re built input pattern slots earliest tells =
     let is = tells.exact earliest in
-    (is.found, asked-finds text re built (search_by re input) is.found is.finds, is.pattern_is, is.slots_are)
+    (is.found, asked-finds text re built (search_by re.engine input) is.found is.finds, is.pattern_is, is.slots_are)
 
-pub finds-of : (text : List ℕ) (re : Engine) → (built : IsRegexOf text re) → (content : List ℕ) (from : ℕ) (input : InputState) (found : Option Found)
-    → AsksFrom content from input → TellsMatch re input found
+pub finds-of : (text : List ℕ) (re : RegexView) → (built : IsRegexOf text re) → (content : List ℕ) (from : ℕ) (input : InputState) (found : Option Found)
+    → AsksFrom content from input → TellsMatch re.engine input found
     → (out : Option FoundMatch) × TreeFinds built.tree content from out × (found ≡ option_map match_of out)
 finds-of text re built content from input found asks tells =
     let earliest : input.asked.earliest ≡ false = ap (λ a. a.earliest) asks.asked_is in
     let is = tells.exact earliest in
     (is.0, tree-finds text re built content from input is.0 asks is.1, is.2)
 
-pub slots-of : (text : List ℕ) (re : Engine) → (built : IsRegexOf text re) → (content : List ℕ) (from : ℕ) (input : InputState) (pattern : Option ℕ) (slots : List (Option ℕ))
-    → AsksFrom content from input → TellsSlots re input pattern slots
+pub slots-of : (text : List ℕ) (re : RegexView) → (built : IsRegexOf text re) → (content : List ℕ) (from : ℕ) (input : InputState) (pattern : Option ℕ) (slots : List (Option ℕ))
+    → AsksFrom content from input → TellsSlots re.engine input pattern slots
     → (out : Option FoundMatch) × TreeFinds built.tree content from out × (pattern ≡ option_map (λ t. t.pattern) out) × (slots ≡ answer_slots (length slots) out)
 slots-of text re built content from input pattern slots asks tells =
     let earliest : input.asked.earliest ≡ false = ap (λ a. a.earliest) asks.asked_is in
@@ -100,11 +100,11 @@ slots-of text re built content from input pattern slots asks tells =
     (is.found, tree-finds text re built content from input is.found asks is.finds, is.pattern_is, is.slots_are)
 
 -- what is found of a pattern's tree has noted its groups
-pub notes-of : MatchesNoteTheirPlaces → GroupsAreNotedWhole → (text : List ℕ) (re : Engine) → (built : IsRegexOf text re) → (s : Search) (t : FoundMatch)
+pub notes-of : MatchesNoteTheirPlaces → GroupsAreNotedWhole → (text : List ℕ) (re : RegexView) → (built : IsRegexOf text re) → (s : Search) (t : FoundMatch)
     → TreeFindsIn built.tree s (Some t) → HasNotedGroups t
 notes-of places groups text re built s t finds =
     let tree = built.tree in
-    let well = All-head IsWellFormed tree [] built.built.of_trees.well_formed in
+    let well = All-head IsWellFormed tree [] built.built.engine.of_trees.well_formed in
     record {
       whole = (places tree 10 well is_word_char (program_for tree) s refl).finds t finds;
       groups = (groups (tree ∷ []) 10 (All-cons IsWellFormed tree [] well (All-nil IsWellFormed)) is_word_char (program_for tree) s refl).finds t finds;

@@ -12,15 +12,15 @@ use Rattle.rx_walks.specs.Iterating.{GivesInOrder}
 use Rattle.rx_program.specs.Programs.{characters_of}
 use Rattle.rx_chunk.specs.Iterating.{MatchesLeft, GivesNext, captured_of}
 use Rattle.regex_cursor.specs.declared.engines.meta.captures_matches.CapturesMatches.{CapturesMatches}
-use Rattle.regex_cursor.specs.Regexes.{Engine, search_by}
+use Rattle.regex_cursor.specs.Regexes.{RegexView, search_by}
 
 -- the regex that an iterator searches for, and what it has left
-abbrev pub regex_of : {C : Type 0} {cursor : Ghosts C} → CapturesMatches C cursor → Engine
+abbrev pub regex_of : {C : Type 0} {cursor : Ghosts C} → CapturesMatches C cursor → RegexView
 regex_of m = m.re.now
 
 abbrev pub left_of : {C : Type 0} {cursor : Ghosts C} → CapturesMatches C cursor → MatchesLeft
 left_of m = record {
-  search = search_by m.re.now m.input;
+  search = search_by m.re.now.engine m.input;
   last_end = m.last_match_end;
   is_over = m.is_over;
 }
@@ -33,12 +33,13 @@ input_of m = m.input
 -- its groups
 pub record Gives {C : Type 0} {cursor : Ghosts C} (m : CapturesMatches C cursor)
     (item : Option (Result Captured MatchError)) (n : CapturesMatches C cursor) : Type 0 where
-  pub next : GivesNext (regex_of m).program
-      (captured_of (regex_of m).groups (slot_len (regex_of m).groups)) (left_of m) item (left_of n)
+  pub next : GivesNext (regex_of m).engine.program
+      (captured_of (regex_of m).engine.groups (slot_len (regex_of m).engine.groups))
+      (left_of m) item (left_of n)
   pub same_regex : regex_of n ≡ regex_of m
 
 -- what an iterator of such steps gives, in order, as that over matches does
-abbrev pub GivesAll : {C : Type 0} {cursor : Ghosts C} → Engine → Search → CapturesMatches C cursor
-    → Type 0
-GivesAll re s m = GivesInOrder is_in is_word_char (characters_of re.program)
-    (captured_of re.groups (slot_len re.groups)) Gives s m
+abbrev pub GivesAll : {C : Type 0} {cursor : Ghosts C} → RegexView → Search
+    → CapturesMatches C cursor → Type 0
+GivesAll re s m = GivesInOrder is_in is_word_char (characters_of re.engine.program)
+    (captured_of re.engine.groups (slot_len re.engine.groups)) Gives s m

@@ -4,17 +4,21 @@ use Rattle.rx_steps.specs.Caches as steps
 use Rattle.rx_dfa.specs.Caches as automata
 use Rattle.rx_dfa.specs.Alphabets.{AlphabetView, IsAlphabetOf}
 use Rattle.rx_engine.specs.Engines.{Engine, IsEngine}
+use Rattle.regex_cursor.specs.Configs.{RegexSettings, capacity_of}
 
--- what is searched for, and the automaton of its program
+-- what is searched for, the automaton of its program, and the settings
 pub record CoreView : Type 0 where
   pub vm : Engine
   pub dfa : AlphabetView
+  pub settings : RegexSettings
 
--- the program is that of a tree, and both pass over the same empty matches
+-- the program is that of a tree, both pass over the same empty matches, and the automaton's states
+-- may take as much room as is set
 pub record IsCore (c : CoreView) : Type 0 where
   pub engine : IsEngine c.vm
   pub dfa : IsAlphabetOf c.vm.program c.dfa
   pub utf8_empty : c.dfa.utf8_empty ≡ c.vm.utf8_empty
+  pub capacity : c.dfa.capacity ≡ capacity_of c.settings
 
 -- caches for searches by each
 pub record AreCachesOf (c : CoreView) (vm : steps.CacheView) (automaton : automata.CacheView)

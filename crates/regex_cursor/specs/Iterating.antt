@@ -12,22 +12,22 @@ use Rattle.rx_chunk.specs.Engines.{match_of}
 pub use Rattle.rx_chunk.specs.Iterating.{MatchesLeft, GivesNext, matches_from, matches_left}
 use Rattle.regex_cursor.specs.declared.engines.meta.find_matches.FindMatches.{FindMatches}
 use Rattle.regex_cursor.specs.declared.engines.meta.finder.Finder.{Finder}
-use Rattle.regex_cursor.specs.Regexes.{Engine, search_by}
+use Rattle.regex_cursor.specs.Regexes.{RegexView, search_by}
 
 -- the regex that a finder searches for, and what it has left in an input
-abbrev pub engine_of : Finder → Engine
-engine_of m = m.re.now
+abbrev pub regex_in : Finder → RegexView
+regex_in m = m.re.now
 
 abbrev pub left_in : Finder → InputState → MatchesLeft
 left_in m i = record {
-  search = search_by m.re.now i;
+  search = search_by m.re.now.engine i;
   last_end = m.last_match_end;
   is_over = m.is_over;
 }
 
 -- the regex that an iterator searches for, and what it has left
-abbrev pub regex_of : {C : Type 0} → FindMatches C → Engine
-regex_of m = engine_of m.finder
+abbrev pub regex_of : {C : Type 0} → FindMatches C → RegexView
+regex_of m = regex_in m.finder
 
 abbrev pub left_of : {C : Type 0} → FindMatches C → MatchesLeft
 left_of m = left_in m.finder m.input
@@ -43,12 +43,13 @@ GoesOn s t = (start : ℕ) × (t ≡ from_place_on s start)
 -- a step of the iterator, which searches for the same regex on
 pub record Gives {C : Type 0} (m : FindMatches C)
     (item : Option (Result Found MatchError)) (n : FindMatches C) : Type 0 where
-  pub next : GivesNext (regex_of m).program match_of (left_of m) item (left_of n)
+  pub next : GivesNext (regex_of m).engine.program match_of (left_of m) item (left_of n)
   pub same_regex : regex_of n ≡ regex_of m
   pub goes_on : GoesOn (left_of m).search (left_of n).search
 
 -- What an iterator of such steps gives: before a refusal and before it is drained the first matches
 -- that the regex has in the search, drained all of them, and nothing after a refusal.
-abbrev pub GivesAll : {C : Type 0} → Engine → Search → FindMatches C
+abbrev pub GivesAll : {C : Type 0} → RegexView → Search → FindMatches C
     → Type 0
-GivesAll re s m = GivesInOrder is_in is_word_char (characters_of re.program) match_of Gives s m
+GivesAll re s m = GivesInOrder is_in is_word_char (characters_of re.engine.program) match_of Gives
+    s m

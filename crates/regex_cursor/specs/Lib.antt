@@ -1,4 +1,5 @@
 pub mod Capturing
+pub mod Configs
 pub mod Cores
 pub mod Iterating
 pub mod Lending

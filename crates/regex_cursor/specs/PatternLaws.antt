@@ -12,7 +12,7 @@ pub use Rattle.rx_walks.specs.Finds.{IsInside, IsPossible, MayEnd}
 pub use Rattle.rx_walks.specs.Laws.{FindsAtMostOne, FindsExist, FindsLieInside, FindsStandAtBoundaries, LiesInside, MatchesAreOneList, MayBeFound, StandsAtBoundaries}
 pub use Rattle.rx_walks.specs.MatchLaws.{AreInOrder, FirstMatchesGrow, HasFirstMatches, IsFoundBehind, LiesBetween, MatchesAreFound, MatchesExist, MatchesRise, MatchesStandAtBoundaries}
 use Rattle.regex_cursor.specs.Patterns.{Tree, Search, SpellsTree, SpellsNone, FoundMatch, AsksFrom, TreeFinds, TreeFindsIn, answer_slots, match_of, pattern_weight, program_for, start_of, weight_limit}
-use Rattle.regex_cursor.specs.Regexes.{Engine, IsRegexOf, IsRefusedAsRegex, TellsMatch, TellsSlots, search_by}
+use Rattle.regex_cursor.specs.Regexes.{RegexView, IsRegexOf, IsRefusedAsRegex, TellsMatch, TellsSlots, search_by}
 
 -- a text spells at most one tree
 abbrev pub SpellsOneTree : Type 0
@@ -58,33 +58,34 @@ pub record HasNotedGroups (t : FoundMatch) : Type 0 where
 -- the input asks for, also in slots, and each match of that tree has noted its groups; and so it is
 -- for an input over a content from a place on. A refusal says why there is none.
 pub record RegexesHaveTrees : Type 0 where
-  pub spells : (text : List ℕ) (re : Engine) → (built : IsRegexOf text re)
+  pub spells : (text : List ℕ) (re : RegexView) → (built : IsRegexOf text re)
       → SpellsTree (chars text) built.tree
-  pub light : (text : List ℕ) (re : Engine) → (built : IsRegexOf text re)
+  pub light : (text : List ℕ) (re : RegexView) → (built : IsRegexOf text re)
       → pattern_weight built.tree ≤ weight_limit
-  pub tells : (text : List ℕ) (re : Engine) → (built : IsRegexOf text re)
+  pub tells : (text : List ℕ) (re : RegexView) → (built : IsRegexOf text re)
       → (input : InputState) (found : Option Found) → input.asked.earliest ≡ false
-      → TellsMatch re input found
-      → (out : Option FoundMatch) × TreeFindsIn built.tree (search_by re input) out
+      → TellsMatch re.engine input found
+      → (out : Option FoundMatch) × TreeFindsIn built.tree (search_by re.engine input) out
       × (found ≡ option_map match_of out)
-  pub tells_slots : (text : List ℕ) (re : Engine) → (built : IsRegexOf text re)
+  pub tells_slots : (text : List ℕ) (re : RegexView) → (built : IsRegexOf text re)
       → (input : InputState) (pattern : Option ℕ) (slots : List (Option ℕ))
-      → input.asked.earliest ≡ false → TellsSlots re input pattern slots
-      → (out : Option FoundMatch) × TreeFindsIn built.tree (search_by re input) out
+      → input.asked.earliest ≡ false → TellsSlots re.engine input pattern slots
+      → (out : Option FoundMatch) × TreeFindsIn built.tree (search_by re.engine input) out
       × (pattern ≡ option_map (λ t. t.pattern) out) × (slots ≡ answer_slots (length slots) out)
-  pub notes : (text : List ℕ) (re : Engine) → (built : IsRegexOf text re)
+  pub notes : (text : List ℕ) (re : RegexView) → (built : IsRegexOf text re)
       → (s : Search) (t : FoundMatch) → TreeFindsIn built.tree s (Some t) → HasNotedGroups t
-  pub finds : (text : List ℕ) (re : Engine) → (built : IsRegexOf text re)
+  pub finds : (text : List ℕ) (re : RegexView) → (built : IsRegexOf text re)
       → (content : List ℕ) (from : ℕ) (input : InputState) (found : Option Found)
-      → AsksFrom content from input → TellsMatch re input found
+      → AsksFrom content from input → TellsMatch re.engine input found
       → (out : Option FoundMatch) × TreeFinds built.tree content from out
       × (found ≡ option_map match_of out)
-  pub slots : (text : List ℕ) (re : Engine) → (built : IsRegexOf text re)
+  pub slots : (text : List ℕ) (re : RegexView) → (built : IsRegexOf text re)
       → (content : List ℕ) (from : ℕ) (input : InputState) (pattern : Option ℕ)
-      (slots : List (Option ℕ)) → AsksFrom content from input → TellsSlots re input pattern slots
+      (slots : List (Option ℕ)) → AsksFrom content from input
+      → TellsSlots re.engine input pattern slots
       → (out : Option FoundMatch) × TreeFinds built.tree content from out
       × (pattern ≡ option_map (λ t. t.pattern) out) × (slots ≡ answer_slots (length slots) out)
-  pub noted : (text : List ℕ) (re : Engine) → (built : IsRegexOf text re)
+  pub noted : (text : List ℕ) (re : RegexView) → (built : IsRegexOf text re)
       → (content : List ℕ) (from : ℕ) (t : FoundMatch)
       → TreeFinds built.tree content from (Some t) → HasNotedGroups t
   pub refused : (text : List ℕ) (error : BuildError) → IsRefusedAsRegex text error

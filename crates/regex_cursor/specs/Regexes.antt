@@ -1,8 +1,12 @@
 -- A regex: of what it was built, and what its searches tell.
-use Rattle.std.specs.Prelude.{◌≡◌, ℕ, Bool, List, length, Some}
+use Rattle.std.specs.Prelude.{◌≡◌, ℕ, Bool, List, [], ◌∷◌, length, Option, option_map}
+use Rattle.std.specs.Str.{chars}
 use Rattle.rx_util.specs.Captured.{Captured}
 use Rattle.rx_util.specs.Groups.{slot_len}
-use Rattle.rx_grammar.specs.Settings.{default_settings}
+use Rattle.rx_util.specs.Search.{Found, HalfFound}
+use Rattle.rx_input.specs.Inputs.{InputState}
+use Rattle.rx_grammar.specs.Grammar.{Spells}
+use Rattle.rx_grammar.specs.Trees.{Tree}
 use Rattle.unicode.specs.Perl.{is_word_char}
 use Rattle.rx_utf8.specs.Automata.{is_in}
 use Rattle.rx_walks.specs.Finds.{Search}
@@ -11,54 +15,97 @@ use Rattle.rx_walks.specs.Programs.{Notes}
 use Rattle.rx_walks.specs.ProgramFinds.{ProgramMatches}
 use Rattle.rx_program.specs.Programs.{ByteProgram, characters_of}
 use Rattle.rx_program.specs.declared.error.BuildError.{BuildError}
--- a regex is seen as an engine is, and its searches tell what those of an engine do
-pub use Rattle.rx_engine.specs.Engines.{Engine, Wanted}
+-- its searches tell what those of its engine do
+pub use Rattle.rx_engine.specs.Engines.{Engine}
 pub use Rattle.rx_chunk.specs.Engines.{IsFound, TellsWhether}
 pub use Rattle.rx_chunk.specs.Searches.{HoldsMatches, TellsMatch, TellsSlots, TellsWhole, search_by}
-use Rattle.rx_engine.specs.Engines.{IsBuiltOf, IsBuiltOfAll, IsEngine, IsRefused, IsRefusedOfAll, nothing_set}
+use Rattle.rx_engine.specs.Engines.{AreRefused, IsBuiltOfTrees, IsEngine, IsRefused, IsRefusedOfAll, Spell}
+use Rattle.regex_cursor.specs.Configs.{RegexSettings, RegexWanted, capacity_of, default_regex, engine_settings, engine_wanted}
+
+-- a regex is seen as the engine that serves any search, and the settings that it was built under
+pub record RegexView : Type 0 where
+  pub engine : Engine
+  pub settings : RegexSettings
 
 -- its program and its groups are those of trees
-abbrev pub IsRegex : Engine → Type 0
-IsRegex re = IsEngine re
+abbrev pub IsRegex : RegexView → Type 0
+IsRegex re = IsEngine re.engine
 
--- the default settings of a regex: 40 times a pattern's weight is at most 10,485,760
-abbrev pub regex_settings : Wanted
-regex_settings = record {
-  settings = record nothing_set { nfa_size_limit = Some (Some 10485760) };
-  syntax = default_settings;
-}
+-- ---- of what it was built
 
--- it was built of a pattern, given as its bytes
-abbrev pub IsRegexOf : List ℕ → Engine → Type 0
-IsRegexOf text re = IsBuiltOf text regex_settings re
+-- it was built of these trees under these settings
+pub record IsRegexOfTrees (trees : List Tree) (settings : RegexSettings) (re : RegexView)
+    : Type 0 where
+  pub engine : IsBuiltOfTrees trees (engine_settings settings) re.engine
+  pub settings_are : re.settings ≡ settings
 
--- it was built of patterns
-abbrev pub IsRegexOfAll : List (List ℕ) → Engine → Type 0
-IsRegexOfAll texts re = IsBuiltOfAll texts regex_settings re
+-- it was built of a pattern, given as its bytes: of the tree that the pattern spells
+pub record IsRegexUnder (text : List ℕ) (wanted : RegexWanted) (re : RegexView) : Type 0 where
+  pub tree : Tree
+  pub spells : Spells (chars text) wanted.syntax tree
+  pub built : IsRegexOfTrees (tree ∷ []) wanted.settings re
 
--- why a pattern has no regex
+-- it was built of patterns: of the trees that they spell
+pub record IsRegexOfAllUnder (texts : List (List ℕ)) (wanted : RegexWanted) (re : RegexView)
+    : Type 0 where
+  pub trees : List Tree
+  pub spell : Spell texts wanted.syntax trees
+  pub built : IsRegexOfTrees trees wanted.settings re
+
+-- why trees have no regex
+abbrev pub TreesAreRefused : List Tree → RegexSettings → BuildError → Type 0
+TreesAreRefused trees settings error = AreRefused trees (engine_settings settings) error
+
+-- why a pattern has none, and why patterns have none
+abbrev pub IsRefusedUnder : List ℕ → RegexWanted → BuildError → Type 0
+IsRefusedUnder text wanted error = IsRefused text (engine_wanted wanted) error
+
+abbrev pub AreRefusedUnder : List (List ℕ) → RegexWanted → BuildError → Type 0
+AreRefusedUnder texts wanted error = IsRefusedOfAll texts (engine_wanted wanted) error
+
+-- the same with nothing set: 40 times the weight of the patterns is at most 10,485,760
+abbrev pub IsRegexOf : List ℕ → RegexView → Type 0
+IsRegexOf text re = IsRegexUnder text default_regex re
+
+abbrev pub IsRegexOfAll : List (List ℕ) → RegexView → Type 0
+IsRegexOfAll texts re = IsRegexOfAllUnder texts default_regex re
+
 abbrev pub IsRefusedAsRegex : List ℕ → BuildError → Type 0
-IsRefusedAsRegex text error = IsRefused text regex_settings error
+IsRefusedAsRegex text error = IsRefusedUnder text default_regex error
 
--- why patterns have no regex
 abbrev pub AreRefusedAsRegex : List (List ℕ) → BuildError → Type 0
-AreRefusedAsRegex texts error = IsRefusedOfAll texts regex_settings error
+AreRefusedAsRegex texts error = AreRefusedUnder texts default_regex error
 
--- a cache is seen as what it was made for: a program, and whether empty matches inside a character
--- are passed over
+-- ---- what its searches take and tell
+
+-- a cache is seen as what it was made for: a program, whether empty matches inside a character are
+-- passed over, and how many bytes the states may take that it keeps
 pub record CacheView : Type 0 where
   pub program : ByteProgram
   pub utf8_empty : Bool
+  pub capacity : ℕ
 
--- it serves each regex that searches so: the names of groups change no answer
-pub record IsCacheOf (re : Engine) (c : CacheView) : Type 0 where
-  pub program : c.program ≡ re.program
-  pub utf8_empty : c.utf8_empty ≡ re.utf8_empty
+-- it serves each regex that searches so: neither names of groups nor other settings change that
+pub record IsCacheOf (re : RegexView) (c : CacheView) : Type 0 where
+  pub program : c.program ≡ re.engine.program
+  pub utf8_empty : c.utf8_empty ≡ re.engine.utf8_empty
+  pub capacity : c.capacity ≡ capacity_of re.settings
+
+-- the pattern and the end of a match
+abbrev pub half_of : Found → HalfFound
+half_of found = record { pattern = found.pattern; offset = found.span.end }
+
+-- of a match that is told so, its pattern and its end
+pub record TellsHalf (e : Engine) (i : InputState) (half : Option HalfFound) : Type 0 where
+  pub found : Option Found
+  pub tells : TellsMatch e i found
+  pub half_is : half ≡ option_map half_of found
 
 -- all matches that it has in a search, one after the other
-abbrev pub RegexMatches : Engine → Search → List (Outcome Notes) → Type 0
-RegexMatches re s ms = ProgramMatches is_in is_word_char (characters_of re.program) s ms
+abbrev pub RegexMatches : RegexView → Search → List (Outcome Notes) → Type 0
+RegexMatches re s ms = ProgramMatches is_in is_word_char (characters_of re.engine.program) s ms
 
 -- captures of the regex's groups with slots for all of them
-abbrev pub HasRoom : Engine → Captured → Type 0
-HasRoom re caps = HoldsMatches re caps × (length caps.slots ≡ slot_len re.groups)
+abbrev pub HasRoom : RegexView → Captured → Type 0
+HasRoom re caps =
+    HoldsMatches re.engine caps × (length caps.slots ≡ slot_len re.engine.groups)

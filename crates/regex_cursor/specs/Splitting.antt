@@ -15,7 +15,7 @@ use Rattle.regex_cursor.specs.declared.engines.meta.splitter.Splitter.{Splitter}
 use Rattle.regex_cursor.specs.Iterating as iterating
 use Rattle.regex_cursor.specs.Iterating.{not_refused}
 use Rattle.regex_cursor.specs.Patterns.{FoundMatch, start_of, end_of}
-use Rattle.regex_cursor.specs.Regexes.{Engine, RegexMatches}
+use Rattle.regex_cursor.specs.Regexes.{RegexView, RegexMatches}
 
 -- what is left to an iterator over parts: the matches that are left, where the next part starts,
 -- and whether no more come
@@ -59,8 +59,8 @@ pub data SplitsOff (p : ByteProgram) (m n : PartsLeft) : Option (Result Span Mat
     refused : m.is_over ≡ false → n.is_over ≡ true → SplitsOff p m n (Some (Err Memory))
 
 -- the regex that a splitter searches for, and what it has left in an input
-abbrev pub engine_of : Splitter → Engine
-engine_of m = iterating.engine_of m.finder
+abbrev pub regex_in : Splitter → RegexView
+regex_in m = iterating.regex_in m.finder
 
 abbrev pub left_in : Splitter → InputState → PartsLeft
 left_in m i = record {
@@ -70,8 +70,8 @@ left_in m i = record {
 }
 
 -- the regex that an iterator searches for, and what it has left
-abbrev pub regex_of : {C : Type 0} → Split C → Engine
-regex_of m = engine_of m.splitter
+abbrev pub regex_of : {C : Type 0} → Split C → RegexView
+regex_of m = regex_in m.splitter
 
 abbrev pub left_of : {C : Type 0} → Split C → PartsLeft
 left_of m = left_in m.splitter m.input
@@ -83,7 +83,7 @@ input_of m = m.input
 -- a step of the iterator, which searches for the same regex on
 pub record Gives {C : Type 0} (m : Split C)
     (item : Option (Result Span MatchError)) (n : Split C) : Type 0 where
-  pub next : SplitsOff (regex_of m).program (left_of m) (left_of n) item
+  pub next : SplitsOff (regex_of m).engine.program (left_of m) (left_of n) item
   pub same_regex : regex_of n ≡ regex_of m
 
 -- ---- all parts
@@ -100,7 +100,7 @@ gaps start end (t ∷ others) = between start (start_of t) ∷ gaps (end_of t) e
 
 -- What the iterator gives of a search: the gaps between all matches that the regex has there, from 0
 -- on; before a refusal and before it is drained the first of them, and nothing after a refusal.
-pub record GivesGaps {C : Type 0} (re : Engine) (s : Search) (m : Split C)
+pub record GivesGaps {C : Type 0} (re : RegexView) (s : Search) (m : Split C)
     : Type 0 where
   pub first : (n : Split C) (parts : List Span) → Yields Gives m (not_refused parts) n
       → (ms : List FoundMatch) × RegexMatches re s ms

@@ -11,7 +11,7 @@ use Rattle.regex_cursor.specs.Splitting as splitting
 use Rattle.regex_cursor.specs.Splitting.{PartsLeft, EndsWith, SplitsOff, end_of_search, gaps}
 use Rattle.regex_cursor.specs.Iterating.{not_refused}
 use Rattle.regex_cursor.specs.Patterns.{FoundMatch}
-use Rattle.regex_cursor.specs.Regexes.{Engine, RegexMatches}
+use Rattle.regex_cursor.specs.Regexes.{RegexView, RegexMatches}
 
 -- an item that is a part, or none
 abbrev pub told_part : Option Span → Option (Result Span MatchError)
@@ -38,8 +38,8 @@ pub record FewLeft : Type 0 where
 abbrev pub left_of : {C : Type 0} → SplitN C → FewLeft
 left_of m = record { parts = splitting.left_in m.splitter m.input; limit = m.limit }
 
-abbrev pub regex_of : {C : Type 0} → SplitN C → Engine
-regex_of m = splitting.engine_of m.splitter
+abbrev pub regex_of : {C : Type 0} → SplitN C → RegexView
+regex_of m = splitting.regex_in m.splitter
 
 -- the input that it lends
 abbrev pub input_of : {C : Type 0} → SplitN C → InputState
@@ -48,8 +48,8 @@ input_of m = m.input
 -- a step of the iterator, which searches for the same regex on
 pub record Gives {C : Type 0} (m : SplitN C)
     (item : Option (Result Span MatchError)) (n : SplitN C) : Type 0 where
-  pub next : SplitsFew (regex_of m).program (left_of m).parts (left_of n).parts (left_of m).limit
-      (left_of n).limit item
+  pub next : SplitsFew (regex_of m).engine.program (left_of m).parts (left_of n).parts
+      (left_of m).limit (left_of n).limit item
   pub same_regex : regex_of n ≡ regex_of m
 
 -- ---- all parts
@@ -63,7 +63,7 @@ few_gaps (suc others) start end matches = gaps start end (take others matches)
 -- What the iterator gives of a search: at most so many gaps between the matches that the regex has
 -- there, from 0 on; before a refusal and before it is drained the first of them, and nothing after a
 -- refusal.
-pub record GivesFewGaps {C : Type 0} (re : Engine) (s : Search) (limit : ℕ)
+pub record GivesFewGaps {C : Type 0} (re : RegexView) (s : Search) (limit : ℕ)
     (m : SplitN C) : Type 0 where
   pub first : (n : SplitN C) (parts : List Span) → Yields Gives m (not_refused parts) n
       → (ms : List FoundMatch) × RegexMatches re s ms × (others : List Span)

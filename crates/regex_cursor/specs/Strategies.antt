@@ -1,5 +1,5 @@
 -- The engines of a regex, what searches by them keep, and what one of them leaves to the other.
-use Rattle.std.specs.Prelude.{◌≡◌, ℕ, ◌≤◌, IsTrue, Option, Some, None, IfSome}
+use Rattle.std.specs.Prelude.{◌≡◌, ℕ, ◌≤◌, IsTrue, false, Option, Some, None, IfSome}
 use Rattle.unicode.specs.Perl.{is_word_char}
 use Rattle.rx_util.specs.declared.search.Span.{Span}
 use Rattle.rx_walks.specs.Finds.{Search, from_place_on}
@@ -15,7 +15,9 @@ use Rattle.rx_engine.specs.Engines.{Engine}
 use Rattle.rx_chunk.specs.Engines.{Finds}
 use Rattle.rx_chunk.specs.Iterating.{ComesNext}
 use Rattle.regex_cursor.specs.Cores.{AreCachesOf}
-use Rattle.regex_cursor.specs.Literals.{AreLiteralsOf}
+use Rattle.regex_cursor.specs.Configs.{RegexSettings, WantsNoLiterals, dfa_of}
+use Rattle.regex_cursor.specs.Literals.{AreLiteralsOf, no_literals}
+use Rattle.regex_cursor.specs.Regexes.{RegexView}
 use Rattle.regex_cursor.specs.declared.engines.meta.cache.Kept.{Kept}
 use Rattle.regex_cursor.specs.declared.engines.meta.literals.Literals.{Literals}
 use Rattle.regex_cursor.specs.declared.engines.meta.left.Part.{Part}
@@ -26,20 +28,27 @@ use Rattle.regex_cursor.specs.declared.engines.meta.left.Left.{Left}
 use Rattle.regex_cursor.specs.declared.engines.meta.left.Start.TheVariants as start
 use Rattle.regex_cursor.specs.declared.engines.meta.left.Start.{Start}
 
--- what is searched for, the automaton of its program, perhaps all states of that, and what is known
--- of the literals that matches begin with
+-- what is searched for, the automaton of its program, the settings, perhaps all states of the
+-- automaton, and what is known of the literals that matches begin with
 pub record Engines : Type 0 where
   pub vm : Engine
   pub dfa : AlphabetView
+  pub settings : RegexSettings
   pub closed : Option automata.CacheView
   pub literals : Literals
 
--- all search for the same
+-- the regex that they are the engines of
+abbrev pub regex_of : Engines → RegexView
+regex_of e = record { engine = e.vm; settings = e.settings }
+
+-- all search for the same; and where they are set off, there are no states before and no literals
 pub record AreEngines (e : Engines) : Type 0 where
   pub dfa : IsAlphabetOf e.vm.program e.dfa
   pub utf8_empty : e.dfa.utf8_empty ≡ e.vm.utf8_empty
   pub closed : IfSome e.closed (IsClosedOf e.vm.program e.dfa)
   pub literals : AreLiteralsOf e.vm.program e.literals
+  pub no_dfa : dfa_of e.settings ≡ false → e.closed ≡ None
+  pub no_prefilter : WantsNoLiterals e.settings → e.literals ≡ no_literals
 
 -- what a cache keeps serves searches by these engines: it was made for their program
 pub record AreKeptFor (e : Engines) (kept : Kept) : Type 0 where

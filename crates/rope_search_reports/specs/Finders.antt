@@ -2,7 +2,7 @@
 use Rattle.std.specs.Prelude.{◌≡◌, ℕ, ◌+◌, ◌*◌, Bool, true, List, [], ◌∷◌, ◌++◌, length, Option, None, Some, option_map, slice_index_or, unwrap_or, map}
 use Rattle.std.specs.Str.{chars}
 use Rattle.regex_cursor.specs.Patterns.{Tree, FoundMatch, Next, TreeFinds, TreeMatches, answer_slots, start_of, end_of}
-use Rattle.regex_cursor.specs.Regexes.{Engine, CacheView, IsRegexOf, IsCacheOf}
+use Rattle.regex_cursor.specs.Regexes.{RegexView, CacheView, IsRegexOf, IsCacheOf}
 use Rattle.rope_search_reports.specs.Text.{bytes_of}
 use Rattle.rope_search_reports.specs.Matches.{both, groups_of}
 use Rattle.rope_search_reports.specs.Pattern.{span_of}
@@ -24,7 +24,7 @@ matches_in (Many list) = list.value.items
 
 -- a regex that was built of this pattern, a cache made for it, and whether it is known that it
 -- doesn't match the empty text
-pub record IsFinderOf (pattern : List ℕ) (re : Engine) (cache : CacheView) (is_never_empty : Bool)
+pub record IsFinderOf (pattern : List ℕ) (re : RegexView) (cache : CacheView) (is_never_empty : Bool)
     : Type 0 where
   pub text : List ℕ
   pub pattern_is : pattern ≡ chars text

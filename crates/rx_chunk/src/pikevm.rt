@@ -5,19 +5,20 @@ ghost use Rattle.std.specs.Option.{ForSome};
 ghost use Rattle.rx_util.specs.declared.search.MatchError.{MatchError};
 ghost use Rattle.rx_util.specs.Groups.{slot_len};
 ghost use Rattle.rx_util.specs.Captured.{nothing_noted, place_in, group_span, match_found};
+ghost use Rattle.rx_grammar.specs.Postorder.{tree_of};
 ghost use Rattle.rx_grammar.specs.Settings.{default_settings};
 ghost use Rattle.rx_input.specs.Searchers.{EndsInside};
 ghost use Rattle.rx_steps.specs.Searching.{IsAnswerAt, IsFirstEnd};
 ghost use Rattle.rx_steps.specs.Standing.{StopsAt};
 ghost use Rattle.rx_steps.specs.Threads.{no_slots};
 ghost use Rattle.rx_steps.specs.Caches.{IsCacheOf};
-ghost use Rattle.rx_chunk.specs.Engines.{nothing_set, settings_over, IsEngine, IsBuiltOf, IsBuiltOfAll, IsRefused, IsRefusedOfAll, TellsWhether, IsFoundAt, by_default, end_noted, start_noted, whole_span};
+ghost use Rattle.rx_chunk.specs.Engines.{nothing_set, settings_over, IsEngine, AreRefused, IsBuiltOf, IsBuiltOfAll, IsBuiltOfTrees, IsRefused, IsRefusedOfAll, TellsWhether, IsFoundAt, by_default, end_noted, start_noted, whole_span};
 ghost use Rattle.rx_chunk.specs.Iterating.{EndsAhead, HasNotedNext, IsFoundNext, IsNextAnswer, StartsFrom, matches_from};
 ghost use Rattle.rx_chunk.specs.FindMatches.{cache_of, left_of, program_of};
 ghost use Rattle.rx_chunk.specs.Searches.{AsksTheSame, HoldsMatches, ServesOn, StopsInTime, TellsMatch, TellsSlots, TellsSlotsAt, TellsWhole, search_by};
 
 use rx_engine::Compiled;
-use rx_grammar::syntax;
+use rx_grammar::{Hir, syntax};
 use rx_input::{Cursor, Input};
 use rx_program::{BuildError, Program};
 use rx_steps as search;
@@ -114,6 +115,21 @@ impl Builder {
     {
         Ok(PikeVM {
             compiled: self.builder.build_many(alloc, patterns)?,
+        })
+    }
+
+    /// Returns the engine for what patterns spell, as `build_many` does. The settings of the syntax
+    /// are those that they were parsed with.
+    ///
+    /// Errors: `Size` where they are too large, and else perhaps `Memory`.
+    pub fn build_many_from_hir(&self, alloc: Global, hirs: &[&Hir]) -> Result<PikeVM, BuildError>
+        ensures built { IfOk result (λ vm. IsBuiltOfTrees
+            (map (λ hir. tree_of hir.now) hirs.now) self.now.settings vm) }
+        ensures refused { IfErr result (λ error. AreRefused
+            (map (λ hir. tree_of hir.now) hirs.now) self.now.settings error) }
+    {
+        Ok(PikeVM {
+            compiled: self.builder.build_many_from_hir(alloc, hirs)?,
         })
     }
 }

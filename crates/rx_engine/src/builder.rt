@@ -184,8 +184,8 @@ fn text_at<'p>(patterns: &[&'p str], number: usize) -> &'p str
     patterns[number]
 }
 
-/// What patterns spell under these settings.
-fn spelled(
+/// What patterns spell under these settings; or why they have no engine, whatever its own settings.
+pub fn spelled(
     alloc: Global,
     patterns: &[&str],
     settings: &syntax::Config,
@@ -207,7 +207,7 @@ fn spelled(
 }
 
 /// These, each borrowed.
-fn borrowed<'h>(alloc: Global, hirs: &'h [Hir]) -> Result<Vec<&'h Hir>, AllocError>
+pub fn borrowed<'h>(alloc: Global, hirs: &'h [Hir]) -> Result<Vec<&'h Hir>, AllocError>
     ensures { IfOk result (λ borrowed.
         map (λ hir. tree_of hir.now) borrowed.items ≡ map tree_of hirs.now) }
 {

@@ -6,6 +6,6 @@ mod compiled;
 mod config;
 mod groups;
 
-pub use builder::Builder;
+pub use builder::{Builder, borrowed, spelled};
 pub use compiled::Compiled;
 pub use config::Config;

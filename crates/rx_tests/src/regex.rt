@@ -3,11 +3,14 @@
 ghost use Rattle.std.specs.Prelude.{◌≡◌};
 ghost use Rattle.regex_cursor.specs.Regexes.{IsCacheOf};
 
-use regex_cursor::engines::meta::{Builder, Cache, CapturesMatches, FindMatches, Regex, Split};
+use regex_cursor::engines::meta::{
+    Builder, Cache, CapturesMatches, Config, FindMatches, Regex, Split,
+};
 use regex_cursor::engines::pikevm::{self, PikeVM};
 use regex_cursor::util::syntax;
 use regex_cursor::{
-    BuildError, ChunkCursor, Cursor, Input, Match, MatchError, NonMaxUsize, RopeyCursor, Span,
+    BuildError, ChunkCursor, Cursor, Input, Match, MatchError, MatchKind, NonMaxUsize, Prefilter,
+    RopeyCursor, Span, WhichCaptures, parse,
 };
 use ropey::Rope;
 use std::alloc::Global;
@@ -116,6 +119,36 @@ fn builder(rt: HostRuntime) -> Result<(), Fail> {
     assert!(rt; re.is_match(Input::new("b"))?);
     let refused: Option<BuildError> = Regex::builder().build(rt.alloc(), "(").err();
     assert!(rt; refused.is_some_and(|error| error.syntax_error().is_some()));
+    Ok(())
+}
+
+/// A regex under settings, which it keeps, and the end of the match that it finds.
+#[test]
+fn config(rt: HostRuntime) -> Result<(), Fail> {
+    let mut builder = Regex::builder();
+    builder.configure(Config::new().line_terminator(b';').hybrid(false));
+    builder.configure(Regex::config().which_captures(WhichCaptures::Implicit));
+    builder.syntax(syntax::Config::new().multi_line(true));
+    let re = builder.build_many(rt.alloc(), &["^(b)", "x"])?;
+    let half = re.search_half(Input::new("a;b"))?;
+    assert!(rt; half.map(|half| half.offset()) == Some(3));
+    assert!(rt; re.captures_len() == 3 && re.group_info().slot_len() == 4);
+    let config = re.get_config().clone()?;
+    assert!(rt; config.get_line_terminator() == b';' && !config.get_hybrid() && config.get_dfa());
+    Ok(())
+}
+
+/// A regex of what a pattern spells, which looks for a caller's literals first.
+#[test]
+fn build_from_hir(rt: HostRuntime) -> Result<(), Fail> {
+    let hir = parse(rt.alloc(), "ab+", &syntax::Config::new())?;
+    let needles: [&[u8]; 1] = [b"a"];
+    let prefilter = Prefilter::new(rt.alloc(), MatchKind::LeftmostFirst, &needles)?;
+    let mut builder = Builder::new();
+    builder.configure(Config::new().auto_prefilter(false).prefilter(prefilter));
+    let re = builder.build_from_hir(rt.alloc(), &hir)?;
+    assert!(rt; re.is_accelerated() && re.get_config().get_prefilter().is_some());
+    assert!(rt; re.is_match(Input::new("cab"))? && re.memory_usage() > 0);
     Ok(())
 }
 

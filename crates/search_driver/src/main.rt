@@ -42,6 +42,15 @@
 //! - `several,PATTERNS,SETTINGS,CUT,HAYSTACK,ASKED`: all matches of several patterns, each with the
 //!   number of its pattern where there are two or more, by a `Regex` of them; the first of them
 //!   must be found by each other engine too. It has no settings: these fields aren't read.
+//! - `under,PATTERNS,SETTINGS,CUT,HAYSTACK,ASKED,SET`: the same by a `Regex` under all settings.
+//!   `SET` are those of the regex, parted by dots, each as its name, `=` and its value, 1 for yes,
+//!   `none` for no limit and for no prefilter, of which else the needle is told; those of several
+//!   calls of `configure` are parted by strokes.
+//! - `counted,PATTERNS,SETTINGS,CUT,HAYSTACK,ASKED,SET`: how many patterns, groups and slots such
+//!   a `Regex` has, and whether literals are looked for; or the error, its pattern and its limit.
+//! - `getters,,SETTINGS,CUT,HAYSTACK,ASKED,SET`: what the getters tell of these settings.
+//! - `usage,PATTERNS,SETTINGS,CUT,HAYSTACK,ASKED,SET`: what `memory_usage` tells of such a `Regex`,
+//!   and of a cache before a search and behind it.
 //! - `regex,PATTERN,SETTINGS,CUT,HAYSTACK,ASKED`: all matches, with their groups, by a `Regex`. It
 //!   has no settings: these fields aren't read.
 //! - `rope,PATTERN,SETTINGS,CUT,HAYSTACK,ASKED,START,END,AT,TIMES`: the same in the part from the
@@ -87,6 +96,7 @@ mod ropes;
 mod searchers;
 mod searches;
 mod sets;
+mod settings;
 mod several;
 mod slots;
 mod warm;
@@ -113,6 +123,10 @@ fn answer(alloc: Global, line: &str) -> Result<String, Fault> {
         "slots" => slots::noted(alloc, &fields),
         "all" => every::found(alloc, &fields),
         "backwards" => backwards::found(alloc, &fields),
+        "under" => settings::matches(alloc, &fields),
+        "counted" => settings::counts(alloc, &fields),
+        "getters" => settings::getters(alloc, &fields),
+        "usage" => settings::usage(alloc, &fields),
         "several" => several::matches(alloc, &fields),
         "regex" => regexes::in_pieces(alloc, &fields),
         "rope" | "counts" | "split" => regexes::in_rope(alloc, &fields),

@@ -15,7 +15,7 @@ use rx_input::ChunkCursor;
 use std::alloc::Global;
 
 /// The texts of the patterns, which are parted by dots; a dash stands for no pattern.
-fn texts(alloc: Global, fields: &Fields) -> Result<Vec<String>, Fault> {
+pub fn texts(alloc: Global, fields: &Fields) -> Result<Vec<String>, Fault> {
     let mut all = Vec::new(alloc);
     if fields.word(1) == "-" {
         return Ok(all);
@@ -28,7 +28,7 @@ fn texts(alloc: Global, fields: &Fields) -> Result<Vec<String>, Fault> {
 }
 
 /// These, each borrowed.
-fn listed<'t>(alloc: Global, texts: &'t [String]) -> Result<Vec<&'t str>, Fault> {
+pub fn listed<'t>(alloc: Global, texts: &'t [String]) -> Result<Vec<&'t str>, Fault> {
     let mut listed = Vec::new(alloc);
     for text in texts {
         listed.push(text.as_str()).map_err(|_| Fault::Memory)?;

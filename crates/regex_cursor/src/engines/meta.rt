@@ -3,6 +3,7 @@
 mod builder;
 mod cache;
 mod captures_matches;
+mod config;
 mod dense;
 mod find_matches;
 mod finder;
@@ -17,6 +18,7 @@ mod strategy;
 pub use builder::Builder;
 pub use cache::Cache;
 pub use captures_matches::CapturesMatches;
+pub use config::Config;
 pub use find_matches::FindMatches;
 pub use regex::Regex;
 pub use rx_program::BuildError;

@@ -1,28 +1,47 @@
 //! What builds a regex.
 
-ghost use Rattle.std.specs.Prelude.{◌≡◌, IfErr, IfOk, map};
+ghost use Rattle.std.specs.Prelude.{◌≡◌, [], ◌∷◌, IfErr, IfOk, map};
 ghost use Rattle.rx_util.specs.declared.search.MatchError.{MatchError};
-ghost use Rattle.regex_cursor.specs.Regexes.{AreRefusedAsRegex, IsRefusedAsRegex, IsRegexOf, IsRegexOfAll, regex_settings};
+ghost use Rattle.rx_program.specs.declared.error.BuildError.{BuildError};
+ghost use Rattle.rx_grammar.specs.Postorder.{tree_of};
+ghost use Rattle.regex_cursor.specs.Configs.{default_regex, engine_settings, regex_settings_over};
+ghost use Rattle.regex_cursor.specs.Regexes.{AreRefusedUnder, IsRefusedUnder, IsRegexOfAllUnder, IsRegexOfTrees, IsRegexUnder, TreesAreRefused};
 
+use super::config::Config;
 use super::regex::Regex;
 use super::strategy::Strategy;
 use rx_chunk::pikevm::{self, PikeVM};
+use rx_engine::{borrowed, spelled};
+use rx_grammar::{Hir, syntax};
 use rx_program::BuildError;
 use rx_util::MatchError;
-use std::alloc::{AllocError, Global};
+use std::alloc::Global;
+use std::marker::Model;
 
-/// How large a program may be by default: 40 times its weight is at most this, so that patterns may
-/// weigh 262,144.
-const NFA_SIZE_LIMIT: usize = 10_485_760;
+/// Builds a `Regex` of a pattern, or of several, under settings.
+#[derive(Debug, Drop)]
+pub struct Builder {
+    config: Config,
+    syntax: syntax::Config,
+}
 
-/// Builds a `Regex` of a pattern, or of several, with the default settings.
-#[derive(Debug, Default, Drop)]
-pub struct Builder {}
+impl Model for Builder {
+    ghost use Rattle.regex_cursor.specs.Configs.{RegexWanted};
+
+    ghost Value = { RegexWanted };
+
+    ghost view = { λ b. record { settings = b.config; syntax = b.syntax } };
+}
 
 impl Builder {
     /// Returns a builder in which nothing is set.
-    pub fn new() -> Builder {
-        Builder {}
+    pub fn new() -> Builder
+        ensures { result ≡ default_regex }
+    {
+        Builder {
+            config: Config::new(),
+            syntax: syntax::Config::new(),
+        }
     }
 
     /// Returns a builder in which the same is set. The one error is `Memory`.
@@ -30,7 +49,10 @@ impl Builder {
         ensures same { IfOk result (λ builder. builder ≡ self.now) }
         ensures refused { IfErr result (λ error. error ≡ MatchError.Memory) }
     {
-        Ok(Builder {})
+        Ok(Builder {
+            config: self.config.clone()?,
+            syntax: self.syntax.clone()?,
+        })
     }
 
     /// Returns the regex for a pattern. It takes time and memory in proportion to the pattern's
@@ -38,14 +60,13 @@ impl Builder {
     ///
     /// Errors: `TooLong` for a pattern of more than 65,536 bytes, `Nesting` for one that would be a
     /// pattern at a greater nest limit, `Outside` for one outside the grammar, and `Size` for one
-    /// that weighs more than 262,144. `Memory` may come in place of the regex and of each error but
-    /// the first.
+    /// that is too large for the limit that is set, or, where none is, weighs more than 262,144.
+    /// `Memory` may come in place of the regex and of each error but the first.
     pub fn build(&self, alloc: Global, pattern: &str) -> Result<Regex, BuildError>
-        ensures built { IfOk result (λ re. IsRegexOf pattern.now re) }
-        ensures refused { IfErr result (λ error. IsRefusedAsRegex pattern.now error) }
+        ensures built { IfOk result (λ re. IsRegexUnder pattern.now self.now re) }
+        ensures refused { IfErr result (λ error. IsRefusedUnder pattern.now self.now error) }
     {
-        let vm = limited().build(alloc, pattern)?;
-        Ok(regex_of(alloc, vm)?)
+        self.build_many(alloc, &[pattern])
     }
 
     /// Returns the regex for patterns that are searched for together: where matches of several
@@ -53,30 +74,82 @@ impl Builder {
     /// finds a match. Time and memory are those of all patterns.
     ///
     /// Errors: those of `build`, for the first pattern whose text is refused; and then `Size` where
-    /// the patterns together, and 1 more unless there is exactly one, weigh more than 262,144.
+    /// the patterns together, and 1 more unless there is exactly one, weigh too much.
     pub fn build_many(&self, alloc: Global, patterns: &[&str]) -> Result<Regex, BuildError>
-        ensures built { IfOk result (IsRegexOfAll (map (λ text. text.now) patterns.now)) }
+        ensures built { IfOk result
+            (λ re. IsRegexOfAllUnder (map (λ text. text.now) patterns.now) self.now re) }
         ensures refused { IfErr result
-            (AreRefusedAsRegex (map (λ text. text.now) patterns.now)) }
+            (λ error. AreRefusedUnder (map (λ text. text.now) patterns.now) self.now error) }
     {
-        let vm = limited().build_many(alloc, patterns)?;
-        Ok(regex_of(alloc, vm)?)
+        let hirs = spelled(alloc, patterns, &self.syntax)?;
+        let borrowed = borrowed(alloc, &hirs)?;
+        self.build_many_from_hir(alloc, &borrowed)
     }
-}
 
-/// What builds the engines of regexes, of which none may be too large.
-fn limited() -> pikevm::Builder
-    ensures { result ≡ regex_settings }
-{
-    let mut builder = pikevm::Builder::new();
-    builder.configure(pikevm::Config::new().nfa_size_limit(Some(NFA_SIZE_LIMIT)));
-    builder
-}
+    /// Returns the regex for what a pattern spells, as `build` does. The settings of the syntax are
+    /// those that it was parsed with.
+    ///
+    /// Errors: `Size` where it is too large, and else perhaps `Memory`.
+    pub fn build_from_hir(&self, alloc: Global, hir: &Hir) -> Result<Regex, BuildError>
+        ensures built { IfOk result
+            (λ re. IsRegexOfTrees (tree_of hir.now ∷ []) self.now.settings re) }
+        ensures refused { IfErr result
+            (λ error. TreesAreRefused (tree_of hir.now ∷ []) self.now.settings error) }
+    {
+        self.build_many_from_hir(alloc, &[hir])
+    }
 
-/// The regex that searches by a PikeVM, and by what else searches for its program.
-fn regex_of(alloc: Global, vm: PikeVM) -> Result<Regex, AllocError>
-    ensures { IfOk result (λ re. re ≡ vm) }
-{
-    let strategy = Strategy::new(alloc, vm)?;
-    Regex::over(alloc, strategy)
+    /// Returns the regex for what patterns spell, as `build_many` does, with the errors of
+    /// `build_from_hir`.
+    pub fn build_many_from_hir(&self, alloc: Global, hirs: &[&Hir]) -> Result<Regex, BuildError>
+        ensures built { IfOk result (λ re. IsRegexOfTrees
+            (map (λ hir. tree_of hir.now) hirs.now) self.now.settings re) }
+        ensures refused { IfErr result (λ error. TreesAreRefused
+            (map (λ hir. tree_of hir.now) hirs.now) self.now.settings error) }
+    {
+        let vm = self.engine().build_many_from_hir(alloc, hirs)?;
+        self.regex_of(alloc, vm)
+    }
+
+    /// Takes over the settings that are set in these, and leaves the others.
+    pub fn configure(&mut self, config: Config) -> &mut Builder
+        ensures set { result.now ≡ record self.old {
+          settings = regex_settings_over config self.old.settings;
+        } }
+        ensures same_reference { result.ghost_name ≡ self.entry.ghost_name }
+    {
+        self.config.take_over(config);
+        self
+    }
+
+    /// Takes these settings of the syntax in place of all that it has.
+    pub fn syntax(&mut self, config: syntax::Config) -> &mut Builder
+        ensures set { result.now ≡ record self.old { syntax = config } }
+        ensures same_reference { result.ghost_name ≡ self.entry.ghost_name }
+    {
+        self.syntax = config;
+        self
+    }
+
+    /// What builds the engine that serves any search. It is handed what patterns spell.
+    fn engine(&self) -> pikevm::Builder
+        ensures { result.settings ≡ engine_settings self.now.settings }
+    {
+        let mut builder = pikevm::Builder::new();
+        builder.configure(self.config.of_engine());
+        builder
+    }
+
+    /// The regex that searches by a PikeVM, and by what else searches for its program.
+    fn regex_of(&self, alloc: Global, vm: PikeVM) -> Result<Regex, BuildError>
+        ensures engine { IfOk result (λ re. re.engine ≡ vm) }
+        ensures settings { IfOk result (λ re. re.settings ≡ self.now.settings) }
+        ensures refused { IfErr result (λ error. error ≡ BuildError.Memory) }
+    {
+        let Ok(config) = self.config.clone() else {
+            return Err(BuildError::Memory);
+        };
+        let strategy = Strategy::new(alloc, vm, config)?;
+        Ok(Regex::over(alloc, strategy)?)
+    }
 }

@@ -6,6 +6,7 @@ ghost use Rattle.rx_input.specs.Cursors.{IsSameContent};
 ghost use Rattle.rx_steps.specs.Caches as steps;
 ghost use Rattle.rx_dfa.specs.Searching.{IsHalfAnswer};
 ghost use Rattle.regex_cursor.specs.Regexes.{IsCacheOf, search_by};
+ghost use Rattle.regex_cursor.specs.Configs.{capacity_of};
 ghost use Rattle.regex_cursor.specs.Cores.{AreCachesOf};
 
 use super::regex::Regex;
@@ -27,8 +28,8 @@ const BYTES_A_CLEAR: usize = 50_000;
 
 /// What searches with a regex keep from one to the next, so that they ask for memory once. It
 /// serves the regex that it was made for or reset for, after each search again, refused or not.
-/// Contracts see the program of that regex, and whether it passes over empty matches inside a
-/// character.
+/// Contracts see the program of that regex, whether it passes over empty matches inside a
+/// character, and how much room it lets the automaton's states take.
 #[derive(Debug, Drop)]
 pub struct Cache {
     // In a box, so that caches and what holds them are small and quickly moved.
@@ -90,6 +91,7 @@ impl Kept {
 
 impl Model for Cache {
     ghost use Rattle.regex_cursor.specs.Regexes.{CacheView};
+    ghost use Rattle.regex_cursor.specs.Configs.{capacity_of};
     ghost use Rattle.regex_cursor.specs.Cores.{AreCachesOf};
 
     ghost Value = { CacheView };
@@ -97,6 +99,7 @@ impl Model for Cache {
     ghost view = { λ c. record {
       program = c.kept.value.core.value.vm.program;
       utf8_empty = c.kept.value.core.value.vm.utf8_empty;
+      capacity = capacity_of c.kept.value.core.value.settings;
     } };
 
     ghost invariant = { λ c. AreCachesOf c.kept.value.core.value c.kept.value.vm
@@ -117,6 +120,8 @@ impl Cache {
     fn over(alloc: Global, core: Rc<Core>) -> Result<Cache, MatchError>
         ensures program { IfOk result (λ cache. cache.program ≡ core.value.vm.program) }
         ensures utf8_empty { IfOk result (λ cache. cache.utf8_empty ≡ core.value.vm.utf8_empty) }
+        ensures capacity { IfOk result
+            (λ cache. cache.capacity ≡ capacity_of core.value.settings) }
         ensures refused { IfErr result (λ error. error ≡ MatchError.Memory) }
     {
         let vm = pikevm::Cache::new(alloc, core.vm())?;
@@ -128,6 +133,8 @@ impl Cache {
         requires { steps.IsCacheOf core.value.vm.program vm }
         ensures program { IfOk result (λ cache. cache.program ≡ core.value.vm.program) }
         ensures utf8_empty { IfOk result (λ cache. cache.utf8_empty ≡ core.value.vm.utf8_empty) }
+        ensures capacity { IfOk result
+            (λ cache. cache.capacity ≡ capacity_of core.value.settings) }
         ensures refused { IfErr result (λ error. error ≡ MatchError.Memory) }
     {
         let automaton = rx_dfa::Cache::new(alloc, core.program(), core.dfa())?;

@@ -42,9 +42,9 @@ impl<'r, C: Cursor> CapturesMatches<'r, C> {
     ) -> CapturesMatches<'r, C>
         requires made { IsCacheOf re.now cache }
         requires holds { HasRoom re.now caps }
-        ensures left { left_of result ≡ matches_from (search_by re.now input) }
+        ensures left { left_of result ≡ matches_from (search_by re.now.engine input) }
         ensures regex { regex_of result ≡ re.now }
-        ensures all { GivesAll re.now (search_by re.now input) result }
+        ensures all { GivesAll re.now (search_by re.now.engine input) result }
         ensures few { size (matches_left (left_of result)) < 2 ^ 64 }
     {
         let _at = input.position(); // tells how long the content may be
@@ -70,7 +70,7 @@ impl<'r, C: Cursor> CapturesMatches<'r, C> {
     pub fn input(&mut self) -> &mut Input<C>
         ensures* writes_back { sem 𝓛 (CapturesLendInput C.row C.Cursor self.entry result) }
         ensures input { result.now ≡ input_of self.old }
-        ensures search { search_by (regex_of self.old) result.now ≡ (left_of self.old).search }
+        ensures search { search_by (regex_of self.old).engine result.now ≡ (left_of self.old).search }
     {
         &mut self.input
     }

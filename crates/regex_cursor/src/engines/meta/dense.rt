@@ -1,19 +1,19 @@
 //! Automata all of whose states are made with a regex: those of few states.
 
-ghost use Rattle.std.specs.Prelude.{IfOk, IfSome};
+ghost use Rattle.std.specs.Prelude.{◌≡◌, IfOk, IfSome, None, false};
 ghost use Rattle.rx_dfa.specs.Caches.{IsWithin};
 ghost use Rattle.rx_dfa.specs.DenseTables.{IsClosedOf};
 ghost use Rattle.rx_dfa.specs.Alphabets.{IsAlphabetOf};
+ghost use Rattle.regex_cursor.specs.Configs.{dfa_of, dfa_size_limit_of, dfa_state_limit_of, most};
 
+use super::config::Config;
 use rx_dfa::{Alphabet, DenseTable};
 use rx_program::{Program, State};
 use std::alloc::{AllocError, Global};
+use std::mem::size_of;
 
-/// How many states the program and the automaton may have.
-const DFA_STATE_LIMIT: usize = 30;
-
-/// How many bytes the states of the automaton may take, about.
-const DFA_SIZE_LIMIT: usize = 40_960;
+/// How many bytes a state takes.
+const STATE_BYTES: usize = size_of::<State>();
 
 /// How many states a program has where those that read a character of a set, byte by byte, are
 /// counted.
@@ -29,20 +29,33 @@ fn state_count(program: &Program) -> usize {
     count
 }
 
-/// All states and steps of a program's automaton, where program and automaton are small. So it
-/// takes little time beside that of compiling, however many states the automaton has.
+/// About how many bytes these states take.
+pub(super) fn bytes_of_states(program: &Program) -> usize {
+    state_count(program).saturating_mul(STATE_BYTES)
+}
+
+/// All states and steps of a program's automaton, where they are wanted, and program and automaton
+/// are as small as is set. So by default it takes little time beside that of compiling, however
+/// many states the automaton has.
 pub(super) fn closed_of(
     alloc: Global,
     program: &Program,
     dfa: &Alphabet,
+    config: &Config,
 ) -> Result<Option<DenseTable>, AllocError>
     requires { IsAlphabetOf program.now dfa.now }
     ensures closed { IfOk result (λ closed. IfSome closed (IsClosedOf program.now dfa.now)) }
-    ensures small { IfOk result
-        (λ closed. IfSome closed (IsWithin DFA_STATE_LIMIT DFA_SIZE_LIMIT)) }
+    ensures small { IfOk result (λ closed. IfSome closed
+        (IsWithin (most (dfa_state_limit_of config.now)) (most (dfa_size_limit_of config.now)))) }
+    ensures unwanted { IfOk result (λ closed. dfa_of config.now ≡ false → closed ≡ None) }
 {
-    if state_count(program) > DFA_STATE_LIMIT {
+    if !config.get_dfa() {
         return Ok(None);
     }
-    DenseTable::new(alloc, program, dfa, DFA_STATE_LIMIT, DFA_SIZE_LIMIT)
+    let state_limit = config.get_dfa_state_limit().unwrap_or(usize::MAX);
+    let size_limit = config.get_dfa_size_limit().unwrap_or(usize::MAX);
+    if state_count(program) > state_limit {
+        return Ok(None);
+    }
+    DenseTable::new(alloc, program, dfa, state_limit, size_limit)
 }

@@ -24,14 +24,14 @@ impl<'r> Finder<'r> {
     ghost use Rattle.std.specs.Iterator.{size};
     ghost use Rattle.rx_input.specs.Inputs.{InputState};
     ghost use Rattle.rx_chunk.specs.Engines.{match_of};
-    ghost use Rattle.regex_cursor.specs.Iterating.{GivesNext, GoesOn, engine_of, left_in, matches_from, matches_left};
+    ghost use Rattle.regex_cursor.specs.Iterating.{GivesNext, GoesOn, regex_in, left_in, matches_from, matches_left};
     ghost use Rattle.regex_cursor.specs.Regexes.{search_by};
 
     /// No match has come yet.
     pub(super) fn new(re: &'r Regex, cache: Cache) -> Finder<'r>
         requires made { IsCacheOf re.now cache }
-        ensures left { (i : InputState) → left_in result i ≡ matches_from (search_by re.now i) }
-        ensures regex { engine_of result ≡ re.now }
+        ensures left { (i : InputState) → left_in result i ≡ matches_from (search_by re.now.engine i) }
+        ensures regex { regex_in result ≡ re.now }
     {
         Finder {
             re,
@@ -43,7 +43,7 @@ impl<'r> Finder<'r> {
 
     /// The regex that it searches for.
     pub(super) fn regex(&self) -> &'r Regex
-        ensures { result.now ≡ engine_of self.now }
+        ensures { result.now ≡ regex_in self.now }
     {
         self.re
     }
@@ -55,9 +55,9 @@ impl<'r> Finder<'r> {
         &mut self,
         input: &mut Input<C>,
     ) -> Option<Result<Match, MatchError>>
-        ensures next { GivesNext (engine_of self.old).program match_of
+        ensures next { GivesNext (regex_in self.old).engine.program match_of
             (left_in self.old input.old) result (left_in self.new input.new) }
-        ensures same_regex { engine_of self.new ≡ engine_of self.old }
+        ensures same_regex { regex_in self.new ≡ regex_in self.old }
         ensures goes_on { GoesOn (left_in self.old input.old).search
             (left_in self.new input.new).search }
         ensures fewer { OnSome result (size (matches_left (left_in self.new input.new))

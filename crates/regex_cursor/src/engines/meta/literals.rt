@@ -1,8 +1,13 @@
 //! The literals that a program's matches begin with, or are.
 
-ghost use Rattle.std.specs.Prelude.{IfOk};
-ghost use Rattle.regex_cursor.specs.Literals.{AreLiteralsOf};
+ghost use Rattle.std.specs.Prelude.{◌≡◌, IfOk, IfSome, None, false};
+ghost use Rattle.rx_program.specs.Programs.{characters_of};
+ghost use Rattle.rx_literals.specs.Beginnings.{BeginsWith};
+ghost use Rattle.rx_literals.specs.Literals.{IsLiteralOf};
+ghost use Rattle.regex_cursor.specs.Configs.{WantsNoLiterals, auto_prefilter_of, prefilter_of};
+ghost use Rattle.regex_cursor.specs.Literals.{AreLiteralsOf, no_literals};
 
+use super::config::Config;
 use rx_literals::Prefilter;
 use rx_program::Program;
 use rx_util::MatchKind;
@@ -18,13 +23,76 @@ pub(super) struct Literals {
 }
 
 impl Literals {
-    /// Those of a program, as far as they are looked for. It takes time in proportion to the
-    /// program's states and the ranges of their automata.
-    pub(super) fn of(alloc: Global, program: &Program) -> Result<Literals, AllocError>
-        ensures { IfOk result (AreLiteralsOf program.now) }
+    /// Those of a program, as far as the settings want them to be looked for. It takes time in
+    /// proportion to the program's states and the ranges of their automata.
+    pub(super) fn of(
+        alloc: Global,
+        program: &Program,
+        config: &Config,
+    ) -> Result<Literals, AllocError>
+        ensures literals { IfOk result (AreLiteralsOf program.now) }
+        ensures unwanted { IfOk result
+            (λ literals. WantsNoLiterals config.now → literals ≡ no_literals) }
     {
-        let beginnings = Prefilter::from_program(alloc, MatchKind::LeftmostFirst, program)?;
-        let whole = Prefilter::of_literal(alloc, program)?;
+        let beginnings = beginnings_of(alloc, program, config)?;
+        let whole = literal_of(alloc, program, config)?;
         Ok(Literals { beginnings, whole })
+    }
+}
+
+/// The literals of the caller's own, if they were set, and each match begins with one of them.
+fn given(alloc: Global, program: &Program, config: &Config) -> Result<Option<Prefilter>, AllocError>
+    ensures begins { IfOk result (λ given. IfSome given
+        (λ needles. BeginsWith needles (characters_of program.now))) }
+    ensures unwanted { IfOk result (λ given. prefilter_of config.now ≡ None → given ≡ None) }
+{
+    let Some(prefilter) = config.get_prefilter() else {
+        return Ok(None);
+    };
+    if !prefilter.serves(alloc, program)? {
+        return Ok(None);
+    }
+    match prefilter.clone() {
+        Ok(prefilter) => Ok(Some(prefilter)),
+        Err(_) => Err(AllocError),
+    }
+}
+
+/// Literals of which each match begins with one: the caller's own, or those that are read from the
+/// program.
+fn beginnings_of(
+    alloc: Global,
+    program: &Program,
+    config: &Config,
+) -> Result<Option<Prefilter>, AllocError>
+    ensures begins { IfOk result (λ beginnings. IfSome beginnings
+        (λ needles. BeginsWith needles (characters_of program.now))) }
+    ensures unwanted { IfOk result
+        (λ beginnings. WantsNoLiterals config.now → beginnings ≡ None) }
+{
+    match given(alloc, program, config)? {
+        Some(prefilter) => Ok(Some(prefilter)),
+        None if config.get_auto_prefilter() => {
+            Prefilter::from_program(alloc, MatchKind::LeftmostFirst, program)
+        }
+        None => Ok(None),
+    }
+}
+
+/// The literal that each match is, if that is read from the program.
+fn literal_of(
+    alloc: Global,
+    program: &Program,
+    config: &Config,
+) -> Result<Option<Prefilter>, AllocError>
+    ensures is_literal { IfOk result (λ literal. IfSome literal
+        (λ needles. IsLiteralOf needles (characters_of program.now))) }
+    ensures unwanted { IfOk result
+        (λ literal. auto_prefilter_of config.now ≡ false → literal ≡ None) }
+{
+    if config.get_auto_prefilter() {
+        Prefilter::of_literal(alloc, program)
+    } else {
+        Ok(None)
     }
 }

@@ -1,13 +1,13 @@
 //! A regular expression that is searched for.
 
-ghost use Rattle.std.specs.Prelude.{◌≡◌, ◌+◌, ◌<◌, ◌≤◌, ◌^◌, ℕ, List, IfErr, IfOk, IfSome, None, OnErr, OnOk, length, ◌*◌, map};
+ghost use Rattle.std.specs.Prelude.{◌≡◌, ◌<◌, ◌≤◌, ◌^◌, ℕ, List, IfErr, IfOk, IfSome, None, false, OnErr, OnOk, length, ◌*◌, map};
 ghost use Rattle.std.specs.Iterator.{size};
 ghost use Rattle.std.specs.Option.{ForSome};
 ghost use Rattle.rx_input.specs.Cursors.{IsSameContent};
 ghost use Rattle.rx_input.specs.Searchers.{EndsInside};
 ghost use Rattle.rx_util.specs.declared.search.MatchError.{MatchError};
 ghost use Rattle.rx_util.specs.Captured.{nothing_noted};
-ghost use Rattle.rx_util.specs.Groups.{further_groups, slot_len};
+ghost use Rattle.rx_util.specs.Groups.{slot_len};
 ghost use Rattle.rx_steps.specs.Threads.{no_slots};
 ghost use Rattle.rx_chunk.specs.Iterating.{IsNextAnswer, StartsFrom};
 ghost use Rattle.regex_cursor.specs.Capturing as capturing;
@@ -15,11 +15,14 @@ ghost use Rattle.regex_cursor.specs.Splitting as splitting;
 ghost use Rattle.regex_cursor.specs.SplittingFew as few;
 ghost use Rattle.regex_cursor.specs.Iterating.{GivesAll, left_of, matches_from, matches_left, regex_of};
 ghost use Rattle.regex_cursor.specs.Patterns.{HasNoMatchBetween};
-ghost use Rattle.regex_cursor.specs.Regexes.{AreRefusedAsRegex, HasRoom, HoldsMatches, IsCacheOf, IsRefusedAsRegex, IsRegex, IsRegexOf, IsRegexOfAll, TellsMatch, TellsSlots, TellsWhether, TellsWhole, search_by};
+ghost use Rattle.regex_cursor.specs.Configs.{WantsNoLiterals, default_regex, none_set};
+ghost use Rattle.regex_cursor.specs.Strategies.{regex_of as regex_with};
+ghost use Rattle.regex_cursor.specs.Regexes.{AreRefusedAsRegex, HasRoom, HoldsMatches, IsCacheOf, IsRefusedAsRegex, IsRegex, IsRegexOf, IsRegexOfAll, TellsHalf, TellsMatch, TellsSlots, TellsWhether, TellsWhole, search_by};
 
 use super::builder::Builder;
 use super::cache::Cache;
 use super::captures_matches::CapturesMatches;
+use super::config::Config;
 use super::find_matches::FindMatches;
 use super::left::{clear_slots, find_literal, note_nothing};
 use super::split::Split;
@@ -28,13 +31,14 @@ use super::strategy::Strategy;
 use rx_chunk::pikevm::PikeVM;
 use rx_input::{Cursor, Input};
 use rx_program::BuildError;
-use rx_util::{Captures, GroupInfo, Match, MatchError, NonMaxUsize, PatternID};
+use rx_util::{Captures, GroupInfo, HalfMatch, Match, MatchError, NonMaxUsize, PatternID};
 use std::alloc::{AllocError, Global};
 use std::marker::Model;
 use std::rc::Rc;
 
 /// A regular expression, or several, searched for in contents that lie in pieces. Contracts see the
-/// program, the groups of each pattern, and that it passes over empty matches inside a character.
+/// engine that serves any search, which is the program, the groups of each pattern, and whether
+/// empty matches inside a character are passed over; and the settings.
 ///
 /// The plain calls make a cache each, which takes memory and time in proportion to the pattern's
 /// program; those named `_with` are handed one, and take none of either for it.
@@ -44,11 +48,14 @@ pub struct Regex {
 }
 
 impl Model for Regex {
-    ghost use Rattle.regex_cursor.specs.Regexes.{Engine};
+    ghost use Rattle.regex_cursor.specs.Regexes.{RegexView};
 
-    ghost Value = { Engine };
+    ghost Value = { RegexView };
 
-    ghost view = { λ re. re.strategy.value.vm };
+    ghost view = { λ re. record {
+      engine = re.strategy.value.vm;
+      settings = re.strategy.value.settings;
+    } };
 }
 
 impl Regex {
@@ -71,14 +78,23 @@ impl Regex {
         Regex::builder().build_many(alloc, patterns)
     }
 
-    /// Returns a builder with the default settings.
-    pub fn builder() -> Builder {
+    /// Returns settings of which none is set.
+    pub fn config() -> Config
+        ensures { result ≡ none_set }
+    {
+        Config::new()
+    }
+
+    /// Returns a builder in which nothing is set.
+    pub fn builder() -> Builder
+        ensures { result ≡ default_regex }
+    {
         Builder::new()
     }
 
     /// A regex that searches by these engines. The one refusal is want of memory.
     pub(super) fn over(alloc: Global, strategy: Strategy) -> Result<Regex, AllocError>
-        ensures { IfOk result (λ re. re ≡ strategy.vm) }
+        ensures { IfOk result (λ re. re ≡ regex_with strategy) }
     {
         Ok(Regex {
             strategy: Rc::new(alloc, strategy)?,
@@ -87,14 +103,14 @@ impl Regex {
 
     /// The engines.
     pub(super) fn strategy(&self) -> &Rc<Strategy>
-        ensures { result.now.value.vm ≡ self.now }
+        ensures { regex_with result.now.value ≡ self.now }
     {
         &self.strategy
     }
 
     /// The engine that serves any search.
     pub(super) fn vm(&self) -> &PikeVM
-        ensures { result.now ≡ self.now }
+        ensures { result.now ≡ self.now.engine }
     {
         self.strategy.vm()
     }
@@ -112,8 +128,8 @@ impl Regex {
 
     /// Returns whether there is a match. The one error is `Memory`.
     pub fn is_match<C: Cursor + Drop>(&self, mut input: Input<C>) -> Result<bool, MatchError>
-        ensures answer { IfOk result (λ yes. TellsWhether self.now.program
-            (search_by self.now input) yes) }
+        ensures answer { IfOk result (λ yes. TellsWhether self.now.engine.program
+            (search_by self.now.engine input) yes) }
         ensures refused { IfErr result (λ error. error ≡ MatchError.Memory) }
     {
         let mut cache = self.create_cache()?;
@@ -122,7 +138,7 @@ impl Regex {
 
     /// Returns the match that is found, as `search` does.
     pub fn find<C: Cursor + Drop>(&self, input: Input<C>) -> Result<Option<Match>, MatchError>
-        ensures answer { IfOk result (λ found. TellsMatch self.now input found) }
+        ensures answer { IfOk result (λ found. TellsMatch self.now.engine input found) }
         ensures inside { IfOk result (λ found. ForSome found (λ m. EndsInside input m.span.end)) }
         ensures refused { IfErr result (λ error. error ≡ MatchError.Memory) }
     {
@@ -136,9 +152,9 @@ impl Regex {
         caps: &mut Captures,
     ) -> Result<(), MatchError>
         ensures answer { OnOk result
-            (TellsSlots self.now input caps.new.pattern caps.new.slots) }
-        ensures whole { HoldsMatches self.now caps.old
-            → OnOk result (TellsWhole self.now input caps.new) }
+            (TellsSlots self.now.engine input caps.new.pattern caps.new.slots) }
+        ensures whole { HoldsMatches self.now.engine caps.old
+            → OnOk result (TellsWhole self.now.engine input caps.new) }
         ensures groups { caps.new.groups ≡ caps.old.groups }
         ensures slot_len { length caps.new.slots ≡ length caps.old.slots }
         ensures no_answer { OnErr result (caps.new.pattern ≡ None) }
@@ -155,9 +171,9 @@ impl Regex {
         &'r self,
         input: Input<C>,
     ) -> Result<FindMatches<'r, C>, MatchError>
-        ensures left { IfOk result (λ m. left_of m ≡ matches_from (search_by self.now input)) }
+        ensures left { IfOk result (λ m. left_of m ≡ matches_from (search_by self.now.engine input)) }
         ensures regex { IfOk result (λ m. regex_of m ≡ self.now) }
-        ensures all { IfOk result (λ m. GivesAll self.now (search_by self.now input) m) }
+        ensures all { IfOk result (λ m. GivesAll self.now (search_by self.now.engine input) m) }
         ensures few { IfOk result (λ m. size (matches_left (left_of m)) < 2 ^ 64) }
         ensures refused { IfErr result (λ error. error ≡ MatchError.Memory) }
     {
@@ -172,10 +188,10 @@ impl Regex {
         input: Input<C>,
     ) -> Result<CapturesMatches<'r, C>, MatchError>
         ensures left { IfOk result
-            (λ m. capturing.left_of m ≡ matches_from (search_by self.now input)) }
+            (λ m. capturing.left_of m ≡ matches_from (search_by self.now.engine input)) }
         ensures regex { IfOk result (λ m. capturing.regex_of m ≡ self.now) }
         ensures all { IfOk result
-            (λ m. capturing.GivesAll self.now (search_by self.now input) m) }
+            (λ m. capturing.GivesAll self.now (search_by self.now.engine input) m) }
         ensures few { IfOk result (λ m. size (matches_left (capturing.left_of m)) < 2 ^ 64) }
         ensures refused { IfErr result (λ error. error ≡ MatchError.Memory) }
     {
@@ -192,10 +208,10 @@ impl Regex {
         input: Input<C>,
     ) -> Result<Split<'r, C>, MatchError>
         ensures left { IfOk result (λ m. splitting.left_of m
-            ≡ splitting.parts_of (matches_from (search_by self.now input))) }
+            ≡ splitting.parts_of (matches_from (search_by self.now.engine input))) }
         ensures regex { IfOk result (λ m. splitting.regex_of m ≡ self.now) }
         ensures gaps { IfOk result
-            (λ m. splitting.GivesGaps self.now (search_by self.now input) m) }
+            (λ m. splitting.GivesGaps self.now (search_by self.now.engine input) m) }
         ensures few { IfOk result
             (λ m. size (splitting.parts_left (splitting.left_of m)) < 2 ^ 64) }
         ensures refused { IfErr result (λ error. error ≡ MatchError.Memory) }
@@ -212,12 +228,12 @@ impl Regex {
         limit: usize,
     ) -> Result<SplitN<'r, C>, MatchError>
         ensures left { IfOk result (λ m. few.left_of m ≡ record {
-          parts = splitting.parts_of (matches_from (search_by self.now input));
+          parts = splitting.parts_of (matches_from (search_by self.now.engine input));
           limit = limit;
         }) }
         ensures regex { IfOk result (λ m. few.regex_of m ≡ self.now) }
         ensures gaps { IfOk result
-            (λ m. few.GivesFewGaps self.now (search_by self.now input) limit m) }
+            (λ m. few.GivesFewGaps self.now (search_by self.now.engine input) limit m) }
         ensures refused { IfErr result (λ error. error ≡ MatchError.Memory) }
     {
         let cache = self.create_cache()?;
@@ -228,12 +244,25 @@ impl Regex {
     /// It ends in the span. Where `earliest` is set, only that, and whether there is a match, is
     /// promised. The one error is `Memory`.
     pub fn search<C: Cursor + Drop>(&self, mut input: Input<C>) -> Result<Option<Match>, MatchError>
-        ensures answer { IfOk result (λ found. TellsMatch self.now input found) }
+        ensures answer { IfOk result (λ found. TellsMatch self.now.engine input found) }
         ensures inside { IfOk result (λ found. ForSome found (λ m. EndsInside input m.span.end)) }
         ensures refused { IfErr result (λ error. error ≡ MatchError.Memory) }
     {
         let mut cache = self.create_cache()?;
         self.search_with(&mut cache, &mut input)
+    }
+
+    /// Returns the pattern and the end of the match that is found, as `search_half_with` does.
+    pub fn search_half<C: Cursor + Drop>(
+        &self,
+        mut input: Input<C>,
+    ) -> Result<Option<HalfMatch>, MatchError>
+        ensures answer { IfOk result (λ half. TellsHalf self.now.engine input half) }
+        ensures inside { IfOk result (λ half. ForSome half (λ h. EndsInside input h.offset)) }
+        ensures refused { IfErr result (λ error. error ≡ MatchError.Memory) }
+    {
+        let mut cache = self.create_cache()?;
+        self.search_half_with(&mut cache, &mut input)
     }
 
     /// Notes what is found with all its groups, as `search_captures_with` does.
@@ -243,9 +272,9 @@ impl Regex {
         caps: &mut Captures,
     ) -> Result<(), MatchError>
         ensures answer { OnOk result
-            (TellsSlots self.now input caps.new.pattern caps.new.slots) }
-        ensures whole { HoldsMatches self.now caps.old
-            → OnOk result (TellsWhole self.now input caps.new) }
+            (TellsSlots self.now.engine input caps.new.pattern caps.new.slots) }
+        ensures whole { HoldsMatches self.now.engine caps.old
+            → OnOk result (TellsWhole self.now.engine input caps.new) }
         ensures groups { caps.new.groups ≡ caps.old.groups }
         ensures slot_len { length caps.new.slots ≡ length caps.old.slots }
         ensures no_answer { OnErr result (caps.new.pattern ≡ None) }
@@ -264,7 +293,7 @@ impl Regex {
         slots: &mut [Option<NonMaxUsize>],
     ) -> Result<Option<PatternID>, MatchError>
         ensures answer { IfOk result
-            (λ pattern. TellsSlots self.now input pattern slots.new) }
+            (λ pattern. TellsSlots self.now.engine input pattern slots.new) }
         ensures none { OnErr result (slots.new ≡ no_slots (length slots.new)) }
         ensures refused { IfErr result (λ error. error ≡ MatchError.Memory) }
     {
@@ -282,7 +311,7 @@ impl Regex {
         input: &mut Input<C>,
     ) -> Result<Option<Match>, MatchError>
         requires made { IsCacheOf self.now cache.old }
-        ensures answer { IfOk result (λ found. TellsMatch self.now input.old found) }
+        ensures answer { IfOk result (λ found. TellsMatch self.now.engine input.old found) }
         ensures inside { IfOk result
             (λ found. ForSome found (λ m. EndsInside input.old m.span.end)) }
         ensures made { IsCacheOf self.now cache.new }
@@ -291,6 +320,27 @@ impl Regex {
         ensures refused { IfErr result (λ error. error ≡ MatchError.Memory) }
     {
         self.strategy.find(cache, input)
+    }
+
+    /// Returns the pattern and the end of the match that `search_with` finds. Where `earliest` is
+    /// set, only whether there is a match, and that this ends in the span, is promised. Span, slice,
+    /// anchoring and `earliest` of the input stay as they are. The one error is `Memory`. Requires
+    /// that the cache is one for this regex, as it is afterwards too.
+    pub fn search_half_with<C: Cursor>(
+        &self,
+        cache: &mut Cache,
+        input: &mut Input<C>,
+    ) -> Result<Option<HalfMatch>, MatchError>
+        requires made { IsCacheOf self.now cache.old }
+        ensures answer { IfOk result (λ half. TellsHalf self.now.engine input.old half) }
+        ensures inside { IfOk result
+            (λ half. ForSome half (λ h. EndsInside input.old h.offset)) }
+        ensures made { IsCacheOf self.now cache.new }
+        ensures asked { input.new.asked ≡ input.old.asked }
+        ensures same { IsSameContent input.old.cursor input.new.cursor }
+        ensures refused { IfErr result (λ error. error ≡ MatchError.Memory) }
+    {
+        self.strategy.find_half(cache, input)
     }
 
     /// Notes what is found in captures: its pattern, and the places in as many slots as they have.
@@ -306,9 +356,9 @@ impl Regex {
     ) -> Result<(), MatchError>
         requires made { IsCacheOf self.now cache.old }
         ensures answer { OnOk result
-            (TellsSlots self.now input.old caps.new.pattern caps.new.slots) }
-        ensures whole { HoldsMatches self.now caps.old
-            → OnOk result (TellsWhole self.now input.old caps.new) }
+            (TellsSlots self.now.engine input.old caps.new.pattern caps.new.slots) }
+        ensures whole { HoldsMatches self.now.engine caps.old
+            → OnOk result (TellsWhole self.now.engine input.old caps.new) }
         ensures groups { caps.new.groups ≡ caps.old.groups }
         ensures slot_len { length caps.new.slots ≡ length caps.old.slots }
         ensures no_answer { OnErr result (caps.new.pattern ≡ None) }
@@ -335,7 +385,7 @@ impl Regex {
     ) -> Result<Option<PatternID>, MatchError>
         requires made { IsCacheOf self.now cache.old }
         ensures answer { IfOk result
-            (λ pattern. TellsSlots self.now input.old pattern slots.new) }
+            (λ pattern. TellsSlots self.now.engine input.old pattern slots.new) }
         ensures none { OnErr result (slots.new ≡ no_slots (length slots.new)) }
         ensures made { IsCacheOf self.now cache.new }
         ensures asked { input.new.asked ≡ input.old.asked }
@@ -360,9 +410,9 @@ impl Regex {
         last_match_end: Option<usize>,
     ) -> Result<Option<PatternID>, MatchError>
         requires made { IsCacheOf self.now cache.old }
-        requires slots { 2 * length self.now.groups ≤ length slots.old }
-        ensures answer { IfOk result (λ pattern. IsNextAnswer self.now.program
-            (search_by self.now input.old) last_match_end pattern slots.new) }
+        requires slots { 2 * length self.now.engine.groups ≤ length slots.old }
+        ensures answer { IfOk result (λ pattern. IsNextAnswer self.now.engine.program
+            (search_by self.now.engine input.old) last_match_end pattern slots.new) }
         ensures none { OnErr result (slots.new ≡ no_slots (length slots.new)) }
         ensures made { IsCacheOf self.now cache.new }
         ensures same { (start : ℕ) × StartsFrom input.old input.new start }
@@ -399,8 +449,8 @@ impl Regex {
     /// `Memory`. `O(n)` in the number of groups.
     pub fn create_captures(&self) -> Result<Captures, MatchError>
         ensures made { IfOk result (λ caps. caps
-            ≡ nothing_noted self.now.groups (slot_len self.now.groups)) }
-        ensures holds { IfOk result (λ caps. HoldsMatches self.now caps) }
+            ≡ nothing_noted self.now.engine.groups (slot_len self.now.engine.groups)) }
+        ensures holds { IfOk result (λ caps. HoldsMatches self.now.engine caps) }
         ensures room { IfOk result (λ caps. HasRoom self.now caps) }
         ensures refused { IfErr result (λ error. error ≡ MatchError.Memory) }
     {
@@ -418,24 +468,45 @@ impl Regex {
 
     /// Returns how many patterns it has. `O(1)`.
     pub fn pattern_len(&self) -> usize
-        ensures { result ≡ length self.now.groups }
+        ensures { result ≡ length self.now.engine.groups }
     {
         self.group_info().pattern_len()
     }
 
-    /// Returns how many groups its patterns have together, the whole match of each among them.
-    /// `O(1)`.
+    /// Returns how many groups its patterns have together, the whole match of each among them, and
+    /// those that aren't noted too. `O(1)`.
     pub fn captures_len(&self) -> usize
-        ensures { result ≡ length self.now.groups + further_groups self.now.groups }
+        ensures { result ≡ self.now.engine.captures_len }
     {
-        self.group_info().slot_len() / 2
+        self.vm().captures_len()
     }
 
-    /// Returns the groups of its patterns. `O(1)`.
+    /// Returns those groups of its patterns that are noted. `O(1)`.
     pub fn group_info(&self) -> &GroupInfo
-        ensures groups { result.now ≡ self.now.groups }
+        ensures groups { result.now ≡ self.now.engine.groups }
         ensures regex { IsRegex self.now }
     {
         self.vm().group_info()
+    }
+
+    /// Returns the settings that it was built under. `O(1)`.
+    pub fn get_config(&self) -> &Config
+        ensures { result.now ≡ self.now.settings }
+    {
+        self.strategy.config()
+    }
+
+    /// Returns whether it looks for literals that matches begin with before an engine is asked,
+    /// which it doesn't where `auto_prefilter` is off and no `prefilter` is set. `O(1)`.
+    pub fn is_accelerated(&self) -> bool
+        ensures { WantsNoLiterals self.now.settings → result ≡ false }
+    {
+        self.strategy.is_accelerated()
+    }
+
+    /// Returns about how many bytes the states and the tables of its program and of its automaton
+    /// take: a count that no contract fixes. `O(n)` in the number of the program's states.
+    pub fn memory_usage(&self) -> usize {
+        self.strategy.memory_usage()
     }
 }

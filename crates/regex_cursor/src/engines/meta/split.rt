@@ -31,9 +31,9 @@ impl<'r, C: Cursor> Split<'r, C> {
     /// None of the parts of an input has come yet.
     pub(super) fn new(re: &'r Regex, cache: Cache, input: Input<C>) -> Split<'r, C>
         requires made { IsCacheOf re.now cache }
-        ensures left { left_of result ≡ parts_of (matches_from (search_by re.now input)) }
+        ensures left { left_of result ≡ parts_of (matches_from (search_by re.now.engine input)) }
         ensures regex { regex_of result ≡ re.now }
-        ensures gaps { GivesGaps re.now (search_by re.now input) result }
+        ensures gaps { GivesGaps re.now (search_by re.now.engine input) result }
         ensures few { size (parts_left (left_of result)) < 2 ^ 64 }
     {
         let _at = input.position(); // tells how long the content may be
@@ -48,7 +48,7 @@ impl<'r, C: Cursor> Split<'r, C> {
     pub fn input(&mut self) -> &mut Input<C>
         ensures* writes_back { sem 𝓛 (SplitLendsInput C.row C.Cursor self.entry result) }
         ensures input { result.now ≡ input_of self.old }
-        ensures search { search_by (regex_of self.old) result.now
+        ensures search { search_by (regex_of self.old).engine result.now
             ≡ (left_of self.old).matches.search }
     {
         &mut self.input

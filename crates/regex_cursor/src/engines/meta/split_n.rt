@@ -32,11 +32,11 @@ impl<'r, C: Cursor> SplitN<'r, C> {
     pub(super) fn new(re: &'r Regex, cache: Cache, input: Input<C>, limit: usize) -> SplitN<'r, C>
         requires made { IsCacheOf re.now cache }
         ensures left { left_of result ≡ record {
-          parts = parts_of (matches_from (search_by re.now input));
+          parts = parts_of (matches_from (search_by re.now.engine input));
           limit = limit;
         } }
         ensures regex { regex_of result ≡ re.now }
-        ensures gaps { GivesFewGaps re.now (search_by re.now input) limit result }
+        ensures gaps { GivesFewGaps re.now (search_by re.now.engine input) limit result }
     {
         SplitN {
             splitter: Splitter::new(Finder::new(re, cache)),
@@ -50,7 +50,7 @@ impl<'r, C: Cursor> SplitN<'r, C> {
     pub fn input(&mut self) -> &mut Input<C>
         ensures* writes_back { sem 𝓛 (SplitNLendsInput C.row C.Cursor self.entry result) }
         ensures input { result.now ≡ input_of self.old }
-        ensures search { search_by (regex_of self.old) result.now
+        ensures search { search_by (regex_of self.old).engine result.now
             ≡ (left_of self.old).parts.matches.search }
     {
         &mut self.input

@@ -33,13 +33,13 @@ impl<'r> Splitter<'r> {
     ghost use Rattle.std.specs.Iterator.{size};
     ghost use Rattle.rx_input.specs.Inputs.{InputState};
     ghost use Rattle.regex_cursor.specs.Iterating as iterating;
-    ghost use Rattle.regex_cursor.specs.Splitting.{EndsWith, SplitsOff, end_of_search, engine_of, left_in, parts_left, parts_of};
+    ghost use Rattle.regex_cursor.specs.Splitting.{EndsWith, SplitsOff, end_of_search, regex_in, left_in, parts_left, parts_of};
 
     /// The parts between the matches that a finder comes to.
     pub(super) fn new(finder: Finder<'r>) -> Splitter<'r>
         ensures left { (i : InputState)
             → left_in result i ≡ parts_of (iterating.left_in finder.entry i) }
-        ensures regex { engine_of result ≡ iterating.engine_of finder.entry }
+        ensures regex { regex_in result ≡ iterating.regex_in finder.entry }
     {
         Splitter {
             finder,
@@ -55,9 +55,9 @@ impl<'r> Splitter<'r> {
         &mut self,
         input: &mut Input<C>,
     ) -> Option<Result<Span, MatchError>>
-        ensures next { SplitsOff (engine_of self.old).program (left_in self.old input.old)
+        ensures next { SplitsOff (regex_in self.old).engine.program (left_in self.old input.old)
             (left_in self.new input.new) result }
-        ensures same_regex { engine_of self.new ≡ engine_of self.old }
+        ensures same_regex { regex_in self.new ≡ regex_in self.old }
         ensures fewer { OnSome result (size (parts_left (left_in self.new input.new))
             < size (parts_left (left_in self.old input.old))) }
     {
@@ -91,7 +91,7 @@ impl<'r> Splitter<'r> {
             (end_of_search (left_in self.old input.old).matches.search) result }
         ensures left { left_in self.new input.new
             ≡ record (left_in self.old input.old) { is_over = true } }
-        ensures same_regex { engine_of self.new ≡ engine_of self.old }
+        ensures same_regex { regex_in self.new ≡ regex_in self.old }
     {
         self.is_over = true;
         let end = end_of(input);

@@ -1,7 +1,7 @@
 //! The engines of a regex, and how it chooses among them: the literals that matches begin with are
 //! looked for first, then the automaton is asked, and what it leaves is searched by the PikeVM.
 
-ghost use Rattle.std.specs.Prelude.{◌≡◌, ℕ, ◌*◌, ◌<◌, ◌≤◌, ◌^◌, IfOk, IfErr, IfSome, OnOk, OnErr, None, length};
+ghost use Rattle.std.specs.Prelude.{◌≡◌, ℕ, ◌*◌, ◌<◌, ◌≤◌, ◌^◌, IfOk, IfErr, IfSome, OnOk, OnErr, None, false, length};
 ghost use Rattle.std.specs.Option.{ForSome};
 ghost use Rattle.rx_util.specs.declared.search.MatchError.{MatchError};
 ghost use Rattle.rx_util.specs.Captured.{group_span, match_found};
@@ -15,20 +15,22 @@ ghost use Rattle.rx_steps.specs.Threads.{no_slots};
 ghost use Rattle.rx_engine.specs.Engines.{IsEngine};
 ghost use Rattle.rx_chunk.specs.Engines.{TellsWhether};
 ghost use Rattle.rx_chunk.specs.Iterating.{EndsAhead, HasNotedNext, IsFoundNext, IsNextAnswer, StartsFrom};
-ghost use Rattle.regex_cursor.specs.Regexes.{HoldsMatches, IsCacheOf, TellsMatch, TellsSlots, TellsWhole, search_by};
+ghost use Rattle.regex_cursor.specs.Regexes.{HoldsMatches, IsCacheOf, TellsHalf, TellsMatch, TellsSlots, TellsWhole, search_by};
+ghost use Rattle.regex_cursor.specs.Configs.{WantsNoLiterals, capacity_of};
 ghost use Rattle.regex_cursor.specs.Cores.{IsCore};
-ghost use Rattle.regex_cursor.specs.Literals.{AreLiteralsOf};
-ghost use Rattle.regex_cursor.specs.Strategies.{AreKeptFor, IsLeft, IsNextLeft, IsStart, IsTold};
+ghost use Rattle.regex_cursor.specs.Literals.{AreLiteralsOf, no_literals};
+ghost use Rattle.regex_cursor.specs.Strategies.{AreKeptFor, IsLeft, IsNextLeft, IsStart, IsTold, regex_of};
 
 use super::cache::{Cache, Kept};
-use super::dense::closed_of;
+use super::config::Config;
+use super::dense::{bytes_of_states, closed_of};
 use super::left::{
     Left, Part, Start, Told, clear_slots, find_literal, note_nothing, put_back, put_match,
     start_of_literal,
 };
 use super::literals::Literals;
 use rx_chunk::pikevm::{self, PikeVM};
-use rx_dfa::{Alphabet, CACHE_CAPACITY, DenseTable};
+use rx_dfa::{Alphabet, DenseTable};
 use rx_input::{Cursor, Input};
 use rx_literals::Prefilter;
 use rx_program::Program;
@@ -37,12 +39,13 @@ use std::alloc::{AllocError, Global};
 use std::marker::Model;
 use std::rc::Rc;
 
-/// What a regex shares with its clones and its caches: the engine that serves any search, and the
-/// automaton of its program.
+/// What a regex shares with its clones and its caches: the engine that serves any search, the
+/// automaton of its program, and its settings.
 #[derive(Debug, Drop)]
 pub(super) struct Core {
     vm: PikeVM,
     dfa: Alphabet,
+    config: Config,
 }
 
 impl Model for Core {
@@ -50,18 +53,20 @@ impl Model for Core {
 
     ghost Value = { CoreView };
 
-    ghost view = { λ c. record { vm = c.vm; dfa = c.dfa } };
+    ghost view = { λ c. record { vm = c.vm; dfa = c.dfa; settings = c.config } };
 
-    ghost invariant = { λ c. IsCore (record { vm = c.vm; dfa = c.dfa }) };
+    ghost invariant = { λ c. IsCore (record { vm = c.vm; dfa = c.dfa; settings = c.config }) };
 }
 
 impl Core {
-    /// A PikeVM, and the automaton of its program.
-    fn new(alloc: Global, vm: PikeVM) -> Result<Core, AllocError>
-        ensures { IfOk result (λ core. core.vm ≡ vm) }
+    /// A PikeVM, the automaton of its program, and the settings.
+    fn new(alloc: Global, vm: PikeVM, config: Config) -> Result<Core, AllocError>
+        ensures vm { IfOk result (λ core. core.vm ≡ vm) }
+        ensures settings { IfOk result (λ core. core.settings ≡ config) }
     {
-        let dfa = Alphabet::new(alloc, vm.program(), vm.utf8_empty(), CACHE_CAPACITY)?;
-        Ok(Core { vm, dfa })
+        let capacity = config.get_hybrid_cache_capacity();
+        let dfa = Alphabet::new(alloc, vm.program(), vm.utf8_empty(), capacity)?;
+        Ok(Core { vm, dfa, config })
     }
 
     /// The engine that serves any search.
@@ -78,6 +83,13 @@ impl Core {
         ensures core { IsCore self.now }
     {
         &self.dfa
+    }
+
+    /// The settings.
+    pub(super) fn config(&self) -> &Config
+        ensures { result.now ≡ self.now.settings }
+    {
+        &self.config
     }
 
     /// The program that both search for.
@@ -105,6 +117,7 @@ impl Model for Strategy {
     ghost view = { λ s. record {
       vm = s.core.value.vm;
       dfa = s.core.value.dfa;
+      settings = s.core.value.settings;
       closed = s.closed;
       literals = s.literals;
     } };
@@ -112,6 +125,7 @@ impl Model for Strategy {
     ghost invariant = { λ s. AreEngines (record {
       vm = s.core.value.vm;
       dfa = s.core.value.dfa;
+      settings = s.core.value.settings;
       closed = s.closed;
       literals = s.literals;
     }) };
@@ -128,21 +142,24 @@ fn bytes_of<C: Cursor>(answer: &Result<Option<HalfMatch>, MatchError>, input: &I
 
 impl Strategy {
     /// A PikeVM, the automaton of its program, with all its states where they are few, and the
-    /// literals that matches begin with, or the one that they are, if these are known. It takes
-    /// time in proportion to the program's states and the ranges of their automata.
-    pub(super) fn new(alloc: Global, vm: PikeVM) -> Result<Strategy, AllocError>
-        ensures { IfOk result (λ strategy. strategy.vm ≡ vm) }
+    /// literals that matches begin with, or the one that they are, if these are known; each of them
+    /// as the settings want it. By default it takes time in proportion to the program's states and
+    /// the ranges of their automata.
+    pub(super) fn new(alloc: Global, vm: PikeVM, config: Config) -> Result<Strategy, AllocError>
+        ensures vm { IfOk result (λ strategy. strategy.vm ≡ vm) }
+        ensures settings { IfOk result (λ strategy. strategy.settings ≡ config) }
     {
-        let core = Rc::new(alloc, Core::new(alloc, vm)?)?;
+        let core = Rc::new(alloc, Core::new(alloc, vm, config)?)?;
         Strategy::over(alloc, core)
     }
 
     /// The engines beside what a regex shares with its caches. They are made by functions in turn,
     /// each of which owns few things, and so is proved quickly.
     fn over(alloc: Global, core: Rc<Core>) -> Result<Strategy, AllocError>
-        ensures { IfOk result (λ strategy. strategy.vm ≡ core.value.vm) }
+        ensures vm { IfOk result (λ strategy. strategy.vm ≡ core.value.vm) }
+        ensures settings { IfOk result (λ strategy. strategy.settings ≡ core.value.settings) }
     {
-        let literals = Literals::of(alloc, core.program())?;
+        let literals = Literals::of(alloc, core.program(), core.config())?;
         Strategy::with_literals(alloc, core, literals)
     }
 
@@ -152,10 +169,12 @@ impl Strategy {
         core: Rc<Core>,
         literals: Literals,
     ) -> Result<Strategy, AllocError>
-        requires { AreLiteralsOf core.value.vm.program literals }
-        ensures { IfOk result (λ strategy. strategy.vm ≡ core.value.vm) }
+        requires literals { AreLiteralsOf core.value.vm.program literals }
+        requires unwanted { WantsNoLiterals core.value.settings → literals ≡ no_literals }
+        ensures vm { IfOk result (λ strategy. strategy.vm ≡ core.value.vm) }
+        ensures settings { IfOk result (λ strategy. strategy.settings ≡ core.value.settings) }
     {
-        let closed = closed_of(alloc, core.program(), core.dfa())?;
+        let closed = closed_of(alloc, core.program(), core.dfa(), core.config())?;
         Ok(Strategy {
             core,
             closed,
@@ -165,7 +184,8 @@ impl Strategy {
 
     /// What its caches are made for.
     pub(super) fn core(&self) -> &Rc<Core>
-        ensures { result.now.value.vm ≡ self.now.vm }
+        ensures vm { result.now.value.vm ≡ self.now.vm }
+        ensures settings { result.now.value.settings ≡ self.now.settings }
     {
         &self.core
     }
@@ -183,6 +203,36 @@ impl Strategy {
         ensures { result.now ≡ self.now.vm.program }
     {
         self.core.program()
+    }
+
+    /// The settings.
+    pub(super) fn config(&self) -> &Config
+        ensures { result.now ≡ self.now.settings }
+    {
+        self.core.config()
+    }
+
+    /// Whether literals are looked for before an engine is asked.
+    pub(super) fn is_accelerated(&self) -> bool
+        ensures { WantsNoLiterals self.now.settings → result ≡ false }
+    {
+        self.literals.beginnings.is_some() || self.literals.whole.is_some()
+    }
+
+    /// About how many bytes the states and the tables of the program and of the automaton take that
+    /// are made with the regex.
+    pub(super) fn memory_usage(&self) -> usize {
+        let states = bytes_of_states(self.program());
+        match &self.closed {
+            Some(closed) => states.saturating_add(closed.memory_usage()),
+            None => states,
+        }
+    }
+
+    /// Whether the automaton may be asked: its states are made already, or are to be made as
+    /// searches come to them, and that pays.
+    fn may_ask_automaton(&self, kept: &Kept) -> bool {
+        self.closed.is_some() || self.config().get_hybrid() && kept.pays()
     }
 
     /// The prefilter of what each match begins with, if one is known.
@@ -284,7 +334,7 @@ impl Strategy {
         ensures refused { IfErr result (λ error. error ≡ MatchError.Memory) }
     {
         let wants_less = input.get_earliest() || input.get_anchored().is_anchored();
-        if wants_less || !kept.pays() {
+        if wants_less || !self.may_ask_automaton(kept) {
             return Ok(Told::Unknown);
         }
         let answer = self.search_half(kept, input);
@@ -337,10 +387,10 @@ impl Strategy {
         cache: &mut Cache,
         input: &mut Input<C>,
     ) -> Result<bool, MatchError>
-        requires made { IsCacheOf self.now.vm cache.old }
+        requires made { IsCacheOf (regex_of self.now) cache.old }
         ensures answer { IfOk result (λ yes. TellsWhether self.now.vm.program
             (search_by self.now.vm input.old) yes) }
-        ensures made { IsCacheOf self.now.vm cache.new }
+        ensures made { IsCacheOf (regex_of self.now) cache.new }
         ensures asked { input.new.asked ≡ input.old.asked }
         ensures same { IsSameContent input.old.cursor input.new.cursor }
         ensures refused { IfErr result (λ error. error ≡ MatchError.Memory) }
@@ -365,11 +415,11 @@ impl Strategy {
         cache: &mut Cache,
         input: &mut Input<C>,
     ) -> Result<Option<Match>, MatchError>
-        requires made { IsCacheOf self.now.vm cache.old }
+        requires made { IsCacheOf (regex_of self.now) cache.old }
         ensures answer { IfOk result (λ found. TellsMatch self.now.vm input.old found) }
         ensures inside { IfOk result
             (λ found. ForSome found (λ m. EndsInside input.old m.span.end)) }
-        ensures made { IsCacheOf self.now.vm cache.new }
+        ensures made { IsCacheOf (regex_of self.now) cache.new }
         ensures asked { input.new.asked ≡ input.old.asked }
         ensures same { IsSameContent input.old.cursor input.new.cursor }
         ensures refused { IfErr result (λ error. error ≡ MatchError.Memory) }
@@ -386,6 +436,27 @@ impl Strategy {
         }
     }
 
+    /// The pattern and the end of the match that is found, as `find` finds it.
+    pub(super) fn find_half<C: Cursor>(
+        &self,
+        cache: &mut Cache,
+        input: &mut Input<C>,
+    ) -> Result<Option<HalfMatch>, MatchError>
+        requires made { IsCacheOf (regex_of self.now) cache.old }
+        ensures answer { IfOk result (λ half. TellsHalf self.now.vm input.old half) }
+        ensures inside { IfOk result
+            (λ half. ForSome half (λ h. EndsInside input.old h.offset)) }
+        ensures made { IsCacheOf (regex_of self.now) cache.new }
+        ensures asked { input.new.asked ≡ input.old.asked }
+        ensures same { IsSameContent input.old.cursor input.new.cursor }
+        ensures refused { IfErr result (λ error. error ≡ MatchError.Memory) }
+    {
+        match self.find(cache, input)? {
+            Some(found) => Ok(Some(HalfMatch::new(found.pattern(), found.end()))),
+            None => Ok(None),
+        }
+    }
+
     /// The pattern of the match that is found; its places are put into the slots, as many as there
     /// are, and all others hold none. The cache must be one for the regex, and still is one
     /// afterwards. The one refusal is `Memory`: then no slot holds a place.
@@ -395,11 +466,11 @@ impl Strategy {
         input: &mut Input<C>,
         slots: &mut [Option<NonMaxUsize>],
     ) -> Result<Option<PatternID>, MatchError>
-        requires made { IsCacheOf self.now.vm cache.old }
+        requires made { IsCacheOf (regex_of self.now) cache.old }
         ensures answer { IfOk result
             (λ pattern. TellsSlots self.now.vm input.old pattern slots.new) }
         ensures none { OnErr result (slots.new ≡ no_slots (length slots.new)) }
-        ensures made { IsCacheOf self.now.vm cache.new }
+        ensures made { IsCacheOf (regex_of self.now) cache.new }
         ensures asked { input.new.asked ≡ input.old.asked }
         ensures same { IsSameContent input.old.cursor input.new.cursor }
         ensures refused { IfErr result (λ error. error ≡ MatchError.Memory) }
@@ -430,7 +501,7 @@ impl Strategy {
         input: &mut Input<C>,
         caps: &mut Captures,
     ) -> Result<(), MatchError>
-        requires made { IsCacheOf self.now.vm cache.old }
+        requires made { IsCacheOf (regex_of self.now) cache.old }
         ensures answer { OnOk result
             (TellsSlots self.now.vm input.old caps.new.pattern caps.new.slots) }
         ensures whole { HoldsMatches self.now.vm caps.old
@@ -439,7 +510,7 @@ impl Strategy {
         ensures slot_len { length caps.new.slots ≡ length caps.old.slots }
         ensures no_answer { OnErr result (caps.new.pattern ≡ None) }
         ensures none { OnErr result (caps.new.slots ≡ no_slots (length caps.new.slots)) }
-        ensures made { IsCacheOf self.now.vm cache.new }
+        ensures made { IsCacheOf (regex_of self.now) cache.new }
         ensures asked { input.new.asked ≡ input.old.asked }
         ensures same { IsSameContent input.old.cursor input.new.cursor }
         ensures refused { IfErr result (λ error. error ≡ MatchError.Memory) }
@@ -492,12 +563,12 @@ impl Strategy {
         slots: &mut [Option<NonMaxUsize>],
         last_match_end: Option<usize>,
     ) -> Result<Option<PatternID>, MatchError>
-        requires made { IsCacheOf self.now.vm cache.old }
+        requires made { IsCacheOf (regex_of self.now) cache.old }
         requires slots { 2 * length self.now.vm.groups ≤ length slots.old }
         ensures answer { IfOk result (λ pattern. IsNextAnswer self.now.vm.program
             (search_by self.now.vm input.old) last_match_end pattern slots.new) }
         ensures none { OnErr result (slots.new ≡ no_slots (length slots.new)) }
-        ensures made { IsCacheOf self.now.vm cache.new }
+        ensures made { IsCacheOf (regex_of self.now) cache.new }
         ensures same { (start : ℕ) × StartsFrom input.old input.new start }
         ensures engine { IsEngine self.now.vm }
         ensures refused { IfErr result (λ error. error ≡ MatchError.Memory) }
@@ -521,12 +592,12 @@ impl Strategy {
         input: &mut Input<C>,
         last_match_end: Option<usize>,
     ) -> Result<Option<Match>, MatchError>
-        requires made { IsCacheOf self.now.vm cache.old }
+        requires made { IsCacheOf (regex_of self.now) cache.old }
         ensures answer { IfOk result (λ found. IsFoundNext self.now.vm.program
             (search_by self.now.vm input.old) last_match_end found) }
         ensures ahead { IfOk result (λ found. ForSome found (λ m. EndsAhead last_match_end
             (search_by self.now.vm input.old) m.span.end)) }
-        ensures made { IsCacheOf self.now.vm cache.new }
+        ensures made { IsCacheOf (regex_of self.now) cache.new }
         ensures same { (start : ℕ) × StartsFrom input.old input.new start }
         ensures refused { IfErr result (λ error. error ≡ MatchError.Memory) }
     {
@@ -549,7 +620,7 @@ impl Strategy {
         caps: &mut Captures,
         last_match_end: Option<usize>,
     ) -> Result<(), MatchError>
-        requires made { IsCacheOf self.now.vm cache.old }
+        requires made { IsCacheOf (regex_of self.now) cache.old }
         requires groups { caps.old.groups ≡ self.now.vm.groups }
         requires slots { 2 * length self.now.vm.groups ≤ length caps.old.slots }
         ensures answer { OnOk result (HasNotedNext self.now.vm.program
@@ -561,7 +632,7 @@ impl Strategy {
         ensures groups { caps.new.groups ≡ caps.old.groups }
         ensures slot_len { length caps.new.slots ≡ length caps.old.slots }
         ensures no_answer { OnErr result (caps.new.pattern ≡ None) }
-        ensures made { IsCacheOf self.now.vm cache.new }
+        ensures made { IsCacheOf (regex_of self.now) cache.new }
         ensures same { (start : ℕ) × StartsFrom input.old input.new start }
         ensures refused { IfErr result (λ error. error ≡ MatchError.Memory) }
     {

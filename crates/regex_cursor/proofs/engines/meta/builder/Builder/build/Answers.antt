@@ -1,8 +1,10 @@
-use Rattle.std.proofs.lemmas.Result.{err_from_is_err_and}
-use Rattle.rx_engine.specs.Engines.{memory}
+use Rattle.rx_chunk.proofs.EngineLaws.{if_ok}
+use Rattle.regex_cursor.specs.Configs.{engine_wanted}
+use Rattle.regex_cursor.proofs.BuildLaws.{if_err, refused_alone, regex_alone}
 use Rattle.regex_cursor.proofs.engines.meta.builder.Builder.build.Goals as goal
 
-pub returns-in_err-regex_of-clause-refused : goal.returns-in_err-regex_of-clause-refused
-returns-in_err-regex_of-clause-refused c =
-    let p = err_from_is_err_and c.from_residual-in_err-regex_of.result c.from_residual-in_err-regex_of.ensures.1 in
-    rw (p.1, p.2) memory
+pub returns-clause-built : goal.returns-clause-built
+returns-clause-built c = if_ok c.build_many.result (λ re is. regex_alone c.args.pattern.now c.args.self.now re is) c.build_many.ensures.built
+
+pub returns-clause-refused : goal.returns-clause-refused
+returns-clause-refused c = if_err c.build_many.result (λ error is. refused_alone c.args.pattern.now (engine_wanted c.args.self.now) error is) c.build_many.ensures.refused

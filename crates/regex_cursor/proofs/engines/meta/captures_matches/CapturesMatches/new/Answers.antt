@@ -9,4 +9,4 @@ use Rattle.regex_cursor.proofs.engines.meta.captures_matches.CapturesMatches.new
 
 pub returns-clause-all : goal.returns-clause-all
 returns-clause-all g c =
-    captures_in_order c.args.re.now (search_by c.args.re.now c.args.input) _ (grow_law is_in is_word_char (characters_of c.args.re.now.program)) refl refl
+    captures_in_order c.args.re.now (search_by c.args.re.now.engine c.args.input) _ (grow_law is_in is_word_char (characters_of c.args.re.now.engine.program)) refl refl

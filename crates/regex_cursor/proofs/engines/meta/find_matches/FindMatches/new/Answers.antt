@@ -8,4 +8,4 @@ use Rattle.regex_cursor.proofs.engines.meta.find_matches.FindMatches.new.Goals a
 
 pub returns-clause-all : goal.returns-clause-all
 returns-clause-all g c =
-    finds_in_order c.args.re.now (search_by c.args.re.now c.args.input) _ (grow_law is_in is_word_char (characters_of c.args.re.now.program)) c.new.ensures.regex (c.new.ensures.left c.args.input)
+    finds_in_order c.args.re.now (search_by c.args.re.now.engine c.args.input) _ (grow_law is_in is_word_char (characters_of c.args.re.now.engine.program)) c.new.ensures.regex (c.new.ensures.left c.args.input)

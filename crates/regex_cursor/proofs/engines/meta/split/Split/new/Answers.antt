@@ -13,7 +13,7 @@ use Rattle.regex_cursor.proofs.engines.meta.split.Split.new.Goals as goal
 pub returns-clause-gaps : goal.returns-clause-gaps
 returns-clause-gaps g c =
     let left = c.new-2.ensures.left c.args.input ∙ ap parts_of (c.new.ensures.left c.args.input) in
-    gives_gaps g.row.C.Denot c.args.re.now (grow_law is_in is_word_char (characters_of c.args.re.now.program)) (search_by c.args.re.now c.args.input) _ (c.new-2.ensures.regex ∙ c.new.ensures.regex) left
+    gives_gaps g.row.C.Denot c.args.re.now (grow_law is_in is_word_char (characters_of c.args.re.now.engine.program)) (search_by c.args.re.now.engine c.args.input) _ (c.new-2.ensures.regex ∙ c.new.ensures.regex) left
 
 pub returns-clause-few : goal.returns-clause-few
 returns-clause-few g c =

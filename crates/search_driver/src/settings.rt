@@ -1,0 +1,202 @@
+//! What a `Regex` of several patterns tells under settings.
+
+ghost use Rattle.std.specs.Prelude.{◌^◌, ◌<◌, length};
+ghost use Rattle.rx_input.specs.Chunks.{joined};
+
+use crate::fields::{Fault, Fields};
+use crate::haystacks::{Asked, haystack, input, pieces};
+use crate::searches::{ASKED, CUT, HAYSTACK, tell};
+use crate::several::{listed, texts};
+use regex_cursor::engines::meta::{Builder, Config, Regex};
+use regex_cursor::{BuildError, HalfMatch, Match, MatchKind, Prefilter, WhichCaptures};
+use rx_input::ChunkCursor;
+use std::alloc::Global;
+
+/// Where the settings stand of the regex, behind what is asked for.
+const SET: usize = 13;
+
+/// A setting that is a number or, as `none`, is without a limit.
+fn limit(value: &str) -> Option<usize> {
+    match value.parse::<usize>() {
+        Ok(limit) => Some(limit),
+        Err(_) => None,
+    }
+}
+
+/// A setting of which 1 stands for yes.
+fn yes(value: &str) -> bool {
+    value == "1"
+}
+
+/// Which groups are noted.
+fn which(value: &str) -> WhichCaptures {
+    match value {
+        "all" => WhichCaptures::All,
+        "implicit" => WhichCaptures::Implicit,
+        _ => WhichCaptures::None,
+    }
+}
+
+/// The prefilter of one needle, or none.
+fn prefilter(alloc: Global, digits: &str) -> Result<Option<Prefilter>, Fault> {
+    if digits == "none" {
+        return Ok(None);
+    }
+    let needle = Fields::text(alloc, digits)?;
+    let needles: [&[u8]; 1] = [needle.as_bytes()];
+    Ok(Prefilter::new(alloc, MatchKind::LeftmostFirst, &needles)?)
+}
+
+/// Settings with this one more.
+fn with(alloc: Global, config: Config, name: &str, value: &str) -> Result<Config, Fault> {
+    Ok(match name {
+        "utf8_empty" => config.utf8_empty(yes(value)),
+        "auto_prefilter" => config.auto_prefilter(yes(value)),
+        "prefilter" => config.prefilter(prefilter(alloc, value)?),
+        "which_captures" => config.which_captures(which(value)),
+        "nfa_size_limit" => config.nfa_size_limit(limit(value)),
+        "onepass_size_limit" => config.onepass_size_limit(limit(value)),
+        "hybrid_cache_capacity" => config.hybrid_cache_capacity(limit(value).unwrap_or(0)),
+        "hybrid" => config.hybrid(yes(value)),
+        "dfa" => config.dfa(yes(value)),
+        "dfa_size_limit" => config.dfa_size_limit(limit(value)),
+        "dfa_state_limit" => config.dfa_state_limit(limit(value)),
+        "backtrack" => config.backtrack(yes(value)),
+        "byte_classes" => config.byte_classes(yes(value)),
+        "line_terminator" => config.line_terminator(value.parse::<u8>().unwrap_or(0)),
+        _ => return Err(Fault::Line),
+    })
+}
+
+/// The settings in a word, parted by dots, each as its name and its value.
+fn config(alloc: Global, word: &str) -> Result<Config, Fault> {
+    let mut config = Regex::config();
+    for part in word.split('.') {
+        if let Some((name, value)) = part.split_once('=') {
+            config = with(alloc, config, name, value)?;
+        }
+    }
+    Ok(config)
+}
+
+/// A builder that was handed the settings of each word, one after the other, and those of the
+/// syntax.
+fn builder(alloc: Global, fields: &Fields) -> Result<Builder, Fault> {
+    let mut builder = Regex::builder();
+    for word in fields.word(SET).split('/') {
+        builder.configure(config(alloc, word)?);
+    }
+    builder.syntax(fields.settings());
+    Ok(builder.clone()?)
+}
+
+/// All matches, parted by blanks, each as the number of its pattern and its groups, under settings.
+pub fn matches(alloc: Global, fields: &Fields) -> Result<String, Fault> {
+    let texts = texts(alloc, fields)?;
+    let re = builder(alloc, fields)?.build_many(alloc, &listed(alloc, &texts)?)?;
+    let haystack = haystack(alloc, fields, HAYSTACK)?;
+    let pieces = pieces(alloc, &haystack, fields.word(CUT))?;
+    told(alloc, &re, &pieces, &Asked::read(fields, ASKED))
+}
+
+/// All matches, the first of which the other calls must tell too.
+fn told(alloc: Global, re: &Regex, pieces: &[&[u8]], asked: &Option<Asked>) -> Result<String, Fault>
+    requires { length (joined pieces.now) < 2 ^ 63 }
+{
+    let first = re.find(input(pieces, asked))?;
+    if ends(re, pieces, asked)? != first.map(end_of) {
+        return Err(Fault::Differs);
+    }
+    let mut out = String::new(alloc);
+    for caps in re.captures_iter(input(pieces, asked))? {
+        tell(alloc, &mut out, &caps?)?;
+    }
+    Ok(out)
+}
+
+/// The pattern and the end of the first match, as both calls must tell them.
+fn ends(re: &Regex, pieces: &[&[u8]], asked: &Option<Asked>) -> Result<Option<HalfMatch>, Fault>
+    requires { length (joined pieces.now) < 2 ^ 63 }
+{
+    let half = re.search_half(input(pieces, asked))?;
+    let mut cache = re.create_cache()?;
+    if re.search_half_with(&mut cache, &mut input(pieces, asked))? == half {
+        Ok(half)
+    } else {
+        Err(Fault::Differs)
+    }
+}
+
+/// How many groups and how many slots there are, how many groups take part in each match, and
+/// whether literals are looked for; or why patterns have no regex.
+pub fn counts(alloc: Global, fields: &Fields) -> Result<String, Fault> {
+    let texts = texts(alloc, fields)?;
+    match builder(alloc, fields)?.build_many(alloc, &listed(alloc, &texts)?) {
+        Ok(re) => {
+            let (patterns, groups) = (re.pattern_len(), re.captures_len());
+            let slots = re.group_info().slot_len();
+            let accelerated = re.is_accelerated();
+            Ok(format!(in alloc; "{patterns} {groups} {slots} {accelerated}")?)
+        }
+        Err(error) => refused(alloc, &error),
+    }
+}
+
+/// Why patterns have no regex: the error, the first pattern whose text is refused, and the limit.
+fn refused(alloc: Global, error: &BuildError) -> Result<String, Fault> {
+    let pattern = error.pattern().map(|pattern| pattern.as_usize());
+    let limit = error.size_limit();
+    Ok(format!(in alloc; "{error}, {pattern:?}, {limit:?}")?)
+}
+
+/// What the getters tell of the settings that a regex of no pattern was built under.
+pub fn getters(alloc: Global, fields: &Fields) -> Result<String, Fault> {
+    let re = builder(alloc, fields)?.build_many(alloc, &[])?;
+    let config = re.get_config().clone()?;
+    let mut out = flags(alloc, &config)?;
+    out.push_str(&limits(alloc, &config)?)?;
+    Ok(out)
+}
+
+/// What those getters tell that answer yes or no, or one of few.
+fn flags(alloc: Global, config: &Config) -> Result<String, Fault> {
+    let prefilter = config.get_prefilter().is_some();
+    let which = config.get_which_captures();
+    let (utf8_empty, auto) = (config.get_utf8_empty(), config.get_auto_prefilter());
+    let (classes, hybrid, dfa) = (
+        config.get_byte_classes(),
+        config.get_hybrid(),
+        config.get_dfa(),
+    );
+    Ok(format!(in alloc; "{utf8_empty} {auto} {prefilter} {which:?} {classes} {hybrid} {dfa} ")?)
+}
+
+/// What those getters tell that answer numbers.
+fn limits(alloc: Global, config: &Config) -> Result<String, Fault> {
+    let (nfa, capacity) = (
+        config.get_nfa_size_limit(),
+        config.get_hybrid_cache_capacity(),
+    );
+    let (size, state) = (config.get_dfa_size_limit(), config.get_dfa_state_limit());
+    let byte = config.get_line_terminator();
+    Ok(format!(in alloc; "{nfa:?} {capacity} {size:?} {state:?} {byte}")?)
+}
+
+/// About how many bytes the tables of a regex take, and what a cache takes before a search and
+/// behind it.
+pub fn usage(alloc: Global, fields: &Fields) -> Result<String, Fault> {
+    let texts = texts(alloc, fields)?;
+    let re = builder(alloc, fields)?.build_many(alloc, &listed(alloc, &texts)?)?;
+    let haystack = haystack(alloc, fields, HAYSTACK)?;
+    let pieces = pieces(alloc, &haystack, fields.word(CUT))?;
+    let mut cache = re.create_cache()?;
+    let before = cache.memory_usage();
+    re.search_with(&mut cache, &mut input(&pieces, &None))?;
+    let tables = re.memory_usage();
+    Ok(format!(in alloc; "{tables} {before} {}", cache.memory_usage())?)
+}
+
+/// The pattern and the end of a match.
+fn end_of(found: Match) -> HalfMatch {
+    HalfMatch::new(found.pattern(), found.end())
+}

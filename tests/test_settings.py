@@ -1,0 +1,248 @@
+"""What a `Regex` of several patterns tells under settings, on bin/search-driver: all matches, which each way to search
+must tell alike; how many groups it has, and why patterns are refused; and what the getters tell.
+
+Its answers are those that stand here, those of the table of settings in docs/searching.md, and those of the model of
+tests/walks.py to cases at random.
+"""
+import itertools
+import random
+import re
+
+from driver import OUTSIDE, PROGRAM_WANT, TOO_LARGE, WANT, Case, Settings
+from driver import answer_to, check_memory, line_of, problems, written
+from harness import example_rows, short, test
+from memory import library
+from random_patterns import Maker
+from test_all import ANYWHERE, AT_START, FIRST, SIZES
+from test_searches import asked_at_random, listed
+from walks import Search, spelled
+
+RANDOM_CASES = 5_000
+LINES = Settings("m")  # under which `^` and `$` are those of lines
+
+# What changes no answer: engines on and off, how many bytes a cache may keep, and how many states are made before.
+ENGINES = ["hybrid", "dfa", "auto_prefilter"]
+CAPACITIES = ["", "hybrid_cache_capacity=0", "hybrid_cache_capacity=700"]
+LIMITS = ["", "dfa_state_limit=none.dfa_size_limit=none", "dfa_state_limit=3", "dfa_size_limit=0"]
+IDLE = ["byte_classes=0", "backtrack=0", "onepass_size_limit=1", "prefilter=" + written("b"), "prefilter=none"]
+
+# Patterns, haystacks, settings, and all matches; perhaps also the settings of the syntax.
+VECTORS = [
+    (["a", "ab"], "ab", "", "0:0-1"),
+    (["x*"], "せ", "", "0-0 3-3"),
+    (["x*"], "せ", "utf8_empty=1", "0-0 3-3"),
+    (["x*"], "せ", "utf8_empty=0", "0-0 1-1 2-2 3-3"),
+    (["x*", "せ"], "せ", "utf8_empty=0", "0:0-0 0:1-1 0:2-2 0:3-3"),
+    (["^b"], "a;b", "line_terminator=59", "2-3", LINES),
+    (["a$"], "a;b", "line_terminator=59", "0-1", LINES),
+    (["^b"], "a\nb", "line_terminator=59", "", LINES),
+    (["^b"], "a;b", "line_terminator=59", ""),
+    (["."], "a;\n", "line_terminator=59", "0-1 1-2"),
+    (["."], "a;\n", "", "0-1 2-3", Settings(no_dot=ord(";"))),
+    (["^b"], "a;b", "", "", Settings("m", no_dot=ord(";"))),
+    (["A|b"], "ab", "", "0-1 1-2", Settings("i")),
+    (["(a)|(b)"], "ab", "which_captures=all", "0-1,0-1,- 1-2,-,1-2"),
+    (["(a)|(b)"], "ab", "which_captures=implicit", "0-1 1-2"),
+    (["(a)|(b)"], "ab", "which_captures=none", "0-1 1-2"),
+    (["(a)", "(?<x>b)(c)"], "abc", "which_captures=implicit", "0:0-1 1:1-3"),
+    # Literals of the caller's own, which don't begin each match.
+    (["ab|b"], "ab", "prefilter=" + written("b"), "0-2"),
+    (["ab|b"], "ab", "auto_prefilter=0.prefilter=" + written("b"), "0-2"),
+    (["ab"], "xab", "auto_prefilter=0.prefilter=" + written("ab"), "1-3"),
+    # What is set later is taken over, and leaves the rest.
+    (["x*"], "せ", "utf8_empty=0/hybrid=0", "0-0 1-1 2-2 3-3"),
+    (["x*"], "せ", "utf8_empty=0/utf8_empty=1", "0-0 3-3"),
+    # So many bytes at which states are made that a small cache doesn't hold them.
+    (["[ab]*a[ab]{5}"], "abbab" * 40 + "c", "hybrid_cache_capacity=0.dfa=0", "0-199"),
+    (["[ab]*a[ab]{5}"], "abbab" * 40 + "c", "hybrid=0.dfa=0", "0-199"),
+    (["[ab]*a[ab]{5}"], "abbab" * 40 + "c", "dfa_state_limit=none.dfa_size_limit=none", "0-199"),
+]
+
+
+def refused(error, pattern="None", limit="None"):
+    return f"{error}, {pattern}, {limit}"
+
+
+def too_large(limit):
+    return refused(TOO_LARGE, limit=f"Some({limit})")
+
+
+# Patterns, settings, and how many patterns, groups and slots there are, and whether literals are looked for; or why
+# there is no regex.
+COUNTS = [
+    (["a"], "nfa_size_limit=200", "1 1 2 true"),
+    (["a"], "nfa_size_limit=199", too_large(199)),
+    (["(a)|b"], "nfa_size_limit=400", "1 2 4 false"),
+    (["(a)|b"], "nfa_size_limit=399", too_large(399)),
+    (["[a-c]{2,4}"], "nfa_size_limit=520", "1 1 2 false"),
+    (["[a-c]{2,4}"], "nfa_size_limit=519", too_large(519)),
+    (["(?:a*)*"], "nfa_size_limit=320", "1 1 2 false"),
+    (["(?:a*)*"], "nfa_size_limit=319", too_large(319)),
+    (["."], "nfa_size_limit=240", "1 1 2 false"),
+    (["."], "nfa_size_limit=239", too_large(239)),
+    (["a", "ab"], "nfa_size_limit=520", "2 2 4 true"),
+    (["a", "ab"], "nfa_size_limit=519", too_large(519)),
+    ([], "nfa_size_limit=40", "0 0 0 false"),
+    ([], "nfa_size_limit=39", too_large(39)),
+    (["^a{65535}a{65535}"], "", "1 1 2 true"),
+    (["^^a{65535}a{65535}"], "", too_large(10_485_760)),
+    (["^^a{65535}a{65535}"], "nfa_size_limit=10485800", "1 1 2 true"),
+    (["^^a{65535}a{65535}"], "nfa_size_limit=none", "1 1 2 true"),
+    (["a", "(", ")"], "", refused(OUTSIDE, "Some(1)")),
+    (["a", "(", ")"], "nfa_size_limit=0", refused(OUTSIDE, "Some(1)")),
+    # Groups that aren't noted are counted all the same, and weigh the same.
+    (["(a){0}"], "", "1 2 4 false"),
+    (["(a){0}"], "which_captures=implicit", "1 2 2 false"),
+    (["(a)|b"], "which_captures=none", "1 2 2 false"),
+    (["(a)|b"], "which_captures=none.nfa_size_limit=399", too_large(399)),
+    # Literals are looked for where they are known, and wanted.
+    (["a"], "auto_prefilter=0", "1 1 2 false"),
+    (["a"], "auto_prefilter=0.prefilter=none", "1 1 2 false"),
+    (["a"], "auto_prefilter=0/auto_prefilter=1", "1 1 2 true"),
+    (["ab"], "auto_prefilter=0.prefilter=" + written("a"), "1 1 2 true"),
+    (["ab"], "auto_prefilter=0.prefilter=" + written("b"), "1 1 2 false"),
+    (["ab|b"], "auto_prefilter=0.prefilter=" + written("b"), "1 1 2 false"),
+    (["ab|b"], "prefilter=" + written("b"), "1 1 2 false"),
+]
+
+# What the getters tell, in their order, and other values of each setting, with what they tell of these.
+GETTERS = {
+    "utf8_empty": ("true", [("0", "false"), ("1", "true")]),
+    "auto_prefilter": ("true", [("0", "false"), ("1", "true")]),
+    "prefilter": ("false", [(written("b"), "true"), ("none", "false")]),
+    "which_captures": ("All", [("implicit", "Implicit"), ("none", "None"), ("all", "All")]),
+    "byte_classes": ("true", [("0", "false"), ("1", "true")]),
+    "hybrid": ("true", [("0", "false"), ("1", "true")]),
+    "dfa": ("true", [("0", "false"), ("1", "true")]),
+    "nfa_size_limit": ("Some(10485760)", [("400", "Some(400)"), ("none", "None")]),
+    "hybrid_cache_capacity": ("2097152", [("0", "0"), ("7", "7")]),
+    "dfa_size_limit": ("Some(40960)", [("7", "Some(7)"), ("none", "None")]),
+    "dfa_state_limit": ("Some(30)", [("7", "Some(7)"), ("none", "None")]),
+    "line_terminator": ("10", [("59", "59"), ("255", "255")]),
+}
+
+
+def about(word, patterns, answer=None, given="", haystack=b"", cut=0, asked=None, settings=Settings()):
+    slice_, span, anchored = asked or ((None, None), (None, None), None)
+    texts = ".".join(map(written, patterns)) if patterns else "-"
+    fields = [texts, *settings.fields(), cut, haystack.hex(), *slice_, *span, anchored, given]
+    shown = [pattern[:40] for pattern in patterns]
+    name = f"{word} {shown} in {short(haystack)}, cut by {cut}, {asked}, {settings}, under {given or 'nothing'}"
+    return Case(name, line_of(word, *fields), answer)
+
+
+def engines():
+    """Each engine on and off."""
+    for values in itertools.product("01", repeat=len(ENGINES)):
+        yield ".".join(f"{name}={value}" for name, value in zip(ENGINES, values))
+
+
+def vectors():
+    for patterns, haystack, given, answer, *syntax in VECTORS:
+        for size, ways in itertools.product(SIZES[:2], engines()):
+            settings = syntax[0] if syntax else Settings()
+            yield about("under", patterns, answer, f"{ways}/{given}", haystack.encode(), size, settings=settings)
+
+
+def counts():
+    for patterns, given, answer in COUNTS:
+        yield about("counted", patterns, answer, given)
+
+
+def told(values):
+    return " ".join(values.get(name, default) for name, (default, _) in GETTERS.items())
+
+
+def getters():
+    """Each setting alone, set again, and beside each of the others; and those that have no getter."""
+    cases = [("", {})] + [(given, {}) for given in ("onepass_size_limit=7", "onepass_size_limit=none.backtrack=0")]
+    for (name, (_, values)), (other, (_, others)) in itertools.product(GETTERS.items(), repeat=2):
+        for (value, shown), (beside, shown_too) in itertools.product(values, others):
+            cases.append((f"{other}={beside}/{name}={value}", {other: shown_too, name: shown}))
+    for given, values in cases:
+        yield about("getters", [], told(values), given)
+
+
+def settings_at_random(chance):
+    """Settings at random: whether empty matches inside a character are found, the byte that ends lines, whether all
+    groups are noted, and all of them as a field, with such as change no answer."""
+    inside, line_end = chance.random() < 0.3, chance.choice([b"\n", b"\n", b"a", b"\x81"])
+    which = chance.choice(["all", "all", "implicit", "none"])
+    given = [f"utf8_empty={int(not inside)}", f"line_terminator={line_end[0]}", f"which_captures={which}"]
+    given += [chance.choice(ways) for ways in (list(engines()), CAPACITIES, LIMITS, IDLE)]
+    return inside, line_end, which == "all", ".".join(filter(None, given))
+
+
+def at_random(count=RANDOM_CASES):
+    chance = random.Random(43)
+    maker = Maker(chance, most_nodes=30)
+    for _ in range(count):
+        trees = tuple(maker.tree() for _ in range(chance.choice((1, 1, 2, 2, 3, 4))))
+        haystack = "".join(map(maker.haystack, trees[:2])).encode()[:14]
+        slice_, span, is_tied = asked_at_random(chance, len(haystack))
+        anchored = chance.randint(AT_START, len(trees) + FIRST) if is_tied else ANYWHERE
+        inside, line_end, all_noted, given = settings_at_random(chance)
+        pattern = anchored - FIRST if anchored >= FIRST else None
+        matches = Search(trees, haystack, slice_, span, is_tied, inside, line_end, pattern).told()
+        noted = ((number, groups if all_noted else groups[:1]) for number, groups in matches)
+        answer = " ".join((f"{number}:" if len(trees) > 1 else "") + listed([groups]) for number, groups in noted)
+        asked = slice_, span, anchored
+        patterns = [spelled(tree) for tree in trees]
+        yield about("under", patterns, answer, given, haystack, chance.choice(SIZES), asked)
+
+
+def usage(given):
+    """What a regex takes, and a cache before and behind a search in which many states are made."""
+    case = about("usage", ["[ab]*a[ab]{5}"], None, given, b"abbab" * 40 + b"c")
+    return [int(number) for number in answer_to(case.line).out.split()]
+
+
+def engines_obey():
+    """No state is made where engines are off, and no more than there is room for."""
+    by_default, lazy_off, small = usage(""), usage("hybrid=0"), usage("hybrid_cache_capacity=0")
+    all_made = usage("dfa_state_limit=none.dfa_size_limit=none")
+    dense_off = usage("dfa_state_limit=none.dfa_size_limit=none.dfa=0")
+    by_size = usage("dfa_state_limit=none.dfa_size_limit=9.hybrid=0")
+    by_states = usage("dfa_state_limit=9.dfa_size_limit=none.hybrid=0")
+    expected = [
+        ("fewer states are kept with hybrid off", lazy_off[2] < by_default[2]),
+        ("fewer states are kept in a small cache", small[2] < by_default[2]),
+        ("states are made with the regex without limits", all_made[0] > by_default[0]),
+        ("and none is made by searches then", all_made[2] == lazy_off[2]),
+        ("no state is made with the regex with dfa off", dense_off == by_default),
+        ("too few bytes for all states", by_size == lazy_off),
+        ("too few states", by_states == lazy_off),
+    ]
+    return [what for what, holds in expected if not holds]
+
+
+ROW = (r"\| `(?P<name>\w+)` \| (?:`(?P<default>[^`]+)`|none set) \| [^|]+ "
+       r"\| `(?P<pattern>[^`]+)` on `(?P<text>[^`]+)` with `(?P<value>[^`]+)`: (?P<told>[^|]+) \|")
+
+
+def page():
+    """The settings of the table of docs/searching.md: its example of each, and its defaults."""
+    rows = example_rows("searching.md", ROW, "Settings")
+    for row in rows:
+        value = re.fullmatch(r"(?:Some\()?(\w+)\)?", row["value"])[1].lower().replace("false", "0").replace("true", "1")
+        given = f"{row['name']}={written(value) if row['name'] == 'prefilter' else value}"
+        yield about("under", [row["pattern"]], row["told"], given, row["text"].encode())
+    defaults = {row["name"]: row["default"] for row in rows if row["default"]}
+    defaults["prefilter"] = {"None": "false"}[defaults["prefilter"]]
+    yield about("getters", [], " ".join(defaults[name] for name in GETTERS))
+
+
+def test_all():
+    for name, cases in [
+        ("examples and defaults of docs/searching.md", page()),
+        ("searches under settings, by each engine", vectors()),
+        ("counts of groups, and refusals, under settings", counts()),
+        ("answers of getters", getters()),
+        ("searches at random under settings at random", at_random()),
+    ]:
+        cases = list(cases)
+        test(f"{len(cases)} {name}", problems(cases))
+    test("engines obey their settings", engines_obey())
+    if library() is not None:
+        given = "prefilter=" + written("b") + ".dfa_state_limit=9/which_captures=implicit"
+        check_memory(about("under", ["a|ab", "(b)+"], "0:0-1 1:1-3", given, b"abb", 1), [WANT, PROGRAM_WANT])
