@@ -26,7 +26,7 @@ use Rattle.rx_chunk.specs.Engines.{Engine, IsEngine, Finds, match_of, IsFound, e
 use Rattle.rx_chunk.specs.Iterating.{captured_by}
 use Rattle.rx_chunk.proofs.EngineLaws.{pattern_in}
 
-some_out : (out : Option (Outcome Notes)) (k : ℕ) → pattern_in out ≡ Some k → (t : Outcome Notes) × (out ≡ Some t) × (t.pattern ≡ k)
+pub some_out : (out : Option (Outcome Notes)) (k : ℕ) → pattern_in out ≡ Some k → (t : Outcome Notes) × (out ≡ Some t) × (t.pattern ≡ k)
 some_out None k is = absurd (none-some k is)
 some_out (Some t) k is = (t, refl, ap (λ o. unwrap_or o 0) is)
 
@@ -44,7 +44,7 @@ notes_places e of_trees s t finds =
     (notes.0, omega (arith, notes.1.known, as_many e of_trees))
 
 -- a place that a walk noted, in its slot
-slot_told : (first len k : ℕ) (n : Notes) → k < len → place_in (slots_from first len n) k ≡ slot_of n (first + k)
+pub slot_told : (first len k : ℕ) (n : Notes) → k < len → place_in (slots_from first len n) k ≡ slot_of n (first + k)
 slot_told first zero k n lt = absurd (omega (arith, lt))
 slot_told first (suc len) zero n lt = let same : first ≡ first + 0 = omega arith in ap (slot_of n) same
 slot_told first (suc len) (suc k) n lt = let same : suc first + k ≡ first + suc k = omega arith in slot_told (suc first) len k n (omega (arith, lt)) ∙ ap (slot_of n) same

@@ -4,3 +4,5 @@ pub mod IterLaws
 pub mod NextLaws
 pub mod EarlyLaws
 pub mod LowerLaws
+pub mod OwnLaws
+pub mod OtherLaws

@@ -2,3 +2,4 @@ pub mod Engines
 pub mod Iterating
 pub mod FindMatches
 pub mod Searches
+pub mod Owned

@@ -1,3 +1,3 @@
 mod BuildLaws
-mod GroupLaws
+pub mod GroupLaws
 pub mod CountLaws
