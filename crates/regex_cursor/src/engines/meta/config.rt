@@ -126,9 +126,9 @@ impl Config {
         self
     }
 
-    /// Sets literals of the caller's own, or none. They are looked for before an engine is asked, in
-    /// place of those that are read from the patterns, where it is known by the patterns alone that
-    /// each match begins with one of them; else they are kept and told. It changes no match.
+    /// Sets literals of the caller's own, or none. They are looked for before an engine is asked,
+    /// in place of those that are read from the patterns, where it is known by the patterns alone
+    /// that each match begins with one of them; else they are kept and told. It changes no match.
     pub fn prefilter(mut self, prefilter: Option<Prefilter>) -> Config
         ensures { result ≡ record self { prefilter = Some prefilter } }
     {
@@ -136,8 +136,8 @@ impl Config {
         self
     }
 
-    /// Sets which groups are noted, in captures and by `group_info`. Those that aren't are counted by
-    /// `captures_len` all the same.
+    /// Sets which groups are noted, in captures and by `group_info`. Those that aren't are counted
+    /// by `captures_len` all the same.
     pub fn which_captures(mut self, which: WhichCaptures) -> Config
         ensures { result ≡ record self { which_captures = Some which } }
     {
@@ -170,8 +170,8 @@ impl Config {
         self
     }
 
-    /// Sets about how many bytes all states of an automaton may take that is made with the regex. It
-    /// changes no match.
+    /// Sets about how many bytes all states of an automaton may take that is made with the regex.
+    /// It changes no match.
     pub fn dfa_size_limit(mut self, limit: Option<usize>) -> Config
         ensures { result ≡ record self { dfa_size_limit = Some limit } }
     {
@@ -206,8 +206,8 @@ impl Config {
         self
     }
 
-    /// Sets whether an automaton is asked whose states are made as searches come to them. It changes
-    /// no match.
+    /// Sets whether an automaton is asked whose states are made as searches come to them. It
+    /// changes no match.
     pub fn hybrid(mut self, yes: bool) -> Config
         ensures { result ≡ record self { hybrid = Some yes } }
     {
@@ -314,7 +314,8 @@ impl Config {
         self.hybrid.unwrap_or(true)
     }
 
-    /// Returns whether all states of a small automaton are made with the regex: by default they are.
+    /// Returns whether all states of a small automaton are made with the regex: by default they
+    /// are.
     pub fn get_dfa(&self) -> bool
         ensures { result ≡ dfa_of self.now }
     {
