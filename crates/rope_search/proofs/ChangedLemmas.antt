@@ -93,7 +93,7 @@ spans_matches old new pattern text text' template changes stretch is here here' 
 abbrev pub told_with : List LimitedBuffer → ℕ → LimitedBuffer → List Stretch
 told_with items k new = map (λ (b : LimitedBuffer). b.changed) (slice_set items k new)
 
-told-set : (items : List LimitedBuffer) (k limit : ℕ) (old new : LimitedBuffer) (s : LimitedSession) → Chosen items k limit old s
+pub told-set : (items : List LimitedBuffer) (k limit : ℕ) (old new : LimitedBuffer) (s : LimitedSession) → Chosen items k limit old s
     → told_with items k new ≡ slice_set s.changed s.state.chosen new.changed
 told-set items k limit old new s c =
     let changed : LimitedBuffer → Stretch = λ b. b.changed in
@@ -108,7 +108,7 @@ told-kept items k limit old new s c same =
     let here : slice_index_or all k old.changed ≡ old.changed = get_or-map changed items k old old.changed c.inside ∙ ap changed (sym c.is) in
     map-set changed items k new ∙ ap (slice_set all k) (same ∙ sym here) ∙ set-get_or all k old.changed ∙ ap (λ (t : LimitedSession). t.changed) c.seen
 
-chosen-with : (items : List LimitedBuffer) (k limit : ℕ) (old new : LimitedBuffer) (s : LimitedSession) → Chosen items k limit old s
+pub chosen-with : (items : List LimitedBuffer) (k limit : ℕ) (old new : LimitedBuffer) (s : LimitedSession) → Chosen items k limit old s
     → chosen_buffer (state_with items k new) ≡ new.state
 chosen-with items k limit old new s c =
     let state : LimitedBuffer → BufferState = λ b. b.state in

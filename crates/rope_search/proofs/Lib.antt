@@ -1,5 +1,6 @@
 pub mod AnswerLaws
 pub mod EditLemmas
+pub mod EditAllLemmas
 pub mod EncodingLemmas
 pub mod ReplaceLemmas
 pub mod HeaderLemmas

@@ -1,5 +1,5 @@
 //! A buffer: a text with its history, and perhaps a pattern.
-ghost use Rattle.std.specs.Prelude.{◌≡◌, ℕ, ◌+◌, ◌^◌, ◌<◌, ◌≤◌, ◌↔◌, ◌⊎◌, [], ◌∷◌, length, chars, None, Some, Err, IsTrue, OnOk, OnErr, IfOk, IfErr, IfSome, MatchOption};
+ghost use Rattle.std.specs.Prelude.{◌≡◌, ℕ, ◌+◌, ◌^◌, ◌<◌, ◌≤◌, ◌↔◌, ◌⊎◌, [], ◌∷◌, length, map, chars, None, Some, Err, IsTrue, OnOk, OnErr, IfOk, IfErr, IfSome, MatchOption};
 ghost use Rattle.ropey.specs.Chunks.{text_of};
 ghost use Rattle.std.specs.Str.{IsCharBoundary};
 ghost use Rattle.rope_search_reports.specs.Text.{bytes_of, line_count};
@@ -18,7 +18,9 @@ ghost use Rattle.rope_search.specs.Stretches.{lines_spanned};
 ghost use Rattle.rope_search.specs.Stretches as stretches;
 ghost use Rattle.rope_search.specs.Changed.{Replaces, SpansMatches};
 ghost use Rattle.rope_search_reports.specs.Turned.{turned};
+ghost use Rattle.rope_search.specs.Edits.{AcceptsEdits, AreEdits, IsFirstAgainst, KeepsEdits, RefusesEdits, SpansEdits, in_full, rows_of_edits};
 
+use crate::edits::{Edit, edited};
 use crate::history::History;
 use crate::limits::Limits;
 use crate::parts::Part;
@@ -26,6 +28,7 @@ use crate::search::{Search, row_count};
 use crate::stretches::Stretch;
 use rope_search_io::Fault;
 use rope_search_reports::{Changes, Finder, Lines, Position, Row, byte_of, position_of, report_of};
+use rope_search_templates::Replacement;
 use ropey::Rope;
 use std::alloc::Global;
 use std::marker::Model;
@@ -112,7 +115,7 @@ impl Buffer {
     }
 
     /// Returns which rows of the report the last accepted call of those replaced that may: of
-    /// `set_text`, `edit`, `undo`, `redo`, `set_pattern`, `off` and `replace`. All rows before them
+    /// `set_text`, `edit`, `edit_all`, `undo`, `redo`, `set_pattern`, `off` and `replace`. All rows before them
     /// and behind them are those of the report from before it. `O(1)`.
     pub fn changed(&self) -> Stretch
         ensures { result ≡ self.now.changed }
@@ -212,6 +215,57 @@ impl Buffer {
         // All that may be refused comes before the first change.
         let patches = search.patches(tick, self.alloc, old, &new, &[change])?;
         self.history.add(new, Changes::One(change))?;
+        self.changed = patches.changed;
+        search.apply(patches);
+        Ok(())
+    }
+
+    /// Makes several edits as one, all or none: each replaces what stands from one position to
+    /// another, all in terms of the text before any of them. They come in the order in which they
+    /// lie, and two may touch: texts that are put at one position come in their order. The pattern
+    /// stays, and of the report the rows of the lines that are touched are made anew. What could be
+    /// redone is dropped, also where there is no edit; one `undo` takes all back. `O(log n)` for
+    /// each edit, and linear in what is inserted and in the lines that are touched; where the
+    /// number of lines changes, the rows behind the first of them are moved.
+    ///
+    /// Errors, which leave the buffer as it was: `Fault::Range` where a position is nowhere in the
+    /// text, the second of an edit is before its first, or an edit starts before the end of the one
+    /// before it; else `Fault::Utf8` where the bytes of one aren't UTF-8; else `Fault::Size` where
+    /// the new text would have more bytes than the limit. `Fault::Memory` may come in place of
+    /// these.
+    pub fn edit_all(&mut self, tick: &mut Lines, edits: &[Edit<'_>]) -> Result<(), Fault>
+        ensures ok { OnOk result
+            (AreEdits self.old.state (map in_full edits.now) self.new.state) }
+        ensures accepted { OnOk result
+            (AcceptsEdits self.old.limit (current_text self.old.state) (map in_full edits.now)) }
+        ensures kept { OnOk result (KeepsEdits self.old (map in_full edits.now) self.new) }
+        ensures changed { OnOk result (Replaces self.old.state self.new.state self.new.changed) }
+        ensures added { OnOk result (SpansEdits self.old.state (map in_full edits.now)
+            self.new.state self.new.changed) }
+        ensures limit { self.new.limit ≡ self.old.limit }
+        ensures fault { IfErr result (λ fault. (fault ≡ Fault.Memory)
+            ⊎ IsFirstAgainst self.old.limit (current_text self.old.state)
+            (map in_full edits.now) fault) }
+        ensures err { OnErr result (self.new ≡ self.old) }
+
+        // For each edit it makes at most as many rows as what it inserts has lines; and none where
+        // there is a reason to refuse them.
+        ensures refused { (fault : Fault)
+            → RefusesEdits self.old.limit (current_text self.old.state) (map in_full edits.now)
+            fault → tick.new ≡ tick.old }
+        ensures rows { MakesAtMost (rows_of_edits self.old.state (map in_full edits.now))
+            tick.old tick.new }
+    {
+        let old = self.history.current();
+        let Replacement { text, changes } = edited(self.alloc, self.limits, old, edits)?;
+        let Some(search) = &mut self.search else {
+            self.history.add(text, Changes::Many(changes))?;
+            self.changed = Stretch::none();
+            return Ok(());
+        };
+        // All that may be refused comes before the first change.
+        let patches = search.patches(tick, self.alloc, old, &text, &changes)?;
+        self.history.add(text, Changes::Many(changes))?;
         self.changed = patches.changed;
         search.apply(patches);
         Ok(())

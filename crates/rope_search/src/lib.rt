@@ -5,6 +5,7 @@
 mod buffer;
 mod command_lines;
 mod commands;
+mod edits;
 mod encodings;
 mod endings;
 mod headers;
@@ -24,6 +25,7 @@ mod texts;
 
 pub use buffer::Buffer;
 pub use commands::{Command, CommandOf, Payload, Reply};
+pub use edits::Edit;
 pub use encodings::Encoding;
 pub use endings::Ended;
 pub use limits::Limits;

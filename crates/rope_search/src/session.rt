@@ -1,5 +1,5 @@
 //! A session: buffers, of which one is chosen.
-ghost use Rattle.std.specs.Prelude.{◌≡◌, ◌+◌, ◌<◌, ◌≤◌, ◌↔◌, [], ◌∷◌, ◌++◌, List, ℕ, length, slice_index_or, Bool, Err, OnOk, OnErr, IfOk, IfErr, IsOk, None, Some};
+ghost use Rattle.std.specs.Prelude.{◌≡◌, ◌+◌, ◌<◌, ◌≤◌, ◌↔◌, [], ◌∷◌, ◌++◌, List, ℕ, length, map, slice_index_or, Bool, Err, OnOk, OnErr, IfOk, IfErr, IsOk, None, Some};
 ghost use Rattle.rope_search.specs.Order.{SetText, EditText, UndoEdit, RedoEdit, SetPattern, DropPattern, ListMatches, FindNext, ReplaceAll};
 ghost use Rattle.rope_search.specs.Session.{opened, fresh, current_text, chosen_buffer, with_text, with_pattern, with_chosen};
 ghost use Rattle.rope_search_reports.specs.Pattern.{pattern_limit};
@@ -7,13 +7,15 @@ ghost use Rattle.rope_search.specs.Laws.{HasCurrent, AllHoldTexts};
 ghost use Rattle.rope_search.specs.Step.{Step};
 ghost use Rattle.rope_search.specs.Stands.{ForOrders, StandsFor, kept_of};
 ghost use Rattle.rope_search.specs.Cost.{Costs, SearchesFor};
-ghost use Rattle.rope_search_reports.specs.Ticks.{SearchesOneWhole};
+ghost use Rattle.rope_search_reports.specs.Ticks.{MakesAtMost, SearchesOneWhole};
 ghost use Rattle.rope_search.specs.Finding as finding;
 ghost use Rattle.rope_search.specs.Stretches as stretches;
 ghost use Rattle.rope_search.specs.Changed.{TellsRows, TellsAfter};
+ghost use Rattle.rope_search.specs.Edits.{RefusesEdits, StepByEdits, TellsEdits, in_full, rows_of_edits};
 
 use crate::buffer::Buffer;
 use crate::commands::{Command, Payload, Reply};
+use crate::edits::Edit;
 use crate::limits::Limits;
 use crate::stretches::Stretch;
 use rope_search_io::Fault;
@@ -94,7 +96,7 @@ impl Session {
     }
 
     /// Returns which rows of the chosen buffer's report the last accepted command on that buffer
-    /// replaced, of those that may: all but `fork`, `next`, `list` and `print`. All rows before
+    /// replaced, of those that may: all but `fork`, `next`, `list` and `print`, and `edit_all`. All rows before
     /// them and behind them are those of the report from before the command. A window that is
     /// painted is right again once these rows are, and those behind them moved. `O(1)`.
     pub fn changed(&self) -> Stretch
@@ -233,6 +235,32 @@ impl Session {
                 Ok(Reply::Done)
             }
         }
+    }
+
+    /// Makes several edits of the chosen buffer as one, as `Buffer::edit_all` does: all in terms of
+    /// the text before any of them, all or none, and one `Command::Undo` takes them back.
+    ///
+    /// Errors: of `Fault::Range`, `Fault::Utf8` and `Fault::Size` the first that applies, unless
+    /// `Fault::Memory` comes before it is found; the session is then as it was.
+    pub fn edit_all(&mut self, tick: &mut Lines, edits: &[Edit<'_>]) -> Result<(), Fault>
+        ensures step { StepByEdits self.old.limit self.old.state (map in_full edits.now) result
+            self.new.state }
+        ensures limit { self.new.limit ≡ self.old.limit }
+        ensures changed { OnOk result (TellsEdits self.old.state (map in_full edits.now)
+            self.new.state self.old.changed self.new.changed) }
+        ensures kept { OnErr result (self.new.changed ≡ self.old.changed) }
+
+        // It searches no more lines than the edits have, and none where they are refused.
+        ensures refused { (fault : Fault) → RefusesEdits self.old.limit
+            (current_text (chosen_buffer self.old.state)) (map in_full edits.now) fault
+            → tick.new ≡ tick.old }
+        ensures rows { MakesAtMost
+            (rows_of_edits (chosen_buffer self.old.state) (map in_full edits.now))
+            tick.old tick.new }
+    {
+        // A law, for the proof alone.
+        rope_search_templates::laws::substituted_is_text();
+        self.buffers[self.chosen].edit_all(tick, edits)
     }
 
     // Makes the payload the chosen buffer's text.

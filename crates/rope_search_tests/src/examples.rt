@@ -1,6 +1,6 @@
 //! An example for each public type of `rope_search`. Its README shows the first two.
 use rope_search::{
-    Buffer, Command, Ended, Fault, Limits, Lines, MemorySink, MemorySource, Payload, Position,
+    Buffer, Command, Edit, Ended, Fault, Limits, Lines, MemorySink, MemorySource, Payload, Position,
     Reply, Session, run,
 };
 use std::test::Fail;
@@ -159,6 +159,33 @@ fn an_edit_of_a_line(rt: HostRuntime) -> Result<(), Fail> {
     }
     buffer.undo(&mut tick)?;
     assert!(rt; buffer.text().eq_str("a frog\na toad"));
+    Ok(())
+}
+
+// So it is with this.
+fn edit_all(session: &mut Session, tick: &mut Lines, edits: &[Edit<'_>]) -> Result<(), Fault> {
+    session.edit_all(tick, edits)
+}
+
+/// `Edit`: several edits as one, all told in terms of the text before any of them, of which two may
+/// touch. Each searches as many lines as it inserts, and one undo takes all back.
+#[test]
+fn several_edits_as_one(rt: HostRuntime) -> Result<(), Fail> {
+    let mut tick = Lines::new(&rt);
+    let mut session = session_of(&rt, &mut tick, b"a frog\na toad", b"toad")?;
+    let (start, end) = (Position { line: 0, column: 2 }, Position { line: 0, column: 6 });
+    let (next, last) = (Position { line: 1, column: 0 }, Position { line: 1, column: 1 });
+    let toad = Edit { from: start, to: end, text: b"toad" };
+    let line = Edit { from: end, to: end, text: b"\n" };
+    let the = Edit { from: next, to: last, text: b"the" };
+    assert!(rt; edit_all(&mut session, &mut tick, &[the, toad]) == Err(Fault::Range));
+    assert!(rt; edit_all(&mut session, &mut tick, &[toad, toad]) == Err(Fault::Range));
+    assert!(rt; tick.count() == 2);
+    assert!(rt; edit_all(&mut session, &mut tick, &[toad, line, the]) == Ok(()));
+    assert!(rt; session.buffer().text().eq_str("a toad\n\nthe toad"));
+    assert!(rt; tick.count() <= 6);
+    assert!(rt; apply(&mut session, &mut tick, Command::Undo) == Ok(Reply::Done));
+    assert!(rt; session.buffer().text().eq_str("a frog\na toad"));
     Ok(())
 }
 
