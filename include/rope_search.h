@@ -48,7 +48,7 @@ extern "C" {
 enum {
     ROPE_SEARCH_DONE = 0,
     ROPE_SEARCH_NONE = 1,    /* no such buffer, no pattern, no text to go back or forward to */
-    ROPE_SEARCH_RANGE = 2,   /* a position is nowhere, or the second is before the first */
+    ROPE_SEARCH_RANGE = 2,   /* a position is nowhere, or positions don't come in order */
     ROPE_SEARCH_UTF8 = 3,    /* the bytes aren't UTF-8 */
     ROPE_SEARCH_PATTERN = 4, /* the bytes are no pattern */
     ROPE_SEARCH_LIMIT = 5,   /* the pattern has more than 65,536 bytes, or weighs too much */
@@ -90,6 +90,15 @@ typedef struct {
 } rope_search_span;
 
 /*
+ * An edit of several that are made as one: what stands from one position to another gives way to
+ * `len` bytes, which stand behind those of the edits before it.
+ */
+typedef struct {
+    rope_search_position from, to;
+    size_t len;
+} rope_search_text_edit;
+
+/*
  * Rows of a report that others took the place of: `removed` rows of the old report, from the first
  * on, made way for `added` rows of the new one. All rows before them are as they were, and so are
  * all behind them, which may have moved.
@@ -121,6 +130,17 @@ uint32_t rope_search_set_text(rope_search *session, const uint8_t *text, size_t 
  */
 uint32_t rope_search_edit(rope_search *session, rope_search_position from, rope_search_position to,
                           const uint8_t *text, size_t len);
+
+/*
+ * Makes several edits as one, all or none, and as one step of the history. All are told in terms of
+ * the text before any of them. They come in the order in which they lie; two may touch, and what is
+ * put at one place comes in their order. `text` has their texts one after the other, `len` bytes in
+ * all. What could be redone is dropped, also where there is no edit. Refused: RANGE, also where an
+ * edit starts before the end of the one before it, or the edits don't have `len` bytes in all;
+ * UTF8, SIZE, MEMORY.
+ */
+uint32_t rope_search_edit_all(rope_search *session, const rope_search_text_edit *edits,
+                              size_t count, const uint8_t *text, size_t len);
 
 /* Go one text back, and one forward. Refused: NONE; with a pattern, MEMORY. */
 uint32_t rope_search_undo(rope_search *session);
@@ -227,8 +247,8 @@ size_t rope_search_copy_matches(rope_search *session, size_t from, size_t to, ro
 
 /*
  * Which rows of the report the last accepted command on the chosen buffer replaced, of those that
- * may: set_text, edit, undo, redo, set_pattern, off and replace. An edit adds no more rows than what
- * it inserts has lines; where there is no pattern there are none. What is painted is right again
+ * may: set_text, edit, edit_all, undo, redo, set_pattern, off and replace. An edit adds no more rows
+ * than what it inserts has lines; where there is no pattern there are none. What is painted is right again
  * once these rows are, and those behind them moved.
  */
 rope_search_stretch rope_search_changed(rope_search *session);

@@ -103,6 +103,50 @@ static void a_session(rope_search *s)
     IS(memcmp(text, "hi hoh\nhi ha", 12), 0);
 }
 
+static rope_search_text_edit edit_at(rope_search_position from, rope_search_position to, size_t len)
+{
+    rope_search_text_edit edit;
+    edit.from = from;
+    edit.to = to;
+    edit.len = len;
+    return edit;
+}
+
+/* Several edits as one, of the text "hi ho\nhi ha". */
+static void several(rope_search *s)
+{
+    uint8_t text[16];
+    rope_search_stretch changed;
+    rope_search_text_edit edits[3];
+    edits[0] = edit_at(at(0, 0), at(0, 2), 1);
+    edits[1] = edit_at(at(0, 2), at(0, 2), 2);
+    edits[2] = edit_at(at(1, 0), at(1, 3), 1);
+    IS(rope_search_set_text(s, bytes("hi ho\nhi ha"), 11), ROPE_SEARCH_DONE);
+    IS(rope_search_edit_all(s, edits, 3, bytes("H\n-h"), 3), ROPE_SEARCH_RANGE);
+    IS(rope_search_edit_all(s, edits, 3, bytes("H\n-h!"), 5), ROPE_SEARCH_RANGE);
+    IS(rope_search_edit_all(s, edits, 3, bytes("H\n\377h"), 4), ROPE_SEARCH_UTF8);
+    IS(rope_search_edit_all(s, edits + 1, 2, bytes("\n-h"), 3), ROPE_SEARCH_DONE);
+    IS(rope_search_undo(s), ROPE_SEARCH_DONE);
+    IS(rope_search_edit_all(s, edits, 3, bytes("H\n-h"), 4), ROPE_SEARCH_DONE);
+    IS(rope_search_text_len(s), 10);
+    IS(rope_search_copy_text(s, 0, 10, text, sizeof text), 1);
+    IS(memcmp(text, "H\n- ho\nhha", 10), 0);
+    changed = rope_search_changed(s);
+    IS(changed.first == 0 && changed.removed == 2 && changed.added == 3, 1);
+    IS(rope_search_count_matches(s, 0, 9), 3);
+    IS(rope_search_undo(s), ROPE_SEARCH_DONE);
+    IS(rope_search_text_len(s), 11);
+    IS(rope_search_count_matches(s, 0, 9), 4);
+    edits[1] = edit_at(at(0, 1), at(0, 2), 0);
+    IS(rope_search_edit_all(s, edits, 2, bytes("H"), 1), ROPE_SEARCH_RANGE);
+    edits[1] = edit_at(at(0, 2), at(0, 2), 8);
+    IS(rope_search_edit_all(s, edits, 2, bytes("H12345678"), 9), ROPE_SEARCH_SIZE);
+    IS(rope_search_can_undo(s), 0);
+    IS(rope_search_edit_all(s, edits, 0, bytes(""), 0), ROPE_SEARCH_DONE);
+    IS(rope_search_can_undo(s), 1);
+    IS(rope_search_text_len(s), 11);
+}
+
 static void look_ups(rope_search *s)
 {
     size_t byte = 77;
@@ -165,5 +209,9 @@ int main(void)
     rope_search_close(&moved);
     IS(rope_search_text_len(&moved), 0);
     IS(rope_search_redo(&moved), ROPE_SEARCH_CLOSED);
+    IS(rope_search_open(16, ticks, &s), ROPE_SEARCH_DONE);
+    IS(rope_search_set_pattern(&s, bytes("h"), 1), ROPE_SEARCH_DONE);
+    several(&s);
+    rope_search_close(&s);
     return wrong != 0;
 }

@@ -47,7 +47,7 @@ static void see(rope_search *s, struct seen *seen)
     seen->count = rope_search_copy_matches(s, 0, SIZE_MAX, seen->spans, 512);
 }
 
-enum kind { SET_TEXT, EDIT, UNDO, REDO, SET_PATTERN, OFF, NEXT, REPLACE, FORK, CHOOSE };
+enum kind { SET_TEXT, EDIT, EDIT_ALL, UNDO, REDO, SET_PATTERN, OFF, NEXT, REPLACE, FORK, CHOOSE };
 
 struct call {
     enum kind kind;
@@ -60,14 +60,21 @@ static uint32_t carry_out(rope_search *s, const struct call *call)
     rope_search_position from, to;
     rope_search_match match;
     size_t len = call->text ? strlen(call->text) : 0, number;
+    rope_search_text_edit edits[2];
     const uint8_t *text = (const uint8_t *)(call->text ? call->text : "");
     from.line = call->line;
     from.column = call->column;
     to.line = call->to_line;
     to.column = call->to_column;
+    /* The first of two edits puts half of the text at one position, the other the rest at the other. */
+    edits[0].from = edits[0].to = from;
+    edits[1].from = edits[1].to = to;
+    edits[0].len = len / 2;
+    edits[1].len = len - len / 2;
     switch (call->kind) {
     case SET_TEXT: return rope_search_set_text(s, text, len);
     case EDIT: return rope_search_edit(s, from, to, text, len);
+    case EDIT_ALL: return rope_search_edit_all(s, edits, 2, text, len);
     case UNDO: return rope_search_undo(s);
     case REDO: return rope_search_redo(s);
     case SET_PATTERN: return rope_search_set_pattern(s, text, len);
@@ -83,7 +90,9 @@ static const struct call calls[] = {
     {SET_TEXT, 0, 0, 0, 0, "one two\none\r\nthree one\none one one\nnone\n"},
     {SET_PATTERN, 0, 0, 0, 0, "(?i)(o)n\\w|e$"},
     {EDIT, 1, 0, 2, 3, "ONE\nof many\none\n"},
+    {EDIT_ALL, 0, 3, 2, 1, "a one\n\nand one"},
     {NEXT, 0, 2, 0, 0, NULL},
+    {UNDO, 0, 0, 0, 0, NULL},
     {UNDO, 0, 0, 0, 0, NULL},
     {REDO, 0, 0, 0, 0, NULL},
     {REPLACE, 0, 0, 0, 0, "<$1\n$0>"},

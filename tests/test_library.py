@@ -14,6 +14,7 @@ import sys
 from harness import LIBRARY, LIBRARY_FOLDER, ROOM, SECONDS, TOP, short, test
 from library import replies, reply, rope_search
 from library_changes import wrong_changes
+from library_edits import wrong_with
 from protocol import Session, lines_of, place_of, position_at, positions_of, read_commands, spelled, units
 from test_edits import BACK_AND_FORWARD, OF_ALL_KINDS, SESSIONS, SESSIONS_IN_RUN, some_sessions
 from test_replies import MORE_EXAMPLES, examples_of_page
@@ -23,6 +24,7 @@ STRICT = ["-std=c99", "-pedantic", "-O1", "-g", "-Wall", "-Wextra", "-Werror"]
 SANITIZED = ["-fsanitize=address,undefined", "-fno-sanitize-recover=all"]
 # The thread sanitizer's own memory isn't found where addresses are laid out at random too widely.
 FIXED = ["setarch", "-R"] if shutil.which("setarch") else []
+EDITED = 4_000
 # The name of a parameter of C, behind its type.
 PARAMETER = re.compile(r"\s*\b(?!const\b|size_t\b|bool\b|void\b|u?int\d+_t\b|rope_search\w*\b)\w+$")
 # Where programs find the modules of the bindings, and these the library.
@@ -226,6 +228,12 @@ def test_changes():
         test(f"which rows commands replace, {SESSIONS // 4} sessions at random {kind}", wrong)
 
 
+def test_edits():
+    for front in range(0, EDITED, EDITED // 4):
+        wrong = [one for seed in range(front, front + EDITED // 4) for one in wrong_with(seed)]
+        test(f"several edits as one, {EDITED // 4} texts at random from {front} on, beside the model", wrong)
+
+
 def answered(call, *arguments):
     """What a call answers, or why it is refused."""
     try:
@@ -248,7 +256,8 @@ def test_closed():
     session.close()
     calls, handle, origin = rope_search.library(), session._handle, rope_search._Position(0, 0)
     refused = {
-        "set_text": (b"a", 1), "edit": (origin, origin, b"a", 1), "undo": (), "redo": (),
+        "set_text": (b"a", 1), "edit": (origin, origin, b"a", 1),
+        "edit_all": ((rope_search._TextEdit * 1)(), 1, b"", 0), "undo": (), "redo": (),
         "set_pattern": (b"a", 1), "off": (), "next": (origin, rope_search._Match()),
         "replace": (b"a", 1, ctypes.c_size_t(7)), "fork": (ctypes.c_size_t(7),), "choose": (0,),
         "column_in": (8, origin, ctypes.c_size_t(7)), "position_in": (8, 0, 0, rope_search._Position()),
@@ -418,6 +427,7 @@ def test_all():
     test_places()
     test_histories()
     test_changes()
+    test_edits()
     test_programs()
     test_lua()
     test_neovim()

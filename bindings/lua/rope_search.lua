@@ -23,11 +23,13 @@ typedef struct { uint64_t rows, wholes; } rope_search_counts;
 typedef struct { size_t line, column; } rope_search_position;
 typedef struct { bool found; rope_search_position start, stop; } rope_search_match;
 typedef struct { size_t line, start, stop; } rope_search_span;
+typedef struct { rope_search_position from, to; size_t len; } rope_search_text_edit;
 typedef struct { size_t first, removed, added; } rope_search_stretch;
 uint32_t rope_search_open(size_t, rope_search_ticks, rope_search *);
 void rope_search_close(rope_search *);
 uint32_t rope_search_set_text(rope_search *, const uint8_t *, size_t);
 uint32_t rope_search_edit(rope_search *, rope_search_position, rope_search_position, const uint8_t *, size_t);
+uint32_t rope_search_edit_all(rope_search *, const rope_search_text_edit *, size_t, const uint8_t *, size_t);
 uint32_t rope_search_undo(rope_search *);
 uint32_t rope_search_redo(rope_search *);
 uint32_t rope_search_set_pattern(rope_search *, const uint8_t *, size_t);
@@ -124,6 +126,19 @@ end
 -- Replaces what stands from one position to another, each { line, column }.
 function Session:edit(start, stop, text)
   return told(calls.rope_search_edit(self.handle, position(start), position(stop), text, #text))
+end
+
+-- Makes several edits as one, each { start, stop, text }, all in terms of the text before any of them
+-- and in the order in which they lie; two may touch.
+function Session:edit_all(edits)
+  local given = ffi.new("rope_search_text_edit[?]", math.max(1, #edits))
+  local texts = {}
+  for i, edit in ipairs(edits) do
+    given[i - 1] = { position(edit[1] or edit.start), position(edit[2] or edit.stop), #(edit[3] or edit.text) }
+    texts[i] = edit[3] or edit.text
+  end
+  local text = table.concat(texts)
+  return told(calls.rope_search_edit_all(self.handle, given, #edits, text, #text))
 end
 
 function Session:undo()

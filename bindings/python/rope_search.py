@@ -16,7 +16,7 @@ system's. It is opened when the first session is.
 import ctypes
 import ctypes.util
 import os
-from typing import List, NamedTuple, Optional, Tuple, Type, Union
+from typing import Iterable, List, NamedTuple, Optional, Tuple, Type, Union
 
 Text = Union[str, bytes]
 
@@ -63,7 +63,7 @@ class Nothing(Fault):
 
 
 class Range(Fault):
-    """A position is nowhere in the text, or the second one is before the first."""
+    """A position is nowhere in the text, or positions don't come in order."""
 
 
 class Utf8(Fault):
@@ -117,6 +117,10 @@ class _Span(ctypes.Structure):
     _fields_ = [("line", ctypes.c_size_t), ("start", ctypes.c_size_t), ("stop", ctypes.c_size_t)]
 
 
+class _TextEdit(ctypes.Structure):
+    _fields_ = [("start", _Position), ("stop", _Position), ("len", ctypes.c_size_t)]
+
+
 class _Stretch(ctypes.Structure):
     _fields_ = [("first", ctypes.c_size_t), ("removed", ctypes.c_size_t), ("added", ctypes.c_size_t)]
 
@@ -127,6 +131,7 @@ _CALLS = {
     "close": (None, _HANDLE),
     "set_text": (_STATUS, _HANDLE, _BYTES, _SIZE),
     "edit": (_STATUS, _HANDLE, _Position, _Position, _BYTES, _SIZE),
+    "edit_all": (_STATUS, _HANDLE, ctypes.POINTER(_TextEdit), _SIZE, _BYTES, _SIZE),
     "undo": (_STATUS, _HANDLE),
     "redo": (_STATUS, _HANDLE),
     "set_pattern": (_STATUS, _HANDLE, _BYTES, _SIZE),
@@ -231,6 +236,14 @@ class Session:
         """Replaces what stands from one position to another. Refused: Range, Utf8, Size, Memory."""
         text = _bytes_of(text)
         _check(self._calls.rope_search_edit(self._handle, _Position(*start), _Position(*stop), text, len(text)))
+
+    def edit_all(self, edits: Iterable[Tuple[Tuple[int, int], Tuple[int, int], Text]]) -> None:
+        """Makes several edits as one, each (start, stop, text), all in terms of the text before any of them and in the
+        order in which they lie; two may touch. Refused: Range, Utf8, Size, Memory; then none is made."""
+        edits = [(_Position(*start), _Position(*stop), _bytes_of(text)) for start, stop, text in edits]
+        told = (_TextEdit * max(1, len(edits)))(*((start, stop, len(text)) for start, stop, text in edits))
+        text = b"".join(text for _, _, text in edits)
+        _check(self._calls.rope_search_edit_all(self._handle, told, len(edits), text, len(text)))
 
     def undo(self) -> None:
         """Goes one text back. Refused: Nothing, Memory."""

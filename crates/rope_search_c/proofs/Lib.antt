@@ -3,3 +3,4 @@ pub mod Walks
 pub mod HandleSteps
 pub mod SpanLemmas
 pub mod TextLemmas
+pub mod EditLemmas

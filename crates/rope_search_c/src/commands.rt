@@ -3,8 +3,10 @@ ghost use Rattle.std.specs.Prelude.{◌≡◌, ◌^◌, ◌≤◌, ◌↔◌, �
 ghost use Rattle.rope_search.specs.declared.commands.CommandOf.TheVariants.{Text as SetText, Edit as EditText, Undo as UndoEdit, Redo as RedoEdit, Fork as ForkBuffer, Pattern as SetPattern, Off as DropPattern, Next as FindNext, Replace as ReplaceAll, Use as UseBuffer};
 ghost use Rattle.rope_search.specs.Session.{opened};
 ghost use Rattle.rope_search_c.specs.Calls.{Counts, Does, Finds, Forgets, Leads};
+ghost use Rattle.rope_search_c.specs.Edits.{MakesEdits};
 
 use crate::counting::CountingSession;
+use crate::edits::TextEdit;
 use crate::handles::{CLOSED, Handle};
 use crate::matches::Match;
 use rope_search::{Lines, Position};
@@ -77,6 +79,28 @@ pub extern "C" fn rope_search_edit(
     };
     let mut session = session;
     let status = session.edit(from, to, text);
+    *handle = Handle::of(session);
+    status
+}
+
+/// Makes several edits as one, as `Session::edit_all` does: `text` has their texts one after the
+/// other, with the number of bytes that each says. Where these are not all of its bytes, 2 is
+/// answered, as for edits that lie nowhere.
+#[unsafe(no_mangle)]
+pub extern "C" fn rope_search_edit_all(
+    alloc: Global,
+    handle: &mut Handle,
+    edits: &[TextEdit],
+    text: &[u8],
+) -> u32
+    ensures { Leads handle.old.held result handle.new.held (λ old new.
+        MakesEdits old edits.now text.now result new) }
+{
+    let Some(session) = handle.take(alloc) else {
+        return CLOSED;
+    };
+    let mut session = session;
+    let status = session.edit_all(alloc, edits, text);
     *handle = Handle::of(session);
     status
 }

@@ -5,7 +5,10 @@ ghost use Rattle.rope_search.specs.Session.{opened};
 ghost use Rattle.rope_search.specs.Stands.{ForOrders};
 ghost use Rattle.rope_search_c.specs.Calls.{Carries, Counts, Does, Finds, Forgets, Tells};
 ghost use Rattle.rope_search_c.specs.Calls as calls;
+ghost use Rattle.rope_search_c.specs.Edits.{MakesEdits};
+ghost use Rattle.rope_search_c.specs.Edits as text_edits;
 
+use crate::edits::{TextEdit, edits_of};
 use crate::matches::Match;
 use rope_search::{Command, Fault, Limits, Lines, Payload, Position, Reply, Session};
 use std::alloc::Global;
@@ -23,6 +26,16 @@ fn status_of(answer: Result<Reply, Fault>) -> u32
 {
     match answer {
         Ok(_) => 0,
+        Err(fault) => u32::from(fault.rank()),
+    }
+}
+
+/// 0 where edits are made, else the rank of what refuses them.
+fn status_of_edits(answer: Result<(), Fault>) -> u32
+    ensures { result ≡ text_edits.status_of answer }
+{
+    match answer {
+        Ok(()) => 0,
         Err(fault) => u32::from(fault.rank()),
     }
 }
@@ -100,6 +113,16 @@ impl CountingSession {
         ensures { Does self.old (EditText from to text.now) result self.new }
     {
         status_of(self.apply(Command::Edit(from, to, Payload::Kept(text))))
+    }
+
+    pub(crate) fn edit_all(&mut self, alloc: Global, edits: &[TextEdit], text: &[u8]) -> u32
+        ensures { MakesEdits self.old edits.now text.now result self.new }
+    {
+        let edits = match edits_of(alloc, edits, text) {
+            Ok(edits) => edits,
+            Err(fault) => return u32::from(fault.rank()),
+        };
+        status_of_edits(self.session.edit_all(&mut self.lines, &edits))
     }
 
     pub(crate) fn undo(&mut self) -> u32

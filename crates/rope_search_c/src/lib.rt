@@ -7,17 +7,20 @@
 
 mod commands;
 mod counting;
+mod edits;
 mod handles;
 mod look_ups;
 mod matches;
 mod reading;
 
 pub use commands::{
-    rope_search_choose, rope_search_close, rope_search_edit, rope_search_forget, rope_search_fork,
-    rope_search_next, rope_search_off, rope_search_open, rope_search_redo, rope_search_replace,
-    rope_search_set_pattern, rope_search_set_text, rope_search_undo,
+    rope_search_choose, rope_search_close, rope_search_edit, rope_search_edit_all,
+    rope_search_forget, rope_search_fork, rope_search_next, rope_search_off, rope_search_open,
+    rope_search_redo, rope_search_replace, rope_search_set_pattern, rope_search_set_text,
+    rope_search_undo,
 };
 pub use counting::CountingSession;
+pub use edits::TextEdit;
 pub use handles::Handle;
 pub use look_ups::{
     Counted, rope_search_buffers, rope_search_byte_of, rope_search_can_redo, rope_search_can_undo,

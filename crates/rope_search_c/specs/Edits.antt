@@ -1,0 +1,51 @@
+-- Several edits as C hands them over, in the words of a session.
+use Rattle.std.specs.Prelude.{◌≡◌, ℕ, ◌⊎◌, List, [], ◌∷◌, length, take, drop, sum_by, Result, Ok, Err, OnOk, OnErr}
+use Rattle.rope_search_io.specs.declared.faults.Fault.{Fault}
+use Rattle.rope_search_io.specs.Faults.{rank_of}
+use Rattle.rope_search_reports.specs.Ticks.{MakesAtMost}
+use Rattle.rope_search.specs.Session.{chosen_buffer, current_text}
+use Rattle.rope_search.specs.Edits.{FullEdit, RefusesEdits, StepByEdits, TellsEdits, rows_of_edits}
+use Rattle.rope_search_c.specs.declared.counting.CountingSession.{CountingSession}
+use Rattle.rope_search_c.specs.declared.edits.TextEdit.{TextEdit}
+
+-- the edits, each with its own of all bytes: the first has the first ones
+abbrev pub cut : List TextEdit → List ℕ → List FullEdit
+cut [] bytes = []
+cut (edit ∷ edits) bytes =
+    record { from = edit.from; to = edit.to; payload = take edit.len bytes }
+    ∷ cut edits (drop edit.len bytes)
+
+-- there are as many bytes as they say
+abbrev pub Fit : List TextEdit → List ℕ → Type 0
+Fit edits bytes = sum_by (λ (edit : TextEdit). edit.len) edits ≡ length bytes
+
+-- 0 where they are made, else the rank of what refuses them
+abbrev pub status_of : Result Unit Fault → ℕ
+status_of (Ok done) = 0
+status_of (Err fault) = rank_of fault
+
+-- Edits lead from one session to another by a step, which is answered so, and make no more rows than
+-- their texts have lines, and none where there is a reason to refuse them; the limit stays, and the
+-- buffers tell which rows were replaced.
+pub record CarriesEdits (old : CountingSession) (edits : List FullEdit)
+    (answer : Result Unit Fault) (new : CountingSession) : Type 0 where
+  pub step : StepByEdits old.session.limit old.session.state edits answer new.session.state
+  pub limit : new.session.limit ≡ old.session.limit
+  pub rows : MakesAtMost (rows_of_edits (chosen_buffer old.session.state) edits)
+      old.lines new.lines
+  pub refused : (fault : Fault)
+      → RefusesEdits old.session.limit (current_text (chosen_buffer old.session.state)) edits
+      fault
+      → new.lines ≡ old.lines
+  pub changed : OnOk answer (TellsEdits old.session.state edits new.session.state
+      old.session.changed new.session.changed)
+  pub kept : OnErr answer (new.session.changed ≡ old.session.changed)
+
+-- They do, where there are as many bytes as they say; and else they are refused as those are that
+-- lie nowhere, with 2, or for want of memory, with 7. The status is that of the answer.
+pub record MakesEdits (old : CountingSession) (edits : List TextEdit) (bytes : List ℕ)
+    (status : ℕ) (new : CountingSession) : Type 0 where
+  pub answer : Result Unit Fault
+  pub told : status ≡ status_of answer
+  pub fit : Fit edits bytes → CarriesEdits old (cut edits bytes) answer new
+  pub unfit : (Fit edits bytes → ⊥) → ((status ≡ 2) ⊎ (status ≡ 7)) × (new ≡ old)
