@@ -248,8 +248,8 @@ size_t rope_search_copy_matches(rope_search *session, size_t from, size_t to, ro
 /*
  * Which rows of the report the last accepted command on the chosen buffer replaced, of those that
  * may: set_text, edit, edit_all, undo, redo, set_pattern, off and replace. An edit adds no more rows
- * than what it inserts has lines; where there is no pattern there are none. What is painted is right again
- * once these rows are, and those behind them moved.
+ * than what it inserts has lines; where there is no pattern there are none. What is painted is
+ * right again once these rows are, and those behind them moved.
  */
 rope_search_stretch rope_search_changed(rope_search *session);
 
