@@ -57,7 +57,7 @@ LINES, LINE, EDITED = 20_000, b"a line of fifty bytes, which holds one mark: her
 MOST_FOR_AN_EDIT = 8_192
 MOST_FOR_A_FORK = 12_288  # one with an edit: beside that it is a buffer of its own
 # Buffers with a pattern each, and what one may hold under which pattern: with a letter class most of it is the program.
-BUFFERS, MOST_FOR_A_BUFFER = 2_000, ((b"mark", 16_000), (rb"(?i)todo|error", 16_000), (rb"\w+", 70_000))
+BUFFERS, MOST_FOR_A_BUFFER = 2_000, ((b"mark", 16_000), (rb"(?i)todo|error", 16_000), (rb"\w+", 80_000))
 # Patterns that say a class again and again, and the most that one takes.
 SAID_AGAIN, MOST_FOR_A_PATTERN = ((rb"[\wa]", 13_107), (rb"[^\w]", 13_107), (rb"[^a]", 16_384)), 10_000_000
 # A text, how often it is edited, and how much an edit may leave behind in the history.
@@ -311,9 +311,9 @@ def test_bounds():
         wrong = [] if 0 < each <= most else [f"a buffer takes {each} bytes"]
         test(f"{BUFFERS} buffers under {pattern.decode()} take at most {most} bytes each", wrong)
     for part, count in SAID_AGAIN:
-        most = peak_of(given("pattern", part * count))
-        wrong = [] if most <= MOST_FOR_A_PATTERN else [f"{most} bytes"]
-        test(f"{count} times {part.decode()} take at most {MOST_FOR_A_PATTERN} bytes", wrong)
+        ended, most = most_held(lambda environment, data=given("pattern", part * count): run(data, environment=environment))
+        wrong = differences(ended, ended.out, 0) + ([] if most <= MOST_FOR_A_PATTERN else [f"{most} bytes"])
+        test(f"{count} times {part.decode()}, taken or refused, takes at most {MOST_FOR_A_PATTERN} bytes", wrong)
     text = given("text", LINE * (LONG_TEXT // len(LINE)))
     for name, edits in (("letters at random lines", letters_at_random), ("a typist", letters_in_a_row)):
         # What a text takes while it is read is more than what stays of it, so edits are held against fewer edits.

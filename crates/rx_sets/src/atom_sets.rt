@@ -110,7 +110,7 @@ impl AtomSets {
     }
 
     /// This set, or one of those that are kept, if it is the same.
-    fn shared(&mut self, mut set: CharacterSet) -> Result<Rc<CharacterSet>, AllocError>
+    fn shared(&mut self, set: CharacterSet) -> Result<Rc<CharacterSet>, AllocError>
         ensures { IfOk result (λ shared. shared.value ≡ set) }
     {
         for kept in &self.classes {
@@ -121,7 +121,6 @@ impl AtomSets {
         if self.classes.len() >= KEPT_CLASSES {
             self.classes.clear();
         }
-        set.shrink_to_fit();
         let made = Rc::new(self.alloc, set)?;
         self.classes.push(made.clone()?)?;
         Ok(made)

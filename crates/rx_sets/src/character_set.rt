@@ -140,13 +140,6 @@ impl CharacterSet {
         Ok(CharacterSet { ranges: gaps })
     }
 
-    /// Gives back what room its ranges don't take.
-    pub(crate) fn shrink_to_fit(&mut self)
-        ensures { self.new ≡ self.old }
-    {
-        self.ranges.shrink_to_fit();
-    }
-
     /// Whether the scalar value with this ordinal is in the set.
     pub fn contains(&self, ordinal: u32) -> bool
         ensures { result ≡ in_ranges self.now ordinal }

@@ -118,9 +118,7 @@ impl LetterSet {
     ) -> Result<LetterSet, AllocError>
         ensures { IfOk result (λ set. IsSetOf set (FoldedIf fold (InPerl kind negated))) }
     {
-        let mut set = letter_set(alloc, fold, kind, negated)?;
-        set.shrink_to_fit();
-        let set = Rc::new(alloc, set)?;
+        let set = Rc::new(alloc, letter_set(alloc, fold, kind, negated)?)?;
         Ok(LetterSet {
             fold,
             kind,

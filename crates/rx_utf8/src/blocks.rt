@@ -70,12 +70,11 @@ fn size(rest: u32) -> u32
     }
 }
 
-/// Appends a row, which gives back what room its ranges don't take: an automaton has hundreds of
-/// short ones.
-fn push_row(rows: &mut Vec<Vec<ByteRange>>, mut row: Vec<ByteRange>) -> Result<(), AllocError>
+/// Appends a row, copied into the room that it fills: an automaton has hundreds of short ones.
+fn push_row(rows: &mut Vec<Vec<ByteRange>>, row: Vec<ByteRange>) -> Result<(), AllocError>
     ensures { OnOk result (rows_of rows.new.items ≡ rows_of rows.old.items ++ (row.items ∷ [])) }
 {
-    row.shrink_to_fit();
+    let row = row.to_vec(*rows.allocator())?;
     rows.push(row)?;
     Ok(())
 }
