@@ -241,7 +241,7 @@ def wrong_sink():
         return end_of(start(environment=environment, program=RUN_PROGRAM, stdin=open_input(line)))
 
     ended, _, largest = counted(run, above=(1 << 24) - 1)
-    yield from differences(ended, b"memory\n", 0)
+    yield from differences(ended, b"no memory\n", 0)
     if largest != 1 << 24:
         yield f"the most that is asked for is {largest} bytes"
 
