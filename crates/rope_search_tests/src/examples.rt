@@ -1,7 +1,7 @@
 //! An example for each public type of `rope_search`. Its README shows the first two.
 use rope_search::{
-    Buffer, Command, Edit, Ended, Fault, Limits, Lines, MemorySink, MemorySource, Payload, Position,
-    Reply, Session, run,
+    Buffer, Command, Edit, Ended, Fault, Limits, Lines, MemorySink, MemorySource, Payload,
+    Position, Reply, Session, run,
 };
 use std::test::Fail;
 
@@ -173,11 +173,29 @@ fn edit_all(session: &mut Session, tick: &mut Lines, edits: &[Edit<'_>]) -> Resu
 fn several_edits_as_one(rt: HostRuntime) -> Result<(), Fail> {
     let mut tick = Lines::new(&rt);
     let mut session = session_of(&rt, &mut tick, b"a frog\na toad", b"toad")?;
-    let (start, end) = (Position { line: 0, column: 2 }, Position { line: 0, column: 6 });
-    let (next, last) = (Position { line: 1, column: 0 }, Position { line: 1, column: 1 });
-    let toad = Edit { from: start, to: end, text: b"toad" };
-    let line = Edit { from: end, to: end, text: b"\n" };
-    let the = Edit { from: next, to: last, text: b"the" };
+    let (start, end) = (
+        Position { line: 0, column: 2 },
+        Position { line: 0, column: 6 },
+    );
+    let (next, last) = (
+        Position { line: 1, column: 0 },
+        Position { line: 1, column: 1 },
+    );
+    let toad = Edit {
+        from: start,
+        to: end,
+        text: b"toad",
+    };
+    let line = Edit {
+        from: end,
+        to: end,
+        text: b"\n",
+    };
+    let the = Edit {
+        from: next,
+        to: last,
+        text: b"the",
+    };
     assert!(rt; edit_all(&mut session, &mut tick, &[the, toad]) == Err(Fault::Range));
     assert!(rt; edit_all(&mut session, &mut tick, &[toad, toad]) == Err(Fault::Range));
     assert!(rt; tick.count() == 2);
