@@ -115,8 +115,8 @@ impl Buffer {
     }
 
     /// Returns which rows of the report the last accepted call of those replaced that may: of
-    /// `set_text`, `edit`, `edit_all`, `undo`, `redo`, `set_pattern`, `off` and `replace`. All rows before them
-    /// and behind them are those of the report from before it. `O(1)`.
+    /// `set_text`, `edit`, `edit_all`, `undo`, `redo`, `set_pattern`, `off` and `replace`. All rows
+    /// before them and behind them are those of the report from before it. `O(1)`.
     pub fn changed(&self) -> Stretch
         ensures { result ≡ self.now.changed }
     {

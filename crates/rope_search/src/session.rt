@@ -96,9 +96,9 @@ impl Session {
     }
 
     /// Returns which rows of the chosen buffer's report the last accepted command on that buffer
-    /// replaced, of those that may: all but `fork`, `next`, `list` and `print`, and `edit_all`. All rows before
-    /// them and behind them are those of the report from before the command. A window that is
-    /// painted is right again once these rows are, and those behind them moved. `O(1)`.
+    /// replaced, or `edit_all` did; `fork`, `next`, `list` and `print` replace none, and don't count
+    /// here. All rows before them and behind them are those of the report from before it. A window
+    /// that is painted is right again once these rows are, and those behind them moved. `O(1)`.
     pub fn changed(&self) -> Stretch
         ensures { result ≡
             slice_index_or self.now.changed self.now.state.chosen stretches.none }

@@ -49,8 +49,8 @@ pub(crate) fn is_scalar(code: u32) -> bool
     code < 0xD800 || (0xE000 <= code && code <= 0x10_FFFF)
 }
 
-/// Returns whether they are the same ranges in the same order. Those of sets are so exactly where the
-/// sets are the same. `O(n)`.
+/// Returns whether they are the same ranges in the same order. Those of sets are so exactly where
+/// the sets are the same. `O(n)`.
 pub fn is_same(ranges: &[Range], others: &[Range]) -> bool
     ensures { IsTrue result ↔ (ranges.now ≡ others.now) }
 {

@@ -70,7 +70,8 @@ impl<'r, C: Cursor> CapturesMatches<'r, C> {
     pub fn input(&mut self) -> &mut Input<C>
         ensures* writes_back { sem 𝓛 (CapturesLendInput C.row C.Cursor self.entry result) }
         ensures input { result.now ≡ input_of self.old }
-        ensures search { search_by (regex_of self.old).engine result.now ≡ (left_of self.old).search }
+        ensures search { search_by (regex_of self.old).engine result.now
+            ≡ (left_of self.old).search }
     {
         &mut self.input
     }

@@ -30,7 +30,8 @@ impl<'r> Finder<'r> {
     /// No match has come yet.
     pub(super) fn new(re: &'r Regex, cache: Cache) -> Finder<'r>
         requires made { IsCacheOf re.now cache }
-        ensures left { (i : InputState) → left_in result i ≡ matches_from (search_by re.now.engine i) }
+        ensures left { (i : InputState)
+            → left_in result i ≡ matches_from (search_by re.now.engine i) }
         ensures regex { regex_in result ≡ re.now }
     {
         Finder {

@@ -171,7 +171,8 @@ impl Regex {
         &'r self,
         input: Input<C>,
     ) -> Result<FindMatches<'r, C>, MatchError>
-        ensures left { IfOk result (λ m. left_of m ≡ matches_from (search_by self.now.engine input)) }
+        ensures left { IfOk result
+            (λ m. left_of m ≡ matches_from (search_by self.now.engine input)) }
         ensures regex { IfOk result (λ m. regex_of m ≡ self.now) }
         ensures all { IfOk result (λ m. GivesAll self.now (search_by self.now.engine input) m) }
         ensures few { IfOk result (λ m. size (matches_left (left_of m)) < 2 ^ 64) }
