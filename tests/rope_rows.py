@@ -105,7 +105,7 @@ class RopeRow:
             self.refusals.add(self.maker)
             return [] if not answers and not end else [f"{self}: answers after a refusal"]
         skipped = set(map(int, first.split()))
-        if skipped and not (self.may_refuse and self.maker == "builder"):
+        if skipped and not (self.may_refuse and self.maker in ("builder", "slices")):
             return [f"{self}: parts {first} are refused"]
         self.refusals |= {"append_part"} if skipped else set()
         self.text = "".join(part for number, part in enumerate(self.parts) if number not in skipped)

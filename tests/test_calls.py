@@ -103,6 +103,7 @@ def test_all():
         name = f"{len(parts)} parts, {short('|'.join(parts), 30)!r}"
         longer = {"append_part"} if len(text.encode()) > 1968 else set()
         check_row(f"a builder of {name}", RopeRow("builder", parts, ASKED), some | longer)
+        check_row(f"a builder of slices of {name}", RopeRow("slices", parts, ASKED), {"slices", "append_part"} if text else set())
         check_row(f"a rope of {name}", RopeRow("from_chunks", parts, ASKED), {"from_chunks"} if text else set())
     for parts in PARTS[1:]:
         text, name = "".join(parts), f"{short('|'.join(parts), 30)!r}"

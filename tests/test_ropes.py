@@ -72,7 +72,7 @@ def built_texts():
                 ends = [place for place in range(length) if cuts >> place & 1] + [length]
                 parts = [text[start:end] for start, end in zip([0, *ends], ends)]
                 asks = ["cut", "lengths", "same", *(f"places,{idx}" for idx in range(length + 2)), "chunk,0"]
-                yield RopeRow("builder" if cuts % 2 else "from_chunks", parts, asks).row()
+                yield RopeRow(("from_chunks", "builder", "from_chunks", "slices")[cuts % 4], parts, asks).row()
     for maker, parts in itertools.product(("builder", "from_chunks"), (["", "", ""], ["", "a\r", "", "\nb", ""])):
         yield RopeRow(maker, parts, ["cut", "text", "lengths", "chunk,2"]).row()
     yield "from_chunks  cut lengths", ";0;0 0 0 1;"

@@ -10,7 +10,7 @@
 //! |---|---|
 //! | `tree` | the leaves of a tree, and what is asked of the slice of it (`slices`) |
 //! | `node` | the leaves of a tree, and what is made of it (`trees`) |
-//! | `from_str`, `from_chunks`, `from_reader`, `builder` | parts of a text, and what is asked of the rope of them (`ropes`) |
+//! | `from_str`, `from_chunks`, `from_reader`, `builder`, `slices` | parts of a text, and what is asked of the rope of them (`ropes`) |
 //! | `pair` | the leaves of two trees, which are compared |
 //! | `indices` | a text, and pairs of an index and a number of leading bytes (`indices`) |
 #![tactic(auto)]

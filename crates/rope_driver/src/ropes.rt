@@ -17,12 +17,20 @@ struct Ropes {
     kept: Vec<Rope>,
 }
 
+/// Appends a part to a builder, as a text or as the slice of a rope.
+fn append(alloc: Global, maker: &str, builder: &mut RopeBuilder, part: &str) -> Result<(), Error> {
+    match maker {
+        "slices" => builder.append_slice(Rope::from_str(alloc, part)?.slice(..)),
+        _ => builder.append(part),
+    }
+}
+
 /// A rope of parts that are appended to a builder. The number of each part that is refused is
 /// written.
-fn built(alloc: Global, parts: &[String], out: &mut String) -> Result<Rope, Error> {
+fn built(alloc: Global, maker: &str, parts: &[String], out: &mut String) -> Result<Rope, Error> {
     let mut builder = RopeBuilder::new(alloc);
     for (number, part) in parts.iter().enumerate() {
-        if builder.append(part).is_err() {
+        if append(alloc, maker, &mut builder, part).is_err() {
             write!(out, "{number} ")?;
         }
     }
@@ -46,7 +54,7 @@ fn made(alloc: Global, maker: &str, parts: &[String], out: &mut String) -> Resul
         Some(first) => first.as_str(),
     };
     match maker {
-        "builder" => built(alloc, parts, out),
+        "builder" | "slices" => built(alloc, maker, parts, out),
         "from_chunks" => Rope::from_chunks(alloc, parts.iter().map(|part| part.as_str())),
         "from_reader" => read(alloc, first.as_bytes()),
         _ => Rope::from_str(alloc, first),

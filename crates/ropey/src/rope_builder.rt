@@ -1,17 +1,18 @@
 //! Building a rope from a text that comes in parts.
 
-ghost use Rattle.std.specs.Prelude.{◌≡◌, ℕ, ◌+◌, ◌^◌, ◌<◌, ◌≤◌, ◌⊎◌, ◌↔◌, [], ◌++◌, length, take, Err, OnErr, OnOk, IfOk, IfErr};
+ghost use Rattle.std.specs.Prelude.{◌≡◌, ℕ, ◌+◌, ◌^◌, ◌<◌, ◌≤◌, ◌⊎◌, ◌↔◌, [], ◌++◌, length, Err, OnErr, OnOk, IfOk, IfErr};
 ghost use Rattle.std.specs.Str.{chars};
 ghost use Rattle.str_indices.specs.Text.{byte_len};
 ghost use Rattle.ropey_walk.specs.Slices.{slice_text};
 ghost use Rattle.ropey.specs.Chunks.{AreFull, text_of};
 
 use crate::rope::{MAX_TEXT_BYTES, Rope};
-use ropey_tree::cutter::Cutter;
+use ropey_tree::cutter::{Cutter, Marked};
 use ropey_tree::error::Error;
 use ropey_walk::slice::RopeSlice;
-use std::alloc::Global;
+use std::alloc::{AllocError, Global};
 use std::marker::Model;
+use std::mem;
 
 /// A rope that is built of a text that comes in parts. The text lies in leaves but for its last
 /// part that fills none. Contracts see the text so far. It keeps its allocator.
@@ -31,6 +32,17 @@ impl Model for RopeBuilder {
     ghost view = { λ builder. builder.text };
 
     ghost invariant = { λ builder. (builder.len ≡ byte_len builder.text) × (builder.len < 2 ^ 63) };
+}
+
+/// Appends the text of a slice, chunk by chunk.
+fn append_chunks(text: &mut Marked, slice: RopeSlice<'_>) -> Result<(), AllocError>
+    ensures text { OnOk result (text.new.text ≡ text.old.text ++ slice_text slice.entry) }
+    ensures mark { text.new.mark ≡ text.old.mark }
+{
+    for chunk in slice.chunks() {
+        text.append(chunk)?;
+    }
+    Ok(())
 }
 
 impl RopeBuilder {
@@ -64,24 +76,32 @@ impl RopeBuilder {
 
     /// Appends the text of a slice, chunk by chunk. `O(m)` for m bytes.
     ///
-    /// Errors: `Size` where there would be more than `isize::MAX` bytes, which leaves the builder
-    /// as it was; `Memory`, after which some of the slice's first chunks may be appended.
+    /// Errors, which leave the builder as it was: `Size` where there would be more than
+    /// `isize::MAX` bytes, before anything is allocated; `Memory`.
     pub fn append_slice(&mut self, slice: RopeSlice<'_>) -> Result<(), Error>
         ensures text { OnOk result (self.new ≡ self.old ++ slice_text slice.entry) }
-        ensures front { OnErr result ((len : ℕ) ×
-            (self.new ≡ self.old ++ take len (slice_text slice.entry))) }
-        ensures kept { result ≡ Err Error.Size → self.new ≡ self.old }
+        ensures kept { OnErr result (self.new ≡ self.old) }
         ensures size { (result ≡ Err Error.Size) ↔
             (2 ^ 63 ≤ byte_len self.old + byte_len (slice_text slice.entry)) }
         ensures refused { IfErr result (λ error. (error ≡ Error.Size) ⊎ (error ≡ Error.Memory)) }
     {
-        if slice.len_bytes() > MAX_TEXT_BYTES - self.len {
+        let len = slice.len_bytes();
+        if len > MAX_TEXT_BYTES - self.len {
             return Err(Error::Size);
         }
-        for chunk in slice.chunks() {
-            self.append(chunk)?;
+        let nothing = Cutter::new(self.text.allocator());
+        let mut text = mem::replace(&mut self.text, nothing).marked();
+        match append_chunks(&mut text, slice) {
+            Ok(()) => {
+                self.text = text.whole();
+                self.len += len;
+                Ok(())
+            }
+            Err(_) => {
+                self.text = text.back();
+                Err(Error::Memory)
+            }
         }
-        Ok(())
     }
 
     /// Returns the length in bytes of the text so far. `O(1)`.

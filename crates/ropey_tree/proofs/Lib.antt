@@ -12,6 +12,7 @@ pub mod Packing
 pub mod Joining
 pub mod Splitting
 pub mod Levels
+mod Marks
 pub mod Ends
 pub mod OverSeams
 pub mod Editing

@@ -11,3 +11,8 @@ pub record IsCutBefore (rest : List ℕ) (leaves : List NodeView) : Type 0 where
   pub cut : IsCutting (all_pieces leaves)
   pub full : All IsFull (all_pieces leaves)
   pub whole : (next : List ℕ) → cuts_cr_lf (concat (all_pieces leaves)) (rest ++ next) ≡ false
+
+-- a text that goes on, and what it was when a mark was set
+pub record MarkedText : Type 0 where
+  pub text : List ℕ
+  pub mark : List ℕ

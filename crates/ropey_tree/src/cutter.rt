@@ -1,9 +1,10 @@
 //! Cutting a text into leaves.
 
-ghost use Rattle.std.specs.Prelude.{◌≡◌, ◌≤◌, ◌++◌, [], IfOk, OnOk, OnErr};
+ghost use Rattle.std.specs.Prelude.{◌≡◌, ◌≤◌, ◌++◌, [], length, take, IfOk, OnOk, OnErr};
 ghost use Rattle.std.specs.List.{concat};
 ghost use Rattle.std.specs.Str.{chars};
 ghost use Rattle.str_indices.specs.Text.{byte_len};
+ghost use Rattle.ropey_tree.specs.Cutter.{IsCutBefore};
 ghost use Rattle.ropey_tree.specs.Cutting.{AreFull, IsCutting, IsPiece};
 ghost use Rattle.ropey_tree.specs.Nodes.{AreNodes, all_pieces, leaf_view};
 ghost use Rattle.ropey_tree.specs.Siblings.{views};
@@ -62,25 +63,21 @@ impl Cutter {
         ensures text { OnOk result (self.new ≡ self.old ++ chars text.now) }
         ensures kept { OnErr result (self.new ≡ self.old) }
     {
-        if text.len() < self.rest.room() {
-            self.rest.fill(text);
-            return Ok(());
+        append_leaves(self.alloc, &mut self.leaves, &mut self.rest, text)
+    }
+
+    /// The cutter with a mark behind its text.
+    pub fn marked(self) -> Marked
+        ensures text { result.text ≡ self }
+        ensures mark { result.mark ≡ self }
+    {
+        Marked {
+            mark: self.leaves.len(),
+            rest_at_mark: self.rest.copy(),
+            alloc: self.alloc,
+            leaves: self.leaves,
+            rest: self.rest,
         }
-        // A refusal is to leave everything as it was, so what is made lies aside until all is
-        // there.
-        let mut made = Vec::new(self.alloc);
-        let mut rest = self.rest.copy();
-        let end = rest.fill(text);
-        let mut left = &text[end..];
-        while !left.is_empty() {
-            made.push(leaf_node(self.alloc, rest)?)?;
-            rest = LeafBuffer::new();
-            let end = rest.fill(left);
-            left = &left[end..];
-        }
-        self.leaves.append(&mut made)?;
-        self.rest = rest;
-        Ok(())
     }
 
     /// The leaves of the text. Want of memory drops the cutter.
@@ -97,6 +94,109 @@ impl Cutter {
         leaves.push(leaf_node(self.alloc, self.rest)?)?;
         Ok(leaves)
     }
+}
+
+/// A cutter that can let go of all that came since a mark was set. Contracts see the text so far and
+/// the text up to the mark.
+#[derive(Drop)]
+pub struct Marked {
+    alloc: Global,
+    leaves: Vec<Rc<Node>>,
+    rest: LeafBuffer,
+    // How many leaves there were at the mark, and what stood after them.
+    mark: usize,
+    rest_at_mark: LeafBuffer,
+}
+
+impl Model for Marked {
+    ghost use Rattle.std.specs.Prelude.{◌≤◌, ◌++◌, length, take};
+    ghost use Rattle.std.specs.List.{concat};
+    ghost use Rattle.ropey_tree.specs.Nodes.{all_pieces};
+    ghost use Rattle.ropey_tree.specs.Siblings.{views};
+    ghost use Rattle.ropey_tree.specs.Cutter.{IsCutBefore, MarkedText};
+
+    ghost Value = { MarkedText };
+
+    ghost view = { λ m. record {
+      text = concat (all_pieces (views m.leaves.items)) ++ m.rest;
+      mark = concat (all_pieces (take m.mark (views m.leaves.items))) ++ m.rest_at_mark;
+    } };
+
+    ghost invariant = { λ m. IsCutBefore m.rest (views m.leaves.items) ×
+        IsCutBefore m.rest_at_mark (take m.mark (views m.leaves.items)) ×
+        (m.mark ≤ length m.leaves.items) };
+}
+
+impl Marked {
+    /// Appends a text. Want of memory leaves everything as it was.
+    pub fn append(&mut self, text: &str) -> Result<(), AllocError>
+        ensures text { OnOk result (self.new.text ≡ self.old.text ++ chars text.now) }
+        ensures kept { OnErr result (self.new.text ≡ self.old.text) }
+        ensures mark { self.new.mark ≡ self.old.mark }
+    {
+        append_leaves(self.alloc, &mut self.leaves, &mut self.rest, text)
+    }
+
+    /// The cutter of the whole text.
+    pub fn whole(self) -> Cutter
+        ensures { result ≡ self.text }
+    {
+        Cutter {
+            alloc: self.alloc,
+            leaves: self.leaves,
+            rest: self.rest,
+        }
+    }
+
+    /// The cutter as it was when the mark was set: what came since then is dropped.
+    pub fn back(self) -> Cutter
+        ensures { result ≡ self.mark }
+    {
+        let mut leaves = self.leaves;
+        leaves.truncate(self.mark);
+        Cutter {
+            alloc: self.alloc,
+            leaves,
+            rest: self.rest_at_mark,
+        }
+    }
+}
+
+/// Appends a text to what stands in leaves and after them. Want of memory leaves both as they were;
+/// a text that doesn't fill a leaf takes none.
+fn append_leaves(
+    alloc: Global,
+    leaves: &mut Vec<Rc<Node>>,
+    rest: &mut LeafBuffer,
+    text: &str,
+) -> Result<(), AllocError>
+    requires { IsCutBefore rest.old (views leaves.old.items) }
+    ensures text { OnOk result (
+        concat (all_pieces (views leaves.new.items)) ++ rest.new ≡
+        (concat (all_pieces (views leaves.old.items)) ++ rest.old) ++ chars text.now) }
+    ensures cut { IsCutBefore rest.new (views leaves.new.items) }
+    ensures front { take (length leaves.old.items) leaves.new.items ≡ leaves.old.items }
+    ensures longer { length leaves.old.items ≤ length leaves.new.items }
+    ensures kept { OnErr result ((leaves.new.items ≡ leaves.old.items) × (rest.new ≡ rest.old)) }
+{
+    if text.len() < rest.room() {
+        rest.fill(text);
+        return Ok(());
+    }
+    // A refusal is to leave everything as it was, so what is made lies aside until all is there.
+    let mut made = Vec::new(alloc);
+    let mut filled = rest.copy();
+    let end = filled.fill(text);
+    let mut left = &text[end..];
+    while !left.is_empty() {
+        made.push(leaf_node(alloc, filled)?)?;
+        filled = LeafBuffer::new();
+        let end = filled.fill(left);
+        left = &left[end..];
+    }
+    leaves.append(&mut made)?;
+    *rest = filled;
+    Ok(())
 }
 
 /// A leaf of what was gathered.

@@ -6,11 +6,11 @@ use Rattle.std.specs.Str.{chars}
 use Rattle.ropey_tree.specs.Nodes.{all_pieces}
 use Rattle.ropey_tree.specs.Siblings.{views}
 use Rattle.ropey_tree.proofs.Filling.{IsFilling}
-use Rattle.ropey_tree.proofs.cutter.Cutter.append.Given as goal
+use Rattle.ropey_tree.proofs.cutter.append_leaves.Given as goal
 
 abbrev pub invariant-loop-left : goal.invariant-loop-left
 invariant-loop-left l = shadow (Utf8 l.left)
-    × IsFilling ((concat (all_pieces (views l.self-inside.leaves.items)) ++ l.self-inside.rest) ++ chars l.text) (chars l.left) l.rest (views l.self-inside.leaves.items ++ views l.made.items)
+    × IsFilling ((concat (all_pieces (views l.leaves.items)) ++ l.rest) ++ chars l.text) (chars l.left) l.filled (views l.leaves.items ++ views l.made.items)
 
 abbrev pub decreases-loop-left : goal.decreases-loop-left
 decreases-loop-left l = length l.left
