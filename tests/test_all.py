@@ -1,6 +1,7 @@
 """What searches for all matches find, of one pattern or of several, on bin/search-driver: of all walks the greatest
 end, then the least start, then the least pattern, in haystacks that lie in pieces, and perhaps in slices and spans,
-anchored, and under settings.
+anchored, and under settings; and what comes next behind each. The step of all walks, the PikeVM and a `Regex` tell it
+alike.
 
 Its answers are those that stand here, and those of the model of tests/walks.py to cases at random and to all spans of
 short haystacks.
@@ -8,7 +9,7 @@ short haystacks.
 import itertools
 import random
 
-from driver import WANT, Case, Settings, answer_to, check_memory, line_of, problems, written
+from driver import PROGRAM_WANT, WANT, Case, Settings, answer_to, check_memory, line_of, problems, written
 from harness import short, test
 from memory import counted
 from random_patterns import Maker, character
@@ -70,6 +71,23 @@ VECTORS = [
     (["(a)(b)?|b(c)", "[ab]+"], "abc", "0 1 3"),
 ]
 
+# What is found one after the other.
+LISTS = [
+    (["a", "ab"], "abab", "1 2 4"),
+    (["a|ab"], "abx", "0 0 2"),
+    (["a+"], "aaba", "0 3 4"),
+    (["x*"], "せ", "0 3 3"),
+    (["x*"], "xx", "0 0 2"),
+    (["", "b"], "ab", "1 1 2"),
+    (["a", "ab"], "ab", "0 0 1", ((0, 1), (0, 1), ANYWHERE)),
+    (["a"], "aab", "0 0 1,0 1 2", ((0, 3), (0, 3), AT_START)),
+    (["a*?", "b"], "aab", "0 0 2,1 2 3", ((0, 3), (0, 3), AT_START)),
+    (["a*", "b"], "aab", "0 0 2,0 3 3", ((0, 3), (0, 3), FIRST)),
+    (["[ab]"], "ab", "0 0 1,0 1 2", ((0, 2), (0, 2), AT_START)),
+    (["b"], "ab", "", ((0, 2), (0, 1), ANYWHERE)),
+    ([], "ab", ""),
+]
+
 SMALL_HAYSTACKS = ("", "aab", "abab", "éa", "b\na")
 A, B = character("a"), character("b")
 SMALL_TREES = (
@@ -87,6 +105,15 @@ def about(patterns, haystack, answer, cut=0, asked=None, inside=False, settings=
     fields = [texts, *settings.fields(), cut, haystack.hex(), *slice_, *span, anchored, int(inside), int(earliest), int(again)]
     name = f"{patterns} in {short(haystack)}, cut by {cut}, {asked}, inside {inside}, earliest {earliest}, {settings}"
     return Case(name, line_of("all", *fields), answer)
+
+
+def about_list(patterns, haystack, answer, cut=0, asked=None, inside=False, settings=Settings()):
+    """A case of all that is found, one match behind the other."""
+    slice_, span, anchored = asked or ((None, None), (None, None), None)
+    texts = ".".join(map(written, patterns)) if patterns else "-"
+    fields = [texts, *settings.fields(), cut, haystack.hex(), *slice_, *span, anchored, int(inside)]
+    name = f"all of {patterns} in {short(haystack)}, cut by {cut}, {asked}, inside {inside}, {settings}"
+    return Case(name, line_of("best", *fields), answer)
 
 
 def model_of(trees, haystack, asked, inside, line_end):
@@ -131,6 +158,26 @@ def at_random(count=RANDOM_CASES):
         yield case_of(trees, haystack, chance.choice((0, 1, 2, 3)), asked, *settings, chance.random() < 0.25)
 
 
+def lists():
+    for size, (patterns, haystack, answer, *asked) in itertools.product(SIZES, LISTS):
+        yield about_list(patterns, haystack.encode(), answer, size, *asked)
+
+
+def lists_at_random(count=RANDOM_CASES):
+    chance = random.Random(37)
+    maker = Maker(chance, most_nodes=20)
+    for _ in range(count):
+        trees = tuple(maker.tree() for _ in range(chance.choice((1, 1, 2, 3, 4))))
+        haystack = "".join(map(maker.haystack, trees[:2])).encode()[:10]
+        slice_, span, is_tied = asked_at_random(chance, len(haystack))
+        asked = slice_, span, chance.randint(AT_START, len(trees) + FIRST) if is_tied else ANYWHERE
+        inside, line_end = chance.random() < 0.3, chance.choice([b"\n", b"\n", b"a", b"\x81"])
+        model, pattern = model_of(trees, haystack, asked, inside, line_end)
+        answer = ",".join(" ".join(map(str, found)) for found in model.all_told(pattern))
+        patterns = [spelled(tree) for tree in trees]
+        yield about_list(patterns, haystack, answer, chance.choice(SIZES), asked, inside, Settings(line_end=line_end[0]))
+
+
 def spans():
     sizes = itertools.cycle((0, 1, 2))
     for text, trees in itertools.product(SMALL_HAYSTACKS, SMALL_TREES):
@@ -151,7 +198,10 @@ def again_with_one_cache():
 
 def test_all():
     test("a search for all matches with a cache that served before asks for no memory", again_with_one_cache())
-    check_memory(about(["a|ab", "(b)+"], b"abb", "1 1 3", 1), [WANT])
+    check_memory(about(["a|ab", "(b)+"], b"abb", "1 1 3", 1), [WANT, PROGRAM_WANT])
+    check_memory(about_list(["a", "(b)+?"], b"ab", "1 1 2", 1), [WANT, PROGRAM_WANT])
     test("searches for all matches answer as they should", problems(vectors()))
     test("searches for all matches at random answer as the model", problems(at_random()))
+    test("all that is found where all matches are wanted is as it should be", problems(lists()))
+    test("and at random it is as the model has it", problems(lists_at_random()))
     test("searches for all matches in all spans of short haystacks answer as the model", problems(spans()))

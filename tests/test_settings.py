@@ -34,6 +34,20 @@ VECTORS = [
     (["x*"], "せ", "utf8_empty=0", "0-0 1-1 2-2 3-3"),
     (["x*", "せ"], "せ", "utf8_empty=0", "0:0-0 0:1-1 0:2-2 0:3-3"),
     (["^b"], "a;b", "line_terminator=59", "2-3", LINES),
+    # Of all matches the greatest end, of which the whole match alone is noted.
+    (["a", "ab"], "ab", "match_kind=all", "1:0-2"),
+    (["a", "ab"], "ab", "match_kind=leftmost", "0:0-1"),
+    (["a", "ab"], "ab", "match_kind=all/hybrid=0", "1:0-2"),
+    (["a", "ab"], "ab", "match_kind=all/match_kind=leftmost", "0:0-1"),
+    (["ab", "ab"], "ab", "match_kind=all", "0:0-2"),
+    (["b", "abb"], "abab", "match_kind=all", "0:3-4"),
+    (["(a)b"], "ab", "match_kind=all", "0-2,-"),
+    (["(a)b"], "ab", "match_kind=all.which_captures=implicit", "0-2"),
+    (["ab"], "abab", "match_kind=all", "2-4"),
+    (["x*"], "せ", "match_kind=all", "3-3"),
+    (["a+?"], "aab", "match_kind=all", "0-2"),
+    (["^b"], "a;b", "match_kind=all.line_terminator=59", "2-3", LINES),
+    (["ab|b"], "ab", "match_kind=all.prefilter=" + written("b"), "0-2"),
     (["a$"], "a;b", "line_terminator=59", "0-1", LINES),
     (["^b"], "a\nb", "line_terminator=59", "", LINES),
     (["^b"], "a;b", "line_terminator=59", ""),
@@ -103,10 +117,13 @@ COUNTS = [
     (["ab"], "auto_prefilter=0.prefilter=" + written("b"), "1 1 2 false"),
     (["ab|b"], "auto_prefilter=0.prefilter=" + written("b"), "1 1 2 false"),
     (["ab|b"], "prefilter=" + written("b"), "1 1 2 false"),
+    (["a"], "match_kind=all", "1 1 2 false"),
+    (["a"], "match_kind=all.nfa_size_limit=199", too_large(199)),
 ]
 
 # What the getters tell, in their order, and other values of each setting, with what they tell of these.
 GETTERS = {
+    "match_kind": ("LeftmostFirst", [("all", "All"), ("leftmost", "LeftmostFirst")]),
     "utf8_empty": ("true", [("0", "false"), ("1", "true")]),
     "auto_prefilter": ("true", [("0", "false"), ("1", "true")]),
     "prefilter": ("false", [(written("b"), "true"), ("none", "false")]),
@@ -173,6 +190,11 @@ def settings_at_random(chance):
     return inside, line_end, which == "all", ".".join(filter(None, given))
 
 
+def whole_of(model, pattern, start, end):
+    """A match of which the whole match alone is noted, as its pattern and the spans of its groups."""
+    return pattern, [(start, end)] + [None] * (len(model.slots[pattern]) - 1)
+
+
 def at_random(count=RANDOM_CASES):
     chance = random.Random(43)
     maker = Maker(chance, most_nodes=30)
@@ -183,7 +205,11 @@ def at_random(count=RANDOM_CASES):
         anchored = chance.randint(AT_START, len(trees) + FIRST) if is_tied else ANYWHERE
         inside, line_end, all_noted, given = settings_at_random(chance)
         pattern = anchored - FIRST if anchored >= FIRST else None
-        matches = Search(trees, haystack, slice_, span, is_tied, inside, line_end, pattern).told()
+        model = Search(trees, haystack, slice_, span, is_tied, inside, line_end, pattern)
+        matches = model.told()
+        if chance.random() < 0.3:
+            given += ".match_kind=all"
+            matches = [whole_of(model, *found) for found in model.all_told(pattern)]
         noted = ((number, groups if all_noted else groups[:1]) for number, groups in matches)
         answer = " ".join((f"{number}:" if len(trees) > 1 else "") + listed([groups]) for number, groups in noted)
         asked = slice_, span, anchored

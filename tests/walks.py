@@ -390,6 +390,19 @@ class Search:
                 return dict(walk[1])
         return None
 
+    def all_told(self, pattern=None):
+        """Where all matches are wanted, these one after the other, as `told_from` goes on, each as its pattern, its
+        start and its end."""
+        found, start, last = [], self.span[0], None
+        while True:
+            best = self.find_all(start, pattern)
+            if best and best[1:] == (last, last):
+                best = self.find_all(start + 1, pattern)
+            if not best:
+                return found
+            found.append(best)
+            start = last = best[2]
+
     def matches(self):
         """All matches, each as the spans of its groups, None for one that is absent."""
         return self.matches_from(self.span[0])

@@ -77,11 +77,11 @@ module _ (p : ByteProgram) (s : Search) where
   pub all_next : (last : Option ℕ) (whole : Span) (part : Part) → s.start ≡ whole.start → s.end ≡ whole.end → IsPart p s part → HoldsNext p s last whole
   all_next last whole part start end is = record {
     holds = all_holds whole start end (omega (arith, start, end, is.holds.behind, is.holds.ordered, is.holds.before));
-    comes = λ out comes. subst (λ x. ComesNext p x last out) (same_search whole start end) comes;
+    comes = λ out comes. subst (λ x. ComesNext (Finds p) x last out) (same_search whole start end) comes;
   }
 
   module _ (one : OneLaw) (inside : InsideLaw) (last : Option ℕ) (part : Part) (is : IsPart p s part) (none : (t : Outcome Notes) → Finds p (within s part.span) (Some t) → last ≡ Some (end_of t) → ⊥) where
-    next_comes : (out : Option (Outcome Notes)) → ComesNext p (within s part.span) last out → ComesNext p s last out
+    next_comes : (out : Option (Outcome Notes)) → ComesNext (Finds p) (within s part.span) last out → ComesNext (Finds p) s last out
     next_comes out (nothing finds) = nothing (is.holds.finds None finds)
     next_comes out (at_once {t = t} finds not) = at_once (is.holds.finds (Some t) finds) not
     next_comes out (passed {t = t} finds empty further) = absurd (none t finds empty.1)

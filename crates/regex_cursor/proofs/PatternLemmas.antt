@@ -1,5 +1,5 @@
 -- What a regex of a pattern is, in words of the pattern's tree.
-use Rattle.std.proofs.Common.{◌≡◌, ℕ, ◌≤◌, inl, inr, Bool, false, true, List, [], ◌∷◌, length, Option, Some, refl, ap, subst, ◌∙◌, arith}
+use Rattle.std.proofs.Common.{◌≡◌, ℕ, ◌≤◌, inl, inr, Bool, false, true, List, [], ◌∷◌, length, Option, Some, refl, sym, ap, subst, ◌∙◌, arith}
 use Rattle.std.specs.Prelude.{option_map}
 use Rattle.std.proofs.lemmas.Bool.{cases_lt}
 use Rattle.std.proofs.lemmas.List.Elements.{All-cons, All-head, All-nil}
@@ -8,6 +8,7 @@ use Rattle.rx_util.specs.declared.search.Anchored.TheVariants.{No}
 use Rattle.rx_input.specs.Inputs.{Asked, InputState}
 use Rattle.rx_walks.specs.Finds.{Search}
 use Rattle.rx_walks.specs.Programs.{Program}
+use Rattle.rx_walks.specs.Iterating.{Finding}
 use Rattle.rx_walks.specs.Looks.{Look}
 use Rattle.rx_sets.specs.Sets.{Range}
 use Rattle.rx_program.specs.Code.{program_of}
@@ -20,6 +21,8 @@ use Rattle.rx_steps.specs.Searching.{anchoring_of}
 use Rattle.rx_engine.specs.Engines.{by_text, by_weight, memory, nesting, no_memory, outside, too_large, too_long}
 use Rattle.unicode.specs.Perl.{is_word_char}
 use Rattle.rx_utf8.specs.Automata.{is_in}
+use Rattle.rx_chunk.specs.Engines.{EngineFinds, Finds}
+use Rattle.rx_chunk.proofs.KindLaws.{finds_first}
 use Rattle.regex_cursor.specs.Patterns.{FoundMatch, ProgramFinds, AsksFrom, TreeFinds, TreeFindsIn, answer_slots, match_of, pattern_weight, program_for, search_from, weight_limit}
 use Rattle.regex_cursor.specs.PatternLaws.{HasNotedGroups, SaysOfText}
 use Rattle.regex_cursor.specs.Regexes.{RegexView, IsRegexOf, IsRefusedAsRegex, TellsMatch, TellsSlots, search_by}
@@ -57,19 +60,23 @@ search-is re content from input utf8 asks =
 pub program-is : (text : List ℕ) (re : RegexView) → (built : IsRegexOf text re) → characters_of re.engine.program ≡ program_for built.tree
 program-is text re built = built.built.engine.of_trees.program ∙ ap (λ t. program_of (built.tree ∷ []) t) built.built.engine.line_terminator
 
--- what its program finds for an input is what the tree has there
+-- it searches for the leftmost match: it finds what its program does
+first-finds : (text : List ℕ) (re : RegexView) → IsRegexOf text re → (s : Search) (out : Option FoundMatch) → EngineFinds re.engine s out → Finds re.engine.program s out
+first-finds text re built s out finds = subst (λ (finding : Finding). finding s out) (sym (finds_first re.engine built.built.engine.match_kind)) finds
+
+-- what it finds for an input is what the tree has there
 tree-finds : (text : List ℕ) (re : RegexView) → (built : IsRegexOf text re) → (content : List ℕ) (from : ℕ) (input : InputState) (out : Option FoundMatch) → AsksFrom content from input
-    → ProgramFinds is_in is_word_char (characters_of re.engine.program) (search_by re.engine input) out → TreeFinds built.tree content from out
+    → EngineFinds re.engine (search_by re.engine input) out → TreeFinds built.tree content from out
 tree-finds text re built content from input out asks finds =
     let P : Program Look (List Range) → Type 0 = λ p. ProgramFinds is_in is_word_char p (search_by re.engine input) out in
     let Q : Search → Type 0 = λ s. ProgramFinds is_in is_word_char (program_for built.tree) s out in
-    subst Q (search-is re content from input built.built.engine.utf8_empty asks) (subst P (program-is text re built) finds)
+    subst Q (search-is re content from input built.built.engine.utf8_empty asks) (subst P (program-is text re built) (first-finds text re built (search_by re.engine input) out finds))
 
 -- the same of whatever an input asks for
-asked-finds : (text : List ℕ) (re : RegexView) → (built : IsRegexOf text re) → (s : Search) (out : Option FoundMatch) → ProgramFinds is_in is_word_char (characters_of re.engine.program) s out → TreeFindsIn built.tree s out
+asked-finds : (text : List ℕ) (re : RegexView) → (built : IsRegexOf text re) → (s : Search) (out : Option FoundMatch) → EngineFinds re.engine s out → TreeFindsIn built.tree s out
 asked-finds text re built s out finds =
     let P : Program Look (List Range) → Type 0 = λ p. ProgramFinds is_in is_word_char p s out in
-    subst P (program-is text re built) finds
+    subst P (program-is text re built) (first-finds text re built s out finds)
 
 pub tells-of : (text : List ℕ) (re : RegexView) → (built : IsRegexOf text re) → (input : InputState) (found : Option Found) → input.asked.earliest ≡ false → TellsMatch re.engine input found
     → (out : Option FoundMatch) × TreeFindsIn built.tree (search_by re.engine input) out × (found ≡ option_map match_of out)

@@ -15,16 +15,19 @@ use Rattle.rx_input.specs.Searchers.{EndsInside}
 use Rattle.rx_walks.specs.Looks as walks
 use Rattle.rx_walks.specs.Programs.{Program, Notes, slot_of}
 use Rattle.rx_walks.specs.Finds.{Search}
-use Rattle.rx_walks.specs.Iterating.{nothing}
+use Rattle.rx_walks.specs.Machines.{Outcome}
+use Rattle.rx_walks.specs.Iterating.{Finding, nothing}
+use Rattle.rx_util.specs.declared.search.MatchKind.TheVariants.{LeftmostFirst}
 use Rattle.rx_walks.specs.Laws.{FindsAtMostOne, FindsExist, FindsLieInside, FindsStayInCutSpans}
 use Rattle.rx_program.specs.Programs.{ByteProgram, characters_of}
 use Rattle.rx_steps.specs.Threads.{Slots}
-use Rattle.rx_steps.specs.Searching.{IsAnswer, anchoring_of, answer_slots, search_of, slots_from}
+use Rattle.rx_steps.specs.Searching.{anchoring_of, answer_slots, search_of, slots_from}
 use Rattle.rx_literals.specs.Literals.{FindsLiteral, literal_match, within}
 use Rattle.rx_engine.specs.Engines.{Engine}
-use Rattle.rx_chunk.specs.Engines.{Finds, IsFound, TellsMatch, TellsSlots, TellsWhether}
+use Rattle.rx_chunk.specs.Engines.{EngineFinds, Finds, IsAnswer, IsFound, TellsMatch, TellsSlots, TellsWhether}
+use Rattle.rx_chunk.proofs.KindLaws.{finds_first}
 use Rattle.rx_chunk.specs.Searches.{TellsWhole}
-use Rattle.rx_chunk.specs.Iterating.{IsFoundNext, IsNextAnswer}
+use Rattle.rx_chunk.specs.Iterating.{ComesNext, IsFoundNext, IsNextAnswer}
 use Rattle.regex_cursor.specs.declared.engines.meta.left.Part.{Part}
 use Rattle.regex_cursor.specs.Strategies.{HoldsFind, HoldsNext, IsPart, IsNextLeft}
 
@@ -40,6 +43,16 @@ InsideLaw = (member : List Range → ℕ → Bool) (is_word : ℕ → Bool) (c :
 
 abbrev pub CutLaw : Type 0
 CutLaw = (member : List Range → ℕ → Bool) (is_word : ℕ → Bool) (c : Program walks.Look (List Range)) → FindsStayInCutSpans member is_word c
+
+-- ---- engines for the leftmost match
+
+-- so is each engine that these proofs are about: it finds what its program does
+abbrev pub IsFirst : Engine → Type 0
+IsFirst e = e.match_kind ≡ LeftmostFirst
+
+-- what is told by its program is told by it
+pub by_engine : (e : Engine) → IsFirst e → (P : Finding → Type 0) → P (Finds e.program) → P (EngineFinds e)
+by_engine e first P told = subst P (finds_first e first) told
 
 -- ---- the input
 
@@ -81,98 +94,117 @@ whole_is_span p utf8_empty i j part whole holds asked is =
 
 -- ---- what is found
 
-module _ (p : ByteProgram) (s : Search) (part : Span) (holds : HoldsFind p s part) where
-  pub whole_answer : (pattern : Option ℕ) (slots : Slots) → IsAnswer p (within s part) pattern slots → IsAnswer p s pattern slots
-  whole_answer pattern slots answer = record { found = answer.found; finds = holds.finds answer.found answer.finds; pattern_is = answer.pattern_is; slots_are = answer.slots_are }
+module _ (e : Engine) (first : IsFirst e) (s : Search) (part : Span) (holds : HoldsFind e.program s part) where
+  finds_there : (out : Option (Outcome Notes)) → EngineFinds e (within s part) out → EngineFinds e s out
+  finds_there = by_engine e first (λ finding. (out : Option (Outcome Notes)) → finding (within s part) out → finding s out) holds.finds
 
-  pub whole_found : (found : Option Found) → IsFound p (within s part) found → IsFound p s found
-  whole_found found is = (is.0, holds.finds is.0 is.1, is.2)
+  pub whole_answer : (pattern : Option ℕ) (slots : Slots) → IsAnswer (EngineFinds e) (within s part) pattern slots → IsAnswer (EngineFinds e) s pattern slots
+  whole_answer pattern slots answer = record { found = answer.found; finds = finds_there answer.found answer.finds; pattern_is = answer.pattern_is; slots_are = answer.slots_are }
 
-  pub whole_whether : (is_there : Bool) → TellsWhether p (within s part) is_there → TellsWhether p s is_there
-  whole_whether is_there told = (told.0, holds.finds told.0 told.1, told.2)
+  pub whole_found : (found : Option Found) → IsFound (EngineFinds e) (within s part) found → IsFound (EngineFinds e) s found
+  whole_found found is = (is.0, finds_there is.0 is.1, is.2)
+
+  pub whole_whether : (is_there : Bool) → TellsWhether (EngineFinds e) (within s part) is_there → TellsWhether (EngineFinds e) s is_there
+  whole_whether is_there told = (told.0, finds_there told.0 told.1, told.2)
 
   -- of an input whose span is cut to the part it is told what is told of the whole one
-  pub whole_match : (utf8_empty : Bool) (i k : InputState) (found : Option Found) → k.asked ≡ record i.asked { span = part }
-      → search_of utf8_empty k ≡ within s part → TellsMatch k.asked.earliest p (search_of utf8_empty k) found → TellsMatch i.asked.earliest p s found
-  whole_match utf8_empty i k found asked search tells =
-      let told : TellsMatch i.asked.earliest p (within s part) found = subst (λ x. TellsMatch i.asked.earliest p x found) search (subst (λ (a : Asked). TellsMatch a.earliest p (search_of utf8_empty k) found) asked tells) in
-      record { whether = whole_whether (is_some found) told.whether; exact = λ e. whole_found found (told.exact e) }
+  pub whole_match : (i k : InputState) (found : Option Found) → k.asked ≡ record i.asked { span = part }
+      → search_of e.utf8_empty k ≡ within s part → TellsMatch k.asked.earliest (EngineFinds e) (search_of e.utf8_empty k) found → TellsMatch i.asked.earliest (EngineFinds e) s found
+  whole_match i k found asked search tells =
+      let told : TellsMatch i.asked.earliest (EngineFinds e) (within s part) found = subst (λ x. TellsMatch i.asked.earliest (EngineFinds e) x found) search (subst (λ (a : Asked). TellsMatch a.earliest (EngineFinds e) (search_of e.utf8_empty k) found) asked tells) in
+      record { whether = whole_whether (is_some found) told.whether; exact = λ any. whole_found found (told.exact any) }
 
-  pub whole_slots : (utf8_empty : Bool) (i k : InputState) (pattern : Option ℕ) (slots : Slots) → k.asked ≡ record i.asked { span = part }
-      → search_of utf8_empty k ≡ within s part → TellsSlots k.asked.earliest p (search_of utf8_empty k) pattern slots → TellsSlots i.asked.earliest p s pattern slots
-  whole_slots utf8_empty i k pattern slots asked search tells =
-      let told : TellsSlots i.asked.earliest p (within s part) pattern slots = subst (λ x. TellsSlots i.asked.earliest p x pattern slots) search (subst (λ (a : Asked). TellsSlots a.earliest p (search_of utf8_empty k) pattern slots) asked tells) in
-      record { whether = whole_whether (is_some pattern) told.whether; exact = λ e. whole_answer pattern slots (told.exact e); none = told.none }
+  pub whole_slots : (i k : InputState) (pattern : Option ℕ) (slots : Slots) → k.asked ≡ record i.asked { span = part }
+      → search_of e.utf8_empty k ≡ within s part → TellsSlots k.asked.earliest (EngineFinds e) (search_of e.utf8_empty k) pattern slots → TellsSlots i.asked.earliest (EngineFinds e) s pattern slots
+  whole_slots i k pattern slots asked search tells =
+      let told : TellsSlots i.asked.earliest (EngineFinds e) (within s part) pattern slots = subst (λ x. TellsSlots i.asked.earliest (EngineFinds e) x pattern slots) search (subst (λ (a : Asked). TellsSlots a.earliest (EngineFinds e) (search_of e.utf8_empty k) pattern slots) asked tells) in
+      record { whether = whole_whether (is_some pattern) told.whether; exact = λ any. whole_answer pattern slots (told.exact any); none = told.none }
 
 -- ---- what comes next
 
-pub whole_next : (p : ByteProgram) (s : Search) (last : Option ℕ) (part : Span) → HoldsNext p s last part → (pattern : Option ℕ) (slots : Slots) → IsNextAnswer p (within s part) last pattern slots → IsNextAnswer p s last pattern slots
-whole_next p s last part next pattern slots answer = record { out = answer.out; comes = next.comes answer.out answer.comes; pattern_is = answer.pattern_is; slots_are = answer.slots_are }
+module _ (e : Engine) (first : IsFirst e) (s : Search) (last : Option ℕ) (part : Span) (next : HoldsNext e.program s last part) where
+  comes_there : (out : Option (Outcome Notes)) → ComesNext (EngineFinds e) (within s part) last out → ComesNext (EngineFinds e) s last out
+  comes_there = by_engine e first (λ finding. (out : Option (Outcome Notes)) → ComesNext finding (within s part) last out → ComesNext finding s last out) next.comes
 
-pub whole_found_next : (p : ByteProgram) (s : Search) (last : Option ℕ) (part : Span) → HoldsNext p s last part → (found : Option Found) → IsFoundNext p (within s part) last found → IsFoundNext p s last found
-whole_found_next p s last part next found is = (is.0, next.comes is.0 is.1, is.2)
+  pub whole_next : (pattern : Option ℕ) (slots : Slots) → IsNextAnswer (EngineFinds e) (within s part) last pattern slots → IsNextAnswer (EngineFinds e) s last pattern slots
+  whole_next pattern slots answer = record { out = answer.out; comes = comes_there answer.out answer.comes; pattern_is = answer.pattern_is; slots_are = answer.slots_are }
+
+  pub whole_found_next : (found : Option Found) → IsFoundNext (EngineFinds e) (within s part) last found → IsFoundNext (EngineFinds e) s last found
+  whole_found_next found is = (is.0, comes_there is.0 is.1, is.2)
 
 -- the part that is left
 pub next_there : (p : ByteProgram) (s : Search) (last : Option ℕ) (next : Option Part) (part : Part) → IsNextLeft p s last next → next ≡ Some part → HoldsNext p s last part.span
 next_there p s last next part is there = subst (λ o. IsNextLeft p s last o) there is
 
--- nothing comes next
-pub nothing_comes : (p : ByteProgram) (s : Search) (last : Option ℕ) (slots : Slots) (n : ℕ) → Finds p s None → slots ≡ replicate n None → IsNextAnswer p s last None slots
-nothing_comes p s last slots n finds is =
-    let len : length slots ≡ n = ap (λ xs. length xs) is ∙ length-replicate n None in
-    record { out = None; comes = nothing finds; pattern_is = refl; slots_are = is ∙ ap (λ k. replicate k None) (sym len) }
-
 -- ---- what is told
 
--- nothing is found
-pub none_there : (p : ByteProgram) (s : Search) → Finds p s None → TellsWhether p s false
-none_there p s finds = (None, finds, (λ e. e, λ e. e))
+module _ (e : Engine) (first : IsFirst e) (s : Search) where
+  -- nothing is found
+  pub none_by : Finds e.program s None → EngineFinds e s None
+  none_by finds = by_engine e first (λ finding. finding s None) finds
 
-pub no_match_told : (p : ByteProgram) (s : Search) (earliest : Bool) → Finds p s None → TellsMatch earliest p s None
-no_match_told p s earliest finds = record { whether = none_there p s finds; exact = λ e. (None, finds, refl) }
+  -- nothing comes next
+  pub nothing_comes : (last : Option ℕ) (slots : Slots) (n : ℕ) → Finds e.program s None → slots ≡ replicate n None → IsNextAnswer (EngineFinds e) s last None slots
+  nothing_comes last slots n finds is =
+      let len : length slots ≡ n = ap (λ xs. length xs) is ∙ length-replicate n None in
+      record { out = None; comes = nothing (none_by finds); pattern_is = refl; slots_are = is ∙ ap (λ k. replicate k None) (sym len) }
 
-pub no_slots_told : (p : ByteProgram) (s : Search) (earliest : Bool) (slots : Slots) (n : ℕ) → Finds p s None → slots ≡ replicate n None → TellsSlots earliest p s None slots
-no_slots_told p s earliest slots n finds is =
-    let len : length slots ≡ n = ap (λ xs. length xs) is ∙ length-replicate n None in
-    let none : slots ≡ replicate (length slots) None = is ∙ ap (λ k. replicate k None) (sym len) in
-    record { whether = none_there p s finds; exact = λ e. record { found = None; finds = finds; pattern_is = refl; slots_are = none }; none = λ e. none }
+  pub none_found_next : (last : Option ℕ) → Finds e.program s None → IsFoundNext (EngineFinds e) s last None
+  none_found_next last finds = (None, nothing (none_by finds), refl)
+
+  pub none_there : Finds e.program s None → TellsWhether (EngineFinds e) s false
+  none_there finds = (None, none_by finds, (λ told. told, λ told. told))
+
+  pub no_match_told : (earliest : Bool) → Finds e.program s None → TellsMatch earliest (EngineFinds e) s None
+  no_match_told earliest finds = record { whether = none_there finds; exact = λ any. (None, none_by finds, refl) }
+
+  pub no_slots_told : (earliest : Bool) (slots : Slots) (n : ℕ) → Finds e.program s None → slots ≡ replicate n None → TellsSlots earliest (EngineFinds e) s None slots
+  no_slots_told earliest slots n finds is =
+      let len : length slots ≡ n = ap (λ xs. length xs) is ∙ length-replicate n None in
+      let none : slots ≡ replicate (length slots) None = is ∙ ap (λ k. replicate k None) (sym len) in
+      record { whether = none_there finds; exact = λ any. record { found = None; finds = none_by finds; pattern_is = refl; slots_are = none }; none = λ nothing_there. none }
+
+  -- there is a match in a part
+  pub match_there : (part : Part) → IsPart e.program s part → IsTrue part.has_match → TellsWhether (EngineFinds e) s true
+  match_there part is has =
+      let up = is.match has in
+      (Some up.found, by_engine e first (λ finding. finding s (Some up.found)) (is.holds.finds (Some up.found) up.finds), (λ told. told, λ told. told))
+
+  -- ---- a literal
+
+  pub literal_found : (span : Span) → FindsLiteral (characters_of e.program) is_word_char s span → EngineFinds e s (Some (literal_match span))
+  literal_found span literal = by_engine e first (λ finding. finding s (Some (literal_match span))) literal.finds
+
+  pub literal_there : (span : Span) → FindsLiteral (characters_of e.program) is_word_char s span → TellsWhether (EngineFinds e) s true
+  literal_there span literal = (Some (literal_match span), literal_found span literal, (λ told. told, λ told. told))
+
+  pub literal_told : (earliest : Bool) (span : Span) (found : Found) → found.pattern ≡ 0 → found.span ≡ span → FindsLiteral (characters_of e.program) is_word_char s span → TellsMatch earliest (EngineFinds e) s (Some found)
+  literal_told earliest span found pattern at literal = record {
+    whether = literal_there span literal;
+    exact = λ any. (Some (literal_match span), literal_found span literal, ap₂ (λ k (x : Span). Some (record { pattern = k; span = x })) pattern at);
+  }
 
 -- and captures in which nothing is noted tell no match
-pub nothing_whole : (e : Engine) (i : InputState) (caps : Captured) (groups : Groups) (n : ℕ) → Finds e.program (search_of e.utf8_empty i) None → caps ≡ nothing_noted groups n → TellsWhole e i caps
-nothing_whole e i caps groups n finds is =
+pub nothing_whole : (e : Engine) → IsFirst e → (i : InputState) (caps : Captured) (groups : Groups) (n : ℕ) → Finds e.program (search_of e.utf8_empty i) None → caps ≡ nothing_noted groups n → TellsWhole e i caps
+nothing_whole e first i caps groups n finds is =
     subst (λ (x : Captured). TellsWhole e i x) (sym is) (record {
-      match = no_match_told e.program (search_of e.utf8_empty i) i.asked.earliest finds;
+      match = no_match_told e first (search_of e.utf8_empty i) i.asked.earliest finds;
       ordered = λ span some. absurd (cc some);
       inside = λ found some. absurd (cc some);
     })
-
--- there is a match in a part
-pub match_there : (p : ByteProgram) (s : Search) (part : Part) → IsPart p s part → IsTrue part.has_match → TellsWhether p s true
-match_there p s part is has = let up = is.match has in (Some up.found, is.holds.finds (Some up.found) up.finds, (λ e. e, λ e. e))
-
--- ---- a literal
-
-pub literal_there : (p : ByteProgram) (s : Search) (span : Span) → FindsLiteral (characters_of p) is_word_char s span → TellsWhether p s true
-literal_there p s span literal = (Some (literal_match span), literal.finds, (λ e. e, λ e. e))
-
-pub literal_told : (p : ByteProgram) (s : Search) (earliest : Bool) (span : Span) (found : Found) → found.pattern ≡ 0 → found.span ≡ span → FindsLiteral (characters_of p) is_word_char s span → TellsMatch earliest p s (Some found)
-literal_told p s earliest span found pattern at literal = record {
-  whether = literal_there p s span literal;
-  exact = λ e. (Some (literal_match span), literal.finds, ap₂ (λ k (x : Span). Some (record { pattern = k; span = x })) pattern at);
-}
 
 slots_length : (first n : ℕ) (notes : Notes) → length (slots_from first n notes) ≡ n
 slots_length first zero notes = refl
 slots_length first (suc n) notes = ap suc (slots_length (suc first) n notes)
 
-pub literal_slots_told : (p : ByteProgram) (s : Search) (earliest : Bool) (span : Span) (slots : Slots) (n : ℕ) → slots ≡ answer_slots n (Some (literal_match span)) → FindsLiteral (characters_of p) is_word_char s span
-    → TellsSlots earliest p s (Some 0) slots
-literal_slots_told p s earliest span slots n is literal =
+pub literal_slots_told : (e : Engine) → IsFirst e → (s : Search) (earliest : Bool) (span : Span) (slots : Slots) (n : ℕ) → slots ≡ answer_slots n (Some (literal_match span)) → FindsLiteral (characters_of e.program) is_word_char s span
+    → TellsSlots earliest (EngineFinds e) s (Some 0) slots
+literal_slots_told e first s earliest span slots n is literal =
     let len : length slots ≡ n = ap (λ xs. length xs) is ∙ slots_length 0 n (literal_match span).notes in
     record {
-      whether = literal_there p s span literal;
-      exact = λ e. record { found = Some (literal_match span); finds = literal.finds; pattern_is = refl; slots_are = is ∙ ap (λ k. answer_slots k (Some (literal_match span))) (sym len) };
-      none = λ e. absurd (cc e);
+      whether = literal_there e first s span literal;
+      exact = λ any. record { found = Some (literal_match span); finds = literal_found e first s span literal; pattern_is = refl; slots_are = is ∙ ap (λ k. answer_slots k (Some (literal_match span))) (sym len) };
+      none = λ nothing_there. absurd (cc nothing_there);
     }
 
 -- its places fit slots

@@ -1,16 +1,13 @@
 -- What the iterator over matches with their groups gives.
 use Rattle.std.specs.Prelude.{◌≡◌, Option, Result}
-use Rattle.unicode.specs.Perl.{is_word_char}
 use Rattle.rx_util.specs.declared.search.MatchError.{MatchError}
 use Rattle.rx_util.specs.Captured.{Captured}
 use Rattle.rx_util.specs.Groups.{slot_len}
 use Rattle.rx_input.specs.declared.cursor.Cursor.{Ghosts}
 use Rattle.rx_input.specs.Inputs.{InputState}
-use Rattle.rx_utf8.specs.Automata.{is_in}
 use Rattle.rx_walks.specs.Finds.{Search}
-use Rattle.rx_walks.specs.Iterating.{GivesInOrder}
-use Rattle.rx_program.specs.Programs.{characters_of}
-use Rattle.rx_chunk.specs.Iterating.{MatchesLeft, GivesNext, captured_of}
+use Rattle.rx_chunk.specs.Engines.{EngineFinds}
+use Rattle.rx_chunk.specs.Iterating.{GivesInOrder, MatchesLeft, GivesNext, captured_of}
 use Rattle.regex_cursor.specs.declared.engines.meta.captures_matches.CapturesMatches.{CapturesMatches}
 use Rattle.regex_cursor.specs.Regexes.{RegexView, search_by}
 
@@ -33,7 +30,7 @@ input_of m = m.input
 -- its groups
 pub record Gives {C : Type 0} {cursor : Ghosts C} (m : CapturesMatches C cursor)
     (item : Option (Result Captured MatchError)) (n : CapturesMatches C cursor) : Type 0 where
-  pub next : GivesNext (regex_of m).engine.program
+  pub next : GivesNext (EngineFinds (regex_of m).engine)
       (captured_of (regex_of m).engine.groups (slot_len (regex_of m).engine.groups))
       (left_of m) item (left_of n)
   pub same_regex : regex_of n ≡ regex_of m
@@ -41,5 +38,5 @@ pub record Gives {C : Type 0} {cursor : Ghosts C} (m : CapturesMatches C cursor)
 -- what an iterator of such steps gives, in order, as that over matches does
 abbrev pub GivesAll : {C : Type 0} {cursor : Ghosts C} → RegexView → Search
     → CapturesMatches C cursor → Type 0
-GivesAll re s m = GivesInOrder is_in is_word_char (characters_of re.engine.program)
+GivesAll re s m = GivesInOrder re.engine
     (captured_of re.engine.groups (slot_len re.engine.groups)) Gives s m

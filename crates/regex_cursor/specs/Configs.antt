@@ -1,6 +1,8 @@
 -- The settings of a regex, and what they ask of its engines.
 use Rattle.std.specs.Prelude.{◌≡◌, ℕ, ◌-◌, ◌^◌, Bool, true, false, List, Option, Some, None, unwrap_or}
 use Rattle.std.specs.Option.{option_or}
+use Rattle.rx_util.specs.declared.search.MatchKind.{MatchKind}
+use Rattle.rx_util.specs.declared.search.MatchKind.TheVariants.{LeftmostFirst}
 use Rattle.rx_util.specs.declared.captures.WhichCaptures.{WhichCaptures}
 use Rattle.rx_util.specs.declared.captures.WhichCaptures.TheVariants as which
 use Rattle.rx_grammar.specs.Settings.{Settings, default_settings}
@@ -8,6 +10,7 @@ use Rattle.rx_engine.specs.Engines.{EngineSettings, Wanted, nothing_set}
 
 -- settings that were set; the others are the defaults
 pub record RegexSettings : Type 0 where
+  pub match_kind : Option MatchKind
   pub utf8_empty : Option Bool
   pub auto_prefilter : Option Bool
   -- the needles, or none
@@ -26,6 +29,7 @@ pub record RegexSettings : Type 0 where
 
 abbrev pub none_set : RegexSettings
 none_set = record {
+  match_kind = None;
   utf8_empty = None;
   auto_prefilter = None;
   prefilter = None;
@@ -45,6 +49,7 @@ none_set = record {
 -- settings that are set in the first, and else those of the second
 abbrev pub regex_settings_over : RegexSettings → RegexSettings → RegexSettings
 regex_settings_over new old = record {
+  match_kind = option_or new.match_kind old.match_kind;
   utf8_empty = option_or new.utf8_empty old.utf8_empty;
   auto_prefilter = option_or new.auto_prefilter old.auto_prefilter;
   prefilter = option_or new.prefilter old.prefilter;
@@ -62,6 +67,10 @@ regex_settings_over new old = record {
 }
 
 -- ---- settings with their defaults
+
+-- which of all matches is found
+abbrev pub match_kind_of : RegexSettings → MatchKind
+match_kind_of settings = unwrap_or settings.match_kind LeftmostFirst
 
 -- whether empty matches inside a character are passed over
 abbrev pub utf8_empty_of : RegexSettings → Bool
@@ -118,7 +127,8 @@ line_terminator_of settings = unwrap_or settings.line_terminator 10
 -- ---- what is asked of the engine that serves any search
 
 abbrev pub engine_settings : RegexSettings → EngineSettings
-engine_settings settings = record nothing_set {
+engine_settings settings = record {
+  match_kind = Some (match_kind_of settings);
   utf8_empty = Some (utf8_empty_of settings);
   line_terminator = Some (line_terminator_of settings);
   nfa_size_limit = Some (nfa_size_limit_of settings);

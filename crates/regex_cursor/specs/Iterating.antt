@@ -1,15 +1,12 @@
 -- What the iterators of a regex give.
 use Rattle.std.specs.Prelude.{◌≡◌, ℕ, Option, Result}
-use Rattle.unicode.specs.Perl.{is_word_char}
 use Rattle.rx_util.specs.declared.search.MatchError.{MatchError}
 use Rattle.rx_util.specs.Search.{Found}
-use Rattle.rx_utf8.specs.Automata.{is_in}
 use Rattle.rx_input.specs.Inputs.{InputState}
 use Rattle.rx_walks.specs.Finds.{Search, from_place_on}
-pub use Rattle.rx_walks.specs.Iterating.{GivesInOrder, not_refused}
-use Rattle.rx_program.specs.Programs.{characters_of}
-use Rattle.rx_chunk.specs.Engines.{match_of}
-pub use Rattle.rx_chunk.specs.Iterating.{MatchesLeft, GivesNext, matches_from, matches_left}
+pub use Rattle.rx_walks.specs.Iterating.{not_refused}
+use Rattle.rx_chunk.specs.Engines.{EngineFinds, match_of}
+pub use Rattle.rx_chunk.specs.Iterating.{GivesInOrder, MatchesLeft, GivesNext, matches_from, matches_left}
 use Rattle.regex_cursor.specs.declared.engines.meta.find_matches.FindMatches.{FindMatches}
 use Rattle.regex_cursor.specs.declared.engines.meta.finder.Finder.{Finder}
 use Rattle.regex_cursor.specs.Regexes.{RegexView, search_by}
@@ -43,7 +40,7 @@ GoesOn s t = (start : ℕ) × (t ≡ from_place_on s start)
 -- a step of the iterator, which searches for the same regex on
 pub record Gives {C : Type 0} (m : FindMatches C)
     (item : Option (Result Found MatchError)) (n : FindMatches C) : Type 0 where
-  pub next : GivesNext (regex_of m).engine.program match_of (left_of m) item (left_of n)
+  pub next : GivesNext (EngineFinds (regex_of m).engine) match_of (left_of m) item (left_of n)
   pub same_regex : regex_of n ≡ regex_of m
   pub goes_on : GoesOn (left_of m).search (left_of n).search
 
@@ -51,5 +48,4 @@ pub record Gives {C : Type 0} (m : FindMatches C)
 -- that the regex has in the search, drained all of them, and nothing after a refusal.
 abbrev pub GivesAll : {C : Type 0} → RegexView → Search → FindMatches C
     → Type 0
-GivesAll re s m = GivesInOrder is_in is_word_char (characters_of re.engine.program) match_of Gives
-    s m
+GivesAll re s m = GivesInOrder re.engine match_of Gives s m

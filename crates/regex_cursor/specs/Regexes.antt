@@ -7,17 +7,15 @@ use Rattle.rx_util.specs.Search.{Found, HalfFound}
 use Rattle.rx_input.specs.Inputs.{InputState}
 use Rattle.rx_grammar.specs.Grammar.{Spells}
 use Rattle.rx_grammar.specs.Trees.{Tree}
-use Rattle.unicode.specs.Perl.{is_word_char}
-use Rattle.rx_utf8.specs.Automata.{is_in}
 use Rattle.rx_walks.specs.Finds.{Search}
 use Rattle.rx_walks.specs.Machines.{Outcome}
 use Rattle.rx_walks.specs.Programs.{Notes}
-use Rattle.rx_walks.specs.ProgramFinds.{ProgramMatches}
-use Rattle.rx_program.specs.Programs.{ByteProgram, characters_of}
+use Rattle.rx_program.specs.Programs.{ByteProgram}
 use Rattle.rx_program.specs.declared.error.BuildError.{BuildError}
 -- its searches tell what those of its engine do
 pub use Rattle.rx_engine.specs.Engines.{Engine}
-pub use Rattle.rx_chunk.specs.Engines.{IsFound, TellsWhether}
+pub use Rattle.rx_chunk.specs.Engines.{EngineFinds, IsFound, TellsWhether}
+use Rattle.rx_chunk.specs.Iterating.{EngineMatches}
 pub use Rattle.rx_chunk.specs.Searches.{HoldsMatches, TellsMatch, TellsSlots, TellsWhole, search_by}
 use Rattle.rx_engine.specs.Engines.{AreRefused, IsBuiltOfTrees, IsEngine, IsRefused, IsRefusedOfAll, Spell}
 use Rattle.regex_cursor.specs.Configs.{RegexSettings, RegexWanted, capacity_of, default_regex, engine_settings, engine_wanted}
@@ -103,7 +101,7 @@ pub record TellsHalf (e : Engine) (i : InputState) (half : Option HalfFound) : T
 
 -- all matches that it has in a search, one after the other
 abbrev pub RegexMatches : RegexView → Search → List (Outcome Notes) → Type 0
-RegexMatches re s ms = ProgramMatches is_in is_word_char (characters_of re.engine.program) s ms
+RegexMatches re s ms = EngineMatches re.engine s ms
 
 -- captures of the regex's groups with slots for all of them
 abbrev pub HasRoom : RegexView → Captured → Type 0

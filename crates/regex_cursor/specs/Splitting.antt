@@ -7,8 +7,8 @@ use Rattle.rx_util.specs.declared.search.Span.{Span}
 use Rattle.rx_util.specs.Search.{Found}
 use Rattle.rx_input.specs.Inputs.{InputState}
 use Rattle.rx_walks.specs.Finds.{Search}
-use Rattle.rx_program.specs.Programs.{ByteProgram}
-use Rattle.rx_chunk.specs.Engines.{match_of}
+use Rattle.rx_walks.specs.Iterating.{Finding}
+use Rattle.rx_chunk.specs.Engines.{EngineFinds, match_of}
 use Rattle.rx_chunk.specs.Iterating.{MatchesLeft, GivesNext, matches_left}
 use Rattle.regex_cursor.specs.declared.engines.meta.split.Split.{Split}
 use Rattle.regex_cursor.specs.declared.engines.meta.splitter.Splitter.{Splitter}
@@ -42,21 +42,21 @@ pub data EndsWith (start end : ℕ) : Option Span → Type 0 where
 
 -- a step of the iterator: up to each match a part, and behind the last match the last part; a
 -- refusal is want of memory, and behind it none comes
-pub data SplitsOff (p : ByteProgram) (m n : PartsLeft) : Option (Result Span MatchError) → Type 0
+pub data SplitsOff (finding : Finding) (m n : PartsLeft) : Option (Result Span MatchError) → Type 0
   where
-    over : m.is_over ≡ true → n ≡ m → SplitsOff p m n None
+    over : m.is_over ≡ true → n ≡ m → SplitsOff finding m n None
     at_match : {a : Found} → m.is_over ≡ false
-        → GivesNext p match_of m.matches (Some (Ok a)) n.matches
+        → GivesNext finding match_of m.matches (Some (Ok a)) n.matches
         → n.last ≡ a.span.end → n.is_over ≡ false
-        → SplitsOff p m n (Some (Ok (between m.last a.span.start)))
+        → SplitsOff finding m n (Some (Ok (between m.last a.span.start)))
     at_end : {part : Span} → m.is_over ≡ false
-        → GivesNext {A = Found} p match_of m.matches None n.matches
+        → GivesNext {A = Found} finding match_of m.matches None n.matches
         → EndsWith m.last (end_of_search m.matches.search) (Some part) → n.is_over ≡ true
-        → SplitsOff p m n (Some (Ok part))
-    no_end : m.is_over ≡ false → GivesNext {A = Found} p match_of m.matches None n.matches
+        → SplitsOff finding m n (Some (Ok part))
+    no_end : m.is_over ≡ false → GivesNext {A = Found} finding match_of m.matches None n.matches
         → EndsWith m.last (end_of_search m.matches.search) None → n.is_over ≡ true
-        → SplitsOff p m n None
-    refused : m.is_over ≡ false → n.is_over ≡ true → SplitsOff p m n (Some (Err Memory))
+        → SplitsOff finding m n None
+    refused : m.is_over ≡ false → n.is_over ≡ true → SplitsOff finding m n (Some (Err Memory))
 
 -- the regex that a splitter searches for, and what it has left in an input
 abbrev pub regex_in : Splitter → RegexView
@@ -83,7 +83,7 @@ input_of m = m.input
 -- a step of the iterator, which searches for the same regex on
 pub record Gives {C : Type 0} (m : Split C)
     (item : Option (Result Span MatchError)) (n : Split C) : Type 0 where
-  pub next : SplitsOff (regex_of m).engine.program (left_of m) (left_of n) item
+  pub next : SplitsOff (EngineFinds (regex_of m).engine) (left_of m) (left_of n) item
   pub same_regex : regex_of n ≡ regex_of m
 
 -- ---- all parts

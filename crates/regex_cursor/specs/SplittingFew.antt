@@ -5,7 +5,8 @@ use Rattle.rx_util.specs.declared.search.MatchError.{MatchError}
 use Rattle.rx_util.specs.declared.search.Span.{Span}
 use Rattle.rx_input.specs.Inputs.{InputState}
 use Rattle.rx_walks.specs.Finds.{Search}
-use Rattle.rx_program.specs.Programs.{ByteProgram}
+use Rattle.rx_walks.specs.Iterating.{Finding}
+use Rattle.rx_chunk.specs.Engines.{EngineFinds}
 use Rattle.regex_cursor.specs.declared.engines.meta.split_n.SplitN.{SplitN}
 use Rattle.regex_cursor.specs.Splitting as splitting
 use Rattle.regex_cursor.specs.Splitting.{PartsLeft, EndsWith, SplitsOff, end_of_search, gaps}
@@ -20,15 +21,15 @@ told_part (Some part) = Some (Ok part)
 
 -- a step where so many parts may still come: the next one of all parts, and as the last of so many
 -- the one to the end
-pub data SplitsFew (p : ByteProgram) (m n : PartsLeft) : ℕ → ℕ → Option (Result Span MatchError)
+pub data SplitsFew (finding : Finding) (m n : PartsLeft) : ℕ → ℕ → Option (Result Span MatchError)
     → Type 0 where
-  enough : n ≡ m → SplitsFew p m n 0 0 None
-  some : {limit : ℕ} {item : Option (Result Span MatchError)} → 0 < limit → SplitsOff p m n item
-      → SplitsFew p m n (limit + 1) limit item
-  over : m.is_over ≡ true → n ≡ m → SplitsFew p m n 1 0 None
+  enough : n ≡ m → SplitsFew finding m n 0 0 None
+  some : {limit : ℕ} {item : Option (Result Span MatchError)} → 0 < limit → SplitsOff finding m n item
+      → SplitsFew finding m n (limit + 1) limit item
+  over : m.is_over ≡ true → n ≡ m → SplitsFew finding m n 1 0 None
   last_one : {part : Option Span} → m.is_over ≡ false
       → EndsWith m.last (end_of_search m.matches.search) part
-      → n ≡ record m { is_over = true } → SplitsFew p m n 1 0 (told_part part)
+      → n ≡ record m { is_over = true } → SplitsFew finding m n 1 0 (told_part part)
 
 -- what is left to the iterator: the parts that are left, and how many of them may still come
 pub record FewLeft : Type 0 where
@@ -48,7 +49,7 @@ input_of m = m.input
 -- a step of the iterator, which searches for the same regex on
 pub record Gives {C : Type 0} (m : SplitN C)
     (item : Option (Result Span MatchError)) (n : SplitN C) : Type 0 where
-  pub next : SplitsFew (regex_of m).engine.program (left_of m).parts (left_of n).parts
+  pub next : SplitsFew (EngineFinds (regex_of m).engine) (left_of m).parts (left_of n).parts
       (left_of m).limit (left_of n).limit item
   pub same_regex : regex_of n ≡ regex_of m
 

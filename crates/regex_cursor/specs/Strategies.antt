@@ -94,8 +94,8 @@ IsPartLeft p s (Some part) = IsPart p s part
 -- and in which comes next what comes next in the span, where the last match ended at `last`
 pub record HoldsNext (p : ByteProgram) (s : Search) (last : Option ℕ) (span : Span) : Type 0 where
   pub holds : HoldsFind p s span
-  pub comes : (out : Option (Outcome Notes)) → ComesNext p (within s span) last out
-      → ComesNext p s last out
+  pub comes : (out : Option (Outcome Notes)) → ComesNext (Finds p) (within s span) last out
+      → ComesNext (Finds p) s last out
 
 -- the part in which comes next what comes next, if anything does
 abbrev pub IsNextLeft : ByteProgram → Search → Option ℕ → Option Part → Type 0

@@ -3,4 +3,4 @@
 pub mod meta;
 
 pub use rx_chunk::pikevm;
-pub use rx_dfa::{dense as dfa, hybrid};
+pub use rx_matches::{dfa, hybrid};

@@ -7,10 +7,10 @@ use Rattle.rx_util.specs.Lending.{with_slots}
 use Rattle.rx_walks.specs.Machines.{Outcome}
 use Rattle.rx_walks.specs.Programs.{Notes}
 use Rattle.rx_walks.specs.Finds.{Search}
-use Rattle.rx_program.specs.Programs.{ByteProgram}
+use Rattle.rx_walks.specs.Iterating.{Finding}
 use Rattle.rx_steps.specs.Threads.{Slots, no_slots}
-use Rattle.rx_steps.specs.Searching.{IsAnswer, answer_slots}
-use Rattle.rx_chunk.specs.Engines.{match_of, TellsWhether, IsFound}
+use Rattle.rx_steps.specs.Searching.{answer_slots}
+use Rattle.rx_chunk.specs.Engines.{match_of, IsAnswer, TellsWhether, IsFound}
 
 pub if_ok : {A E : Type 0} {P Q : A → Type 0} (r : Result A E) → ((x : A) → P x → Q x) → IfOk r P → IfOk r Q
 if_ok (Ok x) f h = f x h
@@ -33,7 +33,7 @@ some_pattern : (out : Option (Outcome Notes)) → is_some (pattern_in out) ≡ i
 some_pattern None = refl
 some_pattern (Some t) = refl
 
-pub tells_whether : {p : ByteProgram} {s : Search} {pattern : Option ℕ} {slots : Slots} (is_there : Bool) → is_there ≡ is_some pattern → IsAnswer p s pattern slots → TellsWhether p s is_there
+pub tells_whether : {finding : Finding} {s : Search} {pattern : Option ℕ} {slots : Slots} (is_there : Bool) → is_there ≡ is_some pattern → IsAnswer finding s pattern slots → TellsWhether finding s is_there
 tells_whether is_there is answer =
     let same : is_there ≡ is_some answer.found = is ∙ ap is_some answer.pattern_is ∙ some_pattern answer.found in
     (answer.found, answer.finds, (λ e. sym same ∙ e, λ e. same ∙ e))
@@ -42,14 +42,14 @@ none_out : (out : Option (Outcome Notes)) → pattern_in out ≡ None → out �
 none_out None is = refl
 none_out (Some t) is = absurd (none-some t.pattern (sym is))
 
-pub none_found : {p : ByteProgram} {s : Search} {pattern : Option ℕ} {slots : Slots} → IsAnswer p s pattern slots → pattern ≡ None → IsFound p s None
+pub none_found : {finding : Finding} {s : Search} {pattern : Option ℕ} {slots : Slots} → IsAnswer finding s pattern slots → pattern ≡ None → IsFound finding s None
 none_found answer is =
     let none : answer.found ≡ None = none_out answer.found (sym answer.pattern_is ∙ is) in
     (answer.found, answer.finds, sym (ap (option_map match_of) none))
 
 -- where nothing is found no slot holds a place
-pub none_slots : (p : ByteProgram) (s : Search) (pattern : Option ℕ) (slots : Slots) → IsAnswer p s pattern slots → pattern ≡ None → slots ≡ no_slots (length slots)
-none_slots p s pattern slots answer is =
+pub none_slots : (finding : Finding) (s : Search) (pattern : Option ℕ) (slots : Slots) → IsAnswer finding s pattern slots → pattern ≡ None → slots ≡ no_slots (length slots)
+none_slots finding s pattern slots answer is =
     answer.slots_are ∙ ap (λ o. answer_slots (length slots) o) (none_out answer.found (sym answer.pattern_is ∙ is))
 
 -- ---- slots that were lent

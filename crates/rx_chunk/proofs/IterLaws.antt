@@ -4,34 +4,22 @@ use Rattle.std.specs.Prelude.{◌==◌}
 use Rattle.std.proofs.lemmas.Option.{same_Some}
 use Rattle.std.proofs.lemmas.Bool.{eqb-true}
 use Rattle.std.specs.Iterator.{size}
-use Rattle.unicode.specs.Perl.{is_word_char}
-use Rattle.rx_sets.specs.Sets.{Range}
-use Rattle.rx_utf8.specs.Automata.{is_in}
 use Rattle.rx_util.specs.Search.{Found}
 use Rattle.rx_input.specs.Cursors.{IsSameContent}
 use Rattle.rx_input.specs.Inputs.{InputState, Asked, HasSpan}
-use Rattle.rx_walks.specs.Looks as walks
 use Rattle.rx_walks.specs.Machines.{Outcome}
-use Rattle.rx_walks.specs.Programs.{Program, Notes}
+use Rattle.rx_walks.specs.Programs.{Notes}
 use Rattle.rx_walks.specs.Finds.{Search, from_place_on}
 use Rattle.rx_walks.specs.ProgramFinds.{end_of}
-use Rattle.rx_walks.specs.Iterating.{FindsNext, nothing, at_once, passed, GivesFound}
-use Rattle.rx_walks.specs.Laws.{FindsLieInside, LiesInside}
-use Rattle.rx_program.specs.Programs.{ByteProgram, characters_of}
+use Rattle.rx_walks.specs.Iterating.{Finding, FindsNext, nothing, at_once, passed, GivesFound}
 use Rattle.std.specs.Option.{ForSome}
 use Rattle.std.specs.Prelude.{IfOk}
-use Rattle.rx_chunk.specs.Engines.{Finds, IsFound, match_of}
+use Rattle.rx_chunk.specs.Engines.{IsFound, match_of}
 use Rattle.rx_chunk.proofs.EngineLaws.{if_ok}
+use Rattle.rx_chunk.proofs.KindLaws.{InsideLaw}
 use Rattle.rx_steps.specs.Searching.{search_of, anchoring_of}
 use Rattle.rx_input.specs.Searchers.{items_at_most}
 use Rattle.rx_chunk.specs.Iterating.{MatchesLeft, ComesNext, IsFoundNext, StartsFrom, EndsAhead, FewerAreLeft, GivesNext, is_last_end, left_behind, matches_left}
-
--- the law of rx_walks on where finds lie, as a call of `finds_lie_inside` tells it
-abbrev pub InsideLaw : Type 0
-InsideLaw = (member : List Range → ℕ → Bool) (is_word : ℕ → Bool) (c : Program walks.Look (List Range)) → FindsLieInside member is_word c
-
-pub lies : (p : ByteProgram) (s : Search) (t : Outcome Notes) → InsideLaw → Finds p s (Some t) → LiesInside s t
-lies p s t law finds = law is_in is_word_char (characters_of p) s t finds
 
 -- ---- what is found next
 
@@ -46,10 +34,10 @@ stood : (last : Option ℕ) (start : ℕ) → is_last_end last start ≡ true �
 stood None start told = absurd (cc told)
 stood (Some end) start told = ap (λ k. Some k) (eqb-true end start told)
 
-next_ends : {out : Option (Outcome Notes)} (p : ByteProgram) (s : Search) (last : Option ℕ) (t : Outcome Notes) → InsideLaw → FindsNext (Finds p) s last out → out ≡ Some t → EndsAhead last s (end_of t)
-next_ends p s last t law (nothing finds) e = absurd (cc e)
-next_ends p s last t law (at_once {t = a} finds not) e =
-    let at = (lies p s a law finds).found in
+next_ends : {out : Option (Outcome Notes)} (finding : Finding) (s : Search) (last : Option ℕ) (t : Outcome Notes) → InsideLaw finding → FindsNext finding s last out → out ≡ Some t → EndsAhead last s (end_of t)
+next_ends finding s last t law (nothing finds) e = absurd (cc e)
+next_ends finding s last t law (at_once {t = a} finds not) e =
+    let at = law s a finds in
     let apart : is_last_end last s.start ≡ true → end_of a ≡ s.start → ⊥ =
     λ told end. not (omega (arith, end, at.ordered, at.possible.0.2), stood last s.start told ∙ ap (λ k. Some k) (sym end)) in
     subst (λ x. EndsAhead last s (end_of x)) (same_Some a t e) (record {
@@ -58,33 +46,33 @@ next_ends p s last t law (at_once {t = a} finds not) e =
       in_span = at.inside.3;
       in_content = at.inside.4;
     })
-next_ends p s last t law (passed {out = out} finds empty further) e =
-    let at = (lies p (from_place_on s (s.start + 1)) t law (subst (λ o. Finds p (from_place_on s (s.start + 1)) o) e further)).found in
+next_ends finding s last t law (passed {out = out} finds empty further) e =
+    let at = law (from_place_on s (s.start + 1)) t (subst (λ o. finding (from_place_on s (s.start + 1)) o) e further) in
     record { on = omega (arith, at.inside.2); further = λ told. omega (arith, at.inside.2); in_span = at.inside.3; in_content = at.inside.4 }
 
-ends_by : (p : ByteProgram) (last : Option ℕ) (s : Search) (a : Found) (out : Option (Outcome Notes)) → InsideLaw → ComesNext p s last out → Some a ≡ option_map match_of out → EndsAhead last s a.span.end
-ends_by p last s a None law finds is = absurd (cc is)
-ends_by p last s a (Some t) law finds is =
-    subst (λ x. EndsAhead last s x.span.end) (sym (same_Some a (match_of t) is)) (next_ends p s last t law finds refl)
+ends_by : (finding : Finding) (last : Option ℕ) (s : Search) (a : Found) (out : Option (Outcome Notes)) → InsideLaw finding → ComesNext finding s last out → Some a ≡ option_map match_of out → EndsAhead last s a.span.end
+ends_by finding last s a None law finds is = absurd (cc is)
+ends_by finding last s a (Some t) law finds is =
+    subst (λ x. EndsAhead last s x.span.end) (sym (same_Some a (match_of t) is)) (next_ends finding s last t law finds refl)
 
-pub found_ends : (p : ByteProgram) (last : Option ℕ) (s : Search) (a : Found) → InsideLaw → IsFoundNext p s last (Some a) → EndsAhead last s a.span.end
-found_ends p last s a law is = ends_by p last s a is.0 law is.1 is.2
+pub found_ends : (finding : Finding) (last : Option ℕ) (s : Search) (a : Found) → InsideLaw finding → IsFoundNext finding s last (Some a) → EndsAhead last s a.span.end
+found_ends finding last s a law is = ends_by finding last s a is.0 law is.1 is.2
 
 -- what is found is what comes next where there was no match yet
-first_is : (p : ByteProgram) (s : Search) (out : Option (Outcome Notes)) → Finds p s out → ComesNext p s None out
-first_is p s None finds = nothing finds
-first_is p s (Some t) finds = at_once finds (λ empty. absurd (cc empty.1))
+first_is : (finding : Finding) (s : Search) (out : Option (Outcome Notes)) → finding s out → ComesNext finding s None out
+first_is finding s None finds = nothing finds
+first_is finding s (Some t) finds = at_once finds (λ empty. absurd (cc empty.1))
 
-pub found_first : (p : ByteProgram) (s : Search) (found : Option Found) → IsFound p s found → IsFoundNext p s None found
-found_first p s found is = (is.0, first_is p s is.0 is.1, is.2)
+pub found_first : (finding : Finding) (s : Search) (found : Option Found) → IsFound finding s found → IsFoundNext finding s None found
+found_first finding s found is = (is.0, first_is finding s is.0 is.1, is.2)
 
 -- what comes next ends ahead
-pub all_end : (p : ByteProgram) (last : Option ℕ) (s : Search) (found : Option Found) → InsideLaw → IsFoundNext p s last found → ForSome found (λ a. EndsAhead last s a.span.end)
-all_end p last s found law is = λ a some. found_ends p last s a law (subst (λ o. IsFoundNext p s last o) some is)
+pub all_end : (finding : Finding) (last : Option ℕ) (s : Search) (found : Option Found) → InsideLaw finding → IsFoundNext finding s last found → ForSome found (λ a. EndsAhead last s a.span.end)
+all_end finding last s found law is = λ a some. found_ends finding last s a law (subst (λ o. IsFoundNext finding s last o) some is)
 
-pub ends_ahead : {E : Type 0} (p : ByteProgram) (last : Option ℕ) (s : Search) (result : Result (Option Found) E) → InsideLaw → IfOk result (λ found. IsFoundNext p s last found)
+pub ends_ahead : {E : Type 0} (finding : Finding) (last : Option ℕ) (s : Search) (result : Result (Option Found) E) → InsideLaw finding → IfOk result (λ found. IsFoundNext finding s last found)
     → IfOk result (λ found. ForSome found (λ a. EndsAhead last s a.span.end))
-ends_ahead p last s result law told = if_ok result (λ found is. all_end p last s found law is) told
+ends_ahead finding last s result law told = if_ok result (λ found is. all_end finding last s found law is) told
 
 -- ---- a step of the iterator
 
@@ -122,10 +110,10 @@ pub left_there : (m : MatchesLeft) (s : Search) (end last : ℕ) → s ≡ from_
 left_there m s end last search is goes_on = grind (arith, search, is, goes_on)
 
 -- a match comes
-gives_by : (p : ByteProgram) (m : MatchesLeft) (a : Found) (out : Option (Outcome Notes)) → m.is_over ≡ false → ComesNext p m.search m.last_end out → Some a ≡ option_map match_of out
-    → GivesFound (Finds p) match_of m a (left_behind m a.span.end)
-gives_by p m a None goes_on finds is = absurd (cc is)
-gives_by p m a (Some t) goes_on finds is =
+gives_by : (finding : Finding) (m : MatchesLeft) (a : Found) (out : Option (Outcome Notes)) → m.is_over ≡ false → ComesNext finding m.search m.last_end out → Some a ≡ option_map match_of out
+    → GivesFound finding match_of m a (left_behind m a.span.end)
+gives_by finding m a None goes_on finds is = absurd (cc is)
+gives_by finding m a (Some t) goes_on finds is =
     let same : a ≡ match_of t = same_Some a (match_of t) is in
     record {
       goes_on = goes_on;
@@ -135,16 +123,16 @@ gives_by p m a (Some t) goes_on finds is =
       left_is = ap (λ (x : Found). left_behind m x.span.end) same;
     }
 
-pub gives_match : (p : ByteProgram) (m n : MatchesLeft) (a : Found) → m.is_over ≡ false → IsFoundNext p m.search m.last_end (Some a) → n ≡ left_behind m a.span.end → GivesNext p match_of m (Some (Ok a)) n
-gives_match p m n a goes_on is left = record { gives = subst (λ x. GivesFound (Finds p) match_of m a x) (sym left) (gives_by p m a is.0 goes_on is.1 is.2); refused = tt }
+pub gives_match : (finding : Finding) (m n : MatchesLeft) (a : Found) → m.is_over ≡ false → IsFoundNext finding m.search m.last_end (Some a) → n ≡ left_behind m a.span.end → GivesNext finding match_of m (Some (Ok a)) n
+gives_match finding m n a goes_on is left = record { gives = subst (λ x. GivesFound finding match_of m a x) (sym left) (gives_by finding m a is.0 goes_on is.1 is.2); refused = tt }
 
 -- none comes
-none_by : (p : ByteProgram) (m : MatchesLeft) (out : Option (Outcome Notes)) → ComesNext p m.search m.last_end out → None ≡ option_map match_of out → ComesNext p m.search m.last_end None
-none_by p m None finds is = finds
-none_by p m (Some t) finds is = absurd (cc is)
+none_by : (finding : Finding) (m : MatchesLeft) (out : Option (Outcome Notes)) → ComesNext finding m.search m.last_end out → None ≡ option_map match_of out → ComesNext finding m.search m.last_end None
+none_by finding m None finds is = finds
+none_by finding m (Some t) finds is = absurd (cc is)
 
-pub gives_none : {A : Type 0} (p : ByteProgram) (item_of : Outcome Notes → A) (m n : MatchesLeft) → (m.is_over ≡ false → IsFoundNext p m.search m.last_end None) → n.is_over ≡ true → GivesNext p item_of m None n
-gives_none p item_of m n is over = record { gives = (λ goes_on. none_by p m (is goes_on).0 (is goes_on).1 (is goes_on).2, over); refused = tt }
+pub gives_none : {A : Type 0} (finding : Finding) (item_of : Outcome Notes → A) (m n : MatchesLeft) → (m.is_over ≡ false → IsFoundNext finding m.search m.last_end None) → n.is_over ≡ true → GivesNext finding item_of m None n
+gives_none finding item_of m n is over = record { gives = (λ goes_on. none_by finding m (is goes_on).0 (is goes_on).1 (is goes_on).2, over); refused = tt }
 
 -- fewer are left then
 same_place : (k : ℕ) → (k == k) ≡ true

@@ -1,8 +1,11 @@
+pub mod KindLaws
 pub mod EngineLaws
+pub mod AnswerLaws
 pub mod FoundLaws
 pub mod IterLaws
 pub mod NextLaws
 pub mod EarlyLaws
-pub mod LowerLaws
+pub mod WholeLaws
 pub mod OwnLaws
 pub mod OtherLaws
+pub mod OrderLaws

@@ -3,23 +3,29 @@ use Rattle.std.proofs.Common.{◌≡◌, ℕ, zero, suc, ◌+◌, ◌-◌, ◌*�
 use Rattle.std.specs.Option.{option_map_or}
 use Rattle.std.proofs.lemmas.Bool.{cases_lt, lt-ltb, ne_eqb}
 use Rattle.std.proofs.lemmas.Bool.Decides.{nat_tests}
-use Rattle.std.proofs.lemmas.List.Elements.{All-head, All-tail}
+use Rattle.std.proofs.lemmas.List.Elements.{All-cons, All-head, All-nil, All-tail}
 use Rattle.std.proofs.lemmas.List.Sums.{sum_by-cons}
 use Rattle.std.proofs.lemmas.Option.{none-some, same_Some, slice_get_within}
 use Rattle.unicode.specs.Perl.{is_word_char}
 use Rattle.rx_grammar.specs.Trees.{Tree, numbers_of}
+use Rattle.rx_util.specs.declared.search.MatchKind.{MatchKind}
+use Rattle.rx_util.specs.declared.search.MatchKind.TheVariants as kinds
 use Rattle.rx_util.specs.declared.captures.WhichCaptures.{WhichCaptures}
 use Rattle.rx_util.specs.declared.captures.WhichCaptures.TheVariants as which
 use Rattle.rx_util.specs.Captured.{place_in}
 use Rattle.rx_util.specs.Groups.{Groups, Name, first_slot, further_groups, group_len, slot_place}
+use Rattle.rx_walks.specs.Machines.{Outcome}
 use Rattle.rx_walks.specs.Programs.{Notes, last_noted, slot_of}
+use Rattle.rx_walks.specs.Finds.{Search}
 use Rattle.rx_program.specs.Programs.{characters_of}
 use Rattle.rx_engine.specs.Engines.{AreGroupsOf, AreNotedOf}
+use Rattle.rx_engine.proofs.CountLaws.{as_many}
 use Rattle.rx_engine.proofs.GroupLaws.{group_count, noted_count}
 use Rattle.rx_steps.specs.Searching.{answer_slots, slots_from}
-use Rattle.rx_chunk.specs.Engines.{Finds}
+use Rattle.rx_chunk.specs.Engines.{Engine, EngineFinds, FindsOfKind, IsEngine, noted_whole}
 use Rattle.rx_chunk.specs.Owned.{IsSlotOf, OthersHoldNone}
-use Rattle.rx_chunk.proofs.FoundLaws.{notes_places, slot_told, some_out}
+use Rattle.rx_chunk.proofs.KindLaws.{is_best}
+use Rattle.rx_chunk.proofs.FoundLaws.{best_known, notes_places, slot_told, some_out}
 use Rattle.rx_chunk.proofs.OwnLaws.{Owns, OwnSlot, finds_own}
 
 -- ---- slots of different patterns
@@ -168,13 +174,40 @@ place_there n slot notes none = elim (cases_lt slot n) [
     beyond first (suc n) zero notes past = absurd (omega (arith, past))
     beyond first (suc n) (suc slot) notes past = beyond (suc first) n slot notes (omega (arith, past))
 
+-- the two slots of a pattern's group 0 are its own
+owns_whole : (slots p : ℕ) (trees : List Tree) (k : ℕ) → p ≤ k → k < p + length trees → Owns slots p trees k (2 * k) × Owns slots p trees k (2 * k + 1)
+owns_whole slots p [] k from to = absurd (omega (arith, from, to))
+owns_whole slots p (tree ∷ trees) k from to = elim (cases_lt p k) [
+  | inl further ↦
+      let on = owns_whole (slots + 2 * length (numbers_of tree)) (p + 1) trees k (omega (arith, further)) (omega (arith, to)) in
+      (inr on.0, inr on.1)
+  | inr here ↦ (inl (omega (arith, from, here), inl (omega (arith, from, here))), inl (omega (arith, from, here), inr (inl (omega (arith, from, here)))))
+]
+
+-- all that is noted of what an engine finds is its pattern's own
+module _ (e : Engine) (of_trees : IsEngine e) where
+  abbrev NotesOwn : Outcome Notes → Type 0
+  NotesOwn t = All (λ (x : ℕ × ℕ). OwnSlot of_trees.0 t.pattern x.0) t.notes.noted
+
+  kind_own : (kind : MatchKind) (s : Search) (t : Outcome Notes) → FindsOfKind kind e.program s (Some t) → NotesOwn t
+  kind_own kinds.LeftmostFirst s t finds = finds_own of_trees.0 e.program.line_terminator of_trees.1.well_formed is_word_char s (characters_of e.program) t of_trees.1.program finds
+  kind_own kinds.All s t finds =
+      let best = is_best e.program s t finds in
+      let a = best.best in
+      let count : length e.groups ≡ length of_trees.0 = noted_count of_trees.0 e.groups e.which_captures of_trees.1.groups in
+      let known : a.pattern < length of_trees.0 = omega (arith, best_known e of_trees s a best.finds, as_many e of_trees, count) in
+      let own = owns_whole (2 * length of_trees.0 - 2) 0 of_trees.0 a.pattern (omega arith) (omega (arith, known)) in
+      let P : ℕ × ℕ → Type 0 = λ x. OwnSlot of_trees.0 a.pattern x.0 in
+      subst NotesOwn (sym best.is)
+      (All-cons P (2 * a.pattern + 1, a.end) ((2 * a.pattern, a.start) ∷ []) own.1 (All-cons P (2 * a.pattern, a.start) [] own.0 (All-nil P)))
+
 pub others_hold_none : OthersHoldNone
 others_hold_none e s found slots of_trees answer q slot other is =
     let out = some_out answer.found found (sym answer.pattern_is) in
     let t = out.0 in
-    let finds : Finds e.program s (Some t) = subst (λ o. Finds e.program s o) out.1 answer.finds in
+    let finds : EngineFinds e s (Some t) = subst (λ o. EngineFinds e s o) out.1 answer.finds in
     let known : found < length e.groups = subst (λ k. k < length e.groups) out.2 (notes_places e of_trees s t finds).1 in
-    let own = finds_own of_trees.0 e.program.line_terminator of_trees.1.well_formed is_word_char s (characters_of e.program) t of_trees.1.program finds in
+    let own = kind_own e of_trees e.match_kind s t finds in
     let none = none_there (OwnSlot of_trees.0 t.pattern) t.notes.noted slot own
     (λ owns. slots_apart of_trees.0 e.groups found q slot known other (subst (λ k. OwnSlot of_trees.0 k slot) out.2 owns) e.which_captures of_trees.1.groups is) in
     ap (λ xs. place_in xs slot) (answer.slots_are ∙ ap (λ o. answer_slots (length slots) o) out.1) ∙ place_there (length slots) slot t.notes none

@@ -1,16 +1,20 @@
 -- What a PikeVM is, of what it was built, and what it finds.
-use Rattle.std.specs.Prelude.{◌≡◌, ◌↔◌, ℕ, ◌+◌, ◌*◌, Bool, true, false, is_some, IsTrue, IsSome, List, length, Option, Some, None, option_map}
+use Rattle.std.specs.Prelude.{◌≡◌, ◌↔◌, ℕ, ◌+◌, ◌*◌, Bool, true, false, is_some, IsTrue, IsSome, List, [], ◌∷◌, length, Option, Some, None, option_map}
 use Rattle.unicode.specs.Perl.{is_word_char}
+use Rattle.rx_util.specs.declared.search.MatchKind.{MatchKind}
+use Rattle.rx_util.specs.declared.search.MatchKind.TheVariants.{LeftmostFirst, All}
 use Rattle.rx_util.specs.declared.search.Span.{Span}
 use Rattle.rx_util.specs.Search.{Found}
 use Rattle.rx_util.specs.Captured.{place_in, span_between}
 use Rattle.rx_walks.specs.Machines.{Outcome}
 use Rattle.rx_walks.specs.Programs.{Notes}
-use Rattle.rx_walks.specs.Finds.{Search, up_to_place}
-use Rattle.rx_walks.specs.ProgramFinds.{ProgramFinds, start_of, end_of}
+use Rattle.rx_walks.specs.Finds.{Search, PatternMatch, up_to_place}
+use Rattle.rx_walks.specs.Iterating.{Finding}
+use Rattle.rx_walks.specs.ProgramFinds.{ProgramFinds, ProgramFindsAll, start_of, end_of}
 use Rattle.rx_utf8.specs.Automata.{is_in}
 use Rattle.rx_program.specs.Programs.{ByteProgram, characters_of}
-use Rattle.rx_steps.specs.Searching.{IsAnswer, IsFirstEnd}
+use Rattle.rx_steps.specs.Searching.{IsFirstEnd, answer_slots}
+use Rattle.rx_steps.specs.Standing.{StopsAt}
 use Rattle.rx_steps.specs.Threads.{no_slots}
 -- a PikeVM is seen as what it holds of its patterns
 pub use Rattle.rx_engine.specs.Engines.{Engine, EngineSettings, Wanted, nothing_set, size_limit_of, settings_over, by_default, AreNamesOf, AreGroupsOf, IsOfTrees, IsEngine, IsBuiltOfTrees, IsBuiltOf, IsBuiltOfAll, AreRefused, IsRefused, IsRefusedOfAll, refusal_of}
@@ -26,9 +30,39 @@ end_noted pattern slots = place_in slots (2 * pattern + 1)
 abbrev pub whole_span : ℕ → List (Option ℕ) → Option Span
 whole_span pattern slots = span_between (start_noted pattern slots) (end_noted pattern slots)
 
--- what is found by the program
+-- what is found by the program: the leftmost match, and of those that start there the one that is
+-- preferred
 abbrev pub Finds : ByteProgram → Search → Option (Outcome Notes) → Type 0
 Finds p s out = ProgramFinds is_in is_word_char (characters_of p) s out
+
+-- a match of which the whole match is noted, in the two slots of its pattern's group 0, and no other
+-- group
+abbrev pub noted_whole : PatternMatch → Outcome Notes
+noted_whole a = record {
+  pattern = a.pattern;
+  end = a.end;
+  notes = record {
+    start = a.start;
+    noted = (2 * a.pattern + 1, a.end) ∷ (2 * a.pattern, a.start) ∷ [];
+  };
+}
+
+-- what is found by it where all matches are wanted: of all of them one with the greatest end, then
+-- with the least start, then of the least pattern
+pub record FindsAmongAll (p : ByteProgram) (s : Search) (out : Option (Outcome Notes))
+    : Type 0 where
+  pub found : Option PatternMatch
+  pub finds : ProgramFindsAll is_in is_word_char (characters_of p) s found
+  pub out_is : out ≡ option_map noted_whole found
+
+-- what is found of this kind
+abbrev pub FindsOfKind : MatchKind → ByteProgram → Finding
+FindsOfKind LeftmostFirst p = Finds p
+FindsOfKind All p = FindsAmongAll p
+
+-- what an engine finds
+abbrev pub EngineFinds : Engine → Finding
+EngineFinds e = FindsOfKind e.match_kind e.program
 
 -- the match that a walk came to
 abbrev pub match_of : Outcome Notes → Found
@@ -37,32 +71,56 @@ match_of t = record {
   span = record { start = start_of t; end = end_of t };
 }
 
--- a search by the program finds something, or nothing
-abbrev pub TellsWhether : ByteProgram → Search → Bool → Type 0
-TellsWhether p s is_there =
-    (out : Option (Outcome Notes)) × Finds p s out × (IsTrue is_there ↔ IsSome out)
+-- a search finds something, or nothing
+abbrev pub TellsWhether : Finding → Search → Bool → Type 0
+TellsWhether finding s is_there =
+    (out : Option (Outcome Notes)) × finding s out × (IsTrue is_there ↔ IsSome out)
 
--- what a search by the program finds, without its groups
-abbrev pub IsFound : ByteProgram → Search → Option Found → Type 0
-IsFound p s found =
-    (out : Option (Outcome Notes)) × Finds p s out × (found ≡ option_map match_of out)
+-- what a search finds, without its groups
+abbrev pub IsFound : Finding → Search → Option Found → Type 0
+IsFound finding s found =
+    (out : Option (Outcome Notes)) × finding s out × (found ≡ option_map match_of out)
+
+-- what a search answers: the pattern that it finds, and its slots, as many as are asked for
+pub record IsAnswer (finding : Finding) (s : Search) (pattern : Option ℕ)
+    (slots : List (Option ℕ)) : Type 0 where
+  pub found : Option (Outcome Notes)
+  pub finds : finding s found
+  pub pattern_is : pattern ≡ option_map (λ t. t.pattern) found
+  pub slots_are : slots ≡ answer_slots (length slots) found
 
 -- a search tells whether there is a match; and which one it is, unless any will do
-pub record TellsMatch (earliest : Bool) (p : ByteProgram) (s : Search) (found : Option Found)
+pub record TellsMatch (earliest : Bool) (finding : Finding) (s : Search) (found : Option Found)
     : Type 0 where
-  pub whether : TellsWhether p s (is_some found)
-  pub exact : earliest ≡ false → IsFound p s found
+  pub whether : TellsWhether finding s (is_some found)
+  pub exact : earliest ≡ false → IsFound finding s found
 
 -- the same of the pattern and of the places that are noted in slots; none is where nothing is found
-pub record TellsSlots (earliest : Bool) (p : ByteProgram) (s : Search) (pattern : Option ℕ)
+pub record TellsSlots (earliest : Bool) (finding : Finding) (s : Search) (pattern : Option ℕ)
     (slots : List (Option ℕ)) : Type 0 where
-  pub whether : TellsWhether p s (is_some pattern)
-  pub exact : earliest ≡ false → IsAnswer p s pattern slots
+  pub whether : TellsWhether finding s (is_some pattern)
+  pub exact : earliest ≡ false → IsAnswer finding s pattern slots
   pub none : pattern ≡ None → slots ≡ no_slots (length slots)
 
--- what is found by a search that stands at a place then: the match; or, if any match will do and
--- there is one, the match that is found up to this place, which is the first end of one
-abbrev pub IsFoundAt : Bool → ByteProgram → Search → ℕ → Option Found → Type 0
-IsFoundAt false p s i found = IsFound p s found
-IsFoundAt true p s i None = IsFound p s None
-IsFoundAt true p s i (Some m) = IsFirstEnd p s i × IsFound p (up_to_place s i) (Some m)
+-- ---- what a search with an engine that stands at a place then tells: what is found; or, if any
+-- match will do and there is one, what is found up to this place, which is the first end of one
+
+-- as a match
+abbrev pub IsFoundAt : Bool → Engine → Search → ℕ → Option Found → Type 0
+IsFoundAt false e s i found = IsFound (EngineFinds e) s found
+IsFoundAt true e s i None = IsFound (EngineFinds e) s None
+IsFoundAt true e s i (Some m) =
+    IsFirstEnd e.program s i × IsFound (EngineFinds e) (up_to_place s i) (Some m)
+
+-- in slots
+abbrev pub IsAnswerAt : Bool → Engine → Search → ℕ → Option ℕ → List (Option ℕ) → Type 0
+IsAnswerAt false e s i pattern slots = IsAnswer (EngineFinds e) s pattern slots
+IsAnswerAt true e s i None slots = IsAnswer (EngineFinds e) s None slots
+IsAnswerAt true e s i (Some k) slots =
+    IsFirstEnd e.program s i × IsAnswer (EngineFinds e) (up_to_place s i) (Some k) slots
+
+-- where it stands that found a match: where all matches are wanted, and any will do, at the first
+-- end of one; leftmost first where a walk stands that began there or before
+abbrev pub StopsAs : MatchKind → Bool → ByteProgram → Search → ℕ → Type 0
+StopsAs LeftmostFirst earliest p s i = StopsAt earliest p s i
+StopsAs All earliest p s i = earliest ≡ true → IsFirstEnd p s i

@@ -7,8 +7,7 @@ use Rattle.rx_input.specs.declared.cursor.Cursor.{Ghosts}
 use Rattle.rx_steps.specs.Caches.{CacheView}
 use Rattle.rx_steps.specs.Searching.{search_of}
 use Rattle.rx_chunk.specs.declared.pikevm.find_matches.FindMatches.{FindMatches}
-use Rattle.rx_program.specs.Programs.{ByteProgram}
-use Rattle.rx_chunk.specs.Engines.{match_of}
+use Rattle.rx_chunk.specs.Engines.{Engine, EngineFinds, match_of}
 use Rattle.rx_chunk.specs.Iterating.{MatchesLeft, GivesNext}
 
 abbrev pub left_of : {C : Type 0} {cursor : Ghosts C} → FindMatches C cursor → MatchesLeft
@@ -18,15 +17,15 @@ left_of m = record {
   is_over = m.is_over;
 }
 
-abbrev pub program_of : {C : Type 0} {cursor : Ghosts C} → FindMatches C cursor → ByteProgram
-program_of m = m.vm.now.program
+abbrev pub engine_of : {C : Type 0} {cursor : Ghosts C} → FindMatches C cursor → Engine
+engine_of m = m.vm.now
 
 abbrev pub cache_of : {C : Type 0} {cursor : Ghosts C} → FindMatches C cursor → MutBor CacheView
 cache_of m = m.cache
 
--- a step of the iterator, which searches with the same cache for the same program on
+-- a step of the iterator, which searches with the same engine and the same cache on
 pub record Gives {C : Type 0} {cursor : Ghosts C} (m : FindMatches C cursor)
     (item : Option (Result Found MatchError)) (n : FindMatches C cursor) : Type 0 where
-  pub next : GivesNext (program_of m) match_of (left_of m) item (left_of n)
-  pub same_program : program_of n ≡ program_of m
+  pub next : GivesNext (EngineFinds (engine_of m)) match_of (left_of m) item (left_of n)
+  pub same_engine : engine_of n ≡ engine_of m
   pub same_cache : (cache_of n).ghost_name ≡ (cache_of m).ghost_name

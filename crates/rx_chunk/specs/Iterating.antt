@@ -1,7 +1,6 @@
 -- What comes next in an input, and what an iterator over the matches of a program gives.
-use Rattle.std.specs.Prelude.{◌≡◌, ℕ, ◌-◌, ◌<◌, ◌≤◌, ◌==◌, Bool, false, true, List, length, Option, Some, None, option_map, Result, IfSome, IfErr}
-use Rattle.std.specs.Iterator.{Count, at_most, size}
-use Rattle.unicode.specs.Perl.{is_word_char}
+use Rattle.std.specs.Prelude.{◌≡◌, ℕ, ◌-◌, ◌<◌, ◌≤◌, ◌==◌, ◌↔◌, Bool, false, true, List, [], ◌∷◌, ◌++◌, map, length, Option, Some, None, option_map, Result, Err, IfSome, IfErr}
+use Rattle.std.specs.Iterator.{Count, Yields, Drains, at_most, size}
 use Rattle.rx_util.specs.declared.search.MatchError.{MatchError}
 use Rattle.rx_util.specs.declared.search.MatchError.TheVariants.{Memory}
 use Rattle.rx_util.specs.Captured.{Captured, match_found, nothing_noted}
@@ -13,28 +12,29 @@ use Rattle.rx_input.specs.Searchers.{items_at_most}
 use Rattle.rx_walks.specs.Machines.{Outcome}
 use Rattle.rx_walks.specs.Programs.{Notes}
 use Rattle.rx_walks.specs.Finds.{Search, from_place_on}
-use Rattle.rx_walks.specs.Iterating.{FindsNext, GivesMatch, IteratorsGiveInOrder}
+use Rattle.rx_walks.specs.Matches as matches
+use Rattle.rx_walks.specs.Matches.{FirstMatches, Matches}
+use Rattle.rx_walks.specs.ProgramFinds.{start_of, end_of}
+use Rattle.rx_walks.specs.Iterating.{Finding, FindsNext, GivesMatch, not_refused}
 pub use Rattle.rx_walks.specs.Iterating.{MatchesLeft, matches_from}
-use Rattle.rx_utf8.specs.Automata.{is_in}
-use Rattle.rx_program.specs.Programs.{ByteProgram, characters_of}
 use Rattle.rx_steps.specs.Searching.{answer_slots}
-use Rattle.rx_chunk.specs.Engines.{Finds, match_of}
+use Rattle.rx_chunk.specs.Engines.{Engine, EngineFinds, match_of}
 
 -- what a search finds next where the last match, if there was one, ended at `last`: an empty match
 -- there is passed over
-abbrev pub ComesNext : ByteProgram → Search → Option ℕ → Option (Outcome Notes) → Type 0
-ComesNext p s last out = FindsNext (Finds p) s last out
+abbrev pub ComesNext : Finding → Search → Option ℕ → Option (Outcome Notes) → Type 0
+ComesNext finding s last out = FindsNext finding s last out
 
 -- that, without its groups
-abbrev pub IsFoundNext : ByteProgram → Search → Option ℕ → Option Found → Type 0
-IsFoundNext p s last found = (out : Option (Outcome Notes)) × ComesNext p s last out
+abbrev pub IsFoundNext : Finding → Search → Option ℕ → Option Found → Type 0
+IsFoundNext finding s last found = (out : Option (Outcome Notes)) × ComesNext finding s last out
     × (found ≡ option_map match_of out)
 
 -- that as a search answers it: its pattern, and its places in so many slots
-pub record IsNextAnswer (p : ByteProgram) (s : Search) (last pattern : Option ℕ)
+pub record IsNextAnswer (finding : Finding) (s : Search) (last pattern : Option ℕ)
     (slots : List (Option ℕ)) : Type 0 where
   pub out : Option (Outcome Notes)
-  pub comes : ComesNext p s last out
+  pub comes : ComesNext finding s last out
   pub pattern_is : pattern ≡ option_map (λ t. t.pattern) out
   pub slots_are : slots ≡ answer_slots (length slots) out
 
@@ -47,11 +47,11 @@ pub record StartsFrom (old new : InputState) (start : ℕ) : Type 0 where
 abbrev pub IsRefusal : {A : Type 0} → Option (Result A MatchError) → Type 0
 IsRefusal item = IfSome item (λ answer. IfErr answer (λ error. error ≡ Memory))
 
--- a step of an iterator over the matches of a program, of each of which it tells something; none
--- comes where nothing more is found, and after a refusal
-pub record GivesNext {A : Type 0} (p : ByteProgram) (item_of : Outcome Notes → A) (m : MatchesLeft)
-    (item : Option (Result A MatchError)) (n : MatchesLeft) : Type 0 where
-  pub gives : GivesMatch (Finds p) item_of m item n
+-- a step of an iterator over matches, of each of which it tells something; none comes where nothing
+-- more is found, and after a refusal
+pub record GivesNext {A : Type 0} (finding : Finding) (item_of : Outcome Notes → A)
+    (m : MatchesLeft) (item : Option (Result A MatchError)) (n : MatchesLeft) : Type 0 where
+  pub gives : GivesMatch finding item_of m item n
   pub refused : IsRefusal item
 
 -- the last match ended here
@@ -88,13 +88,44 @@ pub record FewerAreLeft : Type 0 where
   pub over : (m n : MatchesLeft) → m.is_over ≡ false → n.is_over ≡ true
       → size (matches_left n) < size (matches_left m)
 
--- an iterator over the matches of any program gives them in order: before a refusal and before it
--- is drained the first ones, drained all of them; `left` tells what it has left, `item_of` what it
--- tells of each, and `gives` its steps
+-- ---- all matches of an engine
+
+-- they are, in order, what is found from each place on
+abbrev pub EngineMatches : Engine → Search → List (Outcome Notes) → Type 0
+EngineMatches e s ms =
+    Matches (λ i out. EngineFinds e (from_place_on s i) out) start_of end_of s.start ms
+
+-- the first members of that list: more may come
+abbrev pub FirstEngineMatches : Engine → Search → List (Outcome Notes) → Type 0
+FirstEngineMatches e s ms =
+    FirstMatches (λ i out. EngineFinds e (from_place_on s i) out) start_of end_of s.start ms
+
+-- what comes next in it behind these, or that none comes
+abbrev pub EngineComesNext : Engine → Search → List (Outcome Notes) → Option (Outcome Notes)
+    → Type 0
+EngineComesNext e s ms out =
+    matches.ComesNext (λ i out. EngineFinds e (from_place_on s i) out) start_of end_of s.start ms out
+
+-- what an iterator gives from a search on: before a refusal and before it is drained the first
+-- matches, drained all of them, and nothing after a refusal
+pub record GivesInOrder {A F : Type 0} (e : Engine) (item_of : Outcome Notes → A)
+    (gives : F → Option (Result A MatchError) → F → Type 0) (s : Search) (m : F) : Type 0 where
+  pub first : (n : F) (items : List A) → Yields gives m (not_refused items) n
+      → (ms : List (Outcome Notes)) × FirstEngineMatches e s ms × (items ≡ map item_of ms)
+  pub all : (items : List A) → Drains gives m (not_refused items)
+      → (ms : List (Outcome Notes)) × EngineMatches e s ms × (items ≡ map item_of ms)
+  pub refused : (n : F) (items : List A) (error : MatchError)
+      (others : List (Result A MatchError))
+      → Yields gives m (not_refused items ++ Err error ∷ others) n → others ≡ []
+
+-- an iterator over the matches of any engine gives them in order; `left` tells what it has left,
+-- `item_of` what it tells of each, and `gives` its steps
 abbrev pub GivesAllInOrder : {A F : Type 0} → (Outcome Notes → A) → (F → MatchesLeft)
     → (F → Option (Result A MatchError) → F → Type 0) → Type 0
-GivesAllInOrder item_of left gives = (p : ByteProgram)
-    → IteratorsGiveInOrder is_in is_word_char (characters_of p) item_of left gives
+GivesAllInOrder {A} {F} item_of left gives = (e : Engine)
+    → ((m n : F) (item : Option (Result A MatchError)) → gives m item n
+    → GivesMatch (EngineFinds e) item_of (left m) item (left n))
+    → (s : Search) (m : F) → left m ≡ matches_from s → GivesInOrder e item_of gives s m
 
 -- what is noted of a match in captures of these groups with so many slots
 abbrev pub captured_of : Groups → ℕ → Outcome Notes → Captured
@@ -110,9 +141,9 @@ captured_by groups len None = nothing_noted groups len
 captured_by groups len (Some t) = captured_of groups len t
 
 -- captures have noted what comes next, and tell the match
-pub record HasNotedNext (p : ByteProgram) (s : Search) (last : Option ℕ) (caps : Captured)
+pub record HasNotedNext (finding : Finding) (s : Search) (last : Option ℕ) (caps : Captured)
     : Type 0 where
   pub out : Option (Outcome Notes)
-  pub comes : ComesNext p s last out
+  pub comes : ComesNext finding s last out
   pub noted : caps ≡ captured_by caps.groups (length caps.slots) out
   pub match_is : match_found caps ≡ option_map match_of out

@@ -3,3 +3,4 @@ pub mod Iterating
 pub mod FindMatches
 pub mod Searches
 pub mod Owned
+pub mod Lists

@@ -3,8 +3,7 @@ use Rattle.std.specs.Prelude.{◌≡◌, ◌⊎◌, ℕ, ◌+◌, List, Option, 
 use Rattle.rx_util.specs.Captured.{place_in}
 use Rattle.rx_util.specs.Groups.{Groups, first_slot}
 use Rattle.rx_walks.specs.Finds.{Search}
-use Rattle.rx_steps.specs.Searching.{IsAnswer}
-use Rattle.rx_chunk.specs.Engines.{Engine, IsEngine}
+use Rattle.rx_chunk.specs.Engines.{Engine, EngineFinds, IsAnswer, IsEngine}
 
 -- it is one of the two slots of some group of the pattern
 pub record IsSlotOf (groups : Groups) (pattern slot : ℕ) : Type 0 where
@@ -16,5 +15,5 @@ pub record IsSlotOf (groups : Groups) (pattern slot : ℕ) : Type 0 where
 -- where a pattern is found, no slot of another one holds a place
 abbrev pub OthersHoldNone : Type 0
 OthersHoldNone = (e : Engine) (s : Search) (found : ℕ) (slots : List (Option ℕ)) → IsEngine e
-    → IsAnswer e.program s (Some found) slots → (pattern slot : ℕ) → (pattern ≡ found → ⊥)
+    → IsAnswer (EngineFinds e) s (Some found) slots → (pattern slot : ℕ) → (pattern ≡ found → ⊥)
     → IsSlotOf e.groups pattern slot → place_in slots slot ≡ None

@@ -8,11 +8,10 @@ use Rattle.rx_input.specs.Inputs.{InputState}
 use Rattle.rx_input.specs.Searchers.{EndsInside}
 use Rattle.rx_walks.specs.Finds.{Search}
 use Rattle.rx_steps.specs.Nodes.{node_count}
-use Rattle.rx_steps.specs.Searching.{search_of, IsAnswerAt}
-use Rattle.rx_steps.specs.Standing.{StopsAt}
+use Rattle.rx_steps.specs.Searching.{search_of}
 use Rattle.rx_steps.specs.Caches.{CacheView, IsCacheOf, place_count}
 use Rattle.rx_chunk.specs.Engines as engines
-use Rattle.rx_chunk.specs.Engines.{Engine}
+use Rattle.rx_chunk.specs.Engines.{Engine, EngineFinds, IsAnswerAt, StopsAs}
 
 -- the search that an input asks an engine for
 abbrev pub search_by : Engine → InputState → Search
@@ -22,18 +21,19 @@ search_by e i = search_of e.utf8_empty i
 
 -- whether there is a match; and which one it is, unless any will do
 abbrev pub TellsMatch : Engine → InputState → Option Found → Type 0
-TellsMatch e i found = engines.TellsMatch i.asked.earliest e.program (search_by e i) found
+TellsMatch e i found =
+    engines.TellsMatch i.asked.earliest (EngineFinds e) (search_by e i) found
 
 -- the same of the pattern and of the places that are noted in slots
 abbrev pub TellsSlots : Engine → InputState → Option ℕ → List (Option ℕ) → Type 0
 TellsSlots e i pattern slots =
-    engines.TellsSlots i.asked.earliest e.program (search_by e i) pattern slots
+    engines.TellsSlots i.asked.earliest (EngineFinds e) (search_by e i) pattern slots
 
 -- the same of a search that stands at a place then: if any match will do, what is noted is what is
 -- found up to this place
 abbrev pub TellsSlotsAt : Engine → InputState → ℕ → Option ℕ → List (Option ℕ) → Type 0
 TellsSlotsAt e i at pattern slots =
-    IsAnswerAt i.asked.earliest e.program (search_by e i) at pattern slots
+    IsAnswerAt i.asked.earliest e (search_by e i) at pattern slots
 
 -- captures of the engine's groups with slots for the whole match of each pattern
 abbrev pub HoldsMatches : Engine → Captured → Type 0
@@ -47,10 +47,10 @@ pub record TellsWhole (e : Engine) (i : InputState) (caps : Captured) : Type 0 w
 
 -- ---- what it leaves
 
--- where it found a match, it stands at a place that a walk reached which began before the first end
--- of a match; and at that end, if any match will do
+-- where it found a match, it stands at the first end of one, if any match will do; and else, unless
+-- all matches are wanted, at a place that a walk reached which began before that end
 abbrev pub StopsInTime : Engine → InputState → ℕ → Type 0
-StopsInTime e i at = StopsAt i.asked.earliest e.program (search_by e i) at
+StopsInTime e i at = StopsAs e.match_kind i.asked.earliest e.program (search_by e i) at
 
 -- an input over the same content, of which the same is asked; the piece that is shown, and the
 -- position, may be others

@@ -8,24 +8,27 @@ ghost use Rattle.rx_util.specs.Captured.{nothing_noted, place_in, group_span, ma
 ghost use Rattle.rx_grammar.specs.Postorder.{tree_of};
 ghost use Rattle.rx_grammar.specs.Settings.{default_settings};
 ghost use Rattle.rx_input.specs.Searchers.{EndsInside};
-ghost use Rattle.rx_steps.specs.Searching.{IsAnswerAt, IsFirstEnd};
+ghost use Rattle.rx_util.specs.declared.search.MatchKind.{MatchKind};
+ghost use Rattle.rx_steps.specs.Searching.{IsFirstEnd, IsAnswerAt as IsFirstAnswerAt};
 ghost use Rattle.rx_steps.specs.Standing.{StopsAt};
 ghost use Rattle.rx_steps.specs.Threads.{no_slots};
 ghost use Rattle.rx_steps.specs.Caches.{IsCacheOf};
-ghost use Rattle.rx_chunk.specs.Engines.{nothing_set, settings_over, IsEngine, AreRefused, IsBuiltOf, IsBuiltOfAll, IsBuiltOfTrees, IsRefused, IsRefusedOfAll, TellsWhether, IsFoundAt, by_default, end_noted, start_noted, whole_span};
+ghost use Rattle.rx_chunk.specs.Engines.{nothing_set, settings_over, IsEngine, AreRefused, IsBuiltOf, IsBuiltOfAll, IsBuiltOfTrees, IsRefused, IsRefusedOfAll, EngineFinds, IsAnswerAt, IsFoundAt, StopsAs, TellsWhether, by_default, end_noted, start_noted, whole_span};
 ghost use Rattle.rx_chunk.specs.Iterating.{EndsAhead, HasNotedNext, IsFoundNext, IsNextAnswer, StartsFrom, matches_from};
-ghost use Rattle.rx_chunk.specs.FindMatches.{cache_of, left_of, program_of};
+ghost use Rattle.rx_chunk.specs.FindMatches.{cache_of, engine_of, left_of};
 ghost use Rattle.rx_chunk.specs.Searches.{AsksTheSame, HoldsMatches, ServesOn, StopsInTime, TellsMatch, TellsSlots, TellsSlotsAt, TellsWhole, search_by};
 
+use all::seek_all;
 use rx_engine::Compiled;
 use rx_grammar::{Hir, syntax};
 use rx_input::{Cursor, Input};
 use rx_program::{BuildError, Program};
 use rx_steps as search;
-use rx_util::{Captures, GroupInfo, Match, MatchError, NonMaxUsize, PatternID, Span};
+use rx_util::{Captures, GroupInfo, Match, MatchError, MatchKind, NonMaxUsize, PatternID, Span};
 use std::alloc::{AllocError, Global};
 use std::marker::Model;
 
+mod all;
 mod find_matches;
 
 pub use find_matches::FindMatches;
@@ -134,8 +137,9 @@ impl Builder {
     }
 }
 
-/// An engine that searches for a pattern, or for several. Contracts see their program, those of
-/// their groups that are noted, and whether it passes over empty matches inside a character.
+/// An engine that searches for a pattern, or for several. Contracts see their program, which match
+/// it finds, those of their groups that are noted, and whether it passes over empty matches inside
+/// a character.
 #[derive(Debug, Drop)]
 pub struct PikeVM {
     compiled: Compiled,
@@ -227,6 +231,13 @@ impl PikeVM {
         self.compiled.captures_len()
     }
 
+    /// Returns which of all matches it finds. `O(1)`.
+    pub fn match_kind(&self) -> MatchKind
+        ensures { result ≡ self.now.match_kind }
+    {
+        self.compiled.match_kind()
+    }
+
     /// Returns whether empty matches inside a character are passed over, for these engines too.
     pub fn utf8_empty(&self) -> bool
         ensures { result ≡ self.now.utf8_empty }
@@ -303,9 +314,10 @@ impl Cache {
 /// The one error is `Memory`: then no slot holds a place. Requires that the cache is one for the
 /// engine, as it is afterwards too.
 ///
-/// It stops where a match is found and no walk is left to follow. It follows each node of the
-/// program once at most at each place (`serves`), which takes time in proportion to the program
-/// times the content times the slots.
+/// It stops where a match is found and no walk is left to follow. An engine for all matches goes
+/// through all of the span unless it is anchored; of groups it notes the whole match alone. Each
+/// node of the program is followed once at most at each place (`serves`), which takes time in
+/// proportion to the program times the content, and, but for all matches, times the slots.
 pub fn search_slots<C: Cursor>(
     vm: &PikeVM,
     cache: &mut Cache,
@@ -336,7 +348,34 @@ fn seek<C: Cursor>(
     slots: &mut [Option<NonMaxUsize>],
 ) -> Result<Option<PatternID>, MatchError>
     requires made { IsCacheOf vm.now.program cache.old }
-    ensures answer { IfOk result (λ pattern. IsAnswerAt earliest vm.now.program
+    ensures answer { IfOk result (λ pattern. IsAnswerAt earliest vm.now
+        (search_by vm.now input.old) input.new.position pattern slots.new) }
+    ensures stops { IfOk result (λ pattern. ForSome pattern (λ _. StopsAs vm.now.match_kind
+        earliest vm.now.program (search_by vm.now input.old) input.new.position)) }
+    ensures none { OnErr result (slots.new ≡ no_slots (length slots.new)) }
+    ensures serves { ServesOn vm.now input.old cache.old cache.new }
+    ensures asks { AsksTheSame input.old input.new }
+    ensures engine { IsEngine vm.now }
+    ensures bound { length input.old.cursor.content < 2 ^ 63 }
+    ensures refused { IfErr result (λ error. error ≡ MatchError.Memory) }
+{
+    let _at = input.position(); // tells how long the content may be
+    match vm.match_kind() {
+        MatchKind::LeftmostFirst => seek_first(vm, cache, input, earliest, slots),
+        MatchKind::All => seek_all(vm, cache, input, earliest, slots),
+    }
+}
+
+/// Searches for the leftmost match, whichever the engine finds, with `earliest` as it is said here.
+fn seek_first<C: Cursor>(
+    vm: &PikeVM,
+    cache: &mut search::Cache,
+    input: &mut Input<C>,
+    earliest: bool,
+    slots: &mut [Option<NonMaxUsize>],
+) -> Result<Option<PatternID>, MatchError>
+    requires made { IsCacheOf vm.now.program cache.old }
+    ensures answer { IfOk result (λ pattern. IsFirstAnswerAt earliest vm.now.program
         (search_by vm.now input.old) input.new.position pattern slots.new) }
     ensures stops { IfOk result (λ pattern. ForSome pattern (λ _. StopsAt earliest vm.now.program
         (search_by vm.now input.old) input.new.position)) }
@@ -390,11 +429,11 @@ fn note<C: Cursor>(
     caps: &mut Captures,
 ) -> Result<(), MatchError>
     requires made { IsCacheOf vm.now.program cache.old }
-    ensures answer { OnOk result (IsAnswerAt earliest vm.now.program
+    ensures answer { OnOk result (IsAnswerAt earliest vm.now
         (search_by vm.now input.old) input.new.position caps.new.pattern
         caps.new.slots) }
-    ensures stops { OnOk result (ForSome caps.new.pattern (λ _. StopsAt earliest vm.now.program
-        (search_by vm.now input.old) input.new.position)) }
+    ensures stops { OnOk result (ForSome caps.new.pattern (λ _. StopsAs vm.now.match_kind
+        earliest vm.now.program (search_by vm.now input.old) input.new.position)) }
     ensures groups { caps.new.groups ≡ caps.old.groups }
     ensures slot_len { length caps.new.slots ≡ length caps.old.slots }
     ensures no_answer { OnErr result (caps.new.pattern ≡ None) }
@@ -420,7 +459,7 @@ pub fn is_match<C: Cursor>(
     input: &mut Input<C>,
 ) -> Result<bool, MatchError>
     requires made { IsCacheOf vm.now.program cache.old }
-    ensures answer { IfOk result (λ yes. TellsWhether vm.now.program
+    ensures answer { IfOk result (λ yes. TellsWhether (EngineFinds vm.now)
         (search_by vm.now input.old) yes) }
     ensures stops { IfOk result (λ yes. IsTrue yes → IsFirstEnd vm.now.program
         (search_by vm.now input.old) input.new.position) }
@@ -428,7 +467,7 @@ pub fn is_match<C: Cursor>(
     ensures asks { AsksTheSame input.old input.new }
     ensures refused { IfErr result (λ error. error ≡ MatchError.Memory) }
 {
-    let pattern = seek(vm, &mut cache.room, input, true, &mut [])?;
+    let pattern = seek_first(vm, &mut cache.room, input, true, &mut [])?;
     Ok(pattern.is_some())
 }
 
@@ -511,10 +550,10 @@ fn look_for<C: Cursor>(
     earliest: bool,
 ) -> Result<Option<Match>, MatchError>
     requires made { IsCacheOf vm.now.program cache.old }
-    ensures answer { IfOk result (λ found. IsFoundAt earliest vm.now.program
+    ensures answer { IfOk result (λ found. IsFoundAt earliest vm.now
         (search_by vm.now input.old) input.new.position found) }
-    ensures stops { IfOk result (λ found. ForSome found (λ _. StopsAt earliest vm.now.program
-        (search_by vm.now input.old) input.new.position)) }
+    ensures stops { IfOk result (λ found. ForSome found (λ _. StopsAs vm.now.match_kind
+        earliest vm.now.program (search_by vm.now input.old) input.new.position)) }
     ensures serves { ServesOn vm.now input.old cache.old cache.new }
     ensures asks { AsksTheSame input.old input.new }
     ensures bound { OnOk result (length input.old.cursor.content < 2 ^ 63) }
@@ -560,7 +599,7 @@ pub fn next_slots<C: Cursor>(
 ) -> Result<Option<PatternID>, MatchError>
     requires made { IsCacheOf vm.now.program cache.old }
     requires slots { 2 * length vm.now.groups ≤ length slots.old }
-    ensures answer { IfOk result (λ pattern. IsNextAnswer vm.now.program
+    ensures answer { IfOk result (λ pattern. IsNextAnswer (EngineFinds vm.now)
         (search_by vm.now input.old) last_match_end pattern slots.new) }
     ensures none { OnErr result (slots.new ≡ no_slots (length slots.new)) }
     ensures made { IsCacheOf vm.now.program cache.new }
@@ -581,7 +620,7 @@ fn next_in<C: Cursor>(
 ) -> Result<Option<PatternID>, MatchError>
     requires made { IsCacheOf vm.now.program cache.old }
     requires slots { 2 * length vm.now.groups ≤ length slots.old }
-    ensures answer { IfOk result (λ pattern. IsNextAnswer vm.now.program
+    ensures answer { IfOk result (λ pattern. IsNextAnswer (EngineFinds vm.now)
         (search_by vm.now input.old) last_match_end pattern slots.new) }
     ensures none { OnErr result (slots.new ≡ no_slots (length slots.new)) }
     ensures made { IsCacheOf vm.now.program cache.new }
@@ -609,7 +648,7 @@ pub fn find_next<C: Cursor>(
     last_match_end: Option<usize>,
 ) -> Result<Option<Match>, MatchError>
     requires made { IsCacheOf vm.now.program cache.old }
-    ensures answer { IfOk result (λ found. IsFoundNext vm.now.program
+    ensures answer { IfOk result (λ found. IsFoundNext (EngineFinds vm.now)
         (search_by vm.now input.old) last_match_end found) }
     ensures ahead { IfOk result (λ found. ForSome found (λ m. EndsAhead last_match_end
         (search_by vm.now input.old) m.span.end)) }
@@ -637,7 +676,7 @@ pub fn search_next<C: Cursor>(
     requires made { IsCacheOf vm.now.program cache.old }
     requires groups { caps.old.groups ≡ vm.now.groups }
     requires slots { 2 * length vm.now.groups ≤ length caps.old.slots }
-    ensures answer { OnOk result (HasNotedNext vm.now.program
+    ensures answer { OnOk result (HasNotedNext (EngineFinds vm.now)
         (search_by vm.now input.old) last_match_end caps.new) }
     ensures ordered { OnOk result (ForSome (group_span caps.new 0)
         (λ span. span.start ≤ span.end)) }
@@ -666,7 +705,7 @@ pub fn find_iter<'r, 'c, C: Cursor>(
 ) -> FindMatches<'r, 'c, C>
     requires made { IsCacheOf vm.now.program cache.old }
     ensures left { left_of result ≡ matches_from (search_by vm.now input) }
-    ensures program { program_of result ≡ vm.now.program }
+    ensures engine { engine_of result ≡ vm.now }
     ensures same_cache { (cache_of result).ghost_name ≡ cache.entry.ghost_name }
 {
     FindMatches::new(vm, cache, input)

@@ -4,6 +4,7 @@ pub mod LookLaws
 pub mod StepLaws
 pub mod LoopLaws
 pub mod StateLaws
+pub mod CopyLaws
 pub mod TableLaws
 pub mod PassLaws
 pub mod SearchLaws

@@ -54,14 +54,14 @@ pub struct Cache {
     pub(crate) table: Vec<u32>,
     pub(crate) states: Vec<AutomatonState>,
     // By its hash the number of a state; of states with one hash, that of the last.
-    numbers: HashMap<u64, usize>,
+    pub(crate) numbers: HashMap<u64, usize>,
     // About how many bytes the states take.
-    used: usize,
+    pub(crate) used: usize,
     // How often it was cleared in this search, and in all that it has served.
-    cleared: usize,
-    clear_count: usize,
+    pub(crate) cleared: usize,
+    pub(crate) clear_count: usize,
     // The numbers that first states had, by how walks start and what stands before.
-    firsts: [usize; 15],
+    pub(crate) firsts: [usize; 15],
 }
 
 impl Model for Cache {

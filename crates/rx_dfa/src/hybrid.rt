@@ -194,6 +194,18 @@ impl Cache {
         })
     }
 
+    /// A cache for searches with the same engine, which knows what this one knows. The one refusal
+    /// is `Memory`. It takes as much memory as this one has taken for that.
+    pub fn clone(&self) -> Result<Cache, MatchError>
+        ensures same { IfOk result (λ cache. cache ≡ self.now) }
+        ensures refused { IfErr result (λ error. error ≡ MatchError.Memory) }
+    {
+        Ok(Cache {
+            states: self.states.clone()?,
+            back: self.back.clone()?,
+        })
+    }
+
     /// Makes the cache one for searches with this engine. The one refusal is `Memory`; the cache is
     /// then as it was.
     pub fn reset(&mut self, re: &Regex) -> Result<(), MatchError>

@@ -6,6 +6,7 @@ mod automaton;
 mod behind;
 mod cache;
 mod classes;
+mod copies;
 pub mod dense;
 mod dense_table;
 mod determinize;

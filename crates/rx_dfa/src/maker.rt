@@ -62,6 +62,19 @@ impl Maker {
         })
     }
 
+    /// Room for the steps of the same program. The one refusal is `Memory`.
+    pub(crate) fn another(&self) -> Result<Maker, MatchError>
+        ensures made { IfOk result (λ maker. maker.stepper.widths ≡ self.now.stepper.widths) }
+        ensures refused { IfErr result (λ error. error ≡ MatchError.Memory) }
+    {
+        Ok(Maker {
+            alloc: self.alloc,
+            stepper: self.stepper.another()?,
+            from: ThreadList::new(self.alloc, 0),
+            next: ThreadList::new(self.alloc, 0),
+        })
+    }
+
     /// Where it takes memory from.
     pub(crate) fn allocator(&self) -> Global {
         self.alloc

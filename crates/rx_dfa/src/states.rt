@@ -1,6 +1,6 @@
 //! The states of an automaton.
 
-ghost use Rattle.std.specs.Prelude.{◌≡◌, false, true, []};
+ghost use Rattle.std.specs.Prelude.{◌≡◌, false, true, [], IfOk};
 ghost use Rattle.rx_dfa.specs.declared.states.Starting.TheVariants.{Never};
 ghost use Rattle.rx_steps.specs.Alike.{AreBare};
 ghost use Rattle.rx_dfa.specs.Classes.{continues};
@@ -12,7 +12,7 @@ ghost use Rattle.rx_dfa.specs.States.{start_at, starting_after, ahead_of, ahead_
 use crate::behind::Behind;
 use rx_steps::{Node, ThreadList};
 use rx_util::{HalfMatch, PatternID, StateID};
-use std::alloc::Global;
+use std::alloc::{AllocError, Global};
 
 /// Whether walks start at a place and at those behind it, and from which state of the program.
 #[derive(Clone, Copy, Debug, PartialEq, Eq)]
@@ -191,6 +191,18 @@ impl AutomatonState {
             behind,
             ended: None,
         }
+    }
+
+    /// The same state.
+    pub(crate) fn clone(&self) -> Result<AutomatonState, AllocError>
+        ensures { IfOk result (λ state. state ≡ self.now) }
+    {
+        Ok(AutomatonState {
+            threads: self.threads.clone()?,
+            starting: self.starting,
+            behind: self.behind,
+            ended: self.ended,
+        })
     }
 
     /// Whether it is the state in which a search stands at its first place.

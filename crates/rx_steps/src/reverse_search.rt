@@ -234,6 +234,23 @@ impl ReverseCache {
             },
         })
     }
+
+    /// Room for searches back through the same program. The one refusal is `Memory`. It takes
+    /// memory as a new one does.
+    pub fn clone(&self) -> Result<ReverseCache, MatchError>
+        ensures same { IfOk result (λ cache. cache ≡ self.now) }
+        ensures refused { IfErr result (λ error. error ≡ MatchError.Memory) }
+    {
+        let alloc = self.walks.stepper.allocator();
+        Ok(ReverseCache {
+            walks: WalksBack {
+                stepper: self.walks.stepper.another()?,
+                asks_looks: self.walks.asks_looks,
+                live: ThreadList::new(alloc, 0),
+                next: ThreadList::new(alloc, 0),
+            },
+        })
+    }
 }
 
 /// What is told of the match that was met, if one was: an empty one, which starts at the span's

@@ -306,7 +306,7 @@ impl Stepper {
 
     /// Room for steps of the same program, of which none was made yet. The one refusal is
     /// `Memory`.
-    pub(crate) fn another(&self) -> Result<Stepper, MatchError>
+    pub fn another(&self) -> Result<Stepper, MatchError>
         ensures widths { IfOk result (λ stepper. stepper.widths ≡ self.now.widths) }
         ensures followed { IfOk result (λ stepper. stepper.followed ≡ 0) }
         ensures refused { IfErr result (λ error. error ≡ MatchError.Memory) }

@@ -1,6 +1,6 @@
 //! The threads at a place, in order of preference.
 
-ghost use Rattle.std.specs.Prelude.{◌≡◌, ◌+◌, ◌*◌, ◌<◌, ◌≤◌, ◌++◌, ◌∷◌, [], length, take, drop, slice_get, IsSomeAnd, OnErr, OnOk};
+ghost use Rattle.std.specs.Prelude.{◌≡◌, ◌+◌, ◌*◌, ◌<◌, ◌≤◌, ◌++◌, ◌∷◌, [], length, take, drop, slice_get, IfOk, IsSomeAnd, OnErr, OnOk};
 ghost use Rattle.rx_steps.specs.Threads.{no_slots, threads_of};
 ghost use Rattle.rx_steps.specs.Alike.{AreBare};
 
@@ -88,6 +88,18 @@ impl ThreadList {
             nodes: Vec::new(alloc),
             slots: Vec::new(alloc),
         }
+    }
+
+    /// The same threads.
+    pub fn clone(&self) -> Result<ThreadList, AllocError>
+        ensures { IfOk result (λ threads. threads ≡ self.now) }
+    {
+        let alloc = *self.nodes.allocator();
+        Ok(ThreadList {
+            slot_len: self.slot_len,
+            nodes: self.nodes.to_vec(alloc)?,
+            slots: self.slots.to_vec(alloc)?,
+        })
     }
 
     /// How many slots each thread has.

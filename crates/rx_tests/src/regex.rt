@@ -9,8 +9,8 @@ use regex_cursor::engines::meta::{
 use regex_cursor::engines::pikevm::{self, PikeVM};
 use regex_cursor::util::syntax;
 use regex_cursor::{
-    BuildError, ChunkCursor, Cursor, Input, Match, MatchError, MatchKind, NonMaxUsize, Prefilter,
-    RopeyCursor, Span, WhichCaptures, parse,
+    BuildError, ChunkCursor, Cursor, Input, Match, MatchError, MatchKind, NonMaxUsize, PatternID,
+    Prefilter, RopeyCursor, Span, WhichCaptures, parse,
 };
 use ropey::Rope;
 use std::alloc::Global;
@@ -135,6 +135,27 @@ fn config(rt: HostRuntime) -> Result<(), Fail> {
     assert!(rt; re.captures_len() == 3 && re.group_info().slot_len() == 4);
     let config = re.get_config().clone()?;
     assert!(rt; config.get_line_terminator() == b';' && !config.get_hybrid() && config.get_dfa());
+    Ok(())
+}
+
+/// Of all matches that with the greatest end, of which the whole match alone is noted.
+#[test]
+fn match_kind(rt: HostRuntime) -> Result<(), Fail> {
+    let mut builder = Regex::builder();
+    builder.configure(Config::new().match_kind(MatchKind::All));
+    let re = builder.build_many(rt.alloc(), &["a", "(a)b"])?;
+    assert!(rt; re.get_config().get_match_kind() == MatchKind::All && !re.is_accelerated());
+    let mut caps = re.create_captures()?;
+    re.captures(Input::new("abab"), &mut caps)?;
+    let last = Match::new(PatternID::new(1), Span { start: 2, end: 4 });
+    assert!(rt; caps.get_match() == Some(last));
+    assert!(rt; caps.get_group(1) == None);
+    assert!(rt; re.split(Input::new("abab"))?.count() == 2);
+    let vm = pikevm::Builder::new()
+        .configure(pikevm::Config::new().match_kind(MatchKind::All))
+        .build_many(rt.alloc(), &["a", "(a)b"])?;
+    let mut cache = vm.create_cache()?;
+    assert!(rt; pikevm::find(&vm, &mut cache, &mut Input::new("abab"))? == Some(last));
     Ok(())
 }
 

@@ -4,6 +4,7 @@ ghost use Rattle.std.specs.Prelude.{◌^◌, ◌<◌, length};
 ghost use Rattle.rx_steps.specs.Caches.{IsCacheOf};
 ghost use Rattle.rx_input.specs.Chunks.{joined};
 
+use crate::best;
 use crate::fields::{Fault, Fields, TERMINATOR};
 use crate::haystacks::{Asked, haystack, input, pieces};
 use rx_grammar::{Hir, parse};
@@ -14,17 +15,17 @@ use std::alloc::Global;
 
 /// Where it stands in a line how the haystack is cut, and behind it the haystack and what is asked
 /// for.
-const CUT: usize = 6;
+pub const CUT: usize = 6;
 
-const HAYSTACK: usize = 7;
+pub const HAYSTACK: usize = 7;
 
-const ASKED: usize = 8;
+pub const ASKED: usize = 8;
 
 /// Where it stands whether empty matches inside a character are found, whether any match will do,
 /// and whether the cache serves a second time.
-const INSIDE: usize = 13;
+pub const INSIDE: usize = 13;
 
-const EARLIEST: usize = 14;
+pub const EARLIEST: usize = 14;
 
 const AGAIN: usize = 15;
 
@@ -73,6 +74,11 @@ fn search(
     search_all(program, cache, &mut input, !inside, earliest)
 }
 
+/// Whether the cache serves a second time.
+pub fn is_again(fields: &Fields) -> bool {
+    fields.number(AGAIN) == Some(1)
+}
+
 /// What is found by a cache of its own, which perhaps serves a second time.
 fn found_in(
     alloc: Global,
@@ -84,20 +90,22 @@ fn found_in(
 {
     let mut cache = Cache::new(alloc, program)?;
     let found = search(program, &mut cache, pieces, fields)?;
-    let is_again = fields.number(AGAIN) == Some(1);
-    if is_again && search(program, &mut cache, pieces, fields)? != found {
+    if is_again(fields) && search(program, &mut cache, pieces, fields)? != found {
         return Err(Fault::Differs);
     }
     Ok(found)
 }
 
-/// The match that is found, as its pattern, its start and its end, or `none`.
+/// The match that is found, as its pattern, its start and its end, or `none`. The PikeVM and a
+/// `Regex` must find it too.
 pub fn found(alloc: Global, fields: &Fields) -> Result<String, Fault> {
     let trees = spelled(alloc, fields)?;
     let program = program(alloc, &trees, fields.byte(TERMINATOR).unwrap_or(b'\n'))?;
     let haystack = haystack(alloc, fields, HAYSTACK)?;
     let pieces = pieces(alloc, &haystack, fields.word(CUT))?;
-    match found_in(alloc, &program, &pieces, fields)? {
+    let found = found_in(alloc, &program, &pieces, fields)?;
+    best::agree(alloc, fields, &pieces, found)?;
+    match found {
         None => Ok(String::from_str(alloc, "none")?),
         Some(found) => {
             let pattern = found.pattern().as_usize();

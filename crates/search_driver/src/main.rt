@@ -30,10 +30,15 @@
 //!   `advance_half,..` where each ends, as calls of a `Searcher` tell them.
 //! - `slots,PATTERN,SETTINGS,CUT,HAYSTACK,ASKED,INSIDE,COUNT`: what the first match notes in so
 //!   many slots.
+//! - `captured,PATTERN,SETTINGS,CUT,HAYSTACK,ASKED,INSIDE`: where it is, by slots for whole matches
+//!   alone, and whether group 1 is told then.
 //! - `all,PATTERNS,SETTINGS,CUT,HAYSTACK,ASKED,INSIDE,EARLIEST,AGAIN`: of all matches of several
 //!   patterns, parted by dots (a dash stands for no pattern), the one of the greatest end, then of
 //!   the least start, then of the least pattern, as its pattern, start and end, or `none`. Any
 //!   match will do where `EARLIEST` is 1, and the cache serves a second time where `AGAIN` is 1.
+//!   The PikeVM and a `Regex` must find it too.
+//! - `best,PATTERNS,SETTINGS,CUT,HAYSTACK,ASKED,INSIDE`: these matches one after the other, parted
+//!   by commas, by the PikeVM; a `Regex` must give the same.
 //! - `backwards,PATTERNS,SETTINGS,CUT,HAYSTACK,ASKED,INSIDE,TIMES`: of the matches of several
 //!   patterns that end at the end of the span the one of the least start, then of the least
 //!   pattern, as its pattern and start, or `none`, or why there is no answer; once the cache has
@@ -82,6 +87,7 @@
 
 mod automata;
 mod backwards;
+mod best;
 mod every;
 mod explained;
 mod fields;
@@ -121,7 +127,9 @@ fn answer(alloc: Global, line: &str) -> Result<String, Fault> {
         "search" => searches::matches(alloc, &fields),
         "advance" | "advance_half" => searchers::matches(alloc, &fields),
         "slots" => slots::noted(alloc, &fields),
+        "captured" => slots::captured(alloc, &fields),
         "all" => every::found(alloc, &fields),
+        "best" => best::matches(alloc, &fields),
         "backwards" => backwards::found(alloc, &fields),
         "under" => settings::matches(alloc, &fields),
         "counted" => settings::counts(alloc, &fields),

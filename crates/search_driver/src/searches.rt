@@ -128,7 +128,7 @@ fn tell_all(
 }
 
 /// The matches that `find_iter` gives.
-fn spans<'a>(
+pub fn spans<'a>(
     alloc: Global,
     vm: &'a PikeVM,
     input: Input<ChunkCursor<'a>>,

@@ -47,9 +47,18 @@ fn prefilter(alloc: Global, digits: &str) -> Result<Option<Prefilter>, Fault> {
     Ok(Prefilter::new(alloc, MatchKind::LeftmostFirst, &needles)?)
 }
 
+/// Which match is found.
+fn kind(value: &str) -> MatchKind {
+    match value {
+        "all" => MatchKind::All,
+        _ => MatchKind::LeftmostFirst,
+    }
+}
+
 /// Settings with this one more.
 fn with(alloc: Global, config: Config, name: &str, value: &str) -> Result<Config, Fault> {
     Ok(match name {
+        "match_kind" => config.match_kind(kind(value)),
         "utf8_empty" => config.utf8_empty(yes(value)),
         "auto_prefilter" => config.auto_prefilter(yes(value)),
         "prefilter" => config.prefilter(prefilter(alloc, value)?),
@@ -161,14 +170,15 @@ pub fn getters(alloc: Global, fields: &Fields) -> Result<String, Fault> {
 /// What those getters tell that answer yes or no, or one of few.
 fn flags(alloc: Global, config: &Config) -> Result<String, Fault> {
     let prefilter = config.get_prefilter().is_some();
-    let which = config.get_which_captures();
+    let (kind, which) = (config.get_match_kind(), config.get_which_captures());
     let (utf8_empty, auto) = (config.get_utf8_empty(), config.get_auto_prefilter());
     let (classes, hybrid, dfa) = (
         config.get_byte_classes(),
         config.get_hybrid(),
         config.get_dfa(),
     );
-    Ok(format!(in alloc; "{utf8_empty} {auto} {prefilter} {which:?} {classes} {hybrid} {dfa} ")?)
+    let engines = format!(in alloc; "{classes} {hybrid} {dfa}")?;
+    Ok(format!(in alloc; "{kind:?} {utf8_empty} {auto} {prefilter} {which:?} {engines} ")?)
 }
 
 /// What those getters tell that answer numbers.

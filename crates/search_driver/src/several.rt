@@ -50,10 +50,7 @@ fn in_haystack(alloc: Global, fields: &Fields, patterns: &[&str]) -> Result<Stri
     let asked = Asked::read(fields, ASKED);
     // It asks first how large the patterns are.
     let told = by_regex(alloc, patterns, &pieces, &asked)?;
-    let end = told
-        .0
-        .map(|found| HalfMatch::new(found.pattern(), found.end()));
-    agree_all(alloc, fields, patterns, &pieces, &asked, end)?;
+    agree_all(alloc, fields, patterns, &pieces, &asked, told.0)?;
     Ok(told.1)
 }
 
@@ -76,20 +73,25 @@ fn by_regex(
     Ok((first, told(alloc, &re, input(pieces, asked))?))
 }
 
-/// Whether automata of these patterns, and of what they spell, come to the same end.
+/// Whether automata of these patterns find the same match, and those of what they spell come to its
+/// end.
 fn agree_all(
     alloc: Global,
     fields: &Fields,
     patterns: &[&str],
     pieces: &[&[u8]],
     asked: &Option<Asked>,
-    end: Option<HalfMatch>,
+    first: Option<Match>,
 ) -> Result<(), Fault>
     requires { length (joined pieces.now) < 2 ^ 63 }
 {
     let trees = spelled(alloc, fields)?;
-    agree(end, by_hybrid(alloc, patterns, &mut input(pieces, asked))?)?;
-    agree(end, by_dfa(alloc, patterns, &mut input(pieces, asked))?)?;
+    agree(
+        first,
+        by_hybrid(alloc, patterns, &mut input(pieces, asked))?,
+    )?;
+    agree(first, by_dfa(alloc, patterns, &mut input(pieces, asked))?)?;
+    let end = first.map(|found| HalfMatch::new(found.pattern(), found.end()));
     agree(end, by_trees(alloc, &trees, &mut input(pieces, asked))?)?;
     agree(
         end,
@@ -97,10 +99,13 @@ fn agree_all(
     )
 }
 
-/// Whether an automaton that wasn't refused came to the same end.
-fn agree(end: Option<HalfMatch>, told: Result<Option<HalfMatch>, MatchError>) -> Result<(), Fault> {
+/// Whether an automaton that wasn't refused answered the same.
+fn agree<A: PartialEq + Copy>(
+    wanted: Option<A>,
+    told: Result<Option<A>, MatchError>,
+) -> Result<(), Fault> {
     match told {
-        Ok(found) if found != end => Err(Fault::Differs),
+        Ok(found) if found != wanted => Err(Fault::Differs),
         Err(MatchError::Memory) => Err(Fault::Memory),
         _ => Ok(()),
     }
@@ -120,19 +125,19 @@ fn by_hybrid(
     alloc: Global,
     patterns: &[&str],
     input: &mut Input<ChunkCursor>,
-) -> Result<Result<Option<HalfMatch>, MatchError>, Fault> {
+) -> Result<Result<Option<Match>, MatchError>, Fault> {
     let re = hybrid::Regex::new_many(alloc, patterns)?;
     let mut cache = re.create_cache()?;
-    Ok(hybrid::try_search_fwd(&re, &mut cache, input))
+    Ok(hybrid::find(&re, &mut cache, input))
 }
 
 fn by_dfa(
     alloc: Global,
     patterns: &[&str],
     input: &mut Input<ChunkCursor>,
-) -> Result<Result<Option<HalfMatch>, MatchError>, Fault> {
+) -> Result<Result<Option<Match>, MatchError>, Fault> {
     let re = dfa::Regex::new_many(alloc, patterns)?;
-    Ok(dfa::try_search_fwd(&re, input))
+    Ok(dfa::find(&re, input))
 }
 
 fn by_trees(

@@ -5,7 +5,7 @@ use crate::haystacks::{Asked, haystack, input, pieces};
 use crate::searches::{ASKED, CUT, HAYSTACK, engine};
 use rx_chunk::pikevm::{self, PikeVM};
 use rx_input::{Cursor, Input};
-use rx_util::{MatchError, NonMaxUsize, PatternID};
+use rx_util::{Captures, MatchError, NonMaxUsize, PatternID};
 use std::alloc::{AllocError, Global};
 
 /// Where the number of slots stands in a line.
@@ -62,4 +62,29 @@ fn tell(alloc: Global, out: &mut String, slots: &[Option<NonMaxUsize>]) -> Resul
         }
     }
     Ok(())
+}
+
+/// Searches by an engine, with a cache of its own and slots for whole matches alone.
+fn capture<C: Cursor>(
+    alloc: Global,
+    vm: &PikeVM,
+    input: &mut Input<C>,
+) -> Result<Captures, MatchError> {
+    let mut caps = Captures::matches(alloc, vm.group_info())?;
+    pikevm::search(vm, &mut vm.create_cache()?, input, &mut caps)?;
+    Ok(caps)
+}
+
+/// Where the first match is, by slots for whole matches alone, and whether group 1 is told, or
+/// `none`.
+pub fn captured(alloc: Global, fields: &Fields) -> Result<String, Fault> {
+    let haystack = haystack(alloc, fields, HAYSTACK)?;
+    let pieces = pieces(alloc, &haystack, fields.word(CUT))?;
+    let mut input = input(&pieces, &Asked::read(fields, ASKED));
+    let caps = capture(alloc, &engine(alloc, fields)?, &mut input)?;
+    let group = caps.get_group(1).is_some();
+    match caps.get_group(0) {
+        Some(span) => Ok(format!(in alloc; "{}-{} {group}", span.start, span.end)?),
+        None => Ok(String::from_str(alloc, "none")?),
+    }
 }

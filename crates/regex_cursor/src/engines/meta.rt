@@ -8,6 +8,7 @@ mod dense;
 mod find_matches;
 mod finder;
 mod left;
+mod leftmost;
 mod literals;
 mod regex;
 mod split;

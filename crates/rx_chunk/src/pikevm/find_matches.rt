@@ -25,7 +25,7 @@ impl<'r, 'c, C: Cursor> FindMatches<'r, 'c, C> {
     ghost use Rattle.std.specs.Prelude.{◌≡◌};
     ghost use Rattle.rx_steps.specs.Searching.{search_of};
     ghost use Rattle.rx_chunk.specs.Iterating.{matches_from};
-    ghost use Rattle.rx_chunk.specs.FindMatches.{cache_of, left_of, program_of};
+    ghost use Rattle.rx_chunk.specs.FindMatches.{cache_of, engine_of, left_of};
 
     /// None of the matches in an input has come yet.
     pub(super) fn new(
@@ -35,7 +35,7 @@ impl<'r, 'c, C: Cursor> FindMatches<'r, 'c, C> {
     ) -> FindMatches<'r, 'c, C>
         requires made { IsCacheOf vm.now.program cache.old }
         ensures left { left_of result ≡ matches_from (search_of vm.now.utf8_empty input) }
-        ensures program { program_of result ≡ vm.now.program }
+        ensures engine { engine_of result ≡ vm.now }
         ensures same_cache { (cache_of result).ghost_name ≡ cache.entry.ghost_name }
     {
         FindMatches {

@@ -2,12 +2,12 @@
 
 ghost use Rattle.std.specs.Prelude.{◌≡◌, IfErr, IfOk, None, Some, option_map, unwrap_or, true};
 ghost use Rattle.rx_util.specs.declared.search.MatchError.{MatchError};
-ghost use Rattle.regex_cursor.specs.Configs.{auto_prefilter_of, capacity_of, dfa_of, dfa_size_limit_of, dfa_state_limit_of, engine_settings, hybrid_of, line_terminator_of, nfa_size_limit_of, none_set, prefilter_of, regex_settings_over, utf8_empty_of, which_captures_of};
+ghost use Rattle.regex_cursor.specs.Configs.{auto_prefilter_of, capacity_of, dfa_of, dfa_size_limit_of, dfa_state_limit_of, engine_settings, hybrid_of, line_terminator_of, match_kind_of, nfa_size_limit_of, none_set, prefilter_of, regex_settings_over, utf8_empty_of, which_captures_of};
 
 use rx_chunk::pikevm;
 use rx_dfa::CACHE_CAPACITY;
 use rx_literals::Prefilter;
-use rx_util::{MatchError, WhichCaptures};
+use rx_util::{MatchError, MatchKind, WhichCaptures};
 use std::marker::Model;
 
 /// How large a program may be by default: 40 times its weight is at most this, so that patterns may
@@ -24,6 +24,7 @@ const DFA_SIZE_LIMIT: usize = 40_960;
 /// Settings of a regex. One that wasn't set is the default.
 #[derive(Debug, Drop)]
 pub struct Config {
+    match_kind: Option<MatchKind>,
     utf8_empty: Option<bool>,
     auto_prefilter: Option<bool>,
     prefilter: Option<Option<Prefilter>>,
@@ -46,6 +47,7 @@ impl Model for Config {
     ghost Value = { RegexSettings };
 
     ghost view = { λ c. record {
+      match_kind = c.match_kind;
       utf8_empty = c.utf8_empty;
       auto_prefilter = c.auto_prefilter;
       prefilter = c.prefilter;
@@ -69,6 +71,7 @@ impl Config {
         ensures { result ≡ none_set }
     {
         Config {
+            match_kind: None,
             utf8_empty: None,
             auto_prefilter: None,
             prefilter: None,
@@ -92,6 +95,7 @@ impl Config {
         ensures refused { IfErr result (λ error. error ≡ MatchError.Memory) }
     {
         Ok(Config {
+            match_kind: self.match_kind,
             utf8_empty: self.utf8_empty,
             auto_prefilter: self.auto_prefilter,
             prefilter: cloned(&self.prefilter)?,
@@ -107,6 +111,16 @@ impl Config {
             byte_classes: self.byte_classes,
             line_terminator: self.line_terminator,
         })
+    }
+
+    /// Sets which of all matches a search finds. Under `All` it is searched by the PikeVM alone, all
+    /// of the span unless the search is anchored or any match will do; and of groups the whole match
+    /// alone is noted.
+    pub fn match_kind(mut self, kind: MatchKind) -> Config
+        ensures { result ≡ record self { match_kind = Some kind } }
+    {
+        self.match_kind = Some(kind);
+        self
     }
 
     /// Sets whether empty matches inside a character are passed over.
@@ -232,6 +246,13 @@ impl Config {
         self
     }
 
+    /// Returns which of all matches a search finds: by default the leftmost one.
+    pub fn get_match_kind(&self) -> MatchKind
+        ensures { result ≡ match_kind_of self.now }
+    {
+        self.match_kind.unwrap_or(MatchKind::LeftmostFirst)
+    }
+
     /// Returns whether empty matches inside a character are passed over: by default they are.
     pub fn get_utf8_empty(&self) -> bool
         ensures { result ≡ utf8_empty_of self.now }
@@ -326,6 +347,7 @@ impl Config {
     pub(super) fn take_over(&mut self, new: Config)
         ensures { self.new ≡ regex_settings_over new self.old }
     {
+        self.match_kind = new.match_kind.or(self.match_kind);
         self.utf8_empty = new.utf8_empty.or(self.utf8_empty);
         self.auto_prefilter = new.auto_prefilter.or(self.auto_prefilter);
         self.prefilter = new.prefilter.or(self.prefilter.take());
@@ -347,6 +369,7 @@ impl Config {
         ensures { result ≡ engine_settings self.now }
     {
         pikevm::Config::new()
+            .match_kind(self.get_match_kind())
             .utf8_empty(self.get_utf8_empty())
             .line_terminator(self.get_line_terminator())
             .nfa_size_limit(self.get_nfa_size_limit())

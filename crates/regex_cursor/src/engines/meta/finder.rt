@@ -23,7 +23,7 @@ impl<'r> Finder<'r> {
     ghost use Rattle.std.specs.Prelude.{◌≡◌, ◌<◌, OnSome};
     ghost use Rattle.std.specs.Iterator.{size};
     ghost use Rattle.rx_input.specs.Inputs.{InputState};
-    ghost use Rattle.rx_chunk.specs.Engines.{match_of};
+    ghost use Rattle.rx_chunk.specs.Engines.{EngineFinds, match_of};
     ghost use Rattle.regex_cursor.specs.Iterating.{GivesNext, GoesOn, regex_in, left_in, matches_from, matches_left};
     ghost use Rattle.regex_cursor.specs.Regexes.{search_by};
 
@@ -56,7 +56,7 @@ impl<'r> Finder<'r> {
         &mut self,
         input: &mut Input<C>,
     ) -> Option<Result<Match, MatchError>>
-        ensures next { GivesNext (regex_in self.old).engine.program match_of
+        ensures next { GivesNext (EngineFinds (regex_in self.old).engine) match_of
             (left_in self.old input.old) result (left_in self.new input.new) }
         ensures same_regex { regex_in self.new ≡ regex_in self.old }
         ensures goes_on { GoesOn (left_in self.old input.old).search

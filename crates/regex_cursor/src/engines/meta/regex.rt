@@ -6,6 +6,7 @@ ghost use Rattle.std.specs.Option.{ForSome};
 ghost use Rattle.rx_input.specs.Cursors.{IsSameContent};
 ghost use Rattle.rx_input.specs.Searchers.{EndsInside};
 ghost use Rattle.rx_util.specs.declared.search.MatchError.{MatchError};
+ghost use Rattle.rx_util.specs.declared.search.MatchKind.{MatchKind};
 ghost use Rattle.rx_util.specs.Captured.{nothing_noted};
 ghost use Rattle.rx_util.specs.Groups.{slot_len};
 ghost use Rattle.rx_steps.specs.Threads.{no_slots};
@@ -17,7 +18,7 @@ ghost use Rattle.regex_cursor.specs.Iterating.{GivesAll, left_of, matches_from, 
 ghost use Rattle.regex_cursor.specs.Patterns.{HasNoMatchBetween};
 ghost use Rattle.regex_cursor.specs.Configs.{WantsNoLiterals, default_regex, none_set};
 ghost use Rattle.regex_cursor.specs.Strategies.{regex_of as regex_with};
-ghost use Rattle.regex_cursor.specs.Regexes.{AreRefusedAsRegex, HasRoom, HoldsMatches, IsCacheOf, IsRefusedAsRegex, IsRegex, IsRegexOf, IsRegexOfAll, TellsHalf, TellsMatch, TellsSlots, TellsWhether, TellsWhole, search_by};
+ghost use Rattle.regex_cursor.specs.Regexes.{AreRefusedAsRegex, EngineFinds, HasRoom, HoldsMatches, IsCacheOf, IsRefusedAsRegex, IsRegex, IsRegexOf, IsRegexOfAll, TellsHalf, TellsMatch, TellsSlots, TellsWhether, TellsWhole, search_by};
 
 use super::builder::Builder;
 use super::cache::Cache;
@@ -37,8 +38,8 @@ use std::marker::Model;
 use std::rc::Rc;
 
 /// A regular expression, or several, searched for in contents that lie in pieces. Contracts see the
-/// engine that serves any search, which is the program, the groups of each pattern, and whether
-/// empty matches inside a character are passed over; and the settings.
+/// engine that serves any search, which is the program, which match is found, the groups of each
+/// pattern, and whether empty matches inside a character are passed over; and the settings.
 ///
 /// The plain calls make a cache each, which takes memory and time in proportion to the pattern's
 /// program; those named `_with` are handed one, and take none of either for it.
@@ -128,7 +129,7 @@ impl Regex {
 
     /// Returns whether there is a match. The one error is `Memory`.
     pub fn is_match<C: Cursor + Drop>(&self, mut input: Input<C>) -> Result<bool, MatchError>
-        ensures answer { IfOk result (λ yes. TellsWhether self.now.engine.program
+        ensures answer { IfOk result (λ yes. TellsWhether (EngineFinds self.now.engine)
             (search_by self.now.engine input) yes) }
         ensures refused { IfErr result (λ error. error ≡ MatchError.Memory) }
     {
@@ -241,8 +242,9 @@ impl Regex {
         Ok(SplitN::new(self, cache, input, limit))
     }
 
-    /// Returns the match that is found: of those that start first the one that the pattern prefers.
-    /// It ends in the span. Where `earliest` is set, only that, and whether there is a match, is
+    /// Returns the match that is found: of those that start first the one that the pattern prefers;
+    /// or under `MatchKind::All` of those with the greatest end the one that starts first, and of
+    /// these the one of the first pattern. It ends in the span. Where `earliest` is set, only that, and whether there is a match, is
     /// promised. The one error is `Memory`.
     pub fn search<C: Cursor + Drop>(&self, mut input: Input<C>) -> Result<Option<Match>, MatchError>
         ensures answer { IfOk result (λ found. TellsMatch self.now.engine input found) }
@@ -412,7 +414,7 @@ impl Regex {
     ) -> Result<Option<PatternID>, MatchError>
         requires made { IsCacheOf self.now cache.old }
         requires slots { 2 * length self.now.engine.groups ≤ length slots.old }
-        ensures answer { IfOk result (λ pattern. IsNextAnswer self.now.engine.program
+        ensures answer { IfOk result (λ pattern. IsNextAnswer (EngineFinds self.now.engine)
             (search_by self.now.engine input.old) last_match_end pattern slots.new) }
         ensures none { OnErr result (slots.new ≡ no_slots (length slots.new)) }
         ensures made { IsCacheOf self.now cache.new }
@@ -498,9 +500,11 @@ impl Regex {
     }
 
     /// Returns whether it looks for literals that matches begin with before an engine is asked,
-    /// which it doesn't where `auto_prefilter` is off and no `prefilter` is set. `O(1)`.
+    /// which it doesn't where `auto_prefilter` is off and no `prefilter` is set, nor where it finds
+    /// among all matches. `O(1)`.
     pub fn is_accelerated(&self) -> bool
-        ensures { WantsNoLiterals self.now.settings → result ≡ false }
+        ensures unwanted { WantsNoLiterals self.now.settings → result ≡ false }
+        ensures all { self.now.engine.match_kind ≡ MatchKind.All → result ≡ false }
     {
         self.strategy.is_accelerated()
     }

@@ -32,6 +32,7 @@ impl<'r> Splitter<'r> {
     ghost use Rattle.std.specs.Prelude.{◌<◌, OnSome, true};
     ghost use Rattle.std.specs.Iterator.{size};
     ghost use Rattle.rx_input.specs.Inputs.{InputState};
+    ghost use Rattle.rx_chunk.specs.Engines.{EngineFinds};
     ghost use Rattle.regex_cursor.specs.Iterating as iterating;
     ghost use Rattle.regex_cursor.specs.Splitting.{EndsWith, SplitsOff, end_of_search, regex_in, left_in, parts_left, parts_of};
 
@@ -55,7 +56,7 @@ impl<'r> Splitter<'r> {
         &mut self,
         input: &mut Input<C>,
     ) -> Option<Result<Span, MatchError>>
-        ensures next { SplitsOff (regex_in self.old).engine.program (left_in self.old input.old)
+        ensures next { SplitsOff (EngineFinds (regex_in self.old).engine) (left_in self.old input.old)
             (left_in self.new input.new) result }
         ensures same_regex { regex_in self.new ≡ regex_in self.old }
         ensures fewer { OnSome result (size (parts_left (left_in self.new input.new))

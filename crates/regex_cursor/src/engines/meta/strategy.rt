@@ -1,9 +1,11 @@
-//! The engines of a regex, and how it chooses among them: the literals that matches begin with are
-//! looked for first, then the automaton is asked, and what it leaves is searched by the PikeVM.
+//! The engines of a regex, and how it chooses among them: where all matches are wanted the PikeVM
+//! alone is asked; for the leftmost one literals are looked for, then the automaton is asked, and
+//! what it leaves is searched by the PikeVM.
 
 ghost use Rattle.std.specs.Prelude.{◌≡◌, ℕ, ◌*◌, ◌<◌, ◌≤◌, ◌^◌, IfOk, IfErr, IfSome, OnOk, OnErr, None, false, length};
 ghost use Rattle.std.specs.Option.{ForSome};
 ghost use Rattle.rx_util.specs.declared.search.MatchError.{MatchError};
+ghost use Rattle.rx_util.specs.declared.search.MatchKind.{MatchKind};
 ghost use Rattle.rx_util.specs.Captured.{group_span, match_found};
 ghost use Rattle.rx_input.specs.Cursors.{IsSameContent};
 ghost use Rattle.rx_input.specs.Searchers.{EndsInside};
@@ -13,7 +15,7 @@ ghost use Rattle.rx_literals.specs.Beginnings.{BeginsWith};
 ghost use Rattle.rx_dfa.specs.Searching.{IsHalfAnswer};
 ghost use Rattle.rx_steps.specs.Threads.{no_slots};
 ghost use Rattle.rx_engine.specs.Engines.{IsEngine};
-ghost use Rattle.rx_chunk.specs.Engines.{TellsWhether};
+ghost use Rattle.rx_chunk.specs.Engines.{EngineFinds, TellsWhether};
 ghost use Rattle.rx_chunk.specs.Iterating.{EndsAhead, HasNotedNext, IsFoundNext, IsNextAnswer, StartsFrom};
 ghost use Rattle.regex_cursor.specs.Regexes.{HoldsMatches, IsCacheOf, TellsHalf, TellsMatch, TellsSlots, TellsWhole, search_by};
 ghost use Rattle.regex_cursor.specs.Configs.{WantsNoLiterals, capacity_of};
@@ -24,17 +26,15 @@ ghost use Rattle.regex_cursor.specs.Strategies.{AreKeptFor, IsLeft, IsNextLeft, 
 use super::cache::{Cache, Kept};
 use super::config::Config;
 use super::dense::{bytes_of_states, closed_of};
-use super::left::{
-    Left, Part, Start, Told, clear_slots, find_literal, note_nothing, put_back, put_match,
-    start_of_literal,
-};
+use super::left::{Left, Part, Start, Told, find_literal, put_back, start_of_literal};
+use super::leftmost;
 use super::literals::Literals;
 use rx_chunk::pikevm::{self, PikeVM};
 use rx_dfa::{Alphabet, DenseTable};
 use rx_input::{Cursor, Input};
 use rx_literals::Prefilter;
 use rx_program::Program;
-use rx_util::{Captures, HalfMatch, Match, MatchError, NonMaxUsize, PatternID};
+use rx_util::{Captures, HalfMatch, Match, MatchError, MatchKind, NonMaxUsize, PatternID};
 use std::alloc::{AllocError, Global};
 use std::marker::Model;
 use std::rc::Rc;
@@ -214,6 +214,17 @@ impl Strategy {
 
     /// Whether literals are looked for before an engine is asked.
     pub(super) fn is_accelerated(&self) -> bool
+        ensures unwanted { WantsNoLiterals self.now.settings → result ≡ false }
+        ensures all { self.now.vm.match_kind ≡ MatchKind.All → result ≡ false }
+    {
+        match self.vm().match_kind() {
+            MatchKind::LeftmostFirst => self.has_literals(),
+            MatchKind::All => false,
+        }
+    }
+
+    /// Whether literals are known that matches begin with, or are.
+    fn has_literals(&self) -> bool
         ensures { WantsNoLiterals self.now.settings → result ≡ false }
     {
         self.literals.beginnings.is_some() || self.literals.whole.is_some()
@@ -267,7 +278,11 @@ impl Strategy {
     /// Asks what is left of a search: the literals that matches are or begin with are looked for
     /// first, if these are known, and the automaton is asked from there on. The one error is
     /// `Memory`.
-    fn ask<C: Cursor>(&self, kept: &mut Kept, input: &mut Input<C>) -> Result<Left, MatchError>
+    pub(super) fn ask<C: Cursor>(
+        &self,
+        kept: &mut Kept,
+        input: &mut Input<C>,
+    ) -> Result<Left, MatchError>
         requires serve { AreKeptFor self.now kept.old }
         ensures left { IfOk result (IsLeft self.now.vm.program (search_by self.now.vm input.old)) }
         ensures serve { AreKeptFor self.now kept.new }
@@ -388,23 +403,16 @@ impl Strategy {
         input: &mut Input<C>,
     ) -> Result<bool, MatchError>
         requires made { IsCacheOf (regex_of self.now) cache.old }
-        ensures answer { IfOk result (λ yes. TellsWhether self.now.vm.program
+        ensures answer { IfOk result (λ yes. TellsWhether (EngineFinds self.now.vm)
             (search_by self.now.vm input.old) yes) }
         ensures made { IsCacheOf (regex_of self.now) cache.new }
         ensures asked { input.new.asked ≡ input.old.asked }
         ensures same { IsSameContent input.old.cursor input.new.cursor }
         ensures refused { IfErr result (λ error. error ≡ MatchError.Memory) }
     {
-        match self.ask(&mut cache.kept, input)? {
-            Left::Nothing => Ok(false),
-            Left::Match(_) => Ok(true),
-            Left::In(part) if part.has_match => Ok(true),
-            Left::In(part) => {
-                let whole = part.cut(input);
-                let yes = pikevm::is_match(self.vm(), &mut cache.kept.vm, input);
-                put_back(input, whole);
-                yes
-            }
+        match self.vm().match_kind() {
+            MatchKind::LeftmostFirst => leftmost::is_match(self, cache, input),
+            MatchKind::All => pikevm::is_match(self.vm(), &mut cache.kept.vm, input),
         }
     }
 
@@ -424,15 +432,9 @@ impl Strategy {
         ensures same { IsSameContent input.old.cursor input.new.cursor }
         ensures refused { IfErr result (λ error. error ≡ MatchError.Memory) }
     {
-        match self.ask(&mut cache.kept, input)? {
-            Left::Nothing => Ok(None),
-            Left::Match(span) => Ok(Some(Match::new(PatternID::ZERO, span))),
-            Left::In(part) => {
-                let whole = part.cut(input);
-                let found = pikevm::find(self.vm(), &mut cache.kept.vm, input);
-                put_back(input, whole);
-                found
-            }
+        match self.vm().match_kind() {
+            MatchKind::LeftmostFirst => leftmost::find(self, cache, input),
+            MatchKind::All => pikevm::find(self.vm(), &mut cache.kept.vm, input),
         }
     }
 
@@ -475,19 +477,9 @@ impl Strategy {
         ensures same { IsSameContent input.old.cursor input.new.cursor }
         ensures refused { IfErr result (λ error. error ≡ MatchError.Memory) }
     {
-        clear_slots(slots);
-        match self.ask(&mut cache.kept, input)? {
-            Left::Nothing => Ok(None),
-            Left::Match(span) => {
-                put_match(slots, span);
-                Ok(Some(PatternID::ZERO))
-            }
-            Left::In(part) => {
-                let whole = part.cut(input);
-                let found = pikevm::search_slots(self.vm(), &mut cache.kept.vm, input, slots);
-                put_back(input, whole);
-                found
-            }
+        match self.vm().match_kind() {
+            MatchKind::LeftmostFirst => leftmost::search_slots(self, cache, input, slots),
+            MatchKind::All => pikevm::search_slots(self.vm(), &mut cache.kept.vm, input, slots),
         }
     }
 
@@ -515,22 +507,16 @@ impl Strategy {
         ensures same { IsSameContent input.old.cursor input.new.cursor }
         ensures refused { IfErr result (λ error. error ≡ MatchError.Memory) }
     {
-        note_nothing(caps);
-        match self.ask(&mut cache.kept, input)?.part() {
-            None => Ok(()),
-            Some(part) => {
-                let whole = part.cut(input);
-                let told = pikevm::search(self.vm(), &mut cache.kept.vm, input, caps);
-                put_back(input, whole);
-                told
-            }
+        match self.vm().match_kind() {
+            MatchKind::LeftmostFirst => leftmost::search(self, cache, input, caps),
+            MatchKind::All => pikevm::search(self.vm(), &mut cache.kept.vm, input, caps),
         }
     }
 
     /// The part of an input's span in which that comes next which comes next in the span, where the
     /// last match, if there was one, ended at `last_match_end`; none where nothing more is found.
     /// The one refusal is `Memory`.
-    fn next_part<C: Cursor>(
+    pub(super) fn next_part<C: Cursor>(
         &self,
         kept: &mut Kept,
         input: &mut Input<C>,
@@ -565,7 +551,7 @@ impl Strategy {
     ) -> Result<Option<PatternID>, MatchError>
         requires made { IsCacheOf (regex_of self.now) cache.old }
         requires slots { 2 * length self.now.vm.groups ≤ length slots.old }
-        ensures answer { IfOk result (λ pattern. IsNextAnswer self.now.vm.program
+        ensures answer { IfOk result (λ pattern. IsNextAnswer (EngineFinds self.now.vm)
             (search_by self.now.vm input.old) last_match_end pattern slots.new) }
         ensures none { OnErr result (slots.new ≡ no_slots (length slots.new)) }
         ensures made { IsCacheOf (regex_of self.now) cache.new }
@@ -573,15 +559,13 @@ impl Strategy {
         ensures engine { IsEngine self.now.vm }
         ensures refused { IfErr result (λ error. error ≡ MatchError.Memory) }
     {
-        clear_slots(slots);
-        let vm = self.vm();
-        let Some(part) = self.next_part(&mut cache.kept, input, last_match_end)? else {
-            return Ok(None);
-        };
-        let whole = part.cut(input);
-        let found = pikevm::next_slots(vm, &mut cache.kept.vm, input, slots, last_match_end);
-        put_back(input, whole);
-        found
+        let last = last_match_end;
+        match self.vm().match_kind() {
+            MatchKind::LeftmostFirst => leftmost::next_slots(self, cache, input, slots, last),
+            MatchKind::All => {
+                pikevm::next_slots(self.vm(), &mut cache.kept.vm, input, slots, last)
+            }
+        }
     }
 
     /// The match that comes next, as `next_slots` finds it. The cache must be one for the regex,
@@ -593,7 +577,7 @@ impl Strategy {
         last_match_end: Option<usize>,
     ) -> Result<Option<Match>, MatchError>
         requires made { IsCacheOf (regex_of self.now) cache.old }
-        ensures answer { IfOk result (λ found. IsFoundNext self.now.vm.program
+        ensures answer { IfOk result (λ found. IsFoundNext (EngineFinds self.now.vm)
             (search_by self.now.vm input.old) last_match_end found) }
         ensures ahead { IfOk result (λ found. ForSome found (λ m. EndsAhead last_match_end
             (search_by self.now.vm input.old) m.span.end)) }
@@ -601,13 +585,11 @@ impl Strategy {
         ensures same { (start : ℕ) × StartsFrom input.old input.new start }
         ensures refused { IfErr result (λ error. error ≡ MatchError.Memory) }
     {
-        let Some(part) = self.next_part(&mut cache.kept, input, last_match_end)? else {
-            return Ok(None);
-        };
-        let whole = part.cut(input);
-        let found = pikevm::find_next(self.vm(), &mut cache.kept.vm, input, last_match_end);
-        put_back(input, whole);
-        found
+        let last = last_match_end;
+        match self.vm().match_kind() {
+            MatchKind::LeftmostFirst => leftmost::find_next(self, cache, input, last),
+            MatchKind::All => pikevm::find_next(self.vm(), &mut cache.kept.vm, input, last),
+        }
     }
 
     /// Notes the match that comes next, as `next_slots` finds it, with all its groups, in captures
@@ -623,7 +605,7 @@ impl Strategy {
         requires made { IsCacheOf (regex_of self.now) cache.old }
         requires groups { caps.old.groups ≡ self.now.vm.groups }
         requires slots { 2 * length self.now.vm.groups ≤ length caps.old.slots }
-        ensures answer { OnOk result (HasNotedNext self.now.vm.program
+        ensures answer { OnOk result (HasNotedNext (EngineFinds self.now.vm)
             (search_by self.now.vm input.old) last_match_end caps.new) }
         ensures ordered { OnOk result (ForSome (group_span caps.new 0)
             (λ span. span.start ≤ span.end)) }

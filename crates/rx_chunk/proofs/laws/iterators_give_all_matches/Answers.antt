@@ -1,7 +1,5 @@
-use Rattle.unicode.specs.Perl.{is_word_char}
-use Rattle.rx_utf8.specs.Automata.{is_in}
-use Rattle.rx_program.specs.Programs.{characters_of}
+use Rattle.rx_chunk.proofs.OrderLaws.{in_order}
 use Rattle.rx_chunk.proofs.laws.iterators_give_all_matches.Goals as goal
 
 pub returns : goal.returns
-returns g c = λ item_of left p. c.iterators_give_in_order.ensures is_in is_word_char (characters_of p) item_of left
+returns g c = λ item_of left e steps s m stands. in_order e s item_of left g.I.Iterator.next_gives (λ n. Unit {0}) (λ a b item of step. (tt, steps a b item step)) m tt stands

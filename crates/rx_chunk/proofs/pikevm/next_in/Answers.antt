@@ -1,17 +1,18 @@
 use Rattle.std.proofs.Common.{◌≡◌, ◌+◌, ◌*◌, ◌≤◌, ◌<◌, ◌^◌, length, arith, ap, subst, ◌∙◌}
 use Rattle.rx_walks.specs.Finds.{from_place_on}
-use Rattle.rx_steps.specs.Searching.{search_of, IsAnswer}
+use Rattle.rx_steps.specs.Searching.{search_of}
+use Rattle.rx_chunk.specs.Engines.{EngineFinds, IsAnswer}
 use Rattle.rx_chunk.specs.Iterating.{StartsFrom}
 use Rattle.rx_chunk.proofs.EngineLaws.{if_ok}
 use Rattle.rx_chunk.proofs.IterLaws.{moved_search, moved_on, same_start, set_to}
 use Rattle.rx_chunk.proofs.NextLaws.{answer_starts, next_none, next_passed, next_some}
-use Rattle.rx_chunk.proofs.LowerLaws.{inside_law}
+use Rattle.rx_chunk.proofs.KindLaws.{inside_of}
 use Rattle.rx_chunk.proofs.FoundLaws.{notes_places}
 use Rattle.rx_chunk.proofs.pikevm.next_in.Goals as goal
 
 pub returns-in_default-clause-answer : goal.returns-in_default-clause-answer
 returns-in_default-clause-answer g c =
-    next_none c.args.vm.now.program (search_of c.args.vm.now.utf8_empty c.args.input.now) c.args.last_match_end c.in_ok-pattern.field-0 c.seek.new.slots c.in_default.is c.in_ok-pattern.ensures.answer
+    next_none (EngineFinds c.args.vm.now) (search_of c.args.vm.now.utf8_empty c.args.input.now) c.args.last_match_end c.in_ok-pattern.field-0 c.seek.new.slots c.in_default.is c.in_ok-pattern.ensures.answer
 
 pub returns-then-not-is_empty_at_last-clause-answer : goal.returns-then-not-is_empty_at_last-clause-answer
 returns-then-not-is_empty_at_last-clause-answer g c =
@@ -24,7 +25,7 @@ returns-then-not-is_empty_at_last-clause-answer g c =
 pub overflow_add-start : goal.overflow_add-start
 overflow_add-start g c =
     let i = c.args.input.now in
-    let at = answer_starts c.args.vm.now.program (search_of c.args.vm.now.utf8_empty i) c.in_ok-pattern.field-0 c.in-Some.pattern c.seek.new.slots inside_law c.in-Some.is c.in_ok-pattern.ensures.answer in
+    let at = answer_starts (EngineFinds c.args.vm.now) (search_of c.args.vm.now.utf8_empty i) c.in_ok-pattern.field-0 c.in-Some.pattern c.seek.new.slots (inside_of c.args.vm.now) c.in-Some.is c.in_ok-pattern.ensures.answer in
     let content : length i.cursor.content < 2 ^ 63 = c.seek.ensures.bound in
     let start : c.start-start.result ≡ i.asked.span.start = c.start-start.ensures ∙ ap (λ a. a.span.start) c.in_ok-pattern.ensures.asks.asked in
     omega (arith, at.in_content, content, start)
@@ -32,7 +33,7 @@ overflow_add-start g c =
 pub set_start-requires : goal.set_start-requires
 set_start-requires g c =
     let i = c.args.input.now in
-    let at = answer_starts c.args.vm.now.program (search_of c.args.vm.now.utf8_empty i) c.in_ok-pattern.field-0 c.in-Some.pattern c.seek.new.slots inside_law c.in-Some.is c.in_ok-pattern.ensures.answer in
+    let at = answer_starts (EngineFinds c.args.vm.now) (search_of c.args.vm.now.utf8_empty i) c.in_ok-pattern.field-0 c.in-Some.pattern c.seek.new.slots (inside_of c.args.vm.now) c.in-Some.is c.in_ok-pattern.ensures.answer in
     let start : c.start-start.result ≡ i.asked.span.start = c.start-start.ensures ∙ ap (λ a. a.span.start) c.in_ok-pattern.ensures.asks.asked in
     let end : c.seek.new.input.asked.span.end ≡ i.asked.span.end = ap (λ a. a.span.end) c.in_ok-pattern.ensures.asks.asked in
     omega (arith, at.in_span, start, end)
@@ -52,5 +53,5 @@ returns-clause-answer g c =
     moved_search b old c.set_start.new.self start starts ∙ ap (λ k. from_place_on s (k + 1)) (c.start-start.ensures ∙ ap (λ a. a.span.start) c.in_ok-pattern.ensures.asks.asked) in
     if_ok c.seek-2.result
     (λ next is. next_passed vm (notes_places vm c.seek.ensures.engine) s c.args.last_match_end c.in_ok-pattern.field-0 c.in-Some.pattern c.seek.new.slots next c.seek-2.new.slots c.in-Some.is room
-    c.in_ok-pattern.ensures.answer (c.is_empty_at_last.ensures.here c.if-not-is_empty_at_last.false) (subst (λ x. IsAnswer vm.program x next c.seek-2.new.slots) search is))
+    c.in_ok-pattern.ensures.answer (c.is_empty_at_last.ensures.here c.if-not-is_empty_at_last.false) (subst (λ x. IsAnswer (EngineFinds vm) x next c.seek-2.new.slots) search is))
     c.seek-2.ensures.answer

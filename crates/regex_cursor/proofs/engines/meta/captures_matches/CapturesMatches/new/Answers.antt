@@ -1,12 +1,8 @@
 use Rattle.std.proofs.Common.{refl}
-use Rattle.unicode.specs.Perl.{is_word_char}
-use Rattle.rx_utf8.specs.Automata.{is_in}
-use Rattle.rx_program.specs.Programs.{characters_of}
 use Rattle.regex_cursor.specs.Regexes.{search_by}
 use Rattle.regex_cursor.proofs.OrderLaws.{captures_in_order}
-use Rattle.regex_cursor.proofs.LowerLaws.{grow_law}
 use Rattle.regex_cursor.proofs.engines.meta.captures_matches.CapturesMatches.new.Goals as goal
 
 pub returns-clause-all : goal.returns-clause-all
 returns-clause-all g c =
-    captures_in_order c.args.re.now (search_by c.args.re.now.engine c.args.input) _ (grow_law is_in is_word_char (characters_of c.args.re.now.engine.program)) refl refl
+    captures_in_order c.args.re.now (search_by c.args.re.now.engine c.args.input) _ refl refl

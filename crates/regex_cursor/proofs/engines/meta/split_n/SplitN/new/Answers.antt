@@ -1,14 +1,10 @@
 use Rattle.std.proofs.Common.{ap, ◌∙◌}
-use Rattle.unicode.specs.Perl.{is_word_char}
-use Rattle.rx_utf8.specs.Automata.{is_in}
-use Rattle.rx_program.specs.Programs.{characters_of}
 use Rattle.regex_cursor.specs.Regexes.{search_by}
 use Rattle.regex_cursor.specs.Splitting.{parts_of}
 use Rattle.regex_cursor.proofs.OrderLaws.{gives_few_gaps}
-use Rattle.regex_cursor.proofs.LowerLaws.{grow_law}
 use Rattle.regex_cursor.proofs.engines.meta.split_n.SplitN.new.Goals as goal
 
 pub returns-clause-gaps : goal.returns-clause-gaps
 returns-clause-gaps g c =
     let left = c.new-2.ensures.left c.args.input ∙ ap parts_of (c.new.ensures.left c.args.input) in
-    gives_few_gaps g.row.C.Denot c.args.re.now (grow_law is_in is_word_char (characters_of c.args.re.now.engine.program)) (search_by c.args.re.now.engine c.args.input) _ (c.new-2.ensures.regex ∙ c.new.ensures.regex) left
+    gives_few_gaps g.row.C.Denot c.args.re.now (search_by c.args.re.now.engine c.args.input) _ (c.new-2.ensures.regex ∙ c.new.ensures.regex) left
