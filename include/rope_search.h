@@ -90,6 +90,24 @@ typedef struct {
 } rope_search_span;
 
 /*
+ * A group of a match in a line: the columns where it starts and where it ends. Where it takes no part
+ * in the match both are 0.
+ */
+typedef struct {
+    bool found;
+    size_t line, start, stop;
+} rope_search_group;
+
+/*
+ * Why bytes are no pattern, one of the reasons below, and the byte at which the first character
+ * begins that can't stand there: the bytes' length where they end too early.
+ */
+typedef struct {
+    uint32_t reason;
+    size_t place;
+} rope_search_pattern_reason;
+
+/*
  * An edit of several that are made as one: what stands from one position to another gives way to
  * `len` bytes, which stand behind those of the edits before it.
  */
@@ -106,6 +124,25 @@ typedef struct {
 typedef struct {
     size_t first, removed, added;
 } rope_search_stretch;
+
+/* Why bytes are no pattern. */
+enum {
+    ROPE_SEARCH_NO_REASON = 0,          /* they are one, or they are refused for another reason */
+    ROPE_SEARCH_NESTING = 1,            /* the pattern is nested too deeply */
+    ROPE_SEARCH_OPEN_GROUP = 2,         /* a group isn't closed */
+    ROPE_SEARCH_NO_OPEN_GROUP = 3,      /* a parenthesis closes no group */
+    ROPE_SEARCH_NOTHING_TO_REPEAT = 4,  /* there is nothing to repeat */
+    ROPE_SEARCH_COUNT = 5,              /* a count isn't finished, or isn't one */
+    ROPE_SEARCH_LARGE_COUNT = 6,        /* a count is above 65,535 */
+    ROPE_SEARCH_COUNT_ORDER = 7,        /* the greatest number of a count is below the least one */
+    ROPE_SEARCH_ESCAPE = 8,             /* an escape isn't finished, or isn't one */
+    ROPE_SEARCH_SCALAR = 9,             /* the number of an escape is no character's */
+    ROPE_SEARCH_OPEN_CLASS = 10,        /* a class isn't closed */
+    ROPE_SEARCH_CLASS_ITEM = 11,        /* a class has no such item */
+    ROPE_SEARCH_RANGE_ORDER = 12,       /* a range of characters runs backwards */
+    ROPE_SEARCH_GROUP_HEAD = 13,        /* the head of a group isn't finished, or isn't one */
+    ROPE_SEARCH_REPEATED_NAME = 14      /* two groups have one name */
+};
 
 /* ---- opening and closing ---- */
 
@@ -148,6 +185,14 @@ uint32_t rope_search_redo(rope_search *session);
 
 /* Sets the pattern, in place of any other. Refused: UTF8, PATTERN, LIMIT, MEMORY. */
 uint32_t rope_search_set_pattern(rope_search *session, const uint8_t *pattern, size_t len);
+
+/*
+ * Tells where and why set_pattern refuses bytes with ROPE_SEARCH_PATTERN, and no reason where it
+ * doesn't: they are a pattern, or are refused with ROPE_SEARCH_LIMIT. No session takes part. Refused:
+ * UTF8, MEMORY; `error` is then as it was.
+ */
+uint32_t rope_search_pattern_error(const uint8_t *pattern, size_t len,
+                                   rope_search_pattern_reason *error);
 
 /* Drops the pattern, if there is one. */
 uint32_t rope_search_off(rope_search *session);
@@ -244,6 +289,16 @@ size_t rope_search_count_matches(rope_search *session, size_t from, size_t to);
  */
 size_t rope_search_copy_matches(rope_search *session, size_t from, size_t to, rope_search_span *out,
                                 size_t out_len);
+
+/*
+ * Copies the groups 0 to 9 of a match to the front of `out`, as many as fit: of match `number`, from
+ * 0, of those in row `line`. Group 0 is the match; one that takes no part in it, or that the pattern
+ * doesn't have, isn't found. A report keeps no groups: the line is searched for them once more, and
+ * counted. Refused: NONE, RANGE where there is no such row, or no such match in it, MEMORY; `out` is
+ * then as it was.
+ */
+uint32_t rope_search_groups_at(rope_search *session, size_t line, size_t number,
+                               rope_search_group *out, size_t out_len);
 
 /*
  * Which rows of the report the last accepted command on the chosen buffer replaced, of those that

@@ -58,6 +58,55 @@ static void refusals(rope_search *s)
     IS(rope_search_off(s), ROPE_SEARCH_DONE);
 }
 
+/* The groups of matches, of the text "hi ho\nhi ha" under another pattern, which is put back. */
+static void groups(rope_search *s)
+{
+    rope_search_group of[11];
+    rope_search_counts before = rope_search_counted(s), after;
+    IS(rope_search_off(s), ROPE_SEARCH_DONE);
+    memset(of, 0x5a, sizeof of);
+    IS(rope_search_groups_at(s, 0, 0, of, 10), ROPE_SEARCH_NONE);
+    IS(rope_search_set_pattern(s, bytes("h(i)|(h)(.)"), 11), ROPE_SEARCH_DONE);
+    IS(rope_search_groups_at(s, 2, 0, of, 10), ROPE_SEARCH_RANGE);
+    IS(rope_search_groups_at(s, 1, 2, of, 10), ROPE_SEARCH_RANGE);
+    IS(rope_search_groups_at(s, 1, SIZE_MAX, of, 10), ROPE_SEARCH_RANGE);
+    IS(of[0].line, (size_t)0x5a5a5a5a5a5a5a5a);
+    IS(rope_search_groups_at(s, 1, 1, of, 3), ROPE_SEARCH_DONE);
+    IS(of[0].found && of[0].line == 1 && of[0].start == 3 && of[0].stop == 5, 1);
+    IS(!of[1].found && of[1].line == 1 && of[1].start == 0 && of[1].stop == 0, 1);
+    IS(of[2].found && of[2].line == 1 && of[2].start == 3 && of[2].stop == 4, 1);
+    IS(of[3].line, (size_t)0x5a5a5a5a5a5a5a5a);
+    IS(rope_search_groups_at(s, 0, 0, of, 11), ROPE_SEARCH_DONE);
+    IS(of[1].found && of[1].line == 0 && of[1].start == 1 && of[1].stop == 2, 1);
+    IS(of[3].found || of[9].found, 0);
+    IS(of[10].line, (size_t)0x5a5a5a5a5a5a5a5a);
+    IS(rope_search_groups_at(s, 0, 0, of, 0), ROPE_SEARCH_DONE);
+    after = rope_search_counted(s);
+    IS(after.rows - before.rows, 2 + 5);
+    IS(after.wholes - before.wholes, 0);
+    IS(rope_search_count_matches(s, 0, 2), 4);
+    IS(rope_search_set_pattern(s, bytes("h"), 1), ROPE_SEARCH_DONE);
+}
+
+static void pattern_errors(void)
+{
+    rope_search_pattern_reason told;
+    told.reason = 77;
+    told.place = 77;
+    IS(rope_search_pattern_error(bytes("\377("), 2, &told), ROPE_SEARCH_UTF8);
+    IS(told.reason == 77 && told.place == 77, 1);
+    IS(rope_search_pattern_error(bytes("a(b"), 3, &told), ROPE_SEARCH_DONE);
+    IS(told.reason == ROPE_SEARCH_OPEN_GROUP && told.place == 3, 1);
+    IS(rope_search_pattern_error(bytes("a[b-a]"), 6, &told), ROPE_SEARCH_DONE);
+    IS(told.reason == ROPE_SEARCH_RANGE_ORDER && told.place == 4, 1);
+    IS(rope_search_pattern_error(bytes("a{65535}{65535}"), 15, &told), ROPE_SEARCH_DONE);
+    IS(told.reason == ROPE_SEARCH_NO_REASON && told.place == 0, 1);
+    IS(rope_search_pattern_error(bytes("a|*"), 3, &told), ROPE_SEARCH_DONE);
+    IS(told.reason == ROPE_SEARCH_NOTHING_TO_REPEAT && told.place == 2, 1);
+    IS(rope_search_pattern_error(bytes(""), 0, &told), ROPE_SEARCH_DONE);
+    IS(told.reason == ROPE_SEARCH_NO_REASON && told.place == 0, 1);
+}
+
 static void a_session(rope_search *s)
 {
     rope_search_span spans[4];
@@ -77,6 +126,7 @@ static void a_session(rope_search *s)
     is_span(__LINE__, spans[1], 0, 3, 4);
     is_span(__LINE__, spans[2], 1, 0, 1);
     IS(spans[3].line, (size_t)0x5a5a5a5a5a5a5a5a);
+    groups(s);
     IS(rope_search_edit(s, at(0, 6), at(0, 6), bytes("h"), 1), ROPE_SEARCH_RANGE);
     IS(rope_search_edit(s, at(1, 0), at(0, 0), bytes("h"), 1), ROPE_SEARCH_RANGE);
     IS(rope_search_edit(s, at(0, 5), at(0, 5), bytes("h"), 1), ROPE_SEARCH_DONE);
@@ -195,10 +245,11 @@ int main(void)
     IS(rope_search_open((size_t)1 << 63, ticks, &s), ROPE_SEARCH_SIZE);
     IS(rope_search_open(16, ticks, &s), ROPE_SEARCH_DONE);
     refusals(&s);
+    pattern_errors();
     a_session(&s);
     look_ups(&s);
     counts = rope_search_counted(&s);
-    IS(counts.rows <= 2 + 1 + 2 + 2 + 2 + 2, 1);
+    IS(counts.rows <= 2 + 2 + 5 + 2 + 1 + 2 + 2 + 2 + 2, 1);
     IS(counts.wholes, 2);
     moved = s;
     memset(&s, 0, sizeof s);

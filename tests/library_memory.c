@@ -47,7 +47,9 @@ static void see(rope_search *s, struct seen *seen)
     seen->count = rope_search_copy_matches(s, 0, SIZE_MAX, seen->spans, 512);
 }
 
-enum kind { SET_TEXT, EDIT, EDIT_ALL, UNDO, REDO, SET_PATTERN, OFF, NEXT, REPLACE, FORK, CHOOSE };
+enum kind {
+    SET_TEXT, EDIT, EDIT_ALL, UNDO, REDO, SET_PATTERN, OFF, NEXT, REPLACE, FORK, CHOOSE, GROUPS_AT, PATTERN_ERROR
+};
 
 struct call {
     enum kind kind;
@@ -60,6 +62,8 @@ static uint32_t carry_out(rope_search *s, const struct call *call)
     rope_search_position from, to;
     rope_search_match match;
     size_t len = call->text ? strlen(call->text) : 0, number;
+    rope_search_group groups[10];
+    rope_search_pattern_reason reason;
     rope_search_text_edit edits[2];
     const uint8_t *text = (const uint8_t *)(call->text ? call->text : "");
     from.line = call->line;
@@ -82,30 +86,26 @@ static uint32_t carry_out(rope_search *s, const struct call *call)
     case NEXT: return rope_search_next(s, from, &match);
     case REPLACE: return rope_search_replace(s, text, len, &number);
     case FORK: return rope_search_fork(s, &number);
+    case GROUPS_AT: return rope_search_groups_at(s, call->line, call->column, groups, 10);
+    case PATTERN_ERROR: return rope_search_pattern_error(text, len, &reason);
     default: return rope_search_choose(s, call->line);
     }
 }
 
+#define CALL(kind) {kind, 0, 0, 0, 0, NULL}
+#define TEXT(kind, text) {kind, 0, 0, 0, 0, text}
+#define AT(kind, line, column) {kind, line, column, 0, 0, NULL}
+
 static const struct call calls[] = {
-    {SET_TEXT, 0, 0, 0, 0, "one two\none\r\nthree one\none one one\nnone\n"},
-    {SET_PATTERN, 0, 0, 0, 0, "(?i)(o)n\\w|e$"},
+    TEXT(SET_TEXT, "one two\none\r\nthree one\none one one\nnone\n"),
+    TEXT(SET_PATTERN, "(?i)(o)n\\w|e$"),
     {EDIT, 1, 0, 2, 3, "ONE\nof many\none\n"},
     {EDIT_ALL, 0, 3, 2, 1, "a one\n\nand one"},
-    {NEXT, 0, 2, 0, 0, NULL},
-    {UNDO, 0, 0, 0, 0, NULL},
-    {UNDO, 0, 0, 0, 0, NULL},
-    {REDO, 0, 0, 0, 0, NULL},
-    {REPLACE, 0, 0, 0, 0, "<$1\n$0>"},
-    {UNDO, 0, 0, 0, 0, NULL},
-    {FORK, 0, 0, 0, 0, NULL},
-    {CHOOSE, 1, 0, 0, 0, NULL},
-    {EDIT, 0, 0, 0, 0, "a letter"},
-    {SET_PATTERN, 0, 0, 0, 0, "\\be"},
-    {UNDO, 0, 0, 0, 0, NULL},
-    {OFF, 0, 0, 0, 0, NULL},
-    {REDO, 0, 0, 0, 0, NULL},
-    {CHOOSE, 0, 0, 0, 0, NULL},
-    {REDO, 0, 0, 0, 0, NULL},
+    AT(NEXT, 0, 2), AT(GROUPS_AT, 0, 0),
+    TEXT(PATTERN_ERROR, "(a|(?<name>b)|(?<name>c"), TEXT(PATTERN_ERROR, "((a)|b{1,3}"),
+    CALL(UNDO), CALL(UNDO), CALL(REDO), TEXT(REPLACE, "<$1\n$0>"), CALL(UNDO), CALL(FORK),
+    AT(CHOOSE, 1, 0), TEXT(EDIT, "a letter"), TEXT(SET_PATTERN, "\\be"), CALL(UNDO), CALL(OFF),
+    CALL(REDO), AT(CHOOSE, 0, 0), CALL(REDO), AT(GROUPS_AT, 6, 0),
 };
 
 static int may_ask(enum kind kind)

@@ -120,7 +120,7 @@ local function walked()
   press("u")
   see(buffer, "one", "undoing that")
   local done, why = live.search(buffer, "(")
-  assert(not done and why == "pattern")
+  assert(not done and why == "a group isn't closed, at byte 1")
 end
 
 walked()

@@ -84,17 +84,24 @@ def test_code():
                 test("README.md has code", [] if len(blocks) >= 2 else [f"{len(blocks)} blocks"])
 
 
-def test_one_regex():
-    """What reports are made of builds and searches its regex in one module, where each search is counted."""
-    named = re.compile(r"^(?!ghost use ).*\bregex_cursor\b", re.MULTILINE)
-    found = set()
+def naming(pattern):
+    """The files of the crates from reports up that name something of regexes, not in ghost imports."""
+    named, found = re.compile(rf"^(?!ghost use ).*\b{pattern}\b", re.MULTILINE), set()
     for path in glob.glob(os.path.join(TOP, "crates", "rope_search*", "src", "**", "*.rt"), recursive=True):
         with open(path, encoding="utf-8") as file:
             if named.search(file.read()):
-                found.add(os.path.relpath(path, os.path.join(TOP, "crates")))
-    home = os.path.join("rope_search_reports", "src")
-    allowed = {os.path.join(home, *file.split("/")) for file in ("laws.rt", "rows/engine.rt", "rows/searching.rt")}
-    test("one module has the regex of a report", [] if found == allowed else [f"others name it: {found ^ allowed}"])
+                found.add(os.path.relpath(path, os.path.join(TOP, "crates", "rope_search_reports", "src")))
+    return found
+
+
+def test_one_regex():
+    """What reports are made of builds and searches its regex in one file, where each search is counted."""
+    home = os.path.join("rows", "counted.rt")
+    found = naming("regex_cursor::engines")
+    test("one file has the regex of a report", [] if found == {home} else [f"it is in {sorted(found)}"])
+    allowed = {"laws.rt", home, *(os.path.join("rows", name) for name in ("engine.rt", "groups.rt", "searching.rt"))}
+    found = naming("regex_cursor")
+    test("few files name what it is made of", [] if found == allowed else [f"others name it: {sorted(found ^ allowed)}"])
 
 
 def test_all():

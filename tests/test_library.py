@@ -11,12 +11,15 @@ import shutil
 import subprocess
 import sys
 
-from harness import LIBRARY, LIBRARY_FOLDER, ROOM, SECONDS, TOP, short, test
+from harness import LIBRARY, LIBRARY_FOLDER, ROOM, SECONDS, TOP, example_rows, short, test
 from library import replies, reply, rope_search
 from library_changes import wrong_changes
 from library_edits import wrong_with
+from library_groups import wrong_groups
 from protocol import Session, lines_of, place_of, position_at, positions_of, read_commands, spelled, units
+from random_patterns import Maker
 from test_edits import BACK_AND_FORWARD, OF_ALL_KINDS, SESSIONS, SESSIONS_IN_RUN, some_sessions
+from test_pattern_model import mangled
 from test_replies import MORE_EXAMPLES, examples_of_page
 
 HEADER = os.path.join(TOP, "include", "rope_search.h")
@@ -24,7 +27,7 @@ STRICT = ["-std=c99", "-pedantic", "-O1", "-g", "-Wall", "-Wextra", "-Werror"]
 SANITIZED = ["-fsanitize=address,undefined", "-fno-sanitize-recover=all"]
 # The thread sanitizer's own memory isn't found where addresses are laid out at random too widely.
 FIXED = ["setarch", "-R"] if shutil.which("setarch") else []
-EDITED = 4_000
+EDITED, GROUPED, MANGLED = 4_000, 1_000, 2_000
 # The name of a parameter of C, behind its type.
 PARAMETER = re.compile(r"\s*\b(?!const\b|size_t\b|bool\b|void\b|u?int\d+_t\b|rope_search\w*\b)\w+$")
 # Where programs find the modules of the bindings, and these the library.
@@ -83,6 +86,43 @@ def test_declarations():
     counts = {f"rope_search_{name}": len(kinds) - 1 for name, kinds in rope_search._CALLS.items()}
     wrong = differing("parameters", counts, {name: len(kinds) - 1 for name, kinds in calls.items()})
     test("bindings/python declares what the header does", wrong)
+
+
+def reasons_declared(header, lua):
+    """The reasons for which a text is no pattern, in their order, as C and as Lua declare them."""
+    block = re.search(r"/\* Why bytes are no pattern\. \*/\nenum \{(.*?)\};", header, flags=re.S)[1]
+    numbered = re.findall(r"= (\d+),?\s+/\* (.*?) \*/", block)
+    numbers = [int(number) for number, _ in numbered]
+    in_lua = re.findall(r'"(.*?)"', re.search(r"M\.reasons = \{(.*?)\n\}", lua, flags=re.S)[1])
+    return numbers, [reason for _, reason in numbered[1:]], in_lua
+
+
+def wrong_explanations():
+    """What is wrong with where and why texts are no patterns: of the rows of the page, of some more, and of patterns that
+    were mangled, of which `set_pattern` must be refused just where there is a reason."""
+    long, deep = "a" * 65_537, "(" * 251 + "a" + ")" * 251
+    rows = [(long, None), ("a{65535}{65535}", None), ("(a)", None), ("", None), (deep, (251, rope_search.REASONS[0]))]
+    rows += [("é(" + "a" * 60_000, (60_003, rope_search.REASONS[1])), (b"\xff(", rope_search.Utf8)]
+    page = example_rows("patterns.md", r"\| `(.+)` \| ([0-9]+) \| (.+) \|", "Where and why")
+    rows += [(row[1].replace("\\|", "|"), (int(row[2]), row[3])) for row in page]
+    for text, due in rows:
+        if (told := answered(rope_search.pattern_error, text)) != due:
+            yield f"{text[:40]!r} is told {told}, not {due}"
+    chance = random.Random(3)
+    maker = Maker(chance, most_nodes=20)
+    with rope_search.Session() as session:
+        for text in (mangled(chance, maker) for _ in range(MANGLED)):
+            told, refused = rope_search.pattern_error(text), raised(lambda: session.set_pattern(text))
+            if (told is not None) != (refused is rope_search.Pattern):
+                yield f"{text!r} is told {told}, and is answered {refused}"
+
+
+def test_explanations():
+    header, lua = read("include", "rope_search.h"), read("bindings", "lua", "rope_search.lua")
+    numbers, reasons, in_lua = reasons_declared(header, lua)
+    same = numbers == list(range(len(numbers))) and reasons == in_lua == list(rope_search.REASONS)
+    test("the header and the bindings have the same reasons", [] if same else [f"{reasons}, in Lua {in_lua}"])
+    test("where and why texts are no patterns", wrong_explanations())
 
 
 def wrong_replies(commands, expected):
@@ -234,6 +274,11 @@ def test_edits():
         test(f"several edits as one, {EDITED // 4} texts at random from {front} on, beside the model", wrong)
 
 
+def test_groups():
+    wrong = [one for seed in range(GROUPED) for one in wrong_groups(seed)]
+    test(f"the groups of each match, in {GROUPED} texts at random, beside the model", wrong)
+
+
 def answered(call, *arguments):
     """What a call answers, or why it is refused."""
     try:
@@ -262,13 +307,15 @@ def test_closed():
         "replace": (b"a", 1, ctypes.c_size_t(7)), "fork": (ctypes.c_size_t(7),), "choose": (0,),
         "column_in": (8, origin, ctypes.c_size_t(7)), "position_in": (8, 0, 0, rope_search._Position()),
         "forget": (), "byte_of": (origin, ctypes.c_size_t(7)), "position_of": (0, rope_search._Position()),
+        "groups_at": (0, 0, (rope_search._Group * 10)(), 10),
     }
     read_only = {
         "buffers": (), "chosen": (), "can_undo": (), "can_redo": (), "text_len": (), "text_lines": (), "rows": (),
         "count_matches": (0, 9), "copy_text": (0, 0, ctypes.create_string_buffer(4), 4),
         "copy_matches": (0, 9, (rope_search._Span * 1)(), 1),
     }
-    named = {"open", "close", "counted", "changed", *refused, *read_only}
+    # One call takes no session.
+    named = {"open", "close", "counted", "changed", "pattern_error", *refused, *read_only}
     wrong += [f"no test calls {name}" for name in sorted(set(rope_search._CALLS) - named)]
     for name, arguments in refused.items():
         if (status := getattr(calls, "rope_search_" + name)(handle, *arguments)) != 8:
@@ -282,6 +329,8 @@ def test_closed():
     counts = calls.rope_search_counted(handle)
     if (counts.rows, counts.wholes, handle.is_open) != (0, 0, False):
         wrong.append("counted, or the handle, is something")
+    if any(group.found for group in refused["groups_at"][2]):
+        wrong.append("groups of a closed session are told")
     if raised(lambda: session.matches()) is not rope_search.Closed:
         wrong.append("matches of a closed session are told")
     test("each call of a closed session", wrong)
@@ -428,6 +477,8 @@ def test_all():
     test_histories()
     test_changes()
     test_edits()
+    test_groups()
+    test_explanations()
     test_programs()
     test_lua()
     test_neovim()

@@ -23,6 +23,8 @@ typedef struct { uint64_t rows, wholes; } rope_search_counts;
 typedef struct { size_t line, column; } rope_search_position;
 typedef struct { bool found; rope_search_position start, stop; } rope_search_match;
 typedef struct { size_t line, start, stop; } rope_search_span;
+typedef struct { bool found; size_t line, start, stop; } rope_search_group;
+typedef struct { uint32_t reason; size_t place; } rope_search_pattern_reason;
 typedef struct { rope_search_position from, to; size_t len; } rope_search_text_edit;
 typedef struct { size_t first, removed, added; } rope_search_stretch;
 uint32_t rope_search_open(size_t, rope_search_ticks, rope_search *);
@@ -33,6 +35,7 @@ uint32_t rope_search_edit_all(rope_search *, const rope_search_text_edit *, size
 uint32_t rope_search_undo(rope_search *);
 uint32_t rope_search_redo(rope_search *);
 uint32_t rope_search_set_pattern(rope_search *, const uint8_t *, size_t);
+uint32_t rope_search_pattern_error(const uint8_t *, size_t, rope_search_pattern_reason *);
 uint32_t rope_search_off(rope_search *);
 uint32_t rope_search_next(rope_search *, rope_search_position, rope_search_match *);
 uint32_t rope_search_replace(rope_search *, const uint8_t *, size_t, size_t *);
@@ -53,6 +56,7 @@ bool rope_search_copy_text(rope_search *, size_t, size_t, uint8_t *, size_t);
 size_t rope_search_rows(rope_search *);
 size_t rope_search_count_matches(rope_search *, size_t, size_t);
 size_t rope_search_copy_matches(rope_search *, size_t, size_t, rope_search_span *, size_t);
+uint32_t rope_search_groups_at(rope_search *, size_t, size_t, rope_search_group *, size_t);
 rope_search_stretch rope_search_changed(rope_search *);
 rope_search_counts rope_search_counted(rope_search *);
 ]])
@@ -61,6 +65,24 @@ local M = {}
 
 -- Why a call is refused, by what it answers.
 M.faults = { "none", "range", "utf8", "pattern", "limit", "size", "memory", "closed" }
+
+-- Why a text is no pattern, as `pattern_error` tells it.
+M.reasons = {
+  "the pattern is nested too deeply",
+  "a group isn't closed",
+  "a parenthesis closes no group",
+  "there is nothing to repeat",
+  "a count isn't finished, or isn't one",
+  "a count is above 65,535",
+  "the greatest number of a count is below the least one",
+  "an escape isn't finished, or isn't one",
+  "the number of an escape is no character's",
+  "a class isn't closed",
+  "a class has no such item",
+  "a range of characters runs backwards",
+  "the head of a group isn't finished, or isn't one",
+  "two groups have one name",
+}
 
 local function is_there(path)
   local file = io.open(path, "rb")
@@ -107,6 +129,16 @@ function M.open(limit)
   local handle = ffi.gc(ffi.new("rope_search"), library().rope_search_close)
   local ticks = ffi.new("rope_search_ticks")
   return told(calls.rope_search_open(limit or 2 ^ 30, ticks, handle), setmetatable({ handle = handle }, Session))
+end
+
+-- Where and why a text is no pattern: { place, reason }, the byte at which the first character begins
+-- that can't stand there and one of rope_search.reasons; or false, where "pattern" isn't why it is
+-- refused, if it is. No session takes part.
+function M.pattern_error(pattern)
+  local told_of = ffi.new("rope_search_pattern_reason")
+  local status = library().rope_search_pattern_error(pattern, #pattern, told_of)
+  local reason = M.reasons[told_of.reason]
+  return told(status, reason ~= nil and { place = tonumber(told_of.place), reason = reason })
 end
 
 -- Ends the session: all further calls are refused with "closed". It may be called again.
@@ -272,6 +304,21 @@ function Session:matches(start, stop)
     matches[i + 1] = { line = tonumber(span.line), start = tonumber(span.start), stop = tonumber(span.stop) }
   end
   return matches
+end
+
+-- The groups of match `number` in row `line`, both from 0: [0] is the match, [1] to [9] are nil where
+-- they take no part in it; each with its line and its two columns.
+function Session:groups_at(line, number)
+  local out = ffi.new("rope_search_group[10]")
+  local status = calls.rope_search_groups_at(self.handle, line, number, out, 10)
+  local groups = {}
+  for k = 0, 9 do
+    local group = out[k]
+    if group.found then
+      groups[k] = { line = tonumber(group.line), start = tonumber(group.start), stop = tonumber(group.stop) }
+    end
+  end
+  return told(status, groups)
 end
 
 -- Which rows the last accepted command on the chosen buffer replaced, of those that may: `removed`

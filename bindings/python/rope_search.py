@@ -40,6 +40,13 @@ class Span(NamedTuple):
     stop: int
 
 
+class PatternError(NamedTuple):
+    """Where and why a text is no pattern: the byte at which the first character begins that can't stand there, the text's
+    length where it ends too early; and one of REASONS."""
+    place: int
+    reason: str
+
+
 class Stretch(NamedTuple):
     """Rows of a report that others took the place of: how many made way from the first on, and how many came. All before
     them are as they were, and so are all behind them, which may have moved."""
@@ -93,6 +100,24 @@ class Closed(Fault):
 FAULTS: Tuple[Type[Fault], ...] = (Nothing, Range, Utf8, Pattern, Limit, Size, Memory, Closed)
 
 
+REASONS: Tuple[str, ...] = (
+    "the pattern is nested too deeply",
+    "a group isn't closed",
+    "a parenthesis closes no group",
+    "there is nothing to repeat",
+    "a count isn't finished, or isn't one",
+    "a count is above 65,535",
+    "the greatest number of a count is below the least one",
+    "an escape isn't finished, or isn't one",
+    "the number of an escape is no character's",
+    "a class isn't closed",
+    "a class has no such item",
+    "a range of characters runs backwards",
+    "the head of a group isn't finished, or isn't one",
+    "two groups have one name",
+)
+
+
 class _Handle(ctypes.Structure):
     _fields_ = [("at", ctypes.c_void_p), ("is_open", ctypes.c_bool)]
 
@@ -117,6 +142,14 @@ class _Span(ctypes.Structure):
     _fields_ = [("line", ctypes.c_size_t), ("start", ctypes.c_size_t), ("stop", ctypes.c_size_t)]
 
 
+class _Group(ctypes.Structure):
+    _fields_ = [("found", ctypes.c_bool), ("line", ctypes.c_size_t), ("start", ctypes.c_size_t), ("stop", ctypes.c_size_t)]
+
+
+class _PatternReason(ctypes.Structure):
+    _fields_ = [("reason", ctypes.c_uint32), ("place", ctypes.c_size_t)]
+
+
 class _TextEdit(ctypes.Structure):
     _fields_ = [("start", _Position), ("stop", _Position), ("len", ctypes.c_size_t)]
 
@@ -135,6 +168,7 @@ _CALLS = {
     "undo": (_STATUS, _HANDLE),
     "redo": (_STATUS, _HANDLE),
     "set_pattern": (_STATUS, _HANDLE, _BYTES, _SIZE),
+    "pattern_error": (_STATUS, _BYTES, _SIZE, ctypes.POINTER(_PatternReason)),
     "off": (_STATUS, _HANDLE),
     "next": (_STATUS, _HANDLE, _Position, ctypes.POINTER(_Match)),
     "replace": (_STATUS, _HANDLE, _BYTES, _SIZE, ctypes.POINTER(_SIZE)),
@@ -155,6 +189,7 @@ _CALLS = {
     "rows": (_SIZE, _HANDLE),
     "count_matches": (_SIZE, _HANDLE, _SIZE, _SIZE),
     "copy_matches": (_SIZE, _HANDLE, _SIZE, _SIZE, ctypes.POINTER(_Span), _SIZE),
+    "groups_at": (_STATUS, _HANDLE, _SIZE, _SIZE, ctypes.POINTER(_Group), _SIZE),
     "changed": (_Stretch, _HANDLE),
     "counted": (_Counts, _HANDLE),
 }
@@ -196,6 +231,14 @@ def _bytes_of(text: Text) -> bytes:
 def _check(status: int) -> None:
     if status:
         raise FAULTS[status - 1]()
+
+
+def pattern_error(pattern: Text) -> Optional[PatternError]:
+    """Where and why a text is no pattern, so that set_pattern is refused with Pattern; None where it is one, or is refused
+    with Limit. No session takes part. Refused: Utf8, Memory."""
+    pattern, told = _bytes_of(pattern), _PatternReason()
+    _check(library().rope_search_pattern_error(pattern, len(pattern), told))
+    return PatternError(told.place, REASONS[told.reason - 1]) if told.reason else None
 
 
 class Session:
@@ -376,6 +419,13 @@ class Session:
         out = (_Span * max(1, count))()
         self._calls.rope_search_copy_matches(self._open(), start, stop, out, count)
         return [Span(span.line, span.start, span.stop) for span in out[:count]]
+
+    def groups_at(self, line: int, number: int) -> List[Optional[Span]]:
+        """The groups 0 to 9 of match `number`, from 0, of those in a row: the first is the match, and None stands for one
+        that takes no part in it. The line is searched once more, which is counted. Refused: Nothing, Range, Memory."""
+        out = (_Group * 10)()
+        _check(self._calls.rope_search_groups_at(self._handle, line, number, out, len(out)))
+        return [Span(group.line, group.start, group.stop) if group.found else None for group in out]
 
     @property
     def changed(self) -> Stretch:

@@ -27,6 +27,8 @@ pub mod RunLaws
 pub mod SessionLemmas
 pub mod NextLaws
 pub mod NextLemmas
+pub mod GroupsAtLemmas
+pub mod PatternErrorLemmas
 pub mod StandLaws
 pub mod HoldLaws
 pub mod HoldLemmas

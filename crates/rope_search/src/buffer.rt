@@ -11,6 +11,7 @@ ghost use Rattle.rope_search_reports.specs.Pattern.{IsPattern, IsTooHeavy, Spell
 ghost use Rattle.rope_search_reports.specs.Position.{IsAt, IsNowhere, position};
 ghost use Rattle.rope_search_reports.specs.Ticks.{MakesAsMany, MakesAtMost, SearchesOneWhole};
 ghost use Rattle.rope_search.specs.Finding.{TellsNext};
+ghost use Rattle.rope_search.specs.GroupsAt.{AnswersGroups, SearchesRow};
 ghost use Rattle.rope_search.specs.Replacing.{IsReplacement, GetsTooLongWith, RowsOfReplacement};
 ghost use Rattle.rope_search.specs.Cost.{rows_anew};
 ghost use Rattle.rope_search.specs.Histories.{LeadOn, KeepsEdit, KeepsReplacement, changes_at, rows_back, rows_on};
@@ -27,7 +28,9 @@ use crate::parts::Part;
 use crate::search::{Search, row_count};
 use crate::stretches::Stretch;
 use rope_search_io::Fault;
-use rope_search_reports::{Changes, Finder, Lines, Position, Row, byte_of, position_of, report_of};
+use rope_search_reports::{
+    Changes, Finder, Groups, Lines, Position, Row, byte_of, position_of, report_of,
+};
 use rope_search_templates::Replacement;
 use ropey::Rope;
 use std::alloc::Global;
@@ -549,6 +552,33 @@ impl Buffer {
         };
         let found = search.next_from(tick, self.history.current(), from)?;
         Ok(found)
+    }
+
+    /// Returns the groups 0 to 9 of a match of the report, by its line and its number in that row,
+    /// from 0: of each the columns where it starts and where it ends, in UTF-16 code units from the
+    /// line's start. Group 0 is the match; one that the pattern doesn't have, or that takes no part
+    /// in the match, is `None`. A row keeps no groups, so its line is searched once more, by itself
+    /// and up to the match: one row is counted whatever is answered, where the report has that row.
+    /// Time is linear in the line, times the pattern's weight, and `O(log n)` for each group.
+    ///
+    /// Errors, which leave the buffer as it was: `Fault::Nothing` without a pattern, else
+    /// `Fault::Range` where there is no such line, which is told without a search, or no such match
+    /// in it; `Fault::Memory`.
+    pub fn groups_at(
+        &mut self,
+        tick: &mut Lines,
+        line: usize,
+        number: usize,
+    ) -> Result<Groups, Fault>
+        ensures answer { AnswersGroups self.old.state line number result }
+        ensures same { self.new ≡ self.old }
+        ensures searches { SearchesRow self.old.state line tick.old tick.new }
+    {
+        let Some(search) = &mut self.search else {
+            return Err(Fault::Nothing);
+        };
+        let groups = search.groups_at(tick, self.history.current(), line, number)?;
+        Ok(groups)
     }
 
     /// Replaces all matches of the pattern in the whole current text by what the template stands

@@ -14,6 +14,7 @@ pub mod laws;
 mod limits;
 mod listings;
 mod parts;
+mod pattern_errors;
 mod payloads;
 mod replies;
 mod requests;
@@ -29,11 +30,14 @@ pub use edits::Edit;
 pub use encodings::Encoding;
 pub use endings::Ended;
 pub use limits::Limits;
+pub use pattern_errors::pattern_error;
 pub use rope_search_io::{Broken, Device, Failed, Fault, MemorySink, MemorySource, Sink, Source};
 pub use rope_search_reports::{
-    Finder, Groups, Lines, Position, Row, byte_of, find_all, find_from, position_of, search_line,
+    Finder, Groups, Lines, Position, Row, byte_of, find_all, find_from, groups_at, position_of,
+    search_line,
 };
 pub use ropey::Rope;
 pub use runs::{run, run_limited};
+pub use rx_grammar::{Mistake, Reason, Refusal};
 pub use session::Session;
 pub use stretches::Stretch;

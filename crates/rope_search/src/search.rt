@@ -1,5 +1,5 @@
 //! A pattern that is set, and its report, which edits and replacements patch.
-ghost use Rattle.std.specs.Prelude.{◌≡◌, if◌then◌else◌, is_some, ℕ, ◌+◌, ◌^◌, ◌<◌, ◌≤◌, ◌↔◌, ◌⊎◌, length, chars, Err, OnOk, OnErr, IfOk, IfErr};
+ghost use Rattle.std.specs.Prelude.{◌≡◌, None, Some, if◌then◌else◌, is_some, ℕ, ◌+◌, ◌^◌, ◌<◌, ◌≤◌, ◌↔◌, ◌⊎◌, length, chars, Err, OnOk, OnErr, IfOk, IfErr};
 ghost use Rattle.ropey.specs.Chunks.{text_of};
 ghost use Rattle.rope_search_reports.specs.Text.{bytes_of, line_count};
 ghost use Rattle.rope_search_reports.specs.Report.{IsReport, match_count};
@@ -7,8 +7,10 @@ ghost use Rattle.rope_search_reports.specs.Changes.{AreChanges};
 ghost use Rattle.rope_search_reports.specs.Patches.{patched, growth_by};
 ghost use Rattle.rope_search_reports.specs.Position.{IsNowhere};
 ghost use Rattle.rope_search_reports.specs.Ticks.{MakesAtMost, SearchesOneWhole};
+ghost use Rattle.rope_search_reports.specs.LineGroups.{SearchesOneLine};
 ghost use Rattle.rope_search_templates.specs.Matches.{matched};
 ghost use Rattle.rope_search.specs.Finding.{TellsIn};
+ghost use Rattle.rope_search.specs.GroupsAt.{TellsGroupsIn};
 ghost use Rattle.rope_search.specs.Replacing.{AreEnough, IsReplacementIn, GetsTooLongIn, RowsOfReplacementIn};
 ghost use Rattle.rope_search.specs.Searched.{FitIn, HasRoom};
 ghost use Rattle.rope_search_reports.specs.Turned.{Lead, listed, lines_put};
@@ -19,8 +21,8 @@ use crate::limits::Limits;
 use crate::stretches::{Stretch, stretch_of};
 use rope_search_io::Fault;
 use rope_search_reports::{
-    Change, Changes, Finder, Lines, Patch, Position, Row, find_all, find_from, find_spans, growth,
-    patches_of, place_of, position_of, put_in_place, put_patches, shift_once,
+    Change, Changes, Finder, Groups, Lines, Patch, Position, Row, find_all, find_from, find_spans,
+    groups_at, growth, patches_of, place_of, position_of, put_in_place, put_patches, shift_once,
 };
 use rope_search_templates::{Matches, Replacement, Template, is_over, replace_all};
 use ropey::Rope;
@@ -304,5 +306,35 @@ impl Search {
             return Ok(None);
         };
         Ok(Some((position_of(text, start), position_of(text, end))))
+    }
+    /// The groups of the match of a number, from 0, in a line of a text, each by its columns. It is
+    /// refused with `Fault::Range` where there is no such line, or no such match in it, and perhaps
+    /// with `Fault::Memory`. A line that there is is searched, and counted. The report is as before.
+    pub fn groups_at(
+        &mut self,
+        tick: &mut Lines,
+        text: &Rope,
+        line: usize,
+        number: usize,
+    ) -> Result<Groups, Fault>
+        ensures told { IfOk result (λ groups.
+            TellsGroupsIn (text_of text.now) self.old.finder line number (Some groups)) }
+        ensures range { result ≡ Err Fault.Range → (line_count (text_of text.now) ≤ line)
+            ⊎ TellsGroupsIn (text_of text.now) self.old.finder line number None }
+        ensures memory { result ≡ Err Fault.Memory → line < line_count (text_of text.now) }
+        ensures fault { IfErr result (λ fault. (fault ≡ Fault.Range) ⊎ (fault ≡ Fault.Memory)) }
+        ensures finder { self.new.finder ≡ self.old.finder }
+        ensures rows { self.new.rows.items ≡ self.old.rows.items }
+        ensures searched { line < line_count (text_of text.now)
+            → SearchesOneLine tick.old tick.new }
+        ensures unsearched { line_count (text_of text.now) ≤ line → tick.new ≡ tick.old }
+    {
+        if line >= text.len_lines() {
+            return Err(Fault::Range);
+        }
+        match groups_at(tick, &mut self.finder, text, line, number)? {
+            Some(groups) => Ok(groups),
+            None => Err(Fault::Range),
+        }
     }
 }

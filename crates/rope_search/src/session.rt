@@ -9,6 +9,7 @@ ghost use Rattle.rope_search.specs.Stands.{ForOrders, StandsFor, kept_of};
 ghost use Rattle.rope_search.specs.Cost.{Costs, SearchesFor};
 ghost use Rattle.rope_search_reports.specs.Ticks.{MakesAtMost, SearchesOneWhole};
 ghost use Rattle.rope_search.specs.Finding as finding;
+ghost use Rattle.rope_search.specs.GroupsAt.{AnswersGroups, SearchesRow};
 ghost use Rattle.rope_search.specs.Stretches as stretches;
 ghost use Rattle.rope_search.specs.Changed.{TellsRows, TellsAfter};
 ghost use Rattle.rope_search.specs.Edits.{RefusesEdits, StepByEdits, TellsEdits, in_full, rows_of_edits};
@@ -19,7 +20,7 @@ use crate::edits::Edit;
 use crate::limits::Limits;
 use crate::stretches::Stretch;
 use rope_search_io::Fault;
-use rope_search_reports::{Lines, Position};
+use rope_search_reports::{Groups, Lines, Position};
 use std::alloc::Global;
 use std::marker::Model;
 
@@ -261,6 +262,25 @@ impl Session {
         // A law, for the proof alone.
         rope_search_templates::laws::substituted_is_text();
         self.buffers[self.chosen].edit_all(tick, edits)
+    }
+
+    /// Returns the groups 0 to 9 of a match of the chosen buffer's report, by its line and its
+    /// number in that row, from 0, as `Buffer::groups_at` does: that line alone is searched, and one
+    /// row counted whatever is answered, where the report has that row.
+    ///
+    /// Errors: `Fault::Nothing` without a pattern, else `Fault::Range` where there is no such line,
+    /// or no such match in it; `Fault::Memory`. The session is as it was, whatever is answered.
+    pub fn groups_at(
+        &mut self,
+        tick: &mut Lines,
+        line: usize,
+        number: usize,
+    ) -> Result<Groups, Fault>
+        ensures answer { AnswersGroups (chosen_buffer self.old.state) line number result }
+        ensures same { self.new ≡ self.old }
+        ensures searches { SearchesRow (chosen_buffer self.old.state) line tick.old tick.new }
+    {
+        self.buffers[self.chosen].groups_at(tick, line, number)
     }
 
     // Makes the payload the chosen buffer's text.

@@ -8,9 +8,11 @@
 mod commands;
 mod counting;
 mod edits;
+mod groups;
 mod handles;
 mod look_ups;
 mod matches;
+mod pattern_errors;
 mod reading;
 
 pub use commands::{
@@ -25,7 +27,9 @@ pub use handles::Handle;
 pub use look_ups::{
     Counted, rope_search_buffers, rope_search_byte_of, rope_search_can_redo, rope_search_can_undo,
     rope_search_changed, rope_search_chosen, rope_search_column_in, rope_search_copy_matches,
-    rope_search_copy_text, rope_search_count_matches, rope_search_counted, rope_search_position_in,
-    rope_search_position_of, rope_search_rows, rope_search_text_len, rope_search_text_lines,
+    rope_search_copy_text, rope_search_count_matches, rope_search_counted, rope_search_groups_at,
+    rope_search_position_in, rope_search_position_of, rope_search_rows, rope_search_text_len,
+    rope_search_text_lines,
 };
-pub use matches::{Match, Span};
+pub use matches::{Group, Match, Span};
+pub use pattern_errors::{PatternReason, rope_search_pattern_error};

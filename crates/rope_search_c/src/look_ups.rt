@@ -1,12 +1,15 @@
-//! The calls that read. Each leaves the session as it was, and a closed handle closed.
-ghost use Rattle.std.specs.Prelude.{◌≡◌, ◌+◌, ◌<◌, ◌↔◌, length, false, IsTrue, MatchOption};
+//! The calls that read. Each leaves the session as it was, and a closed handle closed; one of them
+//! searches a line, and that is counted.
+ghost use Rattle.std.specs.Prelude.{◌≡◌, ◌+◌, ◌<◌, ◌↔◌, length, None, false, IsTrue, MatchOption};
 ghost use Rattle.rope_search.specs.Session.{chosen_buffer};
 ghost use Rattle.rope_search_reports.specs.Text.{line_count};
 ghost use Rattle.rope_search.specs.Stretches.{none};
+ghost use Rattle.rope_search_c.specs.Calls.{Leads};
+ghost use Rattle.rope_search_c.specs.Groups.{CopiesGroups};
 ghost use Rattle.rope_search_c.specs.Reading.{CopiesMatches, CopiesText, CountsMatches, CountsRows, TellsByte, TellsColumn, TellsPosition, TellsPositionIn, bytes_in, changed_in, text_in};
 
 use crate::handles::{CLOSED, Handle};
-use crate::matches::Span;
+use crate::matches::{Group, Span};
 use rope_search::{Position, Stretch};
 use std::alloc::Global;
 
@@ -105,6 +108,32 @@ pub extern "C" fn rope_search_copy_matches(
     let count = session.copy_matches(from, to, out);
     *handle = Handle::of(session);
     count
+}
+
+/// Puts the groups 0 to 9 of a match of the report, by its line and its number in that row, from 0,
+/// at the front of `out`, as many as fit, and returns 0. Its line is searched for them, and that is
+/// counted. It returns 1 without a pattern, 2 where there is no such line or no such match, 7 where
+/// memory is refused, or 8 on a closed handle, and `out` is then as it was. Of `out` nothing else is
+/// changed.
+#[unsafe(no_mangle)]
+pub extern "C" fn rope_search_groups_at(
+    alloc: Global,
+    handle: &mut Handle,
+    line: usize,
+    number: usize,
+    out: &mut [Group],
+) -> u32
+    ensures told { Leads handle.old.held result handle.new.held (λ old new.
+        CopiesGroups old line number result out.old out.new new) }
+    ensures closed { handle.old.held ≡ None → out.new ≡ out.old }
+{
+    let Some(session) = handle.take(alloc) else {
+        return CLOSED;
+    };
+    let mut session = session;
+    let status = session.groups_at(line, number, out);
+    *handle = Handle::of(session);
+    status
 }
 
 /// Puts bytes `from` up to `to` of the chosen buffer's text at the front of `out`, and returns

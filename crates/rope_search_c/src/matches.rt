@@ -24,3 +24,17 @@ pub struct Span {
     /// The column where it ends.
     pub stop: usize,
 }
+
+/// A group of a match in a line, or that it takes no part in the match.
+#[repr(C)]
+#[derive(Clone, Copy, Debug, PartialEq, Eq)]
+pub struct Group {
+    /// Whether it takes part in the match. Where it doesn't, both columns are 0.
+    pub found: bool,
+    /// The line.
+    pub line: usize,
+    /// The column where it starts, in UTF-16 code units from the line's start.
+    pub start: usize,
+    /// The column where it ends.
+    pub stop: usize,
+}

@@ -80,7 +80,7 @@ span-in content t k has stands = elim has [
 ]
 
 -- those of one match
-spans-in : (content : List ℕ) (t : FoundMatch) → start_of t ≤ end_of t → HasNotedGroups t → StandsAtBoundaries content t → HasSpansIn content (groups_of t)
+pub spans-in : (content : List ℕ) (t : FoundMatch) → start_of t ≤ end_of t → HasNotedGroups t → StandsAtBoundaries content t → HasSpansIn content (groups_of t)
 spans-in content t ordered has stands =
     let P : Option (ℕ × ℕ) → Type 0 = λ group. IfSome group (IsSpanIn content) in
     All-cons P (Some (span_of t)) (map (group_of t) (range_with_len 1 9)) (record { ordered = ordered; starts = stands.start; stops = stands.end })

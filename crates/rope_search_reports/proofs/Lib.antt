@@ -16,6 +16,7 @@ pub mod WalkLemmas
 pub mod OwnLemmas
 pub mod FewLemmas
 pub mod GroupLemmas
+pub mod AmongLemmas
 pub mod SpliceLemmas
 pub mod ChangeLemmas
 pub mod WeaveLemmas

@@ -37,6 +37,11 @@ next-stands tree content last span slots has utf8 next =
     let inside = (lies-behind tree content from.0 next.t has from.1).inside in
     subst (Stands content) (sym next.span_is) (record { starts = at.0; ends = at.1; inside = inside })
 
+pub next-inside : (tree : Tree) (content : List ℕ) (last : Option ℕ) (span : ℕ × ℕ) (slots : List (Option ℕ)) → HasFinds tree → NextMatch tree content last span slots → span.1 ≤ length content
+next-inside tree content last span slots has next =
+    let from = comes-from tree content last next.t next.is in
+    subst (λ (s : ℕ × ℕ). s.1 ≤ length content) (sym next.span_is) (lies-behind tree content from.0 next.t has from.1).inside
+
 -- it starts behind the last one, and ends behind its start
 pub record Follows (last : Option ℕ) (span : ℕ × ℕ) : Type 0 where
   pub behind : start_behind last ≤ span.0

@@ -2,7 +2,7 @@
 use Rattle.std.specs.Prelude.{◌≡◌, ℕ, ◌+◌, ◌*◌, Bool, true, List, [], ◌∷◌, ◌++◌, length, Option, None, Some, option_map, slice_index_or, unwrap_or, map}
 use Rattle.std.specs.Str.{chars}
 use Rattle.regex_cursor.specs.Patterns.{Tree, FoundMatch, Next, TreeFinds, TreeMatches, answer_slots, start_of, end_of}
-use Rattle.regex_cursor.specs.Regexes.{RegexView, CacheView, IsRegexOf, IsCacheOf}
+use Rattle.regex_cursor.specs.Regexes.{RegexView, IsRegexOf}
 use Rattle.rope_search_reports.specs.Text.{bytes_of}
 use Rattle.rope_search_reports.specs.Matches.{both, groups_of}
 use Rattle.rope_search_reports.specs.Pattern.{span_of}
@@ -22,14 +22,12 @@ matches_in Nothing = []
 matches_in (One one) = one.value ∷ []
 matches_in (Many list) = list.value.items
 
--- a regex that was built of this pattern, a cache made for it, and whether it is known that it
--- doesn't match the empty text
-pub record IsFinderOf (pattern : List ℕ) (re : RegexView) (cache : CacheView) (is_never_empty : Bool)
-    : Type 0 where
+-- a regex that was built of this pattern, and whether it is known that it doesn't match the empty
+-- text
+pub record IsFinderOf (pattern : List ℕ) (re : RegexView) (is_never_empty : Bool) : Type 0 where
   pub text : List ℕ
   pub pattern_is : pattern ≡ chars text
   pub built : IsRegexOf text re
-  pub serves : IsCacheOf re cache
   pub never_empty : is_never_empty ≡ true → TreeFinds built.tree [] 0 None
 
 -- what comes next among the matches of a tree in a content, behind one that ended at this place, or
@@ -41,6 +39,13 @@ ComesAfter tree content (Some end) found = Next (TreeFinds tree content) start_o
 -- where a search for it starts
 abbrev pub start_behind : Option ℕ → ℕ
 start_behind last = unwrap_or last 0
+
+-- a search that was begun: what it goes over, where its last match ended, if there was one, and
+-- whether no more come
+pub record PassState : Type 0 where
+  pub content : List ℕ
+  pub last : Option ℕ
+  pub is_over : Bool
 
 -- the span of a group, by the places in its two slots
 abbrev pub group_told : List (Option ℕ) → ℕ → Option (ℕ × ℕ)

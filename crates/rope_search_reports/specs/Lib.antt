@@ -12,3 +12,4 @@ pub mod Turned
 pub mod Laws
 pub mod Drafts
 pub mod Finders
+pub mod LineGroups

@@ -1,10 +1,13 @@
 //! Columns of a line: UTF-16 code units from its start.
-ghost use Rattle.std.specs.Prelude.{◌≡◌};
+ghost use Rattle.std.specs.Prelude.{◌≡◌, IfSome, option_map};
 ghost use Rattle.std.specs.Str.{IsCharBoundary};
 ghost use Rattle.ropey_walk.specs.Comparing.{slice_bytes};
-ghost use Rattle.rope_search_reports.specs.Report.{column};
+ghost use Rattle.rope_search_reports.specs.Replacement.{HasSpansIn, IsSpanIn};
+ghost use Rattle.rope_search_reports.specs.LineGroups.{in_columns};
+ghost use Rattle.rope_search_reports.specs.Report.{column, columns};
 
 use crate::laws;
+use rope_search_changes::Groups;
 use ropey::RopeSlice;
 
 /// The column of a place in a line, which is a character boundary up to its length. `O(1)` where
@@ -21,4 +24,27 @@ pub fn column_at(line: &RopeSlice<'_>, byte_idx: usize) -> usize
         return byte_idx;
     }
     line.char_to_utf16_cu(line.byte_to_char(byte_idx))
+}
+
+/// The columns of a span of a line, where there is one.
+fn columns_at(line: &RopeSlice<'_>, span: Option<(usize, usize)>) -> Option<(usize, usize)>
+    requires { IfSome span (IsSpanIn (slice_bytes line.now)) }
+    ensures { result ≡ option_map (columns (slice_bytes line.now)) span }
+{
+    match span {
+        Some((start, end)) => Some((column_at(line, start), column_at(line, end))),
+        None => None,
+    }
+}
+
+/// The groups of a match in a line, each by its columns. Two conversions a place, as `column_at`.
+pub fn groups_by_columns(line: &RopeSlice<'_>, groups: &Groups) -> Groups
+    requires { HasSpansIn (slice_bytes line.now) groups.now }
+    ensures { result ≡ in_columns (slice_bytes line.now) groups.now }
+{
+    let mut told = [None; 10];
+    for k in 0..10 {
+        told[k] = columns_at(line, groups[k]);
+    }
+    told
 }

@@ -2,6 +2,7 @@
 //! contract is the law.
 
 ghost use Rattle.rope_search_reports.specs.Laws.{IsPatternOrNot, IsOneOfThree, FindsOne, HasFind, FindsAreInText, HasOneListOfMatches, HasMatches, HasOneListOfGroups, HasGroups, HasFewGroups, GroupsFollowEachOther, ReplacedIsText, HasFewMatches, HasOneReport, HasReport, HasARowALine, PlacesAreInLines, HasOnePlace, MatchesStandAtBoundaries, HasLinesInPlace, PlaceLaws};
+ghost use Rattle.rope_search_reports.specs.LineGroups.{GroupsAreOfRows};
 ghost use Rattle.rope_search_reports.specs.Splice.{EditsSpliceLines, KeepsRows};
 ghost use Rattle.rope_search_reports.specs.Changes.{ChangesKeepLines, TailsKeepLines};
 ghost use Rattle.rope_search_reports.specs.Replacement.{ReplacementsAreChanges};
@@ -79,6 +80,15 @@ pub fn has_groups()
 pub fn few_groups()
     ensures { HasFewGroups }
 {
+    regex_cursor::laws::finds_of_trees();
+}
+
+/// What `groups_at` tells of a match begins with what the row of its line shows of it; there is
+/// nothing to tell exactly where the row has no match of that number.
+pub fn groups_are_of_rows()
+    ensures { GroupsAreOfRows }
+{
+    regex_cursor::laws::one_tree();
     regex_cursor::laws::finds_of_trees();
 }
 

@@ -21,4 +21,6 @@ pub use positions::{Place, Position, byte_of, place_of, position_of};
 pub use replacing::replace_rows;
 pub use reports::{report_of, rows_of_lines};
 pub use rope_search_changes::{Change, Groups};
-pub use rows::{Finder, Lines, PATTERN_LEN, Row, find_all, find_from, find_spans, search_line};
+pub use rows::{
+    Finder, Lines, PATTERN_LEN, Row, find_all, find_from, find_spans, groups_at, search_line,
+};

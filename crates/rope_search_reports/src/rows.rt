@@ -1,22 +1,28 @@
 //! Patterns made ready to search, what their searches find in a line or in a whole text, and the
 //! count of these searches.
-ghost use Rattle.std.specs.Prelude.{◌≡◌, ◌+◌, ◌-◌, ◌^◌, ℕ, List, map, min, IfOk, IfErr};
+ghost use Rattle.std.specs.Prelude.{◌≡◌, ◌+◌, ◌-◌, ◌^◌, ◌<◌, ℕ, List, map, min, IfOk, IfErr};
 ghost use Rattle.std.specs.Str.{IsCharBoundary};
 ghost use Rattle.ropey.specs.Chunks.{text_of};
 ghost use Rattle.ropey_walk.specs.Slices.{slice_text};
-ghost use Rattle.rope_search_reports.specs.Text.{bytes_of};
+ghost use Rattle.rope_search_reports.specs.Text.{bytes_of, line_count};
 ghost use Rattle.rope_search_reports.specs.Pattern.{Finds};
+ghost use Rattle.rope_search_reports.specs.Position.{line_text};
+ghost use Rattle.rope_search_reports.specs.LineGroups.{TellsGroups};
 ghost use Rattle.rope_search_reports.specs.Report.{IsRow};
 ghost use Rattle.rope_search_reports.specs.Matches.{AreGroups, IsMatches};
 ghost use Rattle.rope_search_reports.specs.Replacement.{AreMatchesIn, alone};
 ghost use Rattle.rope_search_reports.specs.Drafts.{HoldsText, own_text};
 
+mod counted;
 mod engine;
+mod groups;
 mod matches;
 mod searching;
 
 use self::matches::Found;
+use crate::laws;
 use crate::line::Line;
+use crate::walk::without_break;
 pub use engine::{Finder, PATTERN_LEN};
 use rope_search_changes::Groups;
 use rope_search_io::Fault;
@@ -163,6 +169,37 @@ pub fn search_line(tick: &mut Lines, finder: &mut Finder, line: RopeSlice<'_>) -
     ensures looked { tick.new.looked ≡ tick.old.looked }
 {
     row_of(tick, finder, Line::of(line))
+}
+
+/// Returns the groups 0 to 9 of the match of a number, from 0, in a line of a text, as
+/// `search_line` finds them: of each where it starts and where it ends, in UTF-16 code units from
+/// the line's start; or `None` where the line has no such match. Group 0 is the whole match; one
+/// that the pattern doesn't have, or that takes no part in the match, is `None`. That line alone is
+/// searched, up to the match, and one row is counted, also after an error. Requires
+/// `line_idx < len_lines()`. Time is linear in the line, times the pattern's weight, and `O(log n)`
+/// for each group.
+///
+/// Errors: `Fault::Memory`; the finder serves on.
+pub fn groups_at(
+    tick: &mut Lines,
+    finder: &mut Finder,
+    text: &Rope,
+    line_idx: usize,
+    number: usize,
+) -> Result<Option<Groups>, Fault>
+    requires { line_idx < line_count (text_of text.now) }
+    ensures told { IfOk result (λ told.
+        TellsGroups finder.old (line_text (text_of text.now) line_idx) number told) }
+    ensures fault { IfErr result (λ fault. fault ≡ Fault.Memory) }
+    ensures finder { finder.new ≡ finder.old }
+    ensures count { tick.new.count ≡ min (tick.old.count + 1) (2 ^ 64 - 1) }
+    ensures wholes { tick.new.wholes ≡ tick.old.wholes }
+    ensures looked { tick.new.looked ≡ tick.old.looked }
+{
+    // A law, and the text's facts, for the proof alone.
+    laws::places();
+    let _ = text.len_bytes();
+    finder.groups_at(tick, without_break(text.line(line_idx)), number)
 }
 
 /// Returns the first match in a whole text from a byte index on, as the byte indices of its start

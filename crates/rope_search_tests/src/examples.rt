@@ -1,7 +1,7 @@
 //! An example for each public type of `rope_search`. Its README shows the first two.
 use rope_search::{
-    Buffer, Command, Edit, Ended, Fault, Limits, Lines, MemorySink, MemorySource, Payload,
-    Position, Reply, Session, run,
+    Buffer, Command, Edit, Ended, Fault, Groups, Limits, Lines, MemorySink, MemorySource, Mistake,
+    Payload, Position, Reason, Refusal, Reply, Session, pattern_error, run,
 };
 use std::test::Fail;
 
@@ -63,6 +63,51 @@ fn buffer_of(
     buffer.set_text(tick, text)?;
     buffer.set_pattern(tick, pattern)?;
     Ok(buffer)
+}
+
+// So it is with this.
+fn groups_at(
+    session: &mut Session,
+    tick: &mut Lines,
+    line: usize,
+    number: usize,
+) -> Result<Groups, Fault> {
+    session.groups_at(tick, line, number)
+}
+
+/// `Session::groups_at`: the groups of a match of the report, each by its columns; the frog has two
+/// code units. Its line is searched once more.
+#[test]
+fn groups_of_a_match(rt: HostRuntime) -> Result<(), Fail> {
+    let mut tick = Lines::new(&rt);
+    let text = "🐸 x=1 y=\nz".as_bytes();
+    let mut session = session_of(&rt, &mut tick, text, br"(\w)=(\d)?")?;
+    let groups = groups_at(&mut session, &mut tick, 0, 0)?;
+    assert!(rt; (groups[0], groups[1]) == (Some((3, 6)), Some((3, 4))));
+    assert!(rt; (groups[2], groups[3]) == (Some((5, 6)), None));
+    let groups = groups_at(&mut session, &mut tick, 0, 1)?;
+    assert!(rt; (groups[0], groups[1]) == (Some((7, 9)), Some((7, 8))));
+    assert!(rt; (groups[2], groups[9]) == (None, None));
+    assert!(rt; groups_at(&mut session, &mut tick, 0, 2).err() == Some(Fault::Range));
+    assert!(rt; tick.count() == 2 + 3);
+    assert!(rt; groups_at(&mut session, &mut tick, 2, 0).err() == Some(Fault::Range));
+    assert!(rt; tick.count() == 2 + 3);
+    Ok(())
+}
+
+/// `pattern_error` and `Refusal`, `Reason`, `Mistake`: where and why a text is no pattern; nothing
+/// for a pattern, also one that is too heavy, and for one that is too long.
+#[test]
+fn why_a_pattern_is_refused(rt: HostRuntime) -> Result<(), Fail> {
+    let open = Refusal {
+        place: 2,
+        reason: Reason::Outside(Mistake::OpenGroup),
+    };
+    assert!(rt; pattern_error(rt.alloc(), b"(a") == Ok(Some(open)));
+    assert!(rt; pattern_error(rt.alloc(), b"(a)") == Ok(None));
+    assert!(rt; pattern_error(rt.alloc(), b"a{65535}{65535}") == Ok(None));
+    assert!(rt; pattern_error(rt.alloc(), b"(\xff") == Err(Fault::Utf8));
+    Ok(())
 }
 
 /// `Reply`: what an accepted command is answered. A fork is a buffer of its own.

@@ -199,6 +199,12 @@ local function end_search(buffer)
   end
 end
 
+-- Why a pattern is refused, with the place where it isn't one.
+local function told_of(pattern, why)
+  local found = why == "pattern" and rope_search.pattern_error(pattern)
+  return found and ("%s, at byte %d"):format(found.reason, found.place) or why
+end
+
 -- Searches a buffer for a pattern, live. It returns true, or nil and why the pattern is refused.
 function M.search(buffer, pattern)
   if not sessions[buffer] then
@@ -228,7 +234,7 @@ function M.search(buffer, pattern)
   local done, why = sessions[buffer]:set_pattern(pattern)
   replaced[buffer] = nil
   M.paint_windows(buffer)
-  return done, why
+  return done, told_of(pattern, why)
 end
 
 -- Ends the search of a buffer.

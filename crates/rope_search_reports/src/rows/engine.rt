@@ -1,29 +1,31 @@
-//! The regex of a pattern, and each way to search by it. Each is counted as it begins: a line, a
-//! whole text, or how many lines were looked through. Nothing else of the crate has a regex.
+//! A pattern that is ready to search, and what its searches tell: rows, matches, groups, and the
+//! lines in which no match can begin.
 ghost use Rattle.std.specs.Prelude.{◌≡◌, ◌+◌, ◌-◌, ◌^◌, ◌<◌, ◌≤◌, ◌⊎◌, ℕ, List, [], length, map, min, chars, IfOk, IfErr, IfSome, OnOk, Err};
 ghost use Rattle.std.specs.Str.{IsCharBoundary, IsUtf8};
 ghost use Rattle.str_indices.specs.Text.{breaks, byte_len};
 ghost use Rattle.ropey.specs.Chunks.{is_break, text_of};
 ghost use Rattle.ropey_walk.specs.Comparing.{slice_bytes};
 ghost use Rattle.ropey_walk.specs.Slices.{slice_text};
-ghost use Rattle.regex_cursor.specs.Regexes.{IsCacheOf, IsRegexOf};
 ghost use Rattle.rope_search_reports.specs.Text.{bytes_of, line_count};
 ghost use Rattle.rope_search_reports.specs.Pattern.{IsPattern, IsTooHeavy, SpellsNone, Finds, pattern_limit};
+ghost use Rattle.rope_search_reports.specs.LineGroups.{TellsGroups};
 ghost use Rattle.rope_search_reports.specs.Report.{IsRow};
 ghost use Rattle.rope_search_reports.specs.Matches.{AreGroups, IsMatches};
 ghost use Rattle.rope_search_reports.specs.Replacement.{AreMatchesIn, alone};
-ghost use Rattle.rope_search_reports.specs.Finders.{IsRowOf, matches_in};
+ghost use Rattle.rope_search_reports.specs.Finders.{matches_in};
 ghost use Rattle.rope_search_reports.specs.Drafts.{AreBare, HasNoneBetween, HoldsText, own_text};
 
 use super::Lines;
+use super::counted::CountedRegex;
+use super::groups::groups_of_match;
 use super::matches::Found;
-use super::searching::{all_groups, all_spans, find, find_next, input_from, input_over};
+use super::searching::{all_groups, all_spans, columns_in_line};
+use crate::columns::groups_by_columns;
 use crate::laws;
 use crate::line::Line;
 use crate::pattern_text::PatternText;
 use crate::walk::Walk;
-use regex_cursor::engines::meta::{Cache, Regex};
-use regex_cursor::{BuildError, Cursor, RopeyCursor};
+use regex_cursor::{BuildError, RopeyCursor};
 use rope_search_changes::Groups;
 use rope_search_io::Fault;
 use ropey::{Rope, RopeSlice, breaks};
@@ -38,8 +40,7 @@ pub const PATTERN_LEN: usize = 65_536;
 #[derive(Drop)]
 pub struct Finder {
     alloc: Global,
-    regex: Regex,
-    cache: Cache,
+    regex: CountedRegex,
     // Whether it is known that it doesn't match the empty text.
     is_never_empty: bool,
     // The columns of the matches in the line that was searched last.
@@ -56,7 +57,7 @@ impl Model for Finder {
 
     ghost view = { λ f. f.pattern };
 
-    ghost invariant = { λ f. IsFinderOf f.pattern f.regex f.cache f.is_never_empty };
+    ghost invariant = { λ f. IsFinderOf f.pattern f.regex f.is_never_empty };
 }
 
 impl Finder {
@@ -76,26 +77,20 @@ impl Finder {
         ensures fault { IfErr result (λ fault.
             (fault ≡ Fault.Limit) ⊎ ((fault ≡ Fault.Pattern) ⊎ (fault ≡ Fault.Memory))) }
     {
-        // A law, for the proof alone.
-        regex_cursor::laws::regexes_have_trees();
         if pattern.len() > PATTERN_LEN {
             return Err(Fault::Limit);
         }
-        let regex = match Regex::new(alloc, pattern) {
+        let regex = match CountedRegex::new(alloc, pattern) {
             Ok(regex) => regex,
             Err(BuildError::Syntax { .. }) => return Err(Fault::Pattern),
             Err(BuildError::Size { .. }) => return Err(Fault::Limit),
             Err(BuildError::Memory) => return Err(Fault::Memory),
         };
-        let Ok(cache) = regex.create_cache() else {
-            return Err(Fault::Memory);
-        };
         // By its literals, no search.
-        let is_never_empty = regex.no_match_before(&mut input_over("", 0, 0)).is_some();
+        let is_never_empty = regex.no_match_before("", 0, 0).is_some();
         Ok(Finder {
             alloc,
             regex,
-            cache,
             is_never_empty,
             columns: Vec::new(alloc),
             pattern: PatternText::new(pattern),
@@ -115,8 +110,7 @@ impl Finder {
         ensures no_match { IfSome result (λ place. HasNoneBetween self.now text.now 0 place) }
         ensures within { IfSome result (λ place. place ≤ length text.now) }
     {
-        self.regex
-            .no_match_before(&mut input_over(text, text.len(), 0))
+        self.regex.no_match_before(text, text.len(), 0)
     }
 
     /// The same of a slice, from a place on.
@@ -126,7 +120,8 @@ impl Finder {
             HasNoneBetween self.now (slice_bytes text.entry) from place) }
         ensures within { IfSome result (λ place. place ≤ byte_len (slice_text text.entry)) }
     {
-        self.regex.no_match_before(&mut input_from(text, from))
+        self.regex
+            .no_match_before(RopeyCursor::at(text, from), text.len_bytes(), from)
     }
 
     /// How many of the lines that come next end before the place at which a match may begin, as far
@@ -217,7 +212,7 @@ impl Finder {
             return Ok(Found::Nothing);
         }
         self.columns.clear();
-        columns_in_line(tick, &mut self.columns, &self.regex, &mut self.cache, line)?;
+        columns_in_line(tick, &mut self.columns, &mut self.regex, line)?;
         Ok(Found::of(self.alloc, self.columns.as_slice())?)
     }
 
@@ -240,9 +235,7 @@ impl Finder {
         ensures wholes { tick.new.wholes ≡ min (tick.old.wholes + 1) (2 ^ 64 - 1) }
         ensures looked { tick.new.looked ≡ tick.old.looked }
     {
-        tick.add_whole();
-        let mut input = input_from(text.slice(..), from);
-        find(&self.regex, &mut self.cache, &mut input, &mut [None; 2])
+        self.regex.first_in(tick, text.slice(..), from)
     }
 
     /// All matches in a whole text with their groups. One search of a whole text is counted, also
@@ -260,13 +253,31 @@ impl Finder {
         ensures wholes { tick.new.wholes ≡ min (tick.old.wholes + 1) (2 ^ 64 - 1) }
         ensures looked { tick.new.looked ≡ tick.old.looked }
     {
-        all_groups(
-            tick,
-            self.alloc,
-            &self.regex,
-            &mut self.cache,
-            text.slice(..),
-        )
+        all_groups(tick, self.alloc, &mut self.regex, text.slice(..))
+    }
+
+    /// The groups of the match of a number, from 0, in a line, each by its columns, or `None` where
+    /// there is no such match. One row is counted, also after an error.
+    ///
+    /// Errors: `Fault::Memory`; the finder serves on.
+    pub(super) fn groups_at(
+        &mut self,
+        tick: &mut Lines,
+        line: RopeSlice<'_>,
+        number: usize,
+    ) -> Result<Option<Groups>, Fault>
+        ensures told { IfOk result (λ told.
+            TellsGroups self.old (slice_text line.entry) number told) }
+        ensures fault { IfErr result (λ fault. fault ≡ Fault.Memory) }
+        ensures finder { self.new ≡ self.old }
+        ensures count { tick.new.count ≡ min (tick.old.count + 1) (2 ^ 64 - 1) }
+        ensures wholes { tick.new.wholes ≡ tick.old.wholes }
+        ensures looked { tick.new.looked ≡ tick.old.looked }
+    {
+        match groups_of_match(tick, &mut self.regex, line, number)? {
+            None => Ok(None),
+            Some(groups) => Ok(Some(groups_by_columns(&line, &groups))),
+        }
     }
 
     /// The spans of all matches in a whole text. One search of a whole text is counted, also after
@@ -288,82 +299,6 @@ impl Finder {
         ensures wholes { tick.new.wholes ≡ min (tick.old.wholes + 1) (2 ^ 64 - 1) }
         ensures looked { tick.new.looked ≡ tick.old.looked }
     {
-        all_spans(
-            tick,
-            self.alloc,
-            &self.regex,
-            &mut self.cache,
-            text.slice(..),
-        )
+        all_spans(tick, self.alloc, &mut self.regex, text.slice(..))
     }
-}
-
-/// Puts the columns of all matches in a line into a list, which is empty. One row is counted.
-fn columns_in_line(
-    tick: &mut Lines,
-    columns: &mut Vec<(usize, usize)>,
-    regex: &Regex,
-    cache: &mut Cache,
-    line: Line<'_>,
-) -> Result<(), Fault>
-    requires made { IsCacheOf regex.now cache.old }
-    requires built { (text : List ℕ) × IsRegexOf text regex.now }
-    requires holds { HoldsText line }
-    requires empty { columns.old.items ≡ [] }
-    ensures row { (text : List ℕ) → (built : IsRegexOf text regex.now)
-        → OnOk result (IsRowOf built.tree (own_text line.entry) columns.new.items) }
-    ensures made { IsCacheOf regex.now cache.new }
-    ensures fault { IfErr result (λ fault. fault ≡ Fault.Memory) }
-    ensures count { tick.new.count ≡ min (tick.old.count + 1) (2 ^ 64 - 1) }
-    ensures wholes { tick.new.wholes ≡ tick.old.wholes }
-    ensures looked { tick.new.looked ≡ tick.old.looked }
-{
-    match line {
-        Line::Whole(text) => columns_in(tick, columns, regex, cache, text, &line),
-        Line::Parted(slice) => {
-            columns_in(tick, columns, regex, cache, RopeyCursor::new(slice), &line)
-        }
-    }
-}
-
-/// Puts the columns of all matches in a line, which the cursor shows, into a list, which is empty.
-/// One row is counted as it begins.
-fn columns_in<C: Cursor + Drop>(
-    tick: &mut Lines,
-    columns: &mut Vec<(usize, usize)>,
-    regex: &Regex,
-    cache: &mut Cache,
-    cursor: C,
-    line: &Line<'_>,
-) -> Result<(), Fault>
-    requires made { IsCacheOf regex.now cache.old }
-    requires built { (text : List ℕ) × IsRegexOf text regex.now }
-    requires holds { HoldsText line.now }
-    requires shows { (C.state cursor).content ≡ bytes_of (own_text line.now) }
-    requires empty { columns.old.items ≡ [] }
-    ensures row { (text : List ℕ) → (built : IsRegexOf text regex.now)
-        → OnOk result (IsRowOf built.tree (own_text line.now) columns.new.items) }
-    ensures made { IsCacheOf regex.now cache.new }
-    ensures fault { IfErr result (λ fault. fault ≡ Fault.Memory) }
-    ensures count { tick.new.count ≡ min (tick.old.count + 1) (2 ^ 64 - 1) }
-    ensures wholes { tick.new.wholes ≡ tick.old.wholes }
-    ensures looked { tick.new.looked ≡ tick.old.looked }
-{
-    // A law, for the proof alone.
-    regex_cursor::laws::finds_of_trees();
-    tick.add_row();
-    let mut input = input_over(cursor, line.len_bytes(), 0);
-    let mut slots = [None; 2];
-    // Where the last match ended, and its column there.
-    let mut last = None;
-    let (mut place, mut column) = (0, 0);
-    while let Some((start, end)) = find_next(regex, cache, &mut input, &mut slots, last)? {
-        let start_column = line.column_from(place, column, start);
-        column = line.column_from(start, start_column, end);
-        columns.push((start_column, column))?;
-        input.set_start(end);
-        last = Some(end);
-        place = end;
-    }
-    Ok(())
 }

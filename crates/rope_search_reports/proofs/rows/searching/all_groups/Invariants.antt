@@ -1,18 +1,14 @@
 -- The groups of the matches so far.
-use Rattle.std.proofs.Common.{ℕ, ◌≤◌, List}
-use Rattle.str_indices.specs.Text.{byte_len}
+use Rattle.std.proofs.Common.{◌≡◌, ℕ, List, false, length}
 use Rattle.ropey_walk.specs.Comparing.{slice_bytes}
-use Rattle.ropey_walk.specs.Slices.{slice_text}
-use Rattle.regex_cursor.specs.Patterns.{AsksFrom}
-use Rattle.regex_cursor.specs.Regexes.{IsCacheOf, IsRegexOf}
-use Rattle.rope_search_reports.specs.Finders.{start_behind}
-use Rattle.rope_search_reports.proofs.MatchLemmas.{Searched, room_behind}
+use Rattle.regex_cursor.specs.Regexes.{IsRegexOf}
 use Rattle.rope_search_reports.specs.Matches.{groups_of}
+use Rattle.rope_search_reports.proofs.MatchLemmas.{Searched, room_behind}
 use Rattle.rope_search_reports.proofs.rows.searching.all_groups.Given as goal
 
 abbrev pub invariant-loop-groups : goal.invariant-loop-groups
-invariant-loop-groups l = IsCacheOf l.regex l.cache × (AsksFrom (slice_bytes l.fn.text) (start_behind l.last) l.input
-    × ((start_behind l.last ≤ byte_len (slice_text l.fn.text)) × ((text : List ℕ) → (built : IsRegexOf text l.regex) → Searched groups_of built.tree (slice_bytes l.fn.text) l.last l.groups.items)))
+invariant-loop-groups l = (l.regex ≡ l.fn.regex) × (l.pass.is_over ≡ false) × (l.pass.content ≡ slice_bytes l.fn.text)
+    × ((text : List ℕ) → (built : IsRegexOf text l.fn.regex) → Searched groups_of built.tree (slice_bytes l.fn.text) l.pass.last l.groups.items)
 
 abbrev pub decreases-loop-groups : goal.decreases-loop-groups
-decreases-loop-groups l = room_behind (byte_len (slice_text l.fn.text)) l.last
+decreases-loop-groups l = room_behind (length (slice_bytes l.fn.text)) l.pass.last

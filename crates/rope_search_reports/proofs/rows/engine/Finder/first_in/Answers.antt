@@ -11,8 +11,8 @@ use Rattle.rope_search_reports.specs.Finders.{IsTold}
 use Rattle.rope_search_reports.proofs.FinderLemmas.{finds-told, whole-is}
 use Rattle.rope_search_reports.proofs.rows.engine.Finder.first_in.Goals as goal
 
-pub input_from-input-requires : goal.input_from-input-requires
-input_from-input-requires c =
+pub first_in-requires : goal.first_in-requires
+first_in-requires c =
     let whole : slice_text c.slice.result ≡ text_of c.args.text.now = ap text_of c.slice.ensures ∙ whole-is c.args.text.now in
     omega (arith, c.requires.0, ap byte_len whole)
 
@@ -22,9 +22,9 @@ returns-clause-found c =
     let from = c.args.from in
     let built = c.self.invariant.built in
     let whole : slice_text c.slice.result ≡ text_of c.args.text.now = ap text_of c.slice.ensures ∙ whole-is c.args.text.now in
-    let told = c.find.ensures.found c.self.invariant.text _ from built c.input_from-input.ensures in
+    let told = c.first_in.ensures.found c.self.invariant.text built in
     let spells : SpellsTree c.args.self.now built.tree =
     subst (λ p. SpellsTree p built.tree) (sym c.self.invariant.pattern_is ∙ c.self.view_is) built.spells in
-    let P : List ℕ → Option (ℕ × ℕ) → Type 0 = λ t span. IsTold (TreeFinds built.tree (bytes_of t) from) span c.find.new.slots in
-    IfOk-weaker c.find.result (P (text_of c.args.text.now)) (λ span. Finds c.args.self.now content from span)
-    (λ span is. finds-told c.args.self.now content from built.tree span c.find.new.slots spells is) (subst (λ t. IfOk c.find.result (P t)) whole told)
+    let P : List ℕ → Option (ℕ × ℕ) → Type 0 = λ t span. (slots : List (Option ℕ)) × IsTold (TreeFinds built.tree (bytes_of t) from) span slots in
+    IfOk-weaker c.first_in.result (P (text_of c.args.text.now)) (λ span. Finds c.args.self.now content from span)
+    (λ span is. finds-told c.args.self.now content from built.tree span is.0 spells is.1) (subst (λ t. IfOk c.first_in.result (P t)) whole told)

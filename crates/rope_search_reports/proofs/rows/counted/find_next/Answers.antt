@@ -3,7 +3,7 @@ use Rattle.std.proofs.lemmas.Result.{IfOk-weaker}
 use Rattle.regex_cursor.specs.Patterns.{TreeFinds}
 use Rattle.rope_search_reports.specs.Finders.{ComesAfter, IsTold, start_behind}
 use Rattle.rope_search_reports.proofs.NextLemmas.{asks-moved, first-comes, comes-at_once, comes-moved}
-use Rattle.rope_search_reports.proofs.rows.searching.find_next.Goals as goal
+use Rattle.rope_search_reports.proofs.rows.counted.find_next.Goals as goal
 
 pub returns-in_err-span-clause-asks : goal.returns-in_err-span-clause-asks
 returns-in_err-span-clause-asks g c = (start_behind c.args.last, c.find.ensures.asks _ _ c.requires.asks)

@@ -3,7 +3,7 @@ use Rattle.std.specs.Prelude.{OnOk}
 use Rattle.rope_search_reports.specs.Drafts.{HoldsText, own_text}
 use Rattle.rope_search_reports.specs.Finders.{IsRowOf}
 use Rattle.rope_search_reports.proofs.ColumnLemmas.{own-bytes}
-use Rattle.rope_search_reports.proofs.rows.engine.columns_in_line.Goals as goal
+use Rattle.rope_search_reports.proofs.rows.searching.columns_in_line.Goals as goal
 
 pub columns_in-requires-clause-shows : goal.columns_in-requires-clause-shows
 columns_in-requires-clause-shows c = sym (own-bytes c.in-Whole.text.now (subst HoldsText c.in-Whole.is c.requires.holds))

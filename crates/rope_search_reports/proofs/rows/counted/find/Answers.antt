@@ -1,7 +1,7 @@
 use Rattle.std.proofs.Common.{◌≤◌, length, subst, ◌∙◌, arith}
 use Rattle.regex_cursor.specs.Patterns.{TreeFinds}
 use Rattle.rope_search_reports.proofs.FinderLemmas.{whole-told}
-use Rattle.rope_search_reports.proofs.rows.searching.find.Goals as goal
+use Rattle.rope_search_reports.proofs.rows.counted.find.Goals as goal
 
 pub returns-in-Ok-clause-found : goal.returns-in-Ok-clause-found
 returns-in-Ok-clause-found g c = λ text content from built asks.

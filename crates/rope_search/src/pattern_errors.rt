@@ -1,0 +1,47 @@
+//! Where and why bytes are no pattern.
+ghost use Rattle.std.specs.Prelude.{◌≡◌, ◌↔◌, ◌⊎◌, ℕ, IsSome, IfSome, IfOk, IfErr, Err};
+ghost use Rattle.std.specs.Str.{IsCharBoundary, IsUtf8};
+ghost use Rattle.rx_grammar.specs.Refusals.{IsRefusedAs};
+ghost use Rattle.rx_grammar.specs.Settings.{default_settings};
+ghost use Rattle.rope_search.specs.Order.{SetPattern};
+ghost use Rattle.rope_search.specs.Session.{State};
+ghost use Rattle.rope_search.specs.Step.{Refuses};
+
+use rope_search_io::Fault;
+use rope_search_reports::PATTERN_LEN;
+use rx_grammar::syntax::Config;
+use rx_grammar::{Refusal, explain};
+use std::alloc::Global;
+
+/// Returns where and why `Fault::Pattern` is what refuses these bytes as a pattern, and `None` where
+/// it isn't: they are a pattern, or they are refused with `Fault::Limit`, since they are more than
+/// 65,536 bytes, or a pattern that is too heavy.
+///
+/// `place` is the byte at which the first character begins with which the text can't go on to a
+/// pattern, and its length where the text ends too early: that a character begins there, or the
+/// text ends, is proved, and that it is the first one such is tested. `reason` is never
+/// `Reason::TooLong`. Time and memory are in proportion to the text, and to the square of the number
+/// of its groups' names.
+///
+/// Errors: `Fault::Utf8` where they aren't UTF-8; `Fault::Memory`, in place of any other answer.
+pub fn pattern_error(alloc: Global, pattern: &[u8]) -> Result<Option<Refusal>, Fault>
+    ensures refused { IfOk result (λ found. (limit : ℕ) (session : State)
+        → IsSome found ↔ Refuses limit session (SetPattern pattern.now) Fault.Pattern) }
+    ensures reason { IfOk result (λ found. IfSome found
+        (λ refusal. IsRefusedAs refusal.reason pattern.now default_settings)) }
+    ensures place { IfOk result (λ found. IfSome found
+        (λ refusal. IsCharBoundary pattern.now refusal.place)) }
+    ensures utf8 { (result ≡ Err Fault.Utf8) ↔ ¬ (IsUtf8 pattern.now) }
+    ensures fault { IfErr result (λ fault. (fault ≡ Fault.Utf8) ⊎ (fault ≡ Fault.Memory)) }
+{
+    let Ok(text) = str::from_utf8(pattern) else {
+        return Err(Fault::Utf8);
+    };
+    if text.len() > PATTERN_LEN {
+        return Ok(None);
+    }
+    match explain(alloc, text, &Config::new()) {
+        Ok(found) => Ok(found),
+        Err(_) => Err(Fault::Memory),
+    }
+}

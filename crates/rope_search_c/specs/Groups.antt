@@ -1,0 +1,37 @@
+-- The groups of a match in a line, in the words of a session.
+use Rattle.std.specs.Prelude.{◌≡◌, ℕ, List, map, true, false, Option, None, Some, Result, Ok, Err}
+use Rattle.rope_search_io.specs.declared.faults.Fault.{Fault}
+use Rattle.rope_search_io.specs.Faults.{rank_of}
+use Rattle.rope_search_reports.specs.Replacement.{Groups}
+use Rattle.rope_search.specs.GroupsAt.{AnswersGroups, SearchesRow}
+use Rattle.rope_search.specs.Session.{chosen_buffer}
+use Rattle.rope_search_c.specs.Reading.{with_front}
+use Rattle.rope_search_c.specs.declared.counting.CountingSession.{CountingSession}
+use Rattle.rope_search_c.specs.declared.matches.Group.{Group}
+
+-- what is told of a group of a match in this line, by its columns
+abbrev pub group_in : ℕ → Option (ℕ × ℕ) → Group
+group_in line None = record { found = false; line = line; start = 0; stop = 0 }
+group_in line (Some columns) =
+    record { found = true; line = line; start = columns.0; stop = columns.1 }
+
+-- 0 where they are answered, else the rank of what refuses them
+abbrev pub status_of : Result Groups Fault → ℕ
+status_of (Ok groups) = 0
+status_of (Err fault) = rank_of fault
+
+-- they stand at the buffer's front, as many as fit; where they are refused the buffer is as it was
+abbrev pub Puts : ℕ → Result Groups Fault → List Group → List Group → Type 0
+Puts line (Ok groups) old new = new ≡ with_front (map (group_in line) groups) old
+Puts line (Err fault) old new = new ≡ old
+
+-- What a session answers that is asked for the groups of a match, by its line and its number in that
+-- row: the status and the buffer tell it. That row is searched, and the session is as it was.
+pub record CopiesGroups (old : CountingSession) (line number status : ℕ)
+    (out out' : List Group) (new : CountingSession) : Type 0 where
+  pub answer : Result Groups Fault
+  pub is : AnswersGroups (chosen_buffer old.session.state) line number answer
+  pub told : status ≡ status_of answer
+  pub put : Puts line answer out out'
+  pub session : new.session ≡ old.session
+  pub searches : SearchesRow (chosen_buffer old.session.state) line old.lines new.lines

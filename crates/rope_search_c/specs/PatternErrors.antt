@@ -1,0 +1,62 @@
+-- Why bytes are no pattern, as C is told.
+use Rattle.std.specs.Prelude.{◌≡◌, ◌⊎◌, ℕ, List}
+use Rattle.std.specs.Str.{IsCharBoundary, IsUtf8}
+use Rattle.rx_grammar.specs.declared.refusals.Mistake.{Mistake}
+use Rattle.rx_grammar.specs.declared.refusals.Mistake.TheVariants.{OpenGroup, NoOpenGroup, NothingToRepeat, Count, LargeCount, CountOrder, Escape, Scalar, OpenClass, ClassItem, RangeOrder, GroupHead, RepeatedName, Dot}
+use Rattle.rx_grammar.specs.declared.refusals.Reason.{Reason}
+use Rattle.rx_grammar.specs.declared.refusals.Reason.TheVariants.{TooLong, Nesting, Outside}
+use Rattle.rx_grammar.specs.Refusals.{IsRefusedAs}
+use Rattle.rx_grammar.specs.Settings.{default_settings}
+use Rattle.rope_search_io.specs.declared.faults.Fault.TheVariants.{Pattern}
+use Rattle.rope_search.specs.declared.commands.CommandOf.TheVariants.{Pattern as SetPattern}
+use Rattle.rope_search.specs.Session.{State}
+use Rattle.rope_search.specs.Step.{Refuses}
+use Rattle.rope_search_c.specs.declared.pattern_errors.PatternReason.{PatternReason}
+
+-- how C names what is wrong in a text
+abbrev pub number_of : Mistake → ℕ
+number_of OpenGroup = 2
+number_of NoOpenGroup = 3
+number_of NothingToRepeat = 4
+number_of Count = 5
+number_of LargeCount = 6
+number_of CountOrder = 7
+number_of Escape = 8
+number_of Scalar = 9
+number_of OpenClass = 10
+number_of ClassItem = 11
+number_of RangeOrder = 12
+number_of GroupHead = 13
+number_of RepeatedName = 14
+number_of Dot = 15
+
+-- and why a text is no pattern: 0 names none of these reasons
+abbrev pub reason_number : Reason → ℕ
+reason_number TooLong = 0
+reason_number Nesting = 1
+reason_number (Outside mistake) = number_of mistake
+
+-- a session refuses the bytes since they are no pattern, whatever it holds
+abbrev pub AreNoPattern : List ℕ → Type 0
+AreNoPattern bytes = (limit : ℕ) (session : State) → Refuses limit session (SetPattern bytes) Pattern
+
+-- the reason for that, by its number, and a place at which a character begins or the text ends
+pub record TellsWhy (bytes : List ℕ) (told : PatternReason) : Type 0 where
+  pub none : AreNoPattern bytes
+  pub reason : Reason
+  pub refused : IsRefusedAs reason bytes default_settings
+  pub named : told.reason ≡ reason_number reason
+  pub place : IsCharBoundary bytes told.place
+
+-- that this isn't why they are refused, if they are
+pub record TellsNothing (bytes : List ℕ) (told : PatternReason) : Type 0 where
+  pub others : AreNoPattern bytes → ⊥
+  pub named : told.reason ≡ 0
+  pub place : told.place ≡ 0
+
+-- Either is told with status 0; or that they aren't UTF-8, with status 3, or that memory is refused,
+-- with status 7, and what stood there still does.
+abbrev pub TellsError : List ℕ → ℕ → PatternReason → PatternReason → Type 0
+TellsError bytes status old new =
+    ((status ≡ 0) × (TellsWhy bytes new ⊎ TellsNothing bytes new))
+    ⊎ ((new ≡ old) × (((status ≡ 3) × ¬ (IsUtf8 bytes)) ⊎ (status ≡ 7)))

@@ -1,0 +1,294 @@
+//! A regex whose searches are counted as they begin, and go forward alone. Nothing else of the crate
+//! has a regex, an input or a cache: a search that isn't begun here can't be made.
+ghost use Rattle.std.specs.Prelude.{◌≡◌, ℕ, Option, ◌+◌, ◌-◌, ◌*◌, ◌^◌, min, ◌<◌, ◌≤◌, ◌↔◌, List, length, Some, None, true, false, IsTrue, IfOk, IfErr, IfSome, IfNone, OnErr};
+ghost use Rattle.str_indices.specs.Text.{byte_len};
+ghost use Rattle.ropey_walk.specs.Comparing.{slice_bytes};
+ghost use Rattle.ropey_walk.specs.Slices.{slice_text};
+ghost use Rattle.regex_cursor.specs.Patterns.{AsksFrom, HasNoMatchBetween, TreeFinds};
+ghost use Rattle.regex_cursor.specs.PatternLaws.{SaysOfText};
+ghost use Rattle.regex_cursor.specs.Regexes.{IsCacheOf, IsRegexOf};
+ghost use Rattle.rope_search_reports.specs.Finders.{ComesAfter, IsTold, group_told, start_behind};
+
+use super::Lines;
+use regex_cursor::engines::meta::{Cache, Regex};
+use regex_cursor::{BuildError, Cursor, Input, NonMaxUsize, RopeyCursor, Span};
+use rope_search_io::Fault;
+use ropey::RopeSlice;
+use std::alloc::Global;
+use std::marker::Model;
+
+/// The places in the slots of a search, as it notes them.
+pub type Slot = Option<NonMaxUsize>;
+
+/// A regex that is ready to search, with what its searches keep from one to the next. There are
+/// three ways to search by it, of a line, of a whole text and for the first match in one: each is
+/// counted as it begins, and goes over that content once.
+#[derive(Drop)]
+pub struct CountedRegex {
+    regex: Regex,
+    cache: Cache,
+}
+
+impl Model for CountedRegex {
+    ghost use Rattle.std.specs.Prelude.{ℕ, List};
+    ghost use Rattle.regex_cursor.specs.Regexes.{RegexView, IsCacheOf, IsRegexOf};
+
+    ghost Value = { RegexView };
+
+    ghost view = { λ r. r.regex };
+
+    ghost invariant = { λ r. ((text : List ℕ) × IsRegexOf text r.regex) ×
+        IsCacheOf r.regex r.cache };
+}
+
+/// A search that was begun, and goes on behind the last match. Contracts see what it goes over,
+/// where the last match ended, if there was one, and whether no more come.
+#[derive(Drop)]
+pub struct Pass<C: Cursor> {
+    input: Input<C>,
+    last: Option<usize>,
+    is_over: bool,
+}
+
+impl<C: Cursor> Model for Pass<C> {
+    ghost use Rattle.std.specs.Prelude.{◌≡◌, ◌≤◌, false, length};
+    ghost use Rattle.regex_cursor.specs.Patterns.{AsksFrom};
+    ghost use Rattle.rope_search_reports.specs.Finders.{PassState, start_behind};
+
+    ghost Value = { PassState };
+
+    ghost view = { λ p. record {
+      content = p.input.cursor.content;
+      last = p.last;
+      is_over = p.is_over;
+    } };
+
+    ghost invariant = { λ p. p.is_over ≡ false →
+        AsksFrom p.input.cursor.content (start_behind p.last) p.input ×
+        (start_behind p.last ≤ length p.input.cursor.content) };
+}
+
+/// An input over a content of this length, in which matches are searched from a place on; looks see
+/// all of the content, and nothing outside of it.
+fn input_over<C: Cursor>(cursor: C, len: usize, from: usize) -> Input<C>
+    requires len { len ≡ length (C.state cursor).content }
+    requires within { from ≤ len }
+    ensures { AsksFrom (C.state cursor).content from result }
+{
+    let mut input = Input::new(cursor);
+    let _ = input.slice_span(Span { start: 0, end: len });
+    input.set_start(from);
+    input
+}
+
+/// A group's span, by the places in its two slots.
+pub fn group_in(slots: &[Slot], group: usize) -> Option<(usize, usize)>
+    requires { 2 * group + 1 < length slots.now }
+    ensures { result ≡ group_told slots.now group }
+{
+    match (slots[2 * group], slots[2 * group + 1]) {
+        (Some(start), Some(end)) => Some((start.get(), end.get())),
+        _ => None,
+    }
+}
+
+/// The span of what is found in an input's content from a place on. The places of its groups are
+/// put into the slots, of which there are two or more.
+fn find<C: Cursor>(
+    regex: &Regex,
+    cache: &mut Cache,
+    input: &mut Input<C>,
+    slots: &mut [Slot],
+) -> Result<Option<(usize, usize)>, Fault>
+    requires made { IsCacheOf regex.now cache.old }
+    requires slots { 2 ≤ length slots.old }
+    ensures found { (text content : List ℕ) (from : ℕ) → (built : IsRegexOf text regex.now)
+        → AsksFrom content from input.old → IfOk result (λ span.
+        IsTold (TreeFinds built.tree content from) span slots.new) }
+    ensures asks { (content : List ℕ) (from : ℕ) → AsksFrom content from input.old
+        → AsksFrom content from input.new }
+    ensures made { IsCacheOf regex.now cache.new }
+    ensures fault { IfErr result (λ fault. fault ≡ Fault.Memory) }
+{
+    // A law, for the proof alone.
+    regex_cursor::laws::regexes_have_trees();
+    match regex.search_slots_with(cache, input, slots) {
+        Ok(_) => Ok(group_in(slots, 0)),
+        Err(_) => Err(Fault::Memory),
+    }
+}
+
+/// Whether an empty match was found at a place.
+fn is_empty_at(span: Option<(usize, usize)>, place: usize) -> bool
+    ensures { IsTrue result ↔ (span ≡ Some (place, place)) }
+{
+    span == Some((place, place))
+}
+
+/// What comes next among the matches in an input's content, behind the last one, which ended where
+/// the input's search starts; an empty match there is passed over. Spans and slots as by `find`.
+fn find_next<C: Cursor>(
+    regex: &Regex,
+    cache: &mut Cache,
+    input: &mut Input<C>,
+    slots: &mut [Slot],
+    last: Option<usize>,
+) -> Result<Option<(usize, usize)>, Fault>
+    requires made { IsCacheOf regex.now cache.old }
+    requires slots { 2 ≤ length slots.old }
+    requires asks { AsksFrom input.old.cursor.content (start_behind last) input.old }
+    requires within { start_behind last ≤ length input.old.cursor.content }
+    ensures found { (text : List ℕ) → (built : IsRegexOf text regex.now)
+        → IfOk result (λ span.
+        IsTold (ComesAfter built.tree input.old.cursor.content last) span slots.new) }
+    ensures asks { (from : ℕ) × AsksFrom input.old.cursor.content from input.new }
+    ensures made { IsCacheOf regex.now cache.new }
+    ensures fault { IfErr result (λ fault. fault ≡ Fault.Memory) }
+{
+    // How long the content may be, for the proof alone.
+    let _ = input.position();
+    let span = find(regex, cache, input, slots)?;
+    let Some(end) = last else {
+        return Ok(span);
+    };
+    if !is_empty_at(span, end) {
+        return Ok(span);
+    }
+    input.set_start(end + 1);
+    find(regex, cache, input, slots)
+}
+
+impl CountedRegex {
+    /// The regex of a pattern, by the default settings. Errors: as those of `Regex::new`.
+    pub fn new(alloc: Global, pattern: &str) -> Result<CountedRegex, BuildError>
+        ensures built { IfOk result (λ re. IsRegexOf pattern.now re) }
+        ensures refused { IfErr result (SaysOfText pattern.now) }
+    {
+        // A law, for the proof alone.
+        regex_cursor::laws::regexes_have_trees();
+        let regex = Regex::new(alloc, pattern)?;
+        match regex.create_cache() {
+            Ok(cache) => Ok(CountedRegex { regex, cache }),
+            Err(_) => Err(BuildError::Memory),
+        }
+    }
+
+    /// A place of a content up to which, from another one on, nothing matches, as far as the
+    /// literals tell that each match begins with, and by no search; `None` where no such literals
+    /// are known. Time is linear in what lies between.
+    pub fn no_match_before<C: Cursor + Drop>(&self, cursor: C, len: usize, from: usize) -> Option<usize>
+        requires len { len ≡ length (C.state cursor).content }
+        requires within { from ≤ len }
+        ensures no_match { (text : List ℕ) → (built : IsRegexOf text self.now)
+            → IfSome result (λ place.
+            HasNoMatchBetween built.tree (C.state cursor).content from place) }
+        ensures within { IfSome result (λ place. place ≤ len) }
+    {
+        self.regex
+            .no_match_before(&mut input_over(cursor, len, from))
+    }
+
+    /// The span of the first match in a whole text from a place on. One search of a whole text is
+    /// counted as it begins. Errors: `Fault::Memory`.
+    pub fn first_in(
+        &mut self,
+        tick: &mut Lines,
+        text: RopeSlice<'_>,
+        from: usize,
+    ) -> Result<Option<(usize, usize)>, Fault>
+        requires { from ≤ byte_len (slice_text text) }
+        ensures found { (text' : List ℕ) → (built : IsRegexOf text' self.old)
+            → IfOk result (λ span. (slots : List (Option ℕ)) ×
+            IsTold (TreeFinds built.tree (slice_bytes text.entry) from) span slots) }
+        ensures same { self.new ≡ self.old }
+        ensures fault { IfErr result (λ fault. fault ≡ Fault.Memory) }
+        ensures count { tick.new.count ≡ tick.old.count }
+        ensures wholes { tick.new.wholes ≡ min (tick.old.wholes + 1) (2 ^ 64 - 1) }
+        ensures looked { tick.new.looked ≡ tick.old.looked }
+    {
+        tick.add_whole();
+        let len = text.len_bytes();
+        let mut input = input_over(RopeyCursor::at(text, from), len, from);
+        find(&self.regex, &mut self.cache, &mut input, &mut [None; 2])
+    }
+
+    /// Begins the search of a line, of so many bytes, which the cursor shows. One row is counted.
+    pub fn in_line<C: Cursor>(&self, tick: &mut Lines, cursor: C, len: usize) -> Pass<C>
+        requires { len ≡ length (C.state cursor).content }
+        ensures begins { result ≡ record {
+            content = (C.state cursor).content;
+            last = None;
+            is_over = false;
+        } }
+        ensures count { tick.new.count ≡ min (tick.old.count + 1) (2 ^ 64 - 1) }
+        ensures wholes { tick.new.wholes ≡ tick.old.wholes }
+        ensures looked { tick.new.looked ≡ tick.old.looked }
+    {
+        tick.add_row();
+        Pass {
+            input: input_over(cursor, len, 0),
+            last: None,
+            is_over: false,
+        }
+    }
+
+    /// Begins the search of a whole text. One such search is counted.
+    pub fn in_text<'t>(&self, tick: &mut Lines, text: RopeSlice<'t>) -> Pass<RopeyCursor<'t>>
+        ensures begins { result ≡ record {
+            content = slice_bytes text.entry;
+            last = None;
+            is_over = false;
+        } }
+        ensures count { tick.new.count ≡ tick.old.count }
+        ensures wholes { tick.new.wholes ≡ min (tick.old.wholes + 1) (2 ^ 64 - 1) }
+        ensures looked { tick.new.looked ≡ tick.old.looked }
+    {
+        tick.add_whole();
+        let len = text.len_bytes();
+        Pass {
+            input: input_over(RopeyCursor::new(text), len, 0),
+            last: None,
+            is_over: false,
+        }
+    }
+
+    /// The span of the match that comes next in a search that was begun: the first, or the one
+    /// behind the last, where an empty match right behind that is passed over. The places of its
+    /// groups are put into the slots, of which there are two or more. Behind the last match, and
+    /// after an error, no more come. Errors: `Fault::Memory`.
+    pub fn next<C: Cursor>(
+        &mut self,
+        pass: &mut Pass<C>,
+        slots: &mut [Slot],
+    ) -> Result<Option<(usize, usize)>, Fault>
+        requires { 2 ≤ length slots.old }
+        ensures found { pass.old.is_over ≡ false
+            → (text : List ℕ) → (built : IsRegexOf text self.old) → IfOk result (λ span.
+            IsTold (ComesAfter built.tree pass.old.content pass.old.last) span slots.new) }
+        ensures goes_on { IfOk result (λ span. IfSome span (λ span. pass.new ≡ record {
+            content = pass.old.content;
+            last = Some span.1;
+            is_over = false;
+        })) }
+        ensures ends { IfOk result (λ span. IfNone span (pass.new.is_over ≡ true)) }
+        ensures stops { OnErr result (pass.new.is_over ≡ true) }
+        ensures over { pass.old.is_over ≡ true → IfOk result (λ span. span ≡ None) }
+        ensures same { self.new ≡ self.old }
+        ensures fault { IfErr result (λ fault. fault ≡ Fault.Memory) }
+    {
+        // A law, for the proof alone.
+        regex_cursor::laws::finds_of_trees();
+        if pass.is_over {
+            return Ok(None);
+        }
+        pass.is_over = true;
+        let last = pass.last;
+        let span = find_next(&self.regex, &mut self.cache, &mut pass.input, slots, last)?;
+        if let Some((_, end)) = span {
+            pass.input.set_start(end);
+            pass.last = Some(end);
+            pass.is_over = false;
+        }
+        Ok(span)
+    }
+}
