@@ -4,8 +4,9 @@ a seed and a number is always the same. One that fails is shortened."""
 import random
 from dataclasses import dataclass, field, replace
 
+import library
 from harness import differences, run, run_in_pieces, short
-from memory import library
+from memory import library as refusing_library
 from pattern_model import is_literal, pattern_weight, tree_of
 from protocol import CLOSING, PATTERN_LIMIT, STATUS, TEXT_LIMIT, WEIGHT_LIMIT, Session, lines_of, read_commands, spelled, units
 from test_edits import BACK_AND_FORWARD, OF_ALL_KINDS, PATTERNS, REFUSED_PATTERNS, Writer, some_command, some_pattern, some_text
@@ -108,7 +109,7 @@ class Refused:
     number: int
 
     def wrong(self, data):
-        preload = {"LD_PRELOAD": library(), f"REFUSE_MEMORY_{self.name.upper()}": str(self.number)}
+        preload = {"LD_PRELOAD": refusing_library(), f"REFUSE_MEMORY_{self.name.upper()}": str(self.number)}
         return answered(data, run(data, environment=preload))[0]
 
 
@@ -129,13 +130,32 @@ class Driven:
         return list(problems([self.row(data)], self.wrong_with))
 
 
-def some_way(chosen, is_short):
+@dataclass(frozen=True)
+class ByCalls:
+    """By calls of the library that C links, in this process, with so many bytes for a text. What isn't read as a command
+    is left out."""
+
+    limit: int
+
+    def wrong(self, data):
+        commands, _ = read_commands(data)
+        session = Fuzzed(self.limit)
+        for place, (command, got) in enumerate(zip(commands, library.replies(commands, self.limit))):
+            expected = session.reply(command)
+            if got != expected:
+                yield f"command {place}, {command[:2]}, is answered {short(got)}, not {short(expected)}"
+                return
+
+
+def some_way(chosen, is_short, by_calls=False):
+    if by_calls:
+        return ByCalls(chosen.choice((TEXT_LIMIT,) * 5 + (0, 3, 10, 40)) if is_short else TEXT_LIMIT)
     roll = chosen.random()
     if roll < 0.15 or not is_short:
         return Pieces(chosen.choice((1, 2, 3, 5, 984, 4_096))) if roll < 0.05 else File()
     if roll < 0.2:
         return Pieces(chosen.choice((1, 2, 3, 7)))
-    if roll < 0.35 and library():
+    if roll < 0.35 and refusing_library():
         return Refused(chosen.choice(("at", "from")), chosen.randint(1, 120))
     steps = {"read": chosen.choice((1, 2, 5, 4_096)), "write": chosen.choice((1, 2, 5, 4_096))}
     if roll < 0.75:
@@ -265,8 +285,8 @@ def changed(chosen, commands):
     return commands[: at + 1] + [chosen.choice(TAILS)]
 
 
-def some_trial(seed, number):
-    """The session of a seed and a number."""
+def some_trial(seed, number, by_calls=False):
+    """The session of a seed and a number, by calls of the library or in some other way."""
     chosen, writer = random.Random(f"{seed} {number}"), Writer(Fuzzed())
     kind = chosen.choices((write_plain, write_hostile, write_long), (84, 10, 6))[0]
     try:
@@ -276,7 +296,7 @@ def some_trial(seed, number):
     commands = [spelled(*command) for command in writer.commands]
     if chosen.random() < 0.15:
         commands = changed(chosen, commands)
-    return Trial(commands, some_way(chosen, kind is write_plain))
+    return Trial(commands, some_way(chosen, kind is write_plain, by_calls))
 
 
 # ---- what is left of a session that fails
@@ -336,10 +356,10 @@ def told_of(seed, number, trial):
     return "\n".join([*lines, *(f"    {line}" for line in least.wrong())])
 
 
-def failures(seed, first, count):
+def failures(seed, first, count, by_calls=False):
     """What is to be said of those of these sessions of a seed that aren't answered as is due. Those that go over memory
     go into one run of the driver, of which all are suspect where it breaks off."""
-    trials = {number: some_trial(seed, number) for number in range(first, first + count)}
+    trials = {number: some_trial(seed, number, by_calls) for number in range(first, first + count)}
     driven = {number: trial for number, trial in trials.items() if isinstance(trial.way, Driven)}
     told = list(outcomes([trial.way.row(b"".join(trial.commands)) for trial in driven.values()]))
     is_whole = len(told) == len(driven) and all(outcome for _, outcome in told)
