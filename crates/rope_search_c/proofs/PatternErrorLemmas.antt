@@ -27,13 +27,16 @@ pub why-told : (bytes : List ℕ) (status number : ℕ) (old new : PatternReason
     → IsRefusedAs refusal.reason bytes default_settings → IsCharBoundary bytes refusal.place → status ≡ 0 → number ≡ reason_number refusal.reason
     → new ≡ record { reason = number; place = refusal.place } → TellsError bytes status old new
 why-told bytes status number old new refusal alike why place done named is =
-    inl (done, inl (record {
-      none = λ limit session. (alike limit session).0 refl;
-      reason = refusal.reason;
-      refused = why;
-      named = ap (λ (r : PatternReason). r.reason) is ∙ named;
-      place = subst (IsCharBoundary bytes) (sym (ap (λ (r : PatternReason). r.place) is)) place;
-    }))
+    inl (
+      done,
+      inl (record {
+        none = λ limit session. (alike limit session).0 refl;
+        reason = refusal.reason;
+        refused = why;
+        named = ap (λ (r : PatternReason). r.reason) is ∙ named;
+        place = subst (IsCharBoundary bytes) (sym (ap (λ (r : PatternReason). r.place) is)) place;
+      }),
+    )
 
 pub fault-told : (bytes : List ℕ) (status : ℕ) (old new : PatternReason) (fault : Fault) → (fault ≡ Utf8) ⊎ (fault ≡ Memory) → (fault ≡ Utf8 → ¬ (IsUtf8 bytes))
     → status ≡ rank_of fault → new ≡ old → TellsError bytes status old new

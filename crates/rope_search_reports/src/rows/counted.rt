@@ -176,7 +176,12 @@ impl CountedRegex {
     /// A place of a content up to which, from another one on, nothing matches, as far as the
     /// literals tell that each match begins with, and by no search; `None` where no such literals
     /// are known. Time is linear in what lies between.
-    pub fn no_match_before<C: Cursor + Drop>(&self, cursor: C, len: usize, from: usize) -> Option<usize>
+    pub fn no_match_before<C: Cursor + Drop>(
+        &self,
+        cursor: C,
+        len: usize,
+        from: usize,
+    ) -> Option<usize>
         requires len { len ≡ length (C.state cursor).content }
         requires within { from ≤ len }
         ensures no_match { (text : List ℕ) → (built : IsRegexOf text self.now)
@@ -216,9 +221,9 @@ impl CountedRegex {
     pub fn in_line<C: Cursor>(&self, tick: &mut Lines, cursor: C, len: usize) -> Pass<C>
         requires { len ≡ length (C.state cursor).content }
         ensures begins { result ≡ record {
-            content = (C.state cursor).content;
-            last = None;
-            is_over = false;
+          content = (C.state cursor).content;
+          last = None;
+          is_over = false;
         } }
         ensures count { tick.new.count ≡ min (tick.old.count + 1) (2 ^ 64 - 1) }
         ensures wholes { tick.new.wholes ≡ tick.old.wholes }
@@ -235,9 +240,9 @@ impl CountedRegex {
     /// Begins the search of a whole text. One such search is counted.
     pub fn in_text<'t>(&self, tick: &mut Lines, text: RopeSlice<'t>) -> Pass<RopeyCursor<'t>>
         ensures begins { result ≡ record {
-            content = slice_bytes text.entry;
-            last = None;
-            is_over = false;
+          content = slice_bytes text.entry;
+          last = None;
+          is_over = false;
         } }
         ensures count { tick.new.count ≡ tick.old.count }
         ensures wholes { tick.new.wholes ≡ min (tick.old.wholes + 1) (2 ^ 64 - 1) }
@@ -266,9 +271,9 @@ impl CountedRegex {
             → (text : List ℕ) → (built : IsRegexOf text self.old) → IfOk result (λ span.
             IsTold (ComesAfter built.tree pass.old.content pass.old.last) span slots.new) }
         ensures goes_on { IfOk result (λ span. IfSome span (λ span. pass.new ≡ record {
-            content = pass.old.content;
-            last = Some span.1;
-            is_over = false;
+          content = pass.old.content;
+          last = Some span.1;
+          is_over = false;
         })) }
         ensures ends { IfOk result (λ span. IfNone span (pass.new.is_over ≡ true)) }
         ensures stops { OnErr result (pass.new.is_over ≡ true) }

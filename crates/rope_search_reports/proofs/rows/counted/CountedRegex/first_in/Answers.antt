@@ -14,6 +14,6 @@ returns-clause-found c =
     let asks : AsksFrom content from c.input_over-input.result = subst (λ cs. AsksFrom cs from c.input_over-input.result) c.at.ensures.content c.input_over-input.ensures in
     let Told : RegexView → Type 0 = λ re. (text : List ℕ) → (built : IsRegexOf text re) → IfOk c.find.result (λ span. (slots : List (Option ℕ)) × IsTold (TreeFinds built.tree content from) span slots) in
     let told : Told c.self.inside.regex = λ text built.
-        IfOk-weaker c.find.result (λ span. IsTold (TreeFinds built.tree content from) span c.find.new.slots) (λ span. (slots : List (Option ℕ)) × IsTold (TreeFinds built.tree content from) span slots)
-        (λ span is. (c.find.new.slots, is)) (c.find.ensures.found text content from built asks) in
+    IfOk-weaker c.find.result (λ span. IsTold (TreeFinds built.tree content from) span c.find.new.slots) (λ span. (slots : List (Option ℕ)) × IsTold (TreeFinds built.tree content from) span slots)
+    (λ span is. (c.find.new.slots, is)) (c.find.ensures.found text content from built asks) in
     subst Told c.self.view_is told
