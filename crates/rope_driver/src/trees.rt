@@ -14,7 +14,6 @@ use ropey_tree::node::Node;
 use ropey_tree::seams::append;
 use ropey_tree::splits::split;
 use ropey_tree::visits::Visits;
-use ropey_walk::laws;
 use std::alloc::{AllocError, Global};
 use std::rc::Rc;
 
@@ -76,6 +75,7 @@ fn replace(
         start,
         end,
         text,
+        1,
         &mut Made::new(),
         &mut Visits::new(),
     )? {
@@ -87,8 +87,6 @@ fn replace(
 
 /// Splits a tree before a character.
 fn cut(alloc: Global, node: &Rc<Node>, char_idx: usize, out: &mut String) -> Result<(), Fault> {
-    // A law, for the proof alone.
-    laws::chars_start_behind_others();
     let root: &Node = node;
     let slice = RopeSlice::new(Some(root));
     if char_idx > slice.len_chars() {

@@ -13,7 +13,7 @@ use Rattle.ropey_tree.specs.Edits.{IsReplaced, IsEdited}
 use Rattle.ropey_tree.specs.NodeView.{NodeView}
 use Rattle.ropey_tree.specs.Splits.{IsSplit}
 use Rattle.ropey_walk.specs.Conversions.{byte_of_char}
-use Rattle.ropey_walk.specs.Laws.{StartsBehindOthers}
+use Rattle.ropey_walk.proofs.Reading.{place_of_front}
 use Rattle.ropey.specs.Chunks.{text_of}
 use Rattle.ropey.specs.Edits.{with_inserted, with_removed, with_replaced}
 use Rattle.ropey.proofs.Pieces.{byte_len-append, bytes-concat, first_piece, rest_cut}
@@ -62,9 +62,9 @@ replaced_is front gone back text t new from to parts starts ends h =
     h.new_is ∙ ap (λ (f : List ℕ). f ++ text ++ h.back) inner.0 ∙ ap (λ (b : List ℕ). front ++ text ++ b) outer.1
 
 -- ---- characters
-pub place_of : StartsBehindOthers → (t : List ℕ) (k : ℕ) → k ≤ length t → byte_of_char t k ≡ byte_len (take k t)
-place_of law t k h =
-    ap (byte_of_char t) (sym (length-take-le k t h)) ∙ ap (λ s. byte_of_char s (length (take k t))) (sym (take-append-drop k t)) ∙ law (take k t) (drop k t)
+pub place_of : (t : List ℕ) (k : ℕ) → k ≤ length t → byte_of_char t k ≡ byte_len (take k t)
+place_of t k h =
+    ap (byte_of_char t) (sym (length-take-le k t h)) ∙ ap (λ s. byte_of_char s (length (take k t))) (sym (take-append-drop k t)) ∙ place_of_front (take k t) (drop k t)
 
 pub boundary_of : (t : List ℕ) (k at : ℕ) → at ≡ byte_len (take k t) → IsBoundaryOf t at
 boundary_of t k at e = record { front = take k t; back = drop k t; parts = sym (take-append-drop k t); place = sym e }

@@ -27,7 +27,6 @@ use crate::rope::{MAX_TEXT_BYTES, Rope};
 use crate::trees::{halves_of, replaced};
 use ropey_tree::error::Error;
 use ropey_tree::seams;
-use ropey_walk::laws;
 use ropey_walk::ranges::TextRange;
 use std::alloc::AllocError;
 
@@ -86,8 +85,6 @@ impl Rope {
             (2 ^ 63 ≤ byte_len (text_of self.old) + length text.now) }
         ensures refused { IfErr result (λ error. (error ≡ Error.Size) ⊎ (error ≡ Error.Memory)) }
     {
-        // A law, for the proof alone.
-        laws::chars_start_behind_others();
         let at = self.char_to_byte(char_idx);
         self.insert_at(at, text)
     }
@@ -107,8 +104,6 @@ impl Rope {
             (error ≡ Error.CharIndexOutOfBounds char_idx (length (text_of self.old))) ⊎
             (error ≡ Error.Size) ⊎ (error ≡ Error.Memory)) }
     {
-        // A law, for the proof alone.
-        laws::chars_start_behind_others();
         let byte_idx = self.try_char_to_byte(char_idx)?;
         self.insert_at(byte_idx, text)
     }
@@ -152,8 +147,6 @@ impl Rope {
         ensures start { result.0 ≡ byte_len (take start (text_of self.now)) }
         ensures end { result.1 ≡ byte_len (take end (text_of self.now)) }
     {
-        // A law, for the proof alone.
-        laws::chars_start_behind_others();
         let from = self.char_to_byte(start);
         if start == end {
             return (from, from);
@@ -363,8 +356,6 @@ impl Rope {
         ensures kept { OnErr result (self.new ≡ self.old) }
         ensures refused { IfErr result (λ error. error ≡ Error.Memory) }
     {
-        // A law, for the proof alone.
-        laws::chars_start_behind_others();
         let byte_idx = self.char_to_byte(char_idx);
         self.split_off_at(byte_idx)
     }
@@ -382,8 +373,6 @@ impl Rope {
             (error ≡ Error.CharIndexOutOfBounds char_idx (length (text_of self.old))) ⊎
             (error ≡ Error.Memory)) }
     {
-        // A law, for the proof alone.
-        laws::chars_start_behind_others();
         let byte_idx = self.try_char_to_byte(char_idx)?;
         self.split_off_at(byte_idx)
     }

@@ -144,8 +144,6 @@ impl Rope {
     pub(crate) fn of_tree(alloc: Global, root: Option<Rc<Node>>) -> Self
         ensures { result ≡ pieces_in root }
     {
-        // A law, for the proof alone.
-        ropey_tree::laws::counts_of_a_cutting();
         match root {
             None => Rope::new(alloc),
             Some(tree) => {

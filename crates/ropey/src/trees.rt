@@ -11,11 +11,10 @@ ghost use Rattle.ropey.specs.Chunks.{text_of};
 
 use crate::rope::{MAX_TEXT_BYTES, Rope};
 use ropey_tree::MIN_BYTES;
-use ropey_tree::counts::By;
 use ropey_tree::cutter::leaves_of;
 use ropey_tree::edits::replace_in_leaf;
 use ropey_tree::made::Made;
-use ropey_tree::node::{Node, leaf_at};
+use ropey_tree::node::Node;
 use ropey_tree::seams::append;
 use ropey_tree::splits::{Halves, halves_at};
 use ropey_tree::visits::Visits;
@@ -54,6 +53,7 @@ fn extended(
             end,
             end,
             text,
+            1,
             &mut Made::new(),
             &mut Visits::new(),
         )? {
@@ -65,17 +65,12 @@ fn extended(
     Ok(longer)
 }
 
-/// Whether the leaf in which a byte index lies stays long enough where so many bytes give way to so
-/// many others, in a text of `len` bytes; or is the last one. A hint alone: a short leaf is no
-/// wrong one.
-fn stays_long(node: &Rc<Node>, len: usize, at: usize, gone: usize, come: usize) -> bool {
-    if come >= gone {
-        return true;
-    }
-    let found = leaf_at(node, By::Bytes, at);
-    let leaf_len = found.leaf.as_str().len();
-    gone - come <= leaf_len.saturating_sub(MIN_BYTES)
-        || found.before.bytes.saturating_add(leaf_len) >= len
+/// How many bytes a leaf is to keep where so many give way to so many others: only one of which
+/// less is left than was there may come out too short.
+fn least_kept(gone: usize, come: usize) -> usize
+    ensures { 1 ≤ result }
+{
+    if come >= gone { 1 } else { MIN_BYTES }
 }
 
 /// The tree, of `len` bytes, with a text in the place of what stands from one byte index up to
@@ -97,7 +92,7 @@ fn replaced_in_leaf(
     // For its facts alone.
     let _ = node.height();
     // What goes isn't counted against what comes.
-    if text.len() > MAX_TEXT_BYTES - len || !stays_long(node, len, from, to - from, text.len()) {
+    if text.len() > MAX_TEXT_BYTES - len {
         return Ok(None);
     }
     let tree = replace_in_leaf(
@@ -106,6 +101,7 @@ fn replaced_in_leaf(
         from,
         to,
         text,
+        least_kept(to - from, text.len()),
         &mut Made::new(),
         &mut Visits::new(),
     )?;

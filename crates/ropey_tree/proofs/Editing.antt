@@ -219,15 +219,6 @@ two_may a b text is long first second =
     let all : concat (a ∷ b ∷ []) ≡ text = ap (λ t. a ++ t) (append-nil b) ∙ is in
     inr (refl, omega (arith, long, ap byte_len all), All-cons Half a (b ∷ []) first (All-cons Half b [] second (All-nil Half)))
 
--- what may stand for a piece is not empty
-pub leaves_some : (old : List ℕ) (leaves : List (List ℕ)) → MayStandFor old leaves → 1 ≤ byte_len (concat leaves)
-leaves_some old [] may = elim may.number [
-  | inl one ↦ absurd (omega (arith, one))
-  | inr two ↦ absurd (omega (arith, two.0))
-]
-leaves_some old (p ∷ []) may = omega (arith, may.cut.not_empty, ap byte_len (append-nil p))
-leaves_some old (p ∷ q ∷ leaves) may = omega (arith, may.cut.0.not_empty, byte_len-append p (concat (q ∷ leaves)))
-
 -- ---- two ways to cut a list in two: the second is later, or earlier
 record IsLater (a b x y : List (List ℕ)) : Type 0 where
   mid : List (List ℕ)

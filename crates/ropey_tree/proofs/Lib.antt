@@ -7,6 +7,7 @@ pub mod Within
 pub mod Heights
 pub mod Descents
 pub mod Texts
+pub mod CuttingLaws
 pub mod Pieces
 pub mod Packing
 pub mod Joining

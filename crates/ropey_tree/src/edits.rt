@@ -75,14 +75,16 @@ fn two_leaves(alloc: Global, text: &str) -> Result<(Leaf, Leaf), AllocError>
 
 /// What stands in a leaf before one byte index, up to another, and from that on. There is none
 /// where an index lies inside a character or past the end, and where with a text in the place of
-/// the middle part nothing would be left or more than 1,960 bytes.
+/// the middle part fewer than `least` bytes would be left or more than 1,960.
 fn parts_of<'a>(
     leaf: &'a Leaf,
     from: usize,
     to: usize,
     text: &str,
+    least: usize,
 ) -> Option<(&'a str, &'a str, &'a str)>
-    requires { from ≤ to }
+    requires range { from ≤ to }
+    requires some { 1 ≤ least }
     ensures parts { IfSome result (λ parts. leaf.now ≡
         chars parts.0.now ++ chars parts.1.now ++ chars parts.2.now) }
     ensures starts { IfSome result (λ parts. byte_len (chars parts.0.now) ≡ from) }
@@ -95,14 +97,14 @@ fn parts_of<'a>(
     ensures few { IfSome result (λ parts.
         length parts.0.now + length text.now + length parts.2.now ≤ 1_960) }
     ensures none { IfNone result ((new : List ℕ) → IsReplaced leaf.now from to (chars text.now) new
-        → 1 ≤ byte_len new → 1_960 < byte_len new) }
+        → least ≤ byte_len new → 1_960 < byte_len new) }
 {
     let old = leaf.as_str();
     if !old.is_char_boundary(from) || !old.is_char_boundary(to) {
         return None;
     }
     let kept = old.len() - (to - from);
-    if text.len() > TWO_LEAVES - kept || kept + text.len() == 0 {
+    if text.len() > TWO_LEAVES - kept || kept + text.len() < least {
         return None;
     }
     Some((&old[..from], &old[from..to], &old[to..]))
@@ -142,8 +144,6 @@ fn seams(is_cr: bool, text: &str, is_lf: bool) -> usize
         breaks is_break (front ++ chars text.now ++ back) + result ≡
         breaks is_break front + breaks is_break (chars text.now) + breaks is_break back }
 {
-    // A law, for the proof alone.
-    str_indices::laws::breaks_of_joined_texts();
     if text.is_empty() {
         return cut_between(is_cr, is_lf);
     }
@@ -157,8 +157,6 @@ fn counts_replaced(counts: Counts, front: &str, gone: &str, text: &str, back: &s
     requires fits { length text.now ≤ 1_960 }
     ensures { result ≡ counts_of (chars front.now ++ chars text.now ++ chars back.now) }
 {
-    // A law, for the proof alone.
-    str_indices::laws::counts_of_joined_texts();
     let (is_cr, is_lf) = (is_cr_last(front), is_lf_first(back));
     let (less, more) = (Counts::of(gone), Counts::of(text));
     let lost = seams(is_cr, gone, is_lf);
@@ -185,9 +183,9 @@ fn has_ends_of(text: &str, leaf: &Leaf) -> bool
 
 /// The leaf, or two leaves, with a text in the place of what stands from one byte index up to
 /// another: two where one would have 984 bytes and more. There is none where an index lies inside
-/// a character or past the end, where nothing would be left or more than 1,960 bytes, and where an
-/// end would look different to a leaf beside it: an LF that is first, or a CR that is last, would
-/// come or go.
+/// a character or past the end, where fewer than `least` bytes would be left or more than 1,960,
+/// and where an end would look different to a leaf beside it: an LF that is first, or a CR that is
+/// last, would come or go.
 fn with_text_replaced(
     alloc: Global,
     leaf: &Leaf,
@@ -195,9 +193,11 @@ fn with_text_replaced(
     from: usize,
     to: usize,
     text: &str,
+    least: usize,
 ) -> Result<Option<Leaves>, AllocError>
     requires range { from ≤ to }
     requires counted { counts ≡ counts_of leaf.now }
+    requires some { 1 ≤ least }
     ensures replaced { IfOk result (λ new. IfSome new (λ new.
         IsReplaced leaf.now from to (chars text.now) (concat (leaves_of new)))) }
     ensures may_stand { IfOk result (λ new. IfSome new (λ new.
@@ -205,9 +205,10 @@ fn with_text_replaced(
     ensures counted { IfOk result (λ new. IfSome new AreLeavesCounted) }
     ensures none { IfOk result (λ new. IfNone new ((leaves : List (List ℕ)) →
         IsReplaced leaf.now from to (chars text.now) (concat leaves)
-        → MayStandFor leaf.now leaves → 1_960 < byte_len (concat leaves))) }
+        → MayStandFor leaf.now leaves → least ≤ byte_len (concat leaves)
+        → 1_960 < byte_len (concat leaves))) }
 {
-    let Some((front, gone, back)) = parts_of(leaf, from, to, text) else {
+    let Some((front, gone, back)) = parts_of(leaf, from, to, text, least) else {
         return Ok(None);
     };
     let whole = joined(alloc, front, text, back)?;
@@ -291,9 +292,19 @@ fn with_child_edited(
     }
 }
 
+/// How many bytes a leaf keeps at least: the one that ends the text may be short.
+fn least_kept(least: usize, is_end: bool) -> usize
+    requires { 1 ≤ least }
+    ensures some { 1 ≤ result }
+    ensures few { result ≤ least }
+{
+    if is_end { 1 } else { least }
+}
+
 /// The node, or two nodes of its height, with a text in the place of what stands from one byte
 /// index up to another: the path to the leaf is copied, and a node on it that has 25 children then
-/// becomes two. What the node counts is known, and so what comes of it needn't be counted anew.
+/// becomes two. What the node counts is known, and so what comes of it needn't be counted anew. A
+/// leaf keeps so many bytes at least, unless it ends the text and the node does.
 fn replaced(
     alloc: Global,
     node: &Rc<Node>,
@@ -301,19 +312,22 @@ fn replaced(
     from: usize,
     to: usize,
     text: &str,
+    least: usize,
+    is_end: bool,
     made: &mut Made,
     visits: &mut Visits,
 ) -> Result<Option<Edited>, AllocError>
     requires range { from ≤ to }
     requires counted { counts ≡ total node.now.value.pieces }
     requires fits { (total node.now.value.pieces).bytes + byte_len (chars text.now) < 2 ^ 63 }
+    requires some { 1 ≤ least }
     ensures edited { IfOk result (λ nodes. IfSome nodes (λ nodes.
         IsReplacedBy node.now.value from to (chars text.now) (made.new.nodes - made.old.nodes)
         (edited_nodes nodes))) }
     ensures counted { IfOk result (λ nodes. IfSome nodes AreNodesCounted) }
     ensures none { IfOk result (λ nodes. IfNone nodes ((pieces : List (List ℕ)) →
         (h : AreEdited node.now.value from to (chars text.now) pieces) →
-        1_960 < byte_len (concat h.leaves))) }
+        least ≤ byte_len (concat h.leaves) → 1_960 < byte_len (concat h.leaves))) }
     ensures nothing { IfOk result (λ nodes. IfNone nodes (made.new.nodes ≡ made.old.nodes)) }
     ensures least { made.old.nodes ≤ made.new.nodes }
     ensures most { made.new.nodes ≤ made.old.nodes + 2 * (node.now.value.height + 1) }
@@ -322,19 +336,26 @@ fn replaced(
         visits.old.comparisons + 5 * node.now.value.height }
 {
     match node.parts() {
-        Parts::Leaf(leaf) => match with_text_replaced(alloc, leaf, counts, from, to, text)? {
-            None => Ok(None),
-            Some(leaves) => {
-                let nodes = nodes_over(alloc, leaves, made)?;
-                Ok(Some(nodes))
+        Parts::Leaf(leaf) => {
+            let least = least_kept(least, is_end);
+            match with_text_replaced(alloc, leaf, counts, from, to, text, least)? {
+                None => Ok(None),
+                Some(leaves) => {
+                    let nodes = nodes_over(alloc, leaves, made)?;
+                    Ok(Some(nodes))
+                }
             }
-        },
+        }
         Parts::Inner(children) => {
             let choice = children.choose(By::Bytes, from, visits);
             let child = children.get(choice.index);
             let before = choice.before.bytes;
             let (start, end) = (from - before, to - before);
-            match replaced(alloc, child, choice.len, start, end, text, made, visits)? {
+            let is_end = is_end && choice.index == children.len() - 1;
+            let counts = choice.len;
+            match replaced(
+                alloc, child, counts, start, end, text, least, is_end, made, visits,
+            )? {
                 None => Ok(None),
                 Some(edited) => {
                     let height = node.height();
@@ -352,8 +373,9 @@ fn replaced(
 /// else is shared; the tree itself stays as it is. A leaf that would have 984 bytes or more becomes
 /// two of about half of it each, and so does a node above it that has 25 children then; the tree
 /// is a level higher where its root does. There is none where an index lies inside a character or
-/// the second outside that leaf, where the leaf would have no text or more than 1,960 bytes, and
-/// where a CR LF might come to lie over one of its ends. One node is made a level where one leaf
+/// the second outside that leaf, where the leaf would have fewer than `least` bytes and isn't the
+/// last one, where it would have no text or more than 1,960 bytes, and where a CR LF might come to
+/// lie over one of its ends. One node is made a level where one leaf
 /// comes out, which is 19 at most; where two do, at most two a level and a root. Without a leaf
 /// that takes the text none is made.
 pub fn replace_in_leaf(
@@ -362,15 +384,18 @@ pub fn replace_in_leaf(
     from: usize,
     to: usize,
     text: &str,
+    least: usize,
     made: &mut Made,
     visits: &mut Visits,
 ) -> Result<Option<Rc<Node>>, AllocError>
     requires range { from ≤ to }
     requires fits { (total node.now.value.pieces).bytes + byte_len (chars text.now) < 2 ^ 63 }
+    requires some { 1 ≤ least }
     ensures edited { IfOk result (λ tree. IfSome tree (λ edited.
         IsEdited node.now.value from to (chars text.now) edited.value)) }
     ensures none { IfOk result (λ tree. IfNone tree ((w : NodeView) →
         (h : IsEdited node.now.value from to (chars text.now) w) →
+        least ≤ byte_len (concat h.edited.leaves) →
         1_960 < byte_len (concat h.edited.leaves))) }
     ensures path { IfOk result (λ tree. IfSome tree (λ edited.
         length edited.value.pieces ≡ length node.now.value.pieces →
@@ -387,7 +412,10 @@ pub fn replace_in_leaf(
         visits.old.comparisons + 5 * node.now.value.height }
 {
     let height = node.height();
-    match replaced(alloc, node, node.counts(), from, to, text, made, visits)? {
+    let counts = node.counts();
+    match replaced(
+        alloc, node, counts, from, to, text, least, true, made, visits,
+    )? {
         None => Ok(None),
         Some(Edited::One(only, _)) => Ok(Some(only)),
         Some(Edited::Two(first, second)) => {

@@ -7,7 +7,4 @@ ghost use Rattle.ropey_tree.specs.Laws.{CountsAreOfTheText};
 /// counted twice or lost, since no CR LF is cut.
 pub fn counts_of_a_cutting()
     ensures { CountsAreOfTheText }
-{
-    str_indices::laws::breaks_of_joined_texts();
-    str_indices::laws::counts_of_joined_texts();
-}
+{}

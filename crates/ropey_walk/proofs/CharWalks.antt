@@ -5,7 +5,7 @@ use Rattle.std.specs.Str.{IsUtf8, chars, IsCharBoundary}
 use Rattle.std.proofs.lemmas.List.{append_cancel_right, drop_at, take_at}
 use Rattle.std.proofs.lemmas.Str.{encodes-chars, encodes-append, scalars-chars, chars-append, chars_past_char, chars_from_encodes, IsUtf8-take, IsUtf8-drop, IsCharBoundary-at_seam, IsCharBoundary-from_take, length-le-encodes}
 use Rattle.str_indices.specs.Text.{char_ends, end_place, byte_len}
-use Rattle.str_indices.specs.Laws.{AnyTexts, EndsAddUp, EndsAreBoundaries, LastEndIsBefore, CharsAndBoundariesAgree}
+use Rattle.str_indices.proofs.TextLaws.{to_byte_idx_is_a_boundary-chars}
 use Rattle.ropey_tree.specs.declared.counts.Counts.{Counts}
 use Rattle.ropey_tree.specs.declared.counts.By.TheVariants.{Chars}
 use Rattle.ropey_tree.specs.Cutting.{IsText}
@@ -80,10 +80,9 @@ pub record HoldsChar (text : List ℕ) (i k : ℕ) (chunk : List ℕ) (at : ℕ)
   pub ahead : i ≡ k → k < length text → at < length chunk
   pub behind : i < k → 0 < at
 
-pub char_held : EndsAddUp AnyTexts length char_ends → CharsAndBoundariesAgree → LastEndIsBefore char_ends → EndsAreBoundaries char_ends
-    → (pieces : List (List ℕ)) (i k : ℕ) (bytes : List ℕ) (start : Counts) → IsUtf8 bytes → StandsAt pieces Chars i (chars bytes) start → IsText pieces → i ≤ k → k ≤ i + 1 → k ≤ length (text_of pieces)
+pub char_held : (pieces : List (List ℕ)) (i k : ℕ) (bytes : List ℕ) (start : Counts) → IsUtf8 bytes → StandsAt pieces Chars i (chars bytes) start → IsText pieces → i ≤ k → k ≤ i + 1 → k ≤ length (text_of pieces)
     → HoldsChar (text_of pieces) i k bytes (end_place (char_ends (chars bytes)) (k - start.chars) (length bytes))
-char_held law agree last boundaries pieces i k bytes start utf8 h text low high most =
+char_held pieces i k bytes start utf8 h text low high most =
     let chunk = chars bytes in
     let before = text_of h.before in
     let after = text_of h.after in
@@ -110,9 +109,9 @@ char_held law agree last boundaries pieces i k bytes start utf8 h text low high 
     ap (λ n. end_place (char_ends chunk) j n) len
     ∙ ap (λ t. end_place (char_ends t) j (byte_len t)) whole
     ∙ ap (λ n. end_place (char_ends (first ++ rest)) n (byte_len (first ++ rest))) (sym count)
-    ∙ place_of_front law agree last first rest in
+    ∙ place_of_front first rest in
     let spelled : bytes ≡ encode_utf8_all first ++ encode_utf8_all rest = sym (encodes-chars bytes utf8) ∙ ap encode_utf8_all whole ∙ encodes-append first rest in
-    let bounded = boundaries chunk j (scalars-chars bytes utf8) in
+    let bounded = to_byte_idx_is_a_boundary-chars chunk j (scalars-chars bytes utf8) in
     let boundary : IsCharBoundary bytes at = subst (λ (n : ℕ). IsCharBoundary bytes (end_place (char_ends chunk) j n)) (sym len) (subst (λ (bs : List ℕ). IsCharBoundary bs (end_place (char_ends chunk) j (byte_len chunk))) (encodes-chars bytes utf8) bounded) in
     let front_spelled : take at bytes ≡ encode_utf8_all first = ap (λ bs. take at bs) spelled ∙ take_at (encode_utf8_all first) (encode_utf8_all rest) at (sym placed) in
     let back_spelled : drop at bytes ≡ encode_utf8_all rest = ap (λ bs. drop at bs) spelled ∙ drop_at (encode_utf8_all first) (encode_utf8_all rest) at (sym placed) in

@@ -14,7 +14,7 @@ use Rattle.ropey_tree.specs.Counts.{counts_of, zero_counts, plus, minus}
 use Rattle.ropey_tree.specs.Cutting.{IsPiece, IsCutting, IsText}
 use Rattle.ropey_walk.specs.Chunks.{text_of, piece_of}
 use Rattle.ropey_walk.specs.Clips.{between, pieces_from_char, pieces_to_char, clip}
-use Rattle.ropey_walk.specs.Laws.{BreaksOfParts}
+use Rattle.ropey_walk.proofs.BreakLaws.{BreaksOfParts}
 use Rattle.ropey_walk.specs.Parts.{standing}
 use Rattle.ropey_walk.specs.Sources.{source_pieces, light_bytes}
 use Rattle.ropey_walk.specs.Standing.{StandsAt, IsChunkOf}

@@ -12,7 +12,7 @@ use Rattle.ropey_walk.specs.Chunks.{line_breaks}
 use Rattle.ropey_walk.specs.Clips.{between}
 use Rattle.ropey_walk.specs.Conversions.{line_of_byte}
 use Rattle.ropey_walk.specs.Parts.{standing}
-use Rattle.ropey_walk.specs.Laws.{BreaksOfParts}
+use Rattle.ropey_walk.proofs.BreakLaws.{BreaksOfParts}
 use Rattle.ropey_walk.proofs.Cuts.{byte_len-append}
 
 pub units-append : (s t : List ℕ) → units (s ++ t) ≡ units s + units t

@@ -7,7 +7,8 @@ use Rattle.std.proofs.lemmas.Bool.{and_parts, and_from}
 use Rattle.std.proofs.lemmas.List.{take_at, get_or_append_left, get_or-append_right}
 use Rattle.std.proofs.lemmas.Str.{encodes-chars, encodes-append, scalars-chars, IsUtf8-take, IsCharBoundary-at_seam}
 use Rattle.str_indices.specs.Text.{byte_len, units, char_ends, unit_ends, end_place, ends_with_cr, cuts_cr_lf, NoCrLfBetween}
-use Rattle.str_indices.specs.Laws.{AnyTexts, EndsAddUp, EndsAreBoundaries, CharsAndBoundariesAgree, LastEndIsBefore}
+use Rattle.str_indices.specs.Laws.{AnyTexts, EndsAddUp, EndsAreBoundaries}
+use Rattle.str_indices.proofs.TextLaws.{ends_of_a_part-chars}
 use Rattle.ropey_tree.specs.declared.counts.Counts.{Counts}
 use Rattle.ropey_tree.specs.declared.counts.By.{By}
 use Rattle.ropey_tree.specs.Counts.{counts_of, plus, minus, amount}
@@ -17,7 +18,7 @@ use Rattle.ropey_walk.specs.Clips.{between}
 use Rattle.ropey_walk.specs.Conversions.{char_of_byte, unit_of_byte, line_of_byte, byte_of_char}
 use Rattle.ropey_walk.specs.Parts.{standing}
 use Rattle.ropey_walk.specs.Standing.{IsPlaceIn}
-use Rattle.ropey_walk.specs.Laws.{BreaksOfParts}
+use Rattle.ropey_walk.proofs.BreakLaws.{BreaksOfParts}
 use Rattle.ropey_walk.proofs.Cuts.{byte_len-append, first_piece, rest_cut}
 use Rattle.ropey_walk.proofs.Placing.{whole_front, whole_chars}
 use Rattle.ropey_walk.proofs.Counting.{units-append, amount-plus, front_breaks, take-parts, whole-parts, length-between}
@@ -160,14 +161,14 @@ boundary_out text bytes start at place utf8 h e scalars boundary =
     subst (IsCharBoundary (encode_utf8_all text)) there (IsCharBoundary-at_seam (encode_utf8_all text) (encode_utf8_all upto) (encode_utf8_all f.after) spelled (f.after, (rest, refl)))
 
 -- a character's place leads back to it
-pub char_there_and_back : EndsAddUp AnyTexts length char_ends → CharsAndBoundariesAgree → LastEndIsBefore char_ends → (text : List ℕ) (k : ℕ) → k ≤ length text → char_of_byte text (byte_of_char text k) ≡ k
-char_there_and_back law agree last text k inside =
+pub char_there_and_back : (text : List ℕ) (k : ℕ) → k ≤ length text → char_of_byte text (byte_of_char text k) ≡ k
+char_there_and_back text k inside =
     let front = take k text in
     let back = drop k text in
     let whole : text ≡ front ++ back = sym (take-append-drop k text) in
     let size : length front ≡ k = length-take-le k text inside in
-    let place : byte_of_char text k ≡ byte_len front = ap (λ t. byte_of_char t k) whole ∙ ap (byte_of_char (front ++ back)) (sym size) ∙ place_of_front law agree last front back in
-    ap (char_of_byte text) place ∙ ap (λ t. char_of_byte t (byte_len front)) whole ∙ whole_chars law front back ∙ size
+    let place : byte_of_char text k ≡ byte_len front = ap (λ t. byte_of_char t k) whole ∙ ap (byte_of_char (front ++ back)) (sym size) ∙ place_of_front front back in
+    ap (char_of_byte text) place ∙ ap (λ t. char_of_byte t (byte_len front)) whole ∙ whole_chars ends_of_a_part-chars front back ∙ size
 
 -- what the text up to a place counts
 pub record IsCounted (text : List ℕ) (place : ℕ) (sum : Counts) : Type 0 where

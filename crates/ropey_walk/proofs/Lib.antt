@@ -1,3 +1,4 @@
+pub mod BreakLaws
 pub mod Cuts
 pub mod OneByte
 pub mod Shows

@@ -9,7 +9,7 @@ use Rattle.std.proofs.lemmas.Str.{length-encode}
 use Rattle.str_indices.specs.Text.{byte_len, ends_break, ends_from, starts_with_lf, cuts_cr_lf, NoCrLfBetween}
 use Rattle.ropey_walk.specs.Chunks.{is_break, line_breaks}
 use Rattle.ropey_walk.specs.Conversions.{char_of_byte, line_of_byte, byte_of_line, char_of_line}
-use Rattle.ropey_walk.specs.Laws.{LineStarts}
+use Rattle.ropey_walk.proofs.BreakLaws.{LineStarts}
 use Rattle.ropey_walk.proofs.Counting.{front_breaks}
 use Rattle.ropey_walk.proofs.Placing.{whole_chars}
 

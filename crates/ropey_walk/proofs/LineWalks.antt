@@ -12,7 +12,7 @@ use Rattle.ropey_tree.specs.declared.counts.By.TheVariants.{Breaks}
 use Rattle.ropey_tree.specs.Counts.{counts_of, amount}
 use Rattle.ropey_walk.specs.Chunks.{is_break, line_breaks}
 use Rattle.ropey_walk.specs.Conversions.{byte_of_line, char_of_line}
-use Rattle.ropey_walk.specs.Laws.{LineStarts}
+use Rattle.ropey_walk.proofs.BreakLaws.{LineStarts}
 use Rattle.ropey_walk.specs.Parts.{standing}
 use Rattle.ropey_walk.specs.Iter.{IsLinePlace}
 use Rattle.ropey_walk.specs.declared.iter.lines.LinePlace.{LinePlace}

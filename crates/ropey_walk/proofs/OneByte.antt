@@ -12,10 +12,10 @@ use Rattle.str_indices.specs.Text.{byte_len, char_ends, unit_ends, unit_starts, 
 use Rattle.str_indices.specs.Laws.{AnyTexts, EndsAddUp, PlacesAddUp, UnitStartsAddUp, UnitsAreCharsAndPairs, NoMoreThanBytes}
 use Rattle.ropey_tree.specs.declared.counts.Counts.{Counts}
 use Rattle.ropey_tree.specs.Counts.{counts_of}
-use Rattle.ropey_walk.specs.Laws.{StartsBehindOthers}
 use Rattle.ropey_walk.specs.Chunks.{text_of, piece_of}
 use Rattle.ropey_walk.proofs.Cuts.{byte_len-append}
 use Rattle.ropey_walk.proofs.ChunkParts.{text_of_piece}
+use Rattle.ropey_walk.proofs.Reading.{place_of_front}
 use Rattle.ropey_walk.proofs.CharWalks.{chars_cut}
 
 -- each character of a text is one byte
@@ -102,13 +102,13 @@ no-end : (m : ℕ) → end_place [] m 0 ≡ 0
 no-end zero = refl
 no-end (suc m) = refl
 
-pub char-place : StartsBehindOthers → PlacesAddUp AnyTexts length char_ends → (t : List ℕ) (k : ℕ) → IsOneByte t → end_place (char_ends t) k (byte_len t) ≡ min k (byte_len t)
-char-place starts places t k one = elim (cases_lt (length t) k) [
+pub char-place : PlacesAddUp AnyTexts length char_ends → (t : List ℕ) (k : ℕ) → IsOneByte t → end_place (char_ends t) k (byte_len t) ≡ min k (byte_len t)
+char-place places t k one = elim (cases_lt (length t) k) [
   | inl past ↦
       let told = places t [] [] k tt tt past (inr refl) in
       ap (λ s. end_place (char_ends s) k (byte_len s)) (sym (whole t)) ∙ told ∙ omega (arith, no-end (k - length t), past, one)
   | inr within ↦
-      let told = starts (take k t) (drop k t) in
+      let told = place_of_front (take k t) (drop k t) in
       let here = subst (λ (s : List ℕ). end_place (char_ends s) (length (take k t)) (byte_len s) ≡ byte_len (take k t)) (take-append-drop k t) told in
       ap (λ n. end_place (char_ends t) n (byte_len t)) (sym (length-take-le k t within)) ∙ here ∙ omega (arith, front-bytes t k one within, within, one)
 ]

@@ -21,7 +21,7 @@ use Rattle.ropey_walk.specs.Clips.{between, pieces_from_char, pieces_to_char, cl
 use Rattle.ropey_walk.specs.Conversions.{line_of_byte}
 use Rattle.ropey_walk.specs.Parts.{standing, IsReached}
 use Rattle.ropey_walk.specs.Standing.{StandsAt}
-use Rattle.ropey_walk.specs.Laws.{BreaksOfParts}
+use Rattle.ropey_walk.proofs.BreakLaws.{BreaksOfParts}
 use Rattle.ropey_walk.proofs.Cuts.{byte_len-append, first_piece, cut-left, cut-right, whole_seams}
 use Rattle.ropey_walk.proofs.Shows.{piece_by_itself}
 use Rattle.ropey_walk.proofs.Clipping.{drop-past, take-past, text-from, clip-around, to-none}

@@ -6,7 +6,7 @@ use Rattle.std.proofs.lemmas.List.{get_or_append_left, get_or-append_right, drop
 use Rattle.std.proofs.Math.Seq.{drop-cons}
 use Rattle.std.proofs.lemmas.Str.{encodes-chars, encodes-append, scalars-chars, length-encode, len_utf8_bounds}
 use Rattle.str_indices.specs.Text.{char_ends, end_place, ends_up_to, byte_len}
-use Rattle.str_indices.specs.Laws.{AnyTexts, EndsAddUp, EndsAreBoundaries, LastEndIsBefore, CharsAndBoundariesAgree}
+use Rattle.str_indices.proofs.TextLaws.{to_byte_idx_is_a_boundary-chars, boundaries_and_indices_agree-chars, place_there_and_back-chars, ends_of_a_part-chars}
 use Rattle.ropey_tree.specs.declared.counts.Counts.{Counts}
 use Rattle.ropey_tree.specs.declared.counts.By.TheVariants.{Bytes, Chars}
 use Rattle.ropey_tree.specs.Cutting.{IsText}
@@ -47,14 +47,13 @@ byte_read pieces i bytes start utf8 h text inside =
 
 -- ---- a character
 -- so many characters end where they end
-pub place_of_front : EndsAddUp AnyTexts length char_ends → CharsAndBoundariesAgree → LastEndIsBefore char_ends → (front back : List ℕ)
-    → end_place (char_ends (front ++ back)) (length front) (byte_len (front ++ back)) ≡ byte_len front
-place_of_front law agree last front back =
+pub place_of_front : (front back : List ℕ) → end_place (char_ends (front ++ back)) (length front) (byte_len (front ++ back)) ≡ byte_len front
+place_of_front front back =
     let d = byte_len front in
     let long : d ≤ byte_len (front ++ back) = omega (arith, byte_len-append front back) in
-    let counted : ends_up_to d (char_ends (front ++ back)) ≡ length front = whole_chars law front back in
-    let high = (agree front back (length front)).1 (omega (arith, counted)) in
-    let low = last (front ++ back) d in
+    let counted : ends_up_to d (char_ends (front ++ back)) ≡ length front = whole_chars ends_of_a_part-chars front back in
+    let high = (boundaries_and_indices_agree-chars front back (length front)).1 (omega (arith, counted)) in
+    let low = place_there_and_back-chars (front ++ back) d in
     omega (arith, high, low, ap (λ n. end_place (char_ends (front ++ back)) n (byte_len (front ++ back))) counted)
 
 -- the bytes from a place on begin with a character
@@ -63,10 +62,9 @@ pub record IsCharAt (bytes : List ℕ) (at character : ℕ) : Type 0 where
   pub rest : List ℕ
   pub reads : drop at bytes ≡ encode_utf8 character ++ rest
 
-pub char_read : EndsAddUp AnyTexts length char_ends → CharsAndBoundariesAgree → LastEndIsBefore char_ends → EndsAreBoundaries char_ends
-    → (pieces : List (List ℕ)) (k : ℕ) (bytes : List ℕ) (start : Counts) → IsUtf8 bytes → StandsAt pieces Chars k (chars bytes) start → IsText pieces → k < length (text_of pieces)
+pub char_read : (pieces : List (List ℕ)) (k : ℕ) (bytes : List ℕ) (start : Counts) → IsUtf8 bytes → StandsAt pieces Chars k (chars bytes) start → IsText pieces → k < length (text_of pieces)
     → IsCharAt bytes (end_place (char_ends (chars bytes)) (k - start.chars) (length bytes)) (get_or (text_of pieces) k 0)
-char_read law agree last boundaries pieces k bytes start utf8 h text inside =
+char_read pieces k bytes start utf8 h text inside =
     let chunk = chars bytes in
     let before = text_of h.before in
     let after = text_of h.after in
@@ -92,10 +90,10 @@ char_read law agree last boundaries pieces k bytes start utf8 h text inside =
     ap (λ n. end_place (char_ends chunk) j n) len
     ∙ ap (λ t. end_place (char_ends t) j (byte_len t)) whole
     ∙ ap (λ n. end_place (char_ends (first ++ drop j chunk)) n (byte_len (first ++ drop j chunk))) (sym count)
-    ∙ place_of_front law agree last first (drop j chunk) in
+    ∙ place_of_front first (drop j chunk) in
     let spelled : bytes ≡ encode_utf8_all first ++ encode_utf8_all (drop j chunk) = sym (encodes-chars bytes utf8) ∙ ap encode_utf8_all whole ∙ encodes-append first (drop j chunk) in
     let rest : drop at bytes ≡ encode_utf8_all (drop j chunk) = ap (λ n. drop n bytes) placed ∙ ap (λ bs. drop (byte_len first) bs) spelled ∙ drop_at (encode_utf8_all first) (encode_utf8_all (drop j chunk)) (byte_len first) refl in
-    let bounded = boundaries chunk j (scalars-chars bytes utf8) in
+    let bounded = to_byte_idx_is_a_boundary-chars chunk j (scalars-chars bytes utf8) in
     record {
       boundary = subst (λ (n : ℕ). IsCharBoundary bytes (end_place (char_ends chunk) j n)) (sym len) (subst (λ (bs : List ℕ). IsCharBoundary bs (end_place (char_ends chunk) j (byte_len chunk))) (encodes-chars bytes utf8) bounded);
       rest = encode_utf8_all (drop (suc j) chunk);

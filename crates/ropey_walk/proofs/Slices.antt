@@ -9,7 +9,7 @@ use Rattle.ropey_tree.specs.Cutting.{IsText}
 use Rattle.ropey_walk.specs.Chunks.{text_of}
 use Rattle.ropey_walk.specs.Clips.{between, clip}
 use Rattle.ropey_walk.specs.Conversions.{line_of_byte}
-use Rattle.ropey_walk.specs.Laws.{BreaksOfParts}
+use Rattle.ropey_walk.proofs.BreakLaws.{BreaksOfParts}
 use Rattle.ropey_walk.specs.Parts.{standing}
 use Rattle.ropey_walk.specs.Sources.{source_pieces}
 use Rattle.ropey_walk.specs.Slices.{slice_pieces, slice_text}

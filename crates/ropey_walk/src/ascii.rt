@@ -6,7 +6,6 @@ ghost use Rattle.std.specs.Str.{chars};
 ghost use Rattle.str_indices.specs.Text.{byte_len, char_ends, unit_ends, unit_starts, ends_up_to, end_place, units};
 ghost use Rattle.ropey_tree.specs.Counts.{counts_of};
 
-use crate::laws;
 use ropey_tree::breaks;
 use ropey_tree::counts::Counts;
 use str_indices::{chars, utf16};
@@ -17,9 +16,6 @@ pub(crate) fn byte_of_char(text: &str, is_ascii: bool, char_idx: usize) -> usize
     requires { is_ascii ≡ true → length (chars text.now) ≡ length text.now }
     ensures { result ≡ end_place (char_ends (chars text.now)) char_idx (length text.now) }
 {
-    // Laws, for the proof alone.
-    laws::chars_start_behind_others();
-    str_indices::laws::places_of_a_part();
     if is_ascii {
         char_idx.min(text.len())
     } else {
@@ -34,10 +30,6 @@ pub(crate) fn byte_of_unit(text: &str, is_ascii: bool, utf16_cu_idx: usize) -> u
     ensures { result ≡ slice_index_or (unit_starts (chars text.now)) utf16_cu_idx
         (length text.now) }
 {
-    // Laws, for the proof alone.
-    str_indices::laws::places_of_a_part();
-    str_indices::laws::units_are_chars_and_pairs();
-    str_indices::laws::counts_are_at_most_bytes();
     if is_ascii {
         utf16_cu_idx.min(text.len())
     } else {
@@ -52,8 +44,6 @@ pub(crate) fn char_of_byte(text: &str, is_ascii: bool, byte_idx: usize) -> usize
     requires within { byte_idx ≤ byte_len (chars text.now) }
     ensures { result ≡ ends_up_to byte_idx (char_ends (chars text.now)) }
 {
-    // A law, for the proof alone.
-    str_indices::laws::ends_of_a_part();
     if is_ascii {
         byte_idx
     } else {
@@ -68,10 +58,6 @@ pub(crate) fn unit_of_byte(text: &str, is_ascii: bool, byte_idx: usize) -> usize
     requires within { byte_idx ≤ byte_len (chars text.now) }
     ensures { result ≡ ends_up_to byte_idx (unit_ends (chars text.now)) }
 {
-    // Laws, for the proof alone.
-    str_indices::laws::ends_of_a_part();
-    str_indices::laws::units_are_chars_and_pairs();
-    str_indices::laws::counts_are_at_most_bytes();
     if is_ascii {
         byte_idx
     } else {
@@ -86,9 +72,6 @@ pub(crate) fn chars_and_units(text: &str, is_ascii: bool) -> (usize, usize)
     ensures chars { result.0 ≡ length (chars text.now) }
     ensures units { result.1 ≡ units (chars text.now) }
 {
-    // Laws, for the proof alone.
-    str_indices::laws::units_are_chars_and_pairs();
-    str_indices::laws::counts_are_at_most_bytes();
     if is_ascii {
         (text.len(), text.len())
     } else {

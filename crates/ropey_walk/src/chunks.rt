@@ -39,11 +39,6 @@ impl<'a> RopeSlice<'a> {
         requires { char_idx < length (slice_text self.now) }
         ensures { result ≡ slice_index (slice_text self.now) char_idx }
     {
-        // Laws, for the proof alone.
-        str_indices::laws::to_byte_idx_is_a_boundary();
-        str_indices::laws::boundaries_and_indices_agree();
-        str_indices::laws::place_there_and_back();
-        str_indices::laws::ends_of_a_part();
         let chunk = self.chunk(By::Chars, char_idx);
         let at = byte_of_char(chunk.text, chunk.is_ascii, char_idx - chunk.start.chars);
         match chunk.text[at..].chars().next() {

@@ -12,7 +12,6 @@ ghost use Rattle.ropey_walk.specs.Parts.{standing};
 ghost use Rattle.ropey_walk.specs.Standing.{StandsAt, IsPlaceIn, IsChunkOf};
 
 use crate::ascii::{byte_of_char, byte_of_unit, char_of_byte, counts, unit_of_byte};
-use crate::laws;
 use crate::slice::{Chunk, RopeSlice};
 use ropey_tree::breaks;
 use ropey_tree::counts::{By, Counts};
@@ -83,9 +82,6 @@ impl<'a> RopeSlice<'a> {
         ensures boundary { IsCharBoundary result.text.now result.at }
         ensures utf8 { IsUtf8 result.text.now }
     {
-        // Laws, for the proof alone.
-        str_indices::laws::places_of_a_part();
-        str_indices::laws::to_byte_idx_is_a_boundary();
         let chunk = self.chunk(By::Chars, char_idx.saturating_sub(1));
         Place {
             text: chunk.text,
@@ -102,9 +98,6 @@ impl<'a> RopeSlice<'a> {
         ensures place { result.start.bytes + result.at ≡
             byte_of_unit (slice_text self.now) utf16_cu_idx }
     {
-        // Laws, for the proof alone.
-        str_indices::laws::places_of_a_part();
-        str_indices::laws::to_byte_idx_is_a_boundary();
         let chunk = self.chunk(By::Units, utf16_cu_idx);
         Place {
             text: chunk.text,
@@ -141,9 +134,6 @@ impl<'a> RopeSlice<'a> {
         ensures boundary { IsCharBoundary result.text.now result.at }
         ensures utf8 { IsUtf8 result.text.now }
     {
-        // Laws, for the proof alone.
-        str_indices::laws::places_of_a_part();
-        str_indices::laws::to_byte_idx_is_a_boundary();
         let chunk = self.chunk_of_break(line_idx);
         Place {
             text: chunk.text,
@@ -169,10 +159,6 @@ impl<'a> RopeSlice<'a> {
         ensures { result ≡ char_of_byte (slice_text self.now)
             (place.now.start.bytes + place.now.at) }
     {
-        // Laws, for the proof alone.
-        str_indices::laws::ends_of_a_part();
-        str_indices::laws::from_byte_idx_is_monotone();
-        str_indices::laws::counts_are_at_most_bytes();
         place.start.chars + char_of_byte(place.text, place.is_ascii, place.at)
     }
 
@@ -183,10 +169,6 @@ impl<'a> RopeSlice<'a> {
         ensures { result ≡ unit_of_byte (slice_text self.now)
             (place.now.start.bytes + place.now.at) }
     {
-        // Laws, for the proof alone.
-        str_indices::laws::ends_of_a_part();
-        str_indices::laws::from_byte_idx_is_monotone();
-        str_indices::laws::counts_are_at_most_bytes();
         place.start.units + unit_of_byte(place.text, place.is_ascii, place.at)
     }
 
@@ -197,10 +179,6 @@ impl<'a> RopeSlice<'a> {
         ensures { result ≡ line_of_byte (slice_text self.now)
             (place.now.start.bytes + place.now.at) }
     {
-        // Laws, for the proof alone.
-        str_indices::laws::ends_of_a_part();
-        str_indices::laws::from_byte_idx_is_monotone();
-        str_indices::laws::counts_are_at_most_bytes();
         place.start.breaks + breaks::from_byte_idx(place.text, place.at)
     }
 
@@ -214,8 +192,6 @@ impl<'a> RopeSlice<'a> {
             char_of_byte (slice_text self.now) (place.now.start.bytes + place.now.at) }
         ensures stands { result ≡ standing (slice_text self.now) result.chars }
     {
-        // Laws, for the proof alone.
-        str_indices::laws::ends_of_a_part();
         Counts {
             bytes: self.byte_of(place),
             chars: self.char_of(place),
@@ -236,9 +212,6 @@ impl<'a> RopeSlice<'a> {
         ensures within { result.chars ≤ length (slice_text self.now) }
         ensures counted { result ≡ counts_of (take result.chars (slice_text self.now)) }
     {
-        // Laws, for the proof alone.
-        str_indices::laws::ends_of_a_part();
-        laws::breaks_of_parts();
         place
             .start
             .plus(counts(&place.text[..place.at], place.is_ascii))

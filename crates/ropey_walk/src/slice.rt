@@ -10,7 +10,6 @@ ghost use Rattle.ropey_walk.specs.Clips.{between};
 ghost use Rattle.ropey_walk.specs.Parts.{pieces_under, standing};
 ghost use Rattle.ropey_walk.specs.Sources.{source_pieces, light_bytes};
 
-use crate::laws;
 use ropey_tree::counts::{By, Counts};
 use ropey_tree::node::{Found, Node, OnTheWay, leaf_at, leaf_near};
 
@@ -100,8 +99,6 @@ fn counts_under(node: Option<&Node>) -> Counts
     ensures counts { result ≡ counts_of (text_of (pieces_under node.entry)) }
     ensures cut { IsText (pieces_under node.entry) }
 {
-    // A law, for the proof alone.
-    ropey_tree::laws::counts_of_a_cutting();
     match node {
         None => Counts::zero(),
         Some(node) => {
@@ -137,8 +134,6 @@ impl<'a> RopeSlice<'a> {
         requires counts { len ≡ counts_of (text_of (pieces_under node)) }
         ensures { slice_pieces result ≡ pieces_under node.entry }
     {
-        // A law, for the proof alone.
-        laws::breaks_of_parts();
         RopeSlice {
             source: Source::new(node),
             start: Counts::zero(),
@@ -163,7 +158,6 @@ impl<'a> RopeSlice<'a> {
             clip start.chars (start.chars + len.chars) (slice_pieces self.now)) }
     {
         // A law, and the slice's facts, for the proof alone.
-        laws::breaks_of_parts();
         let _ = self.len_bytes();
         let end = start.bytes + len.bytes;
         if start.bytes < chunk.start.bytes || end > chunk.start.bytes + chunk.text.len() {
@@ -189,8 +183,6 @@ impl<'a> RopeSlice<'a> {
         ensures { slice_pieces result ≡ clip start.chars (start.chars + len.chars)
             (slice_pieces self.now) }
     {
-        // A law, for the proof alone.
-        laws::breaks_of_parts();
         if len.chars == 0 {
             return RopeSlice::new(None);
         }
@@ -246,8 +238,6 @@ impl<'a> RopeSlice<'a> {
     pub fn len_lines(&self) -> usize
         ensures { result ≡ line_breaks (slice_text self.now) + 1 }
     {
-        // A law, for the proof alone.
-        str_indices::laws::counts_are_at_most_bytes();
         self.counts().breaks + 1
     }
 
@@ -259,8 +249,6 @@ impl<'a> RopeSlice<'a> {
             result.before }
     {
         // Laws, and the node's facts, for the proof alone.
-        ropey_tree::laws::counts_of_a_cutting();
-        laws::breaks_of_parts();
         let _ = node.height();
         if i < self.len.by(by) {
             leaf_at(node, by, self.start.by(by) + i)
@@ -284,8 +272,6 @@ impl<'a> RopeSlice<'a> {
             result.leaf.now result.before }
     {
         // Laws, and the node's facts, for the proof alone.
-        ropey_tree::laws::counts_of_a_cutting();
-        laws::breaks_of_parts();
         let _ = node.height();
         if byte_idx < self.len.bytes {
             leaf_near(node, near, By::Bytes, self.start.bytes + byte_idx)
@@ -305,7 +291,6 @@ impl<'a> RopeSlice<'a> {
         ensures utf8 { IsUtf8 result.text.now }
     {
         // A law, and the node's facts, for the proof alone.
-        laws::breaks_of_parts();
         let _ = node.height();
         let text = found.leaf.as_str();
         let start = self.start.bytes.saturating_sub(found.before.bytes);
@@ -327,8 +312,6 @@ impl<'a> RopeSlice<'a> {
             StandsAt (slice_pieces self.now) by i (chars result.text.now) result.start }
         ensures utf8 { IsUtf8 result.text.now }
     {
-        // A law, for the proof alone.
-        laws::breaks_of_parts();
         Chunk {
             text: &text[self.start.bytes..self.start.bytes + self.len.bytes],
             start: Counts::zero(),

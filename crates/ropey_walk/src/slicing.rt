@@ -21,7 +21,6 @@ ghost use Rattle.ropey_walk.specs.Ranges.{IsRangeIn, IsByteRangeIn, RefusesChars
 ghost use Rattle.ropey_walk.specs.Standing.{IsPlaceIn, IsChunkOf};
 
 use crate::iter::lines::LinePlace;
-use crate::laws;
 use crate::places::Place;
 use crate::ranges::{Ends, TextRange};
 use crate::slice::{Chunk, RopeSlice};
@@ -53,8 +52,6 @@ impl<'a> RopeSlice<'a> {
         requires utf8 { IsUtf8 chunk.now.text.now }
         ensures { slice_pieces result ≡ clip start.chars end.chars (slice_pieces self.now) }
     {
-        // A law, for the proof alone.
-        laws::breaks_of_parts();
         if start.chars == end.chars {
             return RopeSlice::new(None);
         }
@@ -81,9 +78,6 @@ impl<'a> RopeSlice<'a> {
         ensures bytes { slice_bytes result ≡ between (from.now.start.bytes + from.now.at)
             (to.now.start.bytes + to.now.at) (slice_bytes self.now) }
     {
-        // Laws, for the proof alone.
-        str_indices::laws::from_byte_idx_is_monotone();
-        str_indices::laws::ends_of_a_part();
         self.between(&from.chunk(), self.standing_at(from), self.counted_to(to))
     }
 
@@ -119,11 +113,6 @@ impl<'a> RopeSlice<'a> {
             result.chunk.start }
         ensures utf8 { IsUtf8 result.chunk.text.now }
     {
-        // Laws, for the proof alone.
-        laws::breaks_of_parts();
-        str_indices::laws::ends_of_a_part();
-        str_indices::laws::boundaries_and_indices_agree();
-        str_indices::laws::place_there_and_back();
         if char_idx == 0 {
             return Edge {
                 counts: Counts::zero(),
@@ -148,10 +137,6 @@ impl<'a> RopeSlice<'a> {
             result.chunk.start }
         ensures utf8 { IsUtf8 result.chunk.text.now }
     {
-        // Laws, for the proof alone.
-        str_indices::laws::ends_of_a_part();
-        str_indices::laws::boundaries_and_indices_agree();
-        str_indices::laws::place_there_and_back();
         if char_idx == self.len_chars() {
             return Edge {
                 counts: self.counts(),
@@ -285,9 +270,6 @@ impl<'a> RopeSlice<'a> {
             result.chunk.start }
         ensures utf8 { IsUtf8 result.chunk.text.now }
     {
-        // Laws, for the proof alone.
-        laws::breaks_of_parts();
-        str_indices::laws::ends_of_a_part();
         if byte_idx == 0 {
             return Edge {
                 counts: Counts::zero(),
@@ -312,8 +294,6 @@ impl<'a> RopeSlice<'a> {
             result.chunk.start }
         ensures utf8 { IsUtf8 result.chunk.text.now }
     {
-        // A law, for the proof alone.
-        str_indices::laws::ends_of_a_part();
         if byte_idx == self.len_bytes() {
             return Edge {
                 counts: self.counts(),
@@ -337,8 +317,6 @@ impl<'a> RopeSlice<'a> {
         ensures bytes { slice_bytes result ≡ between start end (slice_bytes self.now) }
     {
         // Laws, and the text's facts, for the proof alone.
-        str_indices::laws::from_byte_idx_is_monotone();
-        str_indices::laws::ends_of_a_part();
         let _ = self.len_bytes();
         let from = self.start_at_byte(start);
         let to = self.end_at_byte(end);

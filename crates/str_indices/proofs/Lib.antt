@@ -13,4 +13,5 @@ pub mod Order
 pub mod Parts
 pub mod Behind
 pub mod FirstBreaks
+pub mod TextLaws
 mod Examples

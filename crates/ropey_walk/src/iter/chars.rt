@@ -40,11 +40,6 @@ fn place_in_chunk_of<'a>(slice: &RopeSlice<'a>, in_char: usize, char_idx: usize)
         result.at < length result.chunk.now }
     ensures behind { in_char < char_idx → 0 < result.at }
 {
-    // Laws, for the proof alone.
-    str_indices::laws::to_byte_idx_is_a_boundary();
-    str_indices::laws::boundaries_and_indices_agree();
-    str_indices::laws::place_there_and_back();
-    str_indices::laws::ends_of_a_part();
     let chunk = slice.chunk(By::Chars, in_char);
     CharPlace {
         chunk: chunk.text,

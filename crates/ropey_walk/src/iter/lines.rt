@@ -10,7 +10,6 @@ ghost use Rattle.ropey_walk.specs.Slices.{slice_pieces, slice_text};
 ghost use Rattle.ropey_walk.specs.Standing.{IsChunkOf};
 
 use crate::ascii::chars_and_units;
-use crate::laws;
 use crate::places::Place;
 use crate::slice::RopeSlice;
 use ropey_tree::breaks;
@@ -58,8 +57,6 @@ impl<'a> LinePlace<'a> {
             result.place.start }
         ensures line { result.line_idx ≡ self.entry.line_idx + 1 }
     {
-        // A law, for the proof alone.
-        laws::line_starts();
         let Place {
             text,
             start,
@@ -105,8 +102,6 @@ impl<'a> LinePlace<'a> {
             result.place.start }
         ensures line { result.line_idx + 1 ≡ self.entry.line_idx }
     {
-        // A law, for the proof alone.
-        laws::line_starts();
         let Place {
             text,
             start,
@@ -147,8 +142,6 @@ impl<'a> LinePlace<'a> {
             end.place.start }
         ensures { slice_pieces result ≡ line_pieces (slice_pieces slice.now) self.entry.line_idx }
     {
-        // A law, for the proof alone.
-        laws::line_starts();
         slice.between(&end.place.chunk(), self.before, end.before)
     }
 }

@@ -11,5 +11,5 @@ split-requires c =
     let t = slice_text c.new-slice.result in
     let whole : t ≡ concat c.args.node.now.value.pieces = ap text_of c.new-slice.ensures ∙ ap (λ v. concat v.pieces) c.deref-root.ensures in
     let within : c.args.char_idx ≤ length t = omega (arith, c.if-char_idx-len_chars.false, c.len_chars.ensures) in
-    let place = c.char_to_byte.ensures ∙ place_of c.chars_start_behind_others.ensures t c.args.char_idx within in
+    let place = c.char_to_byte.ensures ∙ place_of t c.args.char_idx within in
     rw (sym whole) (boundary_of t c.args.char_idx c.char_to_byte.result place)

@@ -22,8 +22,8 @@ replaced-requires t c =
     let within = c.choose-choice.ensures.within in
     let lower = child_lower v vs k child c.args.from c.args.to v_is inner within c.get-child.ensures low c.requires.1.1.0 c.choose-choice.ensures.passed in
     let counted = child_counted vs k child c.choose-choice.result.len c.get-child.ensures c.choose-choice.ensures.counted in
-    let fits = child_fits v vs k child c.args.from c.args.to v_is inner within c.get-child.ensures low c.requires.1.1.0 c.choose-choice.ensures.passed (byte_len (chars c.args.text.now)) c.requires.1.1.1.1 in
-    (omega (arith, c.requires.1.0, lower), (omega (arith, c.requires.1.1.0), (counted, fits)))
+    let fits = child_fits v vs k child c.args.from c.args.to v_is inner within c.get-child.ensures low c.requires.1.1.0 c.choose-choice.ensures.passed (byte_len (chars c.args.text.now)) c.requires.1.1.1.1.0 in
+    (omega (arith, c.requires.1.0, lower), (omega (arith, c.requires.1.1.0), (counted, (fits, c.requires.1.1.1.1.1))))
 
 pub with_child_edited-requires-clause-nodes : goal.with_child_edited-requires-clause-nodes
 with_child_edited-requires-clause-nodes t c =
@@ -42,7 +42,7 @@ with_child_edited-requires-clause-nodes t c =
     let is_text = rw c.deref-in-Some-2.ensures at c.height-height.ensures.tree.text in
     rw (c.height-height.ensures.value, c.deref-in-Some-2.ensures)
     (row_siblings v vs k child c.args.from c.args.to v_is inner c.choose-choice.ensures.within c.get-child.ensures low c.requires.1.1.0 c.choose-choice.ensures.passed
-    (chars c.args.text.now) made (edited_nodes c.in-Some-2.edited) len.0 len.1 h.edited few is_text c.requires.1.1.1.1)
+    (chars c.args.text.now) made (edited_nodes c.in-Some-2.edited) len.0 len.1 h.edited few is_text c.requires.1.1.1.1.0)
 
 pub with_child_edited-requires-clause-fits : goal.with_child_edited-requires-clause-fits
 with_child_edited-requires-clause-fits t c =
@@ -57,9 +57,9 @@ with_child_edited-requires-clause-fits t c =
     let h = rw (before, c.in-Some-2.is) at c.in_ok-replaced-in-Inner.ensures in
     let text = chars c.args.text.now in
     let whole = ap (λ u. (total u.pieces).bytes) v_is in
-    let fits = child_fits v vs k child c.args.from c.args.to v_is inner c.choose-choice.ensures.within c.get-child.ensures low c.requires.1.1.0 c.choose-choice.ensures.passed (byte_len text) c.requires.1.1.1.1 in
+    let fits = child_fits v vs k child c.args.from c.args.to v_is inner c.choose-choice.ensures.within c.get-child.ensures low c.requires.1.1.0 c.choose-choice.ensures.passed (byte_len text) c.requires.1.1.1.1.0 in
     let few = edited_bytes child (c.args.from - (total (all_pieces (take k vs))).bytes) (c.args.to - (total (all_pieces (take k vs))).bytes) text (all_pieces (edited_nodes c.in-Some-2.edited)) h.edited.edited in
-    omega (arith, whole, fits, few, c.requires.1.1.1.1)
+    omega (arith, whole, fits, few, c.requires.1.1.1.1.0)
 
 pub returns-in_ok-nodes-in-Some-2-clause-edited : goal.returns-in_ok-nodes-in-Some-2-clause-edited
 returns-in_ok-nodes-in-Some-2-clause-edited t c =
@@ -90,7 +90,7 @@ returns-in_ok-nodes-in-Some-clause-edited t c =
     made.nodes e.replaced e.may_stand (omega (arith, made.made))
 
 pub returns-in-None-2-clause-none : goal.returns-in-None-2-clause-none
-returns-in-None-2-clause-none t c = λ pieces h.
+returns-in-None-2-clause-none t c = λ pieces h long.
     let v = c.args.node.now.value in
     let vs = c.in-Inner.children.now in
     let k = c.choose-choice.result.index in
@@ -101,14 +101,15 @@ returns-in-None-2-clause-none t c = λ pieces h.
     let low = rw before at c.choose-choice.ensures.not_past in
     let none = rw (before, c.in-None-2.is) at c.in_ok-replaced-in-Inner.ensures in
     let of = of_child v vs k child c.args.from c.args.to v_is inner c.choose-choice.ensures.within c.get-child.ensures low c.requires.1.1.0 c.choose-choice.ensures.passed (chars c.args.text.now) pieces h in
-    omega (arith, none.none of.pieces of.edited, ap (λ leaves. byte_len (concat leaves)) of.same)
+    let same = ap (λ leaves. byte_len (concat leaves)) of.same in
+    omega (arith, none.none of.pieces of.edited (omega (arith, long, same)), same)
 
 pub returns-in-None-clause-none : goal.returns-in-None-clause-none
-returns-in-None-clause-none t c = λ pieces h.
+returns-in-None-clause-none t c = λ pieces h long.
     let v_is = rw c.deref.ensures at c.in-Leaf.ensures.0 in
     let none = rw c.in-None.is at c.in_ok-with_text_replaced-in-Leaf.ensures in
     let of = of_piece c.args.node.now.value c.in-Leaf.leaf.now c.args.from c.args.to (chars c.args.text.now) pieces v_is h in
-    none.none h.leaves of.replaced of.may_stand
+    none.none h.leaves of.replaced of.may_stand (omega (arith, long, c.least_kept-least.ensures.few))
 
 pub with_text_replaced-requires-clause-counted : goal.with_text_replaced-requires-clause-counted
 with_text_replaced-requires-clause-counted t c =

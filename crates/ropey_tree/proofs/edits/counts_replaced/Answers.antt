@@ -1,5 +1,6 @@
 use Rattle.std.proofs.Common.{◌++◌, ap, sym, arith, length-append}
 use Rattle.std.specs.Str.{chars}
+use Rattle.str_indices.proofs.TextLaws.{counts_of_joined_texts-units}
 use Rattle.ropey_tree.proofs.Texts.{byte_len-append}
 use Rattle.ropey_tree.proofs.Editing.{counts_are, bytes-few, three-few}
 use Rattle.ropey_tree.proofs.edits.counts_replaced.Goals as goal
@@ -14,13 +15,12 @@ returns c =
     let is = c.requires.counted in
     let less = c.of-less.ensures in
     let more = c.of-more.ensures in
-    let units = c.counts_of_joined_texts.ensures.units in
     let cr = sym c.is_cr_last-is_cr.ensures in
     let lf = sym c.is_lf_first-is_lf.ensures in
     counts_are _ _ _ _ new
     (omega (arith, ap (λ k. k.bytes) is, ap (λ k. k.bytes) less, ap (λ k. k.bytes) more, byte_len-append (f ++ g) b, byte_len-append f g, byte_len-append (f ++ t) b, byte_len-append f t))
     (omega (arith, ap (λ k. k.chars) is, ap (λ k. k.chars) less, ap (λ k. k.chars) more, length-append (f ++ g) b, length-append f g, length-append (f ++ t) b, length-append f t))
-    (omega (arith, ap (λ k. k.units) is, ap (λ k. k.units) less, ap (λ k. k.units) more, units (f ++ g) b, units f g, units (f ++ t) b, units f t))
+    (omega (arith, ap (λ k. k.units) is, ap (λ k. k.units) less, ap (λ k. k.units) more, counts_of_joined_texts-units (f ++ g) b, counts_of_joined_texts-units f g, counts_of_joined_texts-units (f ++ t) b, counts_of_joined_texts-units f t))
     (omega (arith, ap (λ k. k.breaks) is, ap (λ k. k.breaks) less, ap (λ k. k.breaks) more, c.seams-lost.ensures.seams f b cr lf, c.seams-cut.ensures.seams f b cr lf))
 
 pub overflow_add-result : goal.overflow_add-result

@@ -4,7 +4,7 @@ use Rattle.std.proofs.lemmas.Str.{encodes-chars}
 use Rattle.ropey_tree.proofs.Splitting.{leaf_parts, slice_front}
 use Rattle.ropey_tree.proofs.Editing.{not_both, three_parts, mid_bytes, front_bytes, gone_bytes, replaced_bytes, replaced_from, replaced_to}
 use Rattle.ropey_tree.proofs.edits.parts_of.Goals as goal
-use Rattle.ropey_tree.proofs.edits.parts_of.Goals.{then-not-is_char_boundary-via-then-not-is_char_boundary, then-not-is_char_boundary-via-else-not-is_char_boundary+then-not-is_char_boundary-2, then-text-kept-via-then-text-kept, then-text-kept-via-else-text-kept+then-kept-text-eq0}
+use Rattle.ropey_tree.proofs.edits.parts_of.Goals.{then-not-is_char_boundary-via-then-not-is_char_boundary, then-not-is_char_boundary-via-else-not-is_char_boundary+then-not-is_char_boundary-2, then-text-kept-via-then-text-kept, then-text-kept-via-else-text-kept+then-kept-text}
 
 pub returns-then-not-is_char_boundary-clause-none : goal.returns-then-not-is_char_boundary-clause-none
 returns-then-not-is_char_boundary-clause-none c = λ new h some.
@@ -30,7 +30,7 @@ returns-then-text-kept-clause-none c = λ new h some.
     let ends = c.is_char_boundary-else-not-is_char_boundary.ensures.test.0 c.if-not-is_char_boundary-2.false in
     elim c.then-text-kept.branch [
       | then-text-kept-via-then-text-kept w ↦ omega (arith, w.if-text-kept.true, gone, bytes, old_len, text_len, ends.0)
-      | then-text-kept-via-else-text-kept+then-kept-text-eq0 w ↦ absurd (omega (arith, w.if-kept-text-eq0.true, some, gone, bytes, old_len, text_len, ends.0))
+      | then-text-kept-via-else-text-kept+then-kept-text w ↦ absurd (omega (arith, w.if-kept-text.true, some, gone, bytes, old_len, text_len, ends.0))
     ]
 
 pub returns-clause-parts : goal.returns-clause-parts
@@ -38,7 +38,7 @@ returns-clause-parts c =
     let old = c.as_str-old.result.now in
     let starts = c.is_char_boundary.ensures.test.0 c.if-not-is_char_boundary.false in
     let front : c.range.result.now ≡ take c.args.from old = c.range.ensures.value ∙ slice_front old c.args.from in
-    let parts = three_parts old c.range-2.result.now c.args.from c.args.to c.as_str-old.utf8 starts c.requires c.range-2.utf8 c.range-2.ensures.value in
+    let parts = three_parts old c.range-2.result.now c.args.from c.args.to c.as_str-old.utf8 starts c.requires.range c.range-2.utf8 c.range-2.ensures.value in
     rw (front, c.range_from.ensures.value) (sym c.as_str-old.ensures.text ∙ parts)
 
 pub returns-clause-starts : goal.returns-clause-starts
@@ -54,10 +54,10 @@ returns-clause-ends c =
     let starts = c.is_char_boundary.ensures.test.0 c.if-not-is_char_boundary.false in
     let ends = c.is_char_boundary-else-not-is_char_boundary.ensures.test.0 c.if-not-is_char_boundary-2.false in
     let front : c.range.result.now ≡ take c.args.from old = c.range.ensures.value ∙ slice_front old c.args.from in
-    rw front (mid_bytes old c.range-2.result.now c.args.from c.args.to c.as_str-old.utf8 starts ends.0 c.requires c.range-2.utf8 c.range-2.ensures.value)
+    rw front (mid_bytes old c.range-2.result.now c.args.from c.args.to c.as_str-old.utf8 starts ends.0 c.requires.range c.range-2.utf8 c.range-2.ensures.value)
 
 pub returns-clause-whole : goal.returns-clause-whole
 returns-clause-whole c =
     let old_len = ap length c.as_str-old.ensures.bytes in
     let ends = c.is_char_boundary-else-not-is_char_boundary.ensures.test.0 c.if-not-is_char_boundary-2.false in
-    omega (arith, old_len, c.as_str-old.ensures.piece.not_long, c.requires, ends.0, c.range.ensures.len, c.range-2.ensures.len, c.range_from.ensures.len)
+    omega (arith, old_len, c.as_str-old.ensures.piece.not_long, c.requires.range, ends.0, c.range.ensures.len, c.range-2.ensures.len, c.range_from.ensures.len)

@@ -5,14 +5,14 @@ use Rattle.std.proofs.lemmas.List.{append-nil}
 use Rattle.std.proofs.lemmas.Str.{encodes-chars}
 use Rattle.str_indices.specs.Text.{byte_len, starts_with_lf, ends_with_cr}
 use Rattle.ropey_tree.specs.Counts.{counts_of}
-use Rattle.ropey_tree.proofs.Editing.{not_both, one_replaced, replaced_in, leaves_some, piece_of, two_may}
+use Rattle.ropey_tree.proofs.Editing.{not_both, one_replaced, replaced_in, piece_of, two_may}
 use Rattle.ropey_tree.proofs.edits.with_text_replaced.Goals as goal
 
 pub returns-in_default-clause-none : goal.returns-in_default-clause-none
-returns-in_default-clause-none c = λ leaves h may. c.in_default.ensures.none (concat leaves) h (leaves_some c.args.leaf.now leaves may)
+returns-in_default-clause-none c = λ leaves h may. c.in_default.ensures.none (concat leaves) h
 
 pub returns-then-not-has_ends_of-clause-none : goal.returns-then-not-has_ends_of-clause-none
-returns-then-not-has_ends_of-clause-none c = λ leaves h may.
+returns-then-not-has_ends_of-clause-none c = λ leaves h may long.
     let f = chars c.in-Some.front.now in
     let g = chars c.in-Some.gone.now in
     let b = chars c.in-Some.back.now in

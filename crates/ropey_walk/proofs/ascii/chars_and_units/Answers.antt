@@ -1,6 +1,7 @@
 use Rattle.std.proofs.Common.{length, ap, arith}
 use Rattle.std.specs.Str.{chars}
 use Rattle.std.proofs.lemmas.Str.{encodes-chars}
+use Rattle.str_indices.proofs.TextLaws.{counts_are_at_most_bytes-units, units_are_chars_and_pairs}
 use Rattle.ropey_walk.proofs.ascii.chars_and_units.Goals as goal
 
 pub returns-then-is_ascii-clause-units : goal.returns-then-is_ascii-clause-units
@@ -10,6 +11,6 @@ returns-then-is_ascii-clause-units c =
       arith,
       c.requires c.if-is_ascii.true,
       ap length (encodes-chars c.args.text.now c.utf8.text),
-      c.units_are_chars_and_pairs.ensures text,
-      c.counts_are_at_most_bytes.ensures.units text,
+      units_are_chars_and_pairs text,
+      counts_are_at_most_bytes-units text,
     )

@@ -1,5 +1,5 @@
-use Rattle.str_indices.proofs.FirstBreaks.{goes_on}
+use Rattle.str_indices.proofs.TextLaws.{breaks_behind_the_first}
 use Rattle.str_indices.proofs.laws.breaks_behind_the_first.Goals as goal
 
 pub returns : goal.returns
-returns c = goes_on
+returns c = breaks_behind_the_first

@@ -1,13 +1,11 @@
-use Rattle.std.proofs.Common.{cond}
-use Rattle.str_indices.specs.Text.{ends_break, units_of}
-use Rattle.str_indices.proofs.Behind.{ends-behind}
+use Rattle.str_indices.proofs.TextLaws.{ends_behind_a_boundary-chars, ends_behind_a_boundary-units, ends_behind_a_boundary-lines}
 use Rattle.str_indices.proofs.laws.ends_behind_a_boundary.Goals as goal
 
 pub returns-clause-chars : goal.returns-clause-chars
-returns-clause-chars c = ends-behind (λ _ _. 1)
+returns-clause-chars c = ends_behind_a_boundary-chars
 
 pub returns-clause-units : goal.returns-clause-units
-returns-clause-units c = ends-behind (λ c _. units_of c)
+returns-clause-units c = ends_behind_a_boundary-units
 
 pub returns-clause-lines : goal.returns-clause-lines
-returns-clause-lines c = λ is_break. ends-behind (λ c rest. cond (ends_break is_break c rest) 1 0)
+returns-clause-lines c = ends_behind_a_boundary-lines

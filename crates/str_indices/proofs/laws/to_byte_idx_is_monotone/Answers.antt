@@ -1,13 +1,11 @@
-use Rattle.std.proofs.Common.{cond}
-use Rattle.str_indices.specs.Text.{ends_break}
-use Rattle.str_indices.proofs.Places.{rises_with_index, unit_starts-rise}
+use Rattle.str_indices.proofs.TextLaws.{to_byte_idx_is_monotone-chars, to_byte_idx_is_monotone-units, to_byte_idx_is_monotone-lines}
 use Rattle.str_indices.proofs.laws.to_byte_idx_is_monotone.Goals as goal
 
 pub returns-clause-chars : goal.returns-clause-chars
-returns-clause-chars c = rises_with_index (λ _ _. 1)
+returns-clause-chars c = to_byte_idx_is_monotone-chars
 
 pub returns-clause-units : goal.returns-clause-units
-returns-clause-units c = unit_starts-rise
+returns-clause-units c = to_byte_idx_is_monotone-units
 
 pub returns-clause-lines : goal.returns-clause-lines
-returns-clause-lines c = λ is_break. rises_with_index (λ c rest. cond (ends_break is_break c rest) 1 0)
+returns-clause-lines c = to_byte_idx_is_monotone-lines

@@ -8,11 +8,11 @@ pub insert_at-requires : goal.insert_at-requires
 insert_at-requires c =
     let known = c.in_ok-byte_idx.ensures in
     let t = text_of c.args.self.now in
-    boundary_of t c.args.char_idx c.in_ok-byte_idx.byte_idx (known.value.1 ∙ place_of c.chars_start_behind_others.ensures t c.args.char_idx known.value.0)
+    boundary_of t c.args.char_idx c.in_ok-byte_idx.byte_idx (known.value.1 ∙ place_of t c.args.char_idx known.value.0)
 
 pub returns-clause-text : goal.returns-clause-text
 returns-clause-text c =
     let known = c.in_ok-byte_idx.ensures in
     let t = text_of c.args.self.now in
-    let place = known.value.1 ∙ place_of c.chars_start_behind_others.ensures t c.args.char_idx known.value.0 in
+    let place = known.value.1 ∙ place_of t c.args.char_idx known.value.0 in
     on_ok c.insert_at.result (inserted_is t c.args.char_idx c.in_ok-byte_idx.byte_idx (chars c.args.text.now) (text_of c.insert_at.new.self) place) c.insert_at.ensures.text

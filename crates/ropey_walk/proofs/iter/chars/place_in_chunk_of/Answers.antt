@@ -8,7 +8,7 @@ held c =
     let chunk = c.chunk-chunk.result in
     let e = c.chunk-chunk.ensures in
     rw c.byte_of_char.ensures
-    (char_held c.ends_of_a_part.ensures.chars c.boundaries_and_indices_agree.ensures.chars c.place_there_and_back.ensures.chars c.to_byte_idx_is_a_boundary.ensures.chars (slice_pieces c.args.slice.now) c.args.in_char c.args.char_idx chunk.text.now chunk.start e.utf8 e.stands e.cut c.requires.low c.requires.high c.requires.within)
+    (char_held (slice_pieces c.args.slice.now) c.args.in_char c.args.char_idx chunk.text.now chunk.start e.utf8 e.stands e.cut c.requires.low c.requires.high c.requires.within)
 
 pub returns-clause-place : goal.returns-clause-place
 returns-clause-place c = (held (goal.at.returns-clause-place c).After-byte_of_char).place

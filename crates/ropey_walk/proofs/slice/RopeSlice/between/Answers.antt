@@ -4,6 +4,7 @@ use Rattle.ropey_walk.specs.Clips.{between, clip}
 use Rattle.ropey_walk.specs.Slices.{slice_pieces, slice_text}
 use Rattle.ropey_walk.proofs.Clipping.{clip-nothing}
 use Rattle.ropey_walk.proofs.Edges.{part_counts}
+use Rattle.ropey_walk.proofs.BreakLaws.{breaks_of_parts}
 use Rattle.ropey_walk.proofs.slice.RopeSlice.between.Goals as goal
 
 pub returns-then-start-end : goal.returns-then-start-end
@@ -20,4 +21,4 @@ part-requires-clause-counted c =
     let size : c.saturating_sub.result.chars ≡ e - a = ap (λ n. n.chars) c.saturating_sub.ensures in
     let end : e ≡ a + c.saturating_sub.result.chars = omega (arith, size, some) in
     c.saturating_sub.ensures ∙ ap (λ n. minus n c.args.start) c.requires.ends ∙ ap (minus (counts_of _)) c.requires.starts
-    ∙ part_counts c.breaks_of_parts.ensures t a e some c.requires.within ∙ ap (λ n. counts_of (between a n t)) end
+    ∙ part_counts breaks_of_parts t a e some c.requires.within ∙ ap (λ n. counts_of (between a n t)) end

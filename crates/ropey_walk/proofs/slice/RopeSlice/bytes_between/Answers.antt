@@ -1,6 +1,7 @@
 use Rattle.std.proofs.Common.{ap, arith, ◌∙◌, inl, inr, sym, subst}
 use Rattle.std.specs.Prelude.{encode_utf8_all}
 use Rattle.std.specs.Str.{chars, IsUtf8}
+use Rattle.str_indices.proofs.TextLaws.{ends_of_a_part-chars, from_byte_idx_is_monotone-chars}
 use Rattle.ropey_walk.specs.Chunks.{text_of}
 use Rattle.ropey_walk.specs.Clips.{clip}
 use Rattle.ropey_walk.specs.Conversions.{char_of_byte}
@@ -14,7 +15,7 @@ use Rattle.ropey_walk.proofs.slice.RopeSlice.bytes_between.Goals as goal
 
 pub between-requires-clause-order : goal.between-requires-clause-order
 between-requires-clause-order c =
-    omega (arith, c.start_at_byte-from.ensures.chars, c.end_at_byte-to.ensures.chars, c.from_byte_idx_is_monotone.ensures.chars (slice_text c.args.self.now) c.args.start c.args.end c.requires.order)
+    omega (arith, c.start_at_byte-from.ensures.chars, c.end_at_byte-to.ensures.chars, from_byte_idx_is_monotone-chars (slice_text c.args.self.now) c.args.start c.args.end c.requires.order)
 
 pub returns-clause-pieces : goal.returns-clause-pieces
 returns-clause-pieces c =
@@ -26,9 +27,9 @@ pub returns-clause-bytes : goal.returns-clause-bytes
 returns-clause-bytes c =
     let t = slice_text c.args.self.now in
     let pieces = slice_pieces c.args.self.now in
-    let law = c.ends_of_a_part.ensures.chars in
+    let law = ends_of_a_part-chars in
     let scalars = cutting-scalars pieces c.len_bytes.ensures.cut.cut in
-    let order = c.from_byte_idx_is_monotone.ensures.chars t c.args.start c.args.end c.requires.order in
+    let order = from_byte_idx_is_monotone-chars t c.args.start c.args.end c.requires.order in
     let pieces_are = c.between.ensures ∙ ap (λ n. clip n c.end_at_byte-to.result.counts.chars pieces) c.start_at_byte-from.ensures.chars
     ∙ ap (λ n. clip (char_of_byte t c.args.start) n pieces) c.end_at_byte-to.ensures.chars in
     ap (λ ps. encode_utf8_all (text_of ps)) pieces_are

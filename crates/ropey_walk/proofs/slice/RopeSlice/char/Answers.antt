@@ -10,7 +10,7 @@ read c =
     let r = c.chunk-chunk.result in
     let e = c.chunk-chunk.ensures in
     rw c.byte_of_char-at.ensures
-    (char_read c.ends_of_a_part.ensures.chars c.boundaries_and_indices_agree.ensures.chars c.place_there_and_back.ensures.chars c.to_byte_idx_is_a_boundary.ensures.chars (slice_pieces c.args.self.now) c.args.char_idx r.text.now r.start e.utf8 e.stands e.cut c.requires)
+    (char_read (slice_pieces c.args.self.now) c.args.char_idx r.text.now r.start e.utf8 e.stands e.cut c.requires)
 
 pub range_from-requires : goal.range_from-requires
 range_from-requires c = λ _. (read (goal.at.range_from-requires c).After-byte_of_char-at).boundary

@@ -13,6 +13,7 @@ use Rattle.ropey_walk.proofs.Clipped.{text-is}
 use Rattle.ropey_walk.proofs.OneByte.{IsOneByte, between-bytes, piece-bytes, known-bytes, either}
 use Rattle.ropey_walk.proofs.Reaching.{IsCutAt, clipped_leaf, leaf_stands_in, leaf_cut_at, ends_behind, sum-fits}
 use Rattle.ropey_walk.proofs.Slices.{part_of}
+use Rattle.ropey_walk.proofs.BreakLaws.{breaks_of_parts}
 use Rattle.ropey_walk.proofs.slice.RopeSlice.clipped.Goals as goal
 use Rattle.ropey_walk.proofs.slice.RopeSlice.clipped.Goals.{After-min-end}
 
@@ -25,7 +26,7 @@ cut_at c =
     let before = c.args.found.now.before in
     let text = c.height.ensures.tree.text in
     let r = c.requires.reached in
-    let at = leaf_cut_at c.breaks_of_parts.ensures pieces text s.start s.len (part_of s pieces c.requires.under) c.requires.some c.args.by c.args.i leaf before r
+    let at = leaf_cut_at breaks_of_parts pieces text s.start s.len (part_of s pieces c.requires.under) c.requires.some c.args.by c.args.i leaf before r
     c.saturating_sub-start.result c.min-end.result c.as_str-text.ensures.piece.scalars c.saturating_sub-start.ensures (omega (arith, c.min-end.ensures, ap length c.as_str-text.ensures.bytes)) in
     subst (λ (bs : List ℕ). IsCutAt bs c.saturating_sub-start.result c.min-end.result (clipped_leaf (text_of r.left) s.start.chars (s.start.chars + s.len.chars) leaf)) (sym c.as_str-text.ensures.bytes) at
 
@@ -33,7 +34,7 @@ pub overflow_add-self : goal.overflow_add-self
 overflow_add-self c =
     let s = c.args.self.now in
     let pieces = c.args.node.now.pieces in
-    let fits = sum-fits c.breaks_of_parts.ensures Bytes (text_of pieces) s.start s.len (part_of s pieces c.requires.under) (text_fits pieces c.height.ensures.tree.text) in
+    let fits = sum-fits breaks_of_parts Bytes (text_of pieces) s.start s.len (part_of s pieces c.requires.under) (text_fits pieces c.height.ensures.tree.text) in
     omega (arith, fits)
 
 pub overflow_sub-self : goal.overflow_sub-self
@@ -41,7 +42,7 @@ overflow_sub-self c =
     let s = c.args.self.now in
     let pieces = c.args.node.now.pieces in
     let found = c.args.found.now in
-    omega (arith, ends_behind c.breaks_of_parts.ensures pieces c.height.ensures.tree.text s.start s.len (part_of s pieces c.requires.under) c.requires.some c.args.by c.args.i found.leaf.now found.before c.requires.reached)
+    omega (arith, ends_behind breaks_of_parts pieces c.height.ensures.tree.text s.start s.len (part_of s pieces c.requires.under) c.requires.some c.args.by c.args.i found.leaf.now found.before c.requires.reached)
 
 pub range-requires-clause-start_le_end : goal.range-requires-clause-start_le_end
 range-requires-clause-start_le_end c = (cut_at (goal.at.range-requires-clause-start_le_end c).After-min-end).order
@@ -58,7 +59,7 @@ returns-clause-stands c =
     let pieces = c.args.node.now.pieces in
     let found = c.args.found.now in
     let text = ap chars c.range.ensures.value ∙ (cut_at (goal.at.returns-clause-stands c).After-min-end).is in
-    let stands = leaf_stands_in c.breaks_of_parts.ensures pieces c.height.ensures.tree.text s.start s.len (part_of s pieces c.requires.under) c.requires.some c.args.by c.args.i found.leaf.now found.before c.requires.reached in
+    let stands = leaf_stands_in breaks_of_parts pieces c.height.ensures.tree.text s.start s.len (part_of s pieces c.requires.under) c.requires.some c.args.by c.args.i found.leaf.now found.before c.requires.reached in
     rw (text, c.saturating_sub.ensures, c.requires.under) stands
 
 pub returns-clause-cut : goal.returns-clause-cut
@@ -79,7 +80,7 @@ invariant_of-result c =
     let a = s.start.chars in
     let end = s.start.chars + s.len.chars in
     let cut = clipped_leaf (text_of c.requires.reached.left) a end leaf in
-    let stands = leaf_stands_in c.breaks_of_parts.ensures pieces c.height.ensures.tree.text s.start s.len part c.requires.some c.args.by c.args.i leaf found.before c.requires.reached in
+    let stands = leaf_stands_in breaks_of_parts pieces c.height.ensures.tree.text s.start s.len part c.requires.some c.args.by c.args.i leaf found.before c.requires.reached in
     let told : IsOneByte cut → length (chars c.range.result.now) ≡ length c.range.result.now = λ one. ap length text ∙ one ∙ ap byte_len (sym text) ∙ bytes in
     record {
       ascii = λ is. elim (either found.is_ascii (s.len.chars == s.len.bytes) is) [

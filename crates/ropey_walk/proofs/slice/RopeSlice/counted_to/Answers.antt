@@ -1,5 +1,6 @@
 use Rattle.std.proofs.Common.{◌≡◌, ◌+◌, ◌^◌, ◌<◌, ◌-◌, length, take, ap, sym, ◌∙◌, arith}
 use Rattle.std.specs.Str.{chars}
+use Rattle.str_indices.proofs.TextLaws.{ends_of_a_part-chars}
 use Rattle.ropey_tree.specs.declared.counts.Counts.{Counts}
 use Rattle.ropey_tree.specs.declared.counts.By.{By}
 use Rattle.ropey_tree.specs.declared.counts.By.TheVariants.{Bytes, Chars, Units, Breaks}
@@ -7,6 +8,7 @@ use Rattle.ropey_tree.specs.Counts.{counts_of, plus, amount}
 use Rattle.ropey_walk.specs.Slices.{slice_text}
 use Rattle.ropey_walk.proofs.OneByte.{front-one-byte}
 use Rattle.ropey_walk.proofs.Edges.{IsFront, front_at, sums_fit, IsCounted, counted_front}
+use Rattle.ropey_walk.proofs.BreakLaws.{breaks_of_parts}
 use Rattle.ropey_walk.proofs.slice.RopeSlice.counted_to.Goals as goal
 use Rattle.ropey_walk.proofs.slice.RopeSlice.counted_to.Goals.{After-counts}
 
@@ -22,12 +24,12 @@ counts_is c =
 fits : (c : After-counts) (by : By) → amount by c.args.place.now.start + amount by c.counts.result < 2 ^ 64
 fits c by =
     let p = c.args.place.now in
-    omega (arith, ap (amount by) (counts_is c), sums_fit (slice_text c.args.self.now) p.start p.at (chars (take p.at p.text.now)) (is_front c) c.breaks_of_parts.ensures by)
+    omega (arith, ap (amount by) (counts_is c), sums_fit (slice_text c.args.self.now) p.start p.at (chars (take p.at p.text.now)) (is_front c) breaks_of_parts by)
 
 told : (c : After-counts) (sum : Counts) → sum ≡ plus c.args.place.now.start c.counts.result → IsCounted (slice_text c.args.self.now) (c.args.place.now.start.bytes + c.args.place.now.at) sum
 told c sum e =
     let p = c.args.place.now in
-    counted_front c.breaks_of_parts.ensures c.ends_of_a_part.ensures.chars (slice_text c.args.self.now) p.start p.at (chars (take p.at p.text.now)) (is_front c) c.counts.result (counts_is c) sum e
+    counted_front breaks_of_parts ends_of_a_part-chars (slice_text c.args.self.now) p.start p.at (chars (take p.at p.text.now)) (is_front c) c.counts.result (counts_is c) sum e
 
 pub plus-requires-clause-bytes : goal.plus-requires-clause-bytes
 plus-requires-clause-bytes c = fits (goal.at.plus-requires-clause-bytes c).After-counts Bytes

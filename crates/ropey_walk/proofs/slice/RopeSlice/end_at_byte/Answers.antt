@@ -1,6 +1,7 @@
 use Rattle.std.proofs.Common.{◌≡◌, [], length, ap, sym, ◌∙◌, arith, append-nil}
 use Rattle.std.proofs.lemmas.List.{take_all}
 use Rattle.str_indices.specs.Text.{byte_len}
+use Rattle.str_indices.proofs.TextLaws.{ends_of_a_part-chars}
 use Rattle.ropey_tree.specs.Counts.{counts_of}
 use Rattle.ropey_walk.specs.Conversions.{char_of_byte}
 use Rattle.ropey_walk.specs.Slices.{slice_pieces, slice_text}
@@ -12,7 +13,7 @@ pub returns-then-byte_idx-len_bytes-clause-chars : goal.returns-then-byte_idx-le
 returns-then-byte_idx-len_bytes-clause-chars c =
     let t = slice_text c.args.self.now in
     let end : byte_len t ≡ c.args.byte_idx = omega (arith, c.if-byte_idx-len_bytes.true, c.len_bytes.ensures.bytes) in
-    let whole = whole_chars c.ends_of_a_part.ensures.chars t [] in
+    let whole = whole_chars ends_of_a_part-chars t [] in
     ap (λ k. k.chars) c.counts.ensures.counts ∙ sym whole ∙ ap (λ s. char_of_byte s (byte_len t)) (append-nil t) ∙ ap (char_of_byte t) end
 
 pub returns-then-byte_idx-len_bytes-clause-counted : goal.returns-then-byte_idx-len_bytes-clause-counted

@@ -21,7 +21,7 @@ pub returns-clause-chars : goal.returns-clause-chars
 returns-clause-chars c =
     let t = slice_text c.args.self.now in
     c.counted_to.ensures.chars ∙ ap (char_of_byte t) c.place_of_char-place.ensures.place
-    ∙ char_there_and_back c.ends_of_a_part.ensures.chars c.boundaries_and_indices_agree.ensures.chars c.place_there_and_back.ensures.chars t c.args.char_idx c.requires
+    ∙ char_there_and_back t c.args.char_idx c.requires
 
 pub returns-then-char_idx-len_chars-clause-chunk : goal.returns-then-char_idx-len_chars-clause-chunk
 returns-then-char_idx-len_chars-clause-chunk c = rw (c.nothing.ensures.text, c.nothing.ensures.start) (nothing_of (slice_pieces c.args.self.now))

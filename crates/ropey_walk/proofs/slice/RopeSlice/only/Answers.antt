@@ -12,6 +12,7 @@ use Rattle.ropey_walk.proofs.ChunkParts.{text_of_piece, light_utf8, only_cut, on
 use Rattle.ropey_walk.proofs.OneByte.{known-bytes}
 use Rattle.ropey_walk.proofs.Reaching.{sum-fits}
 use Rattle.ropey_walk.proofs.Slices.{part_of}
+use Rattle.ropey_walk.proofs.BreakLaws.{breaks_of_parts}
 use Rattle.ropey_walk.proofs.slice.RopeSlice.only.Goals as goal
 
 pub overflow_add-self : goal.overflow_add-self
@@ -20,7 +21,7 @@ overflow_add-self c =
     let t = chars c.args.text.now in
     let same = ap source_pieces c.requires.under in
     let part = part_of s (piece_of t) same in
-    omega (arith, sum-fits c.breaks_of_parts.ensures Bytes (text_of (piece_of t)) s.start s.len part (omega (arith, s.fits, ap (λ ps. byte_len (text_of ps)) same)))
+    omega (arith, sum-fits breaks_of_parts Bytes (text_of (piece_of t)) s.start s.len part (omega (arith, s.fits, ap (λ ps. byte_len (text_of ps)) same)))
 
 pub range-requires-clause-start_boundary : goal.range-requires-clause-start_boundary
 range-requires-clause-start_boundary c =

@@ -8,24 +8,25 @@ use Rattle.ropey_walk.specs.Sources.{source_pieces}
 use Rattle.ropey_walk.specs.Slices.{slice_pieces}
 use Rattle.ropey_walk.proofs.Clipping.{clip-nothing}
 use Rattle.ropey_walk.proofs.Slices.{in_part, parts_fit, deeper_pieces}
+use Rattle.ropey_walk.proofs.BreakLaws.{breaks_of_parts}
 use Rattle.ropey_walk.proofs.slice.RopeSlice.part.Goals as goal
 
 pub plus-requires-clause-bytes : goal.plus-requires-clause-bytes
-plus-requires-clause-bytes c = parts_fit c.breaks_of_parts.ensures Bytes c.args.self.now c.args.start c.args.len c.requires.within c.requires.starts c.requires.counted
+plus-requires-clause-bytes c = parts_fit breaks_of_parts Bytes c.args.self.now c.args.start c.args.len c.requires.within c.requires.starts c.requires.counted
 
 pub plus-requires-clause-chars : goal.plus-requires-clause-chars
-plus-requires-clause-chars c = parts_fit c.breaks_of_parts.ensures Chars c.args.self.now c.args.start c.args.len c.requires.within c.requires.starts c.requires.counted
+plus-requires-clause-chars c = parts_fit breaks_of_parts Chars c.args.self.now c.args.start c.args.len c.requires.within c.requires.starts c.requires.counted
 
 pub plus-requires-clause-units : goal.plus-requires-clause-units
-plus-requires-clause-units c = parts_fit c.breaks_of_parts.ensures Units c.args.self.now c.args.start c.args.len c.requires.within c.requires.starts c.requires.counted
+plus-requires-clause-units c = parts_fit breaks_of_parts Units c.args.self.now c.args.start c.args.len c.requires.within c.requires.starts c.requires.counted
 
 pub plus-requires-clause-breaks : goal.plus-requires-clause-breaks
-plus-requires-clause-breaks c = parts_fit c.breaks_of_parts.ensures Breaks c.args.self.now c.args.start c.args.len c.requires.within c.requires.starts c.requires.counted
+plus-requires-clause-breaks c = parts_fit breaks_of_parts Breaks c.args.self.now c.args.start c.args.len c.requires.within c.requires.starts c.requires.counted
 
 pub invariant_of-result : goal.invariant_of-result
 invariant_of-result c =
     let s = c.args.self.now in
-    let deeper = in_part c.breaks_of_parts.ensures s c.args.start c.args.len c.requires.within c.requires.starts c.requires.counted (omega (arith, c.if-len-eq0.false)) in
+    let deeper = in_part breaks_of_parts s c.args.start c.args.len c.requires.within c.requires.starts c.requires.counted (omega (arith, c.if-len-eq0.false)) in
     let t = text_of (source_pieces s.source) in
     let e = c.plus.ensures in
     record {

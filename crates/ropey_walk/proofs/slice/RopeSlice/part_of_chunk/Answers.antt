@@ -9,6 +9,7 @@ use Rattle.ropey_walk.specs.Slices.{slice_pieces, slice_text}
 use Rattle.ropey_walk.proofs.ChunkParts.{chunk_fits, in_piece, piece_parts, piece_text, piece_short}
 use Rattle.ropey_walk.proofs.Cuts.{text_fits}
 use Rattle.ropey_walk.proofs.Reaching.{IsPart, sum-fits}
+use Rattle.ropey_walk.proofs.BreakLaws.{breaks_of_parts}
 use Rattle.ropey_walk.proofs.slice.RopeSlice.part_of_chunk.Goals as goal
 use Rattle.ropey_walk.proofs.slice.RopeSlice.part_of_chunk.Goals.{After-saturating_sub}
 
@@ -16,7 +17,7 @@ pub overflow_add-end : goal.overflow_add-end
 overflow_add-end c =
     let pieces = slice_pieces c.args.self.now in
     let part : IsPart (slice_text c.args.self.now) c.args.start c.args.len = record { within = c.requires.within; starts = c.requires.starts; counted = c.requires.counted } in
-    omega (arith, sum-fits c.breaks_of_parts.ensures Bytes (text_of pieces) c.args.start c.args.len part (text_fits pieces c.len_bytes.ensures.cut))
+    omega (arith, sum-fits breaks_of_parts Bytes (text_of pieces) c.args.start c.args.len part (text_fits pieces c.len_bytes.ensures.cut))
 
 pub overflow_add-chunk : goal.overflow_add-chunk
 overflow_add-chunk c =
@@ -37,10 +38,10 @@ invariant_of-result c =
     let chunk = c.args.chunk.now in
     let text = c.len_bytes.ensures.cut in
     let part : IsPart (slice_text c.args.self.now) c.args.start c.args.len = record { within = c.requires.within; starts = c.requires.starts; counted = c.requires.counted } in
-    let inner = in_piece c.breaks_of_parts.ensures pieces text (chars chunk.text.now) chunk.start c.requires.chunk c.args.start c.args.len part c.requires.some c.if-start-chunk.false (high at) in
+    let inner = in_piece breaks_of_parts pieces text (chars chunk.text.now) chunk.start c.requires.chunk c.args.start c.args.len part c.requires.some c.if-start-chunk.false (high at) in
     let here = subst (λ (n : _). IsPart (text_of (piece_of (chars chunk.text.now))) n c.args.len) (sym c.saturating_sub.ensures) inner in
-    let alone = piece_text c.breaks_of_parts.ensures pieces text (chars chunk.text.now) chunk.start c.requires.chunk c.args.start c.args.len part c.requires.some c.if-start-chunk.false (high at) in
-    let short = piece_short c.breaks_of_parts.ensures pieces text (chars chunk.text.now) chunk.start c.requires.chunk c.args.start c.args.len part c.requires.some c.if-start-chunk.false (high at) in
+    let alone = piece_text breaks_of_parts pieces text (chars chunk.text.now) chunk.start c.requires.chunk c.args.start c.args.len part c.requires.some c.if-start-chunk.false (high at) in
+    let short = piece_short breaks_of_parts pieces text (chars chunk.text.now) chunk.start c.requires.chunk c.args.start c.args.len part c.requires.some c.if-start-chunk.false (high at) in
     record {
       within = here.within;
       starts = here.starts;
@@ -57,4 +58,4 @@ returns c =
     let chunk = c.args.chunk.now in
     let part : IsPart (slice_text c.args.self.now) c.args.start c.args.len = record { within = c.requires.within; starts = c.requires.starts; counted = c.requires.counted } in
     ap (λ n. clip n.chars (n.chars + c.args.len.chars) (piece_of (chars chunk.text.now))) c.saturating_sub.ensures
-    ∙ piece_parts c.breaks_of_parts.ensures pieces c.len_bytes.ensures.cut (chars chunk.text.now) chunk.start c.requires.chunk c.args.start c.args.len part c.requires.some c.if-start-chunk.false (high at)
+    ∙ piece_parts breaks_of_parts pieces c.len_bytes.ensures.cut (chars chunk.text.now) chunk.start c.requires.chunk c.args.start c.args.len part c.requires.some c.if-start-chunk.false (high at)

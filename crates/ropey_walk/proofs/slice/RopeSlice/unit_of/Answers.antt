@@ -1,5 +1,6 @@
 use Rattle.std.proofs.Common.{arith}
 use Rattle.std.specs.Str.{chars}
+use Rattle.str_indices.proofs.TextLaws.{counts_are_at_most_bytes-units, ends_of_a_part-units, from_byte_idx_is_monotone-units}
 use Rattle.ropey_walk.specs.Slices.{slice_text}
 use Rattle.ropey_walk.proofs.Placing.{tells_units}
 use Rattle.ropey_walk.proofs.slice.RopeSlice.unit_of.Goals as goal
@@ -7,13 +8,13 @@ use Rattle.ropey_walk.proofs.slice.RopeSlice.unit_of.Goals as goal
 pub overflow_add-result : goal.overflow_add-result
 overflow_add-result c =
     let place = c.args.place.now in
-    let told = tells_units c.ends_of_a_part.ensures.units c.from_byte_idx_is_monotone.ensures.units c.counts_are_at_most_bytes.ensures.units (slice_text c.args.self.now) (chars place.text.now) place.start place.at c.requires in
+    let told = tells_units ends_of_a_part-units from_byte_idx_is_monotone-units counts_are_at_most_bytes-units (slice_text c.args.self.now) (chars place.text.now) place.start place.at c.requires in
     omega (arith, told.fits, c.unit_of_byte.ensures)
 
 pub returns : goal.returns
 returns c =
     let place = c.args.place.now in
-    let told = tells_units c.ends_of_a_part.ensures.units c.from_byte_idx_is_monotone.ensures.units c.counts_are_at_most_bytes.ensures.units (slice_text c.args.self.now) (chars place.text.now) place.start place.at c.requires in
+    let told = tells_units ends_of_a_part-units from_byte_idx_is_monotone-units counts_are_at_most_bytes-units (slice_text c.args.self.now) (chars place.text.now) place.start place.at c.requires in
     rw c.unit_of_byte.ensures told.is
 
 pub unit_of_byte-requires-clause-one_byte : goal.unit_of_byte-requires-clause-one_byte

@@ -7,11 +7,12 @@ use Rattle.ropey_walk.specs.Clips.{clip}
 use Rattle.ropey_walk.specs.Parts.{pieces_under}
 use Rattle.ropey_walk.proofs.Cuts.{text_fits}
 use Rattle.ropey_walk.proofs.Reaching.{IsPart, whole_part, whole_clip}
+use Rattle.ropey_walk.proofs.BreakLaws.{breaks_of_parts}
 use Rattle.ropey_walk.proofs.slice.RopeSlice.with_counts.Goals as goal
 
 pub invariant_of-result : goal.invariant_of-result
 invariant_of-result c =
-    let whole = whole_part c.breaks_of_parts.ensures (pieces_under c.args.node) c.zero.result c.args.len c.zero.ensures c.requires.counts in
+    let whole = whole_part breaks_of_parts (pieces_under c.args.node) c.zero.result c.args.len c.zero.ensures c.requires.counts in
     let same = sym c.new.ensures.pieces in
     let part = subst (λ (ps : List (List ℕ)). IsPart (text_of ps) c.zero.result c.args.len) same whole in
     record { within = part.within; starts = part.starts; counted = part.counted; fits = subst (λ (ps : List (List ℕ)). byte_len (text_of ps) < 2 ^ 63) same (text_fits (pieces_under c.args.node) c.requires.cut); utf8 = ap is_utf8 c.new.ensures.bytes ∙ is_utf8-from_IsUtf8 [] IsUtf8-nil; short = omega (arith, ap length c.new.ensures.bytes) }

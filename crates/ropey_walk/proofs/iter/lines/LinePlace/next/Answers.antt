@@ -6,11 +6,12 @@ use Rattle.ropey_tree.specs.declared.counts.By.TheVariants.{Bytes, Chars, Units}
 use Rattle.ropey_walk.specs.Chunks.{is_break}
 use Rattle.ropey_walk.specs.Slices.{slice_text}
 use Rattle.ropey_walk.proofs.LineWalks.{lines_fit, one_byte_on, sums_fit, line_passed}
+use Rattle.ropey_walk.proofs.BreakLaws.{line_starts}
 use Rattle.ropey_walk.proofs.iter.lines.LinePlace.next.Goals as goal
 use Rattle.ropey_walk.proofs.iter.lines.LinePlace.next.Goals.{After-range}
 
 pub overflow_add-line_idx : goal.overflow_add-line_idx
-overflow_add-line_idx c = omega (arith, c.requires.some, lines_fit c.line_starts.ensures (slice_text c.args.slice.now) c.args.self c.requires.here)
+overflow_add-line_idx c = omega (arith, c.requires.some, lines_fit line_starts (slice_text c.args.slice.now) c.args.self c.requires.here)
 
 first : (c : After-range) → IsFirstBreak is_break (drop c.args.self.place.at c.args.self.place.text.now) c.in-Some.found.start c.in-Some.found.end
 first c = subst (λ (bs : List ℕ). IsFirstBreak is_break bs c.in-Some.found.start c.in-Some.found.end) c.range_from-rest.ensures.value c.in-Some.ensures.first
@@ -31,7 +32,7 @@ overflow_add-result-in-Some c =
     let at = (goal.at.overflow_add-result-in-Some c).After-range in
     omega (
       arith,
-      sums_fit c.line_starts.ensures (slice_text c.args.slice.now) c.args.self c.requires.here c.in-Some.found.start c.in-Some.found.end (first at) c.requires.some
+      sums_fit line_starts (slice_text c.args.slice.now) c.args.self c.requires.here c.in-Some.found.start c.in-Some.found.end (first at) c.requires.some
           (length (chars c.range.result.now)) (units (chars c.range.result.now)) (chars_are at _ refl) (units_are at _ refl) Bytes,
     )
 
@@ -40,7 +41,7 @@ chars_and_units-chars-requires c =
     let at = (goal.at.chars_and_units-chars-requires c).After-range in
     λ is.
     ap (λ bs. length (chars bs)) (line_is at)
-    ∙ one_byte_on c.line_starts.ensures (slice_text c.args.slice.now) c.args.self c.requires.here c.in-Some.found.start c.in-Some.found.end (first at) is ∙ ap length (sym (line_is at))
+    ∙ one_byte_on line_starts (slice_text c.args.slice.now) c.args.self c.requires.here c.in-Some.found.start c.in-Some.found.end (first at) is ∙ ap length (sym (line_is at))
 
 pub overflow_add-result-in-Some-2 : goal.overflow_add-result-in-Some-2
 overflow_add-result-in-Some-2 c =
@@ -48,7 +49,7 @@ overflow_add-result-in-Some-2 c =
     let told = c.chars_and_units-chars in
     omega (
       arith,
-      sums_fit c.line_starts.ensures (slice_text c.args.slice.now) c.args.self c.requires.here c.in-Some.found.start c.in-Some.found.end (first at) c.requires.some
+      sums_fit line_starts (slice_text c.args.slice.now) c.args.self c.requires.here c.in-Some.found.start c.in-Some.found.end (first at) c.requires.some
           told.result.0 told.result.1 (chars_are at told.result.0 told.ensures.chars) (units_are at told.result.1 told.ensures.units) Chars,
     )
 
@@ -58,7 +59,7 @@ overflow_add-result-in-Some-3 c =
     let told = c.chars_and_units-chars in
     omega (
       arith,
-      sums_fit c.line_starts.ensures (slice_text c.args.slice.now) c.args.self c.requires.here c.in-Some.found.start c.in-Some.found.end (first at) c.requires.some
+      sums_fit line_starts (slice_text c.args.slice.now) c.args.self c.requires.here c.in-Some.found.start c.in-Some.found.end (first at) c.requires.some
           told.result.0 told.result.1 (chars_are at told.result.0 told.ensures.chars) (units_are at told.result.1 told.ensures.units) Units,
     )
 
@@ -66,5 +67,5 @@ pub returns-in-Some-clause-place : goal.returns-in-Some-clause-place
 returns-in-Some-clause-place c =
     let at = (goal.at.returns-in-Some-clause-place c).After-range in
     let told = c.chars_and_units-chars in
-    line_passed c.line_starts.ensures (slice_text c.args.slice.now) c.args.self c.requires.here c.in-Some.found.start c.in-Some.found.end (first at) c.requires.some
+    line_passed line_starts (slice_text c.args.slice.now) c.args.self c.requires.here c.in-Some.found.start c.in-Some.found.end (first at) c.requires.some
     told.result.0 told.result.1 (chars_are at told.result.0 told.ensures.chars) (units_are at told.result.1 told.ensures.units) _
