@@ -13,6 +13,7 @@ use Rattle.rx_grammar.specs.declared.error.SyntaxError.{SyntaxError}
 use Rattle.rx_grammar.specs.declared.error.SyntaxError.TheVariants as errors
 use Rattle.rx_grammar.specs.Trees.{Tree}
 use Rattle.rx_grammar.specs.Subtrees.{IsWellFormed}
+use Rattle.rx_grammar.specs.StaticGroups.{static_captures_of_all}
 use Rattle.rx_grammar.specs.Settings.{Settings}
 use Rattle.rx_grammar.specs.Grammar.{Spells, IsTooDeep, NeverSpells}
 use Rattle.rx_walks.specs.Looks as walks
@@ -111,17 +112,27 @@ pub record Beside : Type 0 where
   pub groups : Groups
   pub which_captures : WhichCaptures
   pub captures_len : ℕ
+  pub static_captures_len : Option ℕ
   pub utf8_empty : Bool
 
 abbrev pub engine_of : ByteProgram → Beside → Engine
 engine_of p b =
-    record { program = p; match_kind = b.match_kind; groups = b.groups; which_captures = b.which_captures; captures_len = b.captures_len; utf8_empty = b.utf8_empty }
+    record {
+      program = p;
+      match_kind = b.match_kind;
+      groups = b.groups;
+      which_captures = b.which_captures;
+      captures_len = b.captures_len;
+      static_captures_len = b.static_captures_len;
+      utf8_empty = b.utf8_empty;
+    }
 
 -- its groups are those of trees
 pub record AreOfTrees (trees : List Tree) (b : Beside) : Type 0 where
   pub well_formed : All IsWellFormed trees
   pub groups : AreNotedOf b.which_captures trees b.groups
   pub captures_len : b.captures_len ≡ captures_len_of trees
+  pub static_captures_len : b.static_captures_len ≡ static_captures_of_all trees
 
 -- and it is as it was set
 pub record IsAsSet (settings : EngineSettings) (b : Beside) : Type 0 where
@@ -131,7 +142,13 @@ pub record IsAsSet (settings : EngineSettings) (b : Beside) : Type 0 where
 
 pub of_trees : (p : ByteProgram) (b : Beside) (trees : List Tree) (terminator : ℕ) → AreOfTrees trees b → characters_of p ≡ program_of trees terminator → IsOfTrees (engine_of p b) trees
 of_trees p b trees terminator are is =
-    record { well_formed = are.well_formed; program = is ∙ ap (λ t. program_of trees t) (sym (terminator_of p trees terminator is)); groups = are.groups; captures_len = are.captures_len }
+    record {
+      well_formed = are.well_formed;
+      program = is ∙ ap (λ t. program_of trees t) (sym (terminator_of p trees terminator is));
+      groups = are.groups;
+      captures_len = are.captures_len;
+      static_captures_len = are.static_captures_len;
+    }
 
 pub built : (settings : EngineSettings) (p : ByteProgram) (b : Beside) (trees : List Tree) (terminator : ℕ) → AreOfTrees trees b → IsAsSet settings b
     → (IsTooLarge (size_limit_of settings) (weight_of_all trees) → ⊥) → characters_of p ≡ program_of trees terminator

@@ -1,3 +1,4 @@
 mod BuildLaws
 pub mod GroupLaws
 pub mod CountLaws
+pub mod StaticLaws

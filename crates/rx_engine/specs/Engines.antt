@@ -11,6 +11,7 @@ use Rattle.rx_grammar.specs.declared.error.SyntaxError.{SyntaxError}
 use Rattle.rx_grammar.specs.declared.error.SyntaxError.TheVariants as errors
 use Rattle.rx_grammar.specs.Trees.{Tree, numbers_of}
 use Rattle.rx_grammar.specs.Subtrees.{HasName, IsWellFormed}
+use Rattle.rx_grammar.specs.StaticGroups.{static_captures_of_all}
 use Rattle.rx_grammar.specs.Settings.{Settings, default_settings}
 use Rattle.rx_grammar.specs.Grammar.{Spells, IsTooDeep, NeverSpells}
 use Rattle.rx_program.specs.declared.error.BuildError.{BuildError}
@@ -20,14 +21,15 @@ use Rattle.rx_program.specs.Programs.{ByteProgram, characters_of}
 use Rattle.rx_program.specs.Sizes.{IsTooLarge, told_limit, weight_of_all}
 
 -- a program, which match is found, the groups of its patterns that are noted, which ones these are,
--- how many there are with those that aren't, and whether it passes over empty matches inside a
--- character
+-- how many there are with those that aren't, how many of them stand in each match where that is one
+-- number, and whether it passes over empty matches inside a character
 pub record Engine : Type 0 where
   pub program : ByteProgram
   pub match_kind : MatchKind
   pub groups : Groups
   pub which_captures : WhichCaptures
   pub captures_len : ℕ
+  pub static_captures_len : Option ℕ
   pub utf8_empty : Bool
 
 -- settings that were set; the others are the defaults
@@ -99,6 +101,7 @@ pub record IsOfTrees (e : Engine) (trees : List Tree) : Type 0 where
   pub program : characters_of e.program ≡ program_of trees e.program.line_terminator
   pub groups : AreNotedOf e.which_captures trees e.groups
   pub captures_len : e.captures_len ≡ captures_len_of trees
+  pub static_captures_len : e.static_captures_len ≡ static_captures_of_all trees
 
 abbrev pub IsEngine : Engine → Type 0
 IsEngine e = (trees : List Tree) × IsOfTrees e trees

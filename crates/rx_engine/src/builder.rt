@@ -10,7 +10,7 @@ ghost use Rattle.rx_engine.specs.Engines.{AreRefused, EngineSettings, IsBuiltOf,
 
 use crate::compiled::Compiled;
 use crate::config::Config;
-use crate::groups::{count_groups, groups_of};
+use crate::groups::{count_groups, groups_of, static_captures_len};
 use rx_grammar::{Hir, SyntaxError, parse, syntax};
 use rx_program::{BuildError, Program, compile};
 use rx_util::{MatchError, PatternID};
@@ -141,6 +141,7 @@ impl Builder {
             groups,
             which_captures,
             captures_len,
+            static_captures_len: static_captures_len(hirs),
             utf8_empty: self.config.get_utf8_empty(),
         })
     }

@@ -14,8 +14,8 @@ use std::marker::Model;
 use std::rc::Rc;
 
 /// Patterns as engines hold them. Contracts see their program, which match is found, those of their
-/// groups that are noted, which ones these are, how many groups there are with the others, and
-/// whether empty matches inside a character are passed over.
+/// groups that are noted, which ones these are, how many groups there are with the others, how many
+/// stand in each match, and whether empty matches inside a character are passed over.
 #[derive(Debug, Drop)]
 pub struct Compiled {
     pub(crate) program: Rc<Program>,
@@ -23,6 +23,7 @@ pub struct Compiled {
     pub(crate) groups: GroupInfo,
     pub(crate) which_captures: WhichCaptures,
     pub(crate) captures_len: usize,
+    pub(crate) static_captures_len: Option<usize>,
     pub(crate) utf8_empty: bool,
 }
 
@@ -37,6 +38,7 @@ impl Model for Compiled {
       groups = c.groups;
       which_captures = c.which_captures;
       captures_len = c.captures_len;
+      static_captures_len = c.static_captures_len;
       utf8_empty = c.utf8_empty;
     } };
 
@@ -46,6 +48,7 @@ impl Model for Compiled {
       groups = c.groups;
       which_captures = c.which_captures;
       captures_len = c.captures_len;
+      static_captures_len = c.static_captures_len;
       utf8_empty = c.utf8_empty;
     }) };
 }
@@ -82,6 +85,7 @@ impl Compiled {
             groups: self.groups.clone()?,
             which_captures: self.which_captures,
             captures_len: self.captures_len,
+            static_captures_len: self.static_captures_len,
             utf8_empty: self.utf8_empty,
         })
     }
@@ -117,6 +121,15 @@ impl Compiled {
         ensures engine { IsEngine self.now }
     {
         self.captures_len
+    }
+
+    /// Returns how many groups stand in each match, the whole match among them and whether they are
+    /// noted or not, and `None` where matches differ in that, or where there is no pattern. `O(1)`.
+    pub fn static_captures_len(&self) -> Option<usize>
+        ensures len { result ≡ self.now.static_captures_len }
+        ensures engine { IsEngine self.now }
+    {
+        self.static_captures_len
     }
 
     /// Returns whether empty matches inside a character are passed over.

@@ -5,6 +5,7 @@ ghost use Rattle.rx_util.specs.Groups.{named_groups, names_of};
 ghost use Rattle.rx_grammar.specs.Subtrees.{IsWellFormed, a_group};
 ghost use Rattle.rx_grammar.specs.Nodes.{kind_of};
 ghost use Rattle.rx_grammar.specs.Postorder.{own_names, tree_of};
+ghost use Rattle.rx_grammar.specs.StaticGroups.{static_captures_of_all};
 ghost use Rattle.rx_engine.specs.Engines.{AreGroupsOf, AreNamesOf, AreNotedOf, captures_len_of};
 
 use rx_grammar::{Hir, Node};
@@ -94,6 +95,20 @@ pub(crate) fn count_groups(hirs: &[&Hir]) -> Option<usize>
     let mut len: usize = 0;
     for hir in hirs {
         len = len.checked_add(hir.group_count())?.checked_add(1)?;
+    }
+    Some(len)
+}
+
+/// How many groups stand in each match of patterns, the whole match among them, and `None` where
+/// matches differ in that, or where there is no pattern.
+pub(crate) fn static_captures_len(hirs: &[&Hir]) -> Option<usize>
+    ensures { result ≡ static_captures_of_all (map (λ hir. tree_of hir.now) hirs.now) }
+{
+    let len = hirs.first()?.static_captures_len()?;
+    for hir in hirs {
+        if hir.static_captures_len() != Some(len) {
+            return None;
+        }
     }
     Some(len)
 }

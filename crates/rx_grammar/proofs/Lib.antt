@@ -19,6 +19,7 @@ pub mod StackLaws
 pub mod PlaceLaws
 pub mod SubtreeLaws
 pub mod RowLaws
+pub mod StaticGroupLaws
 pub mod WellFormedLaws
 pub mod FewLaws
 pub mod InputDecisions

@@ -9,9 +9,10 @@ use Rattle.rx_grammar.specs.declared.properties.RowProperties.{RowProperties}
 use Rattle.rx_grammar.specs.Trees.{Tree, Name, empty, one_of, look_at, group, concat, alternation, repeated, in_a_row, concat_of}
 use Rattle.rx_grammar.specs.Subtrees.{NodeKind, an_empty, a_set, a_look, a_group, a_concat, an_alternation, a_repetition, width_of, subtrees_of, all_subtrees_of}
 use Rattle.rx_grammar.specs.Weights.{may_be_empty, all_may_be_empty, any_may_be_empty, weight_of, all_weights_of, size_of, all_sizes_of, pattern_weight, held}
+use Rattle.rx_grammar.specs.StaticGroups.{static_groups}
 use Rattle.rx_grammar.specs.Postorder.{alternate, after_node, first_of}
 use Rattle.rx_grammar.specs.Nodes.{properties_of}
-use Rattle.rx_grammar.specs.Rows.{row_subtrees, MayFollow, weights_in, sizes_in, all_empty_in, any_empty_in, IsRowOf}
+use Rattle.rx_grammar.specs.Rows.{row_subtrees, MayFollow, weights_in, sizes_in, all_empty_in, any_empty_in, groups_in, common_in, IsRowOf}
 use Rattle.rx_grammar.proofs.SubtreeLaws.{row_subtrees-cons, row_subtrees-split, length-last, subtrees_of-concat, subtrees_of-alternation}
 
 pub held-sum : (a b : ℕ) → min (held a + held b) (2 ^ 64 - 1) ≡ held (a + b)
@@ -71,8 +72,9 @@ pub IsRowOf-more : {row row' : RowProperties} {part : Properties} {trees : List 
     → row'.extent ≡ row.extent + part.extent → row'.weight ≡ min (row.weight + part.weight) (2 ^ 64 - 1)
     → row'.size ≡ min (row.size + part.size) (2 ^ 64 - 1)
     → row'.all_may_be_empty ≡ (row.all_may_be_empty && part.may_be_empty) → row'.any_may_be_empty ≡ (row.any_may_be_empty || part.may_be_empty)
+    → row'.groups ≡ groups_in (trees ++ tree ∷ []) → row'.common_groups ≡ common_in (trees ++ tree ∷ [])
     → IsRowOf row' (trees ++ tree ∷ [])
-IsRowOf-more {row = row} {row' = row'} {part = part} {trees = trees} tree is known extent weight size all any = record {
+IsRowOf-more {row = row} {row' = row'} {part = part} {trees = trees} tree is known extent weight size all any groups common = record {
   extent =
       let turned : row_subtrees (trees ++ tree ∷ []) ≡ subtrees_of tree ++ row_subtrees trees = ap (flat_map subtrees_of) (reverse-append trees (tree ∷ [])) in
       let sum = ap length turned ∙ length-append (subtrees_of tree) (row_subtrees trees) in
@@ -84,6 +86,8 @@ IsRowOf-more {row = row} {row' = row'} {part = part} {trees = trees} tree is kno
       ∙ ap held (omega (arith, sizes_in-append trees (tree ∷ [])));
   all = all ∙ ap₂ (λ a b. a && b) is.all (ap (λ (p : Properties). p.may_be_empty) known ∙ sym (and_true (may_be_empty tree))) ∙ sym (all_empty_in-append trees (tree ∷ []));
   any = any ∙ ap₂ (λ a b. a || b) is.any (ap (λ (p : Properties). p.may_be_empty) known ∙ sym (or_false (may_be_empty tree))) ∙ sym (any_empty_in-append trees (tree ∷ []));
+  groups = groups;
+  common = common;
 }
 
 -- what trees in a row become
@@ -133,7 +137,7 @@ may_be_empty-alternation [] some = absurd (omega arith)
 may_be_empty-alternation (branch ∷ []) some = absurd (omega arith)
 may_be_empty-alternation (first ∷ second ∷ others) some = any_empty first second others
 
-some_last : (count : ℕ) (trees : List Tree) → count ≤ length trees → 2 ≤ count → 2 ≤ length (reverse (take count trees))
+pub some_last : (count : ℕ) (trees : List Tree) → count ≤ length trees → 2 ≤ count → 2 ≤ length (reverse (take count trees))
 some_last count trees fits two = omega (arith, length-last count trees fits)
 
 pub concat-weight : {row : RowProperties} (trees : List Tree) (count : ℕ) → MayFollow trees (a_concat count) → IsRowOf row (take count trees)
@@ -284,13 +288,15 @@ pub IsRowOf-next : {row row' : RowProperties} {part : Properties} (trees : List 
     → ((list : List Tree) (tree : Tree) → IsRowOf row list → part ≡ properties_of tree → IsRowOf row' (list ++ tree ∷ [])) → IsRowOf row' (take (k + 1) trees)
 IsRowOf-next {row' = row'} trees k below is known more = subst (IsRowOf row') (sym (take_more trees k empty below)) (more (take k trees) (get_or trees k empty) is known)
 
-abbrev known : ℕ → ℕ → ℕ → Bool → Properties
-known extent weight size may_be_empty = record { extent = extent; weight = weight; size = size; may_be_empty = may_be_empty }
+abbrev known : ℕ → ℕ → ℕ → Bool → Option ℕ → Properties
+known extent weight size may_be_empty groups =
+    record { extent = extent; weight = weight; size = size; may_be_empty = may_be_empty; static_groups = groups }
 
-pub known_by : (tree : Tree) (extent weight size : ℕ) (may : Bool) → extent ≡ length (subtrees_of tree) → weight ≡ held (weight_of tree) → size ≡ held (size_of tree) → may ≡ may_be_empty tree
-    → known extent weight size may ≡ properties_of tree
-known_by tree extent weight size may a b c d =
-    ap₂ (λ x y. known x y size may) a b ∙ ap₂ (λ x y. known (length (subtrees_of tree)) (held (weight_of tree)) x y) c d
+pub known_by : (tree : Tree) (extent weight size : ℕ) (may : Bool) (groups : Option ℕ) → extent ≡ length (subtrees_of tree) → weight ≡ held (weight_of tree) → size ≡ held (size_of tree) → may ≡ may_be_empty tree
+    → groups ≡ static_groups tree → known extent weight size may groups ≡ properties_of tree
+known_by tree extent weight size may groups a b c d e =
+    ap₂ (λ x y. known x y size may groups) a b ∙ ap₂ (λ x y. known (length (subtrees_of tree)) (held (weight_of tree)) x y groups) c d
+    ∙ ap (λ x. known (length (subtrees_of tree)) (held (weight_of tree)) (held (size_of tree)) (may_be_empty tree) x) e
 
 pub part_known : (trees : List Tree) (k : ℕ) (items : List Properties) (len extent : ℕ) (part : Properties) → k < length trees → items ≡ map properties_of (row_subtrees trees) → len ≡ length items
     → extent ≡ length (row_subtrees (take k trees)) → part ≡ get_or items (len - extent - 1) part → part ≡ properties_of (get_or trees k empty)

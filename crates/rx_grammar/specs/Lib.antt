@@ -21,5 +21,6 @@ pub mod Heads
 pub mod Atoms
 pub mod Rows
 pub mod Stacks
+pub mod StaticGroups
 pub mod Resuming
 pub mod Places

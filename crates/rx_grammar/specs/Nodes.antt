@@ -7,6 +7,7 @@ use Rattle.rx_grammar.specs.declared.properties.Properties.{Properties}
 use Rattle.rx_grammar.specs.Trees.{Tree}
 use Rattle.rx_grammar.specs.Subtrees.{NodeKind, an_empty, a_set, a_look, a_group, a_concat, an_alternation, a_repetition, subtrees_of}
 use Rattle.rx_grammar.specs.Weights.{may_be_empty, weight_of, size_of, held}
+use Rattle.rx_grammar.specs.StaticGroups.{static_groups}
 
 abbrev pub kind_of : Node → NodeKind
 kind_of node.Empty = an_empty
@@ -20,4 +21,10 @@ kind_of (node.Repeat repetition) = a_repetition repetition
 
 -- what is known of a part of a tree
 abbrev pub properties_of : Tree → Properties
-properties_of tree = record { extent = length (subtrees_of tree); weight = held (weight_of tree); size = held (size_of tree); may_be_empty = may_be_empty tree }
+properties_of tree = record {
+  extent = length (subtrees_of tree);
+  weight = held (weight_of tree);
+  size = held (size_of tree);
+  may_be_empty = may_be_empty tree;
+  static_groups = static_groups tree;
+}

@@ -1,10 +1,11 @@
 -- Trees in a row, of which the last ones may become parts of another one, and what is known of them.
-use Rattle.std.specs.Prelude.{◌≡◌, ℕ, ◌+◌, ◌≤◌, Bool, true, false, ◌&&◌, ◌||◌, List, [], ◌∷◌, length, map, reverse, flat_map}
+use Rattle.std.specs.Prelude.{◌≡◌, ℕ, ◌+◌, ◌≤◌, Bool, true, false, ◌&&◌, ◌||◌, List, [], ◌∷◌, length, map, reverse, flat_map, Option, Some, None}
 use Rattle.rx_grammar.specs.declared.properties.Properties.{Properties}
 use Rattle.rx_grammar.specs.declared.properties.RowProperties.{RowProperties}
 use Rattle.rx_grammar.specs.Trees.{Tree}
 use Rattle.rx_grammar.specs.Subtrees.{NodeKind, a_group, a_concat, an_alternation, width_of, root_of, subtrees_of, nodes_of, IsWellFormed}
 use Rattle.rx_grammar.specs.Weights.{may_be_empty, weight_of, size_of, held}
+use Rattle.rx_grammar.specs.StaticGroups.{static_groups, both_groups, common_groups}
 use Rattle.rx_grammar.specs.Postorder.{trees_of}
 use Rattle.rx_grammar.specs.Nodes.{properties_of}
 
@@ -44,6 +45,19 @@ abbrev pub any_empty_in : List Tree → Bool
 any_empty_in [] = false
 any_empty_in (tree ∷ trees) = may_be_empty tree || any_empty_in trees
 
+abbrev pub groups_in : List Tree → Option ℕ
+groups_in [] = Some 0
+groups_in (tree ∷ trees) = both_groups (static_groups tree) (groups_in trees)
+
+abbrev pub common_with : Option ℕ → Option (Option ℕ) → Option ℕ
+common_with groups None = groups
+common_with groups (Some others) = common_groups groups others
+
+-- the number that all of them are, where there is a tree
+abbrev pub common_in : List Tree → Option (Option ℕ)
+common_in [] = None
+common_in (tree ∷ trees) = Some (common_with (static_groups tree) (common_in trees))
+
 -- this is known of the trees
 pub record IsRowOf (row : RowProperties) (trees : List Tree) : Type 0 where
   pub extent : row.extent ≡ length (row_subtrees trees)
@@ -51,6 +65,8 @@ pub record IsRowOf (row : RowProperties) (trees : List Tree) : Type 0 where
   pub size : row.size ≡ held (sizes_in trees)
   pub all : row.all_may_be_empty ≡ all_empty_in trees
   pub any : row.any_may_be_empty ≡ any_empty_in trees
+  pub groups : row.groups ≡ groups_in trees
+  pub common : row.common_groups ≡ common_in trees
 
 -- the nodes are exactly those of the trees that they make, this is what is known of each, and this is the number
 -- of trees

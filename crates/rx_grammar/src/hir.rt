@@ -6,6 +6,7 @@ ghost use Rattle.rx_grammar.specs.Subtrees.{a_group, nodes_of, subtrees_of, widt
 ghost use Rattle.rx_grammar.specs.Postorder.{own_names, tree_of};
 ghost use Rattle.rx_grammar.specs.Rows.{own_groups, AreNodesOf};
 ghost use Rattle.rx_grammar.specs.Weights.{pattern_weight, held};
+ghost use Rattle.rx_grammar.specs.StaticGroups.{static_captures_of};
 ghost use Rattle.rx_grammar.specs.Nodes.{kind_of, properties_of};
 
 use crate::properties::Properties;
@@ -194,6 +195,16 @@ impl Hir {
             count += node.own_groups();
         }
         count
+    }
+
+    /// How many groups stand in each match, the whole match among them, and `None` where matches
+    /// differ in that. A repetition that may take nothing differs, unless there is no group in it.
+    /// `O(1)`.
+    pub fn static_captures_len(&self) -> Option<usize>
+        ensures { result ≡ static_captures_of (tree_of self.now) }
+    {
+        let whole = self.properties.last()?;
+        whole.static_groups?.checked_add(1)
     }
 }
 

@@ -1,11 +1,12 @@
 //! What is known of each part of a tree.
 
-ghost use Rattle.std.specs.Prelude.{ℕ, ◌≡◌, ◌+◌, ◌<◌, ◌^◌, List, [], ◌∷◌, ◌++◌, take};
+ghost use Rattle.std.specs.Prelude.{ℕ, ◌≡◌, ◌+◌, ◌<◌, ◌^◌, List, [], ◌∷◌, ◌++◌, take, Some};
 ghost use Rattle.rx_grammar.specs.Trees.{Tree};
 ghost use Rattle.rx_grammar.specs.Subtrees.{width_of};
 ghost use Rattle.rx_grammar.specs.Weights.{may_be_empty, weight_of, size_of, repeated_weight, held};
+ghost use Rattle.rx_grammar.specs.StaticGroups.{both_groups, common_groups, repeated_groups, static_groups};
 ghost use Rattle.rx_grammar.specs.Postorder.{first_of, after_node};
-ghost use Rattle.rx_grammar.specs.Rows.{MayFollow, IsRowOf};
+ghost use Rattle.rx_grammar.specs.Rows.{MayFollow, IsRowOf, common_with};
 ghost use Rattle.rx_grammar.specs.Nodes.{kind_of, properties_of};
 
 use crate::hir::{Node, Repetition};
@@ -22,6 +23,8 @@ pub struct Properties {
     pub size: usize,
     /// Whether some path through the part's program takes no character, whatever looks stand on it.
     pub may_be_empty: bool,
+    /// How many groups stand in each match of the part, and `None` where matches differ in that.
+    pub static_groups: Option<usize>,
 }
 
 /// What is known of parts in a row.
@@ -32,6 +35,38 @@ pub(crate) struct RowProperties {
     size: usize,
     all_may_be_empty: bool,
     any_may_be_empty: bool,
+    /// How many groups stand in each match of all of them, one after the other.
+    groups: Option<usize>,
+    /// How many stand in each match of any of them. There is nothing to tell of no part.
+    common_groups: Option<Option<usize>>,
+}
+
+/// Both numbers together, where there are both.
+fn both(one: Option<usize>, other: Option<usize>) -> Option<usize>
+    ensures { ((n m : ℕ) → one ≡ Some n → other ≡ Some m → n + m < 2 ^ 64)
+        → result ≡ both_groups one other }
+{
+    one?.checked_add(other?)
+}
+
+/// The number that both are, where both are told.
+fn common(one: Option<usize>, other: Option<usize>) -> Option<usize>
+    ensures { result ≡ common_groups one other }
+{
+    match (one, other) {
+        (Some(n), Some(m)) if n == m => Some(n),
+        _ => None,
+    }
+}
+
+/// The number that these and those of others are, if there are others.
+fn common_with(groups: Option<usize>, others: Option<Option<usize>>) -> Option<usize>
+    ensures { result ≡ common_with groups others }
+{
+    match others {
+        Some(others) => common(groups, others),
+        None => groups,
+    }
 }
 
 impl RowProperties {
@@ -45,6 +80,8 @@ impl RowProperties {
             size: 0,
             all_may_be_empty: true,
             any_may_be_empty: false,
+            groups: Some(0),
+            common_groups: None,
         }
     }
 
@@ -54,12 +91,16 @@ impl RowProperties {
         ensures { (trees : List Tree) (tree : Tree) → IsRowOf self trees → part ≡ properties_of tree
             → IsRowOf result (trees ++ tree ∷ []) }
     {
+        let groups = both(self.groups, part.static_groups);
+        let common_groups = Some(common_with(part.static_groups, self.common_groups));
         RowProperties {
             extent: self.extent + part.extent,
             weight: self.weight.saturating_add(part.weight),
             size: self.size.saturating_add(part.size),
             all_may_be_empty: self.all_may_be_empty && part.may_be_empty,
             any_may_be_empty: self.any_may_be_empty || part.may_be_empty,
+            groups,
+            common_groups,
         }
     }
 }
@@ -91,6 +132,20 @@ impl Repetition {
                     weight.saturating_add(1)
                 }
             }
+        }
+    }
+
+    /// How many groups stand in each match of the repetition, where so many stand in each match of
+    /// what it stands after.
+    fn static_groups(self, groups: Option<usize>) -> Option<usize>
+        ensures { result ≡ repeated_groups self.min self.max groups }
+    {
+        if self.max == Some(0) || self.min == 0 && groups == Some(0) {
+            Some(0)
+        } else if self.min > 0 {
+            groups
+        } else {
+            None
         }
     }
 }
@@ -143,6 +198,22 @@ impl Node {
         }
     }
 
+    /// How many groups stand in each match of the node with what stands below it.
+    fn static_groups(&self, below: RowProperties) -> Option<usize>
+        requires { below.extent + 1 < 2 ^ 64 }
+        ensures { (trees : List Tree) → MayFollow trees (kind_of self.now)
+            → IsRowOf below (take (width_of (kind_of self.now)) trees)
+            → result ≡ static_groups (first_of (after_node trees (kind_of self.now))) }
+    {
+        match self {
+            Node::Empty | Node::Set(_) | Node::Look(_) => Some(0),
+            Node::Group(_, _) => both(below.groups, Some(1)),
+            Node::Concat(_) => below.groups,
+            Node::Alternation(_) => below.common_groups?,
+            Node::Repeat(repetition) => repetition.static_groups(below.groups),
+        }
+    }
+
     /// What is known of the node with what stands below it.
     pub(crate) fn properties(&self, below: RowProperties) -> Properties
         requires { below.extent + 1 < 2 ^ 64 }
@@ -155,6 +226,7 @@ impl Node {
             weight: self.weight(below),
             size: self.size(below),
             may_be_empty: self.may_be_empty(below),
+            static_groups: self.static_groups(below),
         }
     }
 }

@@ -38,9 +38,10 @@ invariant_of-result c =
       groups = c.in_ok-groups.groups;
       which_captures = c.get_which_captures-which_captures.result;
       captures_len = c.in-Some.captures_len;
+      static_captures_len = c.static_captures_len.result;
       utf8_empty = c.get_utf8_empty.result;
     } in
-    let are : AreOfTrees trees beside = record { well_formed = c.in_ok-groups.ensures.well_formed; groups = c.in_ok-groups.ensures.groups; captures_len = c.in-Some.ensures } in
+    let are : AreOfTrees trees beside = record { well_formed = c.in_ok-groups.ensures.well_formed; groups = c.in_ok-groups.ensures.groups; captures_len = c.in-Some.ensures; static_captures_len = c.static_captures_len.ensures } in
     (trees, of_trees p beside trees c.get_line_terminator-terminator.result are is)
 
 pub returns-clause-built : goal.returns-clause-built
@@ -53,9 +54,10 @@ returns-clause-built c =
       groups = c.in_ok-groups.groups;
       which_captures = c.get_which_captures-which_captures.result;
       captures_len = c.in-Some.captures_len;
+      static_captures_len = c.static_captures_len.result;
       utf8_empty = c.get_utf8_empty.result;
     } in
-    let are : AreOfTrees trees beside = record { well_formed = c.in_ok-groups.ensures.well_formed; groups = c.in_ok-groups.ensures.groups; captures_len = c.in-Some.ensures } in
+    let are : AreOfTrees trees beside = record { well_formed = c.in_ok-groups.ensures.well_formed; groups = c.in_ok-groups.ensures.groups; captures_len = c.in-Some.ensures; static_captures_len = c.static_captures_len.ensures } in
     let as_set : IsAsSet c.self.inside.config beside =
     record { match_kind = c.get_match_kind.ensures; utf8_empty = c.get_utf8_empty.ensures; which_captures = c.get_which_captures-which_captures.ensures } in
     subst (λ w. IsBuiltOfTrees trees w.settings (engine_of p beside)) c.self.view_is
