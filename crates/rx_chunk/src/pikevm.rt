@@ -231,6 +231,15 @@ impl PikeVM {
         self.compiled.captures_len()
     }
 
+    /// Returns how many groups stand in each match, the whole match among them and whether they are
+    /// noted or not, and `None` where matches differ in that, or where there is no pattern. `O(1)`.
+    pub fn static_captures_len(&self) -> Option<usize>
+        ensures len { result ≡ self.now.static_captures_len }
+        ensures engine { IsEngine self.now }
+    {
+        self.compiled.static_captures_len()
+    }
+
     /// Returns which of all matches it finds. `O(1)`.
     pub fn match_kind(&self) -> MatchKind
         ensures { result ≡ self.now.match_kind }

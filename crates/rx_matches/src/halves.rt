@@ -11,7 +11,7 @@ use rx_util::{Anchored, HalfMatch, Match, Span};
 
 /// Whether a match that ends at a place starts where the span does: the search is anchored, or the
 /// match is an empty one there.
-pub(crate) fn starts_first<C: Cursor>(input: &Input<C>, end: usize) -> bool
+pub fn starts_first<C: Cursor>(input: &Input<C>, end: usize) -> bool
     ensures yes { result ≡ true → (utf8_empty : Bool)
         → StartsFirst (search_of utf8_empty input.now) end }
     ensures no { result ≡ false → input.now.asked.anchored ≡ No }
@@ -24,7 +24,7 @@ pub(crate) fn starts_first<C: Cursor>(input: &Input<C>, end: usize) -> bool
 
 /// Makes an input that isn't anchored ask for the search back from the end of a match, and answers
 /// where its span ended.
-pub(crate) fn turn_back<C: Cursor>(input: &mut Input<C>, end: usize) -> usize
+pub fn turn_back<C: Cursor>(input: &mut Input<C>, end: usize) -> usize
     requires span { input.old.asked.span.start ≤ end + 1 }
     ensures turned { IsTurnedBack input.old input.new end }
     ensures last { result ≡ input.old.asked.span.end }
@@ -36,7 +36,7 @@ pub(crate) fn turn_back<C: Cursor>(input: &mut Input<C>, end: usize) -> usize
 }
 
 /// Makes an input ask for the search forward again, whose span ends there.
-pub(crate) fn turn_forward<C: Cursor>(input: &mut Input<C>, last: usize)
+pub fn turn_forward<C: Cursor>(input: &mut Input<C>, last: usize)
     requires span { input.old.asked.span.start ≤ last + 1 }
     ensures asked { input.new.asked ≡ record input.old.asked {
       span = record input.old.asked.span { end = last };
@@ -49,7 +49,7 @@ pub(crate) fn turn_forward<C: Cursor>(input: &mut Input<C>, last: usize)
 }
 
 /// The match with this half that starts at a place.
-pub(crate) fn whole(half: HalfMatch, start: usize) -> Match
+pub fn whole(half: HalfMatch, start: usize) -> Match
     requires { start ≤ half.offset }
     ensures { result ≡ whole_of half start }
 {
@@ -63,7 +63,7 @@ pub(crate) fn whole(half: HalfMatch, start: usize) -> Match
 }
 
 /// Whether it is an empty match where the last one ended.
-pub(crate) fn is_empty_at_last(found: &Match, last_match_end: Option<usize>) -> bool
+pub fn is_empty_at_last(found: &Match, last_match_end: Option<usize>) -> bool
     ensures { IsTrue result ↔ IsEmptyAtLast last_match_end found.now }
 {
     found.is_empty() && last_match_end == Some(found.end())

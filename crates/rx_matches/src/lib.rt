@@ -2,5 +2,5 @@
 #![tactic(auto)]
 
 pub mod dfa;
-mod halves;
+pub mod halves;
 pub mod hybrid;

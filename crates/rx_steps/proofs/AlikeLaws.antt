@@ -26,7 +26,7 @@ SlotMachine = Machine (ℕ × ℕ) Slots
 -- ---- moves at places that are alike
 
 -- a move from one place as it is from another
-abbrev Carried : ℕ → ℕ → Move (ℕ × ℕ) → Move (ℕ × ℕ) → Type 0
+abbrev pub Carried : ℕ → ℕ → Move (ℕ × ℕ) → Move (ℕ × ℕ) → Type 0
 Carried i j (ends k) x = x ≡ ends k
 Carried i j (goes rs) x = x ≡ goes rs
 Carried i j (reads r l) x = (l ≡ i + 1) × (x ≡ reads r (j + 1))
@@ -48,7 +48,7 @@ only_carried : (i j : ℕ) (b : Bool) (rs : List (ℕ × ℕ)) → Carried i j (
 only_carried i j true rs = refl
 only_carried i j false rs = refl
 
-move_carried : (p : ByteProgram) (first second : Place) (i j : ℕ) (q : ℕ × ℕ) (x : State) → AreAlike p first second → slice_get p.states q.0 ≡ Some x → Carried i j (move_at first i q x) (move_at second j q x)
+pub move_carried : (p : ByteProgram) (first second : Place) (i j : ℕ) (q : ℕ × ℕ) (x : State) → AreAlike p first second → slice_get p.states q.0 ≡ Some x → Carried i j (move_at first i q x) (move_at second j q x)
 move_carried p first second i j q (state.Ranges automaton r) alike is = next_carried p (step_of automaton.value) q.0 r q.1 i j first.byte second.byte (ap (λ o. automaton_of o) is) alike.reads
 move_carried p first second i j q (state.Look asked r) alike is =
     subst (λ b. Carried i j (only_if (is_among first.looks (place_of asked)) (goes (first_node r ∷ []))) (only_if b (goes (first_node r ∷ []))))

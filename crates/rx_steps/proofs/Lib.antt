@@ -17,6 +17,7 @@ pub mod WorkLaws
 pub mod IdleLaws
 pub mod MadeLaws
 pub mod AlikeLaws
+pub mod AlikeBackLaws
 pub mod UnreadLaws
 pub mod ThinLaws
 pub mod AskedLaws

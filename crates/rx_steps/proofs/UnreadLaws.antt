@@ -21,7 +21,7 @@ use Rattle.rx_steps.proofs.AlikeLaws.{SlotMachine, none_noted, bare_end, bare_ma
 -- ---- moves where no byte is read
 
 -- a move as it is where no byte is read
-abbrev Stopped : Move (ℕ × ℕ) → Move (ℕ × ℕ) → Type 0
+abbrev pub Stopped : Move (ℕ × ℕ) → Move (ℕ × ℕ) → Type 0
 Stopped (ends k) x = x ≡ ends k
 Stopped (goes rs) x = x ≡ goes rs
 Stopped (reads r l) x = x ≡ goes []
@@ -39,7 +39,7 @@ only_stopped : (b : Bool) (rs : List (ℕ × ℕ)) → Stopped (only_if b (goes 
 only_stopped true rs = refl
 only_stopped false rs = refl
 
-move_stopped : (place : Place) (i j : ℕ) (q : ℕ × ℕ) (x : State) → Stopped (move_at place i q x) (move_at (record place { byte = None }) j q x)
+pub move_stopped : (place : Place) (i j : ℕ) (q : ℕ × ℕ) (x : State) → Stopped (move_at place i q x) (move_at (record place { byte = None }) j q x)
 move_stopped place i j q (state.Ranges automaton r) = next_stopped (step_of automaton.value) q.0 r q.1 i place.byte
 move_stopped place i j q (state.Look asked r) = only_stopped (is_among place.looks (place_of asked)) (first_node r ∷ [])
 move_stopped place i j q (state.Empty r) = refl

@@ -4,6 +4,7 @@ pub mod Frames
 pub mod Lists
 pub mod ListsAll
 pub mod Alike
+pub mod AlikeBack
 pub mod Unread
 pub mod Asked
 pub mod Sides

@@ -2,6 +2,7 @@
 
 ghost use Rattle.rx_program.specs.Programs.{ByteProgram};
 ghost use Rattle.rx_steps.specs.Alike.{StepsAreAlike, StepsEnd};
+ghost use Rattle.rx_steps.specs.AlikeBack.{StartsAreMetUnread, StepsBackAreAlike, StepsBackAreThinned};
 ghost use Rattle.rx_steps.specs.Unread.{EndsAreMetUnread};
 
 /// The step that is made of threads without slots at one place is the step at each place that is
@@ -20,4 +21,19 @@ pub fn steps_end()
 /// see it.
 pub fn ends_are_met_unread()
     ensures { (p : ByteProgram) → EndsAreMetUnread p }
+{}
+
+/// The step back that is made at one place is the step at each place that is alike.
+pub fn steps_back_are_alike()
+    ensures { (p : ByteProgram) → StepsBackAreAlike p }
+{}
+
+/// A step back meets the same starts where the byte isn't taken, though looks see it.
+pub fn starts_are_met_unread()
+    ensures { (p : ByteProgram) → StartsAreMetUnread p }
+{}
+
+/// Walks back at nodes at which one stood before come to nothing more.
+pub fn steps_back_are_thinned()
+    ensures { (p : ByteProgram) → StepsBackAreThinned p }
 {}

@@ -209,7 +209,7 @@ fn starts_of(alloc: Global, states: &[ReverseState]) -> Result<(Vec<usize>, usiz
 impl Stepper {
     /// Room for steps of a program turned round. The one refusal is `Memory`. It takes memory in
     /// proportion to the program's states and those of their automata.
-    pub(crate) fn new_back(alloc: Global, program: &ReverseProgram) -> Result<Stepper, MatchError>
+    pub fn new_back(alloc: Global, program: &ReverseProgram) -> Result<Stepper, MatchError>
         ensures made { IfOk result
             (λ stepper. stepper.widths ≡ widths_of (bytes_of program.now)) }
         ensures refused { IfErr result (λ error. error ≡ MatchError.Memory) }
@@ -231,7 +231,7 @@ impl Stepper {
     ///
     /// It follows each node once at most, and takes time in proportion to the edges of those that
     /// it follows, and no memory but what the program asks for.
-    pub(crate) fn next_list_back(
+    pub fn next_list_back(
         &mut self,
         program: &ReverseProgram,
         place: &Place,

@@ -69,7 +69,7 @@ pub fn enter<C: Cursor>(input: &mut Input<C>) -> bool
 }
 
 /// Moves an input to the next place inside its span, its slice and its content, if there is one.
-pub(crate) fn advance<C: Cursor>(input: &mut Input<C>) -> bool
+pub fn advance<C: Cursor>(input: &mut Input<C>) -> bool
     ensures next { result ≡ true → input.new.position ≡ input.old.position + 1 }
     ensures inside { result ≡ true → (utf8_empty : Bool)
         → IsInside (search_of utf8_empty input.old) input.old.position

@@ -26,7 +26,7 @@ fn width(state: &State) -> usize
 /// state is, the indices of the members, and how many came in since it was made, also those that
 /// were taken out again.
 #[derive(Debug, Drop)]
-pub(crate) struct Visited {
+pub struct Visited {
     // Where the nodes of each state start, and where those of the last one end.
     starts: Vec<usize>,
     set: SparseSet,
@@ -77,8 +77,9 @@ fn start_at(starts: &[usize], state: usize) -> Option<usize>
 }
 
 impl Visited {
-    /// The empty set, for the nodes of a program.
-    pub(crate) fn new(alloc: Global, program: &Program) -> Result<Visited, MatchError>
+    /// The empty set, for the nodes of a program. The one refusal is `Memory`. It takes memory in
+    /// proportion to the program's states and those of their automata.
+    pub fn new(alloc: Global, program: &Program) -> Result<Visited, MatchError>
         ensures widths { IfOk result (λ v. v.widths ≡ widths_of program.now) }
         ensures refused { IfErr result (λ error. error ≡ MatchError.Memory) }
     {
@@ -127,8 +128,8 @@ impl Visited {
         *self.starts.allocator()
     }
 
-    /// Empties the set.
-    pub(crate) fn clear(&mut self)
+    /// Empties the set. `O(1)`.
+    pub fn clear(&mut self)
         ensures widths { self.new.widths ≡ self.old.widths }
         ensures ids { self.new.ids ≡ [] }
         ensures followed { self.new.followed ≡ self.old.followed }
@@ -152,8 +153,8 @@ impl Visited {
         }
     }
 
-    /// Whether a node is a member.
-    pub(crate) fn has(&self, node: Node) -> bool
+    /// Whether a node is a member. `O(1)`.
+    pub fn has(&self, node: Node) -> bool
         ensures { IsMember (index_from 0 self.now.widths node.0 node.1) result self.now.ids }
     {
         let Some(index) = self.index(node) else {
@@ -162,9 +163,9 @@ impl Visited {
         self.set.contains(StateID::new(index))
     }
 
-    /// Adds a node that has an index and is no member yet, and tells whether it was so.
+    /// Adds a node that has an index and is no member yet, and tells whether it was so. `O(1)`.
     #[inline(always)]
-    pub(crate) fn insert(&mut self, node: Node) -> bool
+    pub fn insert(&mut self, node: Node) -> bool
         ensures inserted { IsInserted (index_from 0 self.old.widths node.0 node.1) result
             self.old.ids self.new.ids }
         ensures widths { self.new.widths ≡ self.old.widths }

@@ -1,0 +1,10 @@
+pub mod StepLaws
+pub mod LeadLaws
+pub mod ListedLaws
+pub mod NodeLaws
+pub mod FillLaws
+pub mod SetLaws
+pub mod RoundLaws
+pub mod PassLaws
+pub mod WayLaws
+pub mod GoOnLaws

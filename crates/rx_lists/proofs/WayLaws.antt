@@ -1,0 +1,155 @@
+-- The walk that is followed alone, from place to place.
+use Rattle.std.proofs.Common.{◌≡◌, ℕ, zero, suc, ◌+◌, ◌-◌, ◌<◌, ◌≤◌, ◌⊎◌, true, All, IfSome, IsSomeAnd, List, [], ◌∷◌, length, Option, Some, None, slice_get, Contains, refl, sym, ap, subst, ◌∙◌, arith, inl, inr}
+use Rattle.std.proofs.lemmas.Option.{slice_get_within, get_or_from_slice_get}
+use Rattle.std.proofs.lemmas.List.Elements.{All-get_or}
+use Rattle.rx_walks.specs.Machines.{Machine, Outcome}
+use Rattle.rx_walks.specs.Looks.{Look, start_text, end_text, start_line, end_line, word_boundary, no_word_boundary}
+use Rattle.rx_walks.specs.Programs.{Haystack, left_from, is_within}
+use Rattle.rx_walks.specs.Steps.{Steps}
+use Rattle.rx_walks.specs.Leading.{LeadsToMatch, Follows}
+use Rattle.rx_walks.specs.Finds.{Search, IsInside}
+use Rattle.rx_walks.specs.ProgramFinds.{lowest, highest}
+use Rattle.rx_program.specs.declared.states.State.{State}
+use Rattle.rx_program.specs.Programs.{ByteProgram}
+use Rattle.rx_steps.specs.declared.place.Place.{Place}
+use Rattle.rx_steps.specs.Nodes.{IsNodeOf, widths_of, index_from}
+use Rattle.rx_steps.specs.Threads.{Slots, Thread, IsThreadOf}
+use Rattle.rx_steps.specs.Lists.{MakesMoves, IsPlace, is_among, met_at}
+use Rattle.rx_steps.specs.Searching.{haystack_in}
+use Rattle.rx_steps.specs.Coming.{machine_in}
+use Rattle.rx_steps.proofs.ByteLaws.{within_is}
+use Rattle.rx_steps.proofs.FollowLaws.{seen_or_new}
+use Rattle.rx_steps.proofs.PlaceLaws.{moves_at_place}
+use Rattle.rx_lists.specs.Leading.{AreLeading}
+use Rattle.rx_lists.specs.declared.walk.Ending.{Ending}
+use Rattle.rx_lists.specs.Passes.{AreListed, IsFirstAmong, outcome_of}
+use Rattle.rx_lists.proofs.FillLaws.{Nodes}
+use Rattle.rx_lists.proofs.StepLaws.{Chosen, none_leads, other_leads, first_leads, thread_follows}
+use Rattle.rx_lists.proofs.NodeLaws.{edge_stays, node_index, path_does}
+use Rattle.rx_lists.proofs.PassLaws.{none_past}
+use Rattle.rx_lists.proofs.SetLaws.{none_in}
+
+-- ---- a place of a search
+
+place_at : Haystack Look → ℕ → Place
+place_at h i = record {
+  at = i;
+  byte = slice_get (left_from h i) 0;
+  looks = record {
+    start = h.holds start_text i;
+    end = h.holds end_text i;
+    start_line = h.holds start_line i;
+    end_line = h.holds end_line i;
+    word_boundary = h.holds word_boundary i;
+    no_word_boundary = h.holds no_word_boundary i;
+  };
+}
+
+is_place : (states : List State) (h : Haystack Look) (i : ℕ) → is_within h.low h.high i ≡ true → IsPlace states h i (place_at h i)
+unfolding place_at
+is_place states h i inside = record { at = refl; inside = inside; byte = refl; looks = λ l asks. holds l }
+  where
+    holds : (l : Look) → h.holds l i ≡ is_among (place_at h i).looks l
+    holds start_text = refl
+    holds end_text = refl
+    holds start_line = refl
+    holds end_line = refl
+    holds word_boundary = refl
+    holds no_word_boundary = refl
+
+-- a program's moves at a place inside are those of some place
+pub moves_inside : (p : ByteProgram) (s : Search) (i : ℕ) → lowest s ≤ i → i ≤ highest s → (place : Place) × MakesMoves (machine_in p s) i p.states place
+moves_inside p s i above below = let h = haystack_in p.line_terminator s in (place_at h i, moves_at_place p h i (place_at h i) (is_place p.states h i (within_is (lowest s) (highest s) i above below)))
+
+pub inside_is : (s : Search) (i : ℕ) → IsInside s i → (lowest s ≤ i) × (i ≤ highest s)
+inside_is s i inside = (omega (arith, inside.0, inside.2), omega (arith, inside.1, inside.3, inside.4))
+
+-- ---- the nodes that lead are known
+
+get_there : {X : Type 0} (xs : List X) (k : ℕ) → k < length xs → (x : X) × (slice_get xs k ≡ Some x)
+get_there [] k lt = absurd (omega (arith, lt))
+get_there (x ∷ xs) zero lt = (x, refl)
+get_there (x ∷ xs) (suc k) lt = get_there xs k (omega (arith, lt))
+
+pub listed_at : (p : ByteProgram) (s : Search) (last i : ℕ) (lists : List Nodes) → AreListed p s last lists → lowest s ≤ i → i ≤ last → (nodes : Nodes) × (slice_get lists (last - i) ≡ Some nodes) × AreLeading p s i nodes
+listed_at p s last i lists listed above below =
+    let there = get_there lists (last - i) (omega (arith, listed.count, above, below)) in
+    (there.0, there.1, subst (λ j. AreLeading p s j there.0) (omega (arith, below)) (listed.each (last - i) there.0 there.1))
+
+pub leads_or_not : (p : ByteProgram) (s : Search) (i : ℕ) (nodes : Nodes) → AreLeading p s i nodes → (q : ℕ × ℕ) → IsNodeOf p.states q → LeadsToMatch (machine_in p s) q i ⊎ (LeadsToMatch (machine_in p s) q i → ⊥)
+leads_or_not p s i nodes leading q may = elim (seen_or_new nodes q) [ inl c ↦ inl (leading.leads q c) | inr new ↦ inr (λ leads. new (leading.all q may leads)) ]
+
+-- a set that was loaded from a list of nodes that lead is of those
+pub loaded : (p : ByteProgram) (s : Search) (i : ℕ) (list set : Nodes) (widths : List ℕ) → widths ≡ widths_of p → lowest s ≤ i → i ≤ highest s → AreLeading p s i list → ((q : ℕ × ℕ) → Contains set q → Contains list q)
+    → ((q : ℕ × ℕ) (k : ℕ) → Contains list q → index_from 0 widths q.0 q.1 ≡ Some k → Contains set q) → AreLeading p s i set
+loaded p s i list set widths same above below leading these all = record {
+  leads = λ q c. leading.leads q (these q c);
+  all = λ q may leads.
+      let moves = moves_inside p s i above below in
+      let at = node_index p moves.0 (machine_in p s) i moves.1 q may (path_does leads.path) in
+      all q at.0 (leading.all q may leads) (subst (λ w. index_from 0 w q.0 q.1 ≡ Some at.0) (sym same) at.2);
+}
+
+-- ---- a step, and the first thread that leads
+
+pub some_and : {X : Type 0} (P : X → Type 0) (o : Option X) → IsSomeAnd o P → (x : X) × (o ≡ Some x) × P x
+some_and P (Some x) has = (x, refl, has)
+some_and P None has = absurd has
+
+pub chosen_none : (m : Machine (ℕ × ℕ) Slots) (i : ℕ) (next : List Thread) (end : Option (Outcome Slots)) → ((k : ℕ) (t : Thread) → slice_get next k ≡ Some t → LeadsToMatch m t.1 i → ⊥) → Chosen m i next end end
+chosen_none m i [] end never = none_leads
+chosen_none m i ((n, q) ∷ next) end never = other_leads (never 0 (n, q) refl) (chosen_none m i next end (λ k t at. never (suc k) t at))
+
+pub chosen_at : (m : Machine (ℕ × ℕ) Slots) (i : ℕ) (next : List Thread) (end out : Option (Outcome Slots)) (k : ℕ) (t : Thread) → slice_get next k ≡ Some t → LeadsToMatch m t.1 i → ((j : ℕ) (u : Thread) → j < k → slice_get next j ≡ Some u → LeadsToMatch m u.1 i → ⊥)
+    → Follows m i [] (t ∷ []) out → Chosen m i next end out
+chosen_at m i [] end out k t at leads before follows = absurd (cc at)
+chosen_at m i ((n, q) ∷ next) end out zero t at leads before follows =
+    let same : t ≡ (n, q) = first_is at in
+    first_leads (subst (λ x. LeadsToMatch m x.1 i) same leads) (subst (λ x. Follows m i [] (x ∷ []) out) same follows)
+  where
+    first_is : Some (n, q) ≡ Some t → t ≡ (n, q)
+    first_is e = cc e
+chosen_at m i ((n, q) ∷ next) end out (suc k) t at leads before follows =
+    other_leads (before 0 (n, q) (omega arith) refl) (chosen_at m i next end out k t at leads (λ j u below get. before (suc j) u (omega (arith, below)) get) follows)
+
+pub walk_on : (p : ByteProgram) (s : Search) (last i : ℕ) (lists : List Nodes) (n : Slots) (q : ℕ × ℕ) (next : List Thread) (end out : Option (Outcome Slots)) → last ≡ highest s → AreListed p s last lists → IsInside s i → IsNodeOf p.states q
+    → Steps (machine_in p s) i [] ((n, q) ∷ []) next end → Chosen (machine_in p s) (i + 1) next end out → Follows (machine_in p s) i [] ((n, q) ∷ []) out
+walk_on p s last i lists n q next end out last_is listed inside may steps chosen =
+    let at = inside_is s i inside in
+    let here = listed_at p s last i lists listed at.0 (subst (λ j. i ≤ j) (sym last_is) at.1) in
+    let moves = moves_inside p s i at.0 at.1 in
+    let m = machine_in p s in
+    thread_follows m i (λ r. IsNodeOf p.states r) (leads_or_not p s i here.0 here.2) (λ x r rs k may' is get. edge_stays p moves.0 m i moves.1 x r rs k is get) n q next end out may steps chosen
+
+-- behind the last place nothing leads
+pub never_past : (p : ByteProgram) (s : Search) (i : ℕ) (t : Thread) → highest s < i → IsThreadOf p.states t → LeadsToMatch (machine_in p s) t.1 i → ⊥
+never_past p s i t past may leads = none_in t.1 ((none_past p s i past).all t.1 may leads)
+
+pub thread_at : (states : List State) (threads : List Thread) (k : ℕ) (t : Thread) → All (IsThreadOf states) threads → slice_get threads k ≡ Some t → IsThreadOf states t
+thread_at states threads k t all at = subst (λ x. IsThreadOf states x) (get_or_from_slice_get threads k t t at) (All-get_or (λ x. IsThreadOf states x) threads k t (slice_get_within threads k t at) all)
+
+pub chosen_first : (p : ByteProgram) (s : Search) (i k : ℕ) (next : List Thread) (set : Nodes) (end out : Option (Outcome Slots)) (t : Thread) → AreLeading p s i set → All (IsThreadOf p.states) next → IsFirstAmong next set (Some k)
+    → slice_get next k ≡ Some t → Follows (machine_in p s) i [] (t ∷ []) out → Chosen (machine_in p s) i next end out
+chosen_first p s i k next set end out t leading all first get follows =
+    let same : first.0 ≡ t = one (sym first.1 ∙ get) in
+    chosen_at (machine_in p s) i next end out k t get (leading.leads t.1 (subst (λ x. Contains set x.1) same first.2))
+    (λ j u below get' leads. first.3 j u below get' (leading.all u.1 (thread_at p.states next j u all get') leads)) follows
+  where
+    one : Some first.0 ≡ Some t → first.0 ≡ t
+    one e = cc e
+
+pub chosen_nobody : (p : ByteProgram) (s : Search) (i : ℕ) (next : List Thread) (set : Nodes) (end : Option (Outcome Slots)) → AreLeading p s i set → All (IsThreadOf p.states) next → IsFirstAmong next set None
+    → Chosen (machine_in p s) i next end end
+chosen_nobody p s i next set end leading all none = chosen_none (machine_in p s) i next end (λ k t get leads. none k t get (leading.all t.1 (thread_at p.states next k t all get) leads))
+
+pub chosen_past : (p : ByteProgram) (s : Search) (i : ℕ) (next : List Thread) (end : Option (Outcome Slots)) → highest s < i → All (IsThreadOf p.states) next → Chosen (machine_in p s) i next end end
+chosen_past p s i next end past all = chosen_none (machine_in p s) i next end (λ k t get leads. never_past p s i t past (thread_at p.states next k t all get) leads)
+
+-- an end that was met is at its place
+pub ends_there : (found : Option Ending) (met : Option ℕ) (at : ℕ) (slots : Slots) (P : ℕ → Type 0) → outcome_of found slots ≡ met_at at met slots → P at → IfSome found (λ e. P e.end)
+ends_there None met at slots P e has = tt
+ends_there (Some x) None at slots P e has = absurd (cc e)
+ends_there (Some x) (Some k) at slots P e has = subst (λ j. P j) (sym (ap (λ (o : Outcome Slots). o.end) (one {a = record { pattern = x.pattern; end = x.end; notes = slots }} {b = record { pattern = k; end = at; notes = slots }} e))) has
+  where
+    one : {a b : Outcome Slots} → Some a ≡ Some b → a ≡ b
+    one f = cc f

@@ -1,0 +1,11 @@
+use Rattle.std.proofs.Common.{◌≡◌}
+use Rattle.rx_lists.specs.Leading.{IsRound}
+use Rattle.rx_lists.proofs.leading.mark_all.Given as goal
+use Rattle.std.specs.Prelude.{take}
+
+-- the nodes up to this one were looked at
+abbrev pub invariant-loop-node : goal.invariant-loop-node
+invariant-loop-node l = record {
+  round : IsRound l.program l.place (take l.node-index l.order) l.beyond.nodes l.fn.here.nodes l.here.nodes l.has_grown;
+  widths : l.here.widths ≡ l.fn.here.widths;
+}

@@ -1,0 +1,73 @@
+-- The nodes that lead to a match, place by place from the last one back.
+use Rattle.std.specs.Prelude.{◌≡◌, ℕ, ◌<◌, ◌≤◌, ◌++◌, Bool, true, false, List, [], ◌∷◌, length, Some, slice_get, Contains}
+use Rattle.rx_walks.specs.Machines.{Machine, Move, ends, goes, reads}
+use Rattle.rx_walks.specs.Leading.{LeadsToMatch, LeadsBy}
+use Rattle.rx_walks.specs.Finds.{Search}
+use Rattle.rx_walks.specs.ProgramFinds.{highest}
+use Rattle.rx_program.specs.Programs.{ByteProgram}
+use Rattle.rx_program.specs.declared.states.State.{State}
+use Rattle.rx_steps.specs.declared.place.Place.{Place}
+use Rattle.rx_steps.specs.Nodes.{widths_of, node_count, index_from, IsNodeOf}
+use Rattle.rx_steps.specs.Threads.{Slots}
+use Rattle.rx_steps.specs.Lists.{MakesMoves, move_at}
+use Rattle.rx_steps.specs.Coming.{machine_in}
+
+-- these are the nodes of a program that lead to a match from a place of a search
+pub record AreLeading (p : ByteProgram) (s : Search) (i : ℕ) (nodes : List (ℕ × ℕ)) : Type 0 where
+  pub leads : (q : ℕ × ℕ) → Contains nodes q → LeadsToMatch (machine_in p s) q i
+  pub all : (q : ℕ × ℕ) → IsNodeOf p.states q → LeadsToMatch (machine_in p s) q i
+      → Contains nodes q
+
+-- such nodes are known at each place up to the last one, from this one on
+abbrev pub AreKnown : ByteProgram → Search → ℕ → Type 0
+AreKnown p s i = (j : ℕ) → i ≤ j → j ≤ highest s → (nodes : List (ℕ × ℕ)) × AreLeading p s j nodes
+
+-- ---- a place, by the one behind it
+
+-- what there is to do leads on: a match ends, or an edge leads to one of the nodes here, or a read
+-- to one of those beyond
+abbrev pub LeadsOn : List (ℕ × ℕ) → List (ℕ × ℕ) → Move (ℕ × ℕ) → Type 0
+LeadsOn here beyond (ends k) = Unit {0}
+LeadsOn here beyond (goes rs) = (k : ℕ) × (r : ℕ × ℕ) × (slice_get rs k ≡ Some r) × Contains here r
+LeadsOn here beyond (reads r j) = Contains beyond r
+
+-- the nodes here are those that lead by those beyond
+pub record AreFilled (p : ByteProgram) (place : Place) (beyond here : List (ℕ × ℕ)) : Type 0 where
+  pub leads : (m : Machine (ℕ × ℕ) Slots) (i : ℕ) → MakesMoves m i p.states place
+      → (q : ℕ × ℕ) → Contains here q → LeadsBy m i (λ r. Contains beyond r) q
+  pub all : (m : Machine (ℕ × ℕ) Slots) (i : ℕ) → MakesMoves m i p.states place
+      → (q : ℕ × ℕ) → IsNodeOf p.states q → LeadsBy m i (λ r. Contains beyond r) q
+      → Contains here q
+
+-- ---- one node after the other
+
+-- a node was looked at: it came into the set, since it leads on, or did not
+abbrev pub IsMarked : ByteProgram → Place → ℕ × ℕ → List (ℕ × ℕ) → List (ℕ × ℕ) → List (ℕ × ℕ)
+    → Bool → Type 0
+IsMarked p place q beyond old new true = (new ≡ old ++ q ∷ []) × (length new ≤ node_count p)
+    × ((x : State) × (slice_get p.states q.0 ≡ Some x)
+    × ((i : ℕ) → LeadsOn old beyond (move_at place i q x)))
+IsMarked p place q beyond old new false = (new ≡ old)
+    × ((k i : ℕ) (x : State) → index_from 0 (widths_of p) q.0 q.1 ≡ Some k
+    → slice_get p.states q.0 ≡ Some x → LeadsOn old beyond (move_at place i q x)
+    → Contains old q)
+
+-- what leads by one set leads by another one too, if all that is new leads on
+abbrev pub AreSound : ByteProgram → Place → List (ℕ × ℕ) → List (ℕ × ℕ) → Type 0
+AreSound p place beyond here = (m : Machine (ℕ × ℕ) Slots) (i : ℕ) → MakesMoves m i p.states place
+    → (q : ℕ × ℕ) → Contains here q → LeadsBy m i (λ r. Contains beyond r) q
+
+-- each of these nodes that leads on is among those here
+abbrev pub AreClosed : ByteProgram → Place → List (ℕ × ℕ) → List (ℕ × ℕ) → (ℕ × ℕ → Type 0) → Type 0
+AreClosed p place beyond here those = (q : ℕ × ℕ) → those q → (k i : ℕ) (x : State)
+    → index_from 0 (widths_of p) q.0 q.1 ≡ Some k → slice_get p.states q.0 ≡ Some x
+    → LeadsOn here beyond (move_at place i q x) → Contains here q
+
+-- nodes in this order were looked at, and some came into the set, or none
+pub record IsRound (p : ByteProgram) (place : Place) (order beyond old new : List (ℕ × ℕ))
+    (has_grown : Bool) : Type 0 where
+  pub sound : AreSound p place beyond old → AreSound p place beyond new
+  pub grown : has_grown ≡ true → length old < length new
+  pub same : has_grown ≡ false → new ≡ old
+  pub closed : has_grown ≡ false → AreClosed p place beyond new (λ q. Contains order q)
+  pub room : length old ≤ node_count p → length new ≤ node_count p

@@ -1,0 +1,4 @@
+pub mod Sets
+pub mod Leading
+pub mod Passes
+pub mod Lists

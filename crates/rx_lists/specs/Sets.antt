@@ -1,0 +1,28 @@
+-- Sets of nodes of a program.
+use Rattle.std.specs.Prelude.{◌≡◌, ◌↔◌, ℕ, ◌<◌, ◌≤◌, ◌++◌, Bool, true, false, List, [], ◌∷◌, length, Some, slice_get, Contains}
+use Rattle.rx_program.specs.declared.states.State.{State}
+use Rattle.rx_steps.specs.Nodes.{index_from, end_from, width_of}
+
+-- nodes of a program, and how many nodes each of its states is
+pub record NodeSetView : Type 0 where
+  pub widths : List ℕ
+  pub nodes : List (ℕ × ℕ)
+
+-- a node's index is among these
+abbrev pub IsIn : List ℕ → List ℕ → ℕ × ℕ → Type 0
+IsIn widths ids q = (k : ℕ) × (index_from 0 widths q.0 q.1 ≡ Some k) × Contains ids k
+
+-- the nodes are those that these indices are of
+abbrev pub AreOf : List ℕ → List ℕ → List (ℕ × ℕ) → Type 0
+AreOf widths ids nodes = (q : ℕ × ℕ) → IsIn widths ids q ↔ Contains nodes q
+
+-- a node came into a set behind the others, or is there already, if it has an index
+abbrev pub IsAdded : List ℕ → List (ℕ × ℕ) → ℕ × ℕ → Bool → List (ℕ × ℕ) → Type 0
+IsAdded widths old q true new = (new ≡ old ++ q ∷ []) × (length new ≤ end_from 0 widths)
+IsAdded widths old q false new = (new ≡ old)
+    × ((k : ℕ) → index_from 0 widths q.0 q.1 ≡ Some k → Contains old q)
+
+-- all nodes of a program's states are among these
+abbrev pub AreAllNodes : List State → List (ℕ × ℕ) → Type 0
+AreAllNodes states nodes = (q s : ℕ) (x : State) → slice_get states q ≡ Some x → s < width_of x
+    → Contains nodes (q, s)

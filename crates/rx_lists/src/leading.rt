@@ -1,0 +1,148 @@
+//! Which nodes of a program lead to a match, by those that lead from the next place.
+
+ghost use Rattle.std.specs.Prelude.{◌≡◌, ◌↔◌, ℕ, [], Some, None, Contains, IsTrue, IfOk, OnOk, MatchOption, slice_get};
+ghost use Rattle.rx_utf8.specs.Automata.{step_of};
+ghost use Rattle.rx_steps.specs.Nodes.{widths_of};
+ghost use Rattle.rx_steps.specs.Lists.{move_at, read_next};
+ghost use Rattle.rx_lists.specs.Sets.{AreAllNodes};
+ghost use Rattle.rx_lists.specs.Leading.{AreFilled, IsMarked, IsRound, LeadsOn};
+
+use crate::node_set::NodeSet;
+use rx_program::{Program, State};
+use rx_steps::{Node, Place};
+use rx_utf8::SetAutomaton;
+use rx_util::StateID;
+use std::alloc::AllocError;
+
+/// Whether a byte leads from a node over a set to one of the nodes beyond.
+fn reads_on(
+    automaton: &SetAutomaton,
+    on: StateID,
+    place: &Place,
+    node: Node,
+    beyond: &NodeSet,
+) -> bool
+    ensures { (i : ℕ) → IsTrue result ↔ LeadsOn [] beyond.now.nodes
+        (read_next (step_of automaton.now) node.0 on node.1 i place.now.byte) }
+{
+    let Some(byte) = place.byte else {
+        return false;
+    };
+    match automaton.step(node.within(), byte) {
+        None => false,
+        Some(None) => beyond.has(Node::first(on)),
+        Some(Some(within)) => beyond.has(Node::new(node.state(), within)),
+    }
+}
+
+/// Whether one of the states' first nodes is here.
+fn has_some(here: &NodeSet, states: &[StateID]) -> bool
+    ensures { IsTrue result ↔ ((k : ℕ) × (q : ℕ) × (slice_get states.now k ≡ Some q)
+        × Contains here.now.nodes (q, 0)) }
+{
+    for state in states {
+        if here.has(Node::first(*state)) {
+            return true;
+        }
+    }
+    false
+}
+
+/// Whether what there is to do at a node leads on.
+fn leads_on(state: &State, place: &Place, node: Node, beyond: &NodeSet, here: &NodeSet) -> bool
+    ensures { (i : ℕ) → IsTrue result
+        ↔ LeadsOn here.now.nodes beyond.now.nodes (move_at place.now i node state.now) }
+{
+    match state {
+        State::Ranges(automaton, on) => reads_on(automaton, *on, place, node, beyond),
+        State::Look(look, on) => place.looks.has(*look) && here.has(Node::first(*on)),
+        State::Empty(on) => here.has(Node::first(*on)),
+        State::Capture(_, on) => here.has(Node::first(*on)),
+        State::BinaryUnion(first, second) => {
+            here.has(Node::first(*first)) || here.has(Node::first(*second))
+        }
+        State::Union(alternates) => has_some(here, alternates),
+        State::Match(_) => true,
+    }
+}
+
+/// The state of a node, if there is one.
+fn state_at(states: &[State], node: Node) -> Option<&State>
+    ensures { MatchOption result (slice_get states.now node.0 ≡ None)
+        (λ state. slice_get states.now node.0 ≡ Some state.now) }
+{
+    states.get(node.state().as_usize())
+}
+
+/// Adds a node to those here if it leads on and isn't there, and tells whether it was so.
+fn mark(
+    program: &Program,
+    place: &Place,
+    node: Node,
+    beyond: &NodeSet,
+    here: &mut NodeSet,
+) -> Result<bool, AllocError>
+    requires widths { here.old.widths ≡ widths_of program.now }
+    ensures marked { IfOk result (IsMarked program.now place.now node beyond.now.nodes
+        here.old.nodes here.new.nodes) }
+    ensures widths { here.new.widths ≡ here.old.widths }
+{
+    let Some(state) = state_at(program.states(), node) else {
+        return Ok(false);
+    };
+    if here.has(node) {
+        return Ok(false);
+    }
+    if !leads_on(state, place, node, beyond, here) {
+        return Ok(false);
+    }
+    here.add(node)
+}
+
+/// Looks at each node once, and tells whether some came into the set.
+fn mark_all(
+    program: &Program,
+    place: &Place,
+    order: &[Node],
+    beyond: &NodeSet,
+    here: &mut NodeSet,
+) -> Result<bool, AllocError>
+    requires widths { here.old.widths ≡ widths_of program.now }
+    ensures round { IfOk result (IsRound program.now place.now order.now beyond.now.nodes
+        here.old.nodes here.new.nodes) }
+    ensures widths { here.new.widths ≡ here.old.widths }
+{
+    let mut has_grown = false;
+    for node in order {
+        if mark(program, place, *node, beyond, here)? {
+            has_grown = true;
+        }
+    }
+    Ok(has_grown)
+}
+
+/// Makes a set that of the nodes that lead from a place, by those that lead from the next one. The
+/// order is of all nodes of the program; it tells in which they are looked at, and the set is the
+/// same for each.
+///
+/// It looks at all nodes, over and over until none more leads: at worst once for each node.
+pub(crate) fn fill(
+    program: &Program,
+    place: &Place,
+    order: &[Node],
+    beyond: &NodeSet,
+    here: &mut NodeSet,
+) -> Result<(), AllocError>
+    requires widths { here.old.widths ≡ widths_of program.now }
+    requires order { AreAllNodes program.now.states order.now }
+    ensures filled { OnOk result (AreFilled program.now place.now beyond.now.nodes
+        here.new.nodes) }
+    ensures widths { here.new.widths ≡ here.old.widths }
+{
+    here.clear();
+    loop {
+        if !mark_all(program, place, order, beyond, here)? {
+            return Ok(());
+        }
+    }
+}

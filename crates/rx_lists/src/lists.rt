@@ -1,0 +1,318 @@
+//! The list of all matches.
+
+ghost use Rattle.std.specs.Prelude.{◌≡◌, ◌↔◌, ◌+◌, ◌^◌, ◌<◌, ◌≤◌, Bool, ℕ, IsTrue, IfOk, IfErr, IfSome, IsSomeAnd, Some, None, true, false, length, map, max};
+ghost use Rattle.rx_util.specs.declared.search.MatchError.{MatchError};
+ghost use Rattle.rx_walks.specs.Finds.{IsInside, Search};
+ghost use Rattle.rx_program.specs.Programs.{ByteProgram};
+ghost use Rattle.rx_walks.specs.LeadLaws.{begins_from};
+ghost use Rattle.rx_walks.specs.ProgramFinds.{highest};
+ghost use Rattle.rx_input.specs.Cursors.{IsSameContent};
+ghost use Rattle.rx_input.specs.Inputs.{IsMoved};
+ghost use Rattle.rx_steps.specs.Searching.{search_of};
+ghost use Rattle.rx_lists.specs.Passes.{AreListed, IsWalking, outcome_of};
+ghost use Rattle.rx_lists.specs.Lists.{AreAllMatches, AreListedTo, IsFoundAt, IsTaken, Lists, outcome_of_listed};
+
+use crate::node_lists::NodeLists;
+use crate::pass_back::PassBack;
+use crate::walk::{Ending, Walk};
+use rx_input::{Cursor, Input};
+use rx_program::Program;
+use rx_sets::CharacterSet;
+use rx_steps::{Node, advance, last_place, start_state};
+use rx_util::{MatchError, NonMaxUsize, PatternID, StateID};
+use rx_walks::laws_lead::byte_listings_are_matches;
+use std::alloc::{AllocError, Global};
+use std::marker::Model;
+
+/// A match of a list: its pattern, where it ends, and places in slots.
+#[derive(Debug, Drop)]
+pub struct ListedMatch {
+    pattern: PatternID,
+    end: usize,
+    slots: Vec<Option<NonMaxUsize>>,
+}
+
+impl Model for ListedMatch {
+    ghost use Rattle.rx_lists.specs.Lists.{Listed};
+
+    ghost Value = { Listed };
+
+    ghost view = { λ m. record { pattern = m.pattern; end = m.end; slots = m.slots.items } };
+}
+
+impl ListedMatch {
+    /// The pattern that matches.
+    pub fn pattern(&self) -> PatternID
+        ensures { result ≡ self.now.pattern }
+    {
+        self.pattern
+    }
+
+    /// Where the match ends.
+    pub fn end(&self) -> usize
+        ensures { result ≡ self.now.end }
+    {
+        self.end
+    }
+
+    /// The places that are noted in its slots.
+    pub fn slots(&self) -> &[Option<NonMaxUsize>]
+        ensures { result.now ≡ self.now.slots }
+    {
+        &self.slots
+    }
+}
+
+/// Whether a match may start where an input stands, which has to be a place inside, by a find that
+/// began at a place.
+fn may_begin<C: Cursor>(input: &Input<C>, from: usize, utf8_empty: bool) -> bool
+    ensures { IsInside (search_of utf8_empty input.now) input.now.position
+        → from ≤ input.now.position
+        → IsTrue result
+        ↔ begins_from (search_of utf8_empty input.now) from input.now.position }
+{
+    (!input.get_anchored().is_anchored() || input.position() == from)
+        && (!utf8_empty || input.is_char_boundary())
+}
+
+/// Moves an input to the last place inside its span, its slice and its content, and tells whether
+/// there is one; where there is none, it stands anywhere.
+fn enter_last<C: Cursor>(input: &mut Input<C>) -> bool
+    ensures inside { result ≡ true → (utf8_empty : Bool)
+        → IsInside (search_of utf8_empty input.old) input.new.position }
+    ensures last { (utf8_empty : Bool)
+        → input.new.position ≡ highest (search_of utf8_empty input.old) }
+    ensures none { result ≡ false → (utf8_empty : Bool) → (i : ℕ)
+        → IsInside (search_of utf8_empty input.old) i → ⊥ }
+    ensures same { IsMoved input.old input.new input.new.position input.old.asked }
+{
+    input.move_to(last_place(input));
+    input.get_slice().start.max(input.start()) <= input.position()
+}
+
+/// From where walks of a list start and how far they may go: the last place, the state and its
+/// number of slots, and whether empty matches inside a character are passed over.
+#[derive(Clone, Copy, Debug)]
+struct Walking {
+    last: usize,
+    start: StateID,
+    slot_len: usize,
+    utf8_empty: bool,
+}
+
+/// Whether a match starts where an input stands, by a find that began at a place, and where it
+/// ends: the walk has its slots then. The input may stand elsewhere.
+fn find_at<C: Cursor>(
+    walk: &mut Walk,
+    program: &Program,
+    input: &mut Input<C>,
+    lists: &NodeLists,
+    of: &Walking,
+    from: usize,
+) -> Result<Option<Ending>, MatchError>
+    requires ready { IsWalking program.now walk.old.stepper.widths walk.old.asks_looks
+        walk.old.leading.widths }
+    requires lists { (utf8_empty : Bool) → AreListed program.now
+        (search_of utf8_empty input.old) of.now.last lists.now }
+    requires last { (utf8_empty : Bool) → of.now.last ≡ highest (search_of utf8_empty input.old) }
+    requires inside { (utf8_empty : Bool)
+        → IsInside (search_of utf8_empty input.old) input.old.position }
+    requires from { from ≤ input.old.position }
+    ensures found { IfOk result (λ found. IsFoundAt program.now
+        (search_of of.now.utf8_empty input.old) of.now.start of.now.slot_len from input.old.position
+        (outcome_of found walk.new.stepper.slots)) }
+    ensures inside { IfOk result (λ found. IfSome found (λ e.
+        (input.old.position ≤ e.end) × ((utf8_empty : Bool)
+        → IsInside (search_of utf8_empty input.old) e.end))) }
+    ensures ready { IsWalking program.now walk.new.stepper.widths walk.new.asks_looks
+        walk.new.leading.widths }
+    ensures same { IsSameContent input.old.cursor input.new.cursor }
+    ensures asked { input.new.asked ≡ input.old.asked }
+    ensures refused { IfErr result (λ error. error ≡ MatchError.Memory) }
+{
+    if !may_begin(input, from, of.utf8_empty) {
+        return Ok(None);
+    }
+    walk.leading.load(lists.list(of.last - input.position()))?;
+    if !walk.leading.has(Node::first(of.start)) {
+        return Ok(None);
+    }
+    walk.follow(program, input, lists, of.last, of.start, of.slot_len)
+}
+
+/// The matches that were listed so far, where the find of the next one began, and whether a match
+/// ended there and no place was passed since.
+#[derive(Debug, Drop)]
+struct Progress {
+    found: Vec<ListedMatch>,
+    from: usize,
+    after: bool,
+}
+
+/// The match that a walk came to.
+fn listed_match(
+    alloc: Global,
+    ending: Ending,
+    slots: &[Option<NonMaxUsize>],
+) -> Result<ListedMatch, AllocError>
+    ensures { IfOk result (λ m. Some (outcome_of_listed m)
+        ≡ outcome_of (Some ending) slots.now) }
+{
+    Ok(ListedMatch {
+        pattern: ending.pattern,
+        end: ending.end,
+        slots: slots.to_vec(alloc)?,
+    })
+}
+
+impl Progress {
+    /// Takes what was found at a place, with these slots: answers the end of a match that is
+    /// listed, or none where the place is passed.
+    fn take(
+        &mut self,
+        alloc: Global,
+        at: usize,
+        found: Option<Ending>,
+        slots: &[Option<NonMaxUsize>],
+    ) -> Result<Option<usize>, MatchError>
+        requires bound { at + 1 < 2 ^ 64 }
+        ensures taken { IfOk result (λ goes_on. (p : ByteProgram) → (s : Search) → (q : ℕ)
+            → (len : ℕ) → IsFoundAt p s q len self.old.from at (outcome_of found slots.now)
+            → self.old.from ≤ at → (self.old.after ≡ true → self.old.from ≡ at)
+            → AreListedTo p s q len self.old.found.items self.old.after self.old.from at
+            → IsTaken p s q len at self.new.found.items self.new.after self.new.from goes_on) }
+        ensures end { IfOk result (λ goes_on. IfSome goes_on (λ end.
+            IsSomeAnd found (λ e. e.end ≡ end))) }
+        ensures further { IfOk result (λ goes_on. IfSome goes_on (λ end.
+            self.old.after ≡ true → end ≡ at → ⊥)) }
+        ensures refused { IfErr result (λ error. error ≡ MatchError.Memory) }
+    {
+        let Some(ending) = found else {
+            self.after = false;
+            return Ok(None);
+        };
+        let end = ending.end;
+        if self.after && end == at {
+            self.from = at + 1;
+            self.after = false;
+            return Ok(None);
+        }
+        let listed = listed_match(alloc, ending, slots)?;
+        let Ok(()) = self.found.push(listed) else {
+            return Err(MatchError::Memory);
+        };
+        self.from = end;
+        self.after = true;
+        Ok(Some(end))
+    }
+}
+
+/// Moves an input to the end of the match that was listed, or behind the place that was passed, and
+/// tells whether that lies inside.
+fn go_on<C: Cursor>(input: &mut Input<C>, at: usize, end: Option<usize>) -> bool
+    ensures end { IfSome end (λ e. e ≤ length input.old.cursor.content
+        → (result ≡ true) × (input.new.position ≡ e)) }
+    ensures next { end ≡ None → result ≡ true → at ≤ length input.old.cursor.content
+        → input.new.position ≡ at + 1 }
+    ensures inside { end ≡ None → result ≡ true → (utf8_empty : Bool)
+        → IsInside (search_of utf8_empty input.old) at
+        → IsInside (search_of utf8_empty input.old) input.new.position }
+    ensures last { end ≡ None → result ≡ false → at ≤ length input.old.cursor.content
+        → (utf8_empty : Bool) → highest (search_of utf8_empty input.old) < at + 1 }
+    ensures same { IsMoved input.old input.new input.new.position input.old.asked }
+{
+    match end {
+        Some(end) => {
+            input.move_to(end);
+            true
+        }
+        None => {
+            input.move_to(at);
+            advance(input)
+        }
+    }
+}
+
+/// Lists all matches, from the first place inside on, at which an input stands.
+fn list_all<C: Cursor>(
+    alloc: Global,
+    walk: &mut Walk,
+    program: &Program,
+    input: &mut Input<C>,
+    lists: &NodeLists,
+    of: &Walking,
+) -> Result<Vec<ListedMatch>, MatchError>
+    requires ready { IsWalking program.now walk.old.stepper.widths walk.old.asks_looks
+        walk.old.leading.widths }
+    requires lists { (utf8_empty : Bool) → AreListed program.now
+        (search_of utf8_empty input.old) of.now.last lists.now }
+    requires last { (utf8_empty : Bool) → of.now.last ≡ highest (search_of utf8_empty input.old) }
+    requires inside { (utf8_empty : Bool)
+        → IsInside (search_of utf8_empty input.old) input.old.position }
+    requires first { input.old.position
+        ≡ max input.old.asked.slice.start input.old.asked.span.start }
+    ensures listed { IfOk result (λ found. Lists program.now
+        (search_of of.now.utf8_empty input.old) of.now.start of.now.slot_len false
+        input.old.asked.span.start input.old.asked.span.start
+        (map outcome_of_listed found.items)) }
+    ensures same { IsSameContent input.old.cursor input.new.cursor }
+    ensures asked { input.new.asked ≡ input.old.asked }
+    ensures refused { IfErr result (λ error. error ≡ MatchError.Memory) }
+{
+    let mut progress = Progress {
+        found: Vec::new(alloc),
+        from: input.start(),
+        after: false,
+    };
+    loop {
+        let at = input.position();
+        let found = find_at(walk, program, input, lists, of, progress.from)?;
+        let end = progress.take(alloc, at, found, walk.stepper.slots())?;
+        if !go_on(input, at, end) {
+            return Ok(progress.found);
+        }
+    }
+}
+
+/// Lists all matches of a program inside an input's span and slice, leftmost first, each with so
+/// many slots: what the finds from the end of each match on give, where an empty match at that end
+/// is passed over. `utf8_empty` passes over empty matches inside a character. The one refusal is
+/// `Memory`.
+///
+/// It reads the span once back, and forward each place a few times at most, however far the finds
+/// would read. Back it looks at all nodes of the program at each place, over and over until none
+/// more leads: at worst once for each node. It takes memory for the nodes that lead from each place
+/// of the span.
+pub fn list_matches<C: Cursor>(
+    alloc: Global,
+    program: &Program,
+    slot_len: usize,
+    input: &mut Input<C>,
+    utf8_empty: bool,
+) -> Result<Vec<ListedMatch>, MatchError>
+    ensures listed { IfOk result (λ found. AreAllMatches program.now
+        (search_of utf8_empty input.old) slot_len found.items) }
+    ensures same { IsSameContent input.old.cursor input.new.cursor }
+    ensures asked { input.new.asked ≡ input.old.asked }
+    ensures refused { IfErr result (λ error. error ≡ MatchError.Memory) }
+{
+    let Some(start) = start_state(program, input.get_anchored()) else {
+        return Ok(Vec::new(alloc));
+    };
+    // Laws, for the proof alone.
+    program.walks_are_those_of_characters();
+    byte_listings_are_matches::<CharacterSet, Option<NonMaxUsize>>();
+    if !enter_last(input) {
+        return Ok(Vec::new(alloc));
+    }
+    let last = input.position();
+    let lists = PassBack::new(alloc, program)?.pass_all(alloc, program, input)?;
+    let mut walk = Walk::new(alloc, program)?;
+    let of = Walking {
+        last,
+        start,
+        slot_len,
+        utf8_empty,
+    };
+    list_all(alloc, &mut walk, program, input, &lists, &of)
+}

@@ -1,0 +1,145 @@
+//! A set of nodes of a program that can be gone through.
+
+ghost use Rattle.std.specs.Prelude.{◌≡◌, ◌↔◌, ◌<◌, ℕ, [], Some, Contains, IsTrue, IfOk, IfErr, OnOk};
+ghost use Rattle.rx_util.specs.declared.search.MatchError.{MatchError};
+ghost use Rattle.rx_steps.specs.Nodes.{widths_of, width_of, index_from};
+ghost use Rattle.rx_lists.specs.Sets.{AreAllNodes, IsAdded};
+
+use rx_program::{Program, State};
+use rx_steps::{Node, Visited};
+use rx_util::{MatchError, StateID};
+use std::alloc::{AllocError, Global};
+use std::marker::Model;
+
+/// Nodes of a program, each once, in the order in which they came. Contracts see how many nodes
+/// each state is, and the nodes.
+#[derive(Debug, Drop)]
+pub(crate) struct NodeSet {
+    visited: Visited,
+    nodes: Vec<Node>,
+}
+
+impl Model for NodeSet {
+    ghost use Rattle.std.specs.Prelude.{◌≡◌, length};
+    ghost use Rattle.rx_lists.specs.Sets.{NodeSetView, AreOf};
+
+    ghost Value = { NodeSetView };
+
+    ghost view = { λ s. record { widths = s.visited.widths; nodes = s.nodes.items } };
+
+    ghost invariant = { λ s. (AreOf s.visited.widths s.visited.ids s.nodes.items)
+        × (length s.nodes.items ≡ length s.visited.ids) };
+}
+
+impl NodeSet {
+    /// The empty set, for the nodes of a program.
+    pub(crate) fn new(alloc: Global, program: &Program) -> Result<NodeSet, MatchError>
+        ensures widths { IfOk result (λ s. s.widths ≡ widths_of program.now) }
+        ensures empty { IfOk result (λ s. s.nodes ≡ []) }
+        ensures refused { IfErr result (λ error. error ≡ MatchError.Memory) }
+    {
+        let mut visited = Visited::new(alloc, program)?;
+        visited.clear();
+        Ok(NodeSet {
+            visited,
+            nodes: Vec::new(alloc),
+        })
+    }
+
+    /// The nodes.
+    pub(crate) fn nodes(&self) -> &[Node]
+        ensures { result.now ≡ self.now.nodes }
+    {
+        &self.nodes
+    }
+
+    /// Takes all nodes out. The memory is kept.
+    pub(crate) fn clear(&mut self)
+        ensures { self.new ≡ record self.old { nodes = [] } }
+    {
+        self.visited.clear();
+        self.nodes.clear();
+    }
+
+    /// Whether a node is a member.
+    pub(crate) fn has(&self, node: Node) -> bool
+        ensures { IsTrue result ↔ Contains self.now.nodes node }
+    {
+        self.visited.has(node)
+    }
+
+    /// Adds a node that has an index and is no member yet, and tells whether it was so. Where
+    /// memory is refused no node is left.
+    pub(crate) fn add(&mut self, node: Node) -> Result<bool, AllocError>
+        ensures added { IfOk result (λ is_new. IsAdded self.old.widths self.old.nodes node is_new
+            self.new.nodes) }
+        ensures widths { self.new.widths ≡ self.old.widths }
+    {
+        if !self.visited.insert(node) {
+            return Ok(false);
+        }
+        match self.nodes.push(node) {
+            Ok(()) => Ok(true),
+            Err(refused) => {
+                self.visited.clear();
+                self.nodes.clear();
+                Err(refused.into())
+            }
+        }
+    }
+}
+
+impl NodeSet {
+    /// Takes all nodes out, and puts these in that have an index.
+    pub(crate) fn load(&mut self, nodes: &[Node]) -> Result<(), AllocError>
+        ensures these { OnOk result ((q : ℕ × ℕ) → Contains self.new.nodes q
+            → Contains nodes.now q) }
+        ensures all { OnOk result ((q : ℕ × ℕ) (k : ℕ) → Contains nodes.now q
+            → index_from 0 self.old.widths q.0 q.1 ≡ Some k → Contains self.new.nodes q) }
+        ensures widths { self.new.widths ≡ self.old.widths }
+    {
+        self.clear();
+        for node in nodes {
+            self.add(*node)?;
+        }
+        Ok(())
+    }
+}
+
+/// Adds all nodes of a state, behind the others.
+fn push_nodes(nodes: &mut Vec<Node>, id: StateID, state: &State) -> Result<(), AllocError>
+    ensures these { OnOk result ((s : ℕ) → s < width_of state.now
+        → Contains nodes.new.items (id, s)) }
+    ensures others { OnOk result ((q : ℕ × ℕ) → Contains nodes.old.items q
+        → Contains nodes.new.items q) }
+{
+    match state {
+        State::Ranges(automaton, _) => push_within(nodes, id, automaton.state_count()),
+        _ => push_within(nodes, id, 1),
+    }
+}
+
+/// Adds the nodes of a state that is so many.
+fn push_within(nodes: &mut Vec<Node>, id: StateID, width: usize) -> Result<(), AllocError>
+    ensures these { OnOk result ((s : ℕ) → s < width → Contains nodes.new.items (id, s)) }
+    ensures others { OnOk result ((q : ℕ × ℕ) → Contains nodes.old.items q
+        → Contains nodes.new.items q) }
+{
+    for within in 0..width {
+        nodes.push(Node::new(id, within))?;
+    }
+    Ok(())
+}
+
+/// All nodes of a program, those of the last state first.
+pub(crate) fn all_nodes(alloc: Global, program: &Program) -> Result<Vec<Node>, AllocError>
+    ensures { IfOk result (λ nodes. AreAllNodes program.now.states nodes.items) }
+{
+    let states = program.states();
+    let mut nodes = Vec::new(alloc);
+    for done in 0..states.len() {
+        let number = states.len() - 1 - done;
+        push_nodes(&mut nodes, StateID::new(number), &states[number])?;
+    }
+    Ok(nodes)
+}

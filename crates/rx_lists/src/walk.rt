@@ -1,0 +1,184 @@
+//! The pass forward: the one walk that is due, over nodes that lead alone.
+
+ghost use Rattle.std.specs.Prelude.{◌≡◌, ◌<◌, ◌≤◌, Bool, [], ◌∷◌, All, IfOk, IfErr, IfSome, OnOk, IsSomeAnd, length, slice_get};
+ghost use Rattle.rx_util.specs.declared.search.MatchError.{MatchError};
+ghost use Rattle.rx_walks.specs.Finds.{IsInside};
+ghost use Rattle.rx_walks.specs.Steps.{Steps};
+ghost use Rattle.rx_walks.specs.Leading.{Follows};
+ghost use Rattle.rx_walks.specs.ProgramFinds.{highest};
+ghost use Rattle.rx_input.specs.Inputs.{IsMoved};
+ghost use Rattle.rx_input.specs.Cursors.{IsSameContent};
+ghost use Rattle.rx_steps.specs.Searching.{search_of};
+ghost use Rattle.rx_steps.specs.Threads.{Slots, IsThreadOf, no_slots, first_node};
+ghost use Rattle.rx_steps.specs.Lists.{met_at};
+ghost use Rattle.rx_steps.specs.Coming.{machine_in};
+ghost use Rattle.rx_lists.specs.Passes.{AreListed, IsFirstAmong, IsWalking, outcome_of};
+
+use crate::node_lists::NodeLists;
+use crate::node_set::NodeSet;
+use rx_input::{Cursor, Input};
+use rx_program::Program;
+use rx_steps::{AskedLooks, Node, Place, Stepper, ThreadList, advance};
+use rx_util::{MatchError, PatternID, StateID};
+use std::alloc::{AllocError, Global};
+
+/// The number of the first thread that stands at one of the nodes.
+fn first_among(threads: &ThreadList, nodes: &NodeSet) -> Option<usize>
+    ensures { IsFirstAmong threads.now.threads nodes.now.nodes result }
+{
+    for number in 0..threads.len() {
+        if nodes.has(threads.node(number)) {
+            return Some(number);
+        }
+    }
+    None
+}
+
+/// Where a match ends, and of which pattern it is.
+#[derive(Clone, Copy, Debug)]
+pub(crate) struct Ending {
+    pub(crate) pattern: PatternID,
+    pub(crate) end: usize,
+}
+
+/// The end that was met at a place, if one was.
+fn ending_at(met: Option<PatternID>, end: usize) -> Option<Ending>
+    ensures { (slots : Slots) → outcome_of result slots ≡ met_at end met slots }
+{
+    match met {
+        Some(pattern) => Some(Ending { pattern, end }),
+        None => None,
+    }
+}
+
+/// A walk that is followed alone.
+#[derive(Debug, Drop)]
+pub(crate) struct Walk {
+    pub(crate) stepper: Stepper,
+    // Whether the program asks for looks.
+    pub(crate) asks_looks: bool,
+    // Where it stands: one thread.
+    live: ThreadList,
+    // Room for those at the next place.
+    next: ThreadList,
+    // The nodes that lead from that.
+    pub(crate) leading: NodeSet,
+}
+
+impl Walk {
+    /// Room for walks through a program. The one refusal is `Memory`.
+    pub(crate) fn new(alloc: Global, program: &Program) -> Result<Walk, MatchError>
+        ensures ready { IfOk result (λ walk. IsWalking program.now walk.stepper.widths
+            walk.asks_looks walk.leading.widths) }
+        ensures refused { IfErr result (λ error. error ≡ MatchError.Memory) }
+    {
+        Ok(Walk {
+            stepper: Stepper::new(alloc, program)?,
+            asks_looks: AskedLooks::of(program.states()).any,
+            live: ThreadList::new(alloc, 0),
+            next: ThreadList::new(alloc, 0),
+            leading: NodeSet::new(alloc, program)?,
+        })
+    }
+
+    /// Begins at a state, with so many slots.
+    fn begin(&mut self, start: StateID, slot_len: usize) -> Result<(), AllocError>
+        ensures live { OnOk result
+            (self.new.live.threads ≡ (no_slots slot_len, first_node start) ∷ []) }
+        ensures slot_len { self.new.live.slot_len ≡ slot_len }
+        ensures stepper { self.new.stepper ≡ self.old.stepper }
+        ensures asks_looks { self.new.asks_looks ≡ self.old.asks_looks }
+        ensures leading { self.new.leading ≡ self.old.leading }
+    {
+        self.live.clear(slot_len);
+        self.live.push_fresh(Node::first(start))
+    }
+
+    /// The step from the place at which an input stands: the threads at the next place.
+    fn step<C: Cursor>(
+        &mut self,
+        program: &Program,
+        input: &mut Input<C>,
+    ) -> Result<Option<PatternID>, MatchError>
+        requires ready { IsWalking program.now self.old.stepper.widths self.old.asks_looks
+            self.old.leading.widths }
+        requires threads { All (IsThreadOf program.now.states) self.old.live.threads }
+        ensures steps { IfOk result (λ met. (utf8_empty : Bool)
+            → IsInside (search_of utf8_empty input.old) input.old.position
+            → Steps (machine_in program.now (search_of utf8_empty input.old)) input.old.position []
+            self.old.live.threads self.new.next.threads
+            (met_at input.old.position met self.new.stepper.slots)) }
+        ensures threads { OnOk result (All (IsThreadOf program.now.states) self.new.next.threads) }
+        ensures ready { IsWalking program.now self.new.stepper.widths self.new.asks_looks
+            self.new.leading.widths }
+        ensures slot_len { self.new.next.slot_len ≡ self.old.live.slot_len }
+        ensures same { IsMoved input.old input.new input.old.position input.old.asked }
+        ensures refused { IfErr result (λ error. error ≡ MatchError.Memory) }
+    {
+        let place = Place::of(input, program.line_terminator(), self.asks_looks);
+        self.stepper
+            .next_list(program, &place, &self.live, &mut self.next)
+    }
+
+    /// Goes on with one of the threads at the next place alone.
+    fn go_on(&mut self, number: usize) -> Result<(), AllocError>
+        requires { number < length self.old.next.threads }
+        ensures live { OnOk result (IsSomeAnd (slice_get self.old.next.threads number)
+            (λ thread. self.new.live.threads ≡ thread ∷ [])) }
+        ensures slot_len { self.new.live.slot_len ≡ self.old.next.slot_len }
+        ensures stepper { self.new.stepper ≡ self.old.stepper }
+        ensures asks_looks { self.new.asks_looks ≡ self.old.asks_looks }
+        ensures leading { self.new.leading ≡ self.old.leading }
+    {
+        self.live.clear(self.next.slot_len());
+        self.live
+            .push(self.next.node(number), self.next.slots(number))
+    }
+
+    /// Follows the walk from a state at the place at which an input stands, with so many slots:
+    /// answers where the match ends that it comes to, if it comes to one, and has its slots. The
+    /// lists are of the nodes that lead from the last place of the span on back.
+    pub(crate) fn follow<C: Cursor>(
+        &mut self,
+        program: &Program,
+        input: &mut Input<C>,
+        lists: &NodeLists,
+        last: usize,
+        start: StateID,
+        slot_len: usize,
+    ) -> Result<Option<Ending>, MatchError>
+        requires ready { IsWalking program.now self.old.stepper.widths self.old.asks_looks
+            self.old.leading.widths }
+        requires inside { (utf8_empty : Bool)
+            → IsInside (search_of utf8_empty input.old) input.old.position }
+        requires last { (utf8_empty : Bool) → last ≡ highest (search_of utf8_empty input.old) }
+        requires lists { (utf8_empty : Bool) → AreListed program.now
+            (search_of utf8_empty input.old) last lists.now }
+        ensures followed { IfOk result (λ found. (utf8_empty : Bool)
+            → Follows (machine_in program.now (search_of utf8_empty input.old)) input.old.position
+            [] ((no_slots slot_len, first_node start) ∷ [])
+            (outcome_of found self.new.stepper.slots)) }
+        ensures inside { IfOk result (λ found. IfSome found (λ e.
+            (input.old.position ≤ e.end) × ((utf8_empty : Bool)
+            → IsInside (search_of utf8_empty input.old) e.end))) }
+        ensures ready { IsWalking program.now self.new.stepper.widths self.new.asks_looks
+            self.new.leading.widths }
+        ensures same { IsSameContent input.old.cursor input.new.cursor }
+        ensures asked { input.new.asked ≡ input.old.asked }
+        ensures refused { IfErr result (λ error. error ≡ MatchError.Memory) }
+    {
+        self.begin(start, slot_len)?;
+        loop {
+            let at = input.position();
+            let met = self.step(program, input)?;
+            if !advance(input) {
+                return Ok(ending_at(met, at));
+            }
+            self.leading.load(lists.list(last - input.position()))?;
+            let Some(number) = first_among(&self.next, &self.leading) else {
+                return Ok(ending_at(met, at));
+            };
+            self.go_on(number)?;
+        }
+    }
+}
