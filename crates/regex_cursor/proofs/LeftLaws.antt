@@ -1,5 +1,5 @@
 -- What is left of a search by what was told of it.
-use Rattle.std.proofs.Common.{◌≡◌, ℕ, ◌<◌, ◌≤◌, Bool, false, true, IsTrue, nat_lt, Option, Some, None, refl, sym, ap, ap₂, subst, ◌∙◌, arith}
+use Rattle.std.proofs.Common.{◌≡◌, ℕ, ◌<◌, ◌≤◌, Bool, false, true, IfSome, IsTrue, nat_lt, Option, Some, None, refl, sym, ap, ap₂, subst, ◌∙◌, arith}
 use Rattle.std.proofs.lemmas.Bool.{ltb-true}
 use Rattle.std.proofs.lemmas.Option.{same_Some}
 use Rattle.unicode.specs.Perl.{is_word_char}
@@ -20,9 +20,6 @@ use Rattle.regex_cursor.specs.declared.engines.meta.left.Part.{Part}
 use Rattle.regex_cursor.specs.Strategies.{BeginsFrom, FindsUpTo, HoldsFind, HoldsNext, IsLeft, IsPart}
 use Rattle.regex_cursor.proofs.StrategyLaws.{CutLaw, ExistLaw, InsideLaw, OneLaw}
 
-not_known : IsTrue false → ⊥
-not_known e = let told : false ≡ true = e in absurd (cc told)
-
 module _ (p : ByteProgram) (s : Search) where
   -- all of the span
   same_search : (span : Span) → s.start ≡ span.start → s.end ≡ span.end → within s span ≡ s
@@ -36,12 +33,12 @@ module _ (p : ByteProgram) (s : Search) where
     finds = λ out finds. subst (λ x. Finds p x out) (same_search span start end) finds;
   }
 
-  pub all_left : (span : Span) → s.start ≡ span.start → s.end ≡ span.end → span.start ≤ span.end → IsPart p s (record { span = span; has_match = false })
-  all_left span start end ordered = record { holds = all_holds span start end ordered; match = λ e. absurd (not_known e) }
+  pub all_left : (span : Span) → s.start ≡ span.start → s.end ≡ span.end → span.start ≤ span.end → IsPart p s (record { span = span; pattern = None })
+  all_left span start end ordered = record { holds = all_holds span start end ordered; match = tt }
 
   -- up to the end of the match that is found
-  pub up_to_left : OneLaw → InsideLaw → CutLaw → (start end : ℕ) → s.start ≡ start → FindsUpTo p s end → IsPart p s (record { span = record { start = start; end = end }; has_match = true })
-  up_to_left one inside cut start end same up =
+  pub up_to_left : OneLaw → InsideLaw → CutLaw → (start k end : ℕ) → s.start ≡ start → FindsUpTo p s k end → IsPart p s (record { span = record { start = start; end = end }; pattern = Some k })
+  up_to_left one inside cut start k end same up =
       let t = up.found in
       let lies = inside is_in is_word_char (characters_of p) s t up.finds in
       let at = lies.found.inside in
@@ -54,11 +51,11 @@ module _ (p : ByteProgram) (s : Search) where
           before = omega (arith, at.3, up.end_is);
           finds = λ out finds. subst (λ o. Finds p s o) (sym (one is_in is_word_char (characters_of p) (within s (record { start = start; end = end })) out (Some t) finds there)) up.finds;
         };
-        match = λ e. record { found = t; finds = there; end_is = up.end_is };
+        match = record { found = t; finds = there; pattern_is = up.pattern_is; end_is = up.end_is };
       }
 
   -- the span that the literal takes
-  pub literal_left : OneLaw → InsideLaw → (span : Span) → FindsLiteral (characters_of p) is_word_char s span → IsPart p s (record { span = span; has_match = true })
+  pub literal_left : OneLaw → InsideLaw → (span : Span) → FindsLiteral (characters_of p) is_word_char s span → IsPart p s (record { span = span; pattern = Some 0 })
   literal_left one inside span literal =
       let t = literal_match span in
       let lies = inside is_in is_word_char (characters_of p) s t literal.finds in
@@ -69,7 +66,7 @@ module _ (p : ByteProgram) (s : Search) where
           before = lies.found.inside.3;
           finds = λ out finds. subst (λ o. Finds p s o) (sym (one is_in is_word_char (characters_of p) (within s span) out (Some t) finds literal.alone)) literal.finds;
         };
-        match = λ e. record { found = t; finds = literal.alone; end_is = refl };
+        match = record { found = t; finds = literal.alone; pattern_is = refl; end_is = refl };
       }
 
   -- ---- what comes next
@@ -91,19 +88,18 @@ module _ (p : ByteProgram) (s : Search) where
 
   -- no match in the part ends there
   pub none_ends : OneLaw → InsideLaw → (last : Option ℕ) (part : Part) (may : Bool) → IsPart p s part → may ≡ false
-      → (IsTrue part.has_match → last ≡ Some part.span.end → IsTrue may) → ((end : ℕ) → part.has_match ≡ false → last ≡ Some end → part.span.start ≤ end → IsTrue may)
+      → ((k : ℕ) → part.pattern ≡ Some k → last ≡ Some part.span.end → IsTrue may) → ((end : ℕ) → part.pattern ≡ None → last ≡ Some end → part.span.start ≤ end → IsTrue may)
       → (t : Outcome Notes) → Finds p (within s part.span) (Some t) → last ≡ Some (end_of t) → ⊥
-  none_ends one inside last part may is not known unknown t finds ends_ = by part.has_match refl
+  none_ends one inside last part may is not known unknown t finds ends_ = by part.pattern refl is.match
     where
       never : IsTrue may → ⊥
       never e = let told : may ≡ true = e in absurd (cc (told, not))
 
-      by : (b : Bool) → part.has_match ≡ b → ⊥
-      by true has =
-          let up = is.match has in
+      by : (o : Option ℕ) → part.pattern ≡ o → IfSome o (λ k. FindsUpTo p (within s part.span) k part.span.end) → ⊥
+      by (Some k) has up =
           let same : t ≡ up.found = same_Some t up.found (one is_in is_word_char (characters_of p) (within s part.span) (Some t) (Some up.found) finds up.finds) in
-          never (known has (ends_ ∙ ap Some (ap (λ (x : Outcome Notes). end_of x) same ∙ up.end_is)))
-      by false has =
+          never (known k has (ends_ ∙ ap Some (ap (λ (x : Outcome Notes). end_of x) same ∙ up.end_is)))
+      by None has none_there =
           let lies = inside is_in is_word_char (characters_of p) (within s part.span) t finds in
           never (unknown (end_of t) has ends_ (omega (arith, lies.found.possible.0.2, lies.found.ordered)))
 

@@ -1,3 +1,4 @@
+pub mod BackLaws
 pub mod BetweenLaws
 pub mod BuildLaws
 pub mod FewLaws
@@ -11,3 +12,4 @@ pub mod StrategyLaws
 pub mod SetLaws
 pub mod StartLaws
 pub mod LowerLaws
+pub mod TreeLaws

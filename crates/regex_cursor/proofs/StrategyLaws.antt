@@ -1,5 +1,5 @@
 -- What is found in a part of a search's span, and what that tells of the span.
-use Rattle.std.proofs.Common.{◌≡◌, ℕ, zero, suc, ◌+◌, ◌<◌, ◌≤◌, ◌^◌, Bool, false, true, IsTrue, List, [], ◌∷◌, length, replicate, Option, Some, None, SomeIff, is_some, cond, set, refl, sym, ap, ap₂, subst, ◌∙◌, arith}
+use Rattle.std.proofs.Common.{◌≡◌, ℕ, zero, suc, ◌+◌, ◌<◌, ◌≤◌, ◌^◌, Bool, false, true, List, [], ◌∷◌, length, replicate, Option, Some, None, IfSome, SomeIff, is_some, cond, set, refl, sym, ap, ap₂, subst, ◌∙◌, arith}
 use Rattle.std.proofs.lemmas.Bool.{ne_eqb}
 use Rattle.std.proofs.lemmas.List.{length-replicate}
 use Rattle.unicode.specs.Perl.{is_word_char}
@@ -29,7 +29,7 @@ use Rattle.rx_chunk.proofs.KindLaws.{finds_first}
 use Rattle.rx_chunk.specs.Searches.{TellsWhole}
 use Rattle.rx_chunk.specs.Iterating.{ComesNext, IsFoundNext, IsNextAnswer}
 use Rattle.regex_cursor.specs.declared.engines.meta.left.Part.{Part}
-use Rattle.regex_cursor.specs.Strategies.{HoldsFind, HoldsNext, IsPart, IsNextLeft}
+use Rattle.regex_cursor.specs.Strategies.{FindsUpTo, HoldsFind, HoldsNext, IsPart, IsNextLeft}
 
 -- the laws of rx_walks, as calls of them tell them
 abbrev pub OneLaw : Type 0
@@ -165,10 +165,12 @@ module _ (e : Engine) (first : IsFirst e) (s : Search) where
       record { whether = none_there finds; exact = λ any. record { found = None; finds = none_by finds; pattern_is = refl; slots_are = none }; none = λ nothing_there. none }
 
   -- there is a match in a part
-  pub match_there : (part : Part) → IsPart e.program s part → IsTrue part.has_match → TellsWhether (EngineFinds e) s true
-  match_there part is has =
-      let up = is.match has in
-      (Some up.found, by_engine e first (λ finding. finding s (Some up.found)) (is.holds.finds (Some up.found) up.finds), (λ told. told, λ told. told))
+  pub match_there : (part : Part) → IsPart e.program s part → is_some part.pattern ≡ true → TellsWhether (EngineFinds e) s true
+  match_there part is has = by part.pattern is.match has
+    where
+      by : (o : Option ℕ) → IfSome o (λ k. FindsUpTo e.program (within s part.span) k part.span.end) → is_some o ≡ true → TellsWhether (EngineFinds e) s true
+      by None up none = absurd (cc none)
+      by (Some k) up has = (Some up.found, by_engine e first (λ finding. finding s (Some up.found)) (is.holds.finds (Some up.found) up.finds), (λ told. told, λ told. told))
 
   -- ---- a literal
 
@@ -193,7 +195,7 @@ nothing_whole e first i caps groups n finds is =
       inside = λ found some. absurd (cc some);
     })
 
-slots_length : (first n : ℕ) (notes : Notes) → length (slots_from first n notes) ≡ n
+pub slots_length : (first n : ℕ) (notes : Notes) → length (slots_from first n notes) ≡ n
 slots_length first zero notes = refl
 slots_length first (suc n) notes = ap suc (slots_length (suc first) n notes)
 

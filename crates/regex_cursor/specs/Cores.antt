@@ -1,6 +1,8 @@
 -- What a regex shares with its caches, and what these keep for each engine.
-use Rattle.std.specs.Prelude.{◌≡◌}
+use Rattle.std.specs.Prelude.{◌≡◌, Option, IfSome}
+use Rattle.rx_program.specs.Reversed.{ReverseByteProgram}
 use Rattle.rx_steps.specs.Caches as steps
+use Rattle.rx_steps.specs.Reversed.{IsReverseOf}
 use Rattle.rx_dfa.specs.Caches as automata
 use Rattle.rx_dfa.specs.Alphabets.{AlphabetView, IsAlphabetOf}
 use Rattle.rx_engine.specs.Engines.{Engine, IsEngine}
@@ -20,8 +22,9 @@ pub record IsCore (c : CoreView) : Type 0 where
   pub utf8_empty : c.dfa.utf8_empty ≡ c.vm.utf8_empty
   pub capacity : c.dfa.capacity ≡ capacity_of c.settings
 
--- caches for searches by each
+-- caches for searches by each, and perhaps the program turned round
 pub record AreCachesOf (c : CoreView) (vm : steps.CacheView) (automaton : automata.CacheView)
-    : Type 0 where
+    (back : Option ReverseByteProgram) : Type 0 where
   pub for_vm : steps.IsCacheOf c.vm.program vm
   pub for_automaton : automata.IsCacheOf c.vm.program c.dfa automaton
+  pub turned : IfSome back (IsReverseOf c.vm.program)

@@ -1,9 +1,11 @@
+pub mod Backs
 pub mod Capturing
 pub mod Configs
 pub mod Cores
 pub mod Iterating
 pub mod Lending
 pub mod Literals
+pub mod NextMatches
 pub mod PatternLaws
 pub mod Patterns
 pub mod Regexes

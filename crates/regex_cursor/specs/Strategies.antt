@@ -1,5 +1,5 @@
 -- The engines of a regex, what searches by them keep, and what one of them leaves to the other.
-use Rattle.std.specs.Prelude.{◌≡◌, ℕ, ◌≤◌, IsTrue, false, Option, Some, None, IfSome}
+use Rattle.std.specs.Prelude.{◌≡◌, ℕ, ◌≤◌, false, Option, Some, None, IfSome}
 use Rattle.unicode.specs.Perl.{is_word_char}
 use Rattle.rx_util.specs.declared.search.Span.{Span}
 use Rattle.rx_walks.specs.Finds.{Search, from_place_on}
@@ -9,6 +9,7 @@ use Rattle.rx_walks.specs.ProgramFinds.{end_of}
 use Rattle.rx_dfa.specs.Caches as automata
 use Rattle.rx_dfa.specs.DenseTables.{IsClosedOf}
 use Rattle.rx_dfa.specs.Alphabets.{AlphabetView, IsAlphabetOf}
+use Rattle.rx_dfa.specs.Searching.{IsHalfAnswer}
 use Rattle.rx_program.specs.Programs.{ByteProgram, characters_of}
 use Rattle.rx_literals.specs.Literals.{FindsLiteral, within}
 use Rattle.rx_engine.specs.Engines.{Engine}
@@ -52,20 +53,21 @@ pub record AreEngines (e : Engines) : Type 0 where
 
 -- what a cache keeps serves searches by these engines: it was made for their program
 pub record AreKeptFor (e : Engines) (kept : Kept) : Type 0 where
-  pub caches : AreCachesOf kept.core.value kept.vm kept.automaton
+  pub caches : AreCachesOf kept.core.value kept.vm kept.automaton kept.back
   pub program : kept.core.value.vm.program ≡ e.vm.program
   pub utf8_empty : kept.core.value.vm.utf8_empty ≡ e.vm.utf8_empty
 
--- the match that is found ends there
-pub record FindsUpTo (p : ByteProgram) (s : Search) (end : ℕ) : Type 0 where
+-- the match that is found is of this pattern, and ends there
+pub record FindsUpTo (p : ByteProgram) (s : Search) (k end : ℕ) : Type 0 where
   pub found : Outcome Notes
   pub finds : Finds p s (Some found)
+  pub pattern_is : found.pattern ≡ k
   pub end_is : end_of found ≡ end
 
 -- what the automaton tells of a search
 abbrev pub IsTold : ByteProgram → Search → Told → Type 0
 IsTold p s told.NoMatch = Finds p s None
-IsTold p s (told.EndsAt end) = FindsUpTo p s end
+IsTold p s (told.Ends half) = IsHalfAnswer p s (Some half)
 IsTold p s told.Unknown = Unit {0}
 
 -- a part of a search's span, in which that is found which is found in the span
@@ -75,10 +77,10 @@ pub record HoldsFind (p : ByteProgram) (s : Search) (span : Span) : Type 0 where
   pub before : span.end ≤ s.end
   pub finds : (out : Option (Outcome Notes)) → Finds p (within s span) out → Finds p s out
 
--- such a part, and whether it is known that a match is found, which ends where the part does
+-- such a part, and perhaps the pattern of the match that is found, which ends where the part does
 pub record IsPart (p : ByteProgram) (s : Search) (part : Part) : Type 0 where
   pub holds : HoldsFind p s part.span
-  pub match : IsTrue part.has_match → FindsUpTo p (within s part.span) part.span.end
+  pub match : IfSome part.pattern (λ k. FindsUpTo p (within s part.span) k part.span.end)
 
 -- what is left of a search for the PikeVM
 abbrev pub IsLeft : ByteProgram → Search → Left → Type 0

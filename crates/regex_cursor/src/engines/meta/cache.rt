@@ -1,20 +1,22 @@
 //! What searches keep from one to the next.
 
-ghost use Rattle.std.specs.Prelude.{◌≡◌, IfErr, IfOk, OnErr, OnOk};
+ghost use Rattle.std.specs.Prelude.{◌≡◌, ◌≤◌, IfErr, IfOk, IfSome, OnErr, OnOk};
 ghost use Rattle.rx_util.specs.declared.search.MatchError.{MatchError};
 ghost use Rattle.rx_input.specs.Cursors.{IsSameContent};
 ghost use Rattle.rx_steps.specs.Caches as steps;
 ghost use Rattle.rx_dfa.specs.Searching.{IsHalfAnswer};
+ghost use Rattle.regex_cursor.specs.Backs.{EndsLast, IsWhole};
 ghost use Rattle.regex_cursor.specs.Regexes.{IsCacheOf, search_by};
 ghost use Rattle.regex_cursor.specs.Configs.{capacity_of};
 ghost use Rattle.regex_cursor.specs.Cores.{AreCachesOf};
 
+use super::back::Back;
 use super::regex::Regex;
 use super::strategy::Core;
 use rx_chunk::pikevm;
 use rx_dfa::try_search_fwd;
 use rx_input::{Cursor, Input};
-use rx_util::{HalfMatch, MatchError};
+use rx_util::{HalfMatch, Match, MatchError, PatternID};
 use std::alloc::{AllocError, Global};
 use std::marker::Model;
 use std::rc::Rc;
@@ -25,6 +27,10 @@ const CLEARS: usize = 3;
 /// How many bytes searches must come on by for each time, if it is more often: about ten for each
 /// state that has room, since to make one takes as long as the PikeVM takes for some bytes.
 const BYTES_A_CLEAR: usize = 50_000;
+
+/// In how many bytes the PikeVM may have looked for matches whose ends are known before the program
+/// is turned round, which takes about as long.
+const BYTES_A_TURN: usize = 20_000;
 
 /// What searches with a regex keep from one to the next, so that they ask for memory once. It
 /// serves the regex that it was made for or reset for, after each search again, refused or not.
@@ -46,6 +52,10 @@ pub(super) struct Kept {
     automaton: rx_dfa::Cache,
     // By how many bytes the automaton came on.
     passed: usize,
+    // The program turned round, once that pays.
+    back: Option<Back>,
+    // In how many bytes the PikeVM looked for matches whose ends were known.
+    walked: usize,
 }
 
 impl Kept {
@@ -67,6 +77,7 @@ impl Kept {
         ensures core { self.new.core ≡ self.old.core }
         ensures vm { self.new.vm ≡ self.old.vm }
         ensures automaton { self.new.automaton ≡ self.old.automaton }
+        ensures back { self.new.back ≡ self.old.back }
     {
         self.passed = self.passed.saturating_add(bytes);
     }
@@ -76,16 +87,71 @@ impl Kept {
         &mut self,
         input: &mut Input<C>,
     ) -> Result<Option<HalfMatch>, MatchError>
-        requires serve { AreCachesOf self.old.core.value self.old.vm self.old.automaton }
+        requires serve { AreCachesOf self.old.core.value self.old.vm self.old.automaton
+            self.old.back }
         ensures answer { IfOk result (IsHalfAnswer self.old.core.value.vm.program
             (search_by self.old.core.value.vm input.old)) }
-        ensures serve { AreCachesOf self.new.core.value self.new.vm self.new.automaton }
+        ensures serve { AreCachesOf self.new.core.value self.new.vm self.new.automaton
+            self.new.back }
         ensures core { self.new.core ≡ self.old.core }
         ensures asked { input.new.asked ≡ input.old.asked }
         ensures same { IsSameContent input.old.cursor input.new.cursor }
     {
         let core = &self.core;
         try_search_fwd(core.program(), core.dfa(), &mut self.automaton, input)
+    }
+
+    /// Turns the program round once that pays, where a match is to be looked for in so many bytes
+    /// more. The one refusal is `Memory`.
+    fn turn(&mut self, bytes: usize) -> Result<(), MatchError>
+        requires serve { AreCachesOf self.old.core.value self.old.vm self.old.automaton
+            self.old.back }
+        ensures serve { AreCachesOf self.new.core.value self.new.vm self.new.automaton
+            self.new.back }
+        ensures core { self.new.core ≡ self.old.core }
+        ensures refused { IfErr result (λ error. error ≡ MatchError.Memory) }
+    {
+        if self.back.is_some() {
+            return Ok(());
+        }
+        self.walked = self.walked.saturating_add(bytes);
+        if self.walked < BYTES_A_TURN {
+            return Ok(());
+        }
+        let back = Back::of(self.core.vm())?;
+        self.back = Some(back);
+        Ok(())
+    }
+
+    /// The match that is found in an input, of which it is known that it ends where the span does,
+    /// and of which pattern it is, by a search back from there; none where that doesn't pay. The
+    /// one refusal is `Memory`.
+    pub(super) fn whole_match<C: Cursor>(
+        &mut self,
+        input: &mut Input<C>,
+        pattern: PatternID,
+    ) -> Result<Option<Match>, MatchError>
+        requires serve { AreCachesOf self.old.core.value self.old.vm self.old.automaton
+            self.old.back }
+        requires ordered { input.old.asked.span.start ≤ input.old.asked.span.end }
+        ensures whole { IfOk result (λ found. EndsLast self.old.core.value.vm.program
+            self.old.core.value.vm.utf8_empty input.old pattern
+            → IfSome found (λ m. IsWhole self.old.core.value.vm.program
+            self.old.core.value.vm.utf8_empty input.old m)) }
+        ensures pattern { IfOk result (λ found. IfSome found (λ m. m.pattern ≡ pattern)) }
+        ensures serve { AreCachesOf self.new.core.value self.new.vm self.new.automaton
+            self.new.back }
+        ensures core { self.new.core ≡ self.old.core }
+        ensures asked { input.new.asked ≡ input.old.asked }
+        ensures same { IsSameContent input.old.cursor input.new.cursor }
+        ensures refused { IfErr result (λ error. error ≡ MatchError.Memory) }
+    {
+        self.turn(input.end() - input.start())?;
+        let utf8_empty = self.core.vm().utf8_empty();
+        match &mut self.back {
+            Some(back) => back.whole_match(input, utf8_empty, pattern),
+            None => Ok(None),
+        }
     }
 }
 
@@ -103,7 +169,7 @@ impl Model for Cache {
     } };
 
     ghost invariant = { λ c. AreCachesOf c.kept.value.core.value c.kept.value.vm
-        c.kept.value.automaton };
+        c.kept.value.automaton c.kept.value.back };
 }
 
 impl Cache {
@@ -143,6 +209,8 @@ impl Cache {
             vm,
             automaton,
             passed: 0,
+            back: None,
+            walked: 0,
         };
         Ok(Cache {
             kept: kept.boxed(alloc)?,
@@ -170,7 +238,8 @@ impl Cache {
         Ok(())
     }
 
-    /// Returns about how many bytes its lists take: a count that no contract fixes.
+    /// Returns about how many bytes its lists take, without the program turned round: a count that
+    /// no contract fixes.
     pub fn memory_usage(&self) -> usize {
         let kept = &self.kept;
         kept.vm

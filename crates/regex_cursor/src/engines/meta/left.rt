@@ -17,7 +17,7 @@ ghost use Rattle.regex_cursor.specs.Strategies.{HoldsNext, IsLeft, IsPart, IsPar
 
 use rx_input::{Cursor, Input};
 use rx_literals::{Prefilter, literal};
-use rx_util::{Anchored, Captures, NonMaxUsize, Span};
+use rx_util::{Anchored, Captures, HalfMatch, NonMaxUsize, PatternID, Span};
 
 /// What a literal tells of a search whose span isn't done.
 #[derive(Clone, Copy, Debug)]
@@ -35,8 +35,8 @@ pub(super) enum Start {
 pub(super) enum Told {
     /// There is no match.
     NoMatch,
-    /// There is a match, and it ends at this place.
-    EndsAt(usize),
+    /// There is a match, of this pattern, and it ends at this place.
+    Ends(HalfMatch),
     /// Nothing.
     Unknown,
 }
@@ -45,8 +45,9 @@ pub(super) enum Told {
 #[derive(Clone, Copy, Debug)]
 pub(super) struct Part {
     pub(super) span: Span,
-    /// Whether it is known that there is a match, which then ends where the part does.
-    pub(super) has_match: bool,
+    /// The pattern of the match, if it is known that there is one, which then ends where the part
+    /// does.
+    pub(super) pattern: Option<PatternID>,
 }
 
 /// What is left of a search for the PikeVM.
@@ -69,16 +70,16 @@ impl Told {
     {
         match self {
             Told::NoMatch => Left::Nothing,
-            Told::EndsAt(end) => Left::In(Part {
+            Told::Ends(half) => Left::In(Part {
                 span: Span {
                     start: span.start,
-                    end,
+                    end: half.offset(),
                 },
-                has_match: true,
+                pattern: Some(half.pattern()),
             }),
             Told::Unknown => Left::In(Part {
                 span,
-                has_match: false,
+                pattern: None,
             }),
         }
     }
@@ -93,7 +94,7 @@ impl Left {
             Left::Nothing => None,
             Left::Match(span) => Some(Part {
                 span,
-                has_match: true,
+                pattern: Some(PatternID::ZERO),
             }),
             Left::In(part) => Some(part),
         }
@@ -102,41 +103,41 @@ impl Left {
 
 impl Part {
     /// Whether a match in it may end where the last match did, if there was one.
-    fn may_end_at(self, last_match_end: Option<usize>) -> bool
-        ensures known { IsTrue self.has_match → last_match_end ≡ Some self.span.end
-            → IsTrue result }
-        ensures unknown { (end : ℕ) → self.has_match ≡ false → last_match_end ≡ Some end
-            → self.span.start ≤ end → IsTrue result }
+    fn may_end_at(&self, last_match_end: Option<usize>) -> bool
+        ensures known { (k : ℕ) → self.now.pattern ≡ Some k
+            → last_match_end ≡ Some self.now.span.end → IsTrue result }
+        ensures unknown { (end : ℕ) → self.now.pattern ≡ None → last_match_end ≡ Some end
+            → self.now.span.start ≤ end → IsTrue result }
     {
         match last_match_end {
             None => false,
-            Some(end) if self.has_match => end == self.span.end,
+            Some(end) if self.pattern.is_some() => end == self.span.end,
             Some(end) => self.span.start <= end,
         }
     }
 
     /// The part to search for what comes next where the last match, if there was one, ended at
     /// `last_match_end`: all of the search's span, where an empty match may have to be passed over.
-    pub(super) fn behind(self, last_match_end: Option<usize>, whole: Span) -> Part
+    pub(super) fn behind(&self, last_match_end: Option<usize>, whole: Span) -> Part
         ensures { (p : ByteProgram) (s : Search) → s.start ≡ whole.start → s.end ≡ whole.end
-            → IsPart p s self → HoldsNext p s last_match_end result.span }
+            → IsPart p s self.now → HoldsNext p s last_match_end result.span }
     {
         if self.may_end_at(last_match_end) {
             Part {
                 span: whole,
-                has_match: false,
+                pattern: None,
             }
         } else {
-            self
+            *self
         }
     }
 
     /// Makes the part an input's span, and answers the span that it had.
-    pub(super) fn cut<C: Cursor>(self, input: &mut Input<C>) -> Span
-        requires { self.span.start ≤ self.span.end }
+    pub(super) fn cut<C: Cursor>(&self, input: &mut Input<C>) -> Span
+        requires { self.now.span.start ≤ self.now.span.end }
         ensures whole { result ≡ input.old.asked.span }
         ensures same { IsSameContent input.old.cursor input.new.cursor }
-        ensures asked { input.new.asked ≡ record input.old.asked { span = self.span } }
+        ensures asked { input.new.asked ≡ record input.old.asked { span = self.now.span } }
     {
         let whole = input.get_span();
         put_back(input, self.span);

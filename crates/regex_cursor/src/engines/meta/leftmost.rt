@@ -1,7 +1,7 @@
 //! Searches for the leftmost match by the engines of a regex: the literals that matches begin with
 //! are looked for first, then the automaton is asked, and what it leaves is searched by the PikeVM.
 
-ghost use Rattle.std.specs.Prelude.{◌≡◌, ℕ, ◌*◌, ◌≤◌, IfOk, IfErr, OnOk, OnErr, None, length};
+ghost use Rattle.std.specs.Prelude.{◌≡◌, ℕ, ◌*◌, ◌≤◌, IfOk, IfErr, IfSome, OnOk, OnErr, None, Some, true, length};
 ghost use Rattle.std.specs.Option.{ForSome};
 ghost use Rattle.rx_util.specs.declared.search.MatchError.{MatchError};
 ghost use Rattle.rx_util.specs.declared.search.MatchKind.{MatchKind};
@@ -11,6 +11,7 @@ ghost use Rattle.rx_steps.specs.Threads.{no_slots};
 ghost use Rattle.rx_engine.specs.Engines.{IsEngine};
 ghost use Rattle.rx_chunk.specs.Engines.{EngineFinds, TellsWhether};
 ghost use Rattle.rx_chunk.specs.Iterating.{EndsAhead, IsFoundNext, IsNextAnswer, StartsFrom};
+ghost use Rattle.regex_cursor.specs.Backs.{EndsLast};
 ghost use Rattle.regex_cursor.specs.Regexes.{HoldsMatches, IsCacheOf, TellsMatch, TellsSlots, TellsWhole, search_by};
 ghost use Rattle.regex_cursor.specs.Strategies.{regex_of};
 
@@ -19,6 +20,7 @@ use super::left::{Left, clear_slots, note_nothing, put_back, put_match};
 use super::strategy::Strategy;
 use rx_chunk::pikevm;
 use rx_input::{Cursor, Input};
+use rx_matches::halves::is_empty_at_last;
 use rx_util::{Captures, Match, MatchError, NonMaxUsize, PatternID};
 
 /// Whether there is a match, as `Strategy::is_match` answers it.
@@ -39,8 +41,10 @@ pub(super) fn is_match<C: Cursor>(
     match strategy.ask(&mut cache.kept, input)? {
         Left::Nothing => Ok(false),
         Left::Match(_) => Ok(true),
-        Left::In(part) if part.has_match => Ok(true),
         Left::In(part) => {
+            if part.pattern.is_some() {
+                return Ok(true);
+            }
             let whole = part.cut(input);
             let yes = pikevm::is_match(strategy.vm(), &mut cache.kept.vm, input);
             put_back(input, whole);
@@ -69,11 +73,42 @@ pub(super) fn find<C: Cursor>(
         Left::Nothing => Ok(None),
         Left::Match(span) => Ok(Some(Match::new(PatternID::ZERO, span))),
         Left::In(part) => {
+            let pattern = part.pattern;
             let whole = part.cut(input);
-            let found = pikevm::find(strategy.vm(), &mut cache.kept.vm, input);
+            let found = find_in(strategy, cache, input, pattern);
             put_back(input, whole);
             found
         }
+    }
+}
+
+/// The match that is found in a part, which is an input's span: where its end is known, and its
+/// pattern, by a search back from there, if that pays, and else by the PikeVM.
+fn find_in<C: Cursor>(
+    strategy: &Strategy,
+    cache: &mut Cache,
+    input: &mut Input<C>,
+    pattern: Option<PatternID>,
+) -> Result<Option<Match>, MatchError>
+    requires made { IsCacheOf (regex_of strategy.now) cache.old }
+    requires first { strategy.now.vm.match_kind ≡ MatchKind.LeftmostFirst }
+    requires ordered { input.old.asked.span.start ≤ input.old.asked.span.end }
+    requires known { IfSome pattern
+        (EndsLast strategy.now.vm.program strategy.now.vm.utf8_empty input.old) }
+    ensures answer { IfOk result (λ found. TellsMatch strategy.now.vm input.old found) }
+    ensures inside { IfOk result
+        (λ found. ForSome found (λ m. EndsInside input.old m.span.end)) }
+    ensures made { IsCacheOf (regex_of strategy.now) cache.new }
+    ensures asked { input.new.asked ≡ input.old.asked }
+    ensures same { IsSameContent input.old.cursor input.new.cursor }
+    ensures refused { IfErr result (λ error. error ≡ MatchError.Memory) }
+{
+    let Some(pattern) = pattern else {
+        return pikevm::find(strategy.vm(), &mut cache.kept.vm, input);
+    };
+    match strategy.whole_match(&mut cache.kept, input, pattern)? {
+        Some(found) => Ok(Some(found)),
+        None => pikevm::find(strategy.vm(), &mut cache.kept.vm, input),
     }
 }
 
@@ -103,11 +138,60 @@ pub(super) fn search_slots<C: Cursor>(
             Ok(Some(PatternID::ZERO))
         }
         Left::In(part) => {
+            let pattern = part.pattern;
             let whole = part.cut(input);
-            let found = pikevm::search_slots(strategy.vm(), &mut cache.kept.vm, input, slots);
+            let found = slots_in(strategy, cache, input, slots, pattern);
             put_back(input, whole);
             found
         }
+    }
+}
+
+/// Whether the places of this pattern's match are all that is asked for in so many slots: it is the
+/// first one.
+fn asks_whole(pattern: Option<PatternID>, slots: usize) -> bool
+    ensures pattern { result ≡ true → pattern ≡ Some 0 }
+    ensures slots { result ≡ true → slots ≤ 2 }
+{
+    match pattern {
+        Some(pattern) => pattern == PatternID::ZERO && slots <= 2,
+        None => false,
+    }
+}
+
+/// The pattern of the match that is found in a part, which is an input's span, with its places in
+/// slots, which hold none before: as `find_in` finds it where no group besides is asked for.
+fn slots_in<C: Cursor>(
+    strategy: &Strategy,
+    cache: &mut Cache,
+    input: &mut Input<C>,
+    slots: &mut [Option<NonMaxUsize>],
+    pattern: Option<PatternID>,
+) -> Result<Option<PatternID>, MatchError>
+    requires made { IsCacheOf (regex_of strategy.now) cache.old }
+    requires first { strategy.now.vm.match_kind ≡ MatchKind.LeftmostFirst }
+    requires clear { slots.old ≡ no_slots (length slots.old) }
+    requires ordered { input.old.asked.span.start ≤ input.old.asked.span.end }
+    requires known { IfSome pattern
+        (EndsLast strategy.now.vm.program strategy.now.vm.utf8_empty input.old) }
+    ensures answer { IfOk result
+        (λ pattern. TellsSlots strategy.now.vm input.old pattern slots.new) }
+    ensures none { OnErr result (slots.new ≡ no_slots (length slots.new)) }
+    ensures made { IsCacheOf (regex_of strategy.now) cache.new }
+    ensures asked { input.new.asked ≡ input.old.asked }
+    ensures same { IsSameContent input.old.cursor input.new.cursor }
+    ensures refused { IfErr result (λ error. error ≡ MatchError.Memory) }
+{
+    let vm = strategy.vm();
+    if !asks_whole(pattern, slots.len()) {
+        return pikevm::search_slots(vm, &mut cache.kept.vm, input, slots);
+    }
+    match strategy.whole_match(&mut cache.kept, input, PatternID::ZERO)? {
+        Some(found) => {
+            put_match(slots, found.span());
+            Ok(Some(PatternID::ZERO))
+        }
+        None => pikevm::search_slots(vm, &mut cache.kept.vm, input, slots),
     }
 }
 
@@ -176,8 +260,40 @@ pub(super) fn next_slots<C: Cursor>(
     found
 }
 
-/// The match that comes next, as `Strategy::find_next` answers it.
+/// The match that comes next, as `Strategy::find_next` answers it. An empty one where the last one
+/// ended is passed over, and the search goes on one byte further than the span starts.
 pub(super) fn find_next<C: Cursor>(
+    strategy: &Strategy,
+    cache: &mut Cache,
+    input: &mut Input<C>,
+    last_match_end: Option<usize>,
+) -> Result<Option<Match>, MatchError>
+    requires made { IsCacheOf (regex_of strategy.now) cache.old }
+    requires first { strategy.now.vm.match_kind ≡ MatchKind.LeftmostFirst }
+    ensures answer { IfOk result (λ found. IsFoundNext (EngineFinds strategy.now.vm)
+        (search_by strategy.now.vm input.old) last_match_end found) }
+    ensures ahead { IfOk result (λ found. ForSome found (λ m. EndsAhead last_match_end
+        (search_by strategy.now.vm input.old) m.span.end)) }
+    ensures made { IsCacheOf (regex_of strategy.now) cache.new }
+    ensures same { (start : ℕ) × StartsFrom input.old input.new start }
+    ensures refused { IfErr result (λ error. error ≡ MatchError.Memory) }
+{
+    if input.get_earliest() {
+        return find_next_whole(strategy, cache, input, last_match_end);
+    }
+    let Some(found) = find(strategy, cache, input)? else {
+        return Ok(None);
+    };
+    if !is_empty_at_last(&found, last_match_end) {
+        return Ok(Some(found));
+    }
+    let start = input.start();
+    input.set_start(start + 1);
+    find(strategy, cache, input)
+}
+
+/// The same by the PikeVM, which doesn't look at `earliest`.
+fn find_next_whole<C: Cursor>(
     strategy: &Strategy,
     cache: &mut Cache,
     input: &mut Input<C>,

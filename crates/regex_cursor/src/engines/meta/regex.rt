@@ -484,6 +484,17 @@ impl Regex {
         self.vm().captures_len()
     }
 
+    /// Returns how many groups stand in each match, the whole match among them and whether they are
+    /// noted or not. `None` where matches differ in that, as those of `(a)|b` do, and where there
+    /// is no pattern; what may be repeated no times counts as different, unless there is no group
+    /// in it. `O(1)`.
+    pub fn static_captures_len(&self) -> Option<usize>
+        ensures len { result ≡ self.now.engine.static_captures_len }
+        ensures regex { IsRegex self.now }
+    {
+        self.vm().static_captures_len()
+    }
+
     /// Returns those groups of its patterns that are noted. `O(1)`.
     pub fn group_info(&self) -> &GroupInfo
         ensures groups { result.now ≡ self.now.engine.groups }

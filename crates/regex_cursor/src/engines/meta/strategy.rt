@@ -17,6 +17,7 @@ ghost use Rattle.rx_steps.specs.Threads.{no_slots};
 ghost use Rattle.rx_engine.specs.Engines.{IsEngine};
 ghost use Rattle.rx_chunk.specs.Engines.{EngineFinds, TellsWhether};
 ghost use Rattle.rx_chunk.specs.Iterating.{EndsAhead, HasNotedNext, IsFoundNext, IsNextAnswer, StartsFrom};
+ghost use Rattle.regex_cursor.specs.Backs.{EndsLast, IsWhole};
 ghost use Rattle.regex_cursor.specs.Regexes.{HoldsMatches, IsCacheOf, TellsHalf, TellsMatch, TellsSlots, TellsWhole, search_by};
 ghost use Rattle.regex_cursor.specs.Configs.{WantsNoLiterals, capacity_of};
 ghost use Rattle.regex_cursor.specs.Cores.{IsCore};
@@ -355,11 +356,37 @@ impl Strategy {
         let answer = self.search_half(kept, input);
         kept.pass(bytes_of(&answer, input));
         match answer {
-            Ok(Some(half)) => Ok(Told::EndsAt(half.offset())),
+            Ok(Some(half)) => Ok(Told::Ends(half)),
             Ok(None) => Ok(Told::NoMatch),
             Err(MatchError::Memory) => Err(MatchError::Memory),
             Err(_) => Ok(Told::Unknown),
         }
+    }
+
+    /// The match that is found in an input, of which it is known that it ends where the span does,
+    /// and of which pattern it is, by a search back from there; none where that doesn't pay. The
+    /// one refusal is `Memory`.
+    pub(super) fn whole_match<C: Cursor>(
+        &self,
+        kept: &mut Kept,
+        input: &mut Input<C>,
+        pattern: PatternID,
+    ) -> Result<Option<Match>, MatchError>
+        requires serve { AreKeptFor self.now kept.old }
+        requires ordered { input.old.asked.span.start ≤ input.old.asked.span.end }
+        requires known { EndsLast self.now.vm.program self.now.vm.utf8_empty input.old pattern }
+        ensures whole { IfOk result (λ found. IfSome found
+            (λ m. IsWhole self.now.vm.program self.now.vm.utf8_empty input.old m)) }
+        ensures pattern { IfOk result (λ found. IfSome found (λ m. m.pattern ≡ pattern)) }
+        ensures serve { AreKeptFor self.now kept.new }
+        ensures core { kept.new.core ≡ kept.old.core }
+        ensures asked { input.new.asked ≡ input.old.asked }
+        ensures same { IsSameContent input.old.cursor input.new.cursor }
+        ensures bound { length input.old.cursor.content < 2 ^ 63 }
+        ensures refused { IfErr result (λ error. error ≡ MatchError.Memory) }
+    {
+        let _at = input.position(); // tells how long the content may be
+        kept.whole_match(input, pattern)
     }
 
     /// Where the match lies, by the literal that each match is, or where it may begin, by those

@@ -2,11 +2,11 @@ use Rattle.std.proofs.Common.{◌≡◌, sym, ap, subst, ◌∙◌, arith}
 use Rattle.std.proofs.lemmas.Option.{same_Some}
 use Rattle.rx_util.specs.declared.search.Span.{Span}
 use Rattle.rx_util.specs.Search.{Found}
+use Rattle.rx_input.specs.Inputs.{Asked}
 use Rattle.rx_steps.specs.Searching.{search_of}
-use Rattle.rx_engine.specs.Engines.{Engine}
-use Rattle.rx_chunk.specs.Searches as engines
 use Rattle.rx_chunk.proofs.EngineLaws.{if_ok}
 use Rattle.regex_cursor.specs.Strategies.{IsLeft}
+use Rattle.regex_cursor.proofs.BackLaws.{known_last}
 use Rattle.regex_cursor.proofs.StrategyLaws.{cut_asked, cut_search, whole_inside, whole_is_span, no_match_told, literal_inside, literal_told, whole_match}
 use Rattle.regex_cursor.proofs.LowerLaws.{inside_law}
 use Rattle.regex_cursor.proofs.engines.meta.leftmost.find.Goals as goal
@@ -37,9 +37,9 @@ returns-in-In-clause-answer g c =
     let k = c.cut-whole.new.input in
     let search = cut_search re.utf8_empty i c.ask.new.input k part c.in_ok-ask.ensures.same c.in_ok-ask.ensures.asked c.cut-whole.ensures.same c.cut-whole.ensures.asked in
     let asked = cut_asked i c.ask.new.input k part c.in_ok-ask.ensures.asked c.cut-whole.ensures.asked in
-    if_ok c.find-found.result
-    (λ found told. whole_match re c.requires.first (search_of re.utf8_empty i) part is.holds i k found asked search (subst (λ (e : Engine). engines.TellsMatch e k found) c.vm.ensures.vm told))
-    c.find-found.ensures.answer
+    if_ok c.find_in-found.result
+    (λ found told. whole_match re c.requires.first (search_of re.utf8_empty i) part is.holds i k found asked search told)
+    c.find_in-found.ensures.answer
 
 pub returns-in-Match-clause-answer : goal.returns-in-Match-clause-answer
 returns-in-Match-clause-answer g c =
@@ -72,6 +72,15 @@ returns-in-In-clause-inside g c =
     let part = c.in-In.part.span in
     let is = subst (λ left. IsLeft re.program (search_of re.utf8_empty i) left) c.in-In.is c.in_ok-ask.ensures.left in
     let asked = cut_asked i c.ask.new.input c.cut-whole.new.input part c.in_ok-ask.ensures.asked c.cut-whole.ensures.asked in
-    if_ok c.find-found.result
+    if_ok c.find_in-found.result
     (λ found inside a some. whole_inside i c.cut-whole.new.input part a.span.end asked is.holds.behind is.holds.before (inside a some))
-    c.find-found.ensures.inside
+    c.find_in-found.ensures.inside
+
+pub find_in-found-requires-clause-known : goal.find_in-found-requires-clause-known
+find_in-found-requires-clause-known g c =
+    let i = c.args.input.now in
+    let re = c.args.strategy.now.vm in
+    let part = c.in-In.part in
+    let is = subst (λ left. IsLeft re.program (search_of re.utf8_empty i) left) c.in-In.is c.in_ok-ask.ensures.left in
+    let search = cut_search re.utf8_empty i c.ask.new.input c.cut-whole.new.input part.span c.in_ok-ask.ensures.same c.in_ok-ask.ensures.asked c.cut-whole.ensures.same c.cut-whole.ensures.asked in
+    known_last re.program re.utf8_empty (search_of re.utf8_empty i) c.cut-whole.new.input part.span part.pattern is.match search (ap (λ (a : Asked). a.span.end) c.cut-whole.ensures.asked)

@@ -1,4 +1,4 @@
-use Rattle.std.proofs.Common.{subst}
+use Rattle.std.proofs.Common.{sym, subst, ◌∙◌}
 use Rattle.rx_steps.specs.Searching.{search_of}
 use Rattle.rx_chunk.specs.Engines.{EngineFinds, TellsWhether}
 use Rattle.rx_engine.specs.Engines.{Engine}
@@ -19,8 +19,8 @@ put_back-requires g c =
     let is = subst (λ left. IsLeft re.program (search_of re.utf8_empty i) left) c.in-In.is c.in_ok-ask.ensures.left in
     whole_is_span re.program re.utf8_empty i c.ask.new.input c.in-In.part.span c.cut-whole.result is.holds c.in_ok-ask.ensures.asked c.cut-whole.ensures.whole
 
-pub returns-in-In-2-clause-answer : goal.returns-in-In-2-clause-answer
-returns-in-In-2-clause-answer g c =
+pub returns-else-is_some-clause-answer : goal.returns-else-is_some-clause-answer
+returns-else-is_some-clause-answer g c =
     let i = c.args.input.now in
     let re = c.args.strategy.now.vm in
     let part = c.in-In.part.span in
@@ -44,9 +44,9 @@ returns-in-Nothing-clause-answer g c =
     let none = subst (λ left. IsLeft c.args.strategy.now.vm.program (search_of c.args.strategy.now.vm.utf8_empty i) left) c.in-Nothing.is c.in_ok-ask.ensures.left in
     none_there c.args.strategy.now.vm c.requires.first (search_of c.args.strategy.now.vm.utf8_empty i) none
 
-pub returns-in-In-clause-answer : goal.returns-in-In-clause-answer
-returns-in-In-clause-answer g c =
+pub returns-then-is_some-clause-answer : goal.returns-then-is_some-clause-answer
+returns-then-is_some-clause-answer g c =
     let i = c.args.input.now in
     let re = c.args.strategy.now.vm in
     let is = subst (λ left. IsLeft re.program (search_of re.utf8_empty i) left) c.in-In.is c.in_ok-ask.ensures.left in
-    match_there re c.requires.first (search_of re.utf8_empty i) c.in-In.part is c.if-part.true
+    match_there re c.requires.first (search_of re.utf8_empty i) c.in-In.part is (sym c.is_some.ensures ∙ c.if-is_some.true)

@@ -1,9 +1,9 @@
-use Rattle.std.proofs.Common.{length, subst}
+use Rattle.std.proofs.Common.{length, ap, subst}
+use Rattle.rx_input.specs.Inputs.{Asked}
 use Rattle.rx_steps.specs.Searching.{search_of}
-use Rattle.rx_engine.specs.Engines.{Engine}
-use Rattle.rx_chunk.specs.Searches as engines
 use Rattle.rx_chunk.proofs.EngineLaws.{if_ok}
 use Rattle.regex_cursor.specs.Strategies.{IsLeft}
+use Rattle.regex_cursor.proofs.BackLaws.{known_last}
 use Rattle.regex_cursor.proofs.StrategyLaws.{cut_asked, cut_search, whole_is_span, no_slots_told, literal_fits, literal_slots_told, whole_slots}
 use Rattle.regex_cursor.proofs.LowerLaws.{inside_law}
 use Rattle.regex_cursor.proofs.engines.meta.leftmost.search_slots.Goals as goal
@@ -37,10 +37,10 @@ returns-in-In-clause-answer g c =
     let k = c.cut-whole.new.input in
     let search = cut_search re.utf8_empty i c.ask.new.input k part c.in_ok-ask.ensures.same c.in_ok-ask.ensures.asked c.cut-whole.ensures.same c.cut-whole.ensures.asked in
     let asked = cut_asked i c.ask.new.input k part c.in_ok-ask.ensures.asked c.cut-whole.ensures.asked in
-    let slots = c.search_slots-found.new.slots in
-    if_ok c.search_slots-found.result
-    (λ pattern told. whole_slots re c.requires.first (search_of re.utf8_empty i) part is.holds i k pattern slots asked search (subst (λ (e : Engine). engines.TellsSlots e k pattern slots) c.vm.ensures.vm told))
-    c.search_slots-found.ensures.answer
+    let slots = c.slots_in-found.new.slots in
+    if_ok c.slots_in-found.result
+    (λ pattern told. whole_slots re c.requires.first (search_of re.utf8_empty i) part is.holds i k pattern slots asked search told)
+    c.slots_in-found.ensures.answer
 
 pub returns-in-Match-clause-answer : goal.returns-in-Match-clause-answer
 returns-in-Match-clause-answer g c =
@@ -54,3 +54,12 @@ returns-in-Nothing-clause-answer g c =
     let i = c.args.input.now in
     let none = subst (λ left. IsLeft c.args.strategy.now.vm.program (search_of c.args.strategy.now.vm.utf8_empty i) left) c.in-Nothing.is c.in_ok-ask.ensures.left in
     no_slots_told c.args.strategy.now.vm c.requires.first (search_of c.args.strategy.now.vm.utf8_empty i) i.asked.earliest c.clear_slots.new.slots (length c.args.slots.now) none c.clear_slots.ensures.all
+
+pub slots_in-found-requires-clause-known : goal.slots_in-found-requires-clause-known
+slots_in-found-requires-clause-known g c =
+    let i = c.args.input.now in
+    let re = c.args.strategy.now.vm in
+    let part = c.in-In.part in
+    let is = subst (λ left. IsLeft re.program (search_of re.utf8_empty i) left) c.in-In.is c.in_ok-ask.ensures.left in
+    let search = cut_search re.utf8_empty i c.ask.new.input c.cut-whole.new.input part.span c.in_ok-ask.ensures.same c.in_ok-ask.ensures.asked c.cut-whole.ensures.same c.cut-whole.ensures.asked in
+    known_last re.program re.utf8_empty (search_of re.utf8_empty i) c.cut-whole.new.input part.span part.pattern is.match search (ap (λ (a : Asked). a.span.end) c.cut-whole.ensures.asked)

@@ -1,0 +1,43 @@
+use Rattle.std.proofs.Common.{subst}
+use Rattle.rx_steps.specs.Searching.{search_of}
+use Rattle.rx_engine.specs.Engines.{Engine}
+use Rattle.rx_chunk.specs.Engines.{EngineFinds}
+use Rattle.rx_chunk.specs.Iterating.{IsFoundNext}
+use Rattle.rx_chunk.proofs.EngineLaws.{if_ok}
+use Rattle.rx_chunk.proofs.IterLaws.{all_end}
+use Rattle.regex_cursor.specs.Strategies.{IsNextLeft}
+use Rattle.rx_chunk.proofs.KindLaws.{inside_of}
+use Rattle.regex_cursor.proofs.StrategyLaws.{cut_search, next_there, none_found_next, whole_found_next, whole_is_span}
+use Rattle.regex_cursor.proofs.engines.meta.leftmost.find_next_whole.Goals as goal
+
+pub cut-whole-requires : goal.cut-whole-requires
+cut-whole-requires g c = (next_there c.args.strategy.now.vm.program (search_of c.args.strategy.now.vm.utf8_empty c.args.input.now) c.args.last_match_end _ c.in-Some.part c.in_ok-part.ensures.next c.in-Some.is).holds.ordered
+
+pub put_back-requires : goal.put_back-requires
+put_back-requires g c =
+    let re = c.args.strategy.now.vm in
+    whole_is_span re.program re.utf8_empty c.args.input.now c.next_part.new.input c.in-Some.part.span c.cut-whole.result (next_there c.args.strategy.now.vm.program (search_of c.args.strategy.now.vm.utf8_empty c.args.input.now) c.args.last_match_end _ c.in-Some.part c.in_ok-part.ensures.next c.in-Some.is).holds c.in_ok-part.ensures.asked c.cut-whole.ensures.whole
+
+pub returns-clause-answer : goal.returns-clause-answer
+returns-clause-answer g c =
+    let i = c.args.input.now in
+    let re = c.args.strategy.now.vm in
+    let part = c.in-Some.part.span in
+    let k = c.cut-whole.new.input in
+    let search = cut_search re.utf8_empty i c.next_part.new.input k part c.in_ok-part.ensures.same c.in_ok-part.ensures.asked c.cut-whole.ensures.same c.cut-whole.ensures.asked in
+    let last = c.args.last_match_end in
+    if_ok c.find_next-found.result
+    (λ found is. whole_found_next re c.requires.first (search_of re.utf8_empty i) last part (next_there c.args.strategy.now.vm.program (search_of c.args.strategy.now.vm.utf8_empty c.args.input.now) c.args.last_match_end _ c.in-Some.part c.in_ok-part.ensures.next c.in-Some.is) found
+    (subst (λ x. IsFoundNext (EngineFinds re) x last found) search (subst (λ (e : Engine). IsFoundNext (EngineFinds e) (search_of e.utf8_empty k) last found) c.vm.ensures.vm is)))
+    c.find_next-found.ensures.answer
+
+pub returns-clause-ahead : goal.returns-clause-ahead
+returns-clause-ahead g c =
+    let re = c.args.strategy.now.vm in
+    if_ok c.find_next-found.result (λ found is. all_end (EngineFinds re) c.args.last_match_end (search_of re.utf8_empty c.args.input.now) found (inside_of re) is) (returns-clause-answer g c)
+
+pub returns-in_default-clause-answer : goal.returns-in_default-clause-answer
+returns-in_default-clause-answer g c =
+    let re = c.args.strategy.now.vm in
+    let none = subst (λ o. IsNextLeft re.program (search_of re.utf8_empty c.args.input.now) c.args.last_match_end o) c.in_default.is c.in_ok-part.ensures.next in
+    none_found_next re c.requires.first (search_of re.utf8_empty c.args.input.now) c.args.last_match_end none
