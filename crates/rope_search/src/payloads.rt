@@ -1,14 +1,14 @@
 //! Reading a command's payload.
-ghost use Rattle.std.specs.Prelude.{◌≡◌, ◌<◌, ◌≤◌, ◌↔◌, [], List, ℕ, length, take};
+ghost use Rattle.std.specs.Prelude.{◌≡◌, ◌<◌, ◌≤◌, ◌↔◌, ◌++◌, [], List, ℕ, OnOk, length, take};
 ghost use Rattle.rope_search.specs.Stands.{StandsFor};
 ghost use Rattle.rope_search.specs.Requests.{Collects, CollectsMore, TakesPayload, TakesCollected};
 
 use crate::commands::Payload;
 use rope_search_io::{Broken, ReadBuffer, Source, Utf8Judge};
-use std::alloc::Global;
+use std::alloc::{AllocError, Global};
 
-/// What is kept of a payload while it is read. It takes memory for the bytes that were read alone,
-/// and none for those that a line claims.
+/// What is kept of a payload while it is read. It takes memory for the bytes that were read and at
+/// most as many again, and for no more than the line claims.
 #[derive(Drop)]
 pub enum Collected {
     /// All bytes so far.
@@ -32,13 +32,13 @@ impl Collected {
         }
     }
 
-    /// The payload's next bytes.
-    pub fn add(&mut self, bytes: &[u8])
+    /// The payload's next bytes, of `left` that are to come.
+    pub fn add(&mut self, bytes: &[u8], left: u64)
         ensures { CollectsMore self.old self.new bytes.now }
     {
         match self {
             Collected::Kept(kept) => {
-                if kept.extend_from_slice(bytes).is_err() {
+                if add_to(kept, bytes, left).is_err() {
                     *self = Collected::Lost;
                 }
             }
@@ -61,6 +61,18 @@ impl Collected {
             Collected::Lost => Payload::Lost,
         }
     }
+}
+
+/// Puts a payload's next bytes, of `left` that are to come, behind those that are kept.
+fn add_to(kept: &mut Vec<u8>, bytes: &[u8], left: u64) -> Result<(), AllocError>
+    ensures more { OnOk result (kept.new.items ≡ kept.old.items ++ bytes.now) }
+{
+    let spare = kept.capacity().saturating_sub(kept.len());
+    if spare < bytes.len() {
+        let more = kept.len().max(bytes.len());
+        kept.reserve_exact(left.min(more as u64) as usize)?;
+    }
+    kept.extend_from_slice(bytes)
 }
 
 /// The first bytes, at most so many, and all where there aren't more.
@@ -92,7 +104,7 @@ pub fn read_payload<R: Source>(
             return Ok(false);
         }
         let bytes = front(read_buffer.as_slice(), left);
-        collected.add(bytes);
+        collected.add(bytes, left);
         let count = bytes.len();
         read_buffer.consume(count);
         left -= count as u64;

@@ -9,7 +9,7 @@ use Rattle.rope_search_reports.specs.Matches.{groups_of}
 use Rattle.rope_search_reports.specs.Pattern.{span_of}
 use Rattle.rope_search_reports.specs.Report.{columns}
 use Rattle.rope_search_reports.specs.Replacement.{HasSpansIn, whole}
-use Rattle.rope_search_reports.specs.Finders.{ComesAfter}
+use Rattle.regex_cursor.specs.NextMatches.{TreeFindsNext}
 use Rattle.rope_search_reports.specs.LineGroups.{GroupsAreOfRows, IsAmongGroups, TellsGroups, in_columns}
 use Rattle.rope_search_reports.proofs.GroupLemmas.{spans-in}
 use Rattle.rope_search_reports.proofs.MatchLemmas.{AllHaveFinds, AllNote, Searched, Searched-start, comes-from, lies-behind}
@@ -64,7 +64,7 @@ among-here tree content last span slots number left item has next is none so =
     }
 
 -- and there is none
-pub among-none : (tree : Tree) (content : List ℕ) (last : Option ℕ) (number left : ℕ) → HasFinds tree → ComesAfter tree content last None
+pub among-none : (tree : Tree) (content : List ℕ) (last : Option ℕ) (number left : ℕ) → HasFinds tree → TreeFindsNext tree content last None
     → HasPassed tree content last number left → IsAmongGroups tree content number None
 among-none tree content last number left has none so = record {
   all = so.groups;

@@ -7,6 +7,7 @@ use Rattle.std.proofs.lemmas.Str.{encodes-chars, len_utf8_bounds}
 use Rattle.ropey.specs.Chunks.{is_break}
 use Rattle.str_indices.specs.Laws.{RisesWithIndex}
 use Rattle.str_indices.specs.Text.{byte_len, break_ends, breaks}
+use Rattle.regex_cursor.specs.NextMatches.{nothing}
 use Rattle.regex_cursor.specs.Patterns.{Tree, SpellsTree, TreeFinds, HasNoMatchBetween, between}
 use Rattle.rope_search_reports.specs.Text.{bytes_of, line_count}
 use Rattle.rope_search_reports.specs.Pattern.{FindsMatch}
@@ -14,7 +15,7 @@ use Rattle.rope_search_reports.specs.Position.{line_at, line_start, line_text, t
 use Rattle.rope_search_reports.specs.Report.{line_texts, IsRow, AreRows}
 use Rattle.rope_search_reports.specs.Ticks.{Ticks, MakesAsMany, MakesAtMost}
 use Rattle.rope_search_reports.specs.Drafts.{AddsRows, AreBare, HasNoneBetween, lines_between}
-use Rattle.rope_search_reports.specs.Laws.{PlaceLaws}
+use Rattle.rope_search_reports.proofs.TextPlaces.{PlaceLaws}
 use Rattle.rope_search_reports.proofs.ChangeLemmas.{dropped, two}
 use Rattle.rope_search_reports.proofs.LineLemmas.{byte_len-one, lines-counted, lines-in-place}
 use Rattle.rope_search_reports.proofs.MatchLemmas.{AllHaveFinds, Searched-start}
@@ -38,7 +39,7 @@ none-told pattern content content' from from' tree (Some place) spells same star
 bare-row : AllHaveFinds → (pattern line : List ℕ) → FindsMatch pattern (bytes_of line) 0 None → IsRow pattern line []
 bare-row finds pattern line is =
     let has = finds is.tree in
-    row-is pattern line is.tree [] is.spells (last-row is.tree line None [] has is.finds (Searched-start (columns_of (bytes_of line)) is.tree (bytes_of line) has))
+    row-is pattern line is.tree [] is.spells (last-row is.tree line None [] has (nothing is.finds) (Searched-start (columns_of (bytes_of line)) is.tree (bytes_of line) has))
 
 -- where no part of a text has a match, the empty text has none
 pub bare-empty : AllHaveFinds → (pattern content : List ℕ) (place : ℕ) → HasNoneBetween pattern content 0 place → IsRow pattern [] []

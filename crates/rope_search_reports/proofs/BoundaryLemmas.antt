@@ -16,7 +16,7 @@ use Rattle.rope_search_reports.specs.Report.{line_texts, column, columns, IsRow,
 use Rattle.rope_search_reports.specs.Matches.{IsMatches}
 use Rattle.rope_search_reports.specs.Pattern.{span_of}
 use Rattle.rope_search_reports.specs.Position.{line_at, line_start, line_text, text_end, IsAt, StandsAtBoundaries}
-use Rattle.rope_search_reports.specs.Laws.{PlaceLaws}
+use Rattle.rope_search_reports.proofs.TextPlaces.{PlaceLaws}
 use Rattle.rope_search_reports.proofs.LineLemmas.{byte_len-append, byte_len-one, lines-counted, lines-in-place}
 use Rattle.rope_search_reports.proofs.MatchLemmas.{AllHaveFinds}
 use Rattle.rope_search_reports.proofs.PlaceLemmas.{scalars-parts, split_at, front_of, line_inside}

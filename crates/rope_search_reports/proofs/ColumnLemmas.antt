@@ -7,7 +7,7 @@ use Rattle.std.proofs.Math.Seq.{take-append_seam}
 use Rattle.str_indices.specs.Text.{byte_len, units, units_of, char_ends, unit_ends, ends_up_to, end_place}
 use Rattle.rope_search_reports.specs.Text.{bytes_of}
 use Rattle.rope_search_reports.specs.Report.{column}
-use Rattle.rope_search_reports.specs.Laws.{PlaceLaws}
+use Rattle.rope_search_reports.proofs.TextPlaces.{PlaceLaws}
 use Rattle.rope_search_reports.proofs.ChangeLemmas.{two}
 use Rattle.rope_search_reports.proofs.LineLemmas.{byte_len-append}
 use Rattle.rope_search_reports.proofs.PlaceLemmas.{Split, split_at, scalars-parts, front_of, chars_there, units_there}

@@ -1,3 +1,4 @@
+pub mod TextPlaces
 pub mod BareLemmas
 pub mod MatchLemmas
 pub mod NextLemmas

@@ -5,10 +5,12 @@ use Rattle.std.specs.List.{last_or}
 use Rattle.std.specs.Str.{IsUtf8, IsCharBoundary}
 use Rattle.std.proofs.lemmas.Bool.{cases_lt}
 use Rattle.std.proofs.lemmas.List.{map-append}
-use Rattle.regex_cursor.specs.Patterns.{Tree, FoundMatch, at_once, moved, TreeFinds, TreeMatches, FirstTreeMatches, ComesBehind, BehindLast, search_from, pattern_weight, start_of, end_of}
+use Rattle.regex_cursor.specs.Patterns as patterns
+use Rattle.regex_cursor.specs.Patterns.{Tree, FoundMatch, TreeFinds, TreeMatches, FirstTreeMatches, ComesBehind, BehindLast, search_from, pattern_weight, start_of, end_of}
 use Rattle.regex_cursor.specs.PatternLaws.{HasFinds, HasNotedGroups, SpellsOneTree, SpellsTreeOrNone}
 use Rattle.rope_search_reports.specs.Pattern.{IsPattern, FindsMatch, Finds, span_of, weight_limit}
-use Rattle.rope_search_reports.specs.Finders.{ComesAfter}
+use Rattle.regex_cursor.specs.NextMatches.{TreeFindsNext, nothing, at_once, passed}
+use Rattle.rope_search_reports.specs.Finders.{start_behind}
 use Rattle.rope_search_reports.specs.Text.{IsText, bytes_of}
 use Rattle.rope_search_reports.specs.Laws.{IsPatternOrNot, IsOneOfThree, IsInText, FindsAreInText}
 
@@ -80,19 +82,18 @@ stands tree content from t has utf8 finds =
 -- ---- what comes next
 
 -- it is found from some place on, behind the last match
-pub comes-from : (tree : Tree) (content : List ℕ) (last : Option ℕ) (t : FoundMatch) → ComesAfter tree content last (Some t) → (from : ℕ) × TreeFinds tree content from (Some t)
-comes-from tree content None t finds = (0, finds)
-comes-from tree content (Some end) t (at_once finds other) = (end, finds)
-comes-from tree content (Some end) t (moved found starts ends later) = (end + 1, later)
+pub comes-from : (tree : Tree) (content : List ℕ) (last : Option ℕ) (t : FoundMatch) → TreeFindsNext tree content last (Some t) → (from : ℕ) × TreeFinds tree content from (Some t)
+comes-from tree content last t (at_once finds other) = (start_behind last, finds)
+comes-from tree content last t (passed found empty later) = (start_behind last + 1, later)
 
 -- how far a search for what comes next may go: less with each match
 abbrev pub room_behind : ℕ → Option ℕ → ℕ
 room_behind len None = len + 1
 room_behind len (Some end) = len - end
 
-pub comes-further : (tree : Tree) (content : List ℕ) (last : Option ℕ) (t : FoundMatch) → HasFinds tree → ComesAfter tree content last (Some t)
+pub comes-further : (tree : Tree) (content : List ℕ) (last : Option ℕ) (t : FoundMatch) → HasFinds tree → TreeFindsNext tree content last (Some t)
     → room_behind (length content) (Some (end_of t)) < room_behind (length content) last
-comes-further tree content None t has finds = omega arith
+comes-further tree content None t has next = omega arith
 comes-further tree content (Some end) t has (at_once finds other) =
     let h = lies-behind tree content end t has finds in
     let behind = h.behind in
@@ -100,20 +101,29 @@ comes-further tree content (Some end) t has (at_once finds other) =
     let inside = h.inside in
     elim (cases_lt end (end_of t)) [
       | inl further ↦ omega (arith, further, inside)
-      | inr there ↦ absurd (other (omega (arith, there, behind, ordered)) (omega (arith, there, behind, ordered)))
+      | inr there ↦ absurd (other (omega (arith, there, behind, ordered), ap Some (omega (arith, there, behind, ordered))))
     ]
-comes-further tree content (Some end) t has (moved found starts ends later) =
+comes-further tree content (Some end) t has (passed found empty later) =
     let h = lies-behind tree content (end + 1) t has later in
     let behind = h.behind in
     let ordered = h.ordered in
     let inside = h.inside in
     omega (arith, behind, ordered, inside)
 
+some-same : {A : Type 0} (a b : A) → Some a ≡ Some b → a ≡ b
+some-same a b e = cc
+
 -- in the words of the list of matches
-pub comes-behind : (tree : Tree) (content : List ℕ) (last : Option FoundMatch) (out : Option FoundMatch) → ComesAfter tree content (option_map end_of last) out
+pub comes-behind : (tree : Tree) (content : List ℕ) (last : Option FoundMatch) (out : Option FoundMatch) → TreeFindsNext tree content (option_map end_of last) out
     → BehindLast (TreeFinds tree content) start_of end_of 0 last out
-comes-behind tree content None out comes = comes
-comes-behind tree content (Some a) out comes = comes
+comes-behind tree content None None (nothing finds) = finds
+comes-behind tree content None (Some t) (at_once finds other) = finds
+comes-behind tree content None out (passed found empty later) = absurd (cc (empty.1))
+comes-behind tree content (Some a) None (nothing finds) = patterns.no_more finds
+comes-behind tree content (Some a) (Some t) (at_once finds other) = patterns.at_once finds (λ starts ends. other (starts ∙ sym ends, ap Some (sym ends)))
+comes-behind tree content (Some a) out (passed found empty later) =
+    let at = some-same _ _ (sym empty.1) in
+    patterns.moved found (empty.0 ∙ at) at later
 
 -- ---- the matches so far
 
@@ -133,16 +143,16 @@ Searched-start shows tree content has = record {
 }
 
 next-is : {A : Type 0} (shows : FoundMatch → A) (tree : Tree) (content : List ℕ) (last : Option ℕ) (items : List A) (out : Option FoundMatch)
-    → (s : Searched shows tree content last items) → ComesAfter tree content last out → ComesBehind tree content s.matches out
+    → (s : Searched shows tree content last items) → TreeFindsNext tree content last out → ComesBehind tree content s.matches out
 next-is shows tree content last items out s comes =
-    comes-behind tree content (last_or None s.matches) out (subst (λ l. ComesAfter tree content l out) s.last_is comes)
+    comes-behind tree content (last_or None s.matches) out (subst (λ l. TreeFindsNext tree content l out) s.last_is comes)
 
 last-more : (o : Option FoundMatch) (ms : List FoundMatch) (t : FoundMatch) → last_or o (ms ++ t ∷ []) ≡ Some t
 last-more o [] t = refl
 last-more o (m ∷ ms) t = last-more (Some m) ms t
 
 pub Searched-more : {A : Type 0} (shows : FoundMatch → A) (tree : Tree) (content : List ℕ) (last : Option ℕ) (items : List A) (t : FoundMatch) → HasFinds tree
-    → Searched shows tree content last items → ComesAfter tree content last (Some t) → Searched shows tree content (Some (end_of t)) (items ++ shows t ∷ [])
+    → Searched shows tree content last items → TreeFindsNext tree content last (Some t) → Searched shows tree content (Some (end_of t)) (items ++ shows t ∷ [])
 Searched-more shows tree content last items t has s comes = record {
   matches = s.matches ++ t ∷ [];
   first = ((has.first (search_from content 0)).one_more s.matches t).0 (s.first, next-is shows tree content last items (Some t) s comes);
@@ -151,14 +161,11 @@ Searched-more shows tree content last items t has s comes = record {
 }
 
 pub Searched-end : {A : Type 0} (shows : FoundMatch → A) (tree : Tree) (content : List ℕ) (last : Option ℕ) (items : List A) → HasFinds tree
-    → (s : Searched shows tree content last items) → ComesAfter tree content last None → TreeMatches tree content s.matches
+    → (s : Searched shows tree content last items) → TreeFindsNext tree content last None → TreeMatches tree content s.matches
 Searched-end shows tree content last items has s comes =
     ((has.first (search_from content 0)).all s.matches).0 (s.first, next-is shows tree content last items None s comes)
 
 -- ---- in a text
-
-some-same : {A : Type 0} (a b : A) → Some a ≡ Some b → a ≡ b
-some-same a b e = cc
 
 in-text : AllHaveFinds → (text : List ℕ) (from : ℕ) (tree : Tree) (found : Option FoundMatch) (span : ℕ × ℕ) → IsText text → TreeFinds tree (bytes_of text) from found
     → Some span ≡ option_map span_of found → IsInText text from span

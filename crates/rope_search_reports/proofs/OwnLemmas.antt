@@ -5,7 +5,7 @@ use Rattle.std.specs.Str.{all_scalars, IsCharBoundary}
 use Rattle.std.proofs.lemmas.List.{length-take}
 use Rattle.std.proofs.lemmas.Str.{IsUtf8-take, encodes-chars, scalars-chars}
 use Rattle.str_indices.specs.Text.{units}
-use Rattle.rope_search_reports.specs.Laws.{PlaceLaws}
+use Rattle.rope_search_reports.proofs.TextPlaces.{PlaceLaws}
 use Rattle.rope_search_reports.specs.Report.{column}
 use Rattle.rope_search_reports.proofs.ColumnLemmas.{column-further}
 use Rattle.rope_search_reports.specs.Text.{bytes_of}

@@ -14,7 +14,7 @@ use Rattle.rope_search_reports.specs.Text.{line_count}
 use Rattle.rope_search_reports.specs.Report.{line_texts}
 use Rattle.rope_search_reports.specs.Position.{line_start, line_text}
 use Rattle.rope_search_reports.specs.Drafts.{IsLine}
-use Rattle.rope_search_reports.specs.Laws.{PlaceLaws}
+use Rattle.rope_search_reports.proofs.TextPlaces.{PlaceLaws}
 use Rattle.rope_search_reports.proofs.LineLemmas.{lines-counted, byte_len-append, lines-in-place}
 use Rattle.rope_search_reports.proofs.PlaceLemmas.{front_of}
 

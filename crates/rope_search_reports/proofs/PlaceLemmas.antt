@@ -12,7 +12,7 @@ use Rattle.str_indices.specs.Text.{byte_len, units, units_of, char_ends, unit_en
 use Rattle.ropey.specs.Chunks.{is_break, IsCutting, text_of}
 use Rattle.rope_search_reports.specs.Text.{bytes_of, line_count}
 use Rattle.rope_search_reports.specs.Position.{line_at, line_start, column_at, line_text, LiesInPlace}
-use Rattle.rope_search_reports.specs.Laws.{PlaceLaws}
+use Rattle.rope_search_reports.proofs.TextPlaces.{PlaceLaws}
 use Rattle.rope_search_reports.proofs.LineLemmas.{byte_len-append, byte_len-one, lines-in-place}
 
 -- ---- scalar values

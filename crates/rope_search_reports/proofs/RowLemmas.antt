@@ -3,25 +3,26 @@ use Rattle.std.proofs.Common.{◌≡◌, ℕ, ◌+◌, ◌<◌, ◌≤◌, arith
 use Rattle.std.specs.List.{range_with_len}
 use Rattle.std.specs.Str.{IsUtf8, IsCharBoundary}
 use Rattle.std.proofs.lemmas.Simd.{map-map}
-use Rattle.regex_cursor.specs.Patterns.{Tree, SpellsTree, FoundMatch, answer_slots, at_once, moved}
+use Rattle.regex_cursor.specs.Patterns.{Tree, SpellsTree, FoundMatch, answer_slots}
 use Rattle.regex_cursor.specs.PatternLaws.{HasFinds}
 use Rattle.rope_search_reports.specs.Text.{bytes_of}
 use Rattle.rope_search_reports.specs.Pattern.{span_of}
 use Rattle.rope_search_reports.specs.Matches.{AreGroups, IsMatches, both, group_of, groups_of}
 use Rattle.rope_search_reports.specs.Report.{IsRow, column, columns}
-use Rattle.rope_search_reports.specs.Finders.{AreGroupsOf, AreSpansOf, ComesAfter, IsRowOf, IsTold, group_told, start_behind}
+use Rattle.regex_cursor.specs.NextMatches.{TreeFindsNext, at_once, passed}
+use Rattle.rope_search_reports.specs.Finders.{AreGroupsOf, AreSpansOf, IsRowOf, IsTold, group_told, start_behind}
 use Rattle.rope_search_reports.proofs.MatchLemmas.{AllNote, Searched, Searched-more, Searched-end, comes-from, comes-further, lies-behind, room_behind, stands}
 use Rattle.rope_search_reports.proofs.NextLemmas.{ToldMatch, none-told, some-told}
 
 -- a match that comes next, and what is told of it
 abbrev pub NextMatch : Tree → List ℕ → Option ℕ → ℕ × ℕ → List (Option ℕ) → Type 0
-NextMatch tree content last span slots = ToldMatch (ComesAfter tree content last) span slots
+NextMatch tree content last span slots = ToldMatch (TreeFindsNext tree content last) span slots
 
 pub next-told : (tree : Tree) (content content' : List ℕ) (last : Option ℕ) (told : Option (ℕ × ℕ)) (span : ℕ × ℕ) (slots : List (Option ℕ)) → content' ≡ content
-    → IsTold (ComesAfter tree content' last) told slots → told ≡ Some span → NextMatch tree content last span slots
+    → IsTold (TreeFindsNext tree content' last) told slots → told ≡ Some span → NextMatch tree content last span slots
 next-told tree content content' last told span slots same next is =
-    let next' = subst (λ cs. IsTold (ComesAfter tree cs last) told slots) same next in
-    some-told (ComesAfter tree content last) span slots (subst (λ s. IsTold (ComesAfter tree content last) s slots) is next')
+    let next' = subst (λ cs. IsTold (TreeFindsNext tree cs last) told slots) same next in
+    some-told (TreeFindsNext tree content last) span slots (subst (λ s. IsTold (TreeFindsNext tree content last) s slots) is next')
 
 -- it lies in the content, at boundaries of its characters
 pub record Stands (content : List ℕ) (span : ℕ × ℕ) : Type 0 where
@@ -47,15 +48,12 @@ pub record Follows (last : Option ℕ) (span : ℕ × ℕ) : Type 0 where
   pub behind : start_behind last ≤ span.0
   pub ordered : span.0 ≤ span.1
 
-follows : (tree : Tree) (content : List ℕ) (last : Option ℕ) (t : FoundMatch) → HasFinds tree → ComesAfter tree content last (Some t) → Follows last (span_of t)
-follows tree content None t has finds =
-    let h = lies-behind tree content 0 t has finds in
+follows : (tree : Tree) (content : List ℕ) (last : Option ℕ) (t : FoundMatch) → HasFinds tree → TreeFindsNext tree content last (Some t) → Follows last (span_of t)
+follows tree content last t has (at_once finds other) =
+    let h = lies-behind tree content (start_behind last) t has finds in
     record { behind = h.behind; ordered = h.ordered }
-follows tree content (Some end) t has (at_once finds other) =
-    let h = lies-behind tree content end t has finds in
-    record { behind = h.behind; ordered = h.ordered }
-follows tree content (Some end) t has (moved found starts ends later) =
-    let h = lies-behind tree content (end + 1) t has later in
+follows tree content last t has (passed found empty later) =
+    let h = lies-behind tree content (start_behind last + 1) t has later in
     let behind = h.behind in
     record { behind = omega (arith, behind); ordered = h.ordered }
 
@@ -80,10 +78,10 @@ next-shown shows tree content last span slots items item has next is sofar =
 
 -- and where none comes next, all are shown
 pub none-next : (tree : Tree) (content content' : List ℕ) (last : Option ℕ) (told : Option (ℕ × ℕ)) (slots : List (Option ℕ)) → content' ≡ content
-    → IsTold (ComesAfter tree content' last) told slots → told ≡ None → ComesAfter tree content last None
+    → IsTold (TreeFindsNext tree content' last) told slots → told ≡ None → TreeFindsNext tree content last None
 none-next tree content content' last told slots same next is =
-    let next' = subst (λ cs. IsTold (ComesAfter tree cs last) told slots) same next in
-    none-told (ComesAfter tree content last) slots (subst (λ s. IsTold (ComesAfter tree content last) s slots) is next')
+    let next' = subst (λ cs. IsTold (TreeFindsNext tree cs last) told slots) same next in
+    none-told (TreeFindsNext tree content last) slots (subst (λ s. IsTold (TreeFindsNext tree content last) s slots) is next')
 
 -- ---- rows
 
@@ -98,7 +96,7 @@ columns-are tree content last span slots start_column end_column next starts end
     ap₂ pair starts ends ∙ ap (columns content) next.span_is
 
 -- all of a row, where none comes next
-pub last-row : (tree : Tree) (line : List ℕ) (last : Option ℕ) (row : List (ℕ × ℕ)) → HasFinds tree → ComesAfter tree (bytes_of line) last None
+pub last-row : (tree : Tree) (line : List ℕ) (last : Option ℕ) (row : List (ℕ × ℕ)) → HasFinds tree → TreeFindsNext tree (bytes_of line) last None
     → Searched (columns_of (bytes_of line)) tree (bytes_of line) last row → IsRowOf tree line row
 last-row tree line last row has none sofar = record {
   matches = sofar.matches;
@@ -126,7 +124,7 @@ groups-told tree content last span slots len notes next =
     ∙ ap (λ g. g ∷ map (group_of next.t) (range_with_len 1 9)) (ap₂ both has.start has.end)
 
 -- all groups, where none comes next
-pub last-groups : (tree : Tree) (content : List ℕ) (last : Option ℕ) (groups : List (List (Option (ℕ × ℕ)))) → HasFinds tree → ComesAfter tree content last None
+pub last-groups : (tree : Tree) (content : List ℕ) (last : Option ℕ) (groups : List (List (Option (ℕ × ℕ)))) → HasFinds tree → TreeFindsNext tree content last None
     → Searched groups_of tree content last groups → AreGroupsOf tree content groups
 last-groups tree content last groups has none sofar = record {
   matches = sofar.matches;
@@ -134,7 +132,7 @@ last-groups tree content last groups has none sofar = record {
   shown = sofar.shown;
 }
 
-pub last-spans : (tree : Tree) (content : List ℕ) (last : Option ℕ) (spans : List (ℕ × ℕ)) → HasFinds tree → ComesAfter tree content last None
+pub last-spans : (tree : Tree) (content : List ℕ) (last : Option ℕ) (spans : List (ℕ × ℕ)) → HasFinds tree → TreeFindsNext tree content last None
     → Searched span_of tree content last spans → AreSpansOf tree content spans
 last-spans tree content last spans has none sofar = record {
   matches = sofar.matches;

@@ -10,7 +10,7 @@ use Rattle.str_indices.specs.Text.{byte_len, units, units_of, char_ends, unit_en
 use Rattle.str_indices.specs.FirstBreak.{IsBreak}
 use Rattle.ropey.specs.Chunks.{is_break}
 use Rattle.rope_search_reports.specs.Text.{bytes_of, line_count}
-use Rattle.rope_search_reports.specs.Laws.{PlaceLaws}
+use Rattle.rope_search_reports.proofs.TextPlaces.{PlaceLaws}
 use Rattle.rope_search_reports.specs.Position.{line_at, line_start, line_text, text_end, position, IsAt}
 use Rattle.rope_search_reports.proofs.LineLemmas.{byte_len-append, byte_len-one, ends-joined_cr, lines-in-place}
 use Rattle.rope_search_reports.proofs.PlaceLemmas.{front_within, InLine, in_line, line_inside, cut_off, IsFrontOf, front_of, units_there, chars_there, split_at, reached}

@@ -1,7 +1,7 @@
 -- What a finder is made of, for the contracts of the code that searches.
 use Rattle.std.specs.Prelude.{◌≡◌, ℕ, ◌+◌, ◌*◌, Bool, true, List, [], ◌∷◌, ◌++◌, length, Option, None, Some, option_map, slice_index_or, unwrap_or, map}
 use Rattle.std.specs.Str.{chars}
-use Rattle.regex_cursor.specs.Patterns.{Tree, FoundMatch, Next, TreeFinds, TreeMatches, answer_slots, start_of, end_of}
+use Rattle.regex_cursor.specs.Patterns.{Tree, FoundMatch, TreeFinds, TreeMatches, answer_slots}
 use Rattle.regex_cursor.specs.Regexes.{RegexView, IsRegexOf}
 use Rattle.rope_search_reports.specs.Text.{bytes_of}
 use Rattle.rope_search_reports.specs.Matches.{both, groups_of}
@@ -30,13 +30,7 @@ pub record IsFinderOf (pattern : List ℕ) (re : RegexView) (is_never_empty : Bo
   pub built : IsRegexOf text re
   pub never_empty : is_never_empty ≡ true → TreeFinds built.tree [] 0 None
 
--- what comes next among the matches of a tree in a content, behind one that ended at this place, or
--- first of all
-abbrev pub ComesAfter : Tree → List ℕ → Option ℕ → Option FoundMatch → Type 0
-ComesAfter tree content None found = TreeFinds tree content 0 found
-ComesAfter tree content (Some end) found = Next (TreeFinds tree content) start_of end_of end found
-
--- where a search for it starts
+-- where a search for what comes next behind the last match starts
 abbrev pub start_behind : Option ℕ → ℕ
 start_behind last = unwrap_or last 0
 

@@ -1,9 +1,6 @@
 -- Laws of the definitions themselves.
 use Rattle.std.specs.Prelude.{◌≡◌, ◌⊎◌, ℕ, ◌+◌, ◌<◌, ◌≤◌, List, [], length, Option, Some, All, slice_index_or}
 use Rattle.std.specs.Str.{IsCharBoundary}
-use Rattle.str_indices.specs.Text.{units, char_ends, unit_ends, break_ends}
-use Rattle.str_indices.specs.Laws.{AnyTexts, EndsAddUp, LastEndIsBefore, LastUnitStartIsBefore, CharsAndBoundariesAgree, UnitsAndBoundariesAgree, EndsAndPlacesAgree, EndsAreBoundaries, UnitStartsAreBoundaries, NoMoreThanBytes}
-use Rattle.ropey.specs.Chunks.{is_break}
 use Rattle.rope_search_reports.specs.Text.{IsText, bytes_of, line_count}
 use Rattle.rope_search_reports.specs.Pattern.{IsPattern, IsTooHeavy, SpellsNone, Finds}
 use Rattle.rope_search_reports.specs.Matches.{AreGroups, IsMatches}
@@ -117,17 +114,3 @@ MatchesStandAtBoundaries = (text pattern : List ℕ) (rows : List (List (ℕ × 
 -- each line of a text lies in its place
 abbrev pub HasLinesInPlace : Type 0
 HasLinesInPlace = (text : List ℕ) (line : ℕ) → line < line_count text → LiesInPlace text line
-
--- what is known of places, by characters, by code units and by lines
-pub record PlaceLaws : Type 0 where
-  pub chars_add : EndsAddUp AnyTexts length char_ends
-  pub chars_agree : CharsAndBoundariesAgree
-  pub chars_back : LastEndIsBefore char_ends
-  pub units_add : EndsAddUp AnyTexts units unit_ends
-  pub units_agree : UnitsAndBoundariesAgree
-  pub units_back : LastUnitStartIsBefore
-  pub lines_back : LastEndIsBefore (break_ends is_break)
-  pub lines_agree : EndsAndPlacesAgree (break_ends is_break)
-  pub char_boundaries : EndsAreBoundaries char_ends
-  pub unit_boundaries : UnitStartsAreBoundaries
-  pub few_units : NoMoreThanBytes units

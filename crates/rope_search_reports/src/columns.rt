@@ -6,7 +6,6 @@ ghost use Rattle.rope_search_reports.specs.Replacement.{HasSpansIn, IsSpanIn};
 ghost use Rattle.rope_search_reports.specs.LineGroups.{in_columns};
 ghost use Rattle.rope_search_reports.specs.Report.{column, columns};
 
-use crate::laws;
 use rope_search_changes::Groups;
 use ropey::RopeSlice;
 
@@ -16,9 +15,6 @@ pub fn column_at(line: &RopeSlice<'_>, byte_idx: usize) -> usize
     requires { IsCharBoundary (slice_bytes line.now) byte_idx }
     ensures { result ≡ column (slice_bytes line.now) byte_idx }
 {
-    // Laws, for the proof alone.
-    laws::places();
-    str_indices::laws::counts_are_at_most_bytes();
     if line.len_utf16_cu() == line.len_bytes() {
         // Each character takes one byte and one code unit.
         return byte_idx;

@@ -1,7 +1,7 @@
 //! Laws of the definitions that the contracts of this crate cite. Each function does nothing: its
 //! contract is the law.
 
-ghost use Rattle.rope_search_reports.specs.Laws.{IsPatternOrNot, IsOneOfThree, FindsOne, HasFind, FindsAreInText, HasOneListOfMatches, HasMatches, HasOneListOfGroups, HasGroups, HasFewGroups, GroupsFollowEachOther, ReplacedIsText, HasFewMatches, HasOneReport, HasReport, HasARowALine, PlacesAreInLines, HasOnePlace, MatchesStandAtBoundaries, HasLinesInPlace, PlaceLaws};
+ghost use Rattle.rope_search_reports.specs.Laws.{IsPatternOrNot, IsOneOfThree, FindsOne, HasFind, FindsAreInText, HasOneListOfMatches, HasMatches, HasOneListOfGroups, HasGroups, HasFewGroups, GroupsFollowEachOther, ReplacedIsText, HasFewMatches, HasOneReport, HasReport, HasARowALine, PlacesAreInLines, HasOnePlace, MatchesStandAtBoundaries, HasLinesInPlace};
 ghost use Rattle.rope_search_reports.specs.LineGroups.{GroupsAreOfRows};
 ghost use Rattle.rope_search_reports.specs.Splice.{EditsSpliceLines, KeepsRows};
 ghost use Rattle.rope_search_reports.specs.Changes.{ChangesKeepLines, TailsKeepLines};
@@ -12,120 +12,84 @@ ghost use Rattle.rope_search_reports.specs.Turned.{ChangesLeadBack, ChangesTurnT
 /// for each text how `Finder::new` answers, but for want of memory.
 pub fn pattern_or_not()
     ensures { IsPatternOrNot }
-{
-    regex_cursor::laws::tree_or_none();
-}
+{}
 
 /// And it is no more than one of these.
 pub fn one_of_three()
     ensures { IsOneOfThree }
-{
-    regex_cursor::laws::one_tree();
-}
+{}
 
 /// A search for a pattern finds at most one thing from a place on in a content.
 pub fn finds_one()
     ensures { FindsOne }
-{
-    regex_cursor::laws::one_tree();
-    regex_cursor::laws::finds_of_trees();
-}
+{}
 
 /// And it finds one: a match, or that there is none.
 pub fn has_find()
     ensures { HasFind }
-{
-    regex_cursor::laws::finds_of_trees();
-}
+{}
 
 /// What is found in a text lies behind the place from which it was searched, and starts and ends at
 /// boundaries of the text.
 pub fn finds_are_in_text()
     ensures { FindsAreInText }
-{
-    regex_cursor::laws::finds_of_trees();
-}
+{}
 
 /// A pattern has at most one list of matches in a content.
 pub fn one_list_of_matches()
     ensures { HasOneListOfMatches }
-{
-    regex_cursor::laws::one_tree();
-    regex_cursor::laws::finds_of_trees();
-}
+{}
 
 /// And it has one.
 pub fn has_matches()
     ensures { HasMatches }
-{
-    regex_cursor::laws::finds_of_trees();
-}
+{}
 
 /// A pattern has at most one list of matches with their groups in a content.
 pub fn one_list_of_groups()
     ensures { HasOneListOfGroups }
-{
-    regex_cursor::laws::one_tree();
-    regex_cursor::laws::finds_of_trees();
-}
+{}
 
 /// And it has one.
 pub fn has_groups()
     ensures { HasGroups }
-{
-    regex_cursor::laws::finds_of_trees();
-}
+{}
 
 /// They are at most one match more than the content has bytes.
 pub fn few_groups()
     ensures { HasFewGroups }
-{
-    regex_cursor::laws::finds_of_trees();
-}
+{}
 
 /// What `groups_at` tells of a match begins with what the row of its line shows of it; there is
 /// nothing to tell exactly where the row has no match of that number.
 pub fn groups_are_of_rows()
     ensures { GroupsAreOfRows }
-{
-    regex_cursor::laws::one_tree();
-    regex_cursor::laws::finds_of_trees();
-}
+{}
 
 /// In a text the matches follow each other, and each starts and ends at boundaries of the text.
 pub fn groups_follow_each_other()
     ensures { GroupsFollowEachOther }
-{
-    regex_cursor::laws::finds_of_trees();
-}
+{}
 
 /// A text in which all matches are replaced is a text.
 pub fn replaced_is_text()
     ensures { ReplacedIsText }
-{
-    regex_cursor::laws::finds_of_trees();
-}
+{}
 
 /// A report has at most one match more than its text has bytes.
 pub fn few_matches()
     ensures { HasFewMatches }
-{
-    regex_cursor::laws::finds_of_trees();
-}
+{}
 
 /// A text and a pattern have at most one report.
 pub fn one_report()
     ensures { HasOneReport }
-{
-    one_list_of_matches();
-}
+{}
 
 /// And they have one.
 pub fn has_report()
     ensures { HasReport }
-{
-    has_matches();
-}
+{}
 
 /// A report has one row for each line of its text.
 pub fn a_row_a_line()
@@ -140,18 +104,13 @@ pub fn places_are_in_lines()
 /// A position is at one place of a text at most.
 pub fn one_place()
     ensures { HasOnePlace }
-{
-    places();
-}
+{}
 
 /// Each match of a report starts and ends at a boundary of the text: its columns are those of two
 /// positions of its row's line.
 pub fn matches_at_boundaries()
     ensures { MatchesStandAtBoundaries }
-{
-    places();
-    regex_cursor::laws::finds_of_trees();
-}
+{}
 
 /// From where a line starts to where its text ends stand that text's bytes. Behind them stands one
 /// break, after which the next line starts; the last line's text ends where the whole text does.
@@ -201,15 +160,3 @@ pub fn changes_turn_twice()
 pub fn changes_put_lines()
     ensures { ChangesPutLines }
 {}
-
-/// Places in a text by characters, by code units and by lines agree with one another.
-pub(crate) fn places()
-    ensures { PlaceLaws }
-{
-    str_indices::laws::ends_of_a_part();
-    str_indices::laws::boundaries_and_indices_agree();
-    str_indices::laws::place_there_and_back();
-    str_indices::laws::ends_and_places_agree();
-    str_indices::laws::to_byte_idx_is_a_boundary();
-    str_indices::laws::counts_are_at_most_bytes();
-}

@@ -8,7 +8,6 @@ ghost use Rattle.rope_search_reports.specs.Report.{column};
 ghost use Rattle.rope_search_reports.specs.Drafts.{HoldsText, own_text};
 
 use crate::columns::column_at;
-use crate::laws;
 use ropey::RopeSlice;
 use str_indices::utf16;
 
@@ -56,8 +55,6 @@ impl<'a> Line<'a> {
         requires counted { place_column ≡ column (bytes_of (own_text self.now)) place }
         ensures { result ≡ column (bytes_of (own_text self.now)) end }
     {
-        // A law, for the proof alone.
-        laws::places();
         match *self {
             Line::Whole(text) => place_column + utf16::count(&text[place..end]),
             Line::Parted(slice) => column_at(&slice, end),

@@ -41,8 +41,7 @@ impl<'a> LineTeller<'a> {
     pub(crate) fn of(text: RopeSlice<'a>) -> LineTeller<'a>
         ensures { result.text ≡ slice_text text.entry }
     {
-        // A law, and the slice's facts, for the proof alone.
-        str_indices::laws::ends_of_a_part();
+        // The slice's facts, for the proof alone.
         let _ = text.len_bytes();
         let _ = text.len_lines();
         LineTeller {
@@ -60,8 +59,7 @@ impl<'a> LineTeller<'a> {
         ensures start { result.start ≤ byte_idx }
         ensures end { byte_idx ≤ result.end }
     {
-        // A law, and the slice's facts, for the proof alone.
-        str_indices::laws::ends_of_a_part();
+        // The slice's facts, for the proof alone.
         let _ = text.len_bytes();
         let _ = text.len_lines();
         let (rest, start, _, line_idx) = text.chunk_at_byte(byte_idx);
@@ -93,9 +91,6 @@ impl<'a> LineTeller<'a> {
         ensures few { result < line_count self.old.text }
         ensures text { self.new.text ≡ self.old.text }
     {
-        // Laws, for the proof alone.
-        str_indices::laws::ends_of_a_part();
-        str_indices::laws::ends_behind_a_boundary();
         self.show(byte_idx);
         let rest = self.rest;
         let within = byte_idx - self.start;

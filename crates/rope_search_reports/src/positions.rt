@@ -8,7 +8,6 @@ ghost use Rattle.ropey.specs.Chunks.{text_of};
 ghost use Rattle.rope_search_reports.specs.Text.{IsText, bytes_of};
 ghost use Rattle.rope_search_reports.specs.Position.{position, IsAt, IsNowhere};
 
-use crate::laws;
 use crate::walk::without_break;
 use ropey::Rope;
 
@@ -29,9 +28,7 @@ pub fn position_of(text: &Rope, byte_idx: usize) -> Position
     requires { IsCharBoundary (bytes_of (text_of text.now)) byte_idx }
     ensures { (result.line, result.column) ≡ position (text_of text.now) byte_idx }
 {
-    // Laws, and the text's facts, for the proof alone.
-    laws::places();
-    laws::lines_in_place();
+    // The text's facts, for the proof alone.
     let _ = text.len_bytes();
     let line = text.byte_to_line(byte_idx);
     let start = text.char_to_utf16_cu(text.line_to_char(line));
@@ -74,8 +71,7 @@ pub fn place_of(text: &Rope, position: Position) -> Option<Place>
         (place.char_idx ≤ length (text_of text.now))
         × (byte_len (take place.char_idx (text_of text.now)) ≡ place.byte_idx)) }
 {
-    // Laws, and the text's facts, for the proof alone.
-    laws::places();
+    // The text's facts, for the proof alone.
     let _ = text.len_bytes();
     if position.line >= text.len_lines() {
         return None;

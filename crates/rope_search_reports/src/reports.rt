@@ -6,7 +6,6 @@ ghost use Rattle.rope_search_reports.specs.Report.{line_texts, IsRow, AreRows, I
 ghost use Rattle.rope_search_reports.specs.Drafts.{AddsRows, lines_between};
 ghost use Rattle.rope_search_reports.specs.Ticks.{LooksAtMost, MakesAsMany, MakesAtMost};
 
-use crate::laws;
 use crate::line::Line;
 use crate::rows::{Finder, Lines, Row, row_of};
 use crate::walk::{Walk, lines_up_to};
@@ -36,8 +35,7 @@ pub fn report_of(
     ensures each { OnOk result (MakesAsMany (line_count (text_of text.now)) tick.old tick.new) }
     ensures looks { LooksAtMost (line_count (text_of text.now)) tick.old tick.new }
 {
-    // Laws, and the text's facts, for the proof alone.
-    laws::few_matches();
+    // The text's facts, for the proof alone.
     let _ = text.len_bytes();
     rows_of_lines(tick, alloc, finder, text, 0, text.len_lines())
 }
@@ -89,8 +87,6 @@ fn push_bare(
     ensures each { OnOk result (MakesAsMany count tick.old tick.new) }
     ensures looked { tick.new.looked ≡ tick.old.looked }
 {
-    // A law, for the proof alone.
-    laws::one_list_of_matches();
     for _done in 0..count {
         rows.push(row_of(tick, finder, Line::Whole(""))?)?;
     }

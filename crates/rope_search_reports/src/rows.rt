@@ -20,7 +20,6 @@ mod matches;
 mod searching;
 
 use self::matches::Found;
-use crate::laws;
 use crate::line::Line;
 use crate::walk::without_break;
 pub use engine::{Finder, PATTERN_LEN};
@@ -196,8 +195,7 @@ pub fn groups_at(
     ensures wholes { tick.new.wholes ≡ tick.old.wholes }
     ensures looked { tick.new.looked ≡ tick.old.looked }
 {
-    // A law, and the text's facts, for the proof alone.
-    laws::places();
+    // The text's facts, for the proof alone.
     let _ = text.len_bytes();
     finder.groups_at(tick, without_break(text.line(line_idx)), number)
 }

@@ -10,7 +10,6 @@ ghost use Rattle.rope_search_reports.specs.Report.{line_texts};
 ghost use Rattle.rope_search_reports.specs.Position.{line_text};
 ghost use Rattle.rope_search_reports.specs.Drafts.{HoldsText, IsLine, IsRestOf, ShowsLines, own_text};
 
-use crate::laws;
 use crate::line::Line;
 use ropey::{Rope, RopeSlice, breaks};
 use std::marker::Model;
@@ -193,8 +192,6 @@ impl<'a> Walk<'a> {
         ensures text { self.new.text ≡ self.old.text }
         ensures line { self.new.line ≡ self.old.line + 1 }
     {
-        // A law, for the proof alone.
-        laws::places();
         let line = without_break(self.text.line(self.line_idx));
         *self = Walk::at(self.text, self.line_idx + 1);
         Line::of(line)

@@ -7,7 +7,8 @@ ghost use Rattle.ropey_walk.specs.Slices.{slice_text};
 ghost use Rattle.regex_cursor.specs.Patterns.{AsksFrom, HasNoMatchBetween, TreeFinds};
 ghost use Rattle.regex_cursor.specs.PatternLaws.{SaysOfText};
 ghost use Rattle.regex_cursor.specs.Regexes.{IsCacheOf, IsRegexOf};
-ghost use Rattle.rope_search_reports.specs.Finders.{ComesAfter, IsTold, group_told, start_behind};
+ghost use Rattle.regex_cursor.specs.NextMatches.{TreeFindsNext};
+ghost use Rattle.rope_search_reports.specs.Finders.{IsTold, group_told, start_behind};
 
 use super::Lines;
 use regex_cursor::engines::meta::{Cache, Regex};
@@ -110,8 +111,6 @@ fn find<C: Cursor>(
     ensures made { IsCacheOf regex.now cache.new }
     ensures fault { IfErr result (λ fault. fault ≡ Fault.Memory) }
 {
-    // A law, for the proof alone.
-    regex_cursor::laws::regexes_have_trees();
     match regex.search_slots_with(cache, input, slots) {
         Ok(_) => Ok(group_in(slots, 0)),
         Err(_) => Err(Fault::Memory),
@@ -140,7 +139,7 @@ fn find_next<C: Cursor>(
     requires within { start_behind last ≤ length input.old.cursor.content }
     ensures found { (text : List ℕ) → (built : IsRegexOf text regex.now)
         → IfOk result (λ span.
-        IsTold (ComesAfter built.tree input.old.cursor.content last) span slots.new) }
+        IsTold (TreeFindsNext built.tree input.old.cursor.content last) span slots.new) }
     ensures asks { (from : ℕ) × AsksFrom input.old.cursor.content from input.new }
     ensures made { IsCacheOf regex.now cache.new }
     ensures fault { IfErr result (λ fault. fault ≡ Fault.Memory) }
@@ -164,8 +163,6 @@ impl CountedRegex {
         ensures built { IfOk result (λ re. IsRegexOf pattern.now re) }
         ensures refused { IfErr result (SaysOfText pattern.now) }
     {
-        // A law, for the proof alone.
-        regex_cursor::laws::regexes_have_trees();
         let regex = Regex::new(alloc, pattern)?;
         match regex.create_cache() {
             Ok(cache) => Ok(CountedRegex { regex, cache }),
@@ -269,7 +266,7 @@ impl CountedRegex {
         requires { 2 ≤ length slots.old }
         ensures found { pass.old.is_over ≡ false
             → (text : List ℕ) → (built : IsRegexOf text self.old) → IfOk result (λ span.
-            IsTold (ComesAfter built.tree pass.old.content pass.old.last) span slots.new) }
+            IsTold (TreeFindsNext built.tree pass.old.content pass.old.last) span slots.new) }
         ensures goes_on { IfOk result (λ span. IfSome span (λ span. pass.new ≡ record {
           content = pass.old.content;
           last = Some span.1;
@@ -281,8 +278,6 @@ impl CountedRegex {
         ensures same { self.new ≡ self.old }
         ensures fault { IfErr result (λ fault. fault ≡ Fault.Memory) }
     {
-        // A law, for the proof alone.
-        regex_cursor::laws::finds_of_trees();
         if pass.is_over {
             return Ok(None);
         }

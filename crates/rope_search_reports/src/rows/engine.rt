@@ -21,7 +21,6 @@ use super::groups::groups_of_match;
 use super::matches::Found;
 use super::searching::{all_groups, all_spans, columns_in_line};
 use crate::columns::groups_by_columns;
-use crate::laws;
 use crate::line::Line;
 use crate::pattern_text::PatternText;
 use crate::walk::Walk;
@@ -133,10 +132,6 @@ impl Finder {
         ensures bare { AreBare self.now walk.now.text walk.now.line (walk.now.line + result) }
         ensures empty { 0 < result → IsRow self.now [] [] }
     {
-        // Laws, for the proof alone.
-        laws::places();
-        str_indices::laws::to_byte_idx_is_monotone();
-        regex_cursor::laws::finds_of_trees();
         let text = walk.text();
         let line_idx = walk.line_idx();
         let start = text.line_to_byte(line_idx);
@@ -154,10 +149,6 @@ impl Finder {
         ensures bare { AreBare self.now walk.now.text walk.now.line (walk.now.line + result) }
         ensures empty { 0 < result → IsRow self.now [] [] }
     {
-        // Laws, for the proof alone.
-        laws::places();
-        str_indices::laws::to_byte_idx_is_monotone();
-        regex_cursor::laws::finds_of_trees();
         let rest = walk.rest();
         match self.no_match_before(rest) {
             None => 0,
@@ -205,8 +196,6 @@ impl Finder {
         ensures wholes { tick.new.wholes ≡ tick.old.wholes }
         ensures looked { tick.new.looked ≡ tick.old.looked }
     {
-        // A law, for the proof alone.
-        regex_cursor::laws::finds_of_trees();
         if self.is_never_empty && line.len_bytes() == 0 {
             tick.add_row();
             return Ok(Found::Nothing);

@@ -31,9 +31,7 @@ pub fn groups_of_match(
     ensures wholes { tick.new.wholes ≡ tick.old.wholes }
     ensures looked { tick.new.looked ≡ tick.old.looked }
 {
-    // Laws, and the slice's facts, for the proof alone.
-    regex_cursor::laws::finds_of_trees();
-    regex_cursor::laws::regexes_have_trees();
+    // The slice's facts, for the proof alone.
     let mut pass = regex.in_line(tick, RopeyCursor::new(line), line.len_bytes());
     let mut slots = [None; SLOT_COUNT];
     // How many come before the one that is asked for.

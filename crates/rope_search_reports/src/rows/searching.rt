@@ -49,9 +49,7 @@ pub fn all_groups(
     ensures wholes { tick.new.wholes ≡ min (tick.old.wholes + 1) (2 ^ 64 - 1) }
     ensures looked { tick.new.looked ≡ tick.old.looked }
 {
-    // Laws, and the slice's facts, for the proof alone.
-    regex_cursor::laws::finds_of_trees();
-    regex_cursor::laws::regexes_have_trees();
+    // The slice's facts, for the proof alone.
     let _ = text.len_bytes();
     let mut pass = regex.in_text(tick, text);
     let mut groups = Vec::new(alloc);
@@ -80,8 +78,7 @@ pub fn all_spans(
     ensures wholes { tick.new.wholes ≡ min (tick.old.wholes + 1) (2 ^ 64 - 1) }
     ensures looked { tick.new.looked ≡ tick.old.looked }
 {
-    // A law, and the slice's facts, for the proof alone.
-    regex_cursor::laws::finds_of_trees();
+    // The slice's facts, for the proof alone.
     let _ = text.len_bytes();
     let mut pass = regex.in_text(tick, text);
     let mut spans = Vec::new(alloc);
@@ -137,8 +134,6 @@ fn columns_in<C: Cursor + Drop>(
     ensures wholes { tick.new.wholes ≡ tick.old.wholes }
     ensures looked { tick.new.looked ≡ tick.old.looked }
 {
-    // A law, for the proof alone.
-    regex_cursor::laws::finds_of_trees();
     let mut pass = regex.in_line(tick, cursor, line.len_bytes());
     let mut slots = [None; 2];
     // Where the last match ended, and its column there.

@@ -1,5 +1,6 @@
+use Rattle.regex_cursor.proofs.TreeLaws.{finds_of_trees}
 use Rattle.rope_search_reports.proofs.FewLemmas.{report-few}
 use Rattle.rope_search_reports.proofs.laws.few_matches.Goals as goal
 
 pub returns : goal.returns
-returns c = report-few c.finds_of_trees.ensures
+returns c = report-few finds_of_trees

@@ -1,5 +1,7 @@
+use Rattle.regex_cursor.proofs.TreeLaws.{finds_of_trees}
 use Rattle.rope_search_reports.proofs.BoundaryLemmas.{stand}
+use Rattle.rope_search_reports.proofs.TextPlaces.{places}
 use Rattle.rope_search_reports.proofs.laws.matches_at_boundaries.Goals as goal
 
 pub returns : goal.returns
-returns c = stand c.places.ensures c.finds_of_trees.ensures
+returns c = stand places finds_of_trees

@@ -1,5 +1,6 @@
-use Rattle.rope_search_reports.proofs.ReportLaws.{report-one}
+use Rattle.regex_cursor.proofs.TreeLaws.{finds_of_trees, one_tree}
+use Rattle.rope_search_reports.proofs.ReportLaws.{list-one, report-one}
 use Rattle.rope_search_reports.proofs.laws.one_report.Goals as goal
 
 pub returns : goal.returns
-returns c = report-one c.one_list_of_matches.ensures
+returns c = report-one (list-one one_tree finds_of_trees)

@@ -8,6 +8,7 @@ use Rattle.rope_search_reports.specs.Drafts.{IsLine}
 use Rattle.rope_search_reports.proofs.PartLemmas.{line-is}
 use Rattle.rope_search_reports.proofs.PlaceLemmas.{rope-scalars}
 use Rattle.rope_search_reports.proofs.SpotsInLines.{char_within, few-chars, in_pair, is_found, too_far}
+use Rattle.rope_search_reports.proofs.TextPlaces.{places}
 use Rattle.rope_search_reports.proofs.positions.place_of.Goals as goal
 
 pub returns-then-position-len_lines-clause-scalars : goal.returns-then-position-len_lines-clause-scalars
@@ -23,8 +24,8 @@ returns-then-position-len_utf16_cu-clause-at c =
     let own = line_text text line in
     let inside : line < line_count text = omega (arith, c.len_lines.ensures, c.if-position-len_lines.false) in
     let own_is : slice_text c.without_break-own.result ≡ own =
-    c.without_break-own.ensures own (subst (λ ps. IsLine (text_of ps) own) (sym c.line.ensures) (line-is c.places.ensures pieces line inside)) in
-    too_far c.places.ensures text scalars line column (omega (arith, c.if-position-len_utf16_cu.true, c.len_utf16_cu.ensures, ap units own_is))
+    c.without_break-own.ensures own (subst (λ ps. IsLine (text_of ps) own) (sym c.line.ensures) (line-is places pieces line inside)) in
+    too_far places text scalars line column (omega (arith, c.if-position-len_utf16_cu.true, c.len_utf16_cu.ensures, ap units own_is))
 
 pub returns-then-position-len_utf16_cu-clause-scalars : goal.returns-then-position-len_utf16_cu-clause-scalars
 returns-then-position-len_utf16_cu-clause-scalars c = rope-scalars c.args.text.now c.len_bytes.ensures.cut.cut
@@ -39,11 +40,11 @@ char_to_utf16_cu-requires c =
     let own = line_text text line in
     let inside : line < line_count text = omega (arith, c.len_lines.ensures, c.if-position-len_lines.false) in
     let own_is : slice_text c.without_break-own.result ≡ own =
-    c.without_break-own.ensures own (subst (λ ps. IsLine (text_of ps) own) (sym c.line.ensures) (line-is c.places.ensures pieces line inside)) in
+    c.without_break-own.ensures own (subst (λ ps. IsLine (text_of ps) own) (sym c.line.ensures) (line-is places pieces line inside)) in
     let char = c.utf16_cu_to_char-char_in_line.result in
     let char_is : char ≡ ends_up_to (slice_index_or (unit_starts own) column (byte_len own)) (char_ends own) =
     subst (λ (o : List ℕ). char ≡ ends_up_to (slice_index_or (unit_starts o) column (byte_len o)) (char_ends o)) own_is c.utf16_cu_to_char-char_in_line.ensures in
-    omega (arith, char_within c.places.ensures text scalars line column inside char char_is, ap length own_is)
+    omega (arith, char_within places text scalars line column inside char char_is, ap length own_is)
 
 pub returns-then-char_to_utf16_cu-position-clause-at : goal.returns-then-char_to_utf16_cu-position-clause-at
 returns-then-char_to_utf16_cu-position-clause-at c =
@@ -55,11 +56,11 @@ returns-then-char_to_utf16_cu-position-clause-at c =
     let own = line_text text line in
     let inside : line < line_count text = omega (arith, c.len_lines.ensures, c.if-position-len_lines.false) in
     let own_is : slice_text c.without_break-own.result ≡ own =
-    c.without_break-own.ensures own (subst (λ ps. IsLine (text_of ps) own) (sym c.line.ensures) (line-is c.places.ensures pieces line inside)) in
+    c.without_break-own.ensures own (subst (λ ps. IsLine (text_of ps) own) (sym c.line.ensures) (line-is places pieces line inside)) in
     let char = c.utf16_cu_to_char-char_in_line.result in
     let char_is : char ≡ ends_up_to (slice_index_or (unit_starts own) column (byte_len own)) (char_ends own) =
     subst (λ (o : List ℕ). char ≡ ends_up_to (slice_index_or (unit_starts o) column (byte_len o)) (char_ends o)) own_is c.utf16_cu_to_char-char_in_line.ensures in
-    in_pair c.places.ensures text scalars line column char c.char_to_utf16_cu.result char_is
+    in_pair places text scalars line column char c.char_to_utf16_cu.result char_is
     (subst (λ (o : List ℕ). c.char_to_utf16_cu.result ≡ ends_up_to (end_place (char_ends o) char (byte_len o)) (unit_ends o)) own_is c.char_to_utf16_cu.ensures) c.if-char_to_utf16_cu-position.true
 
 pub returns-then-char_to_utf16_cu-position-clause-scalars : goal.returns-then-char_to_utf16_cu-position-clause-scalars
@@ -75,11 +76,11 @@ char_to_byte-requires c =
     let own = line_text text line in
     let inside : line < line_count text = omega (arith, c.len_lines.ensures, c.if-position-len_lines.false) in
     let own_is : slice_text c.without_break-own.result ≡ own =
-    c.without_break-own.ensures own (subst (λ ps. IsLine (text_of ps) own) (sym c.line.ensures) (line-is c.places.ensures pieces line inside)) in
+    c.without_break-own.ensures own (subst (λ ps. IsLine (text_of ps) own) (sym c.line.ensures) (line-is places pieces line inside)) in
     let char = c.utf16_cu_to_char-char_in_line.result in
     let char_is : char ≡ ends_up_to (slice_index_or (unit_starts own) column (byte_len own)) (char_ends own) =
     subst (λ (o : List ℕ). char ≡ ends_up_to (slice_index_or (unit_starts o) column (byte_len o)) (char_ends o)) own_is c.utf16_cu_to_char-char_in_line.ensures in
-    omega (arith, char_within c.places.ensures text scalars line column inside char char_is, ap length own_is)
+    omega (arith, char_within places text scalars line column inside char char_is, ap length own_is)
 
 pub overflow_add-result : goal.overflow_add-result
 overflow_add-result c =
@@ -91,7 +92,7 @@ overflow_add-result c =
     let own = line_text text line in
     let inside : line < line_count text = omega (arith, c.len_lines.ensures, c.if-position-len_lines.false) in
     let own_is : slice_text c.without_break-own.result ≡ own =
-    c.without_break-own.ensures own (subst (λ ps. IsLine (text_of ps) own) (sym c.line.ensures) (line-is c.places.ensures pieces line inside)) in
+    c.without_break-own.ensures own (subst (λ ps. IsLine (text_of ps) own) (sym c.line.ensures) (line-is places pieces line inside)) in
     let char = c.utf16_cu_to_char-char_in_line.result in
     let char_is : char ≡ ends_up_to (slice_index_or (unit_starts own) column (byte_len own)) (char_ends own) =
     subst (λ (o : List ℕ). char ≡ ends_up_to (slice_index_or (unit_starts o) column (byte_len o)) (char_ends o)) own_is c.utf16_cu_to_char-char_in_line.ensures in
@@ -99,7 +100,7 @@ overflow_add-result c =
     let byte_is : byte ≡ end_place (char_ends own) char (byte_len own) = subst (λ (o : List ℕ). byte ≡ end_place (char_ends o) char (byte_len o)) own_is c.char_to_byte.ensures in
     let unit_is : ends_up_to (end_place (char_ends own) char (byte_len own)) (unit_ends own) ≡ column =
     sym (subst (λ (o : List ℕ). c.char_to_utf16_cu.result ≡ ends_up_to (end_place (char_ends o) char (byte_len o)) (unit_ends o)) own_is c.char_to_utf16_cu.ensures) ∙ c.if-char_to_utf16_cu-position.false in
-    let found = is_found c.places.ensures text scalars line column inside (ends_up_to (line_start text line) (char_ends text)) char byte char_is unit_is byte_is refl in
+    let found = is_found places text scalars line column inside (ends_up_to (line_start text line) (char_ends text)) char byte char_is unit_is byte_is refl in
     let low = found.at.boundary.0 in
     omega (arith, low, c.line_to_byte.ensures, c.len_bytes.ensures.bytes, c.len_bytes.ensures.fits)
 
@@ -113,7 +114,7 @@ overflow_add-result-2 c =
     let own = line_text text line in
     let inside : line < line_count text = omega (arith, c.len_lines.ensures, c.if-position-len_lines.false) in
     let own_is : slice_text c.without_break-own.result ≡ own =
-    c.without_break-own.ensures own (subst (λ ps. IsLine (text_of ps) own) (sym c.line.ensures) (line-is c.places.ensures pieces line inside)) in
+    c.without_break-own.ensures own (subst (λ ps. IsLine (text_of ps) own) (sym c.line.ensures) (line-is places pieces line inside)) in
     let char = c.utf16_cu_to_char-char_in_line.result in
     let char_is : char ≡ ends_up_to (slice_index_or (unit_starts own) column (byte_len own)) (char_ends own) =
     subst (λ (o : List ℕ). char ≡ ends_up_to (slice_index_or (unit_starts o) column (byte_len o)) (char_ends o)) own_is c.utf16_cu_to_char-char_in_line.ensures in
@@ -121,7 +122,7 @@ overflow_add-result-2 c =
     let byte_is : byte ≡ end_place (char_ends own) char (byte_len own) = subst (λ (o : List ℕ). byte ≡ end_place (char_ends o) char (byte_len o)) own_is c.char_to_byte.ensures in
     let unit_is : ends_up_to (end_place (char_ends own) char (byte_len own)) (unit_ends own) ≡ column =
     sym (subst (λ (o : List ℕ). c.char_to_utf16_cu.result ≡ ends_up_to (end_place (char_ends o) char (byte_len o)) (unit_ends o)) own_is c.char_to_utf16_cu.ensures) ∙ c.if-char_to_utf16_cu-position.false in
-    let found = is_found c.places.ensures text scalars line column inside (ends_up_to (line_start text line) (char_ends text)) char byte char_is unit_is byte_is refl in
+    let found = is_found places text scalars line column inside (ends_up_to (line_start text line) (char_ends text)) char byte char_is unit_is byte_is refl in
     let within = found.within in
     omega (arith, within, few-chars text, c.line_to_char.ensures, c.len_bytes.ensures.bytes, c.len_bytes.ensures.fits)
 
@@ -135,7 +136,7 @@ returns-clause-at c =
     let own = line_text text line in
     let inside : line < line_count text = omega (arith, c.len_lines.ensures, c.if-position-len_lines.false) in
     let own_is : slice_text c.without_break-own.result ≡ own =
-    c.without_break-own.ensures own (subst (λ ps. IsLine (text_of ps) own) (sym c.line.ensures) (line-is c.places.ensures pieces line inside)) in
+    c.without_break-own.ensures own (subst (λ ps. IsLine (text_of ps) own) (sym c.line.ensures) (line-is places pieces line inside)) in
     let char = c.utf16_cu_to_char-char_in_line.result in
     let char_is : char ≡ ends_up_to (slice_index_or (unit_starts own) column (byte_len own)) (char_ends own) =
     subst (λ (o : List ℕ). char ≡ ends_up_to (slice_index_or (unit_starts o) column (byte_len o)) (char_ends o)) own_is c.utf16_cu_to_char-char_in_line.ensures in
@@ -143,7 +144,7 @@ returns-clause-at c =
     let byte_is : byte ≡ end_place (char_ends own) char (byte_len own) = subst (λ (o : List ℕ). byte ≡ end_place (char_ends o) char (byte_len o)) own_is c.char_to_byte.ensures in
     let unit_is : ends_up_to (end_place (char_ends own) char (byte_len own)) (unit_ends own) ≡ column =
     sym (subst (λ (o : List ℕ). c.char_to_utf16_cu.result ≡ ends_up_to (end_place (char_ends o) char (byte_len o)) (unit_ends o)) own_is c.char_to_utf16_cu.ensures) ∙ c.if-char_to_utf16_cu-position.false in
-    let found = is_found c.places.ensures text scalars line column inside (ends_up_to (line_start text line) (char_ends text)) char byte char_is unit_is byte_is refl in
+    let found = is_found places text scalars line column inside (ends_up_to (line_start text line) (char_ends text)) char byte char_is unit_is byte_is refl in
     subst (λ n. IsAt text (line, column) (n + byte)) (sym c.line_to_byte.ensures) found.at
 
 pub returns-clause-scalars : goal.returns-clause-scalars
@@ -159,7 +160,7 @@ returns-clause-chars c =
     let own = line_text text line in
     let inside : line < line_count text = omega (arith, c.len_lines.ensures, c.if-position-len_lines.false) in
     let own_is : slice_text c.without_break-own.result ≡ own =
-    c.without_break-own.ensures own (subst (λ ps. IsLine (text_of ps) own) (sym c.line.ensures) (line-is c.places.ensures pieces line inside)) in
+    c.without_break-own.ensures own (subst (λ ps. IsLine (text_of ps) own) (sym c.line.ensures) (line-is places pieces line inside)) in
     let char = c.utf16_cu_to_char-char_in_line.result in
     let char_is : char ≡ ends_up_to (slice_index_or (unit_starts own) column (byte_len own)) (char_ends own) =
     subst (λ (o : List ℕ). char ≡ ends_up_to (slice_index_or (unit_starts o) column (byte_len o)) (char_ends o)) own_is c.utf16_cu_to_char-char_in_line.ensures in
@@ -167,7 +168,7 @@ returns-clause-chars c =
     let byte_is : byte ≡ end_place (char_ends own) char (byte_len own) = subst (λ (o : List ℕ). byte ≡ end_place (char_ends o) char (byte_len o)) own_is c.char_to_byte.ensures in
     let unit_is : ends_up_to (end_place (char_ends own) char (byte_len own)) (unit_ends own) ≡ column =
     sym (subst (λ (o : List ℕ). c.char_to_utf16_cu.result ≡ ends_up_to (end_place (char_ends o) char (byte_len o)) (unit_ends o)) own_is c.char_to_utf16_cu.ensures) ∙ c.if-char_to_utf16_cu-position.false in
-    let found = is_found c.places.ensures text scalars line column inside (ends_up_to (line_start text line) (char_ends text)) char byte char_is unit_is byte_is refl in
+    let found = is_found places text scalars line column inside (ends_up_to (line_start text line) (char_ends text)) char byte char_is unit_is byte_is refl in
     let within = found.within in
     let bytes = found.bytes in
     let chars_are = c.line_to_char.ensures in

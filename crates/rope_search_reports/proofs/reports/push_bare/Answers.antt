@@ -1,9 +1,10 @@
 use Rattle.std.proofs.Common.{◌≡◌, ◌+◌, ◌<◌, [], ◌++◌, replicate, refl, sym, ap, subst, ◌∙◌, arith, append-nil, chars}
 use Rattle.std.proofs.lemmas.Str.{IsUtf8-nil, chars-nil}
+use Rattle.regex_cursor.proofs.TreeLaws.{finds_of_trees, one_tree}
 use Rattle.rope_search_reports.specs.Report.{IsRow}
 use Rattle.rope_search_reports.specs.Ticks.{MakesAsMany}
 use Rattle.rope_search_reports.proofs.BareLemmas.{bare-more, counted-start, counted-more, counted-most, counted-few}
-use Rattle.rope_search_reports.proofs.ReportLaws.{IsRow-one}
+use Rattle.rope_search_reports.proofs.ReportLaws.{IsRow-one, list-one}
 use Rattle.rope_search_reports.proofs.reports.push_bare.Goals as goal
 
 pub loop-done-init : goal.loop-done-init
@@ -23,7 +24,7 @@ loop-done-preserved c =
     let some : 0 < c.args.count = omega (arith, c.loop-done-test.true) in
     let row : IsRow c.args.finder.now [] c.in_ok-row_of.field-0 =
     subst (λ t. IsRow c.args.finder.now t c.in_ok-row_of.field-0) chars-nil (subst (λ p. IsRow p (chars []) c.in_ok-row_of.field-0) inv.1 c.in_ok-row_of.ensures.row) in
-    let empty : c.in_ok-row_of.field-0 ≡ [] = IsRow-one c.one_list_of_matches.ensures c.args.finder.now [] c.in_ok-row_of.field-0 [] row (c.requires some) in (
+    let empty : c.in_ok-row_of.field-0 ≡ [] = IsRow-one (list-one one_tree finds_of_trees) c.args.finder.now [] c.in_ok-row_of.field-0 [] row (c.requires some) in (
       bare-more c.args.rows.now.items c.loop-done.rows.items c.push.new.self.items c.in_ok-row_of.field-0 c.loop-done._done inv.0 empty c.in_ok-push.ensures.items,
       c.row_of.ensures.finder ∙ inv.1,
       counted-more c.loop-done._done c.args.tick.now c.loop-done.tick c.row_of.new.tick inv.2 c.row_of.ensures.count c.row_of.ensures.wholes,

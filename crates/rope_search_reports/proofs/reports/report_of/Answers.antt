@@ -2,7 +2,9 @@ use Rattle.std.proofs.Common.{◌≡◌, ◌-◌, take, drop, subst, arith}
 use Rattle.std.proofs.lemmas.List.{take_all}
 use Rattle.std.proofs.lemmas.Result.{IfOk-weaker}
 use Rattle.ropey.specs.Chunks.{text_of}
+use Rattle.regex_cursor.proofs.TreeLaws.{finds_of_trees}
 use Rattle.rope_search_reports.specs.Report.{line_texts, AreRows, IsReport}
+use Rattle.rope_search_reports.proofs.FewLemmas.{report-few}
 use Rattle.rope_search_reports.proofs.LineLemmas.{lines-counted}
 use Rattle.rope_search_reports.proofs.reports.report_of.Goals as goal
 
@@ -17,5 +19,5 @@ returns-clause-rows c =
 pub returns-clause-few : goal.returns-clause-few
 returns-clause-few c =
     IfOk-weaker c.rows_of_lines.result _ _
-    (λ rows is. omega (arith, c.few_matches.ensures (text_of c.args.text.now) c.args.finder.now rows.items is, c.len_bytes.ensures.bytes, c.len_bytes.ensures.fits))
+    (λ rows is. omega (arith, report-few finds_of_trees (text_of c.args.text.now) c.args.finder.now rows.items is, c.len_bytes.ensures.bytes, c.len_bytes.ensures.fits))
     (returns-clause-rows c)

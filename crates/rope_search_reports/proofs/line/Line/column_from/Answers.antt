@@ -2,22 +2,23 @@ use Rattle.std.proofs.Common.{chars, sym, ap, ◌∙◌, arith}
 use Rattle.str_indices.specs.Text.{units}
 use Rattle.rope_search_reports.specs.Report.{column}
 use Rattle.rope_search_reports.proofs.OwnLemmas.{counts-on, whole-bytes}
+use Rattle.rope_search_reports.proofs.TextPlaces.{places}
 use Rattle.rope_search_reports.proofs.line.Line.column_from.Goals as goal
 
 pub range-requires-clause-start_boundary : goal.range-requires-clause-start_boundary
 range-requires-clause-start_boundary c = λ _.
     let r = c.requires in
-    (counts-on c.places.ensures c.args.self.now c.in-Whole.text c.args.place c.args.end c.in-Whole.is r.holds r.starts r.ends r.ordered).starts
+    (counts-on places c.args.self.now c.in-Whole.text c.args.place c.args.end c.in-Whole.is r.holds r.starts r.ends r.ordered).starts
 
 pub range-requires-clause-end_boundary : goal.range-requires-clause-end_boundary
 range-requires-clause-end_boundary c =
     let r = c.requires in
-    (counts-on c.places.ensures c.args.self.now c.in-Whole.text c.args.place c.args.end c.in-Whole.is r.holds r.starts r.ends r.ordered).ends
+    (counts-on places c.args.self.now c.in-Whole.text c.args.place c.args.end c.in-Whole.is r.holds r.starts r.ends r.ordered).ends
 
 pub overflow_add-result : goal.overflow_add-result
 overflow_add-result c =
     let r = c.requires in
-    let on = counts-on c.places.ensures c.args.self.now c.in-Whole.text c.args.place c.args.end c.in-Whole.is r.holds r.starts r.ends r.ordered in
+    let on = counts-on places c.args.self.now c.in-Whole.text c.args.place c.args.end c.in-Whole.is r.holds r.starts r.ends r.ordered in
     let few = on.few in
     let counted = on.counted in
     omega (
@@ -35,7 +36,7 @@ pub returns-in-Whole : goal.returns-in-Whole
 returns-in-Whole c =
     let r = c.requires in
     let bytes = whole-bytes c.args.self.now c.in-Whole.text c.in-Whole.is r.holds in
-    let on = counts-on c.places.ensures c.args.self.now c.in-Whole.text c.args.place c.args.end c.in-Whole.is r.holds r.starts r.ends r.ordered in
+    let on = counts-on places c.args.self.now c.in-Whole.text c.args.place c.args.end c.in-Whole.is r.holds r.starts r.ends r.ordered in
     let counted = on.counted in
     omega (
       arith,

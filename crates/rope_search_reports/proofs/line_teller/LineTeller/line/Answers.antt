@@ -1,4 +1,5 @@
 use Rattle.std.proofs.Common.{◌≡◌, ℕ, ◌+◌, ◌-◌, ◌<◌, ◌≤◌, length, ap, sym, subst, ◌∙◌, arith}
+use Rattle.str_indices.proofs.TextLaws.{ends_behind_a_boundary-lines, ends_of_a_part-lines}
 use Rattle.ropey.specs.Chunks.{is_break}
 use Rattle.ropey_walk.specs.Slices.{slice_text}
 use Rattle.rope_search_reports.specs.Drafts.{IsTeller}
@@ -17,7 +18,7 @@ overflow_add-line_idx c =
     let low : c.self.inside.start ≤ c.args.byte_idx = omega (arith, c.show.ensures.start, ap (λ s. s.start) c.self.view_is) in
     let high : c.args.byte_idx ≤ c.self.inside.start + length c.self.inside.rest.now = omega (arith, c.show.ensures.end, ap (λ s. s.end) c.self.view_is) in
     let told = ap (λ n. c.self.inside.line_idx + n) c.from_byte_idx.ensures
-    ∙ line-told (c.ends_of_a_part.ensures.lines is_break) (c.ends_behind_a_boundary.ensures.lines is_break) text c.self.inside.rest.now c.self.inside.start c.self.inside.line_idx c.args.byte_idx c.self.invariant low high in
+    ∙ line-told (ends_of_a_part-lines is_break) (ends_behind_a_boundary-lines is_break) text c.self.inside.rest.now c.self.inside.start c.self.inside.line_idx c.args.byte_idx c.self.invariant low high in
     omega (arith, told, line_inside text c.args.byte_idx, c.self.invariant.fits)
 
 pub returns-clause-line : goal.returns-clause-line
@@ -26,7 +27,7 @@ returns-clause-line c =
     let low : c.self.inside.start ≤ c.args.byte_idx = omega (arith, c.show.ensures.start, ap (λ s. s.start) c.self.view_is) in
     let high : c.args.byte_idx ≤ c.self.inside.start + length c.self.inside.rest.now = omega (arith, c.show.ensures.end, ap (λ s. s.end) c.self.view_is) in
     let told = ap (λ n. c.self.inside.line_idx + n) c.from_byte_idx.ensures
-    ∙ line-told (c.ends_of_a_part.ensures.lines is_break) (c.ends_behind_a_boundary.ensures.lines is_break) text c.self.inside.rest.now c.self.inside.start c.self.inside.line_idx c.args.byte_idx c.self.invariant low high in
+    ∙ line-told (ends_of_a_part-lines is_break) (ends_behind_a_boundary-lines is_break) text c.self.inside.rest.now c.self.inside.start c.self.inside.line_idx c.args.byte_idx c.self.invariant low high in
     told ∙ ap (λ t. line_at t c.args.byte_idx) (ap (λ s. s.text) c.self.view_is ∙ c.show.ensures.text)
 
 pub returns-clause-few : goal.returns-clause-few
@@ -35,7 +36,7 @@ returns-clause-few c =
     let low : c.self.inside.start ≤ c.args.byte_idx = omega (arith, c.show.ensures.start, ap (λ s. s.start) c.self.view_is) in
     let high : c.args.byte_idx ≤ c.self.inside.start + length c.self.inside.rest.now = omega (arith, c.show.ensures.end, ap (λ s. s.end) c.self.view_is) in
     let told = ap (λ n. c.self.inside.line_idx + n) c.from_byte_idx.ensures
-    ∙ line-told (c.ends_of_a_part.ensures.lines is_break) (c.ends_behind_a_boundary.ensures.lines is_break) text c.self.inside.rest.now c.self.inside.start c.self.inside.line_idx c.args.byte_idx c.self.invariant low high in
+    ∙ line-told (ends_of_a_part-lines is_break) (ends_behind_a_boundary-lines is_break) text c.self.inside.rest.now c.self.inside.start c.self.inside.line_idx c.args.byte_idx c.self.invariant low high in
     omega (arith, told, line_inside text c.args.byte_idx, ap line_count (ap (λ s. s.text) c.self.view_is ∙ c.show.ensures.text))
 
 pub returns-then-not-is_char_boundary-clause-line : goal.returns-then-not-is_char_boundary-clause-line
@@ -44,7 +45,7 @@ returns-then-not-is_char_boundary-clause-line c =
     let low : c.self.inside.start ≤ c.args.byte_idx = omega (arith, c.show.ensures.start, ap (λ s. s.start) c.self.view_is) in
     let high : c.args.byte_idx ≤ c.self.inside.start + length c.self.inside.rest.now = omega (arith, c.show.ensures.end, ap (λ s. s.end) c.self.view_is) in
     let told = ap (λ n. c.self.inside.line_idx + n) c.from_byte_idx.ensures
-    ∙ line-told (c.ends_of_a_part.ensures.lines is_break) (c.ends_behind_a_boundary.ensures.lines is_break) text c.self.inside.rest.now c.self.inside.start c.self.inside.line_idx c.args.byte_idx c.self.invariant low high in
+    ∙ line-told (ends_of_a_part-lines is_break) (ends_behind_a_boundary-lines is_break) text c.self.inside.rest.now c.self.inside.start c.self.inside.line_idx c.args.byte_idx c.self.invariant low high in
     told ∙ ap (λ t. line_at t c.args.byte_idx) (ap (λ s. s.text) c.self.view_is ∙ c.show.ensures.text)
 
 pub returns-then-not-is_char_boundary-clause-few : goal.returns-then-not-is_char_boundary-clause-few
@@ -53,7 +54,7 @@ returns-then-not-is_char_boundary-clause-few c =
     let low : c.self.inside.start ≤ c.args.byte_idx = omega (arith, c.show.ensures.start, ap (λ s. s.start) c.self.view_is) in
     let high : c.args.byte_idx ≤ c.self.inside.start + length c.self.inside.rest.now = omega (arith, c.show.ensures.end, ap (λ s. s.end) c.self.view_is) in
     let told = ap (λ n. c.self.inside.line_idx + n) c.from_byte_idx.ensures
-    ∙ line-told (c.ends_of_a_part.ensures.lines is_break) (c.ends_behind_a_boundary.ensures.lines is_break) text c.self.inside.rest.now c.self.inside.start c.self.inside.line_idx c.args.byte_idx c.self.invariant low high in
+    ∙ line-told (ends_of_a_part-lines is_break) (ends_behind_a_boundary-lines is_break) text c.self.inside.rest.now c.self.inside.start c.self.inside.line_idx c.args.byte_idx c.self.invariant low high in
     omega (arith, told, line_inside text c.args.byte_idx, ap line_count (ap (λ s. s.text) c.self.view_is ∙ c.show.ensures.text))
 
 pub invariant_of-self : goal.invariant_of-self
@@ -62,6 +63,6 @@ invariant_of-self c =
     let low : c.self.inside.start ≤ c.args.byte_idx = omega (arith, c.show.ensures.start, ap (λ s. s.start) c.self.view_is) in
     let high : c.args.byte_idx ≤ c.self.inside.start + length c.self.inside.rest.now = omega (arith, c.show.ensures.end, ap (λ s. s.end) c.self.view_is) in
     let told = ap (λ n. c.self.inside.line_idx + n) c.from_byte_idx.ensures
-    ∙ line-told (c.ends_of_a_part.ensures.lines is_break) (c.ends_behind_a_boundary.ensures.lines is_break) text c.self.inside.rest.now c.self.inside.start c.self.inside.line_idx c.args.byte_idx c.self.invariant low high in
+    ∙ line-told (ends_of_a_part-lines is_break) (ends_behind_a_boundary-lines is_break) text c.self.inside.rest.now c.self.inside.start c.self.inside.line_idx c.args.byte_idx c.self.invariant low high in
     subst (λ bs. IsTeller text bs c.args.byte_idx (c.self.inside.line_idx + c.from_byte_idx.result)) (sym c.range_from-self-inside.ensures.value)
     (teller-on text c.self.inside.rest.now c.self.inside.start c.self.inside.line_idx c.args.byte_idx _ c.self.invariant low high (c.is_char_boundary.ensures.test.0 c.if-not-is_char_boundary.false) told)

@@ -1,7 +1,8 @@
 use Rattle.std.proofs.Common.{◌+◌, ap, arith}
 use Rattle.std.proofs.lemmas.Result.{IfOk-weaker}
 use Rattle.regex_cursor.specs.Patterns.{TreeFinds}
-use Rattle.rope_search_reports.specs.Finders.{ComesAfter, IsTold, start_behind}
+use Rattle.regex_cursor.specs.NextMatches.{TreeFindsNext}
+use Rattle.rope_search_reports.specs.Finders.{IsTold, start_behind}
 use Rattle.rope_search_reports.proofs.NextLemmas.{asks-moved, first-comes, comes-at_once, comes-moved}
 use Rattle.rope_search_reports.proofs.rows.counted.find_next.Goals as goal
 
@@ -36,7 +37,7 @@ set_start-requires g c =
 pub returns-clause-found : goal.returns-clause-found
 returns-clause-found g c = λ text built.
     let asks = asks-moved _ _ (c.in-Some.end + 1) _ _ (c.find.ensures.asks _ _ c.requires.asks) c.set_start.ensures.same.content c.set_start.ensures.asked_is in
-    IfOk-weaker c.find-2.result (λ span. IsTold (TreeFinds built.tree _ (c.in-Some.end + 1)) span c.find-2.new.slots) (λ span. IsTold (ComesAfter built.tree _ c.args.last) span c.find-2.new.slots)
+    IfOk-weaker c.find-2.result (λ span. IsTold (TreeFinds built.tree _ (c.in-Some.end + 1)) span c.find-2.new.slots) (λ span. IsTold (TreeFindsNext built.tree _ c.args.last) span c.find-2.new.slots)
     (λ later next. comes-moved built.tree _ c.args.last c.in-Some.end c.in_ok-span.span later c.find.new.slots c.find-2.new.slots c.is_empty_at.result c.in-Some.is c.is_empty_at.ensures c.if-not-is_empty_at.false
     (c.in_ok-span.ensures.found text _ _ built c.requires.asks) next)
     (c.find-2.ensures.found text _ _ built asks)

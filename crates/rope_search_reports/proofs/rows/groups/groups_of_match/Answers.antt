@@ -2,7 +2,9 @@ use Rattle.std.proofs.Common.{◌≡◌, ℕ, List, None, Some, IsUtf8, length, 
 use Rattle.ropey_walk.specs.Comparing.{slice_bytes}
 use Rattle.ropey_walk.specs.Slices.{slice_pieces, slice_text}
 use Rattle.regex_cursor.specs.Regexes.{IsRegexOf}
-use Rattle.rope_search_reports.specs.Finders.{ComesAfter, IsTold}
+use Rattle.regex_cursor.proofs.TreeLaws.{finds_of_trees, regexes_have_trees}
+use Rattle.regex_cursor.specs.NextMatches.{TreeFindsNext}
+use Rattle.rope_search_reports.specs.Finders.{IsTold}
 use Rattle.rope_search_reports.specs.Replacement.{HasSpansIn}
 use Rattle.rope_search_reports.proofs.AmongLemmas.{HasPassed, among-here, among-none, next-spans, passed-more, passed-none}
 use Rattle.rope_search_reports.proofs.MatchLemmas.{room_behind}
@@ -18,24 +20,24 @@ loop-slots-init c =
       ap (λ p. p.is_over) begins,
       ap (λ p. p.content) begins ∙ shows,
       λ text built.
-          rw (ap (λ p. p.last) begins) (passed-none built.tree (slice_bytes c.args.line) c.args.number (c.finds_of_trees.ensures built.tree)),
+          rw (ap (λ p. p.last) begins) (passed-none built.tree (slice_bytes c.args.line) c.args.number (finds_of_trees built.tree)),
     )
 
 pub loop-slots-smaller : goal.loop-slots-smaller
 loop-slots-smaller c =
     let content = slice_bytes c.args.line in
-    let told : (text : List ℕ) → (built : IsRegexOf text c.args.regex.now) → IsTold (ComesAfter built.tree c.loop-slots.pass.content c.loop-slots.pass.last) c.in_ok-next.field-0 c.next.new.slots =
-    subst (λ re. (text : List ℕ) → (built : IsRegexOf text re) → IsTold (ComesAfter built.tree c.loop-slots.pass.content c.loop-slots.pass.last) c.in_ok-next.field-0 c.next.new.slots) c.loop-slots.invariant.0 (c.in_ok-next.ensures.found c.loop-slots.invariant.1) in
+    let told : (text : List ℕ) → (built : IsRegexOf text c.args.regex.now) → IsTold (TreeFindsNext built.tree c.loop-slots.pass.content c.loop-slots.pass.last) c.in_ok-next.field-0 c.next.new.slots =
+    subst (λ re. (text : List ℕ) → (built : IsRegexOf text re) → IsTold (TreeFindsNext built.tree c.loop-slots.pass.content c.loop-slots.pass.last) c.in_ok-next.field-0 c.next.new.slots) c.loop-slots.invariant.0 (c.in_ok-next.ensures.found c.loop-slots.invariant.1) in
     let tree = c.requires.1.tree in
     let next = next-told tree content _ c.loop-slots.pass.last c.in_ok-next.field-0 c.in-Some.field-0 _ c.loop-slots.invariant.2 (told c.requires.0 c.requires.1) c.in-Some.is in
     let gone = rw c.in-Some.is at c.in_ok-next.ensures.goes_on in
-    omega (arith, next-further tree content c.loop-slots.pass.last _ _ (c.finds_of_trees.ensures tree) next, ap (λ p. room_behind (length content) p.last) gone)
+    omega (arith, next-further tree content c.loop-slots.pass.last _ _ (finds_of_trees tree) next, ap (λ p. room_behind (length content) p.last) gone)
 
 pub loop-slots-preserved : goal.loop-slots-preserved
 loop-slots-preserved c =
     let content = slice_bytes c.args.line in
-    let told : (text : List ℕ) → (built : IsRegexOf text c.args.regex.now) → IsTold (ComesAfter built.tree c.loop-slots.pass.content c.loop-slots.pass.last) c.in_ok-next.field-0 c.next.new.slots =
-    subst (λ re. (text : List ℕ) → (built : IsRegexOf text re) → IsTold (ComesAfter built.tree c.loop-slots.pass.content c.loop-slots.pass.last) c.in_ok-next.field-0 c.next.new.slots) c.loop-slots.invariant.0 (c.in_ok-next.ensures.found c.loop-slots.invariant.1) in
+    let told : (text : List ℕ) → (built : IsRegexOf text c.args.regex.now) → IsTold (TreeFindsNext built.tree c.loop-slots.pass.content c.loop-slots.pass.last) c.in_ok-next.field-0 c.next.new.slots =
+    subst (λ re. (text : List ℕ) → (built : IsRegexOf text re) → IsTold (TreeFindsNext built.tree c.loop-slots.pass.content c.loop-slots.pass.last) c.in_ok-next.field-0 c.next.new.slots) c.loop-slots.invariant.0 (c.in_ok-next.ensures.found c.loop-slots.invariant.1) in
     let gone = rw c.in-Some.is at c.in_ok-next.ensures.goes_on in (
       c.next.ensures.same ∙ c.loop-slots.invariant.0,
       ap (λ p. p.is_over) gone,
@@ -44,31 +46,31 @@ loop-slots-preserved c =
           let next = next-told built.tree content _ c.loop-slots.pass.last c.in_ok-next.field-0 c.in-Some.field-0 _ c.loop-slots.invariant.2 (told text built) c.in-Some.is in
           rw (ap (λ p. p.last) gone)
           (passed-more built.tree content c.loop-slots.pass.last c.in-Some.field-0 _ c.args.number c.loop-slots.left _
-          (c.finds_of_trees.ensures built.tree) next (omega arith) (c.loop-slots.invariant.3 text built)),
+          (finds_of_trees built.tree) next (omega arith) (c.loop-slots.invariant.3 text built)),
     )
 
 pub returns-then-left-eq0-clause-groups : goal.returns-then-left-eq0-clause-groups
 returns-then-left-eq0-clause-groups c = λ text built.
     let content = slice_bytes c.args.line in
-    let told : (text : List ℕ) → (built : IsRegexOf text c.args.regex.now) → IsTold (ComesAfter built.tree c.loop-slots.pass.content c.loop-slots.pass.last) c.in_ok-next.field-0 c.next.new.slots =
-    subst (λ re. (text : List ℕ) → (built : IsRegexOf text re) → IsTold (ComesAfter built.tree c.loop-slots.pass.content c.loop-slots.pass.last) c.in_ok-next.field-0 c.next.new.slots) c.loop-slots.invariant.0 (c.in_ok-next.ensures.found c.loop-slots.invariant.1) in
+    let told : (text : List ℕ) → (built : IsRegexOf text c.args.regex.now) → IsTold (TreeFindsNext built.tree c.loop-slots.pass.content c.loop-slots.pass.last) c.in_ok-next.field-0 c.next.new.slots =
+    subst (λ re. (text : List ℕ) → (built : IsRegexOf text re) → IsTold (TreeFindsNext built.tree c.loop-slots.pass.content c.loop-slots.pass.last) c.in_ok-next.field-0 c.next.new.slots) c.loop-slots.invariant.0 (c.in_ok-next.ensures.found c.loop-slots.invariant.1) in
     let slots = c.next.new.slots in
     let next = next-told built.tree content _ c.loop-slots.pass.last c.in_ok-next.field-0 c.in-Some.field-0 slots c.loop-slots.invariant.2 (told text built) c.in-Some.is in
     let shown = groups-told built.tree content c.loop-slots.pass.last c.in-Some.field-0 slots (omega (arith, c.next.auto.slots))
-    (c.regexes_have_trees.ensures.noted text c.args.regex.now built content) next in
+    (regexes_have_trees.noted text c.args.regex.now built content) next in
     among-here built.tree content c.loop-slots.pass.last c.in-Some.field-0 slots c.args.number c.loop-slots.left c.groups_in.result
-    (c.finds_of_trees.ensures built.tree) next (c.groups_in.ensures ∙ shown) c.if-left-eq0.true (c.loop-slots.invariant.3 text built)
+    (finds_of_trees built.tree) next (c.groups_in.ensures ∙ shown) c.if-left-eq0.true (c.loop-slots.invariant.3 text built)
 
 pub returns-then-left-eq0-clause-stand : goal.returns-then-left-eq0-clause-stand
 returns-then-left-eq0-clause-stand c =
     let content = slice_bytes c.args.line in
-    let told : (text : List ℕ) → (built : IsRegexOf text c.args.regex.now) → IsTold (ComesAfter built.tree c.loop-slots.pass.content c.loop-slots.pass.last) c.in_ok-next.field-0 c.next.new.slots =
-    subst (λ re. (text : List ℕ) → (built : IsRegexOf text re) → IsTold (ComesAfter built.tree c.loop-slots.pass.content c.loop-slots.pass.last) c.in_ok-next.field-0 c.next.new.slots) c.loop-slots.invariant.0 (c.in_ok-next.ensures.found c.loop-slots.invariant.1) in
+    let told : (text : List ℕ) → (built : IsRegexOf text c.args.regex.now) → IsTold (TreeFindsNext built.tree c.loop-slots.pass.content c.loop-slots.pass.last) c.in_ok-next.field-0 c.next.new.slots =
+    subst (λ re. (text : List ℕ) → (built : IsRegexOf text re) → IsTold (TreeFindsNext built.tree c.loop-slots.pass.content c.loop-slots.pass.last) c.in_ok-next.field-0 c.next.new.slots) c.loop-slots.invariant.0 (c.in_ok-next.ensures.found c.loop-slots.invariant.1) in
     let utf8 : IsUtf8 content = (slice_text c.args.line, (rope-scalars (slice_pieces c.args.line) c.len_bytes.ensures.cut.cut, refl)) in
     let text = c.requires.0 in
     let built = c.requires.1 in
-    let has = c.finds_of_trees.ensures built.tree in
-    let notes = c.regexes_have_trees.ensures.noted text c.args.regex.now built content in
+    let has = finds_of_trees built.tree in
+    let notes = regexes_have_trees.noted text c.args.regex.now built content in
     let slots = c.next.new.slots in
     let next = next-told built.tree content _ c.loop-slots.pass.last c.in_ok-next.field-0 c.in-Some.field-0 slots c.loop-slots.invariant.2 (told text built) c.in-Some.is in
     let shown = groups-told built.tree content c.loop-slots.pass.last c.in-Some.field-0 slots (omega (arith, c.next.auto.slots)) notes next in
@@ -78,8 +80,8 @@ returns-then-left-eq0-clause-stand c =
 pub returns-clause-groups : goal.returns-clause-groups
 returns-clause-groups c = λ text built.
     let content = slice_bytes c.args.line in
-    let told : (text : List ℕ) → (built : IsRegexOf text c.args.regex.now) → IsTold (ComesAfter built.tree c.loop-slots.pass.content c.loop-slots.pass.last) c.in_ok-next.field-0 c.next.new.slots =
-    subst (λ re. (text : List ℕ) → (built : IsRegexOf text re) → IsTold (ComesAfter built.tree c.loop-slots.pass.content c.loop-slots.pass.last) c.in_ok-next.field-0 c.next.new.slots) c.loop-slots.invariant.0 (c.in_ok-next.ensures.found c.loop-slots.invariant.1) in
-    among-none built.tree content c.loop-slots.pass.last c.args.number c.loop-slots.left (c.finds_of_trees.ensures built.tree)
+    let told : (text : List ℕ) → (built : IsRegexOf text c.args.regex.now) → IsTold (TreeFindsNext built.tree c.loop-slots.pass.content c.loop-slots.pass.last) c.in_ok-next.field-0 c.next.new.slots =
+    subst (λ re. (text : List ℕ) → (built : IsRegexOf text re) → IsTold (TreeFindsNext built.tree c.loop-slots.pass.content c.loop-slots.pass.last) c.in_ok-next.field-0 c.next.new.slots) c.loop-slots.invariant.0 (c.in_ok-next.ensures.found c.loop-slots.invariant.1) in
+    among-none built.tree content c.loop-slots.pass.last c.args.number c.loop-slots.left (finds_of_trees built.tree)
     (none-next built.tree content _ c.loop-slots.pass.last c.in_ok-next.field-0 _ c.loop-slots.invariant.2 (told text built) c.in_default.is)
     (c.loop-slots.invariant.3 text built)

@@ -3,7 +3,9 @@ use Rattle.std.specs.List.{range_with_len}
 use Rattle.ropey_walk.specs.Comparing.{slice_bytes}
 use Rattle.ropey_walk.specs.Slices.{slice_pieces, slice_text}
 use Rattle.regex_cursor.specs.Regexes.{IsRegexOf}
-use Rattle.rope_search_reports.specs.Finders.{ComesAfter, IsTold, group_told}
+use Rattle.regex_cursor.proofs.TreeLaws.{finds_of_trees, regexes_have_trees}
+use Rattle.regex_cursor.specs.NextMatches.{TreeFindsNext}
+use Rattle.rope_search_reports.specs.Finders.{IsTold, group_told}
 use Rattle.rope_search_reports.specs.Matches.{groups_of}
 use Rattle.rope_search_reports.specs.Replacement.{AreMatchesIn}
 use Rattle.rope_search_reports.proofs.GroupLemmas.{matches-in}
@@ -20,24 +22,24 @@ loop-groups-init c =
       ap (λ p. p.content) begins,
       λ text built.
           rw (ap (λ p. p.last) begins, c.new-groups.ensures.items)
-          (Searched-start groups_of built.tree (slice_bytes c.args.text) (c.finds_of_trees.ensures built.tree)),
+          (Searched-start groups_of built.tree (slice_bytes c.args.text) (finds_of_trees built.tree)),
     )
 
 pub loop-groups-smaller : goal.loop-groups-smaller
 loop-groups-smaller c =
     let content = slice_bytes c.args.text in
-    let told : (text : List ℕ) → (built : IsRegexOf text c.args.regex.now) → IsTold (ComesAfter built.tree c.loop-groups.pass.content c.loop-groups.pass.last) c.in_ok-next.field-0 c.next.new.slots =
-    subst (λ re. (text : List ℕ) → (built : IsRegexOf text re) → IsTold (ComesAfter built.tree c.loop-groups.pass.content c.loop-groups.pass.last) c.in_ok-next.field-0 c.next.new.slots) c.loop-groups.invariant.0 (c.in_ok-next.ensures.found c.loop-groups.invariant.1) in
+    let told : (text : List ℕ) → (built : IsRegexOf text c.args.regex.now) → IsTold (TreeFindsNext built.tree c.loop-groups.pass.content c.loop-groups.pass.last) c.in_ok-next.field-0 c.next.new.slots =
+    subst (λ re. (text : List ℕ) → (built : IsRegexOf text re) → IsTold (TreeFindsNext built.tree c.loop-groups.pass.content c.loop-groups.pass.last) c.in_ok-next.field-0 c.next.new.slots) c.loop-groups.invariant.0 (c.in_ok-next.ensures.found c.loop-groups.invariant.1) in
     let tree = c.requires.1.tree in
     let next = next-told tree content _ c.loop-groups.pass.last c.in_ok-next.field-0 c.in-Some.field-0 _ c.loop-groups.invariant.2 (told c.requires.0 c.requires.1) c.in-Some.is in
     let gone = rw c.in-Some.is at c.in_ok-next.ensures.goes_on in
-    omega (arith, next-further tree content c.loop-groups.pass.last _ _ (c.finds_of_trees.ensures tree) next, ap (λ p. room_behind (length content) p.last) gone)
+    omega (arith, next-further tree content c.loop-groups.pass.last _ _ (finds_of_trees tree) next, ap (λ p. room_behind (length content) p.last) gone)
 
 pub loop-groups-preserved : goal.loop-groups-preserved
 loop-groups-preserved c =
     let content = slice_bytes c.args.text in
-    let told : (text : List ℕ) → (built : IsRegexOf text c.args.regex.now) → IsTold (ComesAfter built.tree c.loop-groups.pass.content c.loop-groups.pass.last) c.in_ok-next.field-0 c.next.new.slots =
-    subst (λ re. (text : List ℕ) → (built : IsRegexOf text re) → IsTold (ComesAfter built.tree c.loop-groups.pass.content c.loop-groups.pass.last) c.in_ok-next.field-0 c.next.new.slots) c.loop-groups.invariant.0 (c.in_ok-next.ensures.found c.loop-groups.invariant.1) in
+    let told : (text : List ℕ) → (built : IsRegexOf text c.args.regex.now) → IsTold (TreeFindsNext built.tree c.loop-groups.pass.content c.loop-groups.pass.last) c.in_ok-next.field-0 c.next.new.slots =
+    subst (λ re. (text : List ℕ) → (built : IsRegexOf text re) → IsTold (TreeFindsNext built.tree c.loop-groups.pass.content c.loop-groups.pass.last) c.in_ok-next.field-0 c.next.new.slots) c.loop-groups.invariant.0 (c.in_ok-next.ensures.found c.loop-groups.invariant.1) in
     let gone = rw c.in-Some.is at c.in_ok-next.ensures.goes_on in
     let slots = c.next.new.slots in
     let shown = map (group_told slots) (range_with_len 0 10) in
@@ -49,32 +51,32 @@ loop-groups-preserved c =
           let next = next-told built.tree content _ c.loop-groups.pass.last c.in_ok-next.field-0 c.in-Some.field-0 slots c.loop-groups.invariant.2 (told text built) c.in-Some.is in
           rw (ap (λ p. p.last) gone, items)
           (next-shown groups_of built.tree content c.loop-groups.pass.last c.in-Some.field-0 slots c.loop-groups.groups.items shown
-          (c.finds_of_trees.ensures built.tree) next
+          (finds_of_trees built.tree) next
           (groups-told built.tree content c.loop-groups.pass.last c.in-Some.field-0 slots (omega (arith, c.next.auto.slots))
-          (c.regexes_have_trees.ensures.noted text c.args.regex.now built content) next)
+          (regexes_have_trees.noted text c.args.regex.now built content) next)
           (c.loop-groups.invariant.3 text built)),
     )
 
 pub returns-clause-groups : goal.returns-clause-groups
 returns-clause-groups c = λ text built.
     let content = slice_bytes c.args.text in
-    let told : (text : List ℕ) → (built : IsRegexOf text c.args.regex.now) → IsTold (ComesAfter built.tree c.loop-groups.pass.content c.loop-groups.pass.last) c.in_ok-next.field-0 c.next.new.slots =
-    subst (λ re. (text : List ℕ) → (built : IsRegexOf text re) → IsTold (ComesAfter built.tree c.loop-groups.pass.content c.loop-groups.pass.last) c.in_ok-next.field-0 c.next.new.slots) c.loop-groups.invariant.0 (c.in_ok-next.ensures.found c.loop-groups.invariant.1) in
-    last-groups built.tree content c.loop-groups.pass.last c.loop-groups.groups.items (c.finds_of_trees.ensures built.tree)
+    let told : (text : List ℕ) → (built : IsRegexOf text c.args.regex.now) → IsTold (TreeFindsNext built.tree c.loop-groups.pass.content c.loop-groups.pass.last) c.in_ok-next.field-0 c.next.new.slots =
+    subst (λ re. (text : List ℕ) → (built : IsRegexOf text re) → IsTold (TreeFindsNext built.tree c.loop-groups.pass.content c.loop-groups.pass.last) c.in_ok-next.field-0 c.next.new.slots) c.loop-groups.invariant.0 (c.in_ok-next.ensures.found c.loop-groups.invariant.1) in
+    last-groups built.tree content c.loop-groups.pass.last c.loop-groups.groups.items (finds_of_trees built.tree)
     (none-next built.tree content _ c.loop-groups.pass.last c.in_ok-next.field-0 _ c.loop-groups.invariant.2 (told text built) c.in_default.is)
     (c.loop-groups.invariant.3 text built)
 
 pub returns-clause-stand : goal.returns-clause-stand
 returns-clause-stand c =
     let content = slice_bytes c.args.text in
-    let told : (text : List ℕ) → (built : IsRegexOf text c.args.regex.now) → IsTold (ComesAfter built.tree c.loop-groups.pass.content c.loop-groups.pass.last) c.in_ok-next.field-0 c.next.new.slots =
-    subst (λ re. (text : List ℕ) → (built : IsRegexOf text re) → IsTold (ComesAfter built.tree c.loop-groups.pass.content c.loop-groups.pass.last) c.in_ok-next.field-0 c.next.new.slots) c.loop-groups.invariant.0 (c.in_ok-next.ensures.found c.loop-groups.invariant.1) in
+    let told : (text : List ℕ) → (built : IsRegexOf text c.args.regex.now) → IsTold (TreeFindsNext built.tree c.loop-groups.pass.content c.loop-groups.pass.last) c.in_ok-next.field-0 c.next.new.slots =
+    subst (λ re. (text : List ℕ) → (built : IsRegexOf text re) → IsTold (TreeFindsNext built.tree c.loop-groups.pass.content c.loop-groups.pass.last) c.in_ok-next.field-0 c.next.new.slots) c.loop-groups.invariant.0 (c.in_ok-next.ensures.found c.loop-groups.invariant.1) in
     let utf8 : IsUtf8 content = (slice_text c.args.text, (rope-scalars (slice_pieces c.args.text) c.len_bytes.ensures.cut.cut, refl)) in
     let text = c.requires.0 in
     let built = c.requires.1 in
-    let has = c.finds_of_trees.ensures built.tree in
+    let has = finds_of_trees built.tree in
     let all = last-groups built.tree content c.loop-groups.pass.last c.loop-groups.groups.items has
     (none-next built.tree content _ c.loop-groups.pass.last c.in_ok-next.field-0 _ c.loop-groups.invariant.2 (told text built) c.in_default.is)
     (c.loop-groups.invariant.3 text built) in
     subst (AreMatchesIn content) (sym all.shown)
-    (matches-in built.tree content all.matches has (c.regexes_have_trees.ensures.noted text c.args.regex.now built content) utf8 all.are)
+    (matches-in built.tree content all.matches has (regexes_have_trees.noted text c.args.regex.now built content) utf8 all.are)

@@ -2,7 +2,9 @@ use Rattle.std.proofs.Common.{◌≡◌, ℕ, [], ◌∷◌, ◌++◌, List, Non
 use Rattle.ropey_walk.specs.Comparing.{slice_bytes}
 use Rattle.ropey_walk.specs.Slices.{slice_pieces, slice_text}
 use Rattle.regex_cursor.specs.Regexes.{IsRegexOf}
-use Rattle.rope_search_reports.specs.Finders.{ComesAfter, IsTold}
+use Rattle.regex_cursor.proofs.TreeLaws.{finds_of_trees}
+use Rattle.regex_cursor.specs.NextMatches.{TreeFindsNext}
+use Rattle.rope_search_reports.specs.Finders.{IsTold}
 use Rattle.rope_search_reports.specs.Pattern.{span_of}
 use Rattle.rope_search_reports.specs.Replacement.{AreMatchesIn, alone}
 use Rattle.rope_search_reports.proofs.GroupLemmas.{spans-alone}
@@ -19,24 +21,24 @@ loop-spans-init c =
       ap (λ p. p.content) begins,
       λ text built.
           rw (ap (λ p. p.last) begins, c.new-spans.ensures.items)
-          (Searched-start span_of built.tree (slice_bytes c.args.text) (c.finds_of_trees.ensures built.tree)),
+          (Searched-start span_of built.tree (slice_bytes c.args.text) (finds_of_trees built.tree)),
     )
 
 pub loop-spans-smaller : goal.loop-spans-smaller
 loop-spans-smaller c =
     let content = slice_bytes c.args.text in
-    let told : (text : List ℕ) → (built : IsRegexOf text c.args.regex.now) → IsTold (ComesAfter built.tree c.loop-spans.pass.content c.loop-spans.pass.last) c.in_ok-span.field-0 c.next.new.slots =
-    subst (λ re. (text : List ℕ) → (built : IsRegexOf text re) → IsTold (ComesAfter built.tree c.loop-spans.pass.content c.loop-spans.pass.last) c.in_ok-span.field-0 c.next.new.slots) c.loop-spans.invariant.0 (c.in_ok-span.ensures.found c.loop-spans.invariant.1) in
+    let told : (text : List ℕ) → (built : IsRegexOf text c.args.regex.now) → IsTold (TreeFindsNext built.tree c.loop-spans.pass.content c.loop-spans.pass.last) c.in_ok-span.field-0 c.next.new.slots =
+    subst (λ re. (text : List ℕ) → (built : IsRegexOf text re) → IsTold (TreeFindsNext built.tree c.loop-spans.pass.content c.loop-spans.pass.last) c.in_ok-span.field-0 c.next.new.slots) c.loop-spans.invariant.0 (c.in_ok-span.ensures.found c.loop-spans.invariant.1) in
     let tree = c.requires.1.tree in
     let next = next-told tree content _ c.loop-spans.pass.last c.in_ok-span.field-0 c.in-Some.span _ c.loop-spans.invariant.2 (told c.requires.0 c.requires.1) c.in-Some.is in
     let gone = rw c.in-Some.is at c.in_ok-span.ensures.goes_on in
-    omega (arith, next-further tree content c.loop-spans.pass.last _ _ (c.finds_of_trees.ensures tree) next, ap (λ p. room_behind (length content) p.last) gone)
+    omega (arith, next-further tree content c.loop-spans.pass.last _ _ (finds_of_trees tree) next, ap (λ p. room_behind (length content) p.last) gone)
 
 pub loop-spans-preserved : goal.loop-spans-preserved
 loop-spans-preserved c =
     let content = slice_bytes c.args.text in
-    let told : (text : List ℕ) → (built : IsRegexOf text c.args.regex.now) → IsTold (ComesAfter built.tree c.loop-spans.pass.content c.loop-spans.pass.last) c.in_ok-span.field-0 c.next.new.slots =
-    subst (λ re. (text : List ℕ) → (built : IsRegexOf text re) → IsTold (ComesAfter built.tree c.loop-spans.pass.content c.loop-spans.pass.last) c.in_ok-span.field-0 c.next.new.slots) c.loop-spans.invariant.0 (c.in_ok-span.ensures.found c.loop-spans.invariant.1) in
+    let told : (text : List ℕ) → (built : IsRegexOf text c.args.regex.now) → IsTold (TreeFindsNext built.tree c.loop-spans.pass.content c.loop-spans.pass.last) c.in_ok-span.field-0 c.next.new.slots =
+    subst (λ re. (text : List ℕ) → (built : IsRegexOf text re) → IsTold (TreeFindsNext built.tree c.loop-spans.pass.content c.loop-spans.pass.last) c.in_ok-span.field-0 c.next.new.slots) c.loop-spans.invariant.0 (c.in_ok-span.ensures.found c.loop-spans.invariant.1) in
     let gone = rw c.in-Some.is at c.in_ok-span.ensures.goes_on in (
       c.next.ensures.same ∙ c.loop-spans.invariant.0,
       ap (λ p. p.is_over) gone,
@@ -45,27 +47,27 @@ loop-spans-preserved c =
           let next = next-told built.tree content _ c.loop-spans.pass.last c.in_ok-span.field-0 c.in-Some.span _ c.loop-spans.invariant.2 (told text built) c.in-Some.is in
           rw (ap (λ p. p.last) gone, c.in_ok-push.ensures.items)
           (next-shown span_of built.tree content c.loop-spans.pass.last c.in-Some.span _ c.loop-spans.spans.items c.in-Some.span
-          (c.finds_of_trees.ensures built.tree) next next.span_is (c.loop-spans.invariant.3 text built)),
+          (finds_of_trees built.tree) next next.span_is (c.loop-spans.invariant.3 text built)),
     )
 
 pub returns-clause-spans : goal.returns-clause-spans
 returns-clause-spans c = λ text built.
     let content = slice_bytes c.args.text in
-    let told : (text : List ℕ) → (built : IsRegexOf text c.args.regex.now) → IsTold (ComesAfter built.tree c.loop-spans.pass.content c.loop-spans.pass.last) c.in_ok-span.field-0 c.next.new.slots =
-    subst (λ re. (text : List ℕ) → (built : IsRegexOf text re) → IsTold (ComesAfter built.tree c.loop-spans.pass.content c.loop-spans.pass.last) c.in_ok-span.field-0 c.next.new.slots) c.loop-spans.invariant.0 (c.in_ok-span.ensures.found c.loop-spans.invariant.1) in
-    last-spans built.tree content c.loop-spans.pass.last c.loop-spans.spans.items (c.finds_of_trees.ensures built.tree)
+    let told : (text : List ℕ) → (built : IsRegexOf text c.args.regex.now) → IsTold (TreeFindsNext built.tree c.loop-spans.pass.content c.loop-spans.pass.last) c.in_ok-span.field-0 c.next.new.slots =
+    subst (λ re. (text : List ℕ) → (built : IsRegexOf text re) → IsTold (TreeFindsNext built.tree c.loop-spans.pass.content c.loop-spans.pass.last) c.in_ok-span.field-0 c.next.new.slots) c.loop-spans.invariant.0 (c.in_ok-span.ensures.found c.loop-spans.invariant.1) in
+    last-spans built.tree content c.loop-spans.pass.last c.loop-spans.spans.items (finds_of_trees built.tree)
     (none-next built.tree content _ c.loop-spans.pass.last c.in_ok-span.field-0 _ c.loop-spans.invariant.2 (told text built) c.in_default.is)
     (c.loop-spans.invariant.3 text built)
 
 pub returns-clause-stand : goal.returns-clause-stand
 returns-clause-stand c =
     let content = slice_bytes c.args.text in
-    let told : (text : List ℕ) → (built : IsRegexOf text c.args.regex.now) → IsTold (ComesAfter built.tree c.loop-spans.pass.content c.loop-spans.pass.last) c.in_ok-span.field-0 c.next.new.slots =
-    subst (λ re. (text : List ℕ) → (built : IsRegexOf text re) → IsTold (ComesAfter built.tree c.loop-spans.pass.content c.loop-spans.pass.last) c.in_ok-span.field-0 c.next.new.slots) c.loop-spans.invariant.0 (c.in_ok-span.ensures.found c.loop-spans.invariant.1) in
+    let told : (text : List ℕ) → (built : IsRegexOf text c.args.regex.now) → IsTold (TreeFindsNext built.tree c.loop-spans.pass.content c.loop-spans.pass.last) c.in_ok-span.field-0 c.next.new.slots =
+    subst (λ re. (text : List ℕ) → (built : IsRegexOf text re) → IsTold (TreeFindsNext built.tree c.loop-spans.pass.content c.loop-spans.pass.last) c.in_ok-span.field-0 c.next.new.slots) c.loop-spans.invariant.0 (c.in_ok-span.ensures.found c.loop-spans.invariant.1) in
     let utf8 : IsUtf8 content = (slice_text c.args.text, (rope-scalars (slice_pieces c.args.text) c.len_bytes.ensures.cut.cut, refl)) in
     let text = c.requires.0 in
     let built = c.requires.1 in
-    let has = c.finds_of_trees.ensures built.tree in
+    let has = finds_of_trees built.tree in
     let all = last-spans built.tree content c.loop-spans.pass.last c.loop-spans.spans.items has
     (none-next built.tree content _ c.loop-spans.pass.last c.in_ok-span.field-0 _ c.loop-spans.invariant.2 (told text built) c.in_default.is)
     (c.loop-spans.invariant.3 text built) in

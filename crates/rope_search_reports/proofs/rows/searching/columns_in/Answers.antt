@@ -2,9 +2,11 @@ use Rattle.std.proofs.Common.{◌≡◌, ℕ, ◌∷◌, ◌++◌, [], List, Non
 use Rattle.std.proofs.lemmas.Str.{IsCharBoundary-from_drop, chars-nil}
 use Rattle.str_indices.specs.Text.{units}
 use Rattle.regex_cursor.specs.Regexes.{IsRegexOf}
+use Rattle.regex_cursor.proofs.TreeLaws.{finds_of_trees}
 use Rattle.rope_search_reports.specs.Text.{bytes_of}
 use Rattle.rope_search_reports.specs.Drafts.{own_text}
-use Rattle.rope_search_reports.specs.Finders.{ComesAfter, IsTold, start_behind}
+use Rattle.regex_cursor.specs.NextMatches.{TreeFindsNext}
+use Rattle.rope_search_reports.specs.Finders.{IsTold, start_behind}
 use Rattle.rope_search_reports.proofs.MatchLemmas.{Searched, Searched-start, room_behind}
 use Rattle.rope_search_reports.proofs.OwnLemmas.{own-utf8}
 use Rattle.rope_search_reports.proofs.RowLemmas.{columns_of, columns-are, next-told, next-follows, next-stands, next-further, next-shown, none-next, last-row}
@@ -22,85 +24,85 @@ loop-pass-init g c =
       IsCharBoundary-from_drop content 0 (omega arith) utf8,
       sym (ap units chars-nil),
       λ text built.
-          rw (ap (λ p. p.last) begins, c.requires.empty) (Searched-start (columns_of content) built.tree content (c.finds_of_trees.ensures built.tree)),
+          rw (ap (λ p. p.last) begins, c.requires.empty) (Searched-start (columns_of content) built.tree content (finds_of_trees built.tree)),
     )
 
 pub column_from-start_column-requires-clause-ends : goal.column_from-start_column-requires-clause-ends
 column_from-start_column-requires-clause-ends g c =
     let content = bytes_of (own_text c.args.line.now) in
-    let told : (text : List ℕ) → (built : IsRegexOf text c.args.regex.now) → IsTold (ComesAfter built.tree c.loop-pass.pass.content c.loop-pass.pass.last) c.in_ok-start.field-0 c.next.new.slots =
-    subst (λ re. (text : List ℕ) → (built : IsRegexOf text re) → IsTold (ComesAfter built.tree c.loop-pass.pass.content c.loop-pass.pass.last) c.in_ok-start.field-0 c.next.new.slots) c.loop-pass.invariant.0 (c.in_ok-start.ensures.found c.loop-pass.invariant.1) in
+    let told : (text : List ℕ) → (built : IsRegexOf text c.args.regex.now) → IsTold (TreeFindsNext built.tree c.loop-pass.pass.content c.loop-pass.pass.last) c.in_ok-start.field-0 c.next.new.slots =
+    subst (λ re. (text : List ℕ) → (built : IsRegexOf text re) → IsTold (TreeFindsNext built.tree c.loop-pass.pass.content c.loop-pass.pass.last) c.in_ok-start.field-0 c.next.new.slots) c.loop-pass.invariant.0 (c.in_ok-start.ensures.found c.loop-pass.invariant.1) in
     let utf8 = own-utf8 c.args.line.now c.requires.holds in
     let tree = c.requires.built.1.tree in
     let next = next-told tree content _ c.loop-pass.pass.last c.in_ok-start.field-0 (c.in-Some.start, c.in-Some.end) _ c.loop-pass.invariant.2 (told c.requires.built.0 c.requires.built.1) c.in-Some.is in
-    let stands = next-stands tree content c.loop-pass.pass.last _ _ (c.finds_of_trees.ensures tree) utf8 next in
+    let stands = next-stands tree content c.loop-pass.pass.last _ _ (finds_of_trees tree) utf8 next in
     stands.starts
 
 pub column_from-start_column-requires-clause-ordered : goal.column_from-start_column-requires-clause-ordered
 column_from-start_column-requires-clause-ordered g c =
     let content = bytes_of (own_text c.args.line.now) in
-    let told : (text : List ℕ) → (built : IsRegexOf text c.args.regex.now) → IsTold (ComesAfter built.tree c.loop-pass.pass.content c.loop-pass.pass.last) c.in_ok-start.field-0 c.next.new.slots =
-    subst (λ re. (text : List ℕ) → (built : IsRegexOf text re) → IsTold (ComesAfter built.tree c.loop-pass.pass.content c.loop-pass.pass.last) c.in_ok-start.field-0 c.next.new.slots) c.loop-pass.invariant.0 (c.in_ok-start.ensures.found c.loop-pass.invariant.1) in
+    let told : (text : List ℕ) → (built : IsRegexOf text c.args.regex.now) → IsTold (TreeFindsNext built.tree c.loop-pass.pass.content c.loop-pass.pass.last) c.in_ok-start.field-0 c.next.new.slots =
+    subst (λ re. (text : List ℕ) → (built : IsRegexOf text re) → IsTold (TreeFindsNext built.tree c.loop-pass.pass.content c.loop-pass.pass.last) c.in_ok-start.field-0 c.next.new.slots) c.loop-pass.invariant.0 (c.in_ok-start.ensures.found c.loop-pass.invariant.1) in
     let utf8 = own-utf8 c.args.line.now c.requires.holds in
     let tree = c.requires.built.1.tree in
     let next = next-told tree content _ c.loop-pass.pass.last c.in_ok-start.field-0 (c.in-Some.start, c.in-Some.end) _ c.loop-pass.invariant.2 (told c.requires.built.0 c.requires.built.1) c.in-Some.is in
-    let follows = next-follows tree content c.loop-pass.pass.last _ _ (c.finds_of_trees.ensures tree) next in
+    let follows = next-follows tree content c.loop-pass.pass.last _ _ (finds_of_trees tree) next in
     let behind = follows.behind in
     omega (arith, behind, c.loop-pass.invariant.3)
 
 pub column_from-column-requires-clause-starts : goal.column_from-column-requires-clause-starts
 column_from-column-requires-clause-starts g c =
     let content = bytes_of (own_text c.args.line.now) in
-    let told : (text : List ℕ) → (built : IsRegexOf text c.args.regex.now) → IsTold (ComesAfter built.tree c.loop-pass.pass.content c.loop-pass.pass.last) c.in_ok-start.field-0 c.next.new.slots =
-    subst (λ re. (text : List ℕ) → (built : IsRegexOf text re) → IsTold (ComesAfter built.tree c.loop-pass.pass.content c.loop-pass.pass.last) c.in_ok-start.field-0 c.next.new.slots) c.loop-pass.invariant.0 (c.in_ok-start.ensures.found c.loop-pass.invariant.1) in
+    let told : (text : List ℕ) → (built : IsRegexOf text c.args.regex.now) → IsTold (TreeFindsNext built.tree c.loop-pass.pass.content c.loop-pass.pass.last) c.in_ok-start.field-0 c.next.new.slots =
+    subst (λ re. (text : List ℕ) → (built : IsRegexOf text re) → IsTold (TreeFindsNext built.tree c.loop-pass.pass.content c.loop-pass.pass.last) c.in_ok-start.field-0 c.next.new.slots) c.loop-pass.invariant.0 (c.in_ok-start.ensures.found c.loop-pass.invariant.1) in
     let utf8 = own-utf8 c.args.line.now c.requires.holds in
     let tree = c.requires.built.1.tree in
     let next = next-told tree content _ c.loop-pass.pass.last c.in_ok-start.field-0 (c.in-Some.start, c.in-Some.end) _ c.loop-pass.invariant.2 (told c.requires.built.0 c.requires.built.1) c.in-Some.is in
-    let stands = next-stands tree content c.loop-pass.pass.last _ _ (c.finds_of_trees.ensures tree) utf8 next in
+    let stands = next-stands tree content c.loop-pass.pass.last _ _ (finds_of_trees tree) utf8 next in
     stands.starts
 
 pub column_from-column-requires-clause-ends : goal.column_from-column-requires-clause-ends
 column_from-column-requires-clause-ends g c =
     let content = bytes_of (own_text c.args.line.now) in
-    let told : (text : List ℕ) → (built : IsRegexOf text c.args.regex.now) → IsTold (ComesAfter built.tree c.loop-pass.pass.content c.loop-pass.pass.last) c.in_ok-start.field-0 c.next.new.slots =
-    subst (λ re. (text : List ℕ) → (built : IsRegexOf text re) → IsTold (ComesAfter built.tree c.loop-pass.pass.content c.loop-pass.pass.last) c.in_ok-start.field-0 c.next.new.slots) c.loop-pass.invariant.0 (c.in_ok-start.ensures.found c.loop-pass.invariant.1) in
+    let told : (text : List ℕ) → (built : IsRegexOf text c.args.regex.now) → IsTold (TreeFindsNext built.tree c.loop-pass.pass.content c.loop-pass.pass.last) c.in_ok-start.field-0 c.next.new.slots =
+    subst (λ re. (text : List ℕ) → (built : IsRegexOf text re) → IsTold (TreeFindsNext built.tree c.loop-pass.pass.content c.loop-pass.pass.last) c.in_ok-start.field-0 c.next.new.slots) c.loop-pass.invariant.0 (c.in_ok-start.ensures.found c.loop-pass.invariant.1) in
     let utf8 = own-utf8 c.args.line.now c.requires.holds in
     let tree = c.requires.built.1.tree in
     let next = next-told tree content _ c.loop-pass.pass.last c.in_ok-start.field-0 (c.in-Some.start, c.in-Some.end) _ c.loop-pass.invariant.2 (told c.requires.built.0 c.requires.built.1) c.in-Some.is in
-    let stands = next-stands tree content c.loop-pass.pass.last _ _ (c.finds_of_trees.ensures tree) utf8 next in
+    let stands = next-stands tree content c.loop-pass.pass.last _ _ (finds_of_trees tree) utf8 next in
     stands.ends
 
 pub column_from-column-requires-clause-ordered : goal.column_from-column-requires-clause-ordered
 column_from-column-requires-clause-ordered g c =
     let content = bytes_of (own_text c.args.line.now) in
-    let told : (text : List ℕ) → (built : IsRegexOf text c.args.regex.now) → IsTold (ComesAfter built.tree c.loop-pass.pass.content c.loop-pass.pass.last) c.in_ok-start.field-0 c.next.new.slots =
-    subst (λ re. (text : List ℕ) → (built : IsRegexOf text re) → IsTold (ComesAfter built.tree c.loop-pass.pass.content c.loop-pass.pass.last) c.in_ok-start.field-0 c.next.new.slots) c.loop-pass.invariant.0 (c.in_ok-start.ensures.found c.loop-pass.invariant.1) in
+    let told : (text : List ℕ) → (built : IsRegexOf text c.args.regex.now) → IsTold (TreeFindsNext built.tree c.loop-pass.pass.content c.loop-pass.pass.last) c.in_ok-start.field-0 c.next.new.slots =
+    subst (λ re. (text : List ℕ) → (built : IsRegexOf text re) → IsTold (TreeFindsNext built.tree c.loop-pass.pass.content c.loop-pass.pass.last) c.in_ok-start.field-0 c.next.new.slots) c.loop-pass.invariant.0 (c.in_ok-start.ensures.found c.loop-pass.invariant.1) in
     let utf8 = own-utf8 c.args.line.now c.requires.holds in
     let tree = c.requires.built.1.tree in
     let next = next-told tree content _ c.loop-pass.pass.last c.in_ok-start.field-0 (c.in-Some.start, c.in-Some.end) _ c.loop-pass.invariant.2 (told c.requires.built.0 c.requires.built.1) c.in-Some.is in
-    let follows = next-follows tree content c.loop-pass.pass.last _ _ (c.finds_of_trees.ensures tree) next in
+    let follows = next-follows tree content c.loop-pass.pass.last _ _ (finds_of_trees tree) next in
     follows.ordered
 
 pub loop-pass-smaller : goal.loop-pass-smaller
 loop-pass-smaller g c =
     let content = bytes_of (own_text c.args.line.now) in
-    let told : (text : List ℕ) → (built : IsRegexOf text c.args.regex.now) → IsTold (ComesAfter built.tree c.loop-pass.pass.content c.loop-pass.pass.last) c.in_ok-start.field-0 c.next.new.slots =
-    subst (λ re. (text : List ℕ) → (built : IsRegexOf text re) → IsTold (ComesAfter built.tree c.loop-pass.pass.content c.loop-pass.pass.last) c.in_ok-start.field-0 c.next.new.slots) c.loop-pass.invariant.0 (c.in_ok-start.ensures.found c.loop-pass.invariant.1) in
+    let told : (text : List ℕ) → (built : IsRegexOf text c.args.regex.now) → IsTold (TreeFindsNext built.tree c.loop-pass.pass.content c.loop-pass.pass.last) c.in_ok-start.field-0 c.next.new.slots =
+    subst (λ re. (text : List ℕ) → (built : IsRegexOf text re) → IsTold (TreeFindsNext built.tree c.loop-pass.pass.content c.loop-pass.pass.last) c.in_ok-start.field-0 c.next.new.slots) c.loop-pass.invariant.0 (c.in_ok-start.ensures.found c.loop-pass.invariant.1) in
     let utf8 = own-utf8 c.args.line.now c.requires.holds in
     let tree = c.requires.built.1.tree in
     let next = next-told tree content _ c.loop-pass.pass.last c.in_ok-start.field-0 (c.in-Some.start, c.in-Some.end) _ c.loop-pass.invariant.2 (told c.requires.built.0 c.requires.built.1) c.in-Some.is in
     let gone = rw c.in-Some.is at c.in_ok-start.ensures.goes_on in
-    omega (arith, next-further tree content c.loop-pass.pass.last _ _ (c.finds_of_trees.ensures tree) next, ap (λ p. room_behind (length content) p.last) gone)
+    omega (arith, next-further tree content c.loop-pass.pass.last _ _ (finds_of_trees tree) next, ap (λ p. room_behind (length content) p.last) gone)
 
 pub loop-pass-preserved : goal.loop-pass-preserved
 loop-pass-preserved g c =
     let content = bytes_of (own_text c.args.line.now) in
-    let told : (text : List ℕ) → (built : IsRegexOf text c.args.regex.now) → IsTold (ComesAfter built.tree c.loop-pass.pass.content c.loop-pass.pass.last) c.in_ok-start.field-0 c.next.new.slots =
-    subst (λ re. (text : List ℕ) → (built : IsRegexOf text re) → IsTold (ComesAfter built.tree c.loop-pass.pass.content c.loop-pass.pass.last) c.in_ok-start.field-0 c.next.new.slots) c.loop-pass.invariant.0 (c.in_ok-start.ensures.found c.loop-pass.invariant.1) in
+    let told : (text : List ℕ) → (built : IsRegexOf text c.args.regex.now) → IsTold (TreeFindsNext built.tree c.loop-pass.pass.content c.loop-pass.pass.last) c.in_ok-start.field-0 c.next.new.slots =
+    subst (λ re. (text : List ℕ) → (built : IsRegexOf text re) → IsTold (TreeFindsNext built.tree c.loop-pass.pass.content c.loop-pass.pass.last) c.in_ok-start.field-0 c.next.new.slots) c.loop-pass.invariant.0 (c.in_ok-start.ensures.found c.loop-pass.invariant.1) in
     let utf8 = own-utf8 c.args.line.now c.requires.holds in
     let tree = c.requires.built.1.tree in
     let next = next-told tree content _ c.loop-pass.pass.last c.in_ok-start.field-0 (c.in-Some.start, c.in-Some.end) _ c.loop-pass.invariant.2 (told c.requires.built.0 c.requires.built.1) c.in-Some.is in
-    let stands = next-stands tree content c.loop-pass.pass.last _ _ (c.finds_of_trees.ensures tree) utf8 next in
+    let stands = next-stands tree content c.loop-pass.pass.last _ _ (finds_of_trees tree) utf8 next in
     let gone = rw c.in-Some.is at c.in_ok-start.ensures.goes_on in
     let items = c.in_ok-push.ensures.items in (
       c.next.ensures.same ∙ c.loop-pass.invariant.0,
@@ -113,7 +115,7 @@ loop-pass-preserved g c =
           let next' = next-told built.tree content _ c.loop-pass.pass.last c.in_ok-start.field-0 (c.in-Some.start, c.in-Some.end) _ c.loop-pass.invariant.2 (told text built) c.in-Some.is in
           rw (ap (λ p. p.last) gone, items)
           (next-shown (columns_of content) built.tree content c.loop-pass.pass.last (c.in-Some.start, c.in-Some.end) _ c.loop-pass.columns.items (c.column_from-start_column.result, c.column_from-column.result)
-          (c.finds_of_trees.ensures built.tree) next'
+          (finds_of_trees built.tree) next'
           (columns-are built.tree content c.loop-pass.pass.last (c.in-Some.start, c.in-Some.end) _ c.column_from-start_column.result c.column_from-column.result next' c.column_from-start_column.ensures c.column_from-column.ensures)
           (c.loop-pass.invariant.6 text built)),
     )
@@ -121,8 +123,8 @@ loop-pass-preserved g c =
 pub returns-clause-row : goal.returns-clause-row
 returns-clause-row g c = λ text built.
     let content = bytes_of (own_text c.args.line.now) in
-    let told : (text : List ℕ) → (built : IsRegexOf text c.args.regex.now) → IsTold (ComesAfter built.tree c.loop-pass.pass.content c.loop-pass.pass.last) c.in_ok-start.field-0 c.next.new.slots =
-    subst (λ re. (text : List ℕ) → (built : IsRegexOf text re) → IsTold (ComesAfter built.tree c.loop-pass.pass.content c.loop-pass.pass.last) c.in_ok-start.field-0 c.next.new.slots) c.loop-pass.invariant.0 (c.in_ok-start.ensures.found c.loop-pass.invariant.1) in
-    last-row built.tree (own_text c.args.line.now) c.loop-pass.pass.last c.loop-pass.columns.items (c.finds_of_trees.ensures built.tree)
+    let told : (text : List ℕ) → (built : IsRegexOf text c.args.regex.now) → IsTold (TreeFindsNext built.tree c.loop-pass.pass.content c.loop-pass.pass.last) c.in_ok-start.field-0 c.next.new.slots =
+    subst (λ re. (text : List ℕ) → (built : IsRegexOf text re) → IsTold (TreeFindsNext built.tree c.loop-pass.pass.content c.loop-pass.pass.last) c.in_ok-start.field-0 c.next.new.slots) c.loop-pass.invariant.0 (c.in_ok-start.ensures.found c.loop-pass.invariant.1) in
+    last-row built.tree (own_text c.args.line.now) c.loop-pass.pass.last c.loop-pass.columns.items (finds_of_trees built.tree)
     (none-next built.tree content _ c.loop-pass.pass.last c.in_ok-start.field-0 _ c.loop-pass.invariant.2 (told text built) c.in_default.is)
     (c.loop-pass.invariant.6 text built)

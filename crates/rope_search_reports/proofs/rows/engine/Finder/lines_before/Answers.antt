@@ -1,6 +1,9 @@
 use Rattle.std.proofs.Common.{◌≡◌, ◌+◌, ◌<◌, ◌≤◌, ℕ, arith}
+use Rattle.str_indices.proofs.TextLaws.{to_byte_idx_is_monotone-lines}
 use Rattle.ropey.specs.Chunks.{is_break}
+use Rattle.regex_cursor.proofs.TreeLaws.{finds_of_trees}
 use Rattle.rope_search_reports.proofs.BareLemmas.{ahead-within, bare-ahead, bare-empty}
+use Rattle.rope_search_reports.proofs.TextPlaces.{places}
 use Rattle.rope_search_reports.proofs.rows.engine.Finder.lines_before.Goals as goal
 
 pub returns-in-None-clause-bare : goal.returns-in-None-clause-bare
@@ -17,8 +20,8 @@ returns-then-place-rest-clause-fits c =
 
 pub returns-then-place-rest-clause-bare : goal.returns-then-place-rest-clause-bare
 returns-then-place-rest-clause-bare c =
-    bare-ahead c.places.ensures (c.to_byte_idx_is_monotone.ensures.lines is_break) c.finds_of_trees.ensures c.args.self.now c.rest-rest.result.now c.args.walk.now.text c.args.walk.now.rest c.args.walk.now.line c.in-Some.place c.from_byte_idx.result
+    bare-ahead places (to_byte_idx_is_monotone-lines is_break) finds_of_trees c.args.self.now c.rest-rest.result.now c.args.walk.now.text c.args.walk.now.rest c.args.walk.now.line c.in-Some.place c.from_byte_idx.result
     c.rest-rest.ensures.utf8 c.rest-rest.ensures.rest c.from_byte_idx.ensures c.in-Some.ensures.no_match c.rest-rest.ensures.lines
 
 pub returns-then-place-rest-clause-empty : goal.returns-then-place-rest-clause-empty
-returns-then-place-rest-clause-empty c = λ _. bare-empty c.finds_of_trees.ensures c.args.self.now c.rest-rest.result.now c.in-Some.place c.in-Some.ensures.no_match
+returns-then-place-rest-clause-empty c = λ _. bare-empty finds_of_trees c.args.self.now c.rest-rest.result.now c.in-Some.place c.in-Some.ensures.no_match
