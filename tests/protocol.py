@@ -294,25 +294,25 @@ def replies(commands, refused=frozenset(), limit=TEXT_LIMIT):
     return [session.reply(command, place in refused) for place, command in enumerate(commands)]
 
 
-def replies_and_costs(commands, limit=TEXT_LIMIT):
+def replies_and_costs(commands, limit=TEXT_LIMIT, refused=frozenset()):
     """The replies to the commands, and how many rows these may make at most and how often they may search a whole text,
-    together."""
+    together; where memory is refused to those whose places are in `refused`, which may have cost as much by then."""
     session, told, rows, wholes = Session(limit), [], 0, 0
-    for command in commands:
+    for place, command in enumerate(commands):
         more = session.cost(command)
         rows, wholes = rows + more[0], wholes + more[1]
-        told.append(session.reply(command))
+        told.append(session.reply(command, place in refused))
     return told, (rows, wholes)
 
 
-def costs(commands, limit=TEXT_LIMIT):
+def costs(commands, limit=TEXT_LIMIT, refused=frozenset()):
     """How many rows the commands may make at most, and how often they may search a whole text, together."""
-    return replies_and_costs(commands, limit)[1]
+    return replies_and_costs(commands, limit, refused)[1]
 
 
-def takers(commands):
+def takers(commands, limit=TEXT_LIMIT):
     """The places of the commands that may be answered that memory lacks, where no other one is."""
-    session, places = Session(), set()
+    session, places = Session(limit), set()
     for place, command in enumerate(commands):
         if session.takes_memory(command[0]):
             places.add(place)

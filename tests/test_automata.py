@@ -18,7 +18,7 @@ from harness import TOP, differences, short, test
 from memory import library, tallied
 from random_patterns import Maker
 from test_regexes import in_rope
-from test_searches import SECOND, VECTORS, asked_at_random, listed
+from test_searches import EXTREMES, SECOND, VECTORS, asked_at_random, listed
 from walks import Search, spelled
 
 SIZES = (0, 1, 2, 3)  # how many bytes a piece has; 0: all are one piece
@@ -139,8 +139,9 @@ def table():
 
 
 def vectors():
-    """Those of VECTORS that say where matches lie, under the settings as they are at first, in pieces of each size."""
-    for (pattern, haystack, answer, *asked), size in itertools.product(VECTORS, SIZES):
+    """Those of VECTORS and EXTREMES that say where matches lie, under the settings as they are at first, in pieces of each
+    size."""
+    for (pattern, haystack, answer, *asked), size in itertools.product(VECTORS + EXTREMES, SIZES):
         if len(asked) <= 1 and re.fullmatch(r"[-0-9, ]*", answer):
             groups = ([told.split("-") for told in match.split(",")] for match in answer.split())
             matches = [[(int(start), int(end)) if start else None for start, end in match] for match in groups]
@@ -210,6 +211,9 @@ IN_LITTLE_ROOM = [
     ("abcdefg", b"abcdefg", "the search gave up at 7"),
     ("abcdefgh", b"abcdefgh", "the search gave up at 7"),
 ]
+# With one that has room for all states that there can be none gives up.
+IN_ALL_ROOM = [*IN_LITTLE_ROOM[:2], ("abcdefg", b"abcdefg", "0 7"), ("[ab]*a[ab]{5}", b"abbab" * 40 + b"c", "0 199")]
+ALL_ROOM = 2**64 - 1
 
 # Each has its requests for memory refused in turn. After each that comes in a search with a cache there is one more.
 IN_NEED = [
@@ -260,8 +264,9 @@ def in_long_contents():
 def test_all():
     wrong, how = compared(itertools.chain(table(), vectors(), at_random(), literals()))
     test(f"searches of the table, {RANDOM_CASES} at random, {LITERAL_CASES} for literals, by each engine: {how}", wrong)
-    told = [automaton("lazy", *told, capacity=0, answer=answer) for *told, answer in IN_LITTLE_ROOM]
-    test(f"{len(told)} searches with a cache that has room for two states", problems(told))
+    for name, room, searches in (("two states", 0, IN_LITTLE_ROOM), ("all states", ALL_ROOM, IN_ALL_ROOM)):
+        told = [automaton("lazy", *told, capacity=room, answer=answer) for *told, answer in searches]
+        test(f"{len(told)} searches with a cache that has room for {name}", problems(told))
     if library() is not None:
         for case in IN_NEED:
             check_memory(case, [PROGRAM_WANT, WANT, b"again"], f"{case.answer}\n".encode())

@@ -82,7 +82,7 @@ def edits_of(text):
     first, last = (len(text[:at].encode()) for at in (half // 2, half // 2 + 1))
     asks = ["clone", f"try_byte_replace,{first},{last},{hexed('é')}", *KEPT]
     asks += [f"try_insert,{half},{hexed(chr(10) + 'é' + chr(13))}", *KEPT, f"try_remove,{half // 2},{half}", *KEPT]
-    asks += [f"try_split_off,{third}", "append", *ASKED, "insert_char,0,c3a9", "clone", *ASKED]
+    asks += [f"try_split_off,{third}", *KEPT, "append", *ASKED, "insert_char,0,c3a9", "clone", *ASKED]
     asks += [f"try_replace,{third},{half},{hexed('é' * 400)}", *KEPT, *ASKED]
     return asks + [f"build,{half // 2},{third}", *KEPT, *ASKED]
 

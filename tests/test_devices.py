@@ -11,7 +11,7 @@ import tty
 
 from harness import FIRST, ROOM, differences, end_of, library, open_input, run, short, start, test, told
 from protocol import answer, read_commands, replies, spelled
-from test_replies import MORE_EXAMPLES, examples_of_page
+from test_replies import LARGE, MORE_EXAMPLES, examples_of_page
 
 
 def test_failing_reads():
@@ -217,10 +217,13 @@ def wrong_without_streams():
     with open("/dev/full", "wb") as full:
         ended = end_of(start(stdin=open_input(FIRST), stdout=full, stderr=full))
     yield from (f"with a full standard error: {line}" for line in differences(ended, b"", 1))
-    # A stream that is open the wrong way round.
+    # Streams that are open the wrong way round.
     with open(os.path.join(ROOM, "written"), "wb") as written:
         ended = end_of(start(stdin=written))
     yield from (f"with an input for writing alone: {line}" for line in differences(ended, b"", 1, told(b"read failed")))
+    with open(os.path.join(ROOM, "written"), "rb") as read:
+        ended = end_of(start(stdin=open_input(FIRST), stdout=read))
+    yield from (f"with an output for reading alone: {line}" for line in differences(ended, b"", 1, told(b"write failed")))
 
 
 def wrong_past_file_limit():
@@ -266,8 +269,12 @@ def given(word, payload):
     return b"%s %d\n" % (word, len(payload)) + payload
 
 
-# Patterns that stand deep in one another, texts whose ropes are high, and replies of many parts.
+# Patterns that stand deep in one another, as deep as they may and deeper, others that are large, texts whose ropes are
+# high, and replies of many parts.
 DEEP = [
+    *(b"text 3\naxb" + given(b"pattern", pattern.encode()) + b"list\nnext 0 1\n" for pattern, _ in LARGE),
+    b"text 9\naaabbbccc" + given(b"pattern", b"(" * 250 + b"a" + b")" * 250) + b"list\n" + given(b"replace", b"$9$0"),
+    b"text 9\naaabbbccc" + given(b"pattern", b"(?:" * 83 + b"a" + b"+)*" * 83) + b"list\n" + given(b"replace", b"$0$0"),
     FIRST,
     b"text 9\naaabbbccc" + given(b"pattern", b"(" * 32_767 + b")" * 32_767) + b"list\n",
     b"text 9\naaabbbccc" + given(b"pattern", b"(?:" * 200 + b"a" + b"+)*" * 200) + b"list\n" + given(b"replace", b"$0$0")

@@ -182,6 +182,7 @@ def wrong_places(name, dues, line):
 def known():
     for text, name, due in KNOWN_COUNTS:
         yield f"indices {hexed(text)} 0,0", functools.partial(wrong_count, name, due)
+        yield row(text, (0, due if isinstance(due, int) else 1), range(min(len(text.encode()) + 2, 70)))
     for text, name, dues in KNOWN_PLACES:
         yield f"indices {hexed(text)} {' '.join(f'{idx},0' for idx in dues)}", functools.partial(wrong_places, name, dues)
         yield row(text, list(dues), (0, 1, 2))

@@ -4,8 +4,9 @@ import itertools
 import random
 import re
 
-from driver import NO_MEMORY, WANT, Case, Settings, check_memory, line_of, problems, written
-from harness import short, test
+from driver import NO_MEMORY, WANT, Case, Settings, answer_to, check_memory, line_of, problems, written
+from harness import differences, short, test
+from memory import tallied
 from test_automata import Wanted, compared
 
 CUTS = ["0", "1", "2", "3", "1.0.2.0.4"]  # how haystacks are cut
@@ -130,6 +131,9 @@ WHOLES = [
 ]
 
 
+MOST = 2**64 - 1  # where a span ends that has no end
+
+
 def at(needles, bytes_, place):
     """What is found at a place: the first needle that lies there."""
     for needle in needles:
@@ -158,6 +162,8 @@ def found():
         for end in ends:
             for start in range(min(end, 9) + 2):
                 yield find(needles, haystack, cut, start, end)
+        for start in (0, 1, len(haystack) + 1, MOST):
+            yield find(needles, haystack, cut, start, MOST)
 
 
 def at_random():
@@ -168,6 +174,20 @@ def at_random():
         cut = chance.choice(["0", "1", "2", "5", "7", "3.0.1.6.2"])
         end = chance.randint(0, len(haystack) + 2)
         yield find(needles, haystack, cut, chance.randint(0, end + 1), end)
+
+
+def wrong_memory():
+    """What is wrong with finds in a long content in which no needle lies, which ask for as much memory as those in an empty
+    span of it: for none."""
+    haystack = b"az" * 5_000 + b"bz" * 5_000
+    for needles in ([b"ab"], [b"abab", b"bb"], [b"b" * 64, b"ab", b"aa"]):
+        told = ".".join(needle.hex() for needle in needles)
+        lines = (line_of("literal", told, "7", haystack.hex(), "00000", f"{end:05}") for end in (0, len(haystack)))
+        ends = [tallied(lambda environment, line=line: answer_to(line, environment)) for line in lines]
+        for ended, *_ in ends:
+            yield from differences(ended, b"- -\n", 0)
+        if ends[0][1:] != ends[1][1:]:
+            yield f"{needles}: {ends[1][1:]} in all of it, and {ends[0][1:]} in none"
 
 
 def refused():
@@ -218,6 +238,7 @@ def test_all():
     wrong, told = compared(searches_at_random())
     test(f"searches for what begins with literals: {told}", wrong)
     check_memory(find([b"ab", b"b"], b"aab", "1", 0, 3), [WANT])
+    test("needles are looked for with no memory asked for", wrong_memory())
     for pattern in ("let", "(?i)xb", "foo|bar|baz"):
         check_memory(next(case for case in read_from("beginning", BEGINNINGS) if repr(pattern) in case.name), NO_MEMORY)
     check_memory(next(read_from("whole", WHOLES)), NO_MEMORY)

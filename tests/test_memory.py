@@ -60,6 +60,8 @@ MOST_FOR_A_FORK = 12_288  # one with an edit: beside that it is a buffer of its 
 BUFFERS, MOST_FOR_A_BUFFER = 2_000, ((b"mark", 16_000), (rb"(?i)todo|error", 16_000), (rb"\w+", 80_000))
 # Patterns that say a class again and again, and the most that one takes.
 SAID_AGAIN, MOST_FOR_A_PATTERN = ((rb"[\wa]", 13_107), (rb"[^\w]", 13_107), (rb"[^a]", 16_384)), 10_000_000
+# How many breaks are replaced, and the most that each takes, as a match, a line and a change.
+BREAKS, MOST_FOR_A_BREAK = 1_000_000, 120
 # A text, how often it is edited, and how much an edit may leave behind in the history.
 LONG_TEXT, MANY_EDITS, MOST_KEPT = 20_000_000, 10_000, 5_000
 
@@ -264,6 +266,17 @@ def test_all():
 
     test("a line that claims many bytes takes no memory for them", claims())
 
+    def rooms():
+        """No room is asked for that is longer than the payload."""
+        for size in (5_000, 100_000, 5_000_000):
+            data = given("text", b"x" * size)
+            ended, _, largest = counted(lambda environment, given=data: run(given, environment=environment))
+            yield from differences(ended, b"ok\n", 0)
+            if largest > max(size, 1 << 16):
+                yield f"a text of {size} bytes asks for {largest} at once"
+
+    test("a payload's room is no longer than the payload", rooms())
+
     def edited_lines(before):
         """Commands that put a letter in lines all over the text, each after what `before` gives for it."""
         step = LINES // EDITED
@@ -292,6 +305,7 @@ def test_all():
     replacements = given("replace", b"$0x") * EDITED
     test("and so does a replacement of one match", taken_for_edits(given("pattern", rb"\A.") + grown, replacements))
     test_bounds()
+    test_histories()
 
 
 def peak_of(data):
@@ -302,8 +316,7 @@ def peak_of(data):
 
 
 def test_bounds():
-    """What many buffers with a pattern each hold, long patterns, and many edits of one long text: by the most that is held
-    at a time."""
+    """What many buffers with a pattern each hold, and long patterns: by the most that is held at a time."""
     for pattern, most in MOST_FOR_A_BUFFER:
         def buffers(count, setting=given("pattern", pattern)):
             return b"".join(b"fork\nuse %d\n" % (number + 1) + setting for number in range(count))
@@ -314,6 +327,18 @@ def test_bounds():
         ended, most = most_held(lambda environment, data=given("pattern", part * count): run(data, environment=environment))
         wrong = differences(ended, ended.out, 0) + ([] if most <= MOST_FOR_A_PATTERN else [f"{most} bytes"])
         test(f"{count} times {part.decode()}, taken or refused, takes at most {MOST_FOR_A_PATTERN} bytes", wrong)
+
+
+def test_histories():
+    """What edits, replacements and new texts leave behind, likewise."""
+    def broken(count):
+        return given("text", b"\r" * count) + given("pattern", b"\r") + given("replace", b"x") + b"undo\n"
+    each = (peak_of(broken(BREAKS)) - peak_of(broken(1))) // BREAKS
+    wrong = [] if 0 < each <= MOST_FOR_A_BREAK else [f"each takes {each} bytes"]
+    test(f"{BREAKS} lines, all of whose breaks are replaced, take at most {MOST_FOR_A_BREAK} bytes each", wrong)
+    once = given("text", LINE * LINES) + letters_at_random(MANY_EDITS, LINES)
+    wrong = [] if peak_of(once * 4) < 1.5 * peak_of(once) else [f"{peak_of(once * 4)} bytes, {peak_of(once)} with one text"]
+    test("a history is let go of by a new text", wrong)
     text = given("text", LINE * (LONG_TEXT // len(LINE)))
     for name, edits in (("letters at random lines", letters_at_random), ("a typist", letters_in_a_row)):
         # What a text takes while it is read is more than what stays of it, so edits are held against fewer edits.
@@ -322,9 +347,9 @@ def test_bounds():
         test(f"{name}: {MANY_EDITS} edits of {LONG_TEXT} bytes keep at most {MOST_KEPT} bytes each", wrong)
 
 
-def letters_at_random(count):
+def letters_at_random(count, among=LONG_TEXT // len(LINE)):
     chosen = random.Random(7)
-    lines = (chosen.randrange(LONG_TEXT // len(LINE)) for _ in range(count))
+    lines = (chosen.randrange(among) for _ in range(count))
     return b"".join(spelled("edit", (line, 0, line, 0, 1), b"x") for line in lines)
 
 

@@ -11,7 +11,7 @@ NODE = re.compile(
     r'|Group\((?P<number>\d+), (?:None|Some\("(?P<name>.*?)"\))\)|(?P<row>Concat|Alternation)\((?P<count>\d+)\)'
     r"|Repeat\(Repetition \{ min: (?P<min>\d+), max: (?:None|Some\((?P<max>\d+)\)), greedy: (?P<greedy>\w+) \}\)"
 )
-PART = re.compile(r"Properties \{ extent: (\d+), weight: (\d+), size: (\d+), may_be_empty: (\w+) \}")
+PART = re.compile(r"Properties \{ extent: (\d+), weight: (\d+), size: (\d+), may_be_empty: (\w+), static_groups: [^}]+ \}")
 
 # What patterns spell, known from the grammar of `regex-syntax` with Unicode on, as docs/patterns.md writes it.
 TREES = [

@@ -5,7 +5,7 @@ from test_memory import check_refusals
 from test_replies import MORE_EXAMPLES, examples_of_page
 
 # An input that asks for memory more often, or has more bytes, is run with nothing refused.
-MOST, MOST_BYTES = 240, 3_100
+MOST, MOST_BYTES = 320, 3_100
 
 
 def test_all():

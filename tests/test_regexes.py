@@ -15,7 +15,7 @@ from driver import PROGRAM_WANT, TOO_LARGE, WANT, Case, Settings, check_memory, 
 from harness import TOP, short, test
 from memory import library
 from random_patterns import Maker
-from test_searches import VECTORS, asked_at_random, is_worth, listed
+from test_searches import EXTREMES, VECTORS, asked_at_random, is_worth, listed
 from walks import Search, spelled
 
 RANDOM_CASES, TIMES = 700, 3_000
@@ -75,7 +75,7 @@ def table():
 
 def vectors():
     """The searches with told answers, under default settings, and how heavy a pattern may be."""
-    for (pattern, haystack, answer, *how), around in zip(VECTORS, itertools.cycle(AROUND)):
+    for (pattern, haystack, answer, *how), around in zip(VECTORS + EXTREMES, itertools.cycle(AROUND)):
         if how[1:] in ([], [False]):
             yield from each_way(pattern, haystack, answer, *how[:1], around=around)
     yield in_pieces(HEAVY, b"b", "", 1)
@@ -149,7 +149,8 @@ def parts(matches, end, limit=None):
 
 
 def told_parts():
-    for limit, answer in [(None, "0-1 2-3 4-4"), (2, "0-1 2-4"), (1, "0-4"), (0, ""), (3, "0-1 2-3 4-4")]:
+    answers = [(None, "0-1 2-3 4-4"), (2, "0-1 2-4"), (1, "0-4"), (0, ""), (3, "0-1 2-3 4-4"), (2**64 - 1, "0-1 2-3 4-4")]
+    for limit, answer in answers:
         yield in_rope("split", "b", "abcb", answer, count=limit)
     yield in_rope("split", "b", "", "0-0")
 

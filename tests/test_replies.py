@@ -112,6 +112,8 @@ MORE_EXAMPLES = [
     (b"list 0\n", b"error command\n", 2),
     (b"print \n", b"error command\n", 2),
     (b" print\n", b"error command\n", 2),
+    (b"print\t\n", b"error command\n", 2),
+    (b"use\t0\n", b"error command\n", 2),
     (b"Print\n", b"error command\n", 2),
     (b"use -1\n", b"error command\n", 2),
     (b"use\n", b"error command\n", 2),
@@ -346,6 +348,71 @@ def test_lines_far_apart():
         test(name, differences(run(data), *answer(data)))
 
 
+READ, WRITTEN = 4_096, 65_536  # the most bytes that a read asks for, and that wait to be written
+# What lies at the end of the first read, at each place: lines, payloads, breaks and characters, and lines as long as one
+# may be and longer.
+AT_THE_END = [
+    with_payload("text", "é\r\n🐸\r") + b"print\n" + with_payload("pattern", "🐸|\\r") + b"list\nedit 1 0 1 2 2\n\xc3\xa9list\n",
+    b"text 5\na\xff\xc3\r\nedit 0 0 0 0 2\n\xf0\x9fprint\njump\n",
+    b"use 0" * 25 + b"use",
+    b"use 0" * 25 + b"use \n",
+]
+
+
+def at_ends_of_reads():
+    """Inputs whose first read ends at each place of these."""
+    for last in AT_THE_END:
+        for before in range(len(last) + 1):
+            filling = "a" * (READ - before - len(b"text 4000\n"))
+            yield with_payload("text", filling) + last
+
+
+def at_ends_of_writes():
+    """Inputs whose replies fill what waits to be written once and twice, up to each of some places."""
+    for length in (*range(WRITTEN - 24, WRITTEN + 3), *range(2 * WRITTEN - 24, 2 * WRITTEN + 3)):
+        yield with_payload("text", "a" * length) + b"print\nprint\nuse 0\nuse 9\n"
+    for count in range(3):
+        yield with_payload("text", "-a" * count + "a" * WRITTEN) + with_payload("pattern", "a") + b"list\nlist\n"
+
+
+def wrong_at_ends(inputs):
+    for data in inputs:
+        for wrong in differences(run(data), *answer(data)):
+            yield f"{len(data)} bytes, {short(data)}: {wrong}"
+
+
+def test_at_ends():
+    test("commands at each place where the first read ends", wrong_at_ends(at_ends_of_reads()))
+    test("replies at places where what waits to be written is full", wrong_at_ends(at_ends_of_writes()))
+
+
+# Patterns as long, as deep and as heavy as they may be, with what is listed of them in the text `x`.
+START, END, WHOLE = b"m 0 0 0\n", b"m 0 1 1\n", b"m 0 0 1\n"
+LARGE = [
+    ("()" * 32_768, [START, END]),
+    ("".join(f"(?<n{number:04}>)" for number in range(6_553)), [START, END]),
+    ("|" * 65_536, [START, END]),
+    ("^" * 65_536, [START]),
+    ("$" * 65_536, [END]),
+    ("\\b" * 32_768, [START, END]),
+    ("[xy]" * 16_384, []),
+    ("(?i)" + "k" * 65_532, []),
+    ("x" + "*" * 250, [WHOLE]),
+    ("(?:" * 125 + "x" + ")*" * 125, [WHOLE]),
+    ("(?:x{0,200}){0,200}", [WHOLE]),
+    ("(?:x|){65535}", [WHOLE]),
+    ("x{0,65535}y{32763}|x", [WHOLE]),
+]
+
+
+def test_large_patterns():
+    for pattern, listed in LARGE:
+        data = with_payload("text", "x") + with_payload("pattern", pattern) + b"list\nnext 0 0\n"
+        out = b"ok\nok\n" + b"".join(listed) + b"ok %d\n" % len(listed)
+        out += b"m 0 %b 0 %b\n" % tuple(listed[0].split()[2:]) if listed else b"no match\n"
+        test(f"{short(pattern[:40].encode())}, of {len(pattern)} bytes, is a pattern", differences(run(data), out, 0))
+
+
 def read_past(line, before=b""):
     """A command line, the number of which is a payload one byte over the limit, and `print`: they lie in a file with a
     hole. Answers the run."""
@@ -433,6 +500,8 @@ def test_all():
     test_side_by_side()
     test_ample_memory()
     test_lines_far_apart()
+    test_at_ends()
+    test_large_patterns()
     test_long_text()
     test_conversation()
     test_arguments()

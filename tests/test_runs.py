@@ -1,12 +1,13 @@
 """Runs over memory, by bin/run-driver: how many rows they make and how often they search a whole text, with small
 limits on texts, in small reads and writes, and with calls that fail. The head of crates/run_driver/src/main.rt says how rows
 are spelled; what is due is worked out by the model of the protocol, or written out."""
+import functools
 from dataclasses import dataclass, replace
-from itertools import combinations_with_replacement, product
+from itertools import product
 
 from harness import RUN_PROGRAM, differences, end_of, open_input, short, start, test
 from memory import counted, library
-from protocol import CLOSING, TEXT_LIMIT, costs, positions_of, read_commands, replies, replies_and_costs, spelled
+from protocol import CLOSING, TEXT_LIMIT, Session, costs, positions_of, read_commands, replies, replies_and_costs, spelled, takers
 from test_replies import MORE_EXAMPLES, examples_of_page
 
 BATCH = 5_000  # how many rows go into one run of the driver
@@ -174,6 +175,8 @@ def test_rows():
 
 
 LINES = spelled("text", (99_990,), b"some line\n" * 9_999) + b"pattern 4\nline"
+EDITED = b"text 7\na\nb\na\nbpattern 1\nbedit 2 0 2 1 3\nb\nb"
+REPLACED = b"text 7\na\nb\na\nbpattern 1\nbreplace 3\n$0\n"
 ONE_MATCH = spelled("text", (99_995,), b"some line\n" * 5_000 + b"match" + b"some line\n" * 4_999) + b"pattern 5\nmatch"
 
 # What stands before a command, the command, the most rows that it makes, and how often it searches the whole text.
@@ -193,17 +196,27 @@ LAST = [
     (b"text 5\na\nb\napattern 1\na", b"replace 3\n$0\n", 4, 1),
     (b"text 5\na\nb\napattern 1\n\n", b"replace 1\n\r", 4, 1),
     (ONE_MATCH, b"replace 1\nz", 1, 1),
+    # Of what is undone and done again, for each change as many as what comes back has lines.
+    (EDITED, b"undo\n", 1, 0),
+    (EDITED + b"undo\n", b"redo\n", 2, 0),
+    (REPLACED, b"undo\n", 2, 0),
+    (REPLACED + b"undo\n", b"redo\n", 4, 0),
+    (EDITED + b"pattern 1\na", b"undo\n", 1, 0),
 ]
 
 
 def wrong_last(pairs):
-    """What is wrong with the last commands of inputs: each is run without it and with it."""
-    runs = [Run(data) for before, last, _, _ in pairs for data in (before, before + last)]
-    told = [outcome for _, outcome in outcomes(runs)]
-    for (before, last, rows, wholes), first, both in zip(pairs, told[::2], told[1::2]):
+    """What is wrong with the last commands of inputs: each is run without it, where that wasn't yet, and with it, and
+    answered as by the model."""
+    begun = {run.data: outcome for run, outcome in outcomes(map(Run, dict.fromkeys(pair[0] for pair in pairs)))}
+    told = outcomes(Run(before + last) for before, last, _, _ in pairs)
+    for (before, last, rows, wholes), (run, both) in zip(pairs, told):
+        first = begun.get(before)
         if not first or not both:
             yield f"{short(before)} {short(last)}: there is no answer"
-        elif not 0 <= both.rows - first.rows <= rows or both.wholes - first.wholes != wholes:
+            continue
+        yield from (f"{short(before)} {short(last)}: {wrong}" for wrong in wrong_with(run, both))
+        if not 0 <= both.rows - first.rows <= rows or both.wholes - first.wholes != wholes:
             yield f"{short(before)} {short(last)}: {both.rows - first.rows} rows, {both.wholes - first.wholes} searches"
 
 
@@ -212,25 +225,59 @@ def test_last():
         test(f"{short(pair[1])} behind {short(pair[0][:60])} makes at most {pair[2]} rows", wrong_last([pair]))
 
 
-def wrong_refused(before, last, rows, wholes):
-    """What is wrong with the last command of an input where each request for memory of the whole run is refused in turn:
-    it makes no more rows then, and searches no more often."""
-    line, most = Run(before + last).line().encode(), due(Run(before + last))[2]
+def refused_in(run):
+    """What came of a run with each request for memory of the program refused in turn, but where the program lacks it for
+    its own ends: to read the line, to make the sink, or to tell the answer."""
+    line = run.line().encode()
 
-    def run(environment):
+    def runs(environment):
         return end_of(start(environment=environment, program=RUN_PROGRAM, stdin=open_input(line)))
 
-    refused = 0
-    for number in range(1, counted(run)[1] + 1):
-        ended, *_ = counted(run, at=number)
-        outcome = Outcome.of(ended.out.decode(errors="replace").rstrip("\n"))
-        if outcome is None:
-            continue  # it was refused to what reads the line, or tells the answer
+    for number in range(1, counted(runs)[1] + 1):
+        outcome = Outcome.of(counted(runs, at=number)[0].out.decode(errors="replace").rstrip("\n"))
+        if outcome is not None:
+            yield number, outcome
+
+
+def places_refused(run):
+    """The commands to which memory may be refused: none of them that tells it, or one."""
+    commands, _ = read_commands(run.data)
+    return [frozenset(), *(frozenset({place}) for place in takers(commands, run.limit))]
+
+
+def written_where_refused(run):
+    """All that may be written where memory is refused to one command, or to none that tells it."""
+    commands, ending = read_commands(run.data)
+    return {b"".join(replies(commands, refused, run.limit)) + CLOSING[ending] for refused in places_refused(run)}
+
+
+def costs_where_refused(run):
+    """How many rows may be made there at most, and how often a whole text may be searched: a session in which one command
+    is refused may go on with another text."""
+    commands, _ = read_commands(run.data)
+    each = [costs(commands, run.limit, refused) for refused in places_refused(run)]
+    return max(rows for rows, _ in each), max(wholes for _, wholes in each)
+
+
+def wrong_refused(run, rows, wholes):
+    """What is wrong with a run in which each request for memory is refused in turn: one command is answered so and changes
+    nothing, or there is no session; and no more rows are made, and whole texts searched, than else."""
+    may_be, refused = written_where_refused(run), 0
+    for number, outcome in refused_in(run):
         refused += b"error memory" in outcome.written
-        if outcome.rows > most[0] or outcome.wholes > most[1]:
-            yield f"request {number}: {outcome.rows} rows, {outcome.wholes} searches, more than {most}"
-    if not refused:
+        wanted = (ENDINGS[read_commands(run.data)[1]], may_be) if outcome.ending != "Memory" else ("Memory", {b""})
+        if outcome.ending != wanted[0] or outcome.written not in wanted[1]:
+            yield f"request {number}: {outcome.ending} with {short(outcome.written)}"
+        if outcome.rows > rows or outcome.wholes > wholes:
+            yield f"request {number}: {outcome.rows} rows, {outcome.wholes} searches, more than {rows} and {wholes}"
+    if not refused and rows:
         yield "no request was refused to a command"
+
+
+def wrong_last_refused(before, last, rows, wholes):
+    """The same of an input whose last command makes so many rows."""
+    for _, outcome in outcomes([Run(before)]):
+        yield from wrong_refused(Run(before + last), outcome.rows + rows, outcome.wholes + wholes) if outcome else ["no answer"]
 
 
 def wrong_sink():
@@ -251,39 +298,45 @@ def test_refused():
         test("a sink of 16 MB is refused its room", wrong_sink())
     for pair in LAST:
         if len(pair[0]) < LONG and library() is not None:
-            test(f"{short(pair[1])} behind {short(pair[0])}, refused memory, makes no more rows", wrong_refused(*pair))
+            test(f"{short(pair[1])} behind {short(pair[0])}, refused memory, makes no more rows", wrong_last_refused(*pair))
 
 
 def texts(letters, longest):
     return ["".join(text) for length in range(longest + 1) for text in product(letters, repeat=length)]
 
 
-def rows_of_last(before, last):
-    """How many rows the last command of an input may make."""
-    return costs(read_commands(before + last)[0])[0] - costs(read_commands(before)[0])[0]
+@functools.lru_cache(maxsize=1)
+def session_after(before):
+    """The model's session behind these commands."""
+    session = Session()
+    for command in read_commands(before)[0]:
+        session.reply(command)
+    return session
+
+
+def last_of(before, last):
+    """The last command of an input, with the most rows that it may make, and how often it may search a whole text."""
+    return before, last, *session_after(before).cost(read_commands(last)[0][0])
 
 
 def small_edits(letters, longest, longest_inserted):
-    """Every edit of every small text under some patterns, with the most rows that it makes."""
+    """Every edit between two positions of every small text, also from a later one to an earlier, under some patterns."""
     for text, pattern in product(texts(letters, longest), ("a", "x*", "a$")):
         before = spelled("text", (len(text),), text.encode()) + spelled("pattern", (len(pattern),), pattern.encode())
-        spans = combinations_with_replacement(positions_of(text), 2)
-        for (first, last), inserted in product(spans, texts(letters, longest_inserted)):
-            command = spelled("edit", (*first, *last, len(inserted)), inserted.encode())
-            yield before, command, rows_of_last(before, command), 0
+        for first, last, inserted in product(positions_of(text), positions_of(text), texts(letters, longest_inserted)):
+            yield last_of(before, spelled("edit", (*first, *last, len(inserted)), inserted.encode()))
 
 
 def small_replacements(letters, longest):
-    """Every replacement by small templates in every small text, with the most rows that it makes."""
-    patterns, templates = ("\n", "\r", "a", "", "\r\n"), ("", "\n", "\r", "$0\r", "\r\n")
+    """Every replacement by small templates in every small text."""
+    patterns, templates = ("\n", "\r", "a", "", "x*", "\r\n"), (*texts(letters, 2), "$0\r", "\n$0")
     for text, pattern, template in product(texts(letters, longest), patterns, templates):
         before = spelled("text", (len(text),), text.encode()) + spelled("pattern", (len(pattern),), pattern.encode())
-        command = spelled("replace", (len(template),), template.encode())
-        yield before, command, rows_of_last(before, command), 1
+        yield last_of(before, spelled("replace", (len(template),), template.encode()))
 
 
 def test_small_texts():
-    edits = list(small_edits("\r\na", 3, 2))
+    edits = list(small_edits("\r\na", 4, 2))
     test(f"{len(edits)} edits of small texts make no more rows than they may", wrong_last(edits))
     replacements = list(small_replacements("\r\na", 4))
     test(f"{len(replacements)} replacements in small texts make no more rows than they may", wrong_last(replacements))
@@ -323,6 +376,9 @@ def test_limits():
         test(f"{short(data)} where texts have {limit} bytes at most", problems(runs, wrong_answer))
         cut = (Run(data[:length], limit, read=1, write=1) for length in range(len(data)))
         test(f"{short(data)} where they do, cut after each of its bytes", problems(cut, wrong_with))
+        if library() is not None:
+            run = Run(data, limit)
+            test(f"{short(data)} where they do, refused memory", wrong_refused(run, *costs_where_refused(run)))
 
 
 def test_all():

@@ -361,6 +361,24 @@ def check_long(pattern, groups=None):
         test(name, wrong + more_wrong)
 
 
+# A content in whose parts `a|` has as many matches, told in as many bytes. In the second an empty match is passed over
+# behind each, so it is searched almost twice as often, by one cache.
+OFTEN, SELDOM_IN, OFTEN_IN = b"x" * 100 + b"a" * 8 + b"ax" * 8, (100, 108), (108, 123)
+
+
+def wrong_often():
+    """What is wrong with more searches by one cache: they ask for no more memory."""
+    told = []
+    for start, end in (SELDOM_IN, OFTEN_IN):
+        matches = [[(at, at + 1)] for at in range(start, end) if OFTEN[at : at + 1] == b"a"]
+        case = search("a|", OFTEN, listed(matches), 1, ((0, len(OFTEN)), (start, end), False))
+        ended, count, _, total = tallied(lambda environment, case=case: answer_to(case.line, environment))
+        yield from differences(ended, f"{case.answer}\n".encode(), 0)
+        told.append((count, total))
+    if told[0] != told[1]:
+        yield "%d requests for %d bytes in few searches, %d for %d in more" % (*told[0], *told[1])
+
+
 def test_all():
     parts = [
         ("searches of the table, in one piece and in pieces of 1, 2 and 3 bytes", table()),
@@ -383,6 +401,7 @@ def test_all():
         for case in IN_NEED:
             check_memory(case, due, f"{case.answer}\n".encode())
         check_memory(CAPTURED[0], [PROGRAM_WANT, WANT], f"{CAPTURED[0].answer}\n".encode())
+        test("more searches by one cache ask for no more memory", wrong_often())
         for pattern in MATCHING_NOTHING:
             check_long(pattern)
         for pattern, groups in MATCHING_ALL:

@@ -15,7 +15,7 @@ from memory import library
 from random_patterns import Maker
 from test_all import ANYWHERE, AT_START, FIRST, SIZES
 from test_searches import asked_at_random, listed
-from walks import Search, spelled
+from walks import Search, spelled, static_captures
 
 RANDOM_CASES = 5_000
 LINES = Settings("m")  # under which `^` and `$` are those of lines
@@ -81,44 +81,57 @@ def too_large(limit):
     return refused(TOO_LARGE, limit=f"Some({limit})")
 
 
-# Patterns, settings, and how many patterns, groups and slots there are, and whether literals are looked for; or why
-# there is no regex.
+# Patterns, settings, and how many patterns and groups there are, how many of these stand in each match, how many slots
+# there are, and whether literals are looked for; or why there is no regex.
 COUNTS = [
-    (["a"], "nfa_size_limit=200", "1 1 2 true"),
+    (["a"], "nfa_size_limit=200", "1 1 Some(1) 2 true"),
     (["a"], "nfa_size_limit=199", too_large(199)),
-    (["(a)|b"], "nfa_size_limit=400", "1 2 4 false"),
+    (["(a)|b"], "nfa_size_limit=400", "1 2 None 4 false"),
     (["(a)|b"], "nfa_size_limit=399", too_large(399)),
-    (["[a-c]{2,4}"], "nfa_size_limit=520", "1 1 2 false"),
+    (["[a-c]{2,4}"], "nfa_size_limit=520", "1 1 Some(1) 2 false"),
     (["[a-c]{2,4}"], "nfa_size_limit=519", too_large(519)),
-    (["(?:a*)*"], "nfa_size_limit=320", "1 1 2 false"),
+    (["(?:a*)*"], "nfa_size_limit=320", "1 1 Some(1) 2 false"),
     (["(?:a*)*"], "nfa_size_limit=319", too_large(319)),
-    (["."], "nfa_size_limit=240", "1 1 2 false"),
+    (["."], "nfa_size_limit=240", "1 1 Some(1) 2 false"),
     (["."], "nfa_size_limit=239", too_large(239)),
-    (["a", "ab"], "nfa_size_limit=520", "2 2 4 true"),
+    (["a", "ab"], "nfa_size_limit=520", "2 2 Some(1) 4 true"),
     (["a", "ab"], "nfa_size_limit=519", too_large(519)),
-    ([], "nfa_size_limit=40", "0 0 0 false"),
+    ([], "nfa_size_limit=40", "0 0 None 0 false"),
     ([], "nfa_size_limit=39", too_large(39)),
-    (["^a{65535}a{65535}"], "", "1 1 2 true"),
+    (["^a{65535}a{65535}"], "", "1 1 Some(1) 2 true"),
     (["^^a{65535}a{65535}"], "", too_large(10_485_760)),
-    (["^^a{65535}a{65535}"], "nfa_size_limit=10485800", "1 1 2 true"),
-    (["^^a{65535}a{65535}"], "nfa_size_limit=none", "1 1 2 true"),
+    (["^^a{65535}a{65535}"], "nfa_size_limit=10485800", "1 1 Some(1) 2 true"),
+    (["^^a{65535}a{65535}"], "nfa_size_limit=none", "1 1 Some(1) 2 true"),
     (["a", "(", ")"], "", refused(OUTSIDE, "Some(1)")),
     (["a", "(", ")"], "nfa_size_limit=0", refused(OUTSIDE, "Some(1)")),
     # Groups that aren't noted are counted all the same, and weigh the same.
-    (["(a){0}"], "", "1 2 4 false"),
-    (["(a){0}"], "which_captures=implicit", "1 2 2 false"),
-    (["(a)|b"], "which_captures=none", "1 2 2 false"),
+    (["(a){0}"], "", "1 2 Some(1) 4 false"),
+    (["(a){0}"], "which_captures=implicit", "1 2 Some(1) 2 false"),
+    (["(a)|b"], "which_captures=none", "1 2 None 2 false"),
     (["(a)|b"], "which_captures=none.nfa_size_limit=399", too_large(399)),
     # Literals are looked for where they are known, and wanted.
-    (["a"], "auto_prefilter=0", "1 1 2 false"),
-    (["a"], "auto_prefilter=0.prefilter=none", "1 1 2 false"),
-    (["a"], "auto_prefilter=0/auto_prefilter=1", "1 1 2 true"),
-    (["ab"], "auto_prefilter=0.prefilter=" + written("a"), "1 1 2 true"),
-    (["ab"], "auto_prefilter=0.prefilter=" + written("b"), "1 1 2 false"),
-    (["ab|b"], "auto_prefilter=0.prefilter=" + written("b"), "1 1 2 false"),
-    (["ab|b"], "prefilter=" + written("b"), "1 1 2 false"),
-    (["a"], "match_kind=all", "1 1 2 false"),
+    (["a"], "auto_prefilter=0", "1 1 Some(1) 2 false"),
+    (["a"], "auto_prefilter=0.prefilter=none", "1 1 Some(1) 2 false"),
+    (["a"], "auto_prefilter=0/auto_prefilter=1", "1 1 Some(1) 2 true"),
+    (["ab"], "auto_prefilter=0.prefilter=" + written("a"), "1 1 Some(1) 2 true"),
+    (["ab"], "auto_prefilter=0.prefilter=" + written("b"), "1 1 Some(1) 2 false"),
+    (["ab|b"], "auto_prefilter=0.prefilter=" + written("b"), "1 1 Some(1) 2 false"),
+    (["ab|b"], "prefilter=" + written("b"), "1 1 Some(1) 2 false"),
+    (["a"], "match_kind=all", "1 1 Some(1) 2 false"),
     (["a"], "match_kind=all.nfa_size_limit=199", too_large(199)),
+    # How many groups stand in each match.
+    (["(a)|(b)"], "", "1 3 Some(2) 6 false"),
+    (["(a)|(b)|c"], "", "1 3 None 6 false"),
+    (["((a)(b))|(c(d)(e))"], "", "1 7 Some(4) 14 true"),
+    (["(a)?"], "", "1 2 None 4 false"),
+    (["(?:a)?(b)"], "", "1 2 Some(2) 4 false"),
+    (["(a){2}"], "", "1 2 Some(2) 4 true"),
+    (["(a){1,3}"], "", "1 2 Some(2) 4 true"),
+    (["(?:(a)|b){0}"], "", "1 2 Some(1) 4 false"),
+    (["(?:(a)|b){2}"], "", "1 2 None 4 false"),
+    (["(a)", "(b)"], "", "2 4 Some(2) 8 false"),
+    (["(a)", "b"], "", "2 3 None 6 false"),
+    (["(a)|(b)"], "which_captures=none", "1 3 Some(2) 2 false"),
 ]
 
 # What the getters tell, in their order, and other values of each setting, with what they tell of these.
@@ -164,6 +177,16 @@ def vectors():
 def counts():
     for patterns, given, answer in COUNTS:
         yield about("counted", patterns, answer, given)
+
+
+def static_at_random(count=RANDOM_CASES):
+    """How many groups stand in each match of patterns at random."""
+    chance = random.Random(47)
+    maker = Maker(chance, most_nodes=30)
+    for _ in range(count):
+        trees = [maker.tree() for _ in range(chance.choice((1, 1, 1, 2, 2, 3)))]
+        each = static_captures(trees)
+        yield about("static", [spelled(tree) for tree in trees], "None" if each is None else f"Some({each})")
 
 
 def told(values):
@@ -263,6 +286,7 @@ def test_all():
         ("examples and defaults of docs/searching.md", page()),
         ("searches under settings, by each engine", vectors()),
         ("counts of groups, and refusals, under settings", counts()),
+        ("groups in each match, of patterns at random", static_at_random()),
         ("answers of getters", getters()),
         ("searches at random under settings at random", at_random()),
     ]:

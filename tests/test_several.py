@@ -1,6 +1,7 @@
 """What is found of several patterns that are searched for together, on bin/search-driver, which asks each engine: all
 matches in haystacks that lie in pieces, each with its pattern and its groups, perhaps in slices and spans, anchored, and
-anchored to a pattern; and why patterns are refused.
+anchored to a pattern, also by the iterators of both engines over automata, with a cache and with its clone; and why
+patterns are refused.
 
 Its answers are those that stand here, and those of the model of tests/walks.py to cases at random.
 """
@@ -50,6 +51,17 @@ VECTORS = [
     (["\\bé", "e\\b"], "é e", "0:0-2 1:3-4"),
 ]
 
+# So many bytes that a `Regex` searches back from where a match ends, patterns, what stands behind these bytes, and where
+# matches lie in that, by their patterns. The next match is as far behind the last one again.
+FAR = 30_000
+FAR_ONES = [
+    (["x[a-c]*y", "q+"], "xabcay", [(0, 0, 6)]),
+    (["[a-z]y", "q+"], "qqy", [(1, 0, 2)]),
+    (["b|abb", "z"], " abb", [(0, 1, 4)]),
+    (["(?m)^$", "z"], "\n\nz", [(0, 1, 1), (1, 2, 3)]),
+    (["\\bq|éé", "z"], " éé q", [(0, 1, 5), (0, 6, 7)]),
+]
+
 # Why patterns are refused: for the first text that is no pattern, and else for their weight together, and 1.
 REFUSED = [
     (["a", "b(", "c)"], "the pattern isn't in the grammar"),
@@ -80,6 +92,15 @@ def vectors():
             yield about(patterns, haystack.encode(), answer, size, *asked)
 
 
+def far():
+    """Searches for matches that lie far from one another."""
+    for patterns, behind, found in FAR_ONES:
+        part = FAR * b"-" + behind.encode()
+        for size in SIZES:
+            told = [(k, at + start, at + end) for at in (FAR, len(part) + FAR) for k, start, end in found]
+            yield about(patterns, 2 * part, " ".join(f"{k}:{start}-{end}" for k, start, end in told), size)
+
+
 def at_random(count=RANDOM_CASES):
     chance = random.Random(37)
     maker = Maker(chance, most_nodes=30)
@@ -94,6 +115,7 @@ def at_random(count=RANDOM_CASES):
 
 def test_all():
     test("several patterns are found as they should", problems(vectors()))
+    test("several patterns are found far from one another", problems(far()))
     test("several patterns at random are found as by the model", problems(at_random()))
     test("why several patterns are refused", problems(about(patterns, b"", answer) for patterns, answer in REFUSED))
     check_memory(about(["a|ab", "(b)+"], b"abb", "0:0-1,- 1:1-3,2-3", 1), [WANT])

@@ -3,7 +3,10 @@ import glob
 import os
 import re
 
-from harness import TOP, test
+from harness import TOP, example_rows, test
+
+# The crates of ropes and of reports.
+CITES_LAWS = re.compile(r"(str_indices|ropey|ropey_tree|ropey_walk|rope_leaves|rope_search_(changes|templates|reports))/")
 
 
 def sources():
@@ -59,7 +62,26 @@ def test_conversions():
         test(f"{name} makes at most five conversions", [] if 0 < count <= 5 else [f"it makes {count}"])
 
 
+def test_laws():
+    """A law is cited in proofs: a body that called it would have a line that does nothing."""
+    bodies = [(path, text) for path, text in sources() if CITES_LAWS.match(path) and not path.endswith("/laws.rt")]
+    calling = that_name(r"\blaws\s*::\s*\w+(::<\w+>)?\s*\(", bodies)
+    test("ropes and reports call no law", [f"{path} does" for path in calling])
+
+
+def test_messages():
+    """What the program tells of a run that breaks off is what the page says, also where no test lasts so long."""
+    text = read(os.path.join(TOP, "crates", "rope_search_cli", "src", "main.rt"))
+    form = re.search(r'eprintln!\(rt; "(.*)\{\}"', text)[1]
+    told = {form + message for message in re.findall(r'Broken::\w+ => "(.*)"', text)}
+    rows = example_rows("protocol.md", r"\| `(rope-search: .+)` \| .+ \|", "Faults outside the protocol")
+    wrong = told ^ {row[1] for row in rows}
+    test(f"the program has the {len(rows)} messages of docs/protocol.md", sorted(wrong) if len(rows) == 4 else ["there are others"])
+
+
 def test_all():
+    test_laws()
+    test_messages()
     test_conversions()
     test_counters()
     test_regexes()

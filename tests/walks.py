@@ -117,6 +117,22 @@ def may_be_empty(tree):
     return not isinstance(tree, Set) and all(map(may_be_empty, below(tree)))
 
 
+def static_groups(tree):
+    """How many groups stand in each match of the tree, if that is one number; else None."""
+    inside = [static_groups(part) for part in below(tree)]
+    if isinstance(tree, Alternation):
+        return inside[0] if len(set(inside)) == 1 else None
+    if isinstance(tree, Repeat) and (tree.most == 0 or tree.least == 0 and inside != [0]):
+        return 0 if tree.most == 0 else None
+    return None if None in inside else sum(inside) + isinstance(tree, Group)
+
+
+def static_captures(trees):
+    """The same of several patterns, of which one matches, with its whole match."""
+    each = {static_groups(tree) for tree in trees}
+    return each.pop() + 1 if len(each) == 1 and None not in each else None
+
+
 # ---- characters and looks
 
 WHITE_SPACE = set("\t\n\v\f\r \x85\xa0\u1680\u2028\u2029\u202f\u205f\u3000") | set(map(chr, range(0x2000, 0x200B)))

@@ -51,12 +51,14 @@ fn properties(rt: HostRuntime) -> Result<(), Fail> {
         weight: 2,
         size: 1,
         may_be_empty: false,
+        static_groups: Some(0),
     };
     let all = Properties {
         extent: 2,
         weight: 3,
         size: 2,
         may_be_empty: true,
+        static_groups: Some(0),
     };
     assert!(rt; hir.properties() == [letter, all].as_slice());
     assert!(rt; hir.weight() == 6);

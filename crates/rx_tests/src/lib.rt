@@ -13,6 +13,8 @@ mod grammar;
 #[cfg(test)]
 mod input;
 #[cfg(test)]
+mod lists;
+#[cfg(test)]
 mod literals;
 #[cfg(test)]
 mod program;

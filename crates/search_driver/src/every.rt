@@ -53,7 +53,7 @@ pub fn borrowed<'t>(alloc: Global, trees: &'t [Hir]) -> Result<Vec<&'t Hir>, Fau
 }
 
 /// The program of these patterns.
-fn program(alloc: Global, trees: &[Hir], line_terminator: u8) -> Result<Program, Fault> {
+pub fn program(alloc: Global, trees: &[Hir], line_terminator: u8) -> Result<Program, Fault> {
     Ok(compile(alloc, &borrowed(alloc, trees)?, line_terminator, None)?)
 }
 

@@ -39,6 +39,8 @@
 //!   The PikeVM and a `Regex` must find it too.
 //! - `best,PATTERNS,SETTINGS,CUT,HAYSTACK,ASKED,INSIDE`: these matches one after the other, parted
 //!   by commas, by the PikeVM; a `Regex` must give the same.
+//! - `listed,PATTERNS,SETTINGS,CUT,HAYSTACK,ASKED,INSIDE,COUNT`: all matches of several patterns,
+//!   listed by two passes, each as its pattern, where it ends, and what is noted in so many slots.
 //! - `backwards,PATTERNS,SETTINGS,CUT,HAYSTACK,ASKED,INSIDE,TIMES`: of the matches of several
 //!   patterns that end at the end of the span the one of the least start, then of the least
 //!   pattern, as its pattern and start, or `none`, or why there is no answer; once the cache has
@@ -46,13 +48,16 @@
 //!   both engines over automata must answer the same.
 //! - `several,PATTERNS,SETTINGS,CUT,HAYSTACK,ASKED`: all matches of several patterns, each with the
 //!   number of its pattern where there are two or more, by a `Regex` of them; the first of them
-//!   must be found by each other engine too. It has no settings: these fields aren't read.
+//!   must be found by each other engine too, and all by the iterators of both engines over
+//!   automata. It has no settings: these fields aren't read.
 //! - `under,PATTERNS,SETTINGS,CUT,HAYSTACK,ASKED,SET`: the same by a `Regex` under all settings.
 //!   `SET` are those of the regex, parted by dots, each as its name, `=` and its value, 1 for yes,
 //!   `none` for no limit and for no prefilter, of which else the needle is told; those of several
 //!   calls of `configure` are parted by strokes.
-//! - `counted,PATTERNS,SETTINGS,CUT,HAYSTACK,ASKED,SET`: how many patterns, groups and slots such
-//!   a `Regex` has, and whether literals are looked for; or the error, its pattern and its limit.
+//! - `counted,PATTERNS,SETTINGS,CUT,HAYSTACK,ASKED,SET`: how many patterns and groups such a
+//!   `Regex` has, how many of these stand in each match, how many slots it has, and whether
+//!   literals are looked for; or the error, its pattern and its limit.
+//! - `static,PATTERNS,SETTINGS,CUT,HAYSTACK,ASKED,SET`: how many groups stand in each match.
 //! - `getters,,SETTINGS,CUT,HAYSTACK,ASKED,SET`: what the getters tell of these settings.
 //! - `usage,PATTERNS,SETTINGS,CUT,HAYSTACK,ASKED,SET`: what `memory_usage` tells of such a `Regex`,
 //!   and of a cache before a search and behind it.
@@ -93,6 +98,7 @@ mod explained;
 mod fields;
 mod haystacks;
 mod inputs;
+mod listed;
 mod literals;
 mod patterns;
 mod programs;
@@ -106,6 +112,7 @@ mod settings;
 mod several;
 mod slots;
 mod warm;
+mod whole_matches;
 
 use fields::{Fault, Fields};
 use std::alloc::Global;
@@ -130,9 +137,11 @@ fn answer(alloc: Global, line: &str) -> Result<String, Fault> {
         "captured" => slots::captured(alloc, &fields),
         "all" => every::found(alloc, &fields),
         "best" => best::matches(alloc, &fields),
+        "listed" => listed::matches(alloc, &fields),
         "backwards" => backwards::found(alloc, &fields),
         "under" => settings::matches(alloc, &fields),
         "counted" => settings::counts(alloc, &fields),
+        "static" => settings::each_match(alloc, &fields),
         "getters" => settings::getters(alloc, &fields),
         "usage" => settings::usage(alloc, &fields),
         "several" => several::matches(alloc, &fields),

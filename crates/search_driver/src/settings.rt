@@ -136,19 +136,27 @@ fn ends(re: &Regex, pieces: &[&[u8]], asked: &Option<Asked>) -> Result<Option<Ha
     }
 }
 
-/// How many groups and how many slots there are, how many groups take part in each match, and
-/// whether literals are looked for; or why patterns have no regex.
+/// How many patterns and groups there are, how many of these stand in each match, how many slots
+/// there are, and whether literals are looked for; or why patterns have no regex.
 pub fn counts(alloc: Global, fields: &Fields) -> Result<String, Fault> {
     let texts = texts(alloc, fields)?;
     match builder(alloc, fields)?.build_many(alloc, &listed(alloc, &texts)?) {
         Ok(re) => {
             let (patterns, groups) = (re.pattern_len(), re.captures_len());
-            let slots = re.group_info().slot_len();
+            let (each, slots) = (re.static_captures_len(), re.group_info().slot_len());
             let accelerated = re.is_accelerated();
-            Ok(format!(in alloc; "{patterns} {groups} {slots} {accelerated}")?)
+            Ok(format!(in alloc; "{patterns} {groups} {each:?} {slots} {accelerated}")?)
         }
         Err(error) => refused(alloc, &error),
     }
+}
+
+/// How many groups stand in each match.
+pub fn each_match(alloc: Global, fields: &Fields) -> Result<String, Fault> {
+    let texts = texts(alloc, fields)?;
+    let re = builder(alloc, fields)?.build_many(alloc, &listed(alloc, &texts)?)?;
+    let each = re.static_captures_len();
+    Ok(format!(in alloc; "{each:?}")?)
 }
 
 /// Why patterns have no regex: the error, the first pattern whose text is refused, and the limit.

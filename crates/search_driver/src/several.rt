@@ -7,6 +7,7 @@ use crate::every::{borrowed, spelled};
 use crate::fields::{Fault, Fields};
 use crate::haystacks::{Asked, haystack, input, pieces};
 use crate::searches::{ASKED, CUT, HAYSTACK, tell};
+use crate::whole_matches;
 use regex_cursor::engines::meta::Regex;
 use regex_cursor::engines::pikevm::{self, PikeVM};
 use regex_cursor::engines::{dfa, hybrid};
@@ -37,7 +38,7 @@ pub fn listed<'t>(alloc: Global, texts: &'t [String]) -> Result<Vec<&'t str>, Fa
 }
 
 /// All matches, parted by blanks, each as the number of its pattern and its groups. Each engine
-/// must find the first of them, or be refused.
+/// must find the first of them, or be refused, and those over automata all.
 pub fn matches(alloc: Global, fields: &Fields) -> Result<String, Fault> {
     let texts = texts(alloc, fields)?;
     let patterns = listed(alloc, &texts)?;
@@ -49,18 +50,27 @@ fn in_haystack(alloc: Global, fields: &Fields, patterns: &[&str]) -> Result<Stri
     let pieces = pieces(alloc, &haystack, fields.word(CUT))?;
     let asked = Asked::read(fields, ASKED);
     // It asks first how large the patterns are.
-    let told = by_regex(alloc, patterns, &pieces, &asked)?;
-    agree_all(alloc, fields, patterns, &pieces, &asked, told.0)?;
-    Ok(told.1)
+    let (found, told) = by_regex(alloc, patterns, &pieces, &asked)?;
+    agree_all(
+        alloc,
+        fields,
+        patterns,
+        &pieces,
+        &asked,
+        found.first().copied(),
+    )?;
+    whole_matches::lazy_agrees(alloc, patterns, &pieces, &asked, &found)?;
+    whole_matches::dense_agrees(alloc, patterns, &pieces, &asked, &found)?;
+    Ok(told)
 }
 
-/// The first match by a `Regex`, which the PikeVM must find too, and all of them.
+/// All matches by a `Regex`, the first of which the PikeVM must find too, and what is told of them.
 fn by_regex(
     alloc: Global,
     patterns: &[&str],
     pieces: &[&[u8]],
     asked: &Option<Asked>,
-) -> Result<(Option<Match>, String), Fault>
+) -> Result<(Vec<Match>, String), Fault>
     requires { length (joined pieces.now) < 2 ^ 63 }
 {
     let re = Regex::new_many(alloc, patterns)?;
@@ -70,7 +80,12 @@ fn by_regex(
     {
         return Err(Fault::Differs);
     }
-    Ok((first, told(alloc, &re, input(pieces, asked))?))
+    let found = whole_matches::listed(alloc, &re, input(pieces, asked))?;
+    if found.first().copied() != first {
+        return Err(Fault::Differs);
+    }
+    whole_matches::notes(&re, input(pieces, asked), first)?;
+    Ok((found, told(alloc, &re, input(pieces, asked))?))
 }
 
 /// Whether automata of these patterns find the same match, and those of what they spell come to its

@@ -54,7 +54,11 @@ pub fn noted(alloc: Global, fields: &Fields) -> Result<String, Fault> {
 }
 
 /// Writes what is noted in each slot.
-fn tell(alloc: Global, out: &mut String, slots: &[Option<NonMaxUsize>]) -> Result<(), AllocError> {
+pub fn tell(
+    alloc: Global,
+    out: &mut String,
+    slots: &[Option<NonMaxUsize>],
+) -> Result<(), AllocError> {
     for slot in slots {
         match slot {
             Some(place) => out.push_str(&format!(in alloc; " {}", place.get())?)?,

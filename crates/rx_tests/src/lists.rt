@@ -1,0 +1,23 @@
+//! All matches of a pattern, listed by two passes of `rx_lists`.
+
+use crate::program::compiled;
+use rx_input::{ChunkCursor, Input};
+use rx_lists::list_matches;
+use rx_util::PatternID;
+use std::test::Fail;
+
+/// Where each find but the last reads on to the end, all matches are listed, each with so many
+/// slots.
+#[test]
+fn lists(rt: HostRuntime) -> Result<(), Fail> {
+    let alloc = rt.alloc();
+    let program = compiled(alloc, "a*b|a")?;
+    let content: [&[u8]; 3] = [b"aa", b"", b"a"];
+    let mut input = Input::new(ChunkCursor::new(&content));
+    let found = list_matches(alloc, &program, 2, &mut input, true)?;
+    assert!(rt; found.get(1).map(|listed| listed.end()) == Some(2));
+    assert!(rt; found.get(1).map(|listed| listed.pattern()) == Some(PatternID::ZERO));
+    assert!(rt; found.get(1).map(|listed| listed.slots().len()) == Some(2));
+    assert!(rt; found.len() == 3);
+    Ok(())
+}

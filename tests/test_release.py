@@ -1,0 +1,89 @@
+"""What make install puts down, from programs that were built, and the manual of the program beside docs/protocol.md."""
+import os
+import re
+import shutil
+import subprocess
+import sys
+
+from harness import FIRST, LIBRARY, LIBRARY_FOLDER, PROGRAM, ROOM, TOP, end_of, open_input, start, test
+from test_replies import examples_of_page
+
+BUILT = ["rope-search", "librope_search_c.a", "librope_search.a", "librope_search.so"]
+INSTALLED = [
+    "bin/rope-search", "include/rope_search.h", "lib/librope_search.a", "lib/librope_search.so",
+    "lib/pkgconfig/rope_search.pc", "share/man/man1/rope-search.1", "share/rope-search/rope_search.py",
+    "share/rope-search/rope_search.lua",
+    *(f"share/doc/rope-search/{name}" for name in (
+        "README.md", "CHANGELOG.md", "LICENSE-APACHE", "LICENSE-MIT", "NOTICE", "protocol.md", "patterns.md",
+        "embedding.md")),
+]
+SESSION = "import rope_search; s = rope_search.Session(); s.set_text('abab'); s.set_pattern('b'); print(s.count_matches(0, 1))"
+
+
+def read(*parts):
+    with open(os.path.join(TOP, *parts), encoding="utf-8") as file:
+        return file.read()
+
+
+def manual():
+    """What the manual says, without its macros."""
+    text = re.sub(r"(?m)^\\.\\\".*\n", "", read("docs", "rope-search.1"))
+    return re.sub(r"(?m)^\.[A-Z]+ ?", "", text).replace('"', "").replace("\\-", "-")
+
+
+def wrong_manual():
+    """Each command, word of a refusal, status and message of the page must stand in the manual."""
+    page, told = read("docs", "protocol.md").partition("## Examples")[0], manual()
+    words = set(re.findall(r"`error ([a-z0-9]+)`", page)) - {"command", "end"}
+    words |= {word for row in re.findall(r"(?m)^\| (`[a-z][^|]*) \|", page) for word in re.findall(r"`([a-z]+)", row)}
+    words |= set(re.findall(r"`(rope-search: [a-z ]+)`", page)) | {"error command", "error end"}
+    return [f"{word!r} isn't there" for word in sorted(words) if not re.search(rf"\b{re.escape(word)}\b", told)]
+
+
+def laid_out_wrong():
+    """What groff has to say of the manual, where it is."""
+    if not shutil.which("groff"):
+        return []
+    done = subprocess.run(["groff", "-man", "-Tascii", "-ww", os.path.join(TOP, "docs", "rope-search.1")], capture_output=True)
+    return done.stderr.decode().splitlines()
+
+
+def installed(folder):
+    """Installs what was built, which nothing builds anew."""
+    old = [word for name in BUILT for word in ("-o", f"bin/{name}")]
+    return subprocess.run(["make", *old, "-C", TOP, "install", f"DESTDIR={folder}", "PREFIX=/usr"], capture_output=True, text=True)
+
+
+def wrong_files():
+    folder = os.path.join(ROOM, "installed")
+    done = installed(folder)
+    if done.returncode:
+        return done.stderr.splitlines()
+    top = os.path.join(folder, "usr")
+    found = sorted(os.path.relpath(os.path.join(at, name), top) for at, _, names in os.walk(top) for name in names)
+    wrong = [f"{name} is missing" for name in sorted(set(INSTALLED) - set(found))]
+    wrong += [f"{name} is there too" for name in sorted(set(found) - set(INSTALLED))]
+    with open_input(FIRST) as given:
+        ended = end_of(start(program=os.path.join(top, "bin", "rope-search"), stdin=given))
+    if (ended.out, ended.status) != examples_of_page()[0][1:]:
+        wrong.append(f"the program answers {ended.out!r} and status {ended.status}")
+    version = read("VERSION").strip()
+    for name, line in (("lib/pkgconfig/rope_search.pc", f"Version: {version}"), ("share/man/man1/rope-search.1", version)):
+        with open(os.path.join(top, name), encoding="utf-8") as file:
+            if line not in file.read():
+                wrong.append(f"{name} doesn't tell {line!r}")
+    if shutil.which("pkg-config"):
+        flags = subprocess.run(["pkg-config", "--cflags", "--libs", "rope_search"], capture_output=True, text=True, env=dict(
+            os.environ, PKG_CONFIG_PATH=os.path.join(top, "lib", "pkgconfig"))).stdout
+        wrong += [f"{name} isn't in {flags!r}" for name in ("lib/pkgconfig/../../include", "-lrope_search") if name not in flags]
+    modules = os.path.join(top, "share", "rope-search")
+    ended = subprocess.run([sys.executable, "-B", "-c", SESSION], cwd=modules, capture_output=True, text=True,
+                           env={"PATH": os.environ["PATH"]})
+    return wrong + ([] if ended.stdout == "2\n" else [ended.stdout + ended.stderr])
+
+
+def test_all():
+    test("the manual has each command, refusal, status and message", wrong_manual())
+    test("the manual is laid out", laid_out_wrong())
+    if os.path.exists(LIBRARY) and {LIBRARY_FOLDER, os.path.dirname(PROGRAM)} == {os.path.join(TOP, "bin")}:
+        test("what is installed, and that it works there", wrong_files())
