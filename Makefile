@@ -11,9 +11,16 @@
 #               names some crates, or files as NAME/src/FILE, JOBS=N tries N crates at a time
 # make lib      builds the library that C links, bin/librope_search.a, the shared bin/librope_search.so, and
 #               bin/rope_search.pc for pkg-config; include/rope_search.h declares it
+# make install  puts the program, its manual, the library with its header and modules, and the pages below
+#               PREFIX (/usr/local), or below DESTDIR and that
+# make release  packs the same as bin/rope-search-VERSION-x86_64-linux.tar.gz, for those who don't have the kit
 # make bench    measures texts, reports, edits, ropes, patterns and searches. TOPICS='NAME ..' names some
 #               of the topics in bench/topics.py; TOPICS=--write puts the figures into bench/RESULTS.md
 # make clean    removes what these made
+
+# The version of the program and the library, which stands in this file alone.
+version := $(shell cat VERSION)
+PREFIX ?= /usr/local
 
 # The command of the Rattle kit; make RT=PROGRAM names another.
 RT ?= rt
@@ -30,7 +37,7 @@ need_rt = $(if $(shell command -v $(RT) 2>/dev/null),,$(error $(missing)))
 news := sed -unE -e 's/^rt: chose .* for (.*)/\1/p' -e 's/^so far: ([0-9]+ of [0-9]+ functions).*/    \1/p' \
 	-e 's/^(logic=[^ ]+ functions=[0-9]+).*/    \1/p'
 
-.PHONY: all programs lib demo check test edits bench clean
+.PHONY: all programs lib demo check test edits bench install release clean
 .DELETE_ON_ERROR:
 
 all: $(program)
@@ -80,9 +87,34 @@ bin/librope_search.so: bin/librope_search_c.a
 	@$(CC) -shared -o $@.new -Wl,-soname,librope_search.so -Wl,--version-script,$@.map \
 		-Wl,--whole-archive $< -Wl,--no-whole-archive $(heap) && rm $@.map && mv $@.new $@
 
-bin/rope_search.pc: bin/librope_search.a
+bin/rope_search.pc: bin/librope_search.a VERSION
 	@printf 'prefix=%s\nName: rope_search\nDescription: %s\nVersion: %s\nCflags: -I$${prefix}/include\nLibs: -L$${prefix}/bin -lrope_search\n' \
-		'$(CURDIR)' 'a regular expression kept live over a text that is edited' 0 > $@.new && mv $@.new $@
+		'$(CURDIR)' 'a regular expression kept live over a text that is edited' '$(version)' > $@.new && mv $@.new $@
+
+# What is installed, below $(root): the modules look for the library in their own folder first.
+root = $(DESTDIR)$(PREFIX)
+pages := README.md CHANGELOG.md LICENSE-APACHE LICENSE-MIT NOTICE docs/protocol.md docs/patterns.md docs/embedding.md
+
+install: $(program) lib
+	@install -d '$(root)/bin' '$(root)/include' '$(root)/lib/pkgconfig' '$(root)/share/man/man1' \
+		'$(root)/share/doc/rope-search' '$(root)/share/rope-search'
+	@install -m 755 $(program) '$(root)/bin'
+	@install -m 644 include/rope_search.h '$(root)/include'
+	@install -m 644 bin/librope_search.a '$(root)/lib'
+	@install -m 755 bin/librope_search.so '$(root)/lib'
+	@sed -e 's|^prefix=.*|prefix=$${pcfiledir}/../..|' -e 's|/bin -l|/lib -l|' bin/rope_search.pc > '$(root)/lib/pkgconfig/rope_search.pc'
+	@sed 's/@VERSION@/$(version)/' docs/rope-search.1 > '$(root)/share/man/man1/rope-search.1'
+	@install -m 644 $(pages) '$(root)/share/doc/rope-search'
+	@install -m 644 bindings/python/rope_search.py bindings/lua/rope_search.lua '$(root)/share/rope-search'
+
+release := rope-search-$(version)-x86_64-linux
+
+release: $(program) lib
+	@rm -rf bin/$(release) bin/$(release).tar.gz
+	@$(MAKE) --no-print-directory install DESTDIR='$(CURDIR)/bin/$(release)' PREFIX=
+	@tar -C bin --sort=name --owner=0 --group=0 --numeric-owner -czf bin/$(release).tar.gz $(release)
+	@rm -rf bin/$(release)
+	@echo 'bin/$(release).tar.gz'
 
 demo:
 	@$(if $(wildcard $(program)),,:$(need_rt))

@@ -8,6 +8,7 @@ import shutil
 import statistics
 import subprocess
 import sys
+import tempfile
 import time
 
 from texts import TOP, lines_of, source_text
@@ -37,14 +38,22 @@ def written(folder, name, data):
 
 
 def timed(program, given=os.devnull, out=None):
-    """The nanoseconds of a run, what it wrote where that goes to no file, and the most memory that it held."""
+    """The nanoseconds of a run, and what it wrote where that goes to no file."""
     with open(given, "rb") as stdin, open(out or os.devnull, "wb") as taken:
         start = time.perf_counter_ns()
         process = subprocess.Popen(program, stdin=stdin, stdout=taken if out else subprocess.PIPE)
         said = b"" if out else process.stdout.read()
-        _, status, usage = os.wait4(process.pid, 0)
-        process.returncode = status
-        return time.perf_counter_ns() - start, said, usage.ru_maxrss
+        process.wait()
+        return time.perf_counter_ns() - start, said
+
+
+def peak_of(program, given):
+    """The most memory that a run held, in kB. A child of this program would be told with the pages that it had from
+    here before it began, so a small program starts it."""
+    with open(given, "rb") as stdin, tempfile.NamedTemporaryFile() as told:
+        command = ["/usr/bin/time", "-q", "-f", "%M", "-o", told.name, *program]
+        subprocess.run(command, stdin=stdin, stdout=subprocess.DEVNULL, check=True)
+        return int(told.read())
 
 
 def instructions(program, given):
@@ -82,7 +91,8 @@ def load_print(folder, tiny):
         runs = [timed([PROGRAM], session, out) for _ in range(RUNS)]
         yield of, "text and print", nanos([run[0] for run in runs]), "ns" if is_reply(out, text) else "failed"
         yield of, "cat", nanos([timed(["cat"], session, out)[0] for _ in range(RUNS)]), "ns"
-        yield of, "memory", f"{max(run[2] for run in runs) * 102400 / len(text):.0f}", "% of the text"
+        if os.path.exists("/usr/bin/time"):
+            yield of, "memory", f"{peak_of([PROGRAM], session) * 102400 / len(text):.0f}", "% of the text"
 
 
 def listed(lines, pattern):
@@ -178,13 +188,15 @@ def replace_matches(folder, tiny):
 
 def build_patterns(patterns, folder, tiny):
     """Each of the patterns set once: what that takes, and the peak of memory."""
-    bare = max(timed([PROGRAM], written(folder, "session", b"off\n"))[2] for _ in range(RUNS))
+    tells_peak = os.path.exists("/usr/bin/time")
+    bare = peak_of([PROGRAM], written(folder, "session", b"off\n")) if tells_peak else 0
     for name, pattern in patterns:
         session = written(folder, "session", command("pattern", pattern.encode()))
         runs = [timed([PROGRAM], session) for _ in range(1 if tiny else RUNS)]
         is_right = all(run[1] in (b"ok\n", b"error limit\n", b"error pattern\n") for run in runs)
         yield name, "taken" if runs[0][1] == b"ok\n" else "refused", nanos([run[0] for run in runs]), "ns" if is_right else "failed"
-        yield name, "memory", f"{max(run[2] for run in runs) - bare}", "kB"
+        if tells_peak:
+            yield name, "memory", f"{peak_of([PROGRAM], session) - bare}", "kB"
 
 
 def told_by(words, **more):

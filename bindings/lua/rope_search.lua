@@ -13,7 +13,7 @@
 -- docs/protocol.md says what each command does, docs/patterns.md what patterns there are.
 --
 -- The library is the file that the environment's ROPE_SEARCH_LIBRARY names, else
--- bin/librope_search.so of this repository, else the system's.
+-- that of bin/ in this repository, or of lib/ where both were installed, else the system's.
 local ffi = require("ffi")
 
 ffi.cdef([[
@@ -90,9 +90,11 @@ local function is_there(path)
 end
 
 local function library_path()
-  local here = debug.getinfo(1, "S").source:match("^@(.*[/\\])") or "./"
-  local built = here .. "../../bin/librope_search.so"
-  return os.getenv("ROPE_SEARCH_LIBRARY") or (is_there(built) and built) or "rope_search"
+  local top = (debug.getinfo(1, "S").source:match("^@(.*[/\\])") or "./") .. "../../"
+  -- bin/ of the repository, or lib/ where both were installed.
+  local built, installed = top .. "bin/librope_search.so", top .. "lib/librope_search.so"
+  return os.getenv("ROPE_SEARCH_LIBRARY") or (is_there(built) and built)
+    or (is_there(installed) and installed) or "rope_search"
 end
 
 local calls

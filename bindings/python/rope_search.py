@@ -10,8 +10,8 @@ Lines and columns begin at 0, a column counts UTF-16 code units. A call that is 
 and leaves the session as it was. A session stays on the thread that opened it. docs/protocol.md says what each command
 does, docs/patterns.md what patterns there are.
 
-The library is the file that ROPE_SEARCH_LIBRARY names, else bin/librope_search.so of this repository, else the
-system's. It is opened when the first session is.
+The library is the file that ROPE_SEARCH_LIBRARY names, else that of bin/ in this repository, or of lib/ where both were
+installed, else the system's. It is opened when the first session is.
 """
 import ctypes
 import ctypes.util
@@ -201,11 +201,14 @@ _library: Optional[ctypes.CDLL] = None
 
 def library_path() -> str:
     """Where the library is."""
-    here = os.path.dirname(os.path.abspath(__file__))
-    built = os.path.normpath(os.path.join(here, "..", "..", "bin", "librope_search.so"))
     if named := os.environ.get("ROPE_SEARCH_LIBRARY"):
         return named
-    return built if os.path.exists(built) else ctypes.util.find_library("rope_search") or ""
+    top = os.path.dirname(os.path.dirname(os.path.dirname(os.path.abspath(__file__))))
+    # bin/ of the repository, or lib/ where both were installed.
+    for folder in ("bin", "lib"):
+        if os.path.exists(path := os.path.join(top, folder, "librope_search.so")):
+            return path
+    return ctypes.util.find_library("rope_search") or ""
 
 
 def library() -> ctypes.CDLL:
