@@ -2,9 +2,11 @@
 in all slots, perhaps in slices and spans, anchored, and by pattern; and of patterns whose finds read far behind what they
 answer.
 
-Its answers are those that stand here, and those of the model of tests/walks.py to cases at random.
+Its answers are those that stand here, those of the model of tests/walks.py to cases at random, and in haystacks that are
+longer than the blocks of places whose nodes are kept, those of finds of Python's re, one after the other.
 """
 import random
+import re
 
 from driver import PROGRAM_WANT, WANT, Case, Settings, check_memory, line_of, problems, written
 from harness import short, test
@@ -48,7 +50,18 @@ VECTORS = [
 
 # Of these letters each is a match, and each find but the last ones reads to the end.
 HOSTILE = ["a*b|a", ".*?x|a", "(a|b)*c|a", "(?:a{0,20})*b|a"]
-LETTERS = 400
+LETTERS = 20_000
+
+# The least number of places of a block. Blocks end at the haystack's end and at each such distance before it.
+BLOCK = 4_096
+LONG_CASES = 150
+
+# Patterns that Python's re takes for the same, and the letters of their haystacks.
+ALIKE = [
+    ("a", "ab"), ("ab", "ab"), ("b*", "ab"), ("(a)|(b+)", "ab"), ("a*b|a", "ab"), (".*?b|a", "ab"), ("(a|b)*c|a", "abc"),
+    ("a+?b", "ab"), ("(?:a|(b)){2,5}", "ab"), ("x*", "ab"), (".*", "ab\n"), (".+", "ab"), ("[^c]+", "abc"), ("\\b", "ab "),
+    ("\\ba", "ab "), ("(?m)^a*$", "ab\n"), ("(?m)$", "ab\n"), ("\\B(b)", "ab "), ("^a|b$", "ab"), ("(a?)b??", "ab"),
+]
 
 
 def answer_of(trees, haystack, asked, inside):
@@ -88,6 +101,58 @@ def hostile():
         yield about([pattern], b"a" * LETTERS, 2, answer, 7)
 
 
+def found_by_re(pattern, haystack, slice_, span, is_tied):
+    """The matches that finds of Python's re tell, one after the other, each with its slots."""
+    compiled = re.compile(pattern.encode())
+    low, high = slice_
+    cut = haystack[low:high]  # looks see no further
+    find = compiled.match if is_tied else compiled.search
+    at, end, last = max(span[0] - low, 0), min(span[1] - low, len(cut)), None
+    told = []
+    while at <= end:
+        found = find(cut[:end] if end < len(cut) else cut, at)
+        if not found:
+            break
+        if found.end() == found.start() == last:
+            at, last = at + 1, None
+            continue
+        slots = [slot + low if slot >= 0 else "-" for group in range(compiled.groups + 1) for slot in found.span(group)]
+        told.append(" ".join(map(str, [0, found.end() + low, *slots])))
+        at = last = found.end()
+    return 2 * compiled.groups + 2, ",".join(told)
+
+
+def long_cases(count=LONG_CASES):
+    chance = random.Random(60)
+    for number in range(count):
+        pattern, letters = ALIKE[number % len(ALIKE)]
+        size = chance.choice((BLOCK - 1, BLOCK, BLOCK + 1, 2 * BLOCK, 2 * BLOCK + 1, chance.randint(1, 4 * BLOCK)))
+        weights = [chance.choice((1, 8, 60)) for _ in letters]
+        haystack = "".join(chance.choices(letters, weights, k=size)).encode()
+        low = chance.choice((0, 0, 1, chance.randint(0, size)))
+        slice_ = low, chance.choice((size, chance.randint(low, size)))
+        # Python's re looks no further than where it searches, so a span ends where the slice does.
+        span = chance.choice((low, chance.randint(low, slice_[1]))), slice_[1]
+        is_tied = chance.random() < 0.2
+        slots, answer = found_by_re(pattern, haystack, slice_, span, is_tied)
+        yield about([pattern], haystack, slots, answer, chance.choice((0, 1, 7, 1000)),
+                    (slice_, span, AT_START if is_tied else ANYWHERE))
+
+
+def at_edges():
+    """Matches at, before and behind the places where blocks end, also empty ones, and inside characters."""
+    size = 2 * BLOCK + 5
+    for place in (0, 1, 4, 5, 6, BLOCK + 4, BLOCK + 5, BLOCK + 6, size - 1):
+        haystack = b"a" * place + b"b" + b"a" * (size - place - 1)
+        yield about(["b"], haystack, 2, f"0 {place + 1} {place} {place + 1}")
+        yield about(["b??", "b"], haystack, 4, ",".join(f"0 {at} {at} {at} - -" for at in range(size + 1)))
+        whole = f"0 {place + 1} 0 {place + 1} {place} {place + 1}"
+        yield about(["a*(b)"], haystack, 4, whole, 7)
+    text = "せ" * BLOCK
+    yield about(["x*"], text.encode(), 2, ",".join(f"0 {at} {at} {at}" for at in range(0, 3 * BLOCK + 1, 3)), 1)
+    yield about(["x*"], text.encode(), 2, ",".join(f"0 {at} {at} {at}" for at in range(3 * BLOCK + 1)), 1, None, True)
+
+
 def at_random(count=RANDOM_CASES):
     chance = random.Random(59)
     maker = Maker(chance, most_nodes=30)
@@ -104,5 +169,7 @@ def at_random(count=RANDOM_CASES):
 def test_all():
     test("matches are listed as they should", problems(vectors()))
     test("matches are listed where each find reads to the end", problems(hostile()))
+    test("matches are listed where blocks of places end", problems(at_edges()))
+    test("matches in long haystacks are listed as by finds of re", problems(long_cases()))
     test("matches at random are listed as by the model", problems(at_random()))
     check_memory(about(["a|ab", "(b)+"], b"abb", 6, "0 1 0 1 - - - -,1 3 - - 1 3 2 3", 1), [WANT, PROGRAM_WANT])

@@ -1,5 +1,5 @@
 -- The list of matches, from place to place.
-use Rattle.std.proofs.Common.{◌≡◌, ℕ, ◌+◌, ◌-◌, ◌<◌, ◌≤◌, ◌++◌, Bool, true, false, max, IfSome, IsSomeAnd, List, [], ◌∷◌, length, map, Option, Some, None, refl, sym, ap, ap₂, subst, ◌∙◌, arith, inl, inr}
+use Rattle.std.proofs.Common.{◌≡◌, ℕ, ◌+◌, ◌-◌, ◌*◌, ◌<◌, ◌≤◌, ◌++◌, Bool, true, false, cond, max, IfSome, IsSomeAnd, IfOk, Result, Ok, Err, List, [], ◌∷◌, length, map, Option, Some, None, refl, sym, ap, ap₂, subst, ◌∙◌, arith, inl, inr}
 use Rattle.std.proofs.lemmas.Bool.{cases_eq}
 use Rattle.std.proofs.lemmas.List.{append-nil}
 use Rattle.unicode.specs.Perl.{is_word_char}
@@ -9,7 +9,7 @@ use Rattle.rx_walks.specs.Machines.{Outcome}
 use Rattle.rx_walks.specs.Looks as walks
 use Rattle.rx_walks.specs.Programs.{Program, Notes, fresh_notes}
 use Rattle.rx_walks.specs.Finds.{Search, IsInside, IsFind, from_place_on}
-use Rattle.rx_walks.specs.ProgramFinds.{start_node, highest, machine_of, IfStarts}
+use Rattle.rx_walks.specs.ProgramFinds.{start_node, lowest, highest, machine_of, IfStarts}
 use Rattle.rx_walks.specs.Matches.{no_match}
 use Rattle.rx_walks.specs.Bytes.{Automaton}
 use Rattle.rx_walks.specs.Likenesses.{noted_by}
@@ -21,7 +21,9 @@ use Rattle.rx_steps.specs.Threads.{Slots, note_slot, no_slots, first_node}
 use Rattle.rx_steps.specs.Searching.{slots_from}
 use Rattle.rx_steps.specs.Coming.{machine_in}
 use Rattle.rx_steps.proofs.SlotLaws.{slots_keep, slots_of_noted, empty_slots}
-use Rattle.rx_lists.specs.Lists.{Listed, listed_of, AreAllMatches, outcome_of_listed, Lists, AreListedTo, IsFoundAt, IsTaken, places_left}
+use Rattle.rx_lists.specs.Lists.{Listed, listed_of, AreAllMatches, outcome_of_listed, Lists, AreListedTo, IsFoundAt, IsTaken, places_left, reads_for, read_before, places_in, end_or}
+use Rattle.rx_lists.specs.declared.pass_back.Block.{Block}
+use Rattle.rx_lists.specs.Blocks.{Reaches}
 use Rattle.rx_lists.specs.declared.walk.Ending.{Ending}
 use Rattle.rx_lists.specs.Passes.{outcome_of}
 use Rattle.rx_walks.proofs.ForwardLaws.{pair_told}
@@ -145,6 +147,39 @@ pub fewer_listed : (content : List ℕ) (i end : ℕ) (after : Bool) → i ≤ l
 fewer_listed content i end true within on not = elim (cases_eq end i) [ inl same ↦ absurd (not refl same) | inr other ↦ omega (arith, within, on, other) ]
 fewer_listed content i end false within on not = omega (arith, within, on)
 
+-- ---- how many places were read
+
+two_at_most : (after : Bool) → cond after 2 0 ≤ 2
+two_at_most true = omega arith
+two_at_most false = omega arith
+
+reads_passed : (i : ℕ) (out : Option Ending) → IfSome out (λ x. x.end ≡ i) → reads_for i out ≤ 2
+reads_passed i None there = omega arith
+reads_passed i (Some x) there = omega (arith, there)
+
+read_past : (s : Search) (r r' r'' i : ℕ) (after : Bool) (out : Option Ending) → r' ≤ r + read_before s i after → r'' ≤ r' + reads_for i out → lowest s ≤ i → IfSome out (λ x. x.end ≡ i) → r'' ≤ r + read_before s (i + 1) false
+read_past s r r' r'' i after out so_far more above there = omega (arith, so_far, more, above, two_at_most after, reads_passed i out there)
+
+read_found : (s : Search) (r r' r'' i e : ℕ) (after : Bool) → r' ≤ r + read_before s i after → r'' ≤ r' + (1 + (e + 1 - i)) → lowest s ≤ i → i ≤ e → (after ≡ true → e ≡ i → ⊥) → r'' ≤ r + read_before s e true
+read_found s r r' r'' i e true so_far more above on further = elim (cases_eq e i) [ inl same ↦ absurd (further refl same) | inr other ↦ omega (arith, so_far, more, above, on, other) ]
+read_found s r r' r'' i e false so_far more above on further = omega (arith, so_far, more, above, on)
+
+pub read_all : (s : Search) (r r' r'' i : ℕ) (after : Bool) (out : Option Ending) → r' ≤ r + read_before s i after → r'' ≤ r' + reads_for i out → (lowest s ≤ i) × (i ≤ highest s) → IfSome out (λ x. x.end ≡ i) → r'' ≤ r + 4 * places_in s
+read_all s r r' r'' i after out so_far more inside there = omega (arith, read_past s r r' r'' i after out so_far more inside.0 there, inside.0, inside.1)
+
+pub read_refused : (s : Search) (r r' r'' i : ℕ) (after : Bool) → r' ≤ r + read_before s i after → r'' + i ≤ r' + highest s + 2 → (lowest s ≤ i) × (i ≤ highest s) → r'' ≤ r + 4 * places_in s
+read_refused s r r' r'' i after so_far more inside = omega (arith, so_far, more, inside.0, inside.1, two_at_most after)
+
+pub found_counted : (p : ByteProgram) (s : Search) (q len i r r' : ℕ) (found : Option Ending) (slots : Slots) → LeadsToMatch (machine_in p s) (first_node q) i → Follows (machine_in p s) i [] ((no_slots len, first_node q) ∷ []) (outcome_of found slots)
+    → IfSome found (λ x. r' + i ≤ r + 1 + x.end + 1) → r' ≤ r + reads_for i found
+found_counted p s q len i r r' None slots leads follows counted = absurd (follows_never pair_told follows leads)
+found_counted p s q len i r r' (Some x) slots leads follows counted = omega (arith, counted)
+
+pub found_reached : (p : ByteProgram) (s : Search) (q len i : ℕ) (found : Option Ending) (slots : Slots) (block : Block) → LeadsToMatch (machine_in p s) (first_node q) i → Follows (machine_in p s) i [] ((no_slots len, first_node q) ∷ []) (outcome_of found slots)
+    → IfSome found (λ x. Reaches block x.end) → Reaches block (end_or found i)
+found_reached p s q len i None slots block leads follows reaches = absurd (follows_never pair_told follows leads)
+found_reached p s q len i (Some x) slots block leads follows reaches = reaches
+
 -- ---- what is found at a place
 
 pub found_by : (p : ByteProgram) (s : Search) (q len from i : ℕ) (out : Option (Outcome Slots)) → begins_from s from i → Follows (machine_in p s) i [] ((no_slots len, first_node q) ∷ []) out → IsFoundAt p s q len from i out
@@ -176,6 +211,23 @@ module _ (p : ByteProgram) (s : Search) (q len : ℕ) where
       subst (λ b. places_left content pos b < places_left content i after) (sym taken.0) (subst (λ j. places_left content j false < places_left content i after) (sym (next refl)) (fewer_none content i after within))
   went_less content i pos found after after' from (Some e) taken at next on further within =
       subst (λ b. places_left content pos b < places_left content i after) (sym taken.0) (subst (λ j. places_left content j true < places_left content i after) (sym at) (fewer_listed content i e after within on further))
+
+  -- and how many places were read until then
+  pub read_on : (s' : Search) (r r' r'' i pos : ℕ) (found : List Listed) (after after' : Bool) (from : ℕ) (out : Option Ending) (end : Option ℕ) → IsTaken p s q len i found after' from end → r' ≤ r + read_before s' i after → r'' ≤ r' + reads_for i out → lowest s' ≤ i
+      → IfSome end (λ e. pos ≡ e) → (end ≡ None → pos ≡ i + 1) → IfSome end (λ e. IsSomeAnd out (λ x. x.end ≡ e)) → (end ≡ None → IfSome out (λ x. x.end ≡ i)) → IfSome end (λ e. i ≤ e) → IfSome end (λ e. after ≡ true → e ≡ i → ⊥)
+      → r'' ≤ r + read_before s' pos after'
+  read_on s' r r' r'' i pos found after after' from out None taken so_far more above at next is passed on further =
+      subst (λ b. r'' ≤ r + read_before s' pos b) (sym taken.0) (subst (λ j. r'' ≤ r + read_before s' j false) (sym (next refl)) (read_past s' r r' r'' i after out so_far more above (passed refl)))
+  read_on s' r r' r'' i pos found after after' from None (Some e) taken so_far more above at next is passed on further = absurd is
+  read_on s' r r' r'' i pos found after after' from (Some x) (Some e) taken so_far more above at next is passed on further =
+      subst (λ b. r'' ≤ r + read_before s' pos b) (sym taken.0) (subst (λ j. r'' ≤ r + read_before s' j true) (sym at) (read_found s' r r' r'' i e after so_far (subst (λ j. r'' ≤ r' + (1 + (j + 1 - i))) is more) above on further))
+
+  -- the block at hand reaches back there
+  pub reached_on : (i pos : ℕ) (out : Option Ending) (end : Option ℕ) (block : Block) → Reaches block (end_or out i) → IfSome end (λ e. pos ≡ e) → (end ≡ None → pos ≡ i + 1) → IfSome end (λ e. IsSomeAnd out (λ x. x.end ≡ e)) → (end ≡ None → IfSome out (λ x. x.end ≡ i)) → Reaches block pos
+  reached_on i pos None None block reaches at next is passed = omega (arith, reaches, next refl)
+  reached_on i pos (Some x) None block reaches at next is passed = omega (arith, reaches, next refl, passed refl)
+  reached_on i pos None (Some e) block reaches at next is passed = absurd is
+  reached_on i pos (Some x) (Some e) block reaches at next is passed = omega (arith, reaches, at, is)
 
   pub ended_list : (i : ℕ) (found : List Listed) (after : Bool) (from : ℕ) (end : Option ℕ) → IsTaken p s q len i found after from end → end ≡ None → highest s < i + 1 → Lists p s q len false s.start s.start (map outcome_of_listed found)
   ended_list i found after from None taken none past = taken.3 past
@@ -213,3 +265,7 @@ some_is (Some e) result pos P is has = (is has).1
 pub none_was : (end : Option ℕ) (result : Bool) (pos : ℕ) (P : ℕ → Type 0) → IfSome end (λ e. P e → (result ≡ true) × (pos ≡ e)) → IfSome end (λ e. P e) → result ≡ false → end ≡ None
 none_was None result pos P is has failed = refl
 none_was (Some e) result pos P is has failed = absurd (cc (sym (is has).0 ∙ failed))
+
+pub if_ok_both : {A E : Type 0} {P Q R : A → Type 0} (r : Result A E) → ((x : A) → P x → Q x → R x) → IfOk r P → IfOk r Q → IfOk r R
+if_ok_both (Ok x) f h h' = f x h h'
+if_ok_both (Err e) f h h' = h

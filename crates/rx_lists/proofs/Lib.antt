@@ -4,6 +4,9 @@ pub mod ListedLaws
 pub mod NodeLaws
 pub mod FillLaws
 pub mod SetLaws
+pub mod BitLaws
+pub mod IndexLaws
+pub mod NumberLaws
 pub mod RoundLaws
 pub mod PassLaws
 pub mod WayLaws

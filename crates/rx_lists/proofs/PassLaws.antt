@@ -1,10 +1,11 @@
 -- The pass back: from the nodes that lead at a place to those that lead at the one before.
-use Rattle.std.proofs.Common.{◌≡◌, ℕ, zero, suc, ◌+◌, ◌-◌, ◌<◌, ◌⊎◌, false, List, [], ◌∷◌, ◌++◌, length, Some, slice_get, refl, ap, subst, ◌∙◌, arith, inl, inr}
+use Rattle.std.proofs.Common.{◌≡◌, ℕ, zero, suc, ◌+◌, ◌-◌, ◌*◌, ◌<◌, ◌≤◌, ◌⊎◌, false, List, [], ◌∷◌, ◌++◌, length, Some, slice_get, refl, sym, ap, subst, ◌∙◌, arith, inl, inr}
+use Rattle.std.proofs.lemmas.Bool.{cases_eq}
 use Rattle.std.proofs.lemmas.Bool.Decides.{nat_tests}
 use Rattle.std.proofs.lemmas.List.{length-append}
 use Rattle.rx_walks.specs.Programs.{is_within, only_if}
 use Rattle.rx_walks.specs.Bytes.{by_byte}
-use Rattle.rx_walks.specs.Finds.{Search}
+use Rattle.rx_walks.specs.Finds.{Search, IsInside}
 use Rattle.rx_walks.specs.ProgramFinds.{lowest, highest}
 use Rattle.rx_program.specs.Programs.{ByteProgram, characters_of, automata_of}
 use Rattle.rx_steps.specs.declared.place.Place.{Place}
@@ -12,7 +13,8 @@ use Rattle.rx_steps.specs.Nodes.{IsNodeOf}
 use Rattle.rx_steps.specs.Lists.{MakesMoves}
 use Rattle.rx_steps.specs.Searching.{haystack_in}
 use Rattle.rx_steps.specs.Coming.{machine_in}
-use Rattle.rx_lists.specs.Leading.{AreLeading, AreFilled}
+use Rattle.rx_lists.specs.Leading.{AreKnown, AreLeading, AreFilled}
+use Rattle.rx_lists.specs.LeadingSets.{AreLeadingSets, IsLeadingSet}
 use Rattle.rx_lists.proofs.FillLaws.{Nodes}
 use Rattle.rx_lists.proofs.SetLaws.{none_in}
 use Rattle.rx_lists.proofs.LeadLaws.{leads_so, leads_by}
@@ -47,14 +49,31 @@ got_pushed [] y (suc k) z at = absurd (cc at)
 got_pushed (x ∷ xs) y zero z at = inl at
 got_pushed (x ∷ xs) y (suc k) z at = elim (got_pushed xs y k z at) [ inl e ↦ inl e | inr both ↦ inr (ap suc both.0, both.1) ]
 
-abbrev pub AreEach : ByteProgram → Search → ℕ → List Nodes → Type 0
-AreEach p s last lists = (k : ℕ) (nodes : Nodes) → slice_get lists k ≡ Some nodes → AreLeading p s (last - k) nodes
-
-pub each_more : (p : ByteProgram) (s : Search) (last at : ℕ) (lists lists' : List Nodes) (nodes : Nodes) → lists' ≡ lists ++ nodes ∷ [] → length lists + at ≡ last → AreEach p s last lists → AreLeading p s at nodes → AreEach p s last lists'
-each_more p s last at lists lists' nodes more count each leading k others get = elim (got_pushed lists nodes k others (subst (λ xs. slice_get xs k ≡ Some others) more get)) [
-  | inl before ↦ each k others before
-  | inr both ↦ subst (λ j. AreLeading p s j others) (omega (arith, both.0, count)) (subst (λ xs. AreLeading p s at xs) both.1 leading)
+-- one more set
+pub sets_more : (p : ByteProgram) (s : Search) (last distance : ℕ) (sets sets' : List (List ℕ)) (set : List ℕ) → sets' ≡ sets ++ set ∷ [] → AreLeadingSets p s last distance sets → IsLeadingSet p s (last - length sets * distance) set → AreLeadingSets p s last distance sets'
+sets_more p s last distance sets sets' set more each leading k other get = elim (got_pushed sets set k other (subst (λ xs. slice_get xs k ≡ Some other) more get)) [
+  | inl before ↦ each k other before
+  | inr both ↦ subst (λ j. IsLeadingSet p s (last - j * distance) other) (sym both.0) (subst (λ xs. IsLeadingSet p s (last - length sets * distance) xs) both.1 leading)
 ]
 
-pub count_more : (lists lists' : List Nodes) (nodes : Nodes) → lists' ≡ lists ++ nodes ∷ [] → length lists' ≡ length lists + 1
-count_more lists lists' nodes more = ap (λ xs. length xs) more ∙ length-append lists (nodes ∷ [])
+pub no_sets : (p : ByteProgram) (s : Search) (last distance : ℕ) (sets : List (List ℕ)) → sets ≡ [] → AreLeadingSets p s last distance sets
+no_sets p s last distance sets none k set get = let e : slice_get [] k ≡ Some set = ap (λ xs. slice_get xs k) (sym none) ∙ get in absurd (cc e)
+
+pub count_more : (sets sets' : List (List ℕ)) (set : List ℕ) → sets' ≡ sets ++ set ∷ [] → length sets' ≡ length sets + 1
+count_more sets sets' set more = ap (λ xs. length xs) more ∙ length-append sets (set ∷ [])
+
+-- one more place is known
+pub known_more : (p : ByteProgram) (s : Search) (i : ℕ) (nodes : Nodes) → AreKnown p s (i + 1) → AreLeading p s i nodes → AreKnown p s i
+known_more p s i nodes known leading j above below = elim (cases_eq j i) [
+  | inl same ↦ (nodes, subst (λ k. AreLeading p s k nodes) (sym same) leading)
+  | inr other ↦ known j (omega (arith, above, other)) below
+]
+
+pub known_none : (p : ByteProgram) (s : Search) (i : ℕ) → highest s < i → AreKnown p s i
+known_none p s i past j above below = absurd (omega (arith, past, above, below))
+
+pub inside_up : (s : Search) (i j : ℕ) → IsInside s i → i ≤ j → j ≤ highest s → IsInside s j
+inside_up s i j inside above below = (omega (arith, inside.0, above), omega (arith, below), omega (arith, inside.2, above), omega (arith, below), omega (arith, below))
+
+pub inside_down : (s : Search) (i j : ℕ) → IsInside s i → j ≤ i → lowest s ≤ j → IsInside s j
+inside_down s i j inside below above = (omega (arith, above), omega (arith, inside.1, below), omega (arith, above), omega (arith, inside.3, below), omega (arith, inside.4, below))

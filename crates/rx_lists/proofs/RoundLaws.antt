@@ -66,9 +66,12 @@ index_state first [] q s k e = absurd (cc e)
 index_state first (y ∷ states) zero s k e = (y, refl, below s (width_of y) (at_index (nat_lt s (width_of y)) (first + s) k e))
 index_state first (y ∷ states) (suc q) s k e = index_state (first + width_of y) states q s k e
 
+pub in_order : (p : ByteProgram) (order : Nodes) → AreAllNodes p.states order → (q : ℕ × ℕ) (k : ℕ) → index_from 0 (widths_of p) q.0 q.1 ≡ Some k → Contains order q
+in_order p order all q k idx = let at = index_state 0 p.states q.0 q.1 k idx in all q.0 q.1 at.0 at.1 at.2
+
 pub round_fills : (p : ByteProgram) (place : Place) (order beyond old new : Nodes) → AreAllNodes p.states order → AreSound p place beyond old → IsRound p place order beyond old new false → AreFilled p place beyond new
 round_fills p place order beyond old new all sound round = are_filled p place beyond new (λ q. Contains order q) (round.sound sound) (round.closed refl)
-    (λ q k idx. let at = index_state 0 p.states q.0 q.1 k idx in all q.0 q.1 at.0 at.1 at.2)
+    (in_order p order all)
 
 -- ---- the list of nodes that were looked at
 

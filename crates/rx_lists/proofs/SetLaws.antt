@@ -4,7 +4,7 @@ use Rattle.std.proofs.lemmas.Option.{slice_get_within, get_or_from_slice_get}
 use Rattle.std.proofs.lemmas.List.Elements.{Contains-append_left, Contains-append_right, Contains-push_cases}
 use Rattle.rx_steps.specs.Nodes.{index_from, IsInserted, IsMember}
 use Rattle.rx_steps.proofs.IndexLaws.{one_index}
-use Rattle.rx_lists.specs.Sets.{AreOf, IsAdded}
+use Rattle.rx_lists.specs.Sets.{AreOf, IsAdded, IsAddedIf}
 
 same_some : {a b : ℕ} → Some a ≡ Some b → a ≡ b
 same_some e = cc e
@@ -72,3 +72,18 @@ added_only widths old new x q false is c = inl (subst (λ xs. Contains xs q) is.
 
 pub there_at : {X : Type 0} (xs : List X) (k : ℕ) (x : X) → slice_get xs k ≡ Some x → Contains xs x
 there_at xs k x at = (k, slice_get_within xs k x at, get_or_from_slice_get xs k x x at)
+
+-- a node was added where it was asked for
+pub asked_added : (widths : List ℕ) (old new : List (ℕ × ℕ)) (x : ℕ × ℕ) (b : Bool) → IsAdded widths old x b new → IsAddedIf widths old x true new
+asked_added widths old new x b is = record {
+  only = λ q c. elim (added_only widths old new x q b is c) [ inl c' ↦ inl c' | inr e ↦ inr (e, refl) ];
+  others = λ q c. added_same widths old new x q b is c;
+  there = λ k e at. added_one widths old new x b k is at;
+}
+
+pub not_asked : (widths : List ℕ) (old new : List (ℕ × ℕ)) (x : ℕ × ℕ) (b : Bool) → b ≡ false → new ≡ old → IsAddedIf widths old x b new
+not_asked widths old new x b not same = record {
+  only = λ q c. inl (subst (λ xs. Contains xs q) same c);
+  others = λ q c. subst (λ xs. Contains xs q) (sym same) c;
+  there = λ k e. absurd (cc (sym e ∙ not));
+}

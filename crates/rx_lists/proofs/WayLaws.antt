@@ -1,5 +1,5 @@
 -- The walk that is followed alone, from place to place.
-use Rattle.std.proofs.Common.{◌≡◌, ℕ, zero, suc, ◌+◌, ◌-◌, ◌<◌, ◌≤◌, ◌⊎◌, true, All, IfSome, IsSomeAnd, List, [], ◌∷◌, length, Option, Some, None, slice_get, Contains, refl, sym, ap, subst, ◌∙◌, arith, inl, inr}
+use Rattle.std.proofs.Common.{◌≡◌, ℕ, zero, suc, ◌+◌, ◌-◌, ◌*◌, ◌<◌, ◌≤◌, ◌⊎◌, true, All, Result, Ok, Err, OnOk, IfSome, IsSomeAnd, List, [], ◌∷◌, length, Option, Some, None, slice_get, Contains, refl, sym, ap, subst, ◌∙◌, arith, inl, inr}
 use Rattle.std.proofs.lemmas.Option.{slice_get_within, get_or_from_slice_get}
 use Rattle.std.proofs.lemmas.List.Elements.{All-get_or}
 use Rattle.rx_walks.specs.Machines.{Machine, Outcome}
@@ -20,13 +20,20 @@ use Rattle.rx_steps.specs.Coming.{machine_in}
 use Rattle.rx_steps.proofs.ByteLaws.{within_is}
 use Rattle.rx_steps.proofs.FollowLaws.{seen_or_new}
 use Rattle.rx_steps.proofs.PlaceLaws.{moves_at_place}
-use Rattle.rx_lists.specs.Leading.{AreLeading}
+use Rattle.rx_lists.specs.Bits.{HasNode, IsSetOf, IsKept}
+use Rattle.rx_lists.specs.Leading.{AreKnown, AreLeading}
+use Rattle.rx_lists.specs.LeadingSets.{AreLeadingSets, IsLeadingSet}
+use Rattle.rx_lists.specs.declared.pass_back.Block.{Block}
+use Rattle.rx_lists.specs.declared.blocks.Blocks.{Blocks}
+use Rattle.rx_lists.specs.Blocks.{AreBlocks, Reaches}
+use Rattle.rx_lists.specs.Sets.{AreAllNodes}
 use Rattle.rx_lists.specs.declared.walk.Ending.{Ending}
-use Rattle.rx_lists.specs.Passes.{AreListed, IsFirstAmong, outcome_of}
+use Rattle.rx_lists.specs.Passes.{IsFirstAmong, outcome_of}
 use Rattle.rx_lists.proofs.FillLaws.{Nodes}
 use Rattle.rx_lists.proofs.StepLaws.{Chosen, none_leads, other_leads, first_leads, thread_follows}
 use Rattle.rx_lists.proofs.NodeLaws.{edge_stays, node_index, path_does}
-use Rattle.rx_lists.proofs.PassLaws.{none_past}
+use Rattle.rx_lists.proofs.PassLaws.{none_past, sets_more, count_more}
+use Rattle.rx_lists.proofs.RoundLaws.{in_order}
 use Rattle.rx_lists.proofs.SetLaws.{none_in}
 
 -- ---- a place of a search
@@ -66,28 +73,50 @@ inside_is s i inside = (omega (arith, inside.0, inside.2), omega (arith, inside.
 
 -- ---- the nodes that lead are known
 
-get_there : {X : Type 0} (xs : List X) (k : ℕ) → k < length xs → (x : X) × (slice_get xs k ≡ Some x)
-get_there [] k lt = absurd (omega (arith, lt))
-get_there (x ∷ xs) zero lt = (x, refl)
-get_there (x ∷ xs) (suc k) lt = get_there xs k (omega (arith, lt))
+pub set_at : (p : ByteProgram) (s : Search) (top at i : ℕ) (sets : List (List ℕ)) (set : List ℕ) → AreLeadingSets p s top 1 sets → slice_get sets (top - at) ≡ Some set → at ≤ top → at ≡ i → IsLeadingSet p s i set
+set_at p s top at i sets set leading get within same = subst (λ j. IsLeadingSet p s j set) (omega (arith, within, same)) (leading (top - at) set get)
 
-pub listed_at : (p : ByteProgram) (s : Search) (last i : ℕ) (lists : List Nodes) → AreListed p s last lists → lowest s ≤ i → i ≤ last → (nodes : Nodes) × (slice_get lists (last - i) ≡ Some nodes) × AreLeading p s i nodes
-listed_at p s last i lists listed above below =
-    let there = get_there lists (last - i) (omega (arith, listed.count, above, below)) in
-    (there.0, there.1, subst (λ j. AreLeading p s j there.0) (omega (arith, below)) (listed.each (last - i) there.0 there.1))
+pub below_inside : (p : ByteProgram) (s : Search) (b : Blocks) (i : ℕ) → AreBlocks p s b → IsInside s i → b.first ≤ i
+below_inside p s b i blocks inside = omega (arith, blocks.first_is, (inside_is s i inside).0)
+
+pub top_within : (p : ByteProgram) (s : Search) (b : Blocks) → AreBlocks p s b → b.block.top ≤ highest s
+top_within p s b blocks = omega (arith, blocks.numbered.2, blocks.last_is)
+
+-- a block that reached back to a place reaches back to it and to the next one
+pub reached : (p : ByteProgram) (s : Search) (b : Blocks) (block : Block) (at next : ℕ) → AreBlocks p s b → next ≡ at + 1 → ((i : ℕ) → b.first ≤ i → next ≤ i + 1 → Reaches b.block i → Reaches block i) → lowest s ≤ at → Reaches b.block at
+    → Reaches block at × Reaches block next
+reached p s b block at next blocks is so above reaches =
+    let here = so at (omega (arith, blocks.first_is, above)) (omega (arith, is)) reaches in
+    (here, omega (arith, here, is))
 
 pub leads_or_not : (p : ByteProgram) (s : Search) (i : ℕ) (nodes : Nodes) → AreLeading p s i nodes → (q : ℕ × ℕ) → IsNodeOf p.states q → LeadsToMatch (machine_in p s) q i ⊎ (LeadsToMatch (machine_in p s) q i → ⊥)
 leads_or_not p s i nodes leading q may = elim (seen_or_new nodes q) [ inl c ↦ inl (leading.leads q c) | inr new ↦ inr (λ leads. new (leading.all q may leads)) ]
 
--- a set that was loaded from a list of nodes that lead is of those
-pub loaded : (p : ByteProgram) (s : Search) (i : ℕ) (list set : Nodes) (widths : List ℕ) → widths ≡ widths_of p → lowest s ≤ i → i ≤ highest s → AreLeading p s i list → ((q : ℕ × ℕ) → Contains set q → Contains list q)
-    → ((q : ℕ × ℕ) (k : ℕ) → Contains list q → index_from 0 widths q.0 q.1 ≡ Some k → Contains set q) → AreLeading p s i set
-loaded p s i list set widths same above below leading these all = record {
-  leads = λ q c. leading.leads q (these q c);
+-- a set in bits of nodes that lead
+pub leading_set : (p : ByteProgram) (s : Search) (i : ℕ) (widths : List ℕ) (nodes : Nodes) (set : List ℕ) → widths ≡ widths_of p → lowest s ≤ i → i ≤ highest s → AreLeading p s i nodes → IsSetOf widths nodes set → IsLeadingSet p s i set
+leading_set p s i widths nodes set same above below leading is = record {
+  leads = λ q has. leading.leads q (is.these q (subst (λ w. HasNode w set q) (sym same) has));
   all = λ q may leads.
       let moves = moves_inside p s i above below in
       let at = node_index p moves.0 (machine_in p s) i moves.1 q may (path_does leads.path) in
-      all q at.0 (leading.all q may leads) (subst (λ w. index_from 0 w q.0 q.1 ≡ Some at.0) (sym same) at.2);
+      subst (λ w. HasNode w set q) same (is.all q at.0 (leading.all q may leads) (subst (λ w. index_from 0 w q.0 q.1 ≡ Some at.0) (sym same) at.2));
+}
+
+pub keep_more : (p : ByteProgram) (s : Search) (last distance i : ℕ) (widths : List ℕ) (nodes : Nodes) (sets sets' : List (List ℕ)) → widths ≡ widths_of p → lowest s ≤ i → i ≤ highest s → AreLeading p s i nodes → IsKept widths nodes sets sets' → last - length sets * distance ≡ i
+    → AreLeadingSets p s last distance sets → AreLeadingSets p s last distance sets'
+keep_more p s last distance i widths nodes sets sets' same above below leading kept here each = sets_more p s last distance sets sets' kept.0 kept.1 each (subst (λ j. IsLeadingSet p s j kept.0) (sym here) (leading_set p s i widths nodes kept.0 same above below leading kept.2))
+
+pub keep_count : (widths : List ℕ) (nodes : Nodes) (sets sets' : List (List ℕ)) → IsKept widths nodes sets sets' → length sets' ≡ length sets + 1
+keep_count widths nodes sets sets' kept = count_more sets sets' kept.0 kept.1
+
+-- and the nodes of it
+pub loaded_set : (p : ByteProgram) (s : Search) (i : ℕ) (order nodes : Nodes) (widths widths' set : List ℕ) → widths ≡ widths_of p → widths' ≡ widths_of p → AreAllNodes p.states order → ((q : ℕ × ℕ) → Contains nodes q → HasNode widths set q)
+    → ((q : ℕ × ℕ) (k : ℕ) → Contains order q → HasNode widths set q → index_from 0 widths' q.0 q.1 ≡ Some k → Contains nodes q) → IsLeadingSet p s i set → AreLeading p s i nodes
+loaded_set p s i order nodes widths widths' set same same' ordered these all leading = record {
+  leads = λ q c. leading.leads q (subst (λ w. HasNode w set q) same (these q c));
+  all = λ q may leads.
+      let has = leading.all q may leads in
+      all q has.0 (in_order p order ordered q has.0 has.1) (subst (λ w. HasNode w set q) (sym same) has) (subst (λ w. index_from 0 w q.0 q.1 ≡ Some has.0) (sym same') has.1);
 }
 
 -- ---- a step, and the first thread that leads
@@ -112,14 +141,14 @@ chosen_at m i ((n, q) ∷ next) end out zero t at leads before follows =
 chosen_at m i ((n, q) ∷ next) end out (suc k) t at leads before follows =
     other_leads (before 0 (n, q) (omega arith) refl) (chosen_at m i next end out k t at leads (λ j u below get. before (suc j) u (omega (arith, below)) get) follows)
 
-pub walk_on : (p : ByteProgram) (s : Search) (last i : ℕ) (lists : List Nodes) (n : Slots) (q : ℕ × ℕ) (next : List Thread) (end out : Option (Outcome Slots)) → last ≡ highest s → AreListed p s last lists → IsInside s i → IsNodeOf p.states q
+pub walk_on : (p : ByteProgram) (s : Search) (i : ℕ) (n : Slots) (q : ℕ × ℕ) (next : List Thread) (end out : Option (Outcome Slots)) → AreKnown p s (lowest s) → IsInside s i → IsNodeOf p.states q
     → Steps (machine_in p s) i [] ((n, q) ∷ []) next end → Chosen (machine_in p s) (i + 1) next end out → Follows (machine_in p s) i [] ((n, q) ∷ []) out
-walk_on p s last i lists n q next end out last_is listed inside may steps chosen =
+walk_on p s i n q next end out known inside may steps chosen =
     let at = inside_is s i inside in
-    let here = listed_at p s last i lists listed at.0 (subst (λ j. i ≤ j) (sym last_is) at.1) in
+    let here = known i at.0 at.1 in
     let moves = moves_inside p s i at.0 at.1 in
     let m = machine_in p s in
-    thread_follows m i (λ r. IsNodeOf p.states r) (leads_or_not p s i here.0 here.2) (λ x r rs k may' is get. edge_stays p moves.0 m i moves.1 x r rs k is get) n q next end out may steps chosen
+    thread_follows m i (λ r. IsNodeOf p.states r) (leads_or_not p s i here.0 here.1) (λ x r rs k may' is get. edge_stays p moves.0 m i moves.1 x r rs k is get) n q next end out may steps chosen
 
 -- behind the last place nothing leads
 pub never_past : (p : ByteProgram) (s : Search) (i : ℕ) (t : Thread) → highest s < i → IsThreadOf p.states t → LeadsToMatch (machine_in p s) t.1 i → ⊥
@@ -128,17 +157,17 @@ never_past p s i t past may leads = none_in t.1 ((none_past p s i past).all t.1 
 pub thread_at : (states : List State) (threads : List Thread) (k : ℕ) (t : Thread) → All (IsThreadOf states) threads → slice_get threads k ≡ Some t → IsThreadOf states t
 thread_at states threads k t all at = subst (λ x. IsThreadOf states x) (get_or_from_slice_get threads k t t at) (All-get_or (λ x. IsThreadOf states x) threads k t (slice_get_within threads k t at) all)
 
-pub chosen_first : (p : ByteProgram) (s : Search) (i k : ℕ) (next : List Thread) (set : Nodes) (end out : Option (Outcome Slots)) (t : Thread) → AreLeading p s i set → All (IsThreadOf p.states) next → IsFirstAmong next set (Some k)
+pub chosen_first : (p : ByteProgram) (s : Search) (i k : ℕ) (next : List Thread) (set : List ℕ) (end out : Option (Outcome Slots)) (t : Thread) → IsLeadingSet p s i set → All (IsThreadOf p.states) next → IsFirstAmong next (λ r. HasNode (widths_of p) set r) (Some k)
     → slice_get next k ≡ Some t → Follows (machine_in p s) i [] (t ∷ []) out → Chosen (machine_in p s) i next end out
 chosen_first p s i k next set end out t leading all first get follows =
     let same : first.0 ≡ t = one (sym first.1 ∙ get) in
-    chosen_at (machine_in p s) i next end out k t get (leading.leads t.1 (subst (λ x. Contains set x.1) same first.2))
+    chosen_at (machine_in p s) i next end out k t get (leading.leads t.1 (subst (λ x. HasNode (widths_of p) set x.1) same first.2))
     (λ j u below get' leads. first.3 j u below get' (leading.all u.1 (thread_at p.states next j u all get') leads)) follows
   where
     one : Some first.0 ≡ Some t → first.0 ≡ t
     one e = cc e
 
-pub chosen_nobody : (p : ByteProgram) (s : Search) (i : ℕ) (next : List Thread) (set : Nodes) (end : Option (Outcome Slots)) → AreLeading p s i set → All (IsThreadOf p.states) next → IsFirstAmong next set None
+pub chosen_nobody : (p : ByteProgram) (s : Search) (i : ℕ) (next : List Thread) (set : List ℕ) (end : Option (Outcome Slots)) → IsLeadingSet p s i set → All (IsThreadOf p.states) next → IsFirstAmong next (λ r. HasNode (widths_of p) set r) None
     → Chosen (machine_in p s) i next end end
 chosen_nobody p s i next set end leading all none = chosen_none (machine_in p s) i next end (λ k t get leads. none k t get (leading.all t.1 (thread_at p.states next k t all get) leads))
 
@@ -153,3 +182,7 @@ ends_there (Some x) (Some k) at slots P e has = subst (λ j. P j) (sym (ap (λ (
   where
     one : {a b : Outcome Slots} → Some a ≡ Some b → a ≡ b
     one f = cc f
+
+pub on_ok_both : {A E P Q R : Type 0} (r : Result A E) → (P → Q → R) → OnOk r P → OnOk r Q → OnOk r R
+on_ok_both (Ok x) f h h' = f h h'
+on_ok_both (Err e) f h h' = h

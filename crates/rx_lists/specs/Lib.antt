@@ -1,4 +1,7 @@
+pub mod Bits
 pub mod Sets
 pub mod Leading
+pub mod LeadingSets
 pub mod Passes
+pub mod Blocks
 pub mod Lists

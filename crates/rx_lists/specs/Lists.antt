@@ -4,7 +4,7 @@ use Rattle.unicode.specs.Perl.{is_word_char}
 use Rattle.rx_walks.specs.Machines.{Outcome}
 use Rattle.rx_walks.specs.Programs.{Notes}
 use Rattle.rx_walks.specs.Finds.{Search}
-use Rattle.rx_walks.specs.ProgramFinds.{ProgramMatches, highest}
+use Rattle.rx_walks.specs.ProgramFinds.{ProgramMatches, lowest, highest}
 use Rattle.rx_walks.specs.Leading.{LeadsToMatch, Follows}
 use Rattle.rx_walks.specs.Listings.{Listing}
 use Rattle.rx_walks.specs.LeadLaws.{begins_from}
@@ -13,6 +13,7 @@ use Rattle.rx_program.specs.Programs.{ByteProgram, characters_of}
 use Rattle.rx_steps.specs.Threads.{Slots, no_slots, first_node}
 use Rattle.rx_steps.specs.Searching.{slots_from}
 use Rattle.rx_steps.specs.Coming.{machine_in}
+use Rattle.rx_lists.specs.declared.walk.Ending.{Ending}
 
 -- a match: its pattern, where it ends, and the places that are noted in its slots
 pub record Listed : Type 0 where
@@ -68,3 +69,23 @@ IsTaken p s q len i found after from (Some end) =
 -- a bound on how often places are visited from here on: each twice, the last match's end once more
 abbrev pub places_left : List ℕ → ℕ → Bool → ℕ
 places_left content i after = (length content + 1 - i) * 2 + cond after 0 1
+
+-- ---- how many places are read
+
+-- the number of the places inside span, slice and content
+abbrev pub places_in : Search → ℕ
+places_in s = highest s + 1 - lowest s
+
+-- how many are read at most where a find is asked for at a place: that one, and those of its walk
+abbrev pub reads_for : ℕ → Option Ending → ℕ
+reads_for i None = 1
+reads_for i (Some e) = 1 + (e.end + 1 - i)
+
+-- where what was found ends, or else a place
+abbrev pub end_or : Option Ending → ℕ → ℕ
+end_or None i = i
+end_or (Some e) i = e.end
+
+-- a bound on how many are read before a place: four of each, and two more where a match ended there
+abbrev pub read_before : Search → ℕ → Bool → ℕ
+read_before s i after = 4 * (i - lowest s) + cond after 2 0

@@ -1,5 +1,5 @@
 -- Sets of nodes of a program.
-use Rattle.std.specs.Prelude.{◌≡◌, ◌↔◌, ℕ, ◌<◌, ◌≤◌, ◌++◌, Bool, true, false, List, [], ◌∷◌, length, Some, slice_get, Contains}
+use Rattle.std.specs.Prelude.{◌≡◌, ◌↔◌, ◌⊎◌, ℕ, ◌<◌, ◌≤◌, ◌++◌, Bool, true, false, List, [], ◌∷◌, length, Some, slice_get, Contains}
 use Rattle.rx_program.specs.declared.states.State.{State}
 use Rattle.rx_steps.specs.Nodes.{index_from, end_from, width_of}
 
@@ -21,6 +21,13 @@ abbrev pub IsAdded : List ℕ → List (ℕ × ℕ) → ℕ × ℕ → Bool → 
 IsAdded widths old q true new = (new ≡ old ++ q ∷ []) × (length new ≤ end_from 0 widths)
 IsAdded widths old q false new = (new ≡ old)
     × ((k : ℕ) → index_from 0 widths q.0 q.1 ≡ Some k → Contains old q)
+
+-- a node came in if it was asked for and has an index, and no other one did
+pub record IsAddedIf (widths : List ℕ) (old : List (ℕ × ℕ)) (x : ℕ × ℕ) (is_asked : Bool)
+    (new : List (ℕ × ℕ)) : Type 0 where
+  pub only : (q : ℕ × ℕ) → Contains new q → Contains old q ⊎ ((x ≡ q) × (is_asked ≡ true))
+  pub others : (q : ℕ × ℕ) → Contains old q → Contains new q
+  pub there : (k : ℕ) → is_asked ≡ true → index_from 0 widths x.0 x.1 ≡ Some k → Contains new x
 
 -- all nodes of a program's states are among these
 abbrev pub AreAllNodes : List State → List (ℕ × ℕ) → Type 0

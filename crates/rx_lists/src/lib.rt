@@ -3,9 +3,11 @@
 //! along the one walk that is due.
 #![tactic(auto)]
 
+mod bits;
+mod blocks;
 mod leading;
 mod lists;
-mod node_lists;
+mod node_index;
 mod node_set;
 mod pass_back;
 mod walk;

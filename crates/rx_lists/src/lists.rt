@@ -1,6 +1,6 @@
 //! The list of all matches.
 
-ghost use Rattle.std.specs.Prelude.{◌≡◌, ◌↔◌, ◌+◌, ◌^◌, ◌<◌, ◌≤◌, Bool, ℕ, IsTrue, IfOk, IfErr, IfSome, IsSomeAnd, Some, None, true, false, length, map, max};
+ghost use Rattle.std.specs.Prelude.{◌≡◌, ◌↔◌, ◌+◌, ◌*◌, ◌^◌, ◌<◌, ◌≤◌, Bool, ℕ, IsTrue, IfOk, IfErr, IfSome, OnOk, IsSomeAnd, Some, None, true, false, length, map, max};
 ghost use Rattle.rx_util.specs.declared.search.MatchError.{MatchError};
 ghost use Rattle.rx_walks.specs.Finds.{IsInside, Search};
 ghost use Rattle.rx_program.specs.Programs.{ByteProgram};
@@ -9,12 +9,13 @@ ghost use Rattle.rx_walks.specs.ProgramFinds.{highest};
 ghost use Rattle.rx_input.specs.Cursors.{IsSameContent};
 ghost use Rattle.rx_input.specs.Inputs.{IsMoved};
 ghost use Rattle.rx_steps.specs.Searching.{search_of};
-ghost use Rattle.rx_lists.specs.Passes.{AreListed, IsWalking, outcome_of};
-ghost use Rattle.rx_lists.specs.Lists.{AreAllMatches, AreListedTo, IsFoundAt, IsTaken, Lists, outcome_of_listed};
+ghost use Rattle.rx_lists.specs.Blocks.{AreBlocks, Reaches};
+ghost use Rattle.rx_lists.specs.Passes.{IsWalking, outcome_of};
+ghost use Rattle.rx_lists.specs.Lists.{AreAllMatches, AreListedTo, IsFoundAt, IsTaken, Lists, end_or, outcome_of_listed, places_in, reads_for};
 
-use crate::node_lists::NodeLists;
-use crate::pass_back::PassBack;
+use crate::blocks::Blocks;
 use crate::walk::{Ending, Walk};
+use counters::Counter;
 use rx_input::{Cursor, Input};
 use rx_program::Program;
 use rx_sets::CharacterSet;
@@ -90,33 +91,34 @@ fn enter_last<C: Cursor>(input: &mut Input<C>) -> bool
     input.get_slice().start.max(input.start()) <= input.position()
 }
 
-/// From where walks of a list start and how far they may go: the last place, the state and its
-/// number of slots, and whether empty matches inside a character are passed over.
+/// From where walks of a list start: the state and its number of slots, and whether empty matches
+/// inside a character are passed over.
 #[derive(Clone, Copy, Debug)]
 struct Walking {
-    last: usize,
     start: StateID,
     slot_len: usize,
     utf8_empty: bool,
 }
 
 /// Whether a match starts where an input stands, by a find that began at a place, and where it
-/// ends: the walk has its slots then. The input may stand elsewhere.
+/// ends: the walk has its slots then. The input may stand elsewhere. The block at hand reaches back
+/// to the place, and then to where the list goes on. The place is read, and where a match starts,
+/// those of its walk, besides those of the blocks that are made anew.
 fn find_at<C: Cursor>(
     walk: &mut Walk,
     program: &Program,
     input: &mut Input<C>,
-    lists: &NodeLists,
+    blocks: &mut Blocks,
     of: &Walking,
     from: usize,
+    read: &mut Counter,
 ) -> Result<Option<Ending>, MatchError>
-    requires ready { IsWalking program.now walk.old.stepper.widths walk.old.asks_looks
-        walk.old.leading.widths }
-    requires lists { (utf8_empty : Bool) → AreListed program.now
-        (search_of utf8_empty input.old) of.now.last lists.now }
-    requires last { (utf8_empty : Bool) → of.now.last ≡ highest (search_of utf8_empty input.old) }
+    requires ready { IsWalking program.now walk.old.stepper.widths walk.old.asks_looks }
+    requires blocks { (utf8_empty : Bool) → AreBlocks program.now
+        (search_of utf8_empty input.old) blocks.old }
     requires inside { (utf8_empty : Bool)
         → IsInside (search_of utf8_empty input.old) input.old.position }
+    requires reaches { Reaches blocks.old.block input.old.position }
     requires from { from ≤ input.old.position }
     ensures found { IfOk result (λ found. IsFoundAt program.now
         (search_of of.now.utf8_empty input.old) of.now.start of.now.slot_len from input.old.position
@@ -124,20 +126,31 @@ fn find_at<C: Cursor>(
     ensures inside { IfOk result (λ found. IfSome found (λ e.
         (input.old.position ≤ e.end) × ((utf8_empty : Bool)
         → IsInside (search_of utf8_empty input.old) e.end))) }
-    ensures ready { IsWalking program.now walk.new.stepper.widths walk.new.asks_looks
-        walk.new.leading.widths }
+    ensures ready { IsWalking program.now walk.new.stepper.widths walk.new.asks_looks }
+    ensures blocks { OnOk result ((utf8_empty : Bool) → AreBlocks program.now
+        (search_of utf8_empty input.old) blocks.new) }
+    ensures reaches { IfOk result (λ found. Reaches blocks.new.block
+        (end_or found input.old.position)) }
     ensures same { IsSameContent input.old.cursor input.new.cursor }
     ensures asked { input.new.asked ≡ input.old.asked }
     ensures refused { IfErr result (λ error. error ≡ MatchError.Memory) }
+    ensures counted { IfOk result (λ found. read.new + blocks.old.block.top
+        ≤ read.old + blocks.new.block.top + reads_for input.old.position found) }
+    ensures bound { (utf8_empty : Bool) → read.new + blocks.old.block.top + input.old.position
+        ≤ read.old + blocks.new.block.top + highest (search_of utf8_empty input.old) + 2 }
+    ensures last { (utf8_empty : Bool)
+        → blocks.new.block.top ≤ highest (search_of utf8_empty input.old) }
 {
+    read.add();
     if !may_begin(input, from, of.utf8_empty) {
         return Ok(None);
     }
-    walk.leading.load(lists.list(of.last - input.position()))?;
-    if !walk.leading.has(Node::first(of.start)) {
+    blocks.come_to(program, input, read)?;
+    let set = blocks.set(input.position());
+    if !blocks.pass.index.has(set, Node::first(of.start)) {
         return Ok(None);
     }
-    walk.follow(program, input, lists, of.last, of.start, of.slot_len)
+    walk.follow(program, input, blocks, of.start, of.slot_len, read)
 }
 
 /// The matches that were listed so far, where the find of the next one began, and whether a match
@@ -185,6 +198,8 @@ impl Progress {
             IsSomeAnd found (λ e. e.end ≡ end))) }
         ensures further { IfOk result (λ goes_on. IfSome goes_on (λ end.
             self.old.after ≡ true → end ≡ at → ⊥)) }
+        ensures passed { IfOk result (λ goes_on. goes_on ≡ None
+            → IfSome found (λ e. e.end ≡ at)) }
         ensures refused { IfErr result (λ error. error ≡ MatchError.Memory) }
     {
         let Some(ending) = found else {
@@ -239,14 +254,14 @@ fn list_all<C: Cursor>(
     walk: &mut Walk,
     program: &Program,
     input: &mut Input<C>,
-    lists: &NodeLists,
+    blocks: &mut Blocks,
     of: &Walking,
+    read: &mut Counter,
 ) -> Result<Vec<ListedMatch>, MatchError>
-    requires ready { IsWalking program.now walk.old.stepper.widths walk.old.asks_looks
-        walk.old.leading.widths }
-    requires lists { (utf8_empty : Bool) → AreListed program.now
-        (search_of utf8_empty input.old) of.now.last lists.now }
-    requires last { (utf8_empty : Bool) → of.now.last ≡ highest (search_of utf8_empty input.old) }
+    requires ready { IsWalking program.now walk.old.stepper.widths walk.old.asks_looks }
+    requires blocks { (utf8_empty : Bool) → AreBlocks program.now
+        (search_of utf8_empty input.old) blocks.old }
+    requires reaches { Reaches blocks.old.block input.old.position }
     requires inside { (utf8_empty : Bool)
         → IsInside (search_of utf8_empty input.old) input.old.position }
     requires first { input.old.position
@@ -258,6 +273,8 @@ fn list_all<C: Cursor>(
     ensures same { IsSameContent input.old.cursor input.new.cursor }
     ensures asked { input.new.asked ≡ input.old.asked }
     ensures refused { IfErr result (λ error. error ≡ MatchError.Memory) }
+    ensures counted { (utf8_empty : Bool) → read.new
+        ≤ read.old + 5 * places_in (search_of utf8_empty input.old) }
 {
     let mut progress = Progress {
         found: Vec::new(alloc),
@@ -266,7 +283,7 @@ fn list_all<C: Cursor>(
     };
     loop {
         let at = input.position();
-        let found = find_at(walk, program, input, lists, of, progress.from)?;
+        let found = find_at(walk, program, input, blocks, of, progress.from, read)?;
         let end = progress.take(alloc, at, found, walk.stepper.slots())?;
         if !go_on(input, at, end) {
             return Ok(progress.found);
@@ -279,22 +296,31 @@ fn list_all<C: Cursor>(
 /// is passed over. `utf8_empty` passes over empty matches inside a character. The one refusal is
 /// `Memory`.
 ///
-/// It reads the span once back, and forward each place a few times at most, however far the finds
-/// would read. Back it looks at all nodes of the program at each place, over and over until none
-/// more leads: at worst once for each node. It takes memory for the nodes that lead from each place
-/// of the span.
+/// Which nodes of the program lead to a match is told back from the span's end. Of that the sets of
+/// places at distances are kept, and those between are made anew, a block at a time, as the list
+/// comes to them: a distance is the square root of the span's length, and at least 4,096 places. So
+/// it takes memory for the matches, and for as many bits as the program has nodes for each place of
+/// one block and for each distance.
+///
+/// `read` counts each place that is read: once back, at most once more for the blocks, and forward
+/// where a match may start and where a walk comes by. With them the one before and the one behind
+/// may be looked at, where looks are asked for. However far single finds would read, six times the
+/// number of places inside span, slice and content are read at most, also where memory is refused.
 pub fn list_matches<C: Cursor>(
     alloc: Global,
     program: &Program,
     slot_len: usize,
     input: &mut Input<C>,
     utf8_empty: bool,
+    read: &mut Counter,
 ) -> Result<Vec<ListedMatch>, MatchError>
     ensures listed { IfOk result (λ found. AreAllMatches program.now
         (search_of utf8_empty input.old) slot_len found.items) }
     ensures same { IsSameContent input.old.cursor input.new.cursor }
     ensures asked { input.new.asked ≡ input.old.asked }
     ensures refused { IfErr result (λ error. error ≡ MatchError.Memory) }
+    ensures counted { read.new
+        ≤ read.old + 6 * places_in (search_of utf8_empty input.old) }
 {
     let Some(start) = start_state(program, input.get_anchored()) else {
         return Ok(Vec::new(alloc));
@@ -305,14 +331,12 @@ pub fn list_matches<C: Cursor>(
     if !enter_last(input) {
         return Ok(Vec::new(alloc));
     }
-    let last = input.position();
-    let lists = PassBack::new(alloc, program)?.pass_all(alloc, program, input)?;
+    let mut blocks = Blocks::new(alloc, program, input, read)?;
     let mut walk = Walk::new(alloc, program)?;
     let of = Walking {
-        last,
         start,
         slot_len,
         utf8_empty,
     };
-    list_all(alloc, &mut walk, program, input, &lists, &of)
+    list_all(alloc, &mut walk, program, input, &mut blocks, &of, read)
 }

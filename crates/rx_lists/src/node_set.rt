@@ -3,8 +3,11 @@
 ghost use Rattle.std.specs.Prelude.{◌≡◌, ◌↔◌, ◌<◌, ℕ, [], Some, Contains, IsTrue, IfOk, IfErr, OnOk};
 ghost use Rattle.rx_util.specs.declared.search.MatchError.{MatchError};
 ghost use Rattle.rx_steps.specs.Nodes.{widths_of, width_of, index_from};
-ghost use Rattle.rx_lists.specs.Sets.{AreAllNodes, IsAdded};
+ghost use Rattle.rx_lists.specs.Sets.{AreAllNodes, IsAdded, IsAddedIf};
+ghost use Rattle.rx_lists.specs.Bits.{HasNode};
 
+use crate::bits::Bits;
+use crate::node_index::NodeIndex;
 use rx_program::{Program, State};
 use rx_steps::{Node, Visited};
 use rx_util::{MatchError, StateID};
@@ -90,17 +93,35 @@ impl NodeSet {
 }
 
 impl NodeSet {
-    /// Takes all nodes out, and puts these in that have an index.
-    pub(crate) fn load(&mut self, nodes: &[Node]) -> Result<(), AllocError>
+    /// Adds a node where it is asked for, if it has an index and is no member yet.
+    fn add_if(&mut self, node: Node, is_asked: bool) -> Result<(), AllocError>
+        ensures added { OnOk result (IsAddedIf self.old.widths self.old.nodes node is_asked
+            self.new.nodes) }
+        ensures widths { self.new.widths ≡ self.old.widths }
+    {
+        if is_asked {
+            self.add(node)?;
+        }
+        Ok(())
+    }
+
+    /// Takes all nodes out, and puts in those of these that are in a set and have an index.
+    pub(crate) fn load(
+        &mut self,
+        nodes: &[Node],
+        index: &NodeIndex,
+        set: &Bits,
+    ) -> Result<(), AllocError>
         ensures these { OnOk result ((q : ℕ × ℕ) → Contains self.new.nodes q
-            → Contains nodes.now q) }
+            → HasNode index.now set.now q) }
         ensures all { OnOk result ((q : ℕ × ℕ) (k : ℕ) → Contains nodes.now q
-            → index_from 0 self.old.widths q.0 q.1 ≡ Some k → Contains self.new.nodes q) }
+            → HasNode index.now set.now q → index_from 0 self.old.widths q.0 q.1 ≡ Some k
+            → Contains self.new.nodes q) }
         ensures widths { self.new.widths ≡ self.old.widths }
     {
         self.clear();
         for node in nodes {
-            self.add(*node)?;
+            self.add_if(*node, index.has(set, *node))?;
         }
         Ok(())
     }

@@ -1,17 +1,23 @@
 //! The pass back over a content: which nodes lead from each of its places.
 
-ghost use Rattle.std.specs.Prelude.{◌≡◌, ◌+◌, Bool, [], IfOk, IfErr, OnOk, max};
+ghost use Rattle.std.specs.Prelude.{◌≡◌, ◌+◌, ◌≤◌, Bool, ℕ, [], IfOk, IfErr, OnOk, length};
 ghost use Rattle.rx_util.specs.declared.search.MatchError.{MatchError};
-ghost use Rattle.rx_walks.specs.Finds.{IsInside};
+ghost use Rattle.rx_walks.specs.Finds.{IsInside, Search};
+ghost use Rattle.rx_walks.specs.ProgramFinds.{lowest};
+ghost use Rattle.rx_program.specs.Programs.{ByteProgram};
 ghost use Rattle.rx_input.specs.Inputs.{IsMoved};
 ghost use Rattle.rx_input.specs.Cursors.{IsSameContent};
 ghost use Rattle.rx_steps.specs.Searching.{search_of};
-ghost use Rattle.rx_lists.specs.Leading.{AreLeading};
-ghost use Rattle.rx_lists.specs.Passes.{AreListed, IsReady};
+ghost use Rattle.rx_lists.specs.Bits.{IsKept};
+ghost use Rattle.rx_lists.specs.Leading.{AreKnown, AreLeading};
+ghost use Rattle.rx_lists.specs.LeadingSets.{AreLeadingSets, IsLeadingSet};
+ghost use Rattle.rx_lists.specs.Passes.{IsReady};
 
+use crate::bits::Bits;
 use crate::leading::fill;
-use crate::node_lists::NodeLists;
+use crate::node_index::NodeIndex;
 use crate::node_set::{NodeSet, all_nodes};
+use counters::Counter;
 use rx_input::{Cursor, Input};
 use rx_program::Program;
 use rx_steps::{AskedLooks, Node, Place};
@@ -19,11 +25,21 @@ use rx_util::MatchError;
 use std::alloc::{AllocError, Global};
 use std::mem;
 
+/// The nodes that lead from each place of a block.
+#[derive(Debug, Drop)]
+pub(crate) struct Block {
+    // Its last place.
+    pub(crate) top: usize,
+    // Those that lead from there, from the place before, and so on.
+    pub(crate) sets: Vec<Bits>,
+}
+
 /// What the pass back needs room for.
 #[derive(Debug, Drop)]
 pub(crate) struct PassBack {
-    // All nodes of the program.
+    // All nodes of the program, and their numbers.
     pub(crate) order: Vec<Node>,
+    pub(crate) index: NodeIndex,
     // Whether the program asks for looks.
     pub(crate) asks_looks: bool,
     // The nodes that lead from the place that was passed last.
@@ -36,13 +52,13 @@ impl PassBack {
     /// Room for passes over contents with a program, of which none was made. The one refusal is
     /// `Memory`.
     pub(crate) fn new(alloc: Global, program: &Program) -> Result<PassBack, MatchError>
-        ensures ready { IfOk result (λ pass. IsReady program.now pass.order.items pass.asks_looks
-            pass.here.widths pass.beyond.widths) }
+        ensures ready { IfOk result (λ pass. IsReady program.now pass) }
         ensures empty { IfOk result (λ pass. pass.here.nodes ≡ []) }
         ensures refused { IfErr result (λ error. error ≡ MatchError.Memory) }
     {
         Ok(PassBack {
             order: all_nodes(alloc, program)?,
+            index: NodeIndex::new(alloc, program)?,
             asks_looks: AskedLooks::of(program.states()).any,
             here: NodeSet::new(alloc, program)?,
             beyond: NodeSet::new(alloc, program)?,
@@ -50,56 +66,92 @@ impl PassBack {
     }
 
     /// Passes the place at which an input stands: where the nodes here lead from the next place,
-    /// those that are here then lead from it.
-    fn pass<C: Cursor>(&mut self, program: &Program, input: &mut Input<C>) -> Result<(), AllocError>
-        requires ready { IsReady program.now self.old.order.items self.old.asks_looks
-            self.old.here.widths self.old.beyond.widths }
+    /// those that are here then lead from it. One more place is read.
+    pub(crate) fn pass<C: Cursor>(
+        &mut self,
+        program: &Program,
+        input: &mut Input<C>,
+        read: &mut Counter,
+    ) -> Result<(), AllocError>
+        requires ready { IsReady program.now self.old }
         ensures leading { OnOk result ((utf8_empty : Bool)
             → IsInside (search_of utf8_empty input.old) input.old.position
             → AreLeading program.now (search_of utf8_empty input.old) (input.old.position + 1)
             self.old.here.nodes
             → AreLeading program.now (search_of utf8_empty input.old) input.old.position
             self.new.here.nodes) }
-        ensures ready { IsReady program.now self.new.order.items self.new.asks_looks
-            self.new.here.widths self.new.beyond.widths }
+        ensures ready { IsReady program.now self.new }
         ensures same { IsMoved input.old input.new input.old.position input.old.asked }
+        ensures counted { read.new ≡ read.old + 1 }
     {
+        read.add();
         let place = Place::of(input, program.line_terminator(), self.asks_looks);
         mem::swap(&mut self.here, &mut self.beyond);
         fill(program, &place, &self.order, &self.beyond, &mut self.here)
     }
 
-    /// Passes all places from the one at which an input stands back to the first one inside, and
-    /// answers the nodes that lead from each of them, the last place first.
-    pub(crate) fn pass_all<C: Cursor>(
+    /// Takes the nodes of a set for those that lead.
+    pub(crate) fn load(&mut self, set: &Bits) -> Result<(), AllocError>
+        ensures leading { OnOk result ((p : ByteProgram) (s : Search) (i : ℕ)
+            → IsReady p self.old → IsLeadingSet p s i set.now
+            → AreLeading p s i self.new.here.nodes) }
+        ensures ready { (p : ByteProgram) → IsReady p self.old → IsReady p self.new }
+    {
+        self.here.load(&self.order, &self.index, set)
+    }
+
+    /// Puts the set of the nodes here behind others.
+    pub(crate) fn keep(&self, sets: &mut Vec<Bits>) -> Result<(), AllocError>
+        ensures { OnOk result (IsKept self.now.index self.now.here.nodes sets.old.items
+            sets.new.items) }
+    {
+        let alloc = *sets.allocator();
+        sets.push(self.index.set_of(alloc, self.here.nodes())?)?;
+        Ok(())
+    }
+
+    /// Makes a block from the place at which an input stands, from which the nodes here lead, back
+    /// to another place. All its places but the first one are read.
+    pub(crate) fn pass_block<C: Cursor>(
         &mut self,
-        alloc: Global,
         program: &Program,
         input: &mut Input<C>,
-    ) -> Result<NodeLists, AllocError>
-        requires ready { IsReady program.now self.old.order.items self.old.asks_looks
-            self.old.here.widths self.old.beyond.widths }
+        bottom: usize,
+        block: &mut Block,
+        read: &mut Counter,
+    ) -> Result<(), AllocError>
+        requires ready { IsReady program.now self.old }
         requires inside { (utf8_empty : Bool)
             → IsInside (search_of utf8_empty input.old) input.old.position }
+        requires bottom { (utf8_empty : Bool) → lowest (search_of utf8_empty input.old) ≤ bottom }
+        requires above { bottom ≤ input.old.position }
         requires leading { (utf8_empty : Bool) → AreLeading program.now
-            (search_of utf8_empty input.old) (input.old.position + 1) self.old.here.nodes }
-        ensures lists { IfOk result (λ lists. (utf8_empty : Bool) → AreListed program.now
-            (search_of utf8_empty input.old) input.old.position lists) }
-        ensures first { OnOk result (input.new.position
-            ≡ max input.old.asked.slice.start input.old.asked.span.start) }
+            (search_of utf8_empty input.old) input.old.position self.old.here.nodes }
+        requires known { (utf8_empty : Bool) → AreKnown program.now
+            (search_of utf8_empty input.old) input.old.position }
+        ensures sets { OnOk result ((utf8_empty : Bool) → AreLeadingSets program.now
+            (search_of utf8_empty input.old) input.old.position 1 block.new.sets.items) }
+        ensures count { OnOk result (length block.new.sets.items + bottom
+            ≡ input.old.position + 1) }
+        ensures top { block.new.top ≡ input.old.position }
+        ensures leading { OnOk result ((utf8_empty : Bool) → AreLeading program.now
+            (search_of utf8_empty input.old) bottom self.new.here.nodes) }
+        ensures known { OnOk result ((utf8_empty : Bool) → AreKnown program.now
+            (search_of utf8_empty input.old) bottom) }
+        ensures ready { IsReady program.now self.new }
+        ensures bottom { OnOk result (input.new.position ≡ bottom) }
         ensures same { IsSameContent input.old.cursor input.new.cursor }
         ensures asked { input.new.asked ≡ input.old.asked }
+        ensures counted { read.new + bottom ≤ read.old + input.old.position }
     {
-        let first = input.get_slice().start.max(input.start());
-        let mut lists = NodeLists::new(alloc);
-        loop {
-            self.pass(program, input)?;
-            lists.push(self.here.nodes())?;
-            let at = input.position();
-            if at <= first {
-                return Ok(lists);
-            }
-            input.move_to(at - 1);
+        block.top = input.position();
+        block.sets.clear();
+        self.keep(&mut block.sets)?;
+        while input.position() > bottom {
+            input.move_to(input.position() - 1);
+            self.pass(program, input, read)?;
+            self.keep(&mut block.sets)?;
         }
+        Ok(())
     }
 }

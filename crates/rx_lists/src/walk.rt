@@ -1,6 +1,6 @@
 //! The pass forward: the one walk that is due, over nodes that lead alone.
 
-ghost use Rattle.std.specs.Prelude.{◌≡◌, ◌<◌, ◌≤◌, Bool, [], ◌∷◌, All, IfOk, IfErr, IfSome, OnOk, IsSomeAnd, length, slice_get};
+ghost use Rattle.std.specs.Prelude.{◌≡◌, ◌+◌, ◌<◌, ◌≤◌, Bool, [], ◌∷◌, All, IfOk, IfErr, IfSome, OnOk, IsSomeAnd, length, slice_get};
 ghost use Rattle.rx_util.specs.declared.search.MatchError.{MatchError};
 ghost use Rattle.rx_walks.specs.Finds.{IsInside};
 ghost use Rattle.rx_walks.specs.Steps.{Steps};
@@ -12,22 +12,26 @@ ghost use Rattle.rx_steps.specs.Searching.{search_of};
 ghost use Rattle.rx_steps.specs.Threads.{Slots, IsThreadOf, no_slots, first_node};
 ghost use Rattle.rx_steps.specs.Lists.{met_at};
 ghost use Rattle.rx_steps.specs.Coming.{machine_in};
-ghost use Rattle.rx_lists.specs.Passes.{AreListed, IsFirstAmong, IsWalking, outcome_of};
+ghost use Rattle.rx_lists.specs.Bits.{HasNode};
+ghost use Rattle.rx_lists.specs.Blocks.{AreBlocks, Reaches};
+ghost use Rattle.rx_lists.specs.Passes.{IsFirstAmong, IsWalking, outcome_of};
 
-use crate::node_lists::NodeLists;
-use crate::node_set::NodeSet;
+use crate::bits::Bits;
+use crate::blocks::Blocks;
+use crate::node_index::NodeIndex;
+use counters::Counter;
 use rx_input::{Cursor, Input};
 use rx_program::Program;
 use rx_steps::{AskedLooks, Node, Place, Stepper, ThreadList, advance};
 use rx_util::{MatchError, PatternID, StateID};
 use std::alloc::{AllocError, Global};
 
-/// The number of the first thread that stands at one of the nodes.
-fn first_among(threads: &ThreadList, nodes: &NodeSet) -> Option<usize>
-    ensures { IsFirstAmong threads.now.threads nodes.now.nodes result }
+/// The number of the first thread that stands at a node of a set.
+fn first_among(threads: &ThreadList, index: &NodeIndex, set: &Bits) -> Option<usize>
+    ensures { IsFirstAmong threads.now.threads (λ q. HasNode index.now set.now q) result }
 {
     for number in 0..threads.len() {
-        if nodes.has(threads.node(number)) {
+        if index.has(set, threads.node(number)) {
             return Some(number);
         }
     }
@@ -61,15 +65,13 @@ pub(crate) struct Walk {
     live: ThreadList,
     // Room for those at the next place.
     next: ThreadList,
-    // The nodes that lead from that.
-    pub(crate) leading: NodeSet,
 }
 
 impl Walk {
     /// Room for walks through a program. The one refusal is `Memory`.
     pub(crate) fn new(alloc: Global, program: &Program) -> Result<Walk, MatchError>
         ensures ready { IfOk result (λ walk. IsWalking program.now walk.stepper.widths
-            walk.asks_looks walk.leading.widths) }
+            walk.asks_looks) }
         ensures refused { IfErr result (λ error. error ≡ MatchError.Memory) }
     {
         Ok(Walk {
@@ -77,7 +79,6 @@ impl Walk {
             asks_looks: AskedLooks::of(program.states()).any,
             live: ThreadList::new(alloc, 0),
             next: ThreadList::new(alloc, 0),
-            leading: NodeSet::new(alloc, program)?,
         })
     }
 
@@ -88,20 +89,21 @@ impl Walk {
         ensures slot_len { self.new.live.slot_len ≡ slot_len }
         ensures stepper { self.new.stepper ≡ self.old.stepper }
         ensures asks_looks { self.new.asks_looks ≡ self.old.asks_looks }
-        ensures leading { self.new.leading ≡ self.old.leading }
     {
         self.live.clear(slot_len);
         self.live.push_fresh(Node::first(start))
     }
 
-    /// The step from the place at which an input stands: the threads at the next place.
+    /// The step from the place at which an input stands: the threads at the next place. One more
+    /// place is read.
     fn step<C: Cursor>(
         &mut self,
         program: &Program,
         input: &mut Input<C>,
+        read: &mut Counter,
     ) -> Result<Option<PatternID>, MatchError>
-        requires ready { IsWalking program.now self.old.stepper.widths self.old.asks_looks
-            self.old.leading.widths }
+        requires ready { IsWalking program.now self.old.stepper.widths
+            self.old.asks_looks }
         requires threads { All (IsThreadOf program.now.states) self.old.live.threads }
         ensures steps { IfOk result (λ met. (utf8_empty : Bool)
             → IsInside (search_of utf8_empty input.old) input.old.position
@@ -109,12 +111,14 @@ impl Walk {
             self.old.live.threads self.new.next.threads
             (met_at input.old.position met self.new.stepper.slots)) }
         ensures threads { OnOk result (All (IsThreadOf program.now.states) self.new.next.threads) }
-        ensures ready { IsWalking program.now self.new.stepper.widths self.new.asks_looks
-            self.new.leading.widths }
+        ensures ready { IsWalking program.now self.new.stepper.widths
+            self.new.asks_looks }
         ensures slot_len { self.new.next.slot_len ≡ self.old.live.slot_len }
         ensures same { IsMoved input.old input.new input.old.position input.old.asked }
         ensures refused { IfErr result (λ error. error ≡ MatchError.Memory) }
+        ensures counted { read.new ≡ read.old + 1 }
     {
+        read.add();
         let place = Place::of(input, program.line_terminator(), self.asks_looks);
         self.stepper
             .next_list(program, &place, &self.live, &mut self.next)
@@ -128,7 +132,6 @@ impl Walk {
         ensures slot_len { self.new.live.slot_len ≡ self.old.next.slot_len }
         ensures stepper { self.new.stepper ≡ self.old.stepper }
         ensures asks_looks { self.new.asks_looks ≡ self.old.asks_looks }
-        ensures leading { self.new.leading ≡ self.old.leading }
     {
         self.live.clear(self.next.slot_len());
         self.live
@@ -137,23 +140,24 @@ impl Walk {
 
     /// Follows the walk from a state at the place at which an input stands, with so many slots:
     /// answers where the match ends that it comes to, if it comes to one, and has its slots. The
-    /// lists are of the nodes that lead from the last place of the span on back.
+    /// block at hand reaches back to that place, and then to the match's end. Each place up to there
+    /// is read once, besides those of the blocks that are made anew.
     pub(crate) fn follow<C: Cursor>(
         &mut self,
         program: &Program,
         input: &mut Input<C>,
-        lists: &NodeLists,
-        last: usize,
+        blocks: &mut Blocks,
         start: StateID,
         slot_len: usize,
+        read: &mut Counter,
     ) -> Result<Option<Ending>, MatchError>
-        requires ready { IsWalking program.now self.old.stepper.widths self.old.asks_looks
-            self.old.leading.widths }
+        requires ready { IsWalking program.now self.old.stepper.widths
+            self.old.asks_looks }
         requires inside { (utf8_empty : Bool)
             → IsInside (search_of utf8_empty input.old) input.old.position }
-        requires last { (utf8_empty : Bool) → last ≡ highest (search_of utf8_empty input.old) }
-        requires lists { (utf8_empty : Bool) → AreListed program.now
-            (search_of utf8_empty input.old) last lists.now }
+        requires blocks { (utf8_empty : Bool) → AreBlocks program.now
+            (search_of utf8_empty input.old) blocks.old }
+        requires reaches { Reaches blocks.old.block input.old.position }
         ensures followed { IfOk result (λ found. (utf8_empty : Bool)
             → Follows (machine_in program.now (search_of utf8_empty input.old)) input.old.position
             [] ((no_slots slot_len, first_node start) ∷ [])
@@ -161,21 +165,33 @@ impl Walk {
         ensures inside { IfOk result (λ found. IfSome found (λ e.
             (input.old.position ≤ e.end) × ((utf8_empty : Bool)
             → IsInside (search_of utf8_empty input.old) e.end))) }
-        ensures ready { IsWalking program.now self.new.stepper.widths self.new.asks_looks
-            self.new.leading.widths }
+        ensures ready { IsWalking program.now self.new.stepper.widths
+            self.new.asks_looks }
+        ensures blocks { OnOk result ((utf8_empty : Bool) → AreBlocks program.now
+            (search_of utf8_empty input.old) blocks.new) }
+        ensures reaches { IfOk result (λ found. IfSome found (λ e.
+            Reaches blocks.new.block e.end)) }
         ensures same { IsSameContent input.old.cursor input.new.cursor }
         ensures asked { input.new.asked ≡ input.old.asked }
         ensures refused { IfErr result (λ error. error ≡ MatchError.Memory) }
+        ensures counted { IfOk result (λ found. IfSome found (λ e.
+            read.new + blocks.old.block.top + input.old.position
+            ≤ read.old + blocks.new.block.top + e.end + 1)) }
+        ensures bound { (utf8_empty : Bool) → read.new + blocks.old.block.top + input.old.position
+            ≤ read.old + blocks.new.block.top + highest (search_of utf8_empty input.old) + 1 }
+        ensures last { (utf8_empty : Bool)
+            → blocks.new.block.top ≤ highest (search_of utf8_empty input.old) }
     {
         self.begin(start, slot_len)?;
         loop {
             let at = input.position();
-            let met = self.step(program, input)?;
+            let met = self.step(program, input, read)?;
             if !advance(input) {
                 return Ok(ending_at(met, at));
             }
-            self.leading.load(lists.list(last - input.position()))?;
-            let Some(number) = first_among(&self.next, &self.leading) else {
+            blocks.come_to(program, input, read)?;
+            let set = blocks.set(input.position());
+            let Some(number) = first_among(&self.next, &blocks.pass.index, set) else {
                 return Ok(ending_at(met, at));
             };
             self.go_on(number)?;

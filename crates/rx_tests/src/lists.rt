@@ -1,6 +1,7 @@
 //! All matches of a pattern, listed by two passes of `rx_lists`.
 
 use crate::program::compiled;
+use counters::Counter;
 use rx_input::{ChunkCursor, Input};
 use rx_lists::list_matches;
 use rx_util::PatternID;
@@ -14,7 +15,7 @@ fn lists(rt: HostRuntime) -> Result<(), Fail> {
     let program = compiled(alloc, "a*b|a")?;
     let content: [&[u8]; 3] = [b"aa", b"", b"a"];
     let mut input = Input::new(ChunkCursor::new(&content));
-    let found = list_matches(alloc, &program, 2, &mut input, true)?;
+    let found = list_matches(alloc, &program, 2, &mut input, true, &mut Counter::new())?;
     assert!(rt; found.get(1).map(|listed| listed.end()) == Some(2));
     assert!(rt; found.get(1).map(|listed| listed.pattern()) == Some(PatternID::ZERO));
     assert!(rt; found.get(1).map(|listed| listed.slots().len()) == Some(2));

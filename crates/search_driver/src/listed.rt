@@ -7,6 +7,7 @@ use crate::every::{ASKED, CUT, HAYSTACK, INSIDE, program, spelled};
 use crate::fields::{Fault, Fields, TERMINATOR};
 use crate::haystacks::{Asked, haystack, input, pieces};
 use crate::slots::tell;
+use counters::Counter;
 use rx_lists::{ListedMatch, list_matches};
 use rx_program::Program;
 use rx_util::MatchError;
@@ -27,7 +28,8 @@ fn found_in(
     let mut input = input(pieces, &Asked::read(fields, ASKED));
     let inside = fields.number(INSIDE) == Some(1);
     let count = fields.number(COUNT).unwrap_or(0);
-    list_matches(alloc, program, count, &mut input, !inside)
+    let mut read = Counter::new();
+    list_matches(alloc, program, count, &mut input, !inside, &mut read)
 }
 
 /// All matches, parted by commas, each as its pattern, where it ends, and each slot's place, or a

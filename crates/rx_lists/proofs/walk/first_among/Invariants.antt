@@ -1,7 +1,8 @@
-use Rattle.std.proofs.Common.{◌≡◌, ℕ, ◌<◌, Some, slice_get, Contains}
+use Rattle.std.proofs.Common.{◌≡◌, ℕ, ◌<◌, Some, slice_get}
 use Rattle.rx_steps.specs.Threads.{Thread}
+use Rattle.rx_lists.specs.Bits.{HasNode}
 use Rattle.rx_lists.proofs.walk.first_among.Given as goal
 
 -- none up to this one stands there
 abbrev pub invariant-loop-number : goal.invariant-loop-number
-invariant-loop-number l = (k : ℕ) (t : Thread) → k < l.number → slice_get l.threads.threads k ≡ Some t → Contains l.nodes.nodes t.1 → ⊥
+invariant-loop-number l = (k : ℕ) (t : Thread) → k < l.number → slice_get l.threads.threads k ≡ Some t → HasNode l.index l.set t.1 → ⊥

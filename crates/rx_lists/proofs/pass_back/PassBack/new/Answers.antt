@@ -6,7 +6,8 @@ use Rattle.rx_lists.proofs.pass_back.PassBack.new.Goals as goal
 pub returns-clause-ready : goal.returns-clause-ready
 returns-clause-ready c = record {
   order_is = c.in_ok-all_nodes.ensures;
+  index_is = c.in_ok-new.ensures.widths;
   looks = λ none l. subst (λ states. Asks states l → ⊥) c.states.ensures.states (none_asked _ _ c.of.ensures.any none l);
-  here_are = c.in_ok-new.ensures.widths;
-  beyond_are = c.in_ok-new-2.ensures.widths;
+  here_are = c.in_ok-new-2.ensures.widths;
+  beyond_are = c.in_ok-new-3.ensures.widths;
 }

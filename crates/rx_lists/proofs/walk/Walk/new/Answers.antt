@@ -7,5 +7,4 @@ pub returns-clause-ready : goal.returns-clause-ready
 returns-clause-ready c = record {
   widths_are = c.in_ok-new.ensures.made;
   looks = λ none l. subst (λ states. Asks states l → ⊥) c.states.ensures.states (none_asked _ _ c.of.ensures.any none l);
-  leading_are = c.in_ok-new-2.ensures.widths;
 }

@@ -1,0 +1,187 @@
+//! The nodes that lead from each place of a span, a block of places at a time.
+
+ghost use Rattle.std.specs.Prelude.{◌≡◌, ◌+◌, ◌-◌, ◌<◌, ◌≤◌, Bool, ℕ, [], Some, IfOk, IfErr, OnOk, length, max, slice_get};
+ghost use Rattle.rx_util.specs.declared.search.MatchError.{MatchError};
+ghost use Rattle.rx_walks.specs.Finds.{IsInside};
+ghost use Rattle.rx_walks.specs.ProgramFinds.{highest, lowest};
+ghost use Rattle.rx_input.specs.Cursors.{IsSameContent};
+ghost use Rattle.rx_steps.specs.Searching.{search_of};
+ghost use Rattle.rx_lists.specs.Blocks.{AreBlocks, Reaches};
+ghost use Rattle.rx_lists.specs.Leading.{AreKnown, AreLeading};
+ghost use Rattle.rx_lists.specs.Passes.{IsReady};
+
+use crate::bits::Bits;
+use crate::pass_back::{Block, PassBack};
+use counters::Counter;
+use rx_input::{Cursor, Input};
+use rx_program::Program;
+use rx_util::MatchError;
+use std::alloc::{AllocError, Global};
+
+// The least distance at which sets are kept.
+const LEAST: usize = 4096;
+
+/// The set with this number.
+fn set_in(sets: &[Bits], number: usize) -> &Bits
+    requires { number < length sets.now }
+    ensures { slice_get sets.now number ≡ Some result.now }
+{
+    &sets[number]
+}
+
+/// The nodes that lead from each place of a span: those of places at distances are kept, and those
+/// of the places between are made from these, a block at a time. A block's last place is one of
+/// those whose set is kept, and so is its first one, but in the block at the span's start.
+#[derive(Debug, Drop)]
+pub(crate) struct Blocks {
+    // Room for passes back.
+    pub(crate) pass: PassBack,
+    // The first and the last place of the span.
+    pub(crate) first: usize,
+    pub(crate) last: usize,
+    // The distance.
+    pub(crate) every: usize,
+    // The nodes that lead from the last place, from the one that lies the distance before it, and
+    // so on.
+    pub(crate) kept: Vec<Bits>,
+    // The block at hand.
+    pub(crate) block: Block,
+}
+
+impl Blocks {
+    /// Passes all places from the last one inside, at which an input stands, back to the first one,
+    /// and has the block there at hand. The one refusal is `Memory`.
+    pub(crate) fn new<C: Cursor>(
+        alloc: Global,
+        program: &Program,
+        input: &mut Input<C>,
+        read: &mut Counter,
+    ) -> Result<Blocks, MatchError>
+        requires inside { (utf8_empty : Bool)
+            → IsInside (search_of utf8_empty input.old) input.old.position }
+        requires last { (utf8_empty : Bool)
+            → input.old.position ≡ highest (search_of utf8_empty input.old) }
+        ensures blocks { IfOk result (λ blocks. (utf8_empty : Bool) → AreBlocks program.now
+            (search_of utf8_empty input.old) blocks) }
+        ensures reaches { IfOk result (λ blocks. Reaches blocks.block input.new.position) }
+        ensures first { IfOk result (λ blocks. input.new.position
+            ≡ max input.old.asked.slice.start input.old.asked.span.start) }
+        ensures same { IsSameContent input.old.cursor input.new.cursor }
+        ensures asked { input.new.asked ≡ input.old.asked }
+        ensures refused { IfErr result (λ error. error ≡ MatchError.Memory) }
+        ensures counted { (utf8_empty : Bool) → read.new + lowest (search_of utf8_empty input.old)
+            ≤ read.old + input.old.position + 1 }
+    {
+        let first = input.get_slice().start.max(input.start());
+        let last = input.position();
+        let mut blocks = Blocks {
+            pass: PassBack::new(alloc, program)?,
+            first,
+            last,
+            every: (last - first).isqrt().max(LEAST),
+            kept: Vec::new(alloc),
+            block: Block {
+                top: last,
+                sets: Vec::new(alloc),
+            },
+        };
+        blocks.pass.pass(program, input, read)?;
+        blocks.pass_all(program, input, read)?;
+        Ok(blocks)
+    }
+
+    /// The first place of the block that ends at a place.
+    fn bottom(&self, top: usize) -> usize
+        ensures { result ≡ max self.now.first (top - self.now.every) }
+    {
+        self.first.max(top.saturating_sub(self.every))
+    }
+
+    /// Passes all blocks back to the first one, from the place at which an input stands.
+    fn pass_all<C: Cursor>(
+        &mut self,
+        program: &Program,
+        input: &mut Input<C>,
+        read: &mut Counter,
+    ) -> Result<(), AllocError>
+        requires ready { IsReady program.now self.old.pass }
+        requires inside { (utf8_empty : Bool)
+            → IsInside (search_of utf8_empty input.old) input.old.position }
+        requires leading { (utf8_empty : Bool) → AreLeading program.now
+            (search_of utf8_empty input.old) input.old.position self.old.pass.here.nodes }
+        requires known { (utf8_empty : Bool) → AreKnown program.now
+            (search_of utf8_empty input.old) input.old.position }
+        requires first { (utf8_empty : Bool)
+            → self.old.first ≡ lowest (search_of utf8_empty input.old) }
+        requires last { (utf8_empty : Bool)
+            → self.old.last ≡ highest (search_of utf8_empty input.old) }
+        requires there { input.old.position ≡ self.old.last }
+        requires spaced { 0 < self.old.every }
+        requires none { self.old.kept.items ≡ [] }
+        ensures blocks { OnOk result ((utf8_empty : Bool) → AreBlocks program.now
+            (search_of utf8_empty input.old) self.new) }
+        ensures reaches { OnOk result (Reaches self.new.block self.old.first) }
+        ensures first { OnOk result (input.new.position ≡ self.old.first) }
+        ensures same { IsSameContent input.old.cursor input.new.cursor }
+        ensures asked { input.new.asked ≡ input.old.asked }
+        ensures counted { read.new + self.old.first ≤ read.old + input.old.position }
+    {
+        loop {
+            self.pass.keep(&mut self.kept)?;
+            let bottom = self.bottom(input.position());
+            self.pass
+                .pass_block(program, input, bottom, &mut self.block, read)?;
+            if bottom <= self.first {
+                return Ok(());
+            }
+        }
+    }
+
+    /// Comes to the place at which an input stands, to which the block at hand reaches back: makes
+    /// the block of that place anew, from the set that is kept behind it, unless it is at hand.
+    pub(crate) fn come_to<C: Cursor>(
+        &mut self,
+        program: &Program,
+        input: &mut Input<C>,
+        read: &mut Counter,
+    ) -> Result<(), AllocError>
+        requires blocks { (utf8_empty : Bool) → AreBlocks program.now
+            (search_of utf8_empty input.old) self.old }
+        requires inside { (utf8_empty : Bool)
+            → IsInside (search_of utf8_empty input.old) input.old.position }
+        ensures blocks { OnOk result ((utf8_empty : Bool) → AreBlocks program.now
+            (search_of utf8_empty input.old) self.new) }
+        ensures there { OnOk result (input.old.position ≤ self.new.block.top) }
+        ensures reaches { OnOk result ((i : ℕ) → self.old.first ≤ i → input.old.position ≤ i + 1
+            → Reaches self.old.block i → Reaches self.new.block i) }
+        ensures position { OnOk result (input.new.position ≡ input.old.position) }
+        ensures same { IsSameContent input.old.cursor input.new.cursor }
+        ensures asked { input.new.asked ≡ input.old.asked }
+        ensures counted { read.new + self.old.block.top ≤ read.old + self.new.block.top }
+        ensures last { self.new.block.top ≤ self.old.last }
+    {
+        let at = input.position();
+        if at <= self.block.top {
+            return Ok(());
+        }
+        let number = (self.last - at) / self.every;
+        self.pass.load(set_in(&self.kept, number))?;
+        let top = self.last - number * self.every;
+        input.move_to(top);
+        let bottom = self.bottom(top);
+        self.pass
+            .pass_block(program, input, bottom, &mut self.block, read)?;
+        input.move_to(at);
+        Ok(())
+    }
+
+    /// The nodes that lead from a place of the block at hand.
+    pub(crate) fn set(&self, at: usize) -> &Bits
+        requires there { at ≤ self.now.block.top }
+        requires reaches { Reaches self.now.block at }
+        ensures { slice_get self.now.block.sets.items (self.now.block.top - at)
+            ≡ Some result.now }
+    {
+        &self.block.sets[self.block.top - at]
+    }
+}
