@@ -1,6 +1,8 @@
 -- Matches whose starts are searched for back from where they end.
 use Rattle.std.proofs.Common.{◌≡◌, ℕ, zero, suc, ◌*◌, ◌+◌, ◌<◌, ◌≤◌, ◌^◌, Bool, false, [], ◌∷◌, length, Option, Some, None, IfSome, option_map, refl, sym, ap, ap₂, subst, ◌∙◌, arith}
 use Rattle.std.proofs.lemmas.Option.{same_Some}
+use Rattle.unicode.specs.Perl.{is_word_char}
+use Rattle.rx_utf8.specs.Automata.{is_in}
 use Rattle.rx_util.specs.declared.search.Span.{Span}
 use Rattle.rx_util.specs.Search.{Found, HalfFound}
 use Rattle.rx_walks.specs.Machines.{Outcome}
@@ -8,12 +10,13 @@ use Rattle.rx_walks.specs.Programs.{Notes, slot_of}
 use Rattle.rx_walks.specs.Finds.{Search}
 use Rattle.rx_walks.specs.ProgramFinds.{start_of, end_of}
 use Rattle.rx_program.specs.Laws.{HasNotedOwn}
-use Rattle.rx_program.specs.Programs.{ByteProgram}
+use Rattle.rx_program.specs.Programs.{ByteProgram, characters_of}
 use Rattle.rx_input.specs.Inputs.{InputState}
+use Rattle.rx_input.specs.Searchers.{EndsInside}
 use Rattle.rx_steps.specs.Searching.{answer_slots, search_of}
 use Rattle.rx_steps.specs.Threads.{Slots}
 use Rattle.rx_dfa.specs.Searching.{IsHalfAnswer}
-use Rattle.rx_literals.specs.Literals.{literal_match, within}
+use Rattle.rx_literals.specs.Literals.{FindsLiteral, literal_match, within}
 use Rattle.rx_engine.specs.Engines.{Engine, IsEngine}
 use Rattle.rx_chunk.specs.Engines.{EngineFinds, Finds, IsFound, TellsMatch, TellsSlots, match_of}
 use Rattle.rx_chunk.specs.Iterating.{IsFoundNext}
@@ -22,8 +25,10 @@ use Rattle.rx_chunk.proofs.FoundLaws.{notes_places}
 use Rattle.rx_chunk.proofs.KindLaws.{finds_first}
 use Rattle.rx_matches.proofs.HalfLaws.{inside_law}
 use Rattle.regex_cursor.specs.Backs.{EndsLast}
-use Rattle.regex_cursor.specs.Strategies.{FindsUpTo}
-use Rattle.regex_cursor.proofs.StrategyLaws.{IsFirst, by_engine}
+use Rattle.regex_cursor.specs.declared.engines.meta.left.Part.{Part}
+use Rattle.regex_cursor.specs.Regexes.{TellsHalf}
+use Rattle.regex_cursor.specs.Strategies.{FindsUpTo, IsPart}
+use Rattle.regex_cursor.proofs.StrategyLaws.{InsideLaw, IsFirst, by_engine, literal_told}
 
 -- ---- halves
 
@@ -131,3 +136,41 @@ whole_fits p utf8_empty i found bound is = by is.0 is.1 is.2
         let lies = inside_law p (search_of utf8_empty i) t finds in
         let within : end_of t ≤ length i.cursor.content = lies.inside.4 in
         (omega (arith, bound, start, within, lies.ordered), omega (arith, bound, end, within))
+
+-- ---- halves that are told
+
+module _ (e : Engine) (first : IsFirst e) (i : InputState) (part : Part) (k : ℕ) (is : IsPart e.program (search_of e.utf8_empty i) part) (known : part.pattern ≡ Some k) where
+  ends_there : FindsUpTo e.program (within (search_of e.utf8_empty i) part.span) k part.span.end
+  ends_there = subst (λ o. IfSome o (λ j. FindsUpTo e.program (within (search_of e.utf8_empty i) part.span) j part.span.end)) known is.match
+
+  found_whole : Finds e.program (search_of e.utf8_empty i) (Some ends_there.found)
+  found_whole = is.holds.finds (Some ends_there.found) ends_there.finds
+
+  -- the match that ends where a part does
+  pub part_told : TellsHalf e i (Some (record { pattern = k; offset = part.span.end }))
+  part_told =
+      let finds : EngineFinds e (search_of e.utf8_empty i) (Some ends_there.found) = by_engine e first (λ finding. finding (search_of e.utf8_empty i) (Some ends_there.found)) found_whole in
+      record {
+        found = Some (match_of ends_there.found);
+        tells = record { whether = (Some ends_there.found, finds, (λ told. told, λ told. told)); exact = λ any. (Some ends_there.found, finds, refl) };
+        half_is = ap₂ (λ j x. Some (record { pattern = j; offset = x })) (sym ends_there.pattern_is) (sym ends_there.end_is);
+      }
+
+  pub part_ends_inside : InsideLaw → length i.cursor.content < 2 ^ 63 → EndsInside i part.span.end
+  part_ends_inside inside bound =
+      let lies = inside is_in is_word_char (characters_of e.program) (search_of e.utf8_empty i) ends_there.found found_whole in
+      record {
+        behind_start = omega (arith, ends_there.end_is, lies.found.possible.0.2, lies.found.ordered);
+        before_end = omega (arith, ends_there.end_is, lies.found.inside.3);
+        fits = omega (arith, ends_there.end_is, lies.found.inside.4, bound);
+      }
+
+-- and a literal that is one
+pub literal_half : (e : Engine) → IsFirst e → (i : InputState) (span : Span) (half : HalfFound) → half.pattern ≡ 0 → half.offset ≡ span.end → FindsLiteral (characters_of e.program) is_word_char (search_of e.utf8_empty i) span → TellsHalf e i (Some half)
+literal_half e first i span half pattern offset literal =
+    let found : Found = record { pattern = 0; span = span } in
+    record {
+      found = Some found;
+      tells = literal_told e first (search_of e.utf8_empty i) i.asked.earliest span found refl refl literal;
+      half_is = ap₂ (λ j x. Some (record { pattern = j; offset = x })) pattern offset;
+    }

@@ -1,3 +1,4 @@
+pub mod AlikeAnswers
 pub mod BackLaws
 pub mod BetweenLaws
 pub mod BuildLaws

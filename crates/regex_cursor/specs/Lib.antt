@@ -1,3 +1,4 @@
+pub mod AlikeLaws
 pub mod Backs
 pub mod Capturing
 pub mod Configs

@@ -1,6 +1,8 @@
-//! Laws of what patterns spell, under the default settings of a regex, and of what searches for
-//! them find. Each function does nothing: its contract is the law.
+//! Laws of what patterns spell, under the default settings of a regex, of what searches for them
+//! find, and of contents that are cut. Each function does nothing: its contract is the law.
 
+ghost use Rattle.rx_engine.specs.Engines.{Engine};
+ghost use Rattle.regex_cursor.specs.AlikeLaws.{AnswersAlike};
 ghost use Rattle.regex_cursor.specs.Patterns.{Tree};
 ghost use Rattle.regex_cursor.specs.PatternLaws.{HasFinds, RegexesHaveTrees, SpellsOneTree, SpellsTreeOrNone};
 
@@ -47,4 +49,14 @@ pub fn regexes_have_trees()
 {
     rx_program::laws::matches_note_their_places();
     rx_program::laws::groups_are_noted_whole();
+}
+
+/// What a regex, under any settings, tells of an input it tells of each other one that shows the
+/// same bytes, however they are cut, as of a rope's slice and of its bytes in pieces, and that asks
+/// for the same, where not any match will do: the match, and the pattern with its places in as many
+/// slots. Where all matches are wanted these are the places of the whole match.
+pub fn answers_are_alike()
+    ensures { (e : Engine) → AnswersAlike e }
+{
+    rx_chunk::laws::finds_of_engines();
 }

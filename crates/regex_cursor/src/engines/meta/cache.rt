@@ -32,6 +32,9 @@ const BYTES_A_CLEAR: usize = 50_000;
 /// is turned round, which takes about as long.
 const BYTES_A_TURN: usize = 20_000;
 
+/// In fewer bytes the PikeVM finds where a match starts as soon as a search back does.
+const BYTES_A_SEARCH: usize = 4;
+
 /// What searches with a regex keep from one to the next, so that they ask for memory once. It
 /// serves the regex that it was made for or reset for, after each search again, refused or not.
 /// Contracts see the program of that regex, whether it passes over empty matches inside a
@@ -146,7 +149,11 @@ impl Kept {
         ensures same { IsSameContent input.old.cursor input.new.cursor }
         ensures refused { IfErr result (λ error. error ≡ MatchError.Memory) }
     {
-        self.turn(input.end() - input.start())?;
+        let bytes = input.end() - input.start();
+        if bytes < BYTES_A_SEARCH {
+            return Ok(None);
+        }
+        self.turn(bytes)?;
         let utf8_empty = self.core.vm().utf8_empty();
         match &mut self.back {
             Some(back) => back.whole_match(input, utf8_empty, pattern),

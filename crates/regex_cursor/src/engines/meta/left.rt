@@ -1,6 +1,6 @@
 //! What one engine tells of a search, and what it leaves of it to the next one.
 
-ghost use Rattle.std.specs.Prelude.{◌≡◌, ◌<◌, ◌≤◌, ◌^◌, ℕ, Bool, IsTrue, None, Some, false, length, replicate};
+ghost use Rattle.std.specs.Prelude.{◌≡◌, ◌<◌, ◌≤◌, ◌^◌, ℕ, Bool, IsTrue, None, Some, false, length, option_map, replicate};
 ghost use Rattle.unicode.specs.Perl.{is_word_char};
 ghost use Rattle.rx_util.specs.declared.search.Span.{Span};
 ghost use Rattle.rx_util.specs.Captured.{nothing_noted};
@@ -13,11 +13,12 @@ ghost use Rattle.rx_program.specs.Programs.{ByteProgram, characters_of};
 ghost use Rattle.rx_literals.specs.Needles.{AreNeedles, FoundInSpan};
 ghost use Rattle.rx_literals.specs.Literals.{FindsLiteral, IsLiteralOf, literal_match};
 ghost use Rattle.rx_chunk.specs.Engines.{Finds};
+ghost use Rattle.regex_cursor.specs.Regexes.{half_of};
 ghost use Rattle.regex_cursor.specs.Strategies.{HoldsNext, IsLeft, IsPart, IsPartLeft, IsStart, IsTold};
 
 use rx_input::{Cursor, Input};
 use rx_literals::{Prefilter, literal};
-use rx_util::{Anchored, Captures, HalfMatch, NonMaxUsize, PatternID, Span};
+use rx_util::{Anchored, Captures, HalfMatch, Match, NonMaxUsize, PatternID, Span};
 
 /// What a literal tells of a search whose span isn't done.
 #[derive(Clone, Copy, Debug)]
@@ -142,6 +143,16 @@ impl Part {
         let whole = input.get_span();
         put_back(input, self.span);
         whole
+    }
+}
+
+/// The pattern and the end of a match.
+pub(super) fn half_of(found: Option<Match>) -> Option<HalfMatch>
+    ensures { result ≡ option_map half_of found }
+{
+    match found {
+        Some(found) => Some(HalfMatch::new(found.pattern(), found.end())),
+        None => None,
     }
 }
 

@@ -12,16 +12,16 @@ ghost use Rattle.rx_engine.specs.Engines.{IsEngine};
 ghost use Rattle.rx_chunk.specs.Engines.{EngineFinds, TellsWhether};
 ghost use Rattle.rx_chunk.specs.Iterating.{EndsAhead, IsFoundNext, IsNextAnswer, StartsFrom};
 ghost use Rattle.regex_cursor.specs.Backs.{EndsLast};
-ghost use Rattle.regex_cursor.specs.Regexes.{HoldsMatches, IsCacheOf, TellsMatch, TellsSlots, TellsWhole, search_by};
+ghost use Rattle.regex_cursor.specs.Regexes.{HoldsMatches, IsCacheOf, TellsHalf, TellsMatch, TellsSlots, TellsWhole, search_by};
 ghost use Rattle.regex_cursor.specs.Strategies.{regex_of};
 
 use super::cache::Cache;
-use super::left::{Left, clear_slots, note_nothing, put_back, put_match};
+use super::left::{Left, clear_slots, half_of, note_nothing, put_back, put_match};
 use super::strategy::Strategy;
 use rx_chunk::pikevm;
 use rx_input::{Cursor, Input};
 use rx_matches::halves::is_empty_at_last;
-use rx_util::{Captures, Match, MatchError, NonMaxUsize, PatternID};
+use rx_util::{Captures, HalfMatch, Match, MatchError, NonMaxUsize, PatternID};
 
 /// Whether there is a match, as `Strategy::is_match` answers it.
 pub(super) fn is_match<C: Cursor>(
@@ -78,6 +78,38 @@ pub(super) fn find<C: Cursor>(
             let found = find_in(strategy, cache, input, pattern);
             put_back(input, whole);
             found
+        }
+    }
+}
+
+/// The pattern and the end of the match that is found, as `Strategy::find_half` answers it: where
+/// the automaton told them, nothing looks for the match's start.
+pub(super) fn find_half<C: Cursor>(
+    strategy: &Strategy,
+    cache: &mut Cache,
+    input: &mut Input<C>,
+) -> Result<Option<HalfMatch>, MatchError>
+    requires made { IsCacheOf (regex_of strategy.now) cache.old }
+    requires first { strategy.now.vm.match_kind ≡ MatchKind.LeftmostFirst }
+    ensures answer { IfOk result (λ half. TellsHalf strategy.now.vm input.old half) }
+    ensures inside { IfOk result
+        (λ half. ForSome half (λ h. EndsInside input.old h.offset)) }
+    ensures made { IsCacheOf (regex_of strategy.now) cache.new }
+    ensures asked { input.new.asked ≡ input.old.asked }
+    ensures same { IsSameContent input.old.cursor input.new.cursor }
+    ensures refused { IfErr result (λ error. error ≡ MatchError.Memory) }
+{
+    match strategy.ask(&mut cache.kept, input)? {
+        Left::Nothing => Ok(None),
+        Left::Match(span) => Ok(Some(HalfMatch::new(PatternID::ZERO, span.end))),
+        Left::In(part) => {
+            if let Some(pattern) = part.pattern {
+                return Ok(Some(HalfMatch::new(pattern, part.span.end)));
+            }
+            let whole = part.cut(input);
+            let found = pikevm::find(strategy.vm(), &mut cache.kept.vm, input);
+            put_back(input, whole);
+            Ok(half_of(found?))
         }
     }
 }

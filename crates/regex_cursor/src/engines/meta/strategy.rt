@@ -27,7 +27,7 @@ ghost use Rattle.regex_cursor.specs.Strategies.{AreKeptFor, IsLeft, IsNextLeft, 
 use super::cache::{Cache, Kept};
 use super::config::Config;
 use super::dense::{bytes_of_states, closed_of};
-use super::left::{Left, Part, Start, Told, find_literal, put_back, start_of_literal};
+use super::left::{Left, Part, Start, Told, find_literal, half_of, put_back, start_of_literal};
 use super::leftmost;
 use super::literals::Literals;
 use rx_chunk::pikevm::{self, PikeVM};
@@ -480,9 +480,12 @@ impl Strategy {
         ensures same { IsSameContent input.old.cursor input.new.cursor }
         ensures refused { IfErr result (λ error. error ≡ MatchError.Memory) }
     {
-        match self.find(cache, input)? {
-            Some(found) => Ok(Some(HalfMatch::new(found.pattern(), found.end()))),
-            None => Ok(None),
+        match self.vm().match_kind() {
+            MatchKind::LeftmostFirst => leftmost::find_half(self, cache, input),
+            MatchKind::All => {
+                let found = pikevm::find(self.vm(), &mut cache.kept.vm, input)?;
+                Ok(half_of(found))
+            }
         }
     }
 
