@@ -1,7 +1,9 @@
-"""Rules for the sources of the crates that no contract states."""
+"""Rules for the sources of the crates that no contract states, and for figures of pages."""
 import glob
 import os
 import re
+import subprocess
+import sys
 
 from harness import TOP, example_rows, test
 
@@ -54,12 +56,10 @@ def test_breaks():
 
 
 def test_conversions():
-    """A place is told as a position, and found by one, with five conversions of a rope at most."""
+    """Places are told as positions, and found by them, with five conversions of a rope at most."""
     text = dict(sources())["rope_search_reports/src/positions.rt"]
-    for name in ("position_of", "place_of"):
-        body = re.split(r"\n}\n", text.split(f"\npub fn {name}(")[1])[0]
-        count = len(re.findall(r"\.\w+_to_\w+\(", body))
-        test(f"{name} makes at most five conversions", [] if 0 < count <= 5 else [f"it makes {count}"])
+    count = len(re.findall(r"\.\w+_to_\w+\(", text))
+    test("positions take at most five conversions", [] if 0 < count <= 5 else [f"they take {count}"])
 
 
 def test_laws():
@@ -79,7 +79,39 @@ def test_messages():
     test(f"the program has the {len(rows)} messages of docs/protocol.md", sorted(wrong) if len(rows) == 4 else ["there are others"])
 
 
+def drawn(script):
+    """What a script of the benchmarks makes of the page of results."""
+    command = [sys.executable, "-B", os.path.join(TOP, "bench", script), "--shown"]
+    return subprocess.run(command, stdout=subprocess.PIPE).stdout.decode()
+
+
+def test_picture():
+    """The picture of README.md is what bench/plot draws by the page of results."""
+    same = drawn("plot") == read(os.path.join(TOP, "docs", "letter.svg"))
+    test("docs/letter.svg is what bench/plot draws", [] if same else ["it draws another: run bench/plot"])
+
+
+def test_figures():
+    """The table of README.md has the figures of the page of results, and each it cites stands there as it is."""
+    readme, results = read(os.path.join(TOP, "README.md")), read(os.path.join(TOP, "bench", "RESULTS.md"))
+    same = "\n" + drawn("cite") in readme
+    test("README.md has the table that bench/cite makes", [] if same else ["it makes another: run bench/cite"])
+    table = re.findall(r"^\|.*", readme.split("\n## How fast\n")[1].split("\n## ")[0], re.M)
+    cited = [f"{number} {unit}" for row in table for number, unit in re.findall(r"([\d.,]+) (ns|us|µs|ms|s|%)(?!\w)", row)]
+    wrong = [figure for figure in cited if not re.search(rf"(?<![\d.,]){figure.replace('µ', 'u')}", results)]
+    test(f"the {len(cited)} figures of README.md stand in bench/RESULTS.md", wrong if cited else ["there is none"])
+
+
+def test_length():
+    """The page of results can be read: it has 3,000 words at most."""
+    count = len(read(os.path.join(TOP, "bench", "RESULTS.md")).split())
+    test("bench/RESULTS.md has 3,000 words at most", [] if count <= 3000 else [f"it has {count}"])
+
+
 def test_all():
+    test_picture()
+    test_figures()
+    test_length()
     test_laws()
     test_messages()
     test_conversions()

@@ -13,7 +13,7 @@ use Rattle.rope_search_reports.proofs.LineLemmas.{byte_len-append}
 use Rattle.rope_search_reports.proofs.PlaceLemmas.{Split, split_at, scalars-parts, front_of, chars_there, units_there}
 
 -- the code units of what stands before it
-column-is : (line : List ℕ) (place : ℕ) → all_scalars line ≡ true → (s : Split line place) → column (bytes_of line) place ≡ units s.front
+pub column-is : (line : List ℕ) (place : ℕ) → all_scalars line ≡ true → (s : Split line place) → column (bytes_of line) place ≡ units s.front
 column-is line place scalars s =
     let bytes : bytes_of line ≡ bytes_of s.front ++ bytes_of s.back = ap bytes_of s.parts ∙ encodes-append s.front s.back in
     let taken : take place (bytes_of line) ≡ bytes_of s.front =

@@ -32,3 +32,7 @@ pub mod ReportExamples
 mod ReplacementExamples
 mod BoundaryLemmas
 mod TellerLemmas
+mod StartLemmas
+mod ColumnPlaces
+mod ChunkColumns
+mod KeptLemmas

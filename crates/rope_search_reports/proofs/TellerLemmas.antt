@@ -29,56 +29,66 @@ front-whole (b ∷ (d ∷ ds) ∷ bs) c cs ps cut =
     ∙ front-whole ((d ∷ ds) ∷ bs) c cs ps (cutting-tail b (((d ∷ ds) ∷ bs) ++ ((c ∷ cs) ∷ ps)) cut)
 
 -- a chunk that is shown
-record IsShown (text chunk : List ℕ) (start line : ℕ) : Type 0 where
-  before : List ℕ
-  after : List ℕ
-  parts : text ≡ before ++ chunk ++ after
-  start_is : start ≡ byte_len before
-  line_is : line ≡ breaks is_break before
-  whole : NoCrLfBetween before chunk
-  whole_behind : NoCrLfBetween (before ++ chunk) after
+pub record IsShown (text chunk : List ℕ) (start char line : ℕ) : Type 0 where
+  pub before : List ℕ
+  pub after : List ℕ
+  pub parts : text ≡ before ++ chunk ++ after
+  pub start_is : start ≡ byte_len before
+  pub char_is : char ≡ length before
+  pub line_is : line ≡ breaks is_break before
+  pub whole : NoCrLfBetween before chunk
+  pub whole_behind : NoCrLfBetween (before ++ chunk) after
 
 alone-text : (chunk : List ℕ) → text_of (piece_of chunk) ≡ chunk
 alone-text [] = refl
 alone-text (c ∷ cs) = append-nil (c ∷ cs)
 
-shown-parts : (pieces : List (List ℕ)) (place start char line : ℕ) (chunk : List ℕ) → (s : ShowsChunk pieces byte_len place chunk start char line)
-    → text_of pieces ≡ text_of s.before ++ chunk ++ text_of s.after
-shown-parts pieces place start char line chunk s =
-    ap text_of s.parts ∙ concat-append (s.before ++ piece_of chunk) s.after
-    ∙ ap (λ t. t ++ text_of s.after) (concat-append s.before (piece_of chunk) ∙ ap (λ t. text_of s.before ++ t) (alone-text chunk))
+module _ (count : List ℕ → ℕ) where
+  shown-parts : (pieces : List (List ℕ)) (place start char line : ℕ) (chunk : List ℕ) → (s : ShowsChunk pieces count place chunk start char line)
+      → text_of pieces ≡ text_of s.before ++ chunk ++ text_of s.after
+  shown-parts pieces place start char line chunk s =
+      ap text_of s.parts ∙ concat-append (s.before ++ piece_of chunk) s.after
+      ∙ ap (λ t. t ++ text_of s.after) (concat-append s.before (piece_of chunk) ∙ ap (λ t. text_of s.before ++ t) (alone-text chunk))
 
-is-shown : (pieces : List (List ℕ)) (place start char line : ℕ) (chunk : List ℕ) → IsCutting pieces → ShowsChunk pieces byte_len place chunk start char line
-    → IsShown (text_of pieces) chunk start line
-is-shown pieces place start char line [] cut s =
-    let parts = shown-parts pieces place start char line [] s in
-    let none : length (text_of pieces) ≡ 0 = ap (λ ps. length (text_of ps)) (s.some refl) in
-    let nothing : text_of s.after ≡ [] =
-    nil_from_length (text_of s.after) (omega (arith, none, ap length parts, length-append (text_of s.before ++ []) (text_of s.after))) in
-    record {
-      before = text_of s.before;
-      after = text_of s.after;
-      parts = parts;
-      start_is = s.byte_is;
-      line_is = s.line_is;
-      whole = no-lf (ends_with_cr (text_of s.before));
-      whole_behind = subst (NoCrLfBetween (text_of s.before ++ [])) (sym nothing) (no-lf (ends_with_cr (text_of s.before ++ [])));
-    }
-is-shown pieces place start char line (c ∷ cs) cut s =
-    let cut' : IsCutting (s.before ++ ((c ∷ cs) ∷ s.after)) = subst IsCutting (s.parts ∙ assoc s.before s.after) cut in
-    record {
-      before = text_of s.before;
-      after = text_of s.after;
-      parts = shown-parts pieces place start char line (c ∷ cs) s;
-      start_is = s.byte_is;
-      line_is = s.line_is;
-      whole = front-whole s.before c cs s.after cut';
-      whole_behind = ap (λ e. e && starts_with_lf (text_of s.after)) (ends-joined_cr (text_of s.before) c cs) ∙ chunk-whole s.before c cs s.after cut';
-    }
-  where
-    assoc : (bs ps : List (List ℕ)) → bs ++ piece_of (c ∷ cs) ++ ps ≡ bs ++ ((c ∷ cs) ∷ ps)
-    assoc [] ps = refl
-    assoc (b ∷ bs) ps = ap (λ l. b ∷ l) (assoc bs ps)
+  pub is-shown : (pieces : List (List ℕ)) (place start char line : ℕ) (chunk : List ℕ) → IsCutting pieces → (s : ShowsChunk pieces count place chunk start char line)
+      → (h : IsShown (text_of pieces) chunk start char line) × (h.before ≡ text_of s.before) × (h.after ≡ text_of s.after)
+  is-shown pieces place start char line [] cut s =
+      let parts = shown-parts pieces place start char line [] s in
+      let none : length (text_of pieces) ≡ 0 = ap (λ ps. length (text_of ps)) (s.some refl) in
+      let nothing : text_of s.after ≡ [] =
+      nil_from_length (text_of s.after) (omega (arith, none, ap length parts, length-append (text_of s.before ++ []) (text_of s.after))) in (
+        record {
+          before = text_of s.before;
+          after = text_of s.after;
+          parts = parts;
+          start_is = s.byte_is;
+          char_is = s.char_is;
+          line_is = s.line_is;
+          whole = no-lf (ends_with_cr (text_of s.before));
+          whole_behind = subst (NoCrLfBetween (text_of s.before ++ [])) (sym nothing) (no-lf (ends_with_cr (text_of s.before ++ [])));
+        },
+        refl,
+        refl,
+      )
+  is-shown pieces place start char line (c ∷ cs) cut s =
+      let cut' : IsCutting (s.before ++ ((c ∷ cs) ∷ s.after)) = subst IsCutting (s.parts ∙ assoc s.before s.after) cut in (
+        record {
+          before = text_of s.before;
+          after = text_of s.after;
+          parts = shown-parts pieces place start char line (c ∷ cs) s;
+          start_is = s.byte_is;
+          char_is = s.char_is;
+          line_is = s.line_is;
+          whole = front-whole s.before c cs s.after cut';
+          whole_behind = ap (λ e. e && starts_with_lf (text_of s.after)) (ends-joined_cr (text_of s.before) c cs) ∙ chunk-whole s.before c cs s.after cut';
+        },
+        refl,
+        refl,
+      )
+    where
+      assoc : (bs ps : List (List ℕ)) → bs ++ piece_of (c ∷ cs) ++ ps ≡ bs ++ ((c ∷ cs) ∷ ps)
+      assoc [] ps = refl
+      assoc (b ∷ bs) ps = ap (λ l. b ∷ l) (assoc bs ps)
 
 -- at the start of a text nothing has ended
 none-yet : EndsAddUp NoCrLfBetween (breaks is_break) (break_ends is_break) → (t : List ℕ) → ends_up_to 0 (break_ends is_break t) ≡ 0
@@ -87,7 +97,7 @@ none-yet law t = law [] [] t 0 refl refl (omega arith) (omega arith)
 pub is-teller : EndsAddUp NoCrLfBetween (breaks is_break) (break_ends is_break) → (pieces : List (List ℕ)) (bytes : List ℕ) (place start char line : ℕ) → IsCutting pieces → IsUtf8 bytes
     → ShowsChunk pieces byte_len place (chars bytes) start char line → line_count (text_of pieces) < 2 ^ 64 → byte_len (text_of pieces) < 2 ^ 63 → IsTeller (text_of pieces) bytes start line
 is-teller law pieces bytes place start char line cut utf8 s fits bytes_fit =
-    let h = is-shown pieces place start char line (chars bytes) cut s in
+    let h = (is-shown byte_len pieces place start char line (chars bytes) cut s).0 in
     let none : start - byte_len h.before ≡ 0 = omega (arith, h.start_is) in
     let there = law h.before (chars bytes) h.after start h.whole h.whole_behind (omega (arith, h.start_is)) (omega (arith, h.start_is, byte_len-append h.before (chars bytes))) in
     let nothing : ends_up_to (start - byte_len h.before) (break_ends is_break (chars bytes)) ≡ 0 =

@@ -15,7 +15,7 @@ use Rattle.rope_search_reports.specs.Changes.{AreChanges}
 use Rattle.rope_search_changes.specs.declared.Change.{Change}
 use Rattle.rope_search_reports.specs.declared.patches.Patch.{Patch}
 use Rattle.rope_search_reports.specs.Patches.{patched, AreInTurn}
-use Rattle.rope_search_reports.specs.Drafts.{IsAdded}
+use Rattle.rope_search_reports.specs.Drafts.{GoOnAlike, IsAdded}
 use Rattle.rope_search_reports.proofs.LineLemmas.{byte_len-append}
 use Rattle.rope_search_reports.proofs.ReportLaws.{AreRows-join}
 use Rattle.rope_search_reports.proofs.SpliceLemmas.{AreRows-take, AreRows-drop}
@@ -304,6 +304,21 @@ pub next-at : (pattern old new : List ℕ) (changes : List Change) (i n kept don
 next-at pattern old new changes i n kept done patches l w =
     next-of pattern old new (change_at changes i) (drop (i + 1) changes) n kept done patches (Woven-at pattern old new changes i n kept done patches l w)
 
+-- behind the last one both texts are alike
+pub last-alike : (old new : List ℕ) (c : Change) (left : List Change) (n kept done : ℕ) → (next : Next old new c left n kept done) → left ≡ []
+    → (end : ℕ) → end ≡ line_at new c.new_end → GoOnAlike old new c.old_end (end + 1)
+last-alike old new c left n kept done next none end end_is =
+    let both = subst (λ cs. AreChanges cs (byte_len next.before) (byte_len next.before') next.after next.after' next.others) none next.further in
+    record {
+      before = next.before;
+      before' = next.before';
+      after = next.after;
+      old_is = next.old_is;
+      new_is = next.new_is ∙ ap (λ t. next.before' ++ t) (sym both.0);
+      end_is = next.old_end;
+      done_is = ap (λ k. k + 1) (end_is ∙ ap (line_at new) next.new_end);
+    }
+
 -- the numbers that the code computes
 pub start-is : (done line result result' : ℕ) → result ≡ line → result' ≡ max done result → result' ≡ max line done
 start-is done line result result' a b = omega (arith, a, b)
@@ -314,6 +329,11 @@ ordered-at start last start' last' h a b = omega (arith, h, a, b)
 pub count-at : (tick tick' first lines n b others start last start' last' : ℕ) → tick + n ≤ first + lines → n ≡ b + 1 + others → last + 1 - start ≤ b + 1 → start' ≡ start → last' ≡ last
     → tick' ≤ tick + (last' + 1 - start') → tick' + others ≤ first + lines
 count-at tick tick' first lines n b others start last start' last' total counts few a e made = omega (arith, total, counts, few, a, e, made)
+
+-- so are the rows that are made
+pub few-at : (made made' count all n b others start last start' last' : ℕ) → made + n ≤ all → n ≡ b + 1 + others → last + 1 - start ≤ b + 1 → start' ≡ start → last' ≡ last
+    → made' ≡ made + count → count ≡ last' + 1 - start' → made' + others ≤ all
+few-at made made' count all n b others start last start' last' total counts few a e more own = omega (arith, total, counts, few, a, e, more, own)
 
 -- each line is searched once at most
 pub once-at : (tick tick' first done start last : ℕ) {start' last' : ℕ} → tick ≤ first + done → done ≤ start → start ≤ last + 1 → start' ≡ start → last' ≡ last

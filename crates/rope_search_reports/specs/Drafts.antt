@@ -1,16 +1,19 @@
 -- Words of the code that makes a report line by line, for its own contracts.
-use Rattle.std.specs.Prelude.{◌≡◌, ◌⊎◌, ◌+◌, ◌-◌, ◌^◌, ◌<◌, ◌≤◌, List, ℕ, [], ◌∷◌, ◌++◌, None, take, drop}
-use Rattle.std.specs.Str.{NonePass, IsUtf8, chars}
+use Rattle.std.specs.Prelude.{◌≡◌, ◌⊎◌, ◌+◌, ◌-◌, ◌^◌, ◌<◌, ◌≤◌, List, ℕ, [], ◌∷◌, ◌++◌, None, length, take, drop}
+use Rattle.std.specs.Str.{NonePass, IsUtf8, IsCharBoundary, chars}
 use Rattle.ropey.specs.Chunks.{is_break}
 use Rattle.ropey_walk.specs.Slices.{slice_text}
 use Rattle.str_indices.specs.FirstBreak.{IsBreak}
-use Rattle.str_indices.specs.Text.{breaks, byte_len, NoCrLfBetween}
+use Rattle.str_indices.specs.Text.{breaks, byte_len, char_ends, ends_up_to, units, NoCrLfBetween}
 use Rattle.regex_cursor.specs.Patterns.{between}
 use Rattle.rope_search_reports.specs.Pattern.{FindsMatch}
 use Rattle.rope_search_reports.specs.Text.{IsText, line_count}
-use Rattle.rope_search_reports.specs.Position.{line_at, line_text}
+use Rattle.rope_search_reports.specs.Position.{line_at, line_start, line_text}
 use Rattle.rope_search_reports.specs.Report.{line_texts, IsRow, AreRows}
 use Rattle.rope_search_reports.specs.declared.patches.Patch.{Patch}
+use Rattle.rope_search_reports.specs.declared.positions.Place.{Place}
+use Rattle.rope_search_reports.specs.declared.positions.OwnLine.{OwnLine}
+use Rattle.rope_search_reports.specs.declared.line_start.LineStart.{LineStart}
 use Rattle.rope_search_reports.specs.declared.line.Line.{Line}
 use Rattle.rope_search_reports.specs.declared.line.Line.TheVariants.{Whole, Parted}
 
@@ -54,6 +57,46 @@ own_text (Parted slice) = slice_text slice
 abbrev pub HoldsText : Line → Type 0
 HoldsText (Whole text) = IsUtf8 text.now
 HoldsText (Parted slice) = IsText (slice_text slice)
+
+-- a place in a line's text that so many code units stand before, up to its end
+pub record HasColumn (own : List ℕ) (column : ℕ) (place : Place) : Type 0 where
+  pub front : List ℕ
+  pub back : List ℕ
+  pub parts : own ≡ front ++ back
+  pub byte_is : place.byte_idx ≡ byte_len front
+  pub char_is : place.char_idx ≡ length front
+  pub column_is : column ≡ units front
+
+-- there is none: so many stand behind its end, or inside a surrogate pair
+abbrev pub HasNoColumn : List ℕ → ℕ → Type 0
+HasNoColumn own column = (front back : List ℕ) → own ≡ front ++ back → column ≡ units front → ⊥
+
+-- ---- where a line starts
+
+-- a chunk of a text, with what stands before it, and where a line starts in it, or at its end; no
+-- CR LF is cut behind it
+pub record StartsIn (text : List ℕ) (line : ℕ) (start : LineStart) : Type 0 where
+  pub first : List ℕ
+  pub others : List ℕ
+  pub parts : text ≡ first ++ (chars start.chunk.now ++ others)
+  pub utf8 : IsUtf8 start.chunk.now
+  pub whole : NoCrLfBetween (chars start.chunk.now) others
+  pub byte_is : start.byte_idx ≡ byte_len first
+  pub char_is : start.char_idx ≡ length first
+  pub there : line_start text line ≡ start.byte_idx + start.at
+  pub between : IsCharBoundary start.chunk.now start.at
+  pub scalars : IsText text
+  pub fits : byte_len text < 2 ^ 63
+
+-- a line of a text, with what stands before it
+pub record IsOwnLine (text : List ℕ) (line : ℕ) (own : OwnLine) : Type 0 where
+  pub inside : line < line_count text
+  pub byte_is : own.start.byte_idx ≡ line_start text line
+  pub char_is : own.start.char_idx ≡ ends_up_to (line_start text line) (char_ends text)
+  pub text_is : own_text own.text ≡ line_text text line
+  pub holds : HoldsText own.text
+  pub scalars : IsText text
+  pub fits : byte_len text < 2 ^ 63
 
 -- ---- a walk over lines
 
@@ -114,6 +157,18 @@ pub record IsTeller (text rest : List ℕ) (start line : ℕ) : Type 0 where
   pub whole : NoCrLfBetween (chars rest) after
   pub fits : line_count text < 2 ^ 64
   pub bytes_fit : byte_len text < 2 ^ 63
+
+-- ---- behind the last change
+
+-- two texts are alike behind a place of the old one, up to which the new one has so many lines
+pub record GoOnAlike (old new : List ℕ) (old_end done : ℕ) : Type 0 where
+  pub before : List ℕ
+  pub before' : List ℕ
+  pub after : List ℕ
+  pub old_is : old ≡ before ++ after
+  pub new_is : new ≡ before' ++ after
+  pub end_is : old_end ≡ byte_len before
+  pub done_is : done ≡ line_at new (byte_len before') + 1
 
 -- ---- a patch behind others
 

@@ -4,6 +4,7 @@ use Rattle.std.specs.Str.{IsCharBoundary, NonePass}
 use Rattle.str_indices.specs.Text.{byte_len, break_ends, ends_up_to, end_place, units, NoCrLfBetween}
 use Rattle.ropey.specs.Chunks.{is_break}
 use Rattle.str_indices.specs.FirstBreak.{IsBreak}
+use Rattle.rope_search_reports.specs.declared.positions.Place.{Place}
 use Rattle.rope_search_reports.specs.Text.{bytes_of, line_count}
 use Rattle.rope_search_reports.specs.Report.{line_texts}
 
@@ -43,6 +44,12 @@ pub record IsAt (text : List ℕ) (spot : ℕ × ℕ) (place : ℕ) : Type 0 whe
 -- last line
 abbrev pub IsNowhere : List ℕ → ℕ × ℕ → Type 0
 IsNowhere text spot = (place : ℕ) → IsAt text spot place → ⊥
+
+-- the place in bytes and in characters at which a position is
+pub record IsPlaceOf (text : List ℕ) (spot : ℕ × ℕ) (place : Place) : Type 0 where
+  pub at : IsAt text spot place.byte_idx
+  pub within : place.char_idx ≤ length text
+  pub bytes : byte_len (take place.char_idx text) ≡ place.byte_idx
 
 -- a match in a line, told by two columns: it starts at a boundary of the text and ends at one, and
 -- each is at its column of that line

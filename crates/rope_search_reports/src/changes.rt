@@ -1,9 +1,12 @@
 //! Changes of a text, the way back from them, and the rows that they make anew.
-ghost use Rattle.std.specs.Prelude.{◌≡◌, ℕ, ◌+◌, ◌-◌, ◌^◌, ◌<◌, ◌≤◌, List, [], take, drop, min, IfOk, IfErr};
+ghost use Rattle.std.specs.Prelude.{◌≡◌, ℕ, ◌+◌, ◌-◌, ◌^◌, ◌<◌, ◌≤◌, List, [], take, drop, min, true, IfOk, IfErr};
 ghost use Rattle.rope_search_reports.specs.Report.{IsReport};
 ghost use Rattle.rope_search_reports.specs.Text.{line_count};
 ghost use Rattle.ropey.specs.Chunks.{text_of};
 ghost use Rattle.rope_search_reports.specs.Changes.{AreChanges};
+ghost use Rattle.rope_search_reports.specs.Position.{line_at};
+ghost use Rattle.rope_search_reports.specs.Drafts.{GoOnAlike};
+ghost use Rattle.str_indices.specs.Text.{byte_len};
 ghost use Rattle.rope_search_reports.specs.Patches.{patched, AreInTurn, made_by};
 ghost use Rattle.rope_search_reports.specs.Ticks.{LooksAtMost, MakesAtMost};
 ghost use Rattle.rope_search_reports.specs.Turned.{Lead, listed, turned, turned_from};
@@ -85,6 +88,31 @@ impl Changes {
     }
 }
 
+/// The number of lines up to the end of a change in the old text, by that in the new one. Behind
+/// the last change there are as many in both, so nothing is looked up.
+fn lines_kept(
+    old: &Rope,
+    new: &Rope,
+    old_lines: &mut LineTeller<'_>,
+    old_end: usize,
+    done: usize,
+    is_last: bool,
+) -> usize
+    requires text { old_lines.old.text ≡ text_of old.now }
+    requires within { old_end ≤ byte_len (text_of old.now) }
+    requires done { done ≤ line_count (text_of new.now) }
+    requires fits { line_count (text_of old.now) < 2 ^ 64 }
+    requires alike { is_last ≡ true → GoOnAlike (text_of old.now) (text_of new.now) old_end done }
+    ensures lines { result ≡ line_at (text_of old.now) old_end + 1 }
+    ensures text { old_lines.new.text ≡ old_lines.old.text }
+{
+    if is_last {
+        let behind = new.len_lines() - done;
+        return old.len_lines() - behind;
+    }
+    old_lines.line(old_end) + 1
+}
+
 /// Returns the patches that make a report that of the text after some changes. Each line of the new
 /// text is searched once at most, and at most as many as the changes' new parts have breaks, and
 /// one more for each change. Requires changes that lead from the old text to the new one.
@@ -109,6 +137,9 @@ pub fn patches_of(
     ensures report { IfOk result (λ patches. (rows : List (List (ℕ × ℕ)))
         → IsReport (text_of old.now) finder.old rows
         → IsReport (text_of new.now) finder.old (patched 0 rows patches.items)) }
+    ensures few { IfOk result (λ patches. (n : ℕ)
+        → AreChanges changes.now 0 0 (text_of old.now) (text_of new.now) n
+        → made_by patches.items ≤ n) }
     ensures fault { IfErr result (λ fault. fault ≡ Fault.Memory) }
     ensures finder { finder.new ≡ finder.old }
     ensures count { (n : ℕ) → AreChanges changes.now 0 0 (text_of old.now) (text_of new.now) n
@@ -131,12 +162,14 @@ pub fn patches_of(
     // The lines of both texts up to the last change: the old one's that are kept or gone, and the
     // new one's that have a row.
     let (mut kept, mut done) = (0, 0);
+    let mut left = changes.len();
     for change in changes {
+        left -= 1;
         let start = done.max(new_lines.line(change.new_start));
         let end = new_lines.line(change.new_end) + 1;
         let made = rows_ahead(tick, alloc, finder, new, &mut walk, start, end)?;
         let first = kept + (start - done);
-        kept = old_lines.line(change.old_end) + 1;
+        kept = lines_kept(old, new, &mut old_lines, change.old_end, end, left == 0);
         done = end;
         let patch = Patch {
             first,

@@ -6,6 +6,7 @@ mod changes;
 mod columns;
 pub mod laws;
 mod line;
+mod line_start;
 mod line_teller;
 mod patches;
 mod pattern_text;
@@ -17,7 +18,7 @@ mod walk;
 
 pub use changes::{Changes, patches_of};
 pub use patches::{Patch, growth, put_in_place, put_patches, shift_once};
-pub use positions::{Place, Position, byte_of, place_of, position_of};
+pub use positions::{Place, Position, byte_of, place_of, places_of, position_of};
 pub use replacing::replace_rows;
 pub use reports::{report_of, rows_of_lines};
 pub use rope_search_changes::{Change, Groups};

@@ -1,15 +1,18 @@
 //! Positions in a rope: a line, and a column in UTF-16 code units, as editors and language servers
 //! have them.
 
-ghost use Rattle.std.specs.Prelude.{◌≡◌, ◌≤◌, length, take, MatchOption, IfSome};
+ghost use Rattle.std.specs.Prelude.{◌≡◌, ℕ, ◌≤◌, ◌⊎◌, List, length, take, MatchOption, IfSome, IfNone};
 ghost use Rattle.std.specs.Str.{IsCharBoundary};
 ghost use Rattle.str_indices.specs.Text.{byte_len};
 ghost use Rattle.ropey.specs.Chunks.{text_of};
-ghost use Rattle.rope_search_reports.specs.Text.{IsText, bytes_of};
-ghost use Rattle.rope_search_reports.specs.Position.{position, IsAt, IsNowhere};
+ghost use Rattle.rope_search_reports.specs.Text.{IsText, bytes_of, line_count};
+ghost use Rattle.rope_search_reports.specs.Position.{position, IsAt, IsNowhere, IsPlaceOf};
+ghost use Rattle.rope_search_reports.specs.Drafts.{IsOwnLine};
 
-use crate::walk::without_break;
-use ropey::Rope;
+use crate::line::Line;
+use crate::line_start::LineStart;
+use ropey::{Rope, breaks};
+use str_indices::{chars, utf16};
 
 /// A line, and a column in it: how many UTF-16 code units stand between the line's start and the
 /// place. Both begin at 0.
@@ -22,9 +25,8 @@ pub struct Position {
     pub column: usize,
 }
 
-/// Returns the position of a byte index; between the CR and the LF of a break that is one past the
-/// end of the line's text. Requires a character boundary up to `len_bytes()`. `O(log n)`.
-pub fn position_of(text: &Rope, byte_idx: usize) -> Position
+/// `position_of`, by its line's start, wherever that is.
+fn position_by_line(text: &Rope, byte_idx: usize) -> Position
     requires { IsCharBoundary (bytes_of (text_of text.now)) byte_idx }
     ensures { (result.line, result.column) ≡ position (text_of text.now) byte_idx }
 {
@@ -39,6 +41,28 @@ pub fn position_of(text: &Rope, byte_idx: usize) -> Position
     }
 }
 
+/// Returns the position of a byte index; between the CR and the LF of a break that is one past the
+/// end of the line's text. Requires a character boundary up to `len_bytes()`. `O(log n)`.
+pub fn position_of(text: &Rope, byte_idx: usize) -> Position
+    requires { IsCharBoundary (bytes_of (text_of text.now)) byte_idx }
+    ensures { (result.line, result.column) ≡ position (text_of text.now) byte_idx }
+{
+    // The text's facts, for the proof alone.
+    let _ = text.len_bytes();
+    let (chunk, start, _, first) = text.slice(..).chunk_at_byte(byte_idx);
+    let end = byte_idx - start;
+    let count = breaks::from_byte_idx(chunk, end);
+    if count == 0 {
+        // The line starts before the chunk, or with it.
+        return position_by_line(text, byte_idx);
+    }
+    let at = breaks::to_byte_idx(chunk, count);
+    Position {
+        line: first + count,
+        column: utf16::count(&chunk[at..end]),
+    }
+}
+
 /// A place in a text, between two characters.
 #[derive(Clone, Copy, Debug, PartialEq, Eq)]
 pub struct Place {
@@ -46,6 +70,51 @@ pub struct Place {
     pub byte_idx: usize,
     /// How many characters stand before it.
     pub char_idx: usize,
+}
+
+/// A line of a text in which positions are looked up.
+#[derive(Clone, Copy)]
+pub(crate) struct OwnLine<'a> {
+    /// Where it starts.
+    pub(crate) start: Place,
+    /// Its text, the break left off.
+    pub(crate) text: Line<'a>,
+}
+
+impl<'a> OwnLine<'a> {
+    /// A line of a text, or `None` past the last one. `O(log n)`.
+    fn of(text: &'a Rope, line_idx: usize) -> Option<OwnLine<'a>>
+        ensures line { IfSome result (λ line. IsOwnLine (text_of text.now) line_idx line) }
+        ensures none { IfNone result (line_count (text_of text.now) ≤ line_idx) }
+    {
+        // The text's facts, for the proof alone.
+        let _ = text.len_bytes();
+        if line_idx >= text.len_lines() {
+            return None;
+        }
+        let text = text.slice(..);
+        let start = LineStart::of(&text, line_idx);
+        Some(OwnLine {
+            start: Place {
+                byte_idx: start.byte_idx + start.at,
+                char_idx: start.char_idx + chars::from_byte_idx(start.chunk, start.at),
+            },
+            text: start.line(&text, line_idx),
+        })
+    }
+
+    /// The place of the text at which a column of the line is, or `None` where it is nowhere.
+    fn place_at(&self, column: usize) -> Option<Place>
+        requires { (text : List ℕ) × (line : ℕ) × IsOwnLine text line self.now }
+        ensures { (text : List ℕ) (line : ℕ) → IsOwnLine text line self.now
+            → MatchOption result (IsNowhere text (line, column)) (IsPlaceOf text (line, column)) }
+    {
+        let own = self.text.place_at(column)?;
+        Some(Place {
+            byte_idx: self.start.byte_idx + own.byte_idx,
+            char_idx: self.start.char_idx + own.char_idx,
+        })
+    }
 }
 
 /// Returns the byte index at which a position is, or `None` where it is nowhere: inside a surrogate
@@ -73,21 +142,31 @@ pub fn place_of(text: &Rope, position: Position) -> Option<Place>
 {
     // The text's facts, for the proof alone.
     let _ = text.len_bytes();
-    if position.line >= text.len_lines() {
-        return None;
-    }
-    let own = without_break(text.line(position.line));
-    // Behind its text?
-    if position.column > own.len_utf16_cu() {
-        return None;
-    }
-    let char_in_line = own.utf16_cu_to_char(position.column);
-    // Inside a surrogate pair?
-    if own.char_to_utf16_cu(char_in_line) != position.column {
-        return None;
-    }
-    Some(Place {
-        byte_idx: text.line_to_byte(position.line) + own.char_to_byte(char_in_line),
-        char_idx: text.line_to_char(position.line) + char_in_line,
-    })
+    let line = OwnLine::of(text, position.line)?;
+    line.place_at(position.column)
+}
+
+/// Returns the places at which two positions are, or `None` where one of them is nowhere. Two in
+/// one line take one look-up. `O(log n)`.
+pub fn places_of(text: &Rope, from: Position, to: Position) -> Option<(Place, Place)>
+    ensures starts { IfSome result (λ places.
+        IsPlaceOf (text_of text.now) (from.line, from.column) places.0) }
+    ensures ends { IfSome result (λ places.
+        IsPlaceOf (text_of text.now) (to.line, to.column) places.1) }
+    ensures none { IfNone result (IsNowhere (text_of text.now) (from.line, from.column)
+        ⊎ IsNowhere (text_of text.now) (to.line, to.column)) }
+    ensures scalars { IsText (text_of text.now) }
+{
+    // The text's facts, for the proof alone.
+    let _ = text.len_bytes();
+    let line = OwnLine::of(text, from.line)?;
+    let start = line.place_at(from.column)?;
+    let end = if to == from {
+        start
+    } else if to.line == from.line {
+        line.place_at(to.column)?
+    } else {
+        place_of(text, to)?
+    };
+    Some((start, end))
 }

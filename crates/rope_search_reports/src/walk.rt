@@ -11,6 +11,7 @@ ghost use Rattle.rope_search_reports.specs.Position.{line_text};
 ghost use Rattle.rope_search_reports.specs.Drafts.{HoldsText, IsLine, IsRestOf, ShowsLines, own_text};
 
 use crate::line::Line;
+use crate::line_start::LineStart;
 use ropey::{Rope, RopeSlice, breaks};
 use std::marker::Model;
 
@@ -98,17 +99,13 @@ impl<'a> Walk<'a> {
     {
         // The slice's facts, for the proof alone.
         let _ = text.len_bytes();
-        let byte_idx = text.line_to_byte(line_idx);
-        let rest = if line_idx < text.len_lines() {
-            chunk_from(&text, byte_idx)
-        } else {
-            ""
-        };
+        let _ = text.len_lines();
+        let start = LineStart::of(&text, line_idx);
         Walk {
             text,
             line_idx,
-            byte_idx,
-            rest,
+            byte_idx: start.byte_idx + start.at,
+            rest: &start.chunk[start.at..],
         }
     }
 

@@ -1,10 +1,11 @@
 use Rattle.std.proofs.Common.{◌≡◌, ◌+◌, ◌-◌, ◌≤◌, drop, refl, ap, sym, subst, ◌∙◌, arith}
+use Rattle.std.proofs.lemmas.Bool.Decides.{nat_tests}
 use Rattle.std.proofs.lemmas.Grind.{common_steps}
 use Rattle.str_indices.specs.Text.{byte_len}
 use Rattle.rope_search_reports.specs.Position.{line_at}
 use Rattle.rope_search_reports.specs.Text.{line_count}
 use Rattle.ropey.specs.Chunks.{text_of}
-use Rattle.rope_search_reports.proofs.WeaveLemmas.{Woven, change_at, next-at, Woven-at, Woven-start, Woven-added, Woven-step, Woven-turn, Woven-report, start-is, ordered-at, count-at, rows-at, once-at, drop-none, max-is}
+use Rattle.rope_search_reports.proofs.WeaveLemmas.{Woven, change_at, next-at, Woven-at, Woven-start, Woven-added, Woven-step, Woven-turn, Woven-report, start-is, ordered-at, count-at, few-at, last-alike, rows-at, once-at, drop-none, max-is}
 use Rattle.rope_search_reports.specs.Patches.{AreInTurn, made_by}
 use Rattle.rope_search_reports.proofs.MadeLemmas.{counted-made, made-added, rows-counted}
 use Rattle.rope_search_reports.proofs.FinderLemmas.{whole-is}
@@ -14,7 +15,7 @@ use Rattle.rope_search_reports.proofs.changes.patches_of.Goals as goal
 pub loop-change-init : goal.loop-change-init
 loop-change-init c =
     let none : made_by c.new-patches.result.items ≡ 0 = ap made_by c.new-patches.ensures.items in (
-      λ n are. (n, Woven-start _ _ _ _ _ _ c.new-patches.ensures.items are, omega arith, omega arith),
+      λ n are. (n, Woven-start _ _ _ _ _ _ c.new-patches.ensures.items are, omega arith, omega arith, omega (arith, none)),
       refl,
       refl,
       omega arith,
@@ -26,6 +27,7 @@ loop-change-init c =
       c.of-old_lines.ensures ∙ ap text_of c.slice-2.ensures ∙ whole-is c.args.old.now,
       c.start-walk.ensures.text ∙ ap text_of c.slice.ensures ∙ whole-is c.args.new.now,
       omega (arith, c.start-walk.ensures.line),
+      omega arith,
     )
 
 pub line-requires : goal.line-requires
@@ -64,10 +66,25 @@ overflow_add-first c =
     let few : line_at (text_of c.args.old.now) (change_at c.args.changes.now c.loop-change.change-index).old_end + 1 ≤ line_count (text_of c.args.old.now) = grind (arith, common_steps) in
     omega (arith, next.lines.within, start, few, c.requires.old_fits)
 
-pub line-kept-requires : goal.line-kept-requires
-line-kept-requires c =
+pub lines_kept-kept-requires-clause-text : goal.lines_kept-kept-requires-clause-text
+lines_kept-kept-requires-clause-text c = c.loop-change.invariant.9
+
+pub lines_kept-kept-requires-clause-within : goal.lines_kept-kept-requires-clause-within
+lines_kept-kept-requires-clause-within c =
     let next = next-at _ _ _ c.args.changes.now _ _ _ _ _ c.loop-change-test.true (c.loop-change.invariant.0 c.requires.changed.0 c.requires.changed.1).1 in
-    omega (arith, next.old_within, ap byte_len c.loop-change.invariant.9)
+    next.old_within
+
+pub lines_kept-kept-requires-clause-done : goal.lines_kept-kept-requires-clause-done
+lines_kept-kept-requires-clause-done c = omega (arith, c.line-end.ensures.few, ap line_count (c.line.ensures.text ∙ c.loop-change.invariant.8))
+
+pub lines_kept-kept-requires-clause-alike : goal.lines_kept-kept-requires-clause-alike
+lines_kept-kept-requires-clause-alike c = λ is_last.
+    let changes = c.args.changes.now in
+    let next = next-at _ _ _ changes _ _ _ _ _ c.loop-change-test.true (c.loop-change.invariant.0 c.requires.changed.0 c.requires.changed.1).1 in
+    let last = (c.line-end.ensures.line ∙ ap (λ t. line_at t (change_at changes c.loop-change.change-index).new_end) (c.line.ensures.text ∙ c.loop-change.invariant.8)) in
+    let none : c.loop-change.left - 1 ≡ 0 = grind (arith, nat_tests, is_last) in
+    let gone = drop-none (c.loop-change.change-index + 1) changes (omega (arith, none, c.loop-change.invariant.12)) in
+    last-alike _ _ _ _ _ _ _ next gone c.line-end.result last
 
 pub returns-in_err-add_patch-clause-count : goal.returns-in_err-add_patch-clause-count
 returns-in_err-add_patch-clause-count c = λ n are.
@@ -99,11 +116,12 @@ loop-change-preserved c =
           let here-so = so.0 all are in
           let next = next-at _ _ _ changes _ _ _ _ _ c.loop-change-test.true here-so.1 in
           let here = Woven-at _ _ _ changes _ _ _ _ _ c.loop-change-test.true here-so.1 in
-          let step = Woven-step _ _ _ _ _ _ _ _ _ _ _ here next (ap (λ n. c.loop-change.kept + (n - c.loop-change.done)) start) (ap (λ n. n + 1) (c.line-kept.ensures.line ∙ ap (λ t. line_at t (change_at c.args.changes.now c.loop-change.change-index).old_end) c.loop-change.invariant.9)) made refl in (
+          let step = Woven-step _ _ _ _ _ _ _ _ _ _ _ here next (ap (λ n. c.loop-change.kept + (n - c.loop-change.done)) start) c.lines_kept-kept.ensures.lines made refl in (
             next.others,
-            subst (λ k. Woven c.args.finder.now (text_of c.args.old.now) (text_of c.args.new.now) (drop (c.loop-change.change-index + 1) changes) next.others (c.line-kept.result + 1) k c.add_patch.new.patches.items) (sym one) (Woven-added _ _ _ _ _ _ _ _ _ _ c.in_ok-add_patch.ensures.added step),
+            subst (λ k. Woven c.args.finder.now (text_of c.args.old.now) (text_of c.args.new.now) (drop (c.loop-change.change-index + 1) changes) next.others c.lines_kept-kept.result k c.add_patch.new.patches.items) (sym one) (Woven-added _ _ _ _ _ _ _ _ _ _ c.in_ok-add_patch.ensures.added step),
             count-at _ _ _ _ _ _ next.others _ _ _ _ here-so.2 next.counts next.few start last c.rows_ahead.ensures.count.made,
             count-at _ _ _ _ _ _ next.others _ _ _ _ here-so.3 next.counts next.few start last c.rows_ahead.ensures.looks,
+            few-at _ _ _ _ _ _ next.others _ _ _ _ here-so.4 next.counts next.few start last brought own,
           ),
       c.rows_ahead.ensures.finder ∙ so.1,
       c.rows_ahead.ensures.count.no_whole ∙ so.2,
@@ -113,9 +131,10 @@ loop-change-preserved c =
       counted-made c.args.tick.now c.loop-change.tick c.rows_ahead.new.tick _ _ _ _ so.6 c.in_ok-made.ensures.each brought own,
       omega (arith, so.7, c.rows_ahead.ensures.looks, brought, own),
       c.line-end.ensures.text ∙ c.line.ensures.text ∙ so.8,
-      c.line-kept.ensures.text ∙ so.9,
+      c.lines_kept-kept.ensures.text ∙ so.9,
       c.in_ok-made.ensures.text ∙ so.10,
       c.in_ok-made.ensures.line,
+      omega (arith, so.12, c.loop-change-test.true),
     )
 
 pub returns-clause-turn : goal.returns-clause-turn
@@ -126,6 +145,11 @@ returns-clause-turn c =
 
 pub returns-clause-report : goal.returns-clause-report
 returns-clause-report c = Woven-report _ _ _ _ _ _ _ _ (drop-none c.loop-change.change-index c.args.changes.now c.loop-change-test.false) (c.loop-change.invariant.0 c.requires.changed.0 c.requires.changed.1).1
+
+pub returns-clause-few : goal.returns-clause-few
+returns-clause-few c = λ n are.
+    let few = (c.loop-change.invariant.0 n are).4 in
+    omega (arith, few)
 
 pub returns-in_err-made-clause-once : goal.returns-in_err-made-clause-once
 returns-in_err-made-clause-once c =
