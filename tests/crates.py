@@ -1,7 +1,9 @@
 """What crates.txt says of the repository's crates, and copies of them, in which rt works beside a run of rt here."""
 import os
 import shutil
+import subprocess
 
+RT = os.environ.get("RT", "rt")
 ROOT = os.path.dirname(os.path.dirname(os.path.abspath(__file__)))
 
 
@@ -49,3 +51,24 @@ def copied(name, room):
         out.writelines(f"{crate}{' staticlib' * is_static(crate)}: {' '.join(libraries)}\n"
                        for crate, libraries in crates.items())
     return f"{room}/crates/{name}"
+
+
+def words_over(command, name, libraries, jobs):
+    """The words of rattle that check or build a crate, in its own folder, over the libraries that are built in a folder
+    of crates: so many functions are proved at a time."""
+    doc = subprocess.run([RT, "doc"], stdout=subprocess.PIPE, text=True, check=True).stdout
+    kit = os.path.dirname(doc.strip())
+    top = "src/main.rt" if os.path.exists(f"{ROOT}/crates/{name}/src/main.rt") else "src/lib.rt"
+    words = [f"{kit}/bin/rattle", command, "--crate-name", name, top, "--extern", f"std={kit}/rlibs/std.rlib"]
+    crates = below(name)
+    for library in crates[name]:
+        built = f"{libraries}/{library}/out/rlib" if library in crates else f"{kit}/rlibs"
+        words += ["--extern", f"{library}={built}/{library}.rlib"]
+    if is_static(name):
+        words += ["--crate-type", "staticlib"]
+    for folder in [f"{kit}/rlibs", *(f"{libraries}/{library}/out/rlib" for library in crates if library != name)]:
+        words += ["-L", f"dependency={folder}"]
+    words += ["--antt-project", f"{kit}/rattle/logic/antt-project.json", "--logic-built", f"{kit}/logic_built"]
+    if command == "build":
+        words += ["--toolchain", f"{kit}/toolchain", "--backend", "llvm"]
+    return [*words, "--jobs", jobs]
