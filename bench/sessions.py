@@ -8,70 +8,61 @@ import shutil
 import statistics
 import subprocess
 import sys
-import tempfile
 import time
 
+from processes import (
+    OURS,
+    PROGRAM,
+    RUNS,
+    THEIRS,
+    command,
+    instructions,
+    nanos_of,
+    peak_of,
+    programs,
+    taken,
+    tells_peak,
+    text_and_pattern,
+    timed,
+    written,
+)
 from texts import TOP, lines_of, source_text
 
-PROGRAM = os.path.join(TOP, "bin", "rope-search")
-PLAIN = os.path.join(TOP, "bin", "plain")  # where cargo and Rust's regex are at hand: make bin/plain
-RUNS = 5
+UNDO = b"undo\n"
 LITERALS = ["let", "e", "xyz"]  # in about three lines of ten, in nearly each and in none
 EXPRESSIONS = [r"\w+\s*=>\s*\w+", "(?i)todo|error", "[0-9]+|0x[0-9a-f]+"]
+# Patterns that find something in this line alone, which `next` has to reach.
+LAST_LINE = "zebra ZEBRA := 1.5;"
+REACHED = [
+    "ZEBRA", "(?i)zebra", "zebra|gnu|okapi", "[A-Z]{2,}", r"[0-9]+\.[0-9]+", r"\w+\s*:=\s*\w+", ".*;"
+]
 # A pattern, a template, and what Python calls that.
-TEMPLATES = [("marker", "MARKER", "MARKER"), ("marker", "bookmarks", "bookmarks"), ("(mark)(er)", "$2$1$$", r"\2\1$")]
+REPLACED = [
+    ("marker", "bookmarks", "bookmarks"),
+    ("(mark)(er)", "$2$1$$", r"\2\1$"),
+    (r"\w+", "<$0>", r"<\g<0>>"),
+    (r"(\w+) (\w+)", "$2 $1", r"\2 \1"),
+]
+# Of which instructions are counted: patterns of reports, and of replacements with their templates.
+REPORTED = ["TODO", *EXPRESSIONS, "e", "found nowhere", "[a-z]+", ".*x", r"(\w+) (\w+)"]
+REWRITTEN = [("e", "E"), (r"\w+", "<$0>"), (r"(\w+) (\w+)", "$2 $1")]
 SAMPLES = {
     "ASCII": "    let count = lines.iter().filter(|line| line.len() > 80).count();\n",
     "many scripts": "let größe = zeilen.länge(); // 行の数を数える, строки, γραμμές 🐸\n",
 }
 
 
-def command(word, payload):
-    return b"%s %d\n%s" % (word.encode(), len(payload), payload)
-
-
-def written(folder, name, data):
-    path = os.path.join(folder, name)
-    with open(path, "wb") as file:
-        file.write(data)
-    return path
-
-
-def timed(program, given=os.devnull, out=None):
-    """The nanoseconds of a run, and what it wrote where that goes to no file."""
-    with open(given, "rb") as stdin, open(out or os.devnull, "wb") as taken:
-        start = time.perf_counter_ns()
-        process = subprocess.Popen(program, stdin=stdin, stdout=taken if out else subprocess.PIPE)
-        said = b"" if out else process.stdout.read()
-        process.wait()
-        return time.perf_counter_ns() - start, said
-
-
-def peak_of(program, given):
-    """The most memory that a run held, in kB. A child of this program would be told with the pages that it had from
-    here before it began, so a small program starts it."""
-    with open(given, "rb") as stdin, tempfile.NamedTemporaryFile() as told:
-        command = ["/usr/bin/time", "-q", "-f", "%M", "-o", told.name, *program]
-        subprocess.run(command, stdin=stdin, stdout=subprocess.DEVNULL, check=True)
-        return int(told.read())
-
-
-def instructions(program, given):
-    """How many instructions a program takes over a file: the same each time, whatever else the machine does."""
-    command = ["valgrind", "--tool=callgrind", "--callgrind-out-file=/dev/null", *program]
-    with open(given, "rb") as stdin:
-        ran = subprocess.run(command, stdin=stdin, stdout=subprocess.PIPE, stderr=subprocess.PIPE, check=True)
-    return int(re.search(rb"Collected : (\d+)", ran.stderr)[1]), ran.stdout
-
-
-def seconds_of(call):
-    start = time.perf_counter_ns()
-    answer = call()
-    return time.perf_counter_ns() - start, answer
-
-
 def nanos(times):
     return f"{statistics.median(times):.0f}"
+
+
+def unit_of(is_right):
+    """The unit of a time, unless the answer is wrong."""
+    return "ns" if is_right else "failed"
+
+
+def by_template(pattern, template):
+    return f"`{pattern}` by `{template}`"
 
 
 def is_reply(path, text):
@@ -86,12 +77,12 @@ def load_print(folder, tiny):
     for name, line in SAMPLES.items():
         text = line.encode() * (size // len(line.encode()))
         of = f"{name}, {len(text):,} bytes"
-        session = written(folder, "session", command("text", text) + b"print\n")
+        session = written(folder, "session", command("text", text), b"print\n")
         out = os.path.join(folder, "out")
         runs = [timed([PROGRAM], session, out) for _ in range(RUNS)]
-        yield of, "text and print", nanos([run[0] for run in runs]), "ns" if is_reply(out, text) else "failed"
+        yield of, "text and print", nanos([run[0] for run in runs]), unit_of(is_reply(out, text))
         yield of, "cat", nanos([timed(["cat"], session, out)[0] for _ in range(RUNS)]), "ns"
-        if os.path.exists("/usr/bin/time"):
+        if tells_peak():
             yield of, "memory", f"{peak_of([PROGRAM], session) * 102400 / len(text):.0f}", "% of the text"
 
 
@@ -101,55 +92,140 @@ def listed(lines, pattern):
     return sum(rows), sum(map(bool, rows))
 
 
+def counters(pattern):
+    """Programs that count the lines of a file in which a pattern matches, by their names."""
+    kind = "-F" if pattern in LITERALS else "-P"
+    by_rg = {"rg": ["rg", "--no-config", "-c", "-e", pattern]} if shutil.which("rg") else {}
+    return {"grep": ["grep", "-c", kind, "-e", pattern], **by_rg}
+
+
 def list_matches(folder, tiny):
     text = lines_of(4_000 if tiny else 400_000)
-    lines = text.decode().split("\n")
-    plain, load = written(folder, "plain", text), command("text", text)
-    alone = written(folder, "alone", load)
+    lines, file = text.decode().split("\n"), written(folder, "lines", text)
     for pattern in LITERALS + EXPRESSIONS:
         of = f"`{pattern}`"
-        setting = written(folder, "setting", load + command("pattern", pattern.encode()))
-        ours = [timed([PROGRAM], setting)[0] - timed([PROGRAM], alone)[0] for _ in range(RUNS)]
-        grep = ["grep", "-c", "-F" if pattern in LITERALS else "-P", pattern, plain]
-        theirs = [timed(grep) for _ in range(RUNS)]
-        by_re, (matches, found) = seconds_of(lambda: listed(lines, re.compile(pattern, re.ASCII)))
-        listing = written(folder, "listing", load + command("pattern", pattern.encode()) + b"list\n")
-        shown = timed([PROGRAM], listing)[1].split(b"\n")
-        is_right = shown[-2] == b"ok %d" % matches and int(theirs[0][1]) == found
-        yield of, "pattern", nanos(ours), "ns" if is_right else "failed"
-        if os.path.exists(PLAIN):
-            plain_ones = [timed([PLAIN], setting)[0] - timed([PLAIN], alone)[0] for _ in range(RUNS)]
-            is_same = timed([PLAIN], listing)[1].split(b"\n") == shown
-            yield of, "plain Rust program", nanos(plain_ones), "ns" if is_same else "failed"
-        yield of, "grep", nanos([run[0] for run in theirs]), "ns"
+        by_re, (matches, found) = nanos_of(lambda: listed(lines, re.compile(pattern, re.ASCII)))
+        setting = text_and_pattern(text, pattern)
+        listing = written(folder, "listing", *setting, b"list\n")
+        shown = {name: timed([program], listing)[1] for name, program in programs().items()}
+        is_right = len(set(shown.values())) == 1 and shown[OURS].endswith(b"ok %d\n" % matches)
+        for name, program in programs().items():
+            [(report, _)] = taken(program, setting[:1], setting[1:])
+            yield of, name, nanos([report]), unit_of(is_right)
+        for name, words in counters(pattern).items():
+            runs = [timed([*words, file]) for _ in range(RUNS)]
+            yield of, name, nanos([run[0] for run in runs]), unit_of(int(runs[0][1] or 0) == found)
         yield of, "Python's re", f"{by_re}", "ns"
         yield of, "matches", f"{matches}", ""
 
 
+def letters_at(places):
+    """Commands that insert a letter at each of these lines and columns."""
+    return [b"edit %d %d %d %d 1\ne" % (*place, *place) for place in places]
+
+
 def letters_in(lines, count, columns=40):
-    """Commands that insert a letter in so many lines drawn by lot."""
+    """So many of them, in lines and columns drawn by lot."""
     chance = random.Random(11)
-    places = [(chance.randrange(lines), chance.randrange(columns)) for _ in range(count)]
-    return b"".join(b"edit %d %d %d %d 1\ne" % (*place, *place) for place in places)
+    return letters_at([(chance.randrange(lines), chance.randrange(columns)) for _ in range(count)])
+
+
+def words_in(lines, count):
+    """The same as a typist types them: one behind the other, forty in a line drawn by lot."""
+    chance = random.Random(13)
+    chosen = [chance.randrange(lines) for _ in range(-(-count // 40))]
+    return letters_at([(line, column) for line in chosen for column in range(40)][:count])
 
 
 def edit_lines(folder, tiny):
-    lines, edits = (4_000, 1_000) if tiny else (400_000, 50_000)
+    """Letters typed under a pattern, taken back, and what their history keeps. The plain program makes few edits."""
+    lines, edits = (4_000, 200) if tiny else (400_000, 20_000)
     text = lines_of(lines)
-    split = text.decode().split("\n")
-    letters = letters_in(lines, edits)
-    for pattern in ["let", *EXPRESSIONS]:
-        of = f"`{pattern}`"
-        setting = command("text", text) + command("pattern", pattern.encode())
-        ways = [setting, setting + letters, setting + letters + b"undo\n" * edits]
-        given = [written(folder, name, session) for name, session in zip(("alone", "edited", "undone"), ways)]
-        runs = [[timed([PROGRAM], path) for path in given] for _ in range(RUNS)]
-        is_right = all(run[1] == b"ok\n" * (2 + k * edits) for row in runs for k, run in enumerate(row))
-        alone, edited, undone = (statistics.median(row[k][0] for row in runs) for k in range(3))
-        yield of, "a letter in a random line", f"{(edited - alone) / edits:.1f}", "ns" if is_right else "failed"
-        yield of, "undo", f"{(undone - edited) / edits:.1f}", "ns"
-        again = seconds_of(lambda: listed(split, re.compile(pattern, re.ASCII)))[0]
-        yield of, "all lines searched again by Python's re", f"{again}", "ns"
+    at_random, typed = letters_in(lines, edits), words_in(lines, edits)
+    for pattern in ["let", EXPRESSIONS[0]]:
+        of, settings = f"`{pattern}`", text_and_pattern(text, pattern)
+        batches = [at_random, [UNDO] * edits, typed]
+        whats = ["a letter in a random line", "its undo", "a typist's letter"]
+        for what, (time_of_all, said) in zip(whats, taken(PROGRAM, settings, *batches)):
+            yield of, what, f"{time_of_all / edits:.1f}", unit_of(said == b"ok\n" * edits)
+        if tells_peak():
+            alone, edited = (
+                peak_of([PROGRAM], written(folder, "session", *settings, *more)) for more in ([], at_random)
+            )
+            yield of, "what a random letter keeps", f"{(edited - alone) * 1024 / edits:.0f}", "bytes"
+        if THEIRS in programs():
+            [(time_of_all, said)] = taken(programs()[THEIRS], settings, at_random[:3], runs=3)
+            yield of, f"a letter, {THEIRS}", f"{time_of_all / 3:.1f}", unit_of(said == b"ok\n" * 3)
+
+
+def grow(folder, tiny):
+    """A letter typed in texts of 10 kB, and of ten times as much each, up to 100 MB."""
+    for lines in (200, 2_000) if tiny else (200, 2_000, 20_000, 200_000, 2_000_000):
+        settings = text_and_pattern(lines_of(lines), "let")
+        few = min(10 * lines, 20_000)  # so that the text stays about as long
+        counts = {OURS: few, THEIRS: min(few, max(2, 1_000_000 // lines))}
+        for name, program in programs().items():
+            [(all_of_them, said)] = taken(program, settings, letters_in(lines, counts[name]), runs=3)
+            figure = f"{all_of_them / counts[name]:.1f}"
+            yield f"{lines:,} lines", name, figure, unit_of(said == b"ok\n" * counts[name])
+
+
+def break_at_top(folder, tiny):
+    """Breaks and letters put in at the top, and taken back. The rows of all lines behind a break move."""
+    lines, many = (4_000, 20) if tiny else (400_000, 100)
+    text = lines_of(lines)
+    under_let, bare = text_and_pattern(text, "let"), [command("text", text)]
+    ways = {
+        "a break under `let`": (under_let, b"edit 0 0 0 0 1\n\n"),
+        "a letter under `let`": (under_let, b"edit 0 0 0 0 1\ne"),
+        "a break without a pattern": (bare, b"edit 0 0 0 0 1\n\n"),
+    }
+    for way, (settings, edit) in ways.items():
+        for name, program in programs().items():
+            count = many if name == OURS else 2
+            answers = taken(program, settings, [edit] * count, [UNDO] * count, runs=3)
+            for of, (all_of_them, said) in zip((way, f"undo of {way}"), answers):
+                yield of, name, f"{all_of_them / count:.1f}", unit_of(said == b"ok\n" * count)
+
+
+def one_line(folder, tiny):
+    """The report of a long line, and edits, each of which searches it whole again."""
+    line = lines_of(400 if tiny else 20_000).replace(b"\n", b" ")
+    letters = letters_in(1, 10, columns=len(line))
+    for pattern in ["let", EXPRESSIONS[0], EXPRESSIONS[2]]:
+        text, setting = text_and_pattern(line, pattern)
+        for name, program in programs().items():
+            batches = {"report": [setting], "a letter": letters, "its undo": [UNDO] * len(letters)}
+            for what, (all_of_them, said) in zip(batches, taken(program, [text], *batches.values(), runs=3)):
+                count = len(batches[what])
+                figure = f"{all_of_them / count:.1f}"
+                yield f"`{pattern}`: {what}", name, figure, unit_of(said == b"ok\n" * count)
+
+
+def grow_hostile(folder, tiny):
+    """The report of a pattern that reads on to the line's end before it is sure of each letter."""
+    last = {}
+    for letters in (500, 1_000) if tiny else (5_000, 10_000, 20_000):
+        text, setting = text_and_pattern(b"a" * letters, "a*b|a")
+        for name, program in programs().items():
+            [(report, said)] = taken(program, [text], [setting], runs=3)
+            yield f"{letters:,} letters", name, nanos([report]), unit_of(said == b"ok\n")
+            if name in last and last[name] > 0:
+                yield f"{letters:,} letters", f"{name}, beside half as many", f"{report / last[name]:.1f}", "times"
+            last[name] = report
+
+
+def reach_last(folder, tiny):
+    """`next` from a text's start to its last line, a byte of what it passes."""
+    lines = 2_600 if tiny else 260_000
+    text = lines_of(lines) + LAST_LINE.encode()
+    for pattern in REACHED:
+        found = re.search(pattern, LAST_LINE)
+        due = b"m %d %d %d %d\n" % (lines, found.start(), lines, found.end())
+        for name, program in programs().items():
+            answers = taken(program, text_and_pattern(text, pattern), *[[b"next 0 0\n"]] * RUNS, runs=1)
+            times, is_right = [answer[0] for answer in answers], all(answer[1] == due for answer in answers)
+            yield f"`{pattern}`", name, f"{statistics.median(times) / len(text):.3f}", unit_of(is_right)
 
 
 def marked(lines, gap):
@@ -161,42 +237,35 @@ def marked(lines, gap):
 
 
 def replace_matches(folder, tiny):
-    count = 4_000 if tiny else 400_000
-    for gap in (4, 4000):
-        text = marked(count, gap)
-        for pattern, template, named in TEMPLATES:
-            of = f"`{pattern}` by `{template}`, in one line of {gap:,}"
-            setting = command("text", text.encode()) + command("pattern", pattern.encode())
-            alone = written(folder, "alone", setting)
-            session = written(folder, "session", setting + command("replace", template.encode()))
-            replacing = setting + command("replace", template.encode())
-            undone = written(folder, "undone", replacing + b"undo\n")
-            redone = written(folder, "redone", replacing + b"undo\nredo\n")
-            runs = [timed([PROGRAM], session) for _ in range(RUNS)]
-            ours = [run[0] - timed([PROGRAM], alone)[0] for run in runs]
-            is_right = runs[0][1] == b"ok\nok\nok %d\n" % len(range(0, count, gap))
-            yield of, "replace", nanos(ours), "ns" if is_right else "failed"
-            back = [timed([PROGRAM], undone)[0] for _ in range(RUNS)]
-            on = [timed([PROGRAM], redone)[0] for _ in range(RUNS)]
-            yield of, "undo", nanos([a - b[0] for a, b in zip(back, runs)]), "ns"
-            yield of, "redo", nanos([a - b for a, b in zip(on, back)]), "ns"
-            by_re = [seconds_of(lambda: re.sub(pattern, named, text))[0] for _ in range(RUNS)]
-            yield of, "Python's re.sub", nanos(by_re), "ns"
-            by_str = [seconds_of(lambda: text.replace("marker", template))[0] for _ in range(RUNS)]
-            yield of, "Python's str.replace", nanos(by_str), "ns"
+    """Matches replaced in lines of which each fourth begins with `marker`, and taken back."""
+    text = marked(4_000 if tiny else 400_000, 4)
+    for pattern, template, named in REPLACED:
+        of, settings = by_template(pattern, template), text_and_pattern(text.encode(), pattern)
+        by_re, (made, count) = nanos_of(lambda: re.subn(pattern, named, text, flags=re.ASCII))
+        replace = command("replace", template.encode())
+        shown = timed([PROGRAM], written(folder, "session", *settings, replace, b"print\n"))[1]
+        is_text = shown.endswith(b"\n%b\n" % made.encode())
+        for name, program in programs().items():
+            runs = 3 if count < 1_000_000 else 1
+            (replaced, said), (undone, back) = taken(program, settings, [replace], [UNDO], runs=runs)
+            yield of, name, nanos([replaced]), unit_of(is_text and said == b"ok %d\n" % count)
+            if name == OURS:
+                yield of, "undo", nanos([undone]), unit_of(back == b"ok\n")
+        yield of, "Python's re.sub", f"{by_re}", "ns"
+        yield of, "matches", f"{count}", ""
 
 
 def build_patterns(patterns, folder, tiny):
     """Each of the patterns set once: what that takes, and the peak of memory."""
-    tells_peak = os.path.exists("/usr/bin/time")
-    bare = peak_of([PROGRAM], written(folder, "session", b"off\n")) if tells_peak else 0
+    bare = peak_of([PROGRAM], written(folder, "session", b"off\n")) if tells_peak() else 0
     for name, pattern in patterns:
         session = written(folder, "session", command("pattern", pattern.encode()))
         runs = [timed([PROGRAM], session) for _ in range(1 if tiny else RUNS)]
         is_right = all(run[1] in (b"ok\n", b"error limit\n", b"error pattern\n") for run in runs)
-        yield name, "taken" if runs[0][1] == b"ok\n" else "refused", nanos([run[0] for run in runs]), "ns" if is_right else "failed"
-        if tells_peak:
-            yield name, "memory", f"{peak_of([PROGRAM], session) - bare}", "kB"
+        of = name if runs[0][1] == b"ok\n" else f"{name}: refused"
+        yield of, "time", nanos([run[0] for run in runs]), unit_of(is_right)
+        if tells_peak():
+            yield of, "memory", f"{peak_of([PROGRAM], session) - bare}", "kB"
 
 
 def told_by(words, **more):
@@ -240,15 +309,16 @@ def by_python(lines, edits):
         for _ in range(edits):
             line = chance.randrange(lines)
             typed, shown = lambda: session.edit((line, 5), (line, 5), b"a"), lambda: session.matches(line, line + 50)
-            for taken, call in zip(times, (typed, session.undo, shown)):
-                taken.append(seconds_of(call)[0])
-    return [statistics.median(taken) for taken in times]
+            for times_of_call, call in zip(times, (typed, session.undo, shown)):
+                start = time.perf_counter_ns()
+                call()
+                times_of_call.append(time.perf_counter_ns() - start)
+    return [statistics.median(times_of_call) for times_of_call in times]
 
 
 def embedded(folder, tiny):
     """A letter typed in a random line, undone, and the rows of a window, through the library that make lib builds."""
     lines, edits = (4_000, 200) if tiny else (400_000, 2_000)
-    of = f"{lines:,} lines"
     whats = ("a letter in a random line", "undo", "a window's 50 rows")
     ways = {
         "in C": by_c(folder, lines, edits),
@@ -256,36 +326,42 @@ def embedded(folder, tiny):
         "in LuaJIT": by_lua(lines, edits),
         "by the program over pipes": over_pipes(folder, lines, edits),
     }
-    for place, what in enumerate(whats):
-        for way, medians in ways.items():
-            if place < len(medians):
-                yield of, f"{what}, {way}", f"{medians[place]:.0f}", "ns"
+    for way, medians in ways.items():
+        for what, median in zip(whats, medians):
+            yield way, what, f"{median:.0f}", "ns"
 
 
 def count_instructions(folder, tiny):
-    """Reports, edits and replacements over lines of source text, of which each fifth ends in `// TODO`, less what
-    setting text and pattern takes."""
+    """What is counted over lines of source text, of which each fifth ends in `// TODO`. They change as the sources do,
+    and the plain program's numbers with them."""
     lines = (source_text().split("\n") * 5)[: 1_000 if tiny else 20_000]
     lines[::5] = [line + " // TODO" for line in lines[::5]]
+    for name, program in programs().items():
+        for of, figure, unit in counted(folder, lines, program, 1_000 if name == OURS else 10):
+            yield of, name, figure, unit
+
+
+def counted(folder, lines, program, edits):
+    """The instructions of reports, replacements and so many edits, each less what comes before it in the session."""
+
+    def of(*commands):
+        return instructions(program, written(folder, "session", *commands))
+
     text = "\n".join(lines).encode()
-    programs = {"rope-search": [PROGRAM], **({"plain Rust program": [PLAIN]} if os.path.exists(PLAIN) else {})}
-    load = command("text", text)
-    for name, program in programs.items():
-        alone, _ = instructions(program, written(folder, "alone", load))
-        for pattern in ["TODO", r"\w+\s*=>\s*\w+", "e", "found nowhere", r"(\w+) (\w+)"]:
-            setting = load + command("pattern", pattern.encode())
-            set_up, _ = instructions(program, written(folder, "setting", setting))
-            yield f"report of `{pattern}`", name, f"{(set_up - alone) / 1e6:.1f}", "million"
-        for pattern, template in [("e", "E"), (r"(\w+) (\w+)", "$2 $1")]:
-            setting = load + command("pattern", pattern.encode())
-            set_up, _ = instructions(program, written(folder, "setting", setting))
-            replaced, _ = instructions(program, written(folder, "replace", setting + command("replace", template.encode())))
-            yield f"`replace` of `{pattern}` by `{template}`", name, f"{(replaced - set_up) / 1e6:.1f}", "million"
-        count = 10 if name != "rope-search" else 1_000
-        letters = letters_in(len(lines) // 2, count, columns=1)
-        for pattern in [None, "TODO"]:
-            setting = load + (command("pattern", pattern.encode()) if pattern else b"")
-            set_up, _ = instructions(program, written(folder, "setting", setting))
-            edited, _ = instructions(program, written(folder, "edited", setting + letters))
-            under = f"under `{pattern}`" if pattern else "without a pattern"
-            yield f"a letter {under}", name, f"{(edited - set_up) / count / 1000:.1f}", "thousand"
+    alone = of(command("text", text))
+    patterns = dict.fromkeys([*REPORTED, *(pattern for pattern, _ in REWRITTEN)])
+    set_up = {pattern: of(*text_and_pattern(text, pattern)) for pattern in patterns}
+    for pattern in REPORTED:
+        yield f"report of `{pattern}`", f"{(set_up[pattern] - alone) / 1e6:.1f}", "million"
+    bare, in_fifth = ((set_up[pattern] - alone) / len(lines) for pattern in ("found nowhere", "TODO"))
+    yield "a line's report without a match", f"{bare:.0f}", ""
+    yield "a line's report with a `TODO`", f"{5 * in_fifth - 4 * bare:.0f}", ""
+    for pattern, template in REWRITTEN:
+        replaced = of(*text_and_pattern(text, pattern), command("replace", template.encode()))
+        yield f"`replace` of {by_template(pattern, template)}", f"{(replaced - set_up[pattern]) / 1e6:.1f}", "million"
+    letters = letters_in(len(lines) // 2, edits, columns=1)
+    for under, base, settings in [
+        ("without a pattern", alone, [command("text", text)]),
+        ("under `TODO`", set_up["TODO"], text_and_pattern(text, "TODO")),
+    ]:
+        yield f"a letter {under}", f"{(of(*settings, *letters) - base) / edits / 1e3:.1f}", "thousand"

@@ -9,15 +9,15 @@ if else mut ref => todo Error 0x1f 42""".split()
 
 
 def lines_of(lines):
-    """Lines of words, 49 bytes and LF each, the same in each run."""
+    """Lines of words, 49 bytes and LF each, the same in each run: 20,000 different ones, over and over."""
     chosen = random.Random(5)
     out = []
-    for _ in range(lines):
+    for _ in range(min(lines, 20_000)):
         line = ""
         while len(line) < 49:
             line += chosen.choice(WORDS) + " "
         out.append(line[:49] + "\n")
-    return "".join(out).encode()
+    return "".join((out * -(-lines // 20_000))[:lines]).encode()
 
 
 def source_text():

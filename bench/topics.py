@@ -1,5 +1,4 @@
-"""What is measured. A topic has a name, what it measures, and its runs: each the text that it is measured over, and
-what `bin/bench` is told beside it, or a call of `sessions`, which measures the program itself. `bench/run` reads this.
+"""What is measured, which `bench/run` reads.
 
 A text is KIND and a size: `ascii`, `mixed`, `japanese` and `emoji` are source text, source text with Japanese comments,
 Japanese text and emoji, of so many bytes; `lines` are so many lines of 50 bytes, `short` of 13; `pattern` is a text
@@ -7,6 +6,7 @@ below `PATTERNS`.
 """
 import functools
 import itertools
+from typing import NamedTuple
 
 import sessions
 
@@ -44,6 +44,10 @@ PATTERNS = {
 }
 
 
+# Patterns of which the page tells nothing.
+NOT_TELLING = r"^(32|16|65,535 |20|a class|65,536 (letters|dots))"
+
+
 def over(texts, *told):
     """A run over each text for each thing told."""
     return [(text, more) for text in texts for more in told or ("",)]
@@ -70,101 +74,211 @@ def sized(*kinds, sizes=(MB, 100 * MB)):
 TEXTS = sized("ascii", "mixed", "japanese", sizes=(10 * MB,))
 
 
+class Topic(NamedTuple):
+    """What is measured, by runs: each the text that it is measured over, and what `bin/bench` is told beside it, or a
+    call of `sessions`, which measures the program itself. The page leaves out what a form finds in `OF: WHAT`, and the
+    topic where that is all. The topic of `bin/bench` may have another name. Some take what is built besides."""
+
+    measures: str
+    runs: list
+    left_out: str = "(?!)"
+    named: str = ""
+    built: tuple = ()
+
+
+# The most that a figure should be, or of a speed the least, by the topic and by what it is or what it is of.
+AIMS = {
+    "load": {"text and print": "4 times `cat`", "memory": "250 %"},
+    "list": {"rope-search": "the plain program's, for literals 0.7 of it"},
+    "instructions": {
+        "report of `TODO`": "15 million",
+        r"report of `\w+\s*=>\s*\w+`": "37 million",
+        "a line's report without a match": "150",
+        "a line's report with a `TODO`": "900",
+        "a letter without a pattern": "10 thousand",
+        "a letter under `TODO`": "16 thousand",
+    },
+    "typing": {
+        "a letter in a random line": "12 us",
+        "a typist's letter": "6 us",
+        "what a random letter keeps": "3,000 bytes",
+    },
+    "embedded": dict.fromkeys(("in C", "in Python", "in LuaJIT"), "1 us above a buffer's own"),
+    "replace": {sessions.by_template(*replaced[:2]): "the plain program's" for replaced in sessions.REPLACED},
+    "next": {f"`{pattern}`": "5 ns" for pattern in sessions.REACHED},
+    "enter": {"a break under `let`": "1.2 ms"},
+    "hostile": dict.fromkeys(("10,000 letters", "20,000 letters"), "2.0 times half as many"),
+    "iterators": {
+        f"{what}{way}": f"{part} of the string's" for way in ("", " backwards")
+        for what, part in [("bytes", "3/4"), ("characters", "3/4"), ("lines", "1/2")]
+    },
+    "edits": {
+        "insertions at random places": "2 us in 1 MB",
+        "insertions at a typist's place": "1.2 us in 1 MB",
+    },
+    "live": {
+        "a letter in a random line": "8 us",
+        "a typist's letter": "5 us",
+        "a break before a random line": "2 ms",
+        "a typist's break": "2 ms",
+    },
+    "forks": {"200 forks and edits, above one text": "6 %"},
+    "engines": {
+        "PikeVM, all matches": "40 ns, or 5 ns where a match seldom begins",
+        **{f"{engine}, all matches": "2.5 ns" for engine in ("hybrid", "dfa")},
+    },
+    "regexes": {
+        "a byte of the rope": "110 % of the slice's",
+        "a line, searched with one cache": "150 ns more than its bytes",
+    },
+    "cursors": {"a cursor over it": "50 ns"},
+    "many": {"a byte, by so many patterns": "1.2 times their alternation's"},
+}
+
+
 TOPICS = {
-    "load": (
-        "the commands `text` and `print` of 100 MB, beside `cat`; at most 4 times its time, and 2.5 times the text in "
-        "memory, are the aims",
+    "load": Topic(
+        "the processor's time and the memory of the commands `text` and `print` of 100 MB, beside `cat`",
         [sessions.load_print],
     ),
-    "list": (
-        "the report of a pattern in 400,000 lines of 50 bytes, beside a plain Rust program with Rust's `regex`, "
-        "`grep -c` (`-F` for literals, else `-P`) and Python's `re` line by line; the aim is at most the plain program's",
+    "list": Topic(
+        "the processor's time of the report of a pattern in 400,000 lines of 50 bytes, beside the plain Rust program, "
+        "`grep -c` (`-F` for literals, else `-P`) and `rg -c`",
         [sessions.list_matches],
+        left_out="Python|: matches",
     ),
-    "instructions": (
+    "instructions": Topic(
         "instructions, as valgrind's callgrind counts them, of the report of a pattern in 20,000 lines of source text, "
-        "of `replace` in them, and of `edit` of a letter, beside the plain Rust program of bench/plain; the aims are at "
-        "most its own for reports and replacements, 10 thousand for a letter, and 16 with a pattern",
+        "of `replace` in them, and of `edit` of a letter, beside the plain Rust program, whose number is the aim of "
+        "other reports and replacements",
         [sessions.count_instructions],
     ),
-    "typing": (
-        "the command `edit` that inserts a letter in a line, and `undo`, with the report of a pattern in 400,000 lines, "
-        "beside a search of all lines by Python's `re`",
+    "growth": Topic(
+        "the processor's time of a letter put in a random line under the pattern `let`, as the text of 50 bytes a line "
+        "grows, beside the plain Rust program",
+        [sessions.grow],
+    ),
+    "typing": Topic(
+        "the processor's time of a letter with the report of a pattern in 400,000 lines, and of its `undo`, and the "
+        "memory that its text keeps, beside the plain Rust program, which searches all again",
         [sessions.edit_lines],
     ),
-    "embedded": (
-        "a letter typed in a random line, its `undo` and the rows of a window, with the report of `y\\(\\w+` in 400,000 "
-        "lines, through the library that C links and its modules for Python and LuaJIT, once `make lib` has built it, and "
-        "by the program over pipes, which tells no window",
+    "embedded": Topic(
+        "a letter typed in a random line, with the report of `y\\(\\w+` in 400,000 lines, its `undo` and the rows of a "
+        "window, by the library, its modules, and the program over pipes, which tells no window",
         [sessions.embedded],
+        built=("bin/librope_search.a", "bin/librope_search.so"),
     ),
-    "replace": (
-        "`replace` of all matches in the same lines, beside Python's `re.sub` and `str.replace`",
+    "replace": Topic(
+        "the processor's time of `replace` of all matches in 400,000 lines, with the report of the new text, beside "
+        "the plain Rust program, and Python's `re.sub`, which makes no report",
         [sessions.replace_matches],
+        left_out=": matches",
     ),
-    "indices": (
+    "next": Topic(
+        "the processor's time of `next` from the start of 13 MB to the only match, in the last line, a byte, beside "
+        "the plain Rust program",
+        [sessions.reach_last],
+    ),
+    "enter": Topic(
+        "the processor's time of a break put in at the top of 400,000 lines, behind which the rows of all lines move, "
+        "and of its `undo`, beside the plain Rust program",
+        [sessions.break_at_top],
+        left_out="of a letter|of a break without",
+    ),
+    "line": Topic(
+        "the processor's time of the report of a pattern in one line of 1 MB, and of a letter in it, after which the "
+        "line is searched whole again, beside the plain Rust program",
+        [sessions.one_line],
+        left_out=": its undo",
+    ),
+    "hostile": Topic(
+        "the processor's time of the report of `a*b|a` in one line of letters `a`, where a search reads on to the "
+        "line's end, beside the plain Rust program; four times half as many is growth with the square",
+        [sessions.grow_hostile],
+        left_out="program, beside",
+    ),
+    "indices": Topic(
         "counts and conversions of `str_indices`, beside plain loops",
         over(sized("ascii", "japanese", "emoji", sizes=(100 * MB,))),
+        left_out="",
     ),
-    "ropes": (
-        "building, cloning and asking a rope, a million random look-ups of each kind; one in the first hundredth of "
-        "100 MB finds as much in the processor's cache as in 1 MB",
+    "ropes": Topic(
+        "building, cloning and asking a rope, a million look-ups of each kind",
         over(sized("ascii", "japanese")),
+        left_out="^japanese, 1 MB|, in a hundredth$|: (byte|char_to_line|line_to_char|chunk_at_byte)$",
     ),
-    "memory": (
+    "memory": Topic(
         "the most memory that a program takes for a text and a rope of it",
         over(sized("ascii", "japanese")),
+        left_out="",
     ),
-    "slices": (
+    "slices": Topic(
         "a million slices at random places with their line counts, beside counts in a string",
         over(sized("ascii", "japanese")),
+        left_out="",
     ),
-    "iterators": (
-        "going through a rope both ways, beside plain loops over a string; the aims are half their speed for lines, and "
-        "three quarters for bytes and characters",
+    "iterators": Topic(
+        "going through a rope both ways, beside plain loops over a string",
         over(sized("ascii", "japanese", sizes=(100 * MB,))),
+        left_out=": (breaks|chunks)|each as a string",
     ),
-    "edits": (
-        "a million insertions, removals, splits with appends, comparison, beside a String; the aims are 2 us for an "
-        "insertion at random in 1 MB, 1.2 us at a typist's place",
+    "edits": Topic(
+        "a million insertions, removals, splits with appends, comparison, beside a String",
         over(sized("ascii")),
+        left_out="in a hundredth$|room in chunks|removals at a typist",
     ),
-    "files": ("reading and writing a rope, beside a String", over(sized("ascii"), "copy")),
-    "live": (
-        "edits of a buffer with its report, undo, redo, beside a String of which all rows are made again; the aims, in "
-        "400,000 lines under a literal, are 8 us for a letter in a random line, 5 us for a typist's, 2 ms for a break",
+    "files": Topic("reading and writing a rope, beside a String", over(sized("ascii"), "copy"), left_out=""),
+    "live": Topic(
+        "edits of a buffer with its report, beside a String of which all rows are made again; aims are for a literal "
+        "in 400,000 lines",
         over([("lines", 10_000), ("lines", 400_000)], "", "let", *EXPRESSIONS),
+        left_out=r"^10,000 lines(?!, `let`)|^400,000 lines:|todo|\[0-9\]|"
+        "rows made by|undo|redo|removed|the report made anew",
     ),
-    "forks": (
-        "200 forks with an edit each; the aim is at most 6 % of memory above one text",
+    "forks": Topic(
+        "200 forks with an edit each",
         over([("lines", 400_000)]),
     ),
-    "patterns": ("parsing patterns of up to 65,536 bytes", over_patterns()),
-    "programs": ("compiling them, and making an engine of them", over_patterns()),
-    "building": (
-        "the command `pattern` that takes or refuses them, and the most memory that the program holds then, above one "
+    "patterns": Topic(
+        "parsing patterns of up to 65,536 bytes",
+        over_patterns(),
+        left_out="",
+    ),
+    "programs": Topic(
+        "compiling such patterns, and making an engine of them",
+        over_patterns(),
+        left_out="",
+    ),
+    "building": Topic(
+        "the command `pattern` for long patterns, and the most memory that the program holds then, above one "
         "without a pattern",
         [functools.partial(sessions.build_patterns, list(built()))],
+        left_out=NOT_TELLING,
     ),
-    "searches": (
-        "all matches by the engine, in one piece and in pieces; the aims are 40 ns a byte where walks are under way all "
-        "the time, 5 where a match seldom begins, and in pieces at most 110 % of one piece",
+    "searches": Topic(
+        "all matches by the PikeVM, in one piece and in pieces",
         over(TEXTS, *SEARCHED),
+        left_out="",
     ),
-    "engines": (
-        "where matches end, by each engine and by a `Regex`: of one after the other, and of each line the first, in one "
-        "piece and in pieces; the aims for automata are 2.5 ns a byte, and 60 ns a line more than its bytes",
+    "engines": Topic(
+        "where matches end, by each engine and by a `Regex`, of all and of each line's first, a byte",
         over(TEXTS[:1], *SEARCHED),
+        left_out=r"in pieces of|(PikeVM|hybrid|dfa), line|: (lines with|matches|a .* is made)|todo|`\((a\*|\\w\+)\)",
     ),
-    "regexes": (
-        "a `Regex` over a rope, beside one slice, and line by line with one cache; the aims are at most 110 % of a "
-        "slice, a line below 150 ns more than its bytes, a cursor below 50 ns",
-        over(TEXTS, "", *EXPRESSIONS, "TODO", ".*x", "(a*)*b")
-        + over([("short", 400_000)], "TODO", "[0-9]+|0x[0-9a-f]+"),
+    "regexes": Topic(
+        "a `Regex` over a rope, beside one slice, and line by line with one cache",
+        over(TEXTS, *EXPRESSIONS, "TODO", ".*x", "(a*)*b") + over([("short", 400_000)], "TODO", "[0-9]+|0x[0-9a-f]+"),
+        left_out=r"^(mixed|japanese|400)|match(es)?$|todo|`\(a\*\)\*b`",
     ),
-    "many": (
-        "all matches of the first 1, 10 and 100 words of a text, each a pattern of one `Regex`, beside one pattern that is "
-        "their alternation; the aim is at most 1.2 times its time",
+    "cursors": Topic(
+        "a line of a rope, and a cursor over it",
+        over(TEXTS),
+        named="regexes",
+    ),
+    "many": Topic(
+        "all matches of the first 1, 10 and 100 words of a text, each a pattern of one `Regex`, beside their "
+        "alternation",
         over(TEXTS[:1], "1", "10", "100"),
     ),
 }

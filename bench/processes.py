@@ -1,0 +1,121 @@
+"""Programs that are given commands, and what these take: time, memory, instructions.
+
+Time is that of the processor that a program takes itself, the kernel's work for it included, so what else the machine
+does matters little; a program that runs alone on one thread takes as long by a clock.
+"""
+import os
+import re
+import statistics
+import subprocess
+import tempfile
+import time
+
+from texts import TOP
+
+PROGRAM = os.path.join(TOP, "bin", "rope-search")
+PLAIN = os.path.join(TOP, "bin", "plain")  # where cargo and Rust's regex are at hand: make bin/plain
+OURS, THEIRS = "rope-search", "plain Rust program"
+RUNS = 5
+
+
+def programs():
+    """The programs that take commands, by their names."""
+    return {OURS: PROGRAM, **({THEIRS: PLAIN} if os.path.exists(PLAIN) else {})}
+
+
+def command(word, payload):
+    return b"%s %d\n%s" % (word.encode(), len(payload), payload)
+
+
+def text_and_pattern(text, pattern):
+    """The commands that set both."""
+    return [command("text", text), command("pattern", pattern.encode())]
+
+
+def written(folder, name, *commands):
+    path = os.path.join(folder, name)
+    with open(path, "wb") as file:
+        file.write(b"".join(commands))
+    return path
+
+
+class Session:
+    """A program at the other end of pipes. Where it ended early, it answers nothing."""
+
+    def __init__(self, program):
+        self.process = subprocess.Popen([program], stdin=subprocess.PIPE, stdout=subprocess.PIPE)
+
+    def __enter__(self):
+        return self
+
+    def __exit__(self, *_):
+        try:
+            self.process.communicate()
+        except OSError:
+            self.process.wait()
+
+    def spent(self):
+        """The nanoseconds of the processor that the program took so far: the clock of its number, as
+        clock_getcpuclockid of C has it."""
+        return time.clock_gettime_ns(~self.process.pid << 3 | 2)
+
+    def ask(self, commands):
+        """The nanoseconds that commands take, and the replies, of a line each. Nobody reads a reply before the last
+        command is sent, so the replies have to fit into a pipe: 20,000 times `ok` do."""
+        try:
+            start = self.spent()
+            self.process.stdin.write(b"".join(commands))
+            self.process.stdin.flush()
+            said = b"".join(self.process.stdout.readline() for _ in commands)
+            return self.spent() - start, said
+        except OSError:
+            return 0, b""
+
+
+def taken(program, settings, *batches, runs=RUNS):
+    """What batches of commands take behind settings, one after the other in a session: for each the nanoseconds, in the
+    median of so many sessions, and the replies."""
+    times = []
+    for _ in range(runs):
+        with Session(program) as session:
+            session.ask(settings)
+            answers = [session.ask(batch) for batch in batches]
+        times.append([nanos for nanos, _ in answers])
+    return [(statistics.median(column), said) for column, (_, said) in zip(zip(*times), answers)]
+
+
+def timed(words, given=os.devnull, out=None):
+    """The nanoseconds of a run, and what it wrote where that goes to no file."""
+    with open(given, "rb") as stdin, open(out or os.devnull, "wb") as file:
+        process = subprocess.Popen(words, stdin=stdin, stdout=file if out else subprocess.PIPE)
+        said = b"" if out else process.stdout.read()
+        _, process.returncode, usage = os.wait4(process.pid, 0)
+        return round((usage.ru_utime + usage.ru_stime) * 1e9), said
+
+
+def nanos_of(call):
+    """The nanoseconds of a call, and its answer."""
+    start = time.process_time_ns()
+    answer = call()
+    return time.process_time_ns() - start, answer
+
+
+def peak_of(words, given):
+    """The most memory that a run held, in kB. A child of this program would be told with the pages that it had from
+    here before it began, so a small program starts it."""
+    with open(given, "rb") as stdin, tempfile.NamedTemporaryFile() as told:
+        by_time = ["/usr/bin/time", "-q", "-f", "%M", "-o", told.name, *words]
+        subprocess.run(by_time, stdin=stdin, stdout=subprocess.DEVNULL, check=True)
+        return int(told.read())
+
+
+def tells_peak():
+    return os.path.exists("/usr/bin/time")
+
+
+def instructions(program, given):
+    """How many instructions a program takes over a file: the same each time, whatever else the machine does."""
+    words = ["valgrind", "--tool=callgrind", "--callgrind-out-file=/dev/null", program]
+    with open(given, "rb") as stdin:
+        ran = subprocess.run(words, stdin=stdin, stdout=subprocess.DEVNULL, stderr=subprocess.PIPE, check=True)
+    return int(re.search(rb"Collected : (\d+)", ran.stderr)[1])
