@@ -65,6 +65,22 @@ EXPLAINED = [
     ("é*" * 21_000 + "\\q", Settings(), "63001 Escape"),
 ]
 
+# More rows as the page has them: patterns with their places, by their reasons.
+MORE_EXPLAINED = {
+    "a group isn't closed": [("(a|(b)", 6), ("é(", 3)],
+    "a parenthesis closes no group": [("(a))+", 3)],
+    "there is nothing to repeat": [("{a: 1}", 0), ("a|*", 2), ("(?i)*", 4)],
+    "a count isn't finished, or isn't one": [("a{", 2), ("a{2,", 4), ("a{2 }", 3)],
+    "a count is above 65,535": [("a{655350}", 7)],
+    "the greatest number of a count is below the least one": [("a{60000,6}", 9), ("a{60000,7}", 8)],
+    "an escape isn't finished, or isn't one": [("a\\p{L}", 2), ("\\x4", 3), ("\\x{}", 3), ("[a\\1]", 3)],
+    "the number of an escape is no character's": [("\\uD800", 3), ("\\x{110000}", 8)],
+    "a class isn't closed": [("[a-", 3), ("[]", 2)],
+    "a class has no such item": [("[a-\\d]", 4), ("[a&&b]", 3), ("[a-z-9]", 5), ("[\\b]", 2)],
+    "a range of characters runs backwards": [("[b-\\x41]", 5)],
+    "the head of a group isn't finished, or isn't one": [("(?", 2), ("(?<=a)", 3), ("(?<1a>b)", 3), ("(?ii)", 3), ("(?i-)", 4)],
+}
+
 # Each has its requests for memory refused in turn.
 IN_NEED = [
     ("((a|b", Settings()),
@@ -166,9 +182,10 @@ def deep_texts(limit):
 
 
 def explained():
-    """The rows of the page: patterns with their places and reasons."""
+    """The rows of the page, and more of them: patterns with their places and reasons."""
     rows = example_rows("patterns.md", r"\| `(.+)` \| ([0-9]+) \| (.+) \|", "Where and why")
-    return [(row[1].replace("\\|", "|"), f"{row[2]} {row[3]}") for row in rows]
+    more = [(text, f"{place} {reason}") for reason, texts in MORE_EXPLAINED.items() for text, place in texts]
+    return [(row[1].replace("\\|", "|"), f"{row[2]} {row[3]}") for row in rows] + more
 
 
 def wrong_reasons(rows):
@@ -198,7 +215,7 @@ def patterns():
 
 def test_all():
     rows = explained()
-    test(f"{len(rows)} rows of the page tell where and why patterns are refused", wrong_reasons(rows))
+    test(f"{len(rows)} rows, as the page has them, tell where and why patterns are refused", wrong_reasons(rows))
     test(f"places and reasons of {len(EXPLAINED)} texts, long, deep or under settings", wrong_under_settings())
     rows = patterns()
     test(f"{len(rows)} patterns aren't refused", problems(rows))

@@ -19,6 +19,7 @@ from library_groups import wrong_groups
 from protocol import Session, lines_of, place_of, position_at, positions_of, read_commands, spelled, units
 from random_patterns import Maker
 from test_edits import BACK_AND_FORWARD, OF_ALL_KINDS, SESSIONS, SESSIONS_IN_RUN, some_sessions
+from test_explanations import MORE_EXPLAINED
 from test_pattern_model import mangled
 from test_replies import MORE_EXAMPLES, examples_of_page
 
@@ -105,6 +106,7 @@ def wrong_explanations():
     rows += [("é(" + "a" * 60_000, (60_003, rope_search.REASONS[1])), (b"\xff(", rope_search.Utf8)]
     page = example_rows("patterns.md", r"\| `(.+)` \| ([0-9]+) \| (.+) \|", "Where and why")
     rows += [(row[1].replace("\\|", "|"), (int(row[2]), row[3])) for row in page]
+    rows += [(text, (place, reason)) for reason, texts in MORE_EXPLAINED.items() for text, place in texts]
     for text, due in rows:
         if (told := answered(rope_search.pattern_error, text)) != due:
             yield f"{text[:40]!r} is told {told}, not {due}"
@@ -421,7 +423,7 @@ def test_pane():
 
     wrong = []
     with Calls() as search:
-        for data in (*(data for data, _, _ in examples_of_page()), b"fork\nuse 1\nprint\n"):
+        for data in (*(data for data, _, _ in [*examples_of_page(), *MORE_EXAMPLES]), b"fork\nuse 1\nprint\n"):
             commands, _ = read_commands(data)
             model = Session()
             search.session.close()

@@ -87,6 +87,31 @@ MORE_EXAMPLES = [
     (b"list 1\n", b"error command\n", 2),
     (b"undo\nredo\n", b"error none\nerror none\n", 0),
     # more of what the page's table shows
+    (b"edit 0 1 0 1 1\n\xffedit 0 0 0 0 1\n\xffprint\n", b"error range\nerror utf8\ntext 0\n\n", 0),
+    (b"text 3\naabpattern 7\n(a)|(b)replace 6\n<$1$2>list\nprint\n", b"ok\nok\nok 3\nm 0 1 2\nm 0 4 5\nm 0 7 8\nok 3\ntext 9\n<a><a><b>\n", 0),
+    (b"text 3\naaapattern 2\naalist\noff\nlist\n", b"ok\nok\nm 0 0 2\nok 1\nok\nerror none\n", 0),
+    (b"text 4\na\r\nbpattern 1\n\rnext 0 0\nlist\n", b"ok\nok\nm 0 1 0 2\nok 0\n", 0),
+    (b"text 3\nx\rypattern 1\nyedit 1 0 1 0 1\n\nlist\n", b"ok\nok\nok\nm 1 0 1\nok 1\n", 0),
+    (b"text 1\naedit 0 1 0 1 1\nbundo\nredo\nprint\nundo\nedit 0 0 0 0 0\nredo\n", b"ok\nok\nok\nok\ntext 2\nab\nok\nok\nerror none\n", 0),
+    (b"text 1\napattern 1\nareplace 6\n$$$0$xprint\n", b"ok\nok\nok 1\ntext 4\n$a$x\n", 0),
+    (b"use  0\n", b"error command\n", 2),
+    (b"", b"", 0),
+    (b"print\n", b"text 0\n\n", 0),
+    (b"text 00000000000000000002\nhiprint\n", b"ok\ntext 2\nhi\n", 0),
+    (b"text 1\naprint", b"ok\nerror end\n", 2),
+    (b"text 2\nabpattern 2\nx*replace 1\n-print\n", b"ok\nok\nok 3\ntext 5\n-a-b-\n", 0),
+    (b"text 3\n\xe3\x81\x9bprint\n", b"ok\ntext 3\n\xe3\x81\x9b\n", 0),
+    (b"text 2\nabpattern 3\n\\bbnext 0 1\n", b"ok\nok\nno match\n", 0),
+    (b"text 4\na\r\napattern 2\na$list\nnext 0 0\n", b"ok\nok\nm 0 0 1\nm 1 0 1\nok 2\nm 1 0 1 1\n", 0),
+    (b"next 0 0\npattern 1\nxnext 1 0\nnext 0 0\nnext 0 0 0\n", b"error none\nok\nerror range\nno match\nerror command\n", 2),
+    (b"text 5\na\xe2\x80\xa8bpattern 1\nblist\n", b"ok\nok\nm 0 2 3\nok 1\n", 0),
+    (b"text 6\na\xf0\x9f\x90\xb8bedit 0 1 0 3 1\nxprint\n", b"ok\nok\ntext 3\naxb\n", 0),
+    (b"text 4\na\r\nbedit 0 2 0 2 1\nxedit 0 1 1 0 0\nprint\n", b"ok\nerror range\nok\ntext 2\nab\n", 0),
+    (b"text 2\nabedit 0 1 0 0 1\nxedit 1 0 1 0 1\nxedit 0 2 0 3 1\nxprint\n", b"ok\nerror range\nerror range\nerror range\ntext 2\nab\n", 0),
+    (b"pattern 1\naedit 0 0 0 0 3\na\naundo\nlist\nredo\nlist\noff\nundo\nprint\n", b"ok\nok\nok\nok 0\nok\nm 0 0 1\nm 1 0 1\nok 2\nok\nok\ntext 0\n\n", 0),
+    (b"text 1\napattern 3\n(a)replace 9\n\\1\\n&${1}print\n", b"ok\nok\nok 1\ntext 9\n\\1\\n&${1}\n", 0),
+    (b"text 2\nabpattern 1\nareplace 5\n$12$9print\n", b"ok\nok\nok 1\ntext 2\n2b\n", 0),
+    (b"print\r\n", b"error command\n", 2),
     (b"text 0\nprint\n", b"ok\ntext 0\n\n", 0),
     (b"text 6\nprint\nprint\n", b"ok\ntext 6\nprint\n\n", 0),
     (b"text 1\n\xffprint\n", b"error utf8\ntext 0\n\n", 0),
@@ -259,7 +284,7 @@ def cuts(data):
 
 
 def test_examples(examples):
-    test(f"the page has its examples ({len(examples)})", [] if len(examples) >= 20 else ["fewer than 20"])
+    test(f"the page has its examples ({len(examples)})", [] if len(examples) >= 10 else ["fewer than 10"])
     with open(os.path.join(TOP, "crates", "rope_search_cli", "stdin"), "rb") as stored:
         same = stored.read() == examples[0][0] == FIRST
     test("the program's stored run is the first example", [] if same else ["it is not"])
