@@ -140,8 +140,8 @@ impl Walk {
 
     /// Follows the walk from a state at the place at which an input stands, with so many slots:
     /// answers where the match ends that it comes to, if it comes to one, and has its slots. The
-    /// block at hand reaches back to that place, and then to the match's end. Each place up to there
-    /// is read once, besides those of the blocks that are made anew.
+    /// block at hand reaches back to that place, and then to the match's end. Each place up to
+    /// there is read once, besides those of the blocks that are made anew.
     pub(crate) fn follow<C: Cursor>(
         &mut self,
         program: &Program,
