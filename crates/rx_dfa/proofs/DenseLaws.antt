@@ -1,24 +1,25 @@
 -- Automata that are closed.
-use Rattle.std.proofs.Common.{inl, inr, ◌≡◌, ℕ, zero, suc, ◌+◌, ◌-◌, ◌*◌, ◌<◌, ◌≤◌, max, Bool, List, [], ◌∷◌, ◌++◌, length, set, Option, Some, None, slice_get, refl, sym, ap, ap₂, subst, ◌∙◌, arith}
+use Rattle.std.proofs.Common.{inl, inr, ◌≡◌, ℕ, zero, suc, ◌+◌, ◌-◌, ◌*◌, ◌<◌, ◌≤◌, max, Bool, false, List, [], ◌∷◌, ◌++◌, length, set, Option, Some, None, slice_get, refl, sym, ap, ap₂, subst, ◌∙◌, arith}
 use Rattle.std.specs.Prelude.{◌==◌}
 use Rattle.std.proofs.lemmas.Option.{slice_get_within}
 use Rattle.std.proofs.Math.Nat.{le-mul_of_pos_right, mul-le-mul_right}
 use Rattle.rx_util.specs.Search.{HalfFound}
 use Rattle.rx_walks.specs.Finds.{unanchored, anchored, anchored_pattern, Search}
-use Rattle.rx_program.specs.Programs.{ByteProgram}
 use Rattle.rx_dfa.specs.declared.automaton.Automaton.{Automaton}
 use Rattle.rx_dfa.specs.declared.states.AutomatonState.{AutomatonState}
 use Rattle.rx_dfa.specs.declared.states.Starting.{Starting}
 use Rattle.rx_dfa.specs.declared.states.Starting.TheVariants.{Never, Once, Always}
 use Rattle.rx_dfa.specs.declared.behind.Behind.{Behind}
 use Rattle.rx_dfa.specs.Behind.{behind_of}
+use Rattle.rx_dfa.specs.Directions.{Directed}
+use Rattle.rx_dfa.specs.Automata.{directed}
 use Rattle.rx_dfa.specs.Classes.{byte_of, class_of}
 use Rattle.rx_dfa.specs.States.{ahead_of_end}
-use Rattle.rx_dfa.specs.Alphabets.{AlphabetView, IsAlphabetOf, ahead_at, ahead_in, column_count}
+use Rattle.rx_dfa.specs.Alphabets.{AlphabetView, TellsApart, ahead_at, ahead_in, column_count}
 use Rattle.rx_dfa.specs.Caches.{CacheView, HoldsSteps, IsEntry, IsEntryTo, KeepNumbers, LeadsTo, ends_to, over_to, plain_to, unknown_to}
 use Rattle.rx_dfa.specs.Searching.{StartsSo}
-use Rattle.rx_dfa.specs.Tables.{IsBeginning, StartsFrom}
-use Rattle.rx_dfa.specs.DenseTables.{AreKnown, Grows, HasAllStarts, HasOneFirst, HasStarts, HasStartsFrom, HaveRows, IsClosedOf, IsKnownAt, in_reach, no_more}
+use Rattle.rx_dfa.specs.Tables.{IsBeginning}
+use Rattle.rx_dfa.specs.DenseTables.{AreKnown, Grows, HasAllStarts, HasOneFirst, HasStarts, HasStartsFrom, HaveRows, IsClosedOf, IsKnownAt, StartsFrom, in_reach, no_more}
 use Rattle.rx_dfa.proofs.ClassLaws.{below_or_not, same_or_not}
 use Rattle.rx_dfa.proofs.PassLaws.{byte_in_class}
 use Rattle.rx_dfa.proofs.StepLaws.{behind_alike}
@@ -74,10 +75,10 @@ grows_entered before after cell entry known states table = record {
   entries = λ place was. subst (λ t. IsKnownAt t place) (sym table) (known_set before.table cell entry place known was);
 }
 
-same_width : (p : ByteProgram) (alphabet : AlphabetView) (before after : CacheView) → HoldsSteps p alphabet before → HoldsSteps p alphabet after → before.width ≡ after.width
+same_width : (p : Directed) (alphabet : AlphabetView) (before after : CacheView) → HoldsSteps p alphabet before → HoldsSteps p alphabet after → before.width ≡ after.width
 same_width p alphabet before after was is = was.width ∙ sym is.width
 
-pub known_grown : (p : ByteProgram) (alphabet : AlphabetView) (before after : CacheView) (n : ℕ) → HoldsSteps p alphabet before → HoldsSteps p alphabet after → Grows before after → AreKnown before n → AreKnown after n
+pub known_grown : (p : Directed) (alphabet : AlphabetView) (before after : CacheView) (n : ℕ) → HoldsSteps p alphabet before → HoldsSteps p alphabet after → Grows before after → AreKnown before n → AreKnown after n
 known_grown p alphabet before after n was is grows known number column lt in_row =
     let width = same_width p alphabet before after was is in
     subst (λ w. IsKnownAt after.table (number * w + column)) width (grows.entries (number * before.width + column) (known number column lt (subst (λ w. column < w) (sym width) in_row)))
@@ -97,24 +98,19 @@ known_more cache n w same known row number column lt in_row = elim (same_or_not 
 first_still : (states states' : List AutomatonState) (starting : Starting) (behind : Behind) → KeepNumbers states states' → HasOneFirst states starting behind → HasOneFirst states' starting behind
 first_still states states' starting behind keep (number, has) = (number, record { state = has.state; stands = keep number has.state has.stands; first = has.first })
 
-pub starts_still : (states states' : List AutomatonState) (q : ℕ) (behind : Behind) → KeepNumbers states states' → HasStarts states q behind → HasStarts states' q behind
-starts_still states states' q behind keep has = record {
-  never = first_still states states' Never behind keep has.never;
-  once = first_still states states' (Once q) behind keep has.once;
-  always = first_still states states' (Always q) behind keep has.always;
-}
+pub starts_still : (is_back : Bool) (states states' : List AutomatonState) (q : ℕ) (behind : Behind) → KeepNumbers states states' → HasStarts is_back states q behind → HasStarts is_back states' q behind
+starts_still is_back states states' q behind keep has starting from = first_still states states' starting behind keep (has starting from)
 
-pub starts_three : (a b c : List AutomatonState) (q : ℕ) (behind : Behind) → KeepNumbers a b → KeepNumbers b c → HasOneFirst a Never behind → HasOneFirst b (Once q) behind → HasOneFirst c (Always q) behind → HasStarts c q behind
-starts_three a b c q behind keep keep' never once always = record {
-  never = first_still b c Never behind keep' (first_still a b Never behind keep never);
-  once = first_still b c (Once q) behind keep' once;
-  always = always;
-}
+-- however walks start forward
+pub starts_three : (a b c : List AutomatonState) (q : ℕ) (behind : Behind) → KeepNumbers a b → KeepNumbers b c → HasOneFirst a Never behind → HasOneFirst b (Once q) behind → HasOneFirst c (Always q) behind → HasStarts false c q behind
+starts_three a b c q behind keep keep' never once always Never from = first_still b c Never behind keep' (first_still a b Never behind keep never)
+starts_three a b c q behind keep keep' never once always (Once r) from = subst (λ k. HasOneFirst c (Once k) behind) (sym from) (first_still b c (Once q) behind keep' once)
+starts_three a b c q behind keep keep' never once always (Always r) from = subst (λ k. HasOneFirst c (Always k) behind) (sym from.1) always
 
-pub starts_from_still : (p : ByteProgram) (alphabet : AlphabetView) (states states' : List AutomatonState) (q : ℕ) → KeepNumbers states states' → HasStartsFrom p alphabet states q → HasStartsFrom p alphabet states' q
-starts_from_still p alphabet states states' q keep has byte may = starts_still states states' q (behind_of alphabet.asked p.line_terminator byte) keep (has byte may)
+pub starts_from_still : (p : Directed) (alphabet : AlphabetView) (states states' : List AutomatonState) (q : ℕ) → KeepNumbers states states' → HasStartsFrom p alphabet states q → HasStartsFrom p alphabet states' q
+starts_from_still p alphabet states states' q keep has byte may = starts_still p.is_back states states' q (behind_of alphabet.asked p.bytes.line_terminator byte) keep (has byte may)
 
-pub all_starts_still : (p : ByteProgram) (alphabet : AlphabetView) (states states' : List AutomatonState) → KeepNumbers states states' → HasAllStarts p alphabet states → HasAllStarts p alphabet states'
+pub all_starts_still : (p : Directed) (alphabet : AlphabetView) (states states' : List AutomatonState) → KeepNumbers states states' → HasAllStarts p alphabet states → HasAllStarts p alphabet states'
 all_starts_still p alphabet states states' keep has anchoring q starts = starts_from_still p alphabet states states' q keep (has anchoring q starts)
 
 none_behind : (xs : List ℕ) → slice_get xs (length xs) ≡ None
@@ -122,33 +118,29 @@ none_behind [] = refl
 none_behind (x ∷ xs) = none_behind xs
 
 -- the columns stand for all bytes, and for none
-pub starts_in_columns : (p : ByteProgram) (alphabet : AlphabetView) (states : List AutomatonState) (q : ℕ) → IsAlphabetOf p alphabet → ((k : ℕ) → k < column_count alphabet → HasStarts states q (behind_of alphabet.asked p.line_terminator (slice_get alphabet.classes.bytes k))) → HasStartsFrom p alphabet states q
-starts_in_columns p alphabet states q made has None may = subst (λ o. HasStarts states q (behind_of alphabet.asked p.line_terminator o)) (none_behind alphabet.classes.bytes) (has (length alphabet.classes.bytes) (omega arith))
+pub starts_in_columns : (p : Directed) (alphabet : AlphabetView) (states : List AutomatonState) (q : ℕ) → TellsApart p.bytes alphabet → ((k : ℕ) → k < column_count alphabet → HasStarts p.is_back states q (behind_of alphabet.asked p.bytes.line_terminator (slice_get alphabet.classes.bytes k))) → HasStartsFrom p alphabet states q
+starts_in_columns p alphabet states q made has None may = subst (λ o. HasStarts p.is_back states q (behind_of alphabet.asked p.bytes.line_terminator o)) (none_behind alphabet.classes.bytes) (has (length alphabet.classes.bytes) (omega arith))
 starts_in_columns p alphabet states q made has (Some b) may =
     let class = made.classes b may in
     let here = has (class_of alphabet.classes b) (omega (arith, class.has_class)) in
-    subst (λ z. HasStarts states q z) (ap (λ o. behind_of alphabet.asked p.line_terminator o) (byte_in_class p alphabet b made may) ∙ behind_alike p alphabet.asked (byte_of alphabet.classes b) b class.alike) here
+    subst (λ z. HasStarts p.is_back states q z) (ap (λ o. behind_of alphabet.asked p.bytes.line_terminator o) (byte_in_class p.bytes alphabet b made may) ∙ behind_alike p.bytes alphabet.asked (byte_of alphabet.classes b) b class.alike) here
 
 -- the start of all patterns, and that of each, are all from which walks of a search start
-pub starts_by_patterns : (p : ByteProgram) (alphabet : AlphabetView) (states : List AutomatonState) → HasStartsFrom p alphabet states p.start → ((k q : ℕ) → slice_get p.patterns k ≡ Some q → HasStartsFrom p alphabet states q) → HasAllStarts p alphabet states
-starts_by_patterns p alphabet states all each unanchored q starts = let same : Some p.start ≡ Some q = starts in subst (λ r. HasStartsFrom p alphabet states r) (cc same) all
-starts_by_patterns p alphabet states all each anchored q starts = let same : Some p.start ≡ Some q = starts in subst (λ r. HasStartsFrom p alphabet states r) (cc same) all
+pub starts_by_patterns : (p : Directed) (alphabet : AlphabetView) (states : List AutomatonState) → HasStartsFrom p alphabet states p.bytes.start → ((k q : ℕ) → slice_get p.bytes.patterns k ≡ Some q → HasStartsFrom p alphabet states q) → HasAllStarts p alphabet states
+starts_by_patterns p alphabet states all each unanchored q starts = let same : Some p.bytes.start ≡ Some q = starts in subst (λ r. HasStartsFrom p alphabet states r) (cc same) all
+starts_by_patterns p alphabet states all each anchored q starts = let same : Some p.bytes.start ≡ Some q = starts in subst (λ r. HasStartsFrom p alphabet states r) (cc same) all
 starts_by_patterns p alphabet states all each (anchored_pattern k) q starts = each k q starts
 
 -- the state in which a search begins is there
-pub one_first : (states : List AutomatonState) (q : ℕ) (behind : Behind) (starting : Starting) → HasStarts states q behind → StartsFrom q starting → HasOneFirst states starting behind
-one_first states q behind Never has from = has.never
-one_first states q behind (Once r) has from = subst (λ k. HasOneFirst states (Once k) behind) (sym from) has.once
-one_first states q behind (Always r) has from = subst (λ k. HasOneFirst states (Always k) behind) (sym from) has.always
-
-pub begins_there : (a : Automaton) (table : CacheView) (starting : Starting) (behind : Behind) → IsClosedOf a.program.now a.alphabet.now table → IsBeginning a starting behind → HasOneFirst table.states starting behind
+pub begins_there : (a : Automaton) (table : CacheView) (starting : Starting) (behind : Behind) → IsClosedOf (directed a) a.alphabet.now table → IsBeginning a starting behind → HasOneFirst table.states starting behind
 begins_there a table starting behind closed begins =
-    one_first table.states begins.start behind starting (subst (λ z. HasStarts table.states begins.start z) (sym begins.behind_is) (closed.starts begins.anchoring begins.start begins.starts begins.byte begins.may_be)) begins.starting_is
+    subst (λ z. HasOneFirst table.states starting z) (sym begins.behind_is) (closed.starts begins.anchoring begins.start begins.starts begins.byte begins.may_be starting begins.starting_is)
 
-pub starts_from : (s : Search) (q i : ℕ) (starting : Starting) (met : Option HalfFound) → StartsSo s q i starting met → StartsFrom q starting
-starts_from s q i Never met so = tt
-starts_from s q i (Once r) met so = so.0
-starts_from s q i (Always r) met so = so.0
+-- a search forward begins with any of them
+pub starts_from : (is_back : Bool) (s : Search) (q i : ℕ) (starting : Starting) (met : Option HalfFound) → is_back ≡ false → StartsSo s q i starting met → StartsFrom is_back q starting
+starts_from is_back s q i Never met way so = way
+starts_from is_back s q i (Once r) met way so = so.0
+starts_from is_back s q i (Always r) met way so = (way, so.0)
 
 -- ---- the columns of the end
 
@@ -164,7 +156,7 @@ end_in alphabet k may_begin le e = ap₂ (λ m o. ahead_at alphabet.utf8_empty m
 -- ---- steps that are known
 
 -- an entry that doesn't stop a search leads to a state
-pub known_leads : (p : ByteProgram) (alphabet : AlphabetView) (cache : CacheView) (number column entry at : ℕ) (x : AutomatonState) → IsClosedOf p alphabet cache → slice_get cache.states number ≡ Some x → column < column_count alphabet → slice_get cache.table (number * cache.width + column) ≡ Some entry → (entry ≡ 4294967294 → ⊥)
+pub known_leads : (p : Directed) (alphabet : AlphabetView) (cache : CacheView) (number column entry at : ℕ) (x : AutomatonState) → IsClosedOf p alphabet cache → slice_get cache.states number ≡ Some x → column < column_count alphabet → slice_get cache.table (number * cache.width + column) ≡ Some entry → (entry ≡ 4294967294 → ⊥)
     → ((n : ℕ) → entry ≡ n * cache.width → entry < 2147483648 → at ≡ n) → ((n : ℕ) → entry ≡ 2147483648 + n * cache.width → entry < 3221225472 → at ≡ n) → ((n : ℕ) → entry ≡ 3221225472 + n * cache.width → at ≡ n) → LeadsTo p alphabet cache.states x (ahead_in alphabet column) at
 known_leads p alphabet cache number column entry at x closed stands in_row is goes plain ends over =
     let inside : column < cache.width = omega (arith, in_row, closed.made.width) in
@@ -173,14 +165,14 @@ known_leads p alphabet cache number column entry at x closed stands in_row is go
     entry_steps p alphabet cache.width cache.states x (ahead_in alphabet column) entry at (λ e. known.known (sym same ∙ e)) goes plain ends over (closed.made.entries number column entry x stands inside is)
 
 -- where an entry is set the state's other entries stay right
-pub entered : (p : ByteProgram) (alphabet : AlphabetView) (before middle after : CacheView) (number column entry : ℕ) → HoldsSteps p alphabet before → HoldsSteps p alphabet middle → Grows before middle → number < length before.states → column < before.width
+pub entered : (p : Directed) (alphabet : AlphabetView) (before middle after : CacheView) (number column entry : ℕ) → HoldsSteps p alphabet before → HoldsSteps p alphabet middle → Grows before middle → number < length before.states → column < before.width
     → ((x : AutomatonState) → slice_get before.states number ≡ Some x → IsEntry p alphabet middle.width middle.states x (ahead_in alphabet column) entry) → after.table ≡ set middle.table (number * middle.width + column) entry → after.states ≡ middle.states → after.widths ≡ middle.widths → after.width ≡ middle.width → after.used ≡ middle.used → HoldsSteps p alphabet after
 entered p alphabet before middle after number column entry was is grows lt in_row right table states widths width used =
     let here = there_is before.states number lt in
     cache_set p alphabet middle after number column entry here.0 is (grows.numbers number here.0 here.1) (subst (λ w. column < w) (same_width p alphabet before middle was is) in_row) (right here.0 here.1) table states widths width used
 
 -- and it is known then
-pub entered_known : (p : ByteProgram) (alphabet : AlphabetView) (before middle after : CacheView) (number column entry : ℕ) → HoldsSteps p alphabet before → HoldsSteps p alphabet middle → Grows before middle → number < length before.states → column < before.width → (entry ≡ 4294967295 → ⊥)
+pub entered_known : (p : Directed) (alphabet : AlphabetView) (before middle after : CacheView) (number column entry : ℕ) → HoldsSteps p alphabet before → HoldsSteps p alphabet middle → Grows before middle → number < length before.states → column < before.width → (entry ≡ 4294967295 → ⊥)
     → after.table ≡ set middle.table (number * middle.width + column) entry → after.width ≡ middle.width → IsKnownAt after.table (number * after.width + column)
 entered_known p alphabet before middle after number column entry was is grows lt in_row known table width =
     let here = there_is before.states number lt in
@@ -194,7 +186,7 @@ pub known_all : (cache : CacheView) (n m : ℕ) → m ≤ n → AreKnown cache n
 known_all cache n m le known number column lt in_row = known number column (omega (arith, le, lt)) in_row
 
 -- a row with one entry more
-pub row_more : (p : ByteProgram) (alphabet : AlphabetView) (before after : CacheView) (n column : ℕ) → HoldsSteps p alphabet before → HoldsSteps p alphabet after → Grows before after → ((k : ℕ) → k < column → IsKnownAt before.table (n * before.width + k)) → IsKnownAt after.table (n * after.width + column)
+pub row_more : (p : Directed) (alphabet : AlphabetView) (before after : CacheView) (n column : ℕ) → HoldsSteps p alphabet before → HoldsSteps p alphabet after → Grows before after → ((k : ℕ) → k < column → IsKnownAt before.table (n * before.width + k)) → IsKnownAt after.table (n * after.width + column)
     → (k : ℕ) → k < column + 1 → IsKnownAt after.table (n * after.width + k)
 row_more p alphabet before after n column was is grows row here k lt = elim (same_or_not k column) [
   | inl e ↦ subst (λ j. IsKnownAt after.table (n * after.width + j)) (sym e) here
@@ -205,11 +197,11 @@ row_more p alphabet before after n column was is grows row here k lt = elim (sam
     below other = omega (arith, lt, other)
 
 -- first states for what stands in one column more
-pub starts_more : (p : ByteProgram) (alphabet : AlphabetView) (before after : List AutomatonState) (q column : ℕ) → KeepNumbers before after → ((k : ℕ) → k < column → HasStarts before q (behind_of alphabet.asked p.line_terminator (slice_get alphabet.classes.bytes k))) → HasStarts after q (behind_of alphabet.asked p.line_terminator (slice_get alphabet.classes.bytes column))
-    → (k : ℕ) → k < column + 1 → HasStarts after q (behind_of alphabet.asked p.line_terminator (slice_get alphabet.classes.bytes k))
+pub starts_more : (p : Directed) (alphabet : AlphabetView) (before after : List AutomatonState) (q column : ℕ) → KeepNumbers before after → ((k : ℕ) → k < column → HasStarts p.is_back before q (behind_of alphabet.asked p.bytes.line_terminator (slice_get alphabet.classes.bytes k))) → HasStarts p.is_back after q (behind_of alphabet.asked p.bytes.line_terminator (slice_get alphabet.classes.bytes column))
+    → (k : ℕ) → k < column + 1 → HasStarts p.is_back after q (behind_of alphabet.asked p.bytes.line_terminator (slice_get alphabet.classes.bytes k))
 starts_more p alphabet before after q column keep starts here k lt = elim (same_or_not k column) [
-  | inl e ↦ subst (λ j. HasStarts after q (behind_of alphabet.asked p.line_terminator (slice_get alphabet.classes.bytes j))) (sym e) here
-  | inr other ↦ starts_still before after q (behind_of alphabet.asked p.line_terminator (slice_get alphabet.classes.bytes k)) keep (starts k (below other))
+  | inl e ↦ subst (λ j. HasStarts p.is_back after q (behind_of alphabet.asked p.bytes.line_terminator (slice_get alphabet.classes.bytes j))) (sym e) here
+  | inr other ↦ starts_still p.is_back before after q (behind_of alphabet.asked p.bytes.line_terminator (slice_get alphabet.classes.bytes k)) keep (starts k (below other))
 ]
   where
     below : (k ≡ column → ⊥) → k < column

@@ -12,14 +12,14 @@ use Rattle.rx_dfa.specs.Searching.{byte_before}
 use Rattle.rx_dfa.specs.Passing.{StandThere}
 use Rattle.rx_dfa.proofs.ClassLaws.{below_or_not}
 
-get_dropped : (xs : List ℕ) (n k : ℕ) → slice_get (drop n xs) k ≡ slice_get xs (n + k)
+pub get_dropped : (xs : List ℕ) (n k : ℕ) → slice_get (drop n xs) k ≡ slice_get xs (n + k)
 get_dropped xs zero k = ap (λ j. slice_get xs j) (omega arith)
 get_dropped [] (suc n) k = refl
 get_dropped (x ∷ xs) (suc n) k =
     let more : suc (n + k) ≡ suc n + k = omega arith in
     get_dropped xs n k ∙ ap (λ j. slice_get (x ∷ xs) j) more
 
-get_taken : (xs : List ℕ) (n k b : ℕ) → slice_get (take n xs) k ≡ Some b → slice_get xs k ≡ Some b
+pub get_taken : (xs : List ℕ) (n k b : ℕ) → slice_get (take n xs) k ≡ Some b → slice_get xs k ≡ Some b
 get_taken [] zero k b e = absurd (cc e)
 get_taken [] (suc n) k b e = absurd (cc e)
 get_taken (x ∷ xs) zero k b e = absurd (cc e)

@@ -13,3 +13,5 @@ pub mod ScanLaws
 pub mod EndLaws
 pub mod DenseLaws
 pub mod LowerLaws
+pub mod BackInputLaws
+pub mod BackLaws

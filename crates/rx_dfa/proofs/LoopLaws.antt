@@ -28,6 +28,7 @@ use Rattle.rx_dfa.specs.declared.states.Starting.{Starting}
 use Rattle.rx_dfa.specs.declared.states.Starting.TheVariants.{Never, Once, Always}
 use Rattle.rx_dfa.specs.declared.states.AutomatonState.{AutomatonState}
 use Rattle.rx_dfa.specs.Behind.{looks_of, quits}
+use Rattle.rx_dfa.specs.Directions.{forward}
 use Rattle.rx_dfa.specs.States as states
 use Rattle.rx_dfa.specs.States.{start_at, starting_after, place_of_step, IsStep}
 use Rattle.rx_dfa.specs.Searching.{AreAskedBy, half_outcome, met_after, StartsSo, HasReached, byte_after, IsBehind, IsAhead, IsHalfAnswer}
@@ -66,10 +67,10 @@ stands laws p asked s i x ahead are inside behind here = record {
       ∙ ap (λ o. is_among (looks_of p.line_terminator x.behind o) l) here.seen;
 }
 
-steps_here : Laws → (p : ByteProgram) (asked : AskedLooks) (s : Search) (i : ℕ) (x y : AutomatonState) (ahead : Ahead) (step : IsStep p asked x ahead y) → AreAskedBy p.states asked → AreBare x.threads.threads → IsInside s i → IsBehind p asked s i x → IsAhead p asked s i ahead
+steps_here : Laws → (p : ByteProgram) (asked : AskedLooks) (s : Search) (i : ℕ) (x y : AutomatonState) (ahead : Ahead) (step : IsStep (forward p) asked x ahead y) → AreAskedBy p.states asked → AreBare x.threads.threads → IsInside s i → IsBehind p asked s i x → IsAhead p asked s i ahead
     → Steps (machine_in p s) i [] (x.threads.threads ++ states.started (start_at x.starting ahead.may_begin)) step.next (met_at i y.ended [])
 steps_here laws p asked s i x y ahead step are bare inside behind here =
-    laws.alike p (place_of_step p.line_terminator x ahead) (place_at p i x ahead) (x.threads.threads ++ states.started (start_at x.starting ahead.may_begin)) step.next y.ended step.slots
+    laws.alike p (place_of_step (forward p) x ahead) (place_at p i x ahead) (x.threads.threads ++ states.started (start_at x.starting ahead.may_begin)) step.next y.ended step.slots
     (bare_started x (start_at x.starting ahead.may_begin) bare) (record { reads = same_read p ahead.read; looks = λ l asks. refl }) step.list (haystack_in p.line_terminator s) i (stands laws p asked s i x ahead are inside behind here)
 
 -- ---- how far a search has come
@@ -117,7 +118,7 @@ cannot_begin s i may told e can = no_truth may (told.1 can) e
 
 -- A place is passed by the step of a state.
 pub place_passed : Laws → (p : ByteProgram) (asked : AskedLooks) (s : Search) (q i : ℕ) (x y : AutomatonState) (ahead : Ahead) (met : Option HalfFound) → AreAskedBy p.states asked → AreBare x.threads.threads → IsInside s i → IsBehind p asked s i x
-    → IsAhead p asked s i ahead → IsStep p asked x ahead y → HasReached p s q i x met → HasReached p s q (i + 1) y (met_after i y.ended met)
+    → IsAhead p asked s i ahead → IsStep (forward p) asked x ahead y → HasReached p s q i x met → HasReached p s q (i + 1) y (met_after i y.ended met)
 place_passed laws p asked s q i x y ahead met are bare inside behind here step reached = record {
   come = by x.starting ahead.may_begin (can_begin s i ahead.may_begin here.may_begin) (cannot_begin s i ahead.may_begin here.may_begin) (steps_here laws p asked s i x y ahead step are bare inside behind here) reached.starts;
   starts = subst (λ z. StartsSo s q (i + 1) z (met_after i y.ended met)) (sym step.starting) (starts_on s q i x.starting y.ended met reached.starts);
@@ -191,10 +192,10 @@ thin_gone e (left_out c thins) = absurd (cc e)
 
 -- the last place is passed by a step that reads nothing
 pub end_answers : Laws → (p : ByteProgram) (asked : AskedLooks) (s : Search) (q i : ℕ) (x y : AutomatonState) (ahead : Ahead) (met : Option HalfFound) → IsByteProgram p → KeepingLaw → start_node (characters_of p) s.anchoring ≡ Some q → AreAskedBy p.states asked
-    → AreBare x.threads.threads → IsInside s i → i ≡ highest s → ahead.read ≡ None → IsBehind p asked s i x → IsAhead p asked s i ahead → IsStep p asked x ahead y → HasReached p s q i x met → IsHalfAnswer p s (met_after i y.ended met)
+    → AreBare x.threads.threads → IsInside s i → i ≡ highest s → ahead.read ≡ None → IsBehind p asked s i x → IsAhead p asked s i ahead → IsStep (forward p) asked x ahead y → HasReached p s q i x met → IsHalfAnswer p s (met_after i y.ended met)
 end_answers laws p asked s q i x y ahead met reads law starts are bare inside last none behind here step reached =
     let on = place_passed laws p asked s q i x y ahead met are bare inside behind here step reached in
-    let gone : step.next ≡ [] = laws.end p (place_of_step p.line_terminator x ahead) (x.threads.threads ++ states.started (start_at x.starting ahead.may_begin)) step.next y.ended step.slots none step.list in
+    let gone : step.next ≡ [] = laws.end p (place_of_step (forward p) x ahead) (x.threads.threads ++ states.started (start_at x.starting ahead.may_begin)) step.next y.ended step.slots none step.list in
     half_answer p s q (met_after i y.ended met) reads law starts
     (search_over p s q (i + 1) y.threads.threads (met_after i y.ended met) (thin_gone gone step.thins)
     (λ e j from begins. let inside' = begins.0.0 in omega (arith, from, last, inside'.1, inside'.3, inside'.4)) on.come)

@@ -9,7 +9,12 @@ use Rattle.rx_walks.proofs.RefinementLaws.{finds_unrefined}
 use Rattle.rx_walks.proofs.ProgramLaws.{bytes_refine}
 use Rattle.rx_walks.proofs.WholeLaws.{reads_whole}
 use Rattle.rx_walks.proofs.LikenessLaws.{find_noted_back, keeps_notes}
+use Rattle.rx_walks.proofs.SearchedLaws.{program_is_searched_back}
+use Rattle.rx_steps.proofs.BackAnswerLaws.{SearchedBackLaw}
 use Rattle.rx_steps.proofs.AnswerLaws.{KeepingLaw}
+use Rattle.rx_steps.proofs.AlikeLaws.{steps_are_alike}
+use Rattle.rx_steps.proofs.AlikeBackLaws.{steps_back_are_alike}
+use Rattle.rx_dfa.proofs.StepLaws.{AlikeLaws}
 use Rattle.rx_walks.specs.Laws.{FirstCharacterStands, LastCharacterStands}
 use Rattle.rx_walks.proofs.CharacterLaws.{first_stands, stands_first}
 use Rattle.rx_walks.proofs.LookLaws.{last_stands, stands_last}
@@ -29,3 +34,11 @@ keeping_law put kept member is_word p step members keeps s q out starts searches
     (finds_unrefined q (bytes_refine put (first_by member) step p.nodes h members) (search_finds searches)) in
     let own = find_noted_back {fresh = fresh_notes} (keeps_notes put kept (first_by member) p.nodes h keeps) found in
     (own.0, own.1, subst (λ x. IfStarts x (λ q'. IsFind (machine_of member is_word p s) fresh_notes s q') own.0) (sym starts) own.2)
+
+-- steps are alike at places that are, forward and back
+pub alike_laws : AlikeLaws
+alike_laws = record { forward = steps_are_alike; back = steps_back_are_alike }
+
+-- what a search finds in the content turned round is what the program finds back
+pub searched_back : SearchedBackLaw
+searched_back = λ member is_word p step above members s fits keeps. program_is_searched_back member is_word p step above members s fits keeps

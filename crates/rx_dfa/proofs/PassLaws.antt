@@ -7,56 +7,57 @@ use Rattle.rx_util.specs.Search.{HalfFound}
 use Rattle.rx_program.specs.Programs.{ByteProgram}
 use Rattle.std.specs.Prelude.{◌==◌}
 use Rattle.rx_steps.specs.declared.asked.AskedLooks.{AskedLooks}
-use Rattle.rx_steps.specs.Alike.{AreBare, StepsAreAlike}
+use Rattle.rx_steps.specs.Alike.{AreBare}
 use Rattle.rx_dfa.specs.declared.automaton.Automaton.{Automaton}
 use Rattle.rx_dfa.specs.declared.scan.PassedEnd.{PassedEnd}
 use Rattle.rx_dfa.specs.declared.states.AutomatonState.{AutomatonState}
 use Rattle.rx_dfa.specs.Classes.{class_of, byte_of, AreAlikeBytes}
 use Rattle.rx_dfa.specs.Behind.{quits}
+use Rattle.rx_dfa.specs.Directions.{Directed}
 use Rattle.rx_dfa.specs.States.{ahead_of, IsStateOf, IsStep}
-use Rattle.rx_dfa.specs.Alphabets.{AlphabetView, IsAlphabetOf, ahead_at, ahead_in}
+use Rattle.rx_dfa.specs.Alphabets.{AlphabetView, TellsApart, ahead_at, ahead_in}
 use Rattle.rx_dfa.specs.Caches.{CacheView, HoldsSteps, LeadsTo, IsEntry, unknown, quit, plain, ends, over}
 use Rattle.rx_dfa.specs.Passing.{Passes, none, more, IsMetAt, IsNoted, Run, IsRunning, HasPassed}
 use Rattle.rx_dfa.specs.Searching.{met_after}
-use Rattle.rx_dfa.specs.Tables.{IsAutomaton}
-use Rattle.rx_dfa.proofs.StepLaws.{step_alike}
+use Rattle.rx_dfa.specs.Automata.{IsAutomaton, directed}
+use Rattle.rx_dfa.proofs.StepLaws.{AlikeLaws, step_alike}
 use Rattle.rx_dfa.proofs.TableLaws.{row_room}
 
 -- ---- a step over a byte of a class
 
-pub byte_in_class : (p : ByteProgram) (alphabet : AlphabetView) (b : ℕ) → IsAlphabetOf p alphabet → b < 256 → slice_get alphabet.classes.bytes (class_of alphabet.classes b) ≡ Some (byte_of alphabet.classes b)
+pub byte_in_class : (p : ByteProgram) (alphabet : AlphabetView) (b : ℕ) → TellsApart p alphabet → b < 256 → slice_get alphabet.classes.bytes (class_of alphabet.classes b) ≡ Some (byte_of alphabet.classes b)
 byte_in_class p alphabet b made low = slice_get-get_or alphabet.classes.bytes (class_of alphabet.classes b) 0 (made.classes b low).has_class
 
-pub column_inside : (p : ByteProgram) (alphabet : AlphabetView) (cache : CacheView) (b : ℕ) → IsAlphabetOf p alphabet → HoldsSteps p alphabet cache → b < 256 → class_of alphabet.classes b < cache.width
+pub column_inside : (p : Directed) (alphabet : AlphabetView) (cache : CacheView) (b : ℕ) → TellsApart p.bytes alphabet → HoldsSteps p alphabet cache → b < 256 → class_of alphabet.classes b < cache.width
 column_inside p alphabet cache b made is low = omega (arith, (made.classes b low).has_class, is.width)
 
 pub quits_alike : (p : ByteProgram) (asked : AskedLooks) (b c : ℕ) → AreAlikeBytes p asked b c → quits asked (Some b) ≡ quits asked (Some c)
 quits_alike p asked b c alike = ap (λ l. asked.words && not l) alike.ascii
 
 -- it is a step over the byte itself
-leads_by : ((p : ByteProgram) → StepsAreAlike p) → (p : ByteProgram) (alphabet : AlphabetView) (states : List AutomatonState) (x : AutomatonState) (b number : ℕ) → IsAlphabetOf p alphabet → AreBare x.threads.threads → b < 256
+leads_by : AlikeLaws → (p : Directed) (alphabet : AlphabetView) (states : List AutomatonState) (x : AutomatonState) (b number : ℕ) → TellsApart p.bytes alphabet → AreBare x.threads.threads → b < 256
     → LeadsTo p alphabet states x (ahead_in alphabet (class_of alphabet.classes b)) number → LeadsTo p alphabet states x (ahead_of alphabet.utf8_empty b) number
 leads_by law p alphabet states x b number made bare low to =
     let r = byte_of alphabet.classes b in
     let alike = (made.classes b low).alike in
-    let at = byte_in_class p alphabet b made low in
+    let at = byte_in_class p.bytes alphabet b made low in
     record {
       next = to.next;
       stands = to.stands;
       step = step_alike law p alphabet.asked alphabet.utf8_empty x to.next r b made.asked bare alike (subst (λ o. IsStep p alphabet.asked x (ahead_at alphabet.utf8_empty (class_of alphabet.classes b == length alphabet.classes.bytes) o) to.next) at to.step);
-      told = sym (quits_alike p alphabet.asked r b alike) ∙ subst (λ o. quits alphabet.asked (ahead_at alphabet.utf8_empty (class_of alphabet.classes b == length alphabet.classes.bytes) o).seen ≡ false) at to.told;
+      told = sym (quits_alike p.bytes alphabet.asked r b alike) ∙ subst (λ o. quits alphabet.asked (ahead_at alphabet.utf8_empty (class_of alphabet.classes b == length alphabet.classes.bytes) o).seen ≡ false) at to.told;
     }
 
 -- before it a search can't go on
-pub quits_by : (p : ByteProgram) (alphabet : AlphabetView) (b : ℕ) → IsAlphabetOf p alphabet → b < 256 → quits alphabet.asked (ahead_in alphabet (class_of alphabet.classes b)).seen ≡ true → quits alphabet.asked (Some b) ≡ true
+pub quits_by : (p : ByteProgram) (alphabet : AlphabetView) (b : ℕ) → TellsApart p alphabet → b < 256 → quits alphabet.asked (ahead_in alphabet (class_of alphabet.classes b)).seen ≡ true → quits alphabet.asked (Some b) ≡ true
 quits_by p alphabet b made low told =
     sym (quits_alike p alphabet.asked (byte_of alphabet.classes b) b (made.classes b low).alike) ∙ subst (λ o. quits alphabet.asked (ahead_at alphabet.utf8_empty (class_of alphabet.classes b == length alphabet.classes.bytes) o).seen ≡ true) (byte_in_class p alphabet b made low) told
 
-pub one_passed : ((p : ByteProgram) → StepsAreAlike p) → (a : Automaton) (states : List AutomatonState) (x : AutomatonState) (b at number : ℕ) (met met' : Option HalfFound) → IsAutomaton a → AreBare x.threads.threads → b < 256
-    → LeadsTo a.program.now a.alphabet.now states x (ahead_in a.alphabet.now (class_of a.alphabet.now.classes b)) number → ((y : AutomatonState) → slice_get states number ≡ Some y → met' ≡ met_after at y.ended met) → HasPassed a states x (b ∷ []) at met number met'
+pub one_passed : AlikeLaws → (a : Automaton) (states : List AutomatonState) (x : AutomatonState) (b at number : ℕ) (met met' : Option HalfFound) → IsAutomaton a → AreBare x.threads.threads → b < 256
+    → LeadsTo (directed a) a.alphabet.now states x (ahead_in a.alphabet.now (class_of a.alphabet.now.classes b)) number → ((y : AutomatonState) → slice_get states number ≡ Some y → met' ≡ met_after at y.ended met) → HasPassed a states x (b ∷ []) at met number met'
 unfolding leads_by
 one_passed law a states x b at number met met' made bare low to noted =
-    let itself = leads_by law a.program.now a.alphabet.now states x b number made bare low to in
+    let itself = leads_by law (directed a) a.alphabet.now states x b number made bare low to in
     record {
       next = to.next;
       stands = to.stands;
@@ -65,7 +66,7 @@ one_passed law a states x b at number met met' made bare low to noted =
 
 -- ---- one byte more
 
-pub passes_more : (a : Automaton) (bytes : List ℕ) (i b : ℕ) (x y z : AutomatonState) (met met' : Option HalfFound) → AreBare y.threads.threads → Passes a bytes i x met y met' → IsStep a.program.now a.alphabet.now.asked y (ahead_of a.alphabet.now.utf8_empty b) z → quits a.alphabet.now.asked (Some b) ≡ false
+pub passes_more : (a : Automaton) (bytes : List ℕ) (i b : ℕ) (x y z : AutomatonState) (met met' : Option HalfFound) → AreBare y.threads.threads → Passes a bytes i x met y met' → IsStep (directed a) a.alphabet.now.asked y (ahead_of a.alphabet.now.utf8_empty b) z → quits a.alphabet.now.asked (Some b) ≡ false
     → Passes a (bytes ++ b ∷ []) i x met z (met_after (i + length bytes) z.ended met')
 passes_more a [] i b x y z met met' bare none step told =
     let here : i ≡ i + 0 = omega arith in
@@ -103,36 +104,36 @@ pub run_begun : (a : Automaton) (cache : CacheView) (x : AutomatonState) (first 
 run_begun a cache x first bytes i met stands = record { number = first; next = x; last = met; row_is = refl; stands = stands; noted = refl; passes = none }
 
 -- where an entry lies in the table
-pub entry_inside : (a : Automaton) (cache : CacheView) (x : AutomatonState) (bytes : List ℕ) (i row b : ℕ) (met : Option HalfFound) (end : Option PassedEnd) → IsAutomaton a → HoldsSteps a.program.now a.alphabet.now cache → b < 256 → IsRunning a cache (run_of x bytes i met row end)
+pub entry_inside : (a : Automaton) (cache : CacheView) (x : AutomatonState) (bytes : List ℕ) (i row b : ℕ) (met : Option HalfFound) (end : Option PassedEnd) → IsAutomaton a → HoldsSteps (directed a) a.alphabet.now cache → b < 256 → IsRunning a cache (run_of x bytes i met row end)
     → row + class_of a.alphabet.now.classes b < length cache.table
 entry_inside a cache x bytes i row b met end made is low run =
     let inside = slice_get_within cache.states run.number run.next run.stands in
-    omega (arith, run.row_is, row_room run.number cache.width (length cache.states) inside, column_inside a.program.now a.alphabet.now cache b made is low, is.rows)
+    omega (arith, run.row_is, row_room run.number cache.width (length cache.states) inside, column_inside (directed a) a.alphabet.now cache b made is low, is.rows)
 
-run_leads : ((p : ByteProgram) → StepsAreAlike p) → (a : Automaton) (cache : CacheView) (x : AutomatonState) (bytes : List ℕ) (n i row b number : ℕ) (met : Option HalfFound) (end : Option PassedEnd) → IsAutomaton a → HoldsSteps a.program.now a.alphabet.now cache
-    → b < 256 → slice_get bytes n ≡ Some b → (run : IsRunning a cache (run_of x (take n bytes) i met row end)) → (to : LeadsTo a.program.now a.alphabet.now cache.states run.next (ahead_in a.alphabet.now (class_of a.alphabet.now.classes b)) number)
+run_leads : AlikeLaws → (a : Automaton) (cache : CacheView) (x : AutomatonState) (bytes : List ℕ) (n i row b number : ℕ) (met : Option HalfFound) (end : Option PassedEnd) → IsAutomaton a → HoldsSteps (directed a) a.alphabet.now cache
+    → b < 256 → slice_get bytes n ≡ Some b → (run : IsRunning a cache (run_of x (take n bytes) i met row end)) → (to : LeadsTo (directed a) a.alphabet.now cache.states run.next (ahead_in a.alphabet.now (class_of a.alphabet.now.classes b)) number)
     → Passes a (take (n + 1) bytes) i x met to.next (met_after (i + n) to.next.ended run.last)
 unfolding leads_by
 run_leads law a cache x bytes n i row b number met end made is low at run to =
-    let state : IsStateOf a.program.now run.next = subst (λ y. IsStateOf a.program.now y) (get_or_from_slice_get cache.states run.number run.next run.next run.stands) (is.states run.number run.next (slice_get_within cache.states run.number run.next run.stands)) in
+    let state : IsStateOf (directed a) run.next = subst (λ y. IsStateOf (directed a) y) (get_or_from_slice_get cache.states run.number run.next run.next run.stands) (is.states run.number run.next (slice_get_within cache.states run.number run.next run.stands)) in
     let len : length (take n bytes) ≡ n = omega (arith, length-take n bytes, slice_get_within bytes n b at) in
-    let itself = leads_by law a.program.now a.alphabet.now cache.states run.next b number made state.bare low to in
+    let itself = leads_by law (directed a) a.alphabet.now cache.states run.next b number made state.bare low to in
     subst (λ xs. Passes a xs i x met to.next (met_after (i + n) to.next.ended run.last)) (sym (take_one bytes n b at))
     (subst (λ k. Passes a (take n bytes ++ b ∷ []) i x met to.next (met_after (i + k) to.next.ended run.last)) len
     (passes_more a (take n bytes) i b x run.next to.next met run.last state.bare run.passes itself.step itself.told))
 
-run_entry : (a : Automaton) (cache : CacheView) (x : AutomatonState) (bytes : List ℕ) (n i row b entry : ℕ) (met : Option HalfFound) (end : Option PassedEnd) → IsAutomaton a → HoldsSteps a.program.now a.alphabet.now cache
-    → b < 256 → slice_get cache.table (row + class_of a.alphabet.now.classes b) ≡ Some entry → (run : IsRunning a cache (run_of x (take n bytes) i met row end)) → IsEntry a.program.now a.alphabet.now cache.width cache.states run.next (ahead_in a.alphabet.now (class_of a.alphabet.now.classes b)) entry
+run_entry : (a : Automaton) (cache : CacheView) (x : AutomatonState) (bytes : List ℕ) (n i row b entry : ℕ) (met : Option HalfFound) (end : Option PassedEnd) → IsAutomaton a → HoldsSteps (directed a) a.alphabet.now cache
+    → b < 256 → slice_get cache.table (row + class_of a.alphabet.now.classes b) ≡ Some entry → (run : IsRunning a cache (run_of x (take n bytes) i met row end)) → IsEntry (directed a) a.alphabet.now cache.width cache.states run.next (ahead_in a.alphabet.now (class_of a.alphabet.now.classes b)) entry
 run_entry a cache x bytes n i row b entry met end made is low stands run =
-    is.entries run.number (class_of a.alphabet.now.classes b) entry run.next run.stands (column_inside a.program.now a.alphabet.now cache b made is low) (ap (λ r. slice_get cache.table (r + class_of a.alphabet.now.classes b)) (sym run.row_is) ∙ stands)
+    is.entries run.number (class_of a.alphabet.now.classes b) entry run.next run.stands (column_inside (directed a) a.alphabet.now cache b made is low) (ap (λ r. slice_get cache.table (r + class_of a.alphabet.now.classes b)) (sym run.row_is) ∙ stands)
 
 -- no end is met
-pub run_on : ((p : ByteProgram) → StepsAreAlike p) → (a : Automaton) (cache : CacheView) (x : AutomatonState) (bytes : List ℕ) (n i row b entry : ℕ) (met : Option HalfFound) (end : Option PassedEnd) → IsAutomaton a → HoldsSteps a.program.now a.alphabet.now cache
+pub run_on : AlikeLaws → (a : Automaton) (cache : CacheView) (x : AutomatonState) (bytes : List ℕ) (n i row b entry : ℕ) (met : Option HalfFound) (end : Option PassedEnd) → IsAutomaton a → HoldsSteps (directed a) a.alphabet.now cache
     → b < 256 → slice_get bytes n ≡ Some b → slice_get cache.table (row + class_of a.alphabet.now.classes b) ≡ Some entry → entry < 2147483648 → IsRunning a cache (run_of x (take n bytes) i met row end)
     → IsRunning a cache (run_of x (take (n + 1) bytes) i met entry end)
 run_on law a cache x bytes n i row b entry met end made is low at stands below run = by (run_entry a cache x bytes n i row b entry met end made is low stands run)
   where
-    by : IsEntry a.program.now a.alphabet.now cache.width cache.states run.next (ahead_in a.alphabet.now (class_of a.alphabet.now.classes b)) entry → IsRunning a cache (run_of x (take (n + 1) bytes) i met entry end)
+    by : IsEntry (directed a) a.alphabet.now cache.width cache.states run.next (ahead_in a.alphabet.now (class_of a.alphabet.now.classes b)) entry → IsRunning a cache (run_of x (take (n + 1) bytes) i met entry end)
     by (unknown e) = absurd (omega (arith, below, e))
     by (quit e why) = absurd (omega (arith, below, e))
     by (ends to e high some) = absurd (omega (arith, below, e))
@@ -152,12 +153,12 @@ some_met i None met met' some = absurd (cc some)
 some_met i (Some k) met met' some = refl
 
 -- an end is met
-pub run_notes : ((p : ByteProgram) → StepsAreAlike p) → (a : Automaton) (cache : CacheView) (x : AutomatonState) (bytes : List ℕ) (n i row b entry row' : ℕ) (met : Option HalfFound) (end : Option PassedEnd) → IsAutomaton a → HoldsSteps a.program.now a.alphabet.now cache
+pub run_notes : AlikeLaws → (a : Automaton) (cache : CacheView) (x : AutomatonState) (bytes : List ℕ) (n i row b entry row' : ℕ) (met : Option HalfFound) (end : Option PassedEnd) → IsAutomaton a → HoldsSteps (directed a) a.alphabet.now cache
     → b < 256 → slice_get bytes n ≡ Some b → slice_get cache.table (row + class_of a.alphabet.now.classes b) ≡ Some entry → 2147483648 ≤ entry → entry < 3221225472 → entry ≡ 2147483648 + row' → IsRunning a cache (run_of x (take n bytes) i met row end)
     → IsRunning a cache (run_of x (take (n + 1) bytes) i met row' (Some (record { row = row'; at = i + n })))
 run_notes law a cache x bytes n i row b entry row' met end made is low at stands above below row_is run = by (run_entry a cache x bytes n i row b entry met end made is low stands run)
   where
-    by : IsEntry a.program.now a.alphabet.now cache.width cache.states run.next (ahead_in a.alphabet.now (class_of a.alphabet.now.classes b)) entry → IsRunning a cache (run_of x (take (n + 1) bytes) i met row' (Some (record { row = row'; at = i + n })))
+    by : IsEntry (directed a) a.alphabet.now cache.width cache.states run.next (ahead_in a.alphabet.now (class_of a.alphabet.now.classes b)) entry → IsRunning a cache (run_of x (take (n + 1) bytes) i met row' (Some (record { row = row'; at = i + n })))
     by (unknown e) = absurd (omega (arith, below, e))
     by (quit e why) = absurd (omega (arith, below, e))
     by (plain to e small unmet) = absurd (omega (arith, above, small))

@@ -21,6 +21,8 @@ use Rattle.rx_dfa.specs.declared.automaton.Automaton.{Automaton}
 use Rattle.rx_dfa.specs.declared.behind.Behind.TheVariants.{Edge, Byte}
 use Rattle.rx_dfa.specs.declared.states.AutomatonState.{AutomatonState}
 use Rattle.rx_dfa.specs.Behind.{behind_of, quits, is_word_ascii}
+use Rattle.rx_dfa.specs.Directions.{Directed}
+use Rattle.rx_dfa.specs.Automata.{directed}
 use Rattle.rx_dfa.specs.States.{IsStateOf}
 use Rattle.rx_dfa.specs.Alphabets.{AlphabetView}
 use Rattle.rx_dfa.specs.Caches.{CacheView, HoldsSteps}
@@ -154,23 +156,23 @@ first_there s i n bytes there = record {
   low = there.low;
 }
 
-pub stands_on : Laws → (a : Automaton) (s : Search) (q i n : ℕ) (bytes : List ℕ) (states states' : List AutomatonState) (number number' : ℕ) (met met' : Option HalfFound) → AreAskedBy a.program.now.states a.alphabet.now.asked → a.alphabet.now.utf8_empty ≡ s.utf8_empty
+pub stands_on : Laws → (a : Automaton) (s : Search) (q i n : ℕ) (bytes : List ℕ) (states states' : List AutomatonState) (number number' : ℕ) (met met' : Option HalfFound) → (directed a).is_back ≡ false → AreAskedBy (directed a).bytes.states a.alphabet.now.asked → a.alphabet.now.utf8_empty ≡ s.utf8_empty
     → StandThere s i bytes → n ≤ length bytes → ((x : AutomatonState) → slice_get states number ≡ Some x → HasPassed a states' x (take n bytes) i met number' met') → StandsAt a s q i states number met → StandsAt a s q (i + n) states' number' met'
-stands_on laws a s q i n bytes states states' number number' met met' are same there le passed at =
+stands_on laws a s q i n bytes states states' number number' met met' way are same there le passed at =
     let on = passed at.state at.stands in
     let far : length (take n bytes) ≡ n = omega (arith, length-take n bytes, le) in
-    let reached = bytes_passed laws a s q (take n bytes) i at.state on.next met met' are same (first_there s i n bytes there) on.passes at.reached at.behind in
+    let reached = bytes_passed laws a s q (take n bytes) i at.state on.next met met' way are same (first_there s i n bytes there) on.passes at.reached at.behind in
     record {
       state = on.next;
       stands = on.stands;
-      reached = subst (λ k. HasReached a.program.now s q (i + k) on.next met') far reached.0;
-      behind = subst (λ k. IsBehind a.program.now a.alphabet.now.asked s (i + k) on.next) far reached.1;
+      reached = subst (λ k. HasReached (directed a).bytes s q (i + k) on.next met') far reached.0;
+      behind = subst (λ k. IsBehind (directed a).bytes a.alphabet.now.asked s (i + k) on.next) far reached.1;
     }
 
-pub state_at : (p : ByteProgram) (alphabet : AlphabetView) (cache : CacheView) (number : ℕ) (x : AutomatonState) → HoldsSteps p alphabet cache → slice_get cache.states number ≡ Some x → IsStateOf p x
+pub state_at : (p : Directed) (alphabet : AlphabetView) (cache : CacheView) (number : ℕ) (x : AutomatonState) → HoldsSteps p alphabet cache → slice_get cache.states number ≡ Some x → IsStateOf p x
 state_at p alphabet cache number x made stands = subst (λ y. IsStateOf p y) (get_or_from_slice_get cache.states number x x stands) (made.states number x (slice_get_within cache.states number x stands))
 
-pub cache_in : (is_whole : Bool) (a : Automaton) (table : CacheView) → IsTable is_whole a table → HoldsSteps a.program.now a.alphabet.now table
+pub cache_in : (is_whole : Bool) (a : Automaton) (table : CacheView) → IsTable is_whole a table → HoldsSteps (directed a) a.alphabet.now table
 cache_in false a table made = made.steps
 cache_in true a table closed = closed.made
 

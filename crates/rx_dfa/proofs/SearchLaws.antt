@@ -18,6 +18,9 @@ use Rattle.rx_dfa.specs.declared.states.AutomatonState.{AutomatonState}
 use Rattle.rx_dfa.specs.Classes.{continues}
 use Rattle.rx_dfa.specs.Behind.{behind_of, quits}
 use Rattle.rx_dfa.specs.States.{ahead_of, IsStep}
+use Rattle.rx_dfa.specs.Directions.{forward}
+use Rattle.rx_dfa.specs.Automata.{directed}
+use Rattle.rx_dfa.proofs.StepLaws.{as_forward}
 use Rattle.rx_dfa.specs.Searching.{AreAskedBy, met_after, HasReached, byte_before, byte_after, IsBehind, IsAhead}
 use Rattle.rx_dfa.specs.Passing.{Passes, none, more, StandThere}
 use Rattle.rx_dfa.proofs.ClassLaws.{below_or_not}
@@ -132,24 +135,25 @@ rest_stands s i b bytes there = record {
 }
 
 -- a search that stands at a state stands behind these bytes at the one to which they lead
-pub bytes_passed : Laws → (a : Automaton) (s : Search) (q : ℕ) (bytes : List ℕ) (i : ℕ) (x y : AutomatonState) (met met' : Option HalfFound) → AreAskedBy a.program.now.states a.alphabet.now.asked → a.alphabet.now.utf8_empty ≡ s.utf8_empty → StandThere s i bytes
-    → Passes a bytes i x met y met' → HasReached a.program.now s q i x met → IsBehind a.program.now a.alphabet.now.asked s i x → HasReached a.program.now s q (i + length bytes) y met' × IsBehind a.program.now a.alphabet.now.asked s (i + length bytes) y
-bytes_passed laws a s q [] i x y met met' are same there none reached behind =
+pub bytes_passed : Laws → (a : Automaton) (s : Search) (q : ℕ) (bytes : List ℕ) (i : ℕ) (x y : AutomatonState) (met met' : Option HalfFound) → (directed a).is_back ≡ false → AreAskedBy (directed a).bytes.states a.alphabet.now.asked → a.alphabet.now.utf8_empty ≡ s.utf8_empty → StandThere s i bytes
+    → Passes a bytes i x met y met' → HasReached (directed a).bytes s q i x met → IsBehind (directed a).bytes a.alphabet.now.asked s i x → HasReached (directed a).bytes s q (i + length bytes) y met' × IsBehind (directed a).bytes a.alphabet.now.asked s (i + length bytes) y
+bytes_passed laws a s q [] i x y met met' way are same there none reached behind =
     let here : i ≡ i + 0 = omega arith in
-    (subst (λ j. HasReached a.program.now s q j x met) here reached, subst (λ j. IsBehind a.program.now a.alphabet.now.asked s j x) here behind)
-bytes_passed laws a s q (b ∷ bytes) i x z met met' are same there (more {y = y} bare step told rest) reached behind =
+    (subst (λ j. HasReached (directed a).bytes s q j x met) here reached, subst (λ j. IsBehind (directed a).bytes a.alphabet.now.asked s j x) here behind)
+bytes_passed laws a s q (b ∷ bytes) i x z met met' way are same there (more {y = y} bare step told rest) reached behind =
     let here : i + 0 ≡ i = omega arith in
     let byte : slice_get s.content i ≡ Some b = subst (λ j. slice_get s.content j ≡ Some b) here (there.are 0 b refl) in
     let within = slice_get_within s.content i b byte in
     let inside : IsInside s i = (omega (arith, there.low), omega (arith, there.end), omega (arith, there.low), omega (arith, there.end), omega (arith, within)) in
-    let ahead = is_ahead a.program.now a.alphabet.now.asked s i b byte (omega (arith, there.end)) told in
-    let itself : IsStep a.program.now a.alphabet.now.asked x (ahead_of s.utf8_empty b) y = subst (λ u. IsStep a.program.now a.alphabet.now.asked x (ahead_of u b) y) same step in
-    let on = place_passed laws a.program.now a.alphabet.now.asked s q i x y (ahead_of s.utf8_empty b) met are bare inside behind ahead itself reached in
+    let ahead = is_ahead (directed a).bytes a.alphabet.now.asked s i b byte (omega (arith, there.end)) told in
+    let itself : IsStep (forward (directed a).bytes) a.alphabet.now.asked x (ahead_of s.utf8_empty b) y =
+    subst (λ u. IsStep (forward (directed a).bytes) a.alphabet.now.asked x (ahead_of u b) y) same (as_forward (directed a) a.alphabet.now.asked x y (ahead_of a.alphabet.now.utf8_empty b) way step) in
+    let on = place_passed laws (directed a).bytes a.alphabet.now.asked s q i x y (ahead_of s.utf8_empty b) met are bare inside behind ahead itself reached in
     let before : byte_before s (i + 1) ≡ Some b = before_is s i b (omega (arith, there.low)) byte in
-    let behind' : IsBehind a.program.now a.alphabet.now.asked s (i + 1) y = record {
-      is = step.behind ∙ ap (λ o. behind_of a.alphabet.now.asked a.program.now.line_terminator o) (sym before);
+    let behind' : IsBehind (directed a).bytes a.alphabet.now.asked s (i + 1) y = record {
+      is = step.behind ∙ ap (λ o. behind_of a.alphabet.now.asked (directed a).bytes.line_terminator o) (sym before);
       told = ap (λ o. quits a.alphabet.now.asked o) before ∙ told;
     } in
     let far : i + 1 + length bytes ≡ i + suc (length bytes) = omega arith in
-    subst (λ j. HasReached a.program.now s q j z met' × IsBehind a.program.now a.alphabet.now.asked s j z) far
-    (bytes_passed laws a s q bytes (i + 1) y z (met_after i y.ended met) met' are same (rest_stands s i b bytes there) rest on behind')
+    subst (λ j. HasReached (directed a).bytes s q j z met' × IsBehind (directed a).bytes a.alphabet.now.asked s j z) far
+    (bytes_passed laws a s q bytes (i + 1) y z (met_after i y.ended met) met' way are same (rest_stands s i b bytes there) rest on behind')

@@ -4,11 +4,10 @@ use Rattle.std.proofs.Math.Nat.{suc-mul}
 use Rattle.std.proofs.lemmas.List.{length-append, length-replicate, length-set}
 use Rattle.std.proofs.lemmas.List.Elements.{All-append, All-cons, All-nil}
 use Rattle.rx_walks.specs.Steps.{Thins}
-use Rattle.rx_program.specs.Programs.{ByteProgram}
-use Rattle.rx_steps.specs.Lists.{IsNextList}
 use Rattle.rx_dfa.specs.declared.states.Ahead.{Ahead}
 use Rattle.rx_dfa.specs.declared.states.AutomatonState.{AutomatonState}
 use Rattle.rx_dfa.specs.Behind.{quits}
+use Rattle.rx_dfa.specs.Directions.{Directed, IsList}
 use Rattle.rx_dfa.specs.declared.behind.Behind.{Behind}
 use Rattle.rx_dfa.specs.declared.states.Starting.{Starting}
 use Rattle.rx_dfa.specs.States.{place_of_step, started, start_at, starting_after, IsFirstState, IsStateOf, IsStep}
@@ -90,10 +89,10 @@ same_cell w (suc n) c (suc n') c' lt lt' e =
 
 -- ---- states that keep their numbers
 
-leads_still : (p : ByteProgram) (alphabet : AlphabetView) (states states' : List AutomatonState) (x : AutomatonState) (ahead : Ahead) (number : ℕ) → KeepNumbers states states' → LeadsTo p alphabet states x ahead number → LeadsTo p alphabet states' x ahead number
+leads_still : (p : Directed) (alphabet : AlphabetView) (states states' : List AutomatonState) (x : AutomatonState) (ahead : Ahead) (number : ℕ) → KeepNumbers states states' → LeadsTo p alphabet states x ahead number → LeadsTo p alphabet states' x ahead number
 leads_still p alphabet states states' x ahead number keep to = record { next = to.next; stands = keep number to.next to.stands; step = to.step; told = to.told }
 
-entry_still : (p : ByteProgram) (alphabet : AlphabetView) (w : ℕ) (states states' : List AutomatonState) (x : AutomatonState) (ahead : Ahead) (entry : ℕ) → KeepNumbers states states' → IsEntry p alphabet w states x ahead entry → IsEntry p alphabet w states' x ahead entry
+entry_still : (p : Directed) (alphabet : AlphabetView) (w : ℕ) (states states' : List AutomatonState) (x : AutomatonState) (ahead : Ahead) (entry : ℕ) → KeepNumbers states states' → IsEntry p alphabet w states x ahead entry → IsEntry p alphabet w states' x ahead entry
 unfolding leads_still
 entry_still p alphabet w states states' x ahead entry keep (unknown e) = unknown e
 entry_still p alphabet w states states' x ahead entry keep (quit e is) = quit e is
@@ -106,7 +105,7 @@ entry_still p alphabet w states states' x ahead entry keep (over {number} to e b
 keep_first : (states : List AutomatonState) (z : AutomatonState) → KeepNumbers states (states ++ z ∷ [])
 keep_first states z number x e = get_first states (z ∷ []) number x e
 
-entries_more : (p : ByteProgram) (alphabet : AlphabetView) (w : ℕ) (states : List AutomatonState) (table : List ℕ) (z : AutomatonState) → length table ≡ length states * w → AreEntries p alphabet w states table
+entries_more : (p : Directed) (alphabet : AlphabetView) (w : ℕ) (states : List AutomatonState) (table : List ℕ) (z : AutomatonState) → length table ≡ length states * w → AreEntries p alphabet w states table
     → AreEntries p alphabet w (states ++ z ∷ []) (table ++ replicate w 4294967295)
 entries_more p alphabet w states table z rows entries number column entry x stands in_row is = elim (below_or_not number (length states)) [
   | inl lt ↦
@@ -120,7 +119,7 @@ entries_more p alphabet w states table z rows entries number column entry x stan
       unknown (get_repeated w 4294967295 behind.0 entry (sym behind.1 ∙ is))
 ]
 
-pub cache_more : (p : ByteProgram) (alphabet : AlphabetView) (cache after : CacheView) (z : AutomatonState) → HoldsSteps p alphabet cache → IsStateOf p z → IsNew cache.states z → after.table ≡ cache.table ++ replicate cache.width 4294967295 → after.states ≡ cache.states ++ z ∷ []
+pub cache_more : (p : Directed) (alphabet : AlphabetView) (cache after : CacheView) (z : AutomatonState) → HoldsSteps p alphabet cache → IsStateOf p z → IsNew cache.states z → after.table ≡ cache.table ++ replicate cache.width 4294967295 → after.states ≡ cache.states ++ z ∷ []
     → after.widths ≡ cache.widths → after.width ≡ cache.width → after.used ≡ used_with cache z → HoldsSteps p alphabet after
 cache_more p alphabet cache after z made state new table states widths width used = record {
   widths = widths ∙ made.widths;
@@ -148,7 +147,7 @@ kept_more before after z e = subst (λ xs. KeepNumbers before xs) (sym e) (keep_
 pub stands_last : (before after : List AutomatonState) (z : AutomatonState) (number : ℕ) → after ≡ before ++ z ∷ [] → number ≡ length before → slice_get after number ≡ Some z
 stands_last before after z number e f = ap (λ xs. slice_get xs number) e ∙ ap (λ k. slice_get (before ++ z ∷ []) k) f ∙ get_last before z
 
-pub cache_none : (p : ByteProgram) (alphabet : AlphabetView) (after : CacheView) → after.widths ≡ widths_of p → after.width ≡ column_count alphabet → after.table ≡ [] → after.states ≡ [] → after.used ≡ 0 → HoldsSteps p alphabet after
+pub cache_none : (p : Directed) (alphabet : AlphabetView) (after : CacheView) → after.widths ≡ widths_of p.bytes → after.width ≡ column_count alphabet → after.table ≡ [] → after.states ≡ [] → after.used ≡ 0 → HoldsSteps p alphabet after
 cache_none p alphabet after widths width table states used = record {
   widths = widths;
   width = width;
@@ -164,7 +163,7 @@ cache_none p alphabet after widths width table states used = record {
 }
 
 -- no state, and no row
-pub cache_empty : (p : ByteProgram) (alphabet : AlphabetView) (cache after : CacheView) → HoldsSteps p alphabet cache → after.widths ≡ cache.widths → after.width ≡ cache.width → after.table ≡ [] → after.states ≡ [] → after.used ≡ 0 → HoldsSteps p alphabet after
+pub cache_empty : (p : Directed) (alphabet : AlphabetView) (cache after : CacheView) → HoldsSteps p alphabet cache → after.widths ≡ cache.widths → after.width ≡ cache.width → after.table ≡ [] → after.states ≡ [] → after.used ≡ 0 → HoldsSteps p alphabet after
 cache_empty p alphabet cache after made widths width table states used = cache_none p alphabet after (widths ∙ made.widths) (width ∙ made.width) table states used
 
 -- ---- how many states are kept
@@ -186,7 +185,7 @@ same_bounded capacity before after states used (inl few) = inl (omega (arith, fe
 same_bounded capacity before after states used (inr fits) = inr (omega (arith, fits, used))
 
 -- a search begins
-pub cache_begins : (p : ByteProgram) (alphabet : AlphabetView) (before after : CacheView) → after ≡ record before { cleared = 0 } → IsCacheOf p alphabet before → IsCacheOf p alphabet after
+pub cache_begins : (p : Directed) (alphabet : AlphabetView) (before after : CacheView) → after ≡ record before { cleared = 0 } → IsCacheOf p alphabet before → IsCacheOf p alphabet after
 cache_begins p alphabet before after is made = subst (IsCacheOf p alphabet) (sym is) (record {
   steps = record {
     widths = made.steps.widths;
@@ -201,12 +200,12 @@ cache_begins p alphabet before after is made = subst (IsCacheOf p alphabet) (sym
 })
 
 -- a cache with no state
-pub cache_begun : (p : ByteProgram) (alphabet : AlphabetView) (after : CacheView) → after.widths ≡ widths_of p → after.width ≡ column_count alphabet → after.table ≡ [] → after.states ≡ [] → after.used ≡ 0 → IsCacheOf p alphabet after
+pub cache_begun : (p : Directed) (alphabet : AlphabetView) (after : CacheView) → after.widths ≡ widths_of p.bytes → after.width ≡ column_count alphabet → after.table ≡ [] → after.states ≡ [] → after.used ≡ 0 → IsCacheOf p alphabet after
 cache_begun p alphabet after widths width table states used = record { steps = cache_none p alphabet after widths width table states used; bounded = none_bounded alphabet.capacity after states }
 
 -- ---- an entry is set
 
-entries_set : (p : ByteProgram) (alphabet : AlphabetView) (w : ℕ) (states : List AutomatonState) (table : List ℕ) (number column entry : ℕ) (x : AutomatonState) → slice_get states number ≡ Some x → column < w → IsEntry p alphabet w states x (ahead_in alphabet column) entry
+entries_set : (p : Directed) (alphabet : AlphabetView) (w : ℕ) (states : List AutomatonState) (table : List ℕ) (number column entry : ℕ) (x : AutomatonState) → slice_get states number ≡ Some x → column < w → IsEntry p alphabet w states x (ahead_in alphabet column) entry
     → AreEntries p alphabet w states table → AreEntries p alphabet w states (set table (number * w + column) entry)
 entries_set p alphabet w states table number column entry x stands in_row right entries number' column' entry' x' stands' in_row' is = elim (same_or_not (number' * w + column') (number * w + column)) [
   | inr other ↦ entries number' column' entry' x' stands' in_row' (sym (get_other table (number * w + column) (number' * w + column') entry other) ∙ is)
@@ -218,7 +217,7 @@ entries_set p alphabet w states table number column entry x stands in_row right 
       (subst (λ k. IsEntry p alphabet w states x' (ahead_in alphabet k) entry) (sym cell.1) (subst (λ y. IsEntry p alphabet w states y (ahead_in alphabet column) entry) same_state right))
 ]
 
-pub cache_set : (p : ByteProgram) (alphabet : AlphabetView) (cache after : CacheView) (number column entry : ℕ) (x : AutomatonState) → HoldsSteps p alphabet cache → slice_get cache.states number ≡ Some x → column < cache.width
+pub cache_set : (p : Directed) (alphabet : AlphabetView) (cache after : CacheView) (number column entry : ℕ) (x : AutomatonState) → HoldsSteps p alphabet cache → slice_get cache.states number ≡ Some x → column < cache.width
     → IsEntry p alphabet cache.width cache.states x (ahead_in alphabet column) entry → after.table ≡ set cache.table (number * cache.width + column) entry → after.states ≡ cache.states → after.widths ≡ cache.widths → after.width ≡ cache.width → after.used ≡ cache.used → HoldsSteps p alphabet after
 cache_set p alphabet cache after number column entry x made stands in_row right table states widths width used = record {
   widths = widths ∙ made.widths;
@@ -236,25 +235,25 @@ cache_set p alphabet cache after number column entry x made stands in_row right 
 -- ---- steps
 
 -- a step to the state that is made is one to each that is the same
-pub step_same : (p : ByteProgram) (alphabet : AlphabetView) (x y z : AutomatonState) (ahead : Ahead) → IsStep p alphabet.asked x ahead y → IsSameState y z → IsStep p alphabet.asked x ahead z
+pub step_same : (p : Directed) (alphabet : AlphabetView) (x y z : AutomatonState) (ahead : Ahead) → IsStep p alphabet.asked x ahead y → IsSameState y z → IsStep p alphabet.asked x ahead z
 step_same p alphabet x y z ahead step same = record {
   next = step.next;
   slots = step.slots;
-  list = subst (λ o. IsNextList p (place_of_step p.line_terminator x ahead) (x.threads.threads ++ started (start_at x.starting ahead.may_begin)) step.next o step.slots) (sym same.ended) step.list;
+  list = subst (λ o. IsList p.is_back p.bytes (place_of_step p x ahead) (x.threads.threads ++ started (start_at x.starting ahead.may_begin)) step.next o step.slots) (sym same.ended) step.list;
   thins = subst (λ xs. Thins [] step.next xs) (sym same.threads) step.thins;
   starting = same.starting ∙ step.starting ∙ ap (λ o. starting_after x.starting o) (sym same.ended);
   behind = same.behind ∙ step.behind;
 }
 
 -- the entry that leads to a state that a step has come to
-pub entry_right : (p : ByteProgram) (alphabet : AlphabetView) (w : ℕ) (states : List AutomatonState) (x : AutomatonState) (ahead : Ahead) (number entry : ℕ) (to : LeadsTo p alphabet states x ahead number) → IsEntryTo w to.next number entry → IsEntry p alphabet w states x ahead entry
+pub entry_right : (p : Directed) (alphabet : AlphabetView) (w : ℕ) (states : List AutomatonState) (x : AutomatonState) (ahead : Ahead) (number entry : ℕ) (to : LeadsTo p alphabet states x ahead number) → IsEntryTo w to.next number entry → IsEntry p alphabet w states x ahead entry
 entry_right p alphabet w states x ahead number entry to (unknown_to e) = unknown e
 entry_right p alphabet w states x ahead number entry to (plain_to e below none) = plain to e below none
 entry_right p alphabet w states x ahead number entry to (ends_to e below some) = ends to e below some
 entry_right p alphabet w states x ahead number entry to (over_to e below) = over to e below
 
 -- what an entry leads to
-pub entry_steps : (p : ByteProgram) (alphabet : AlphabetView) (w : ℕ) (states : List AutomatonState) (x : AutomatonState) (ahead : Ahead) (entry at : ℕ) → (entry ≡ 4294967295 → ⊥) → (entry ≡ 4294967294 → ⊥) → ((number : ℕ) → entry ≡ number * w → entry < 2147483648 → at ≡ number)
+pub entry_steps : (p : Directed) (alphabet : AlphabetView) (w : ℕ) (states : List AutomatonState) (x : AutomatonState) (ahead : Ahead) (entry at : ℕ) → (entry ≡ 4294967295 → ⊥) → (entry ≡ 4294967294 → ⊥) → ((number : ℕ) → entry ≡ number * w → entry < 2147483648 → at ≡ number)
     → ((number : ℕ) → entry ≡ 2147483648 + number * w → entry < 3221225472 → at ≡ number) → ((number : ℕ) → entry ≡ 3221225472 + number * w → at ≡ number) → IsEntry p alphabet w states x ahead entry → LeadsTo p alphabet states x ahead at
 entry_steps p alphabet w states x ahead entry at known goes plain_at ends_at over_at (unknown e) = absurd (known e)
 entry_steps p alphabet w states x ahead entry at known goes plain_at ends_at over_at (quit e is) = absurd (goes e)
@@ -262,7 +261,7 @@ entry_steps p alphabet w states x ahead entry at known goes plain_at ends_at ove
 entry_steps p alphabet w states x ahead entry at known goes plain_at ends_at over_at (ends {number} to e below some) = subst (λ k. LeadsTo p alphabet states x ahead k) (sym (ends_at number e below)) to
 entry_steps p alphabet w states x ahead entry at known goes plain_at ends_at over_at (over {number} to e below) = subst (λ k. LeadsTo p alphabet states x ahead k) (sym (over_at number e)) to
 
-pub all_bare : (p : ByteProgram) (states : List AutomatonState) → All (IsStateOf p) states → All IsBare states
+pub all_bare : (p : Directed) (states : List AutomatonState) → All (IsStateOf p) states → All IsBare states
 all_bare p states all = λ k d lt. (all k d lt).bare
 
 pub found_new : (states : List AutomatonState) (z : AutomatonState) (number : ℕ) → slice_get states number ≡ Some z → (x : AutomatonState) × (slice_get states number ≡ Some x) × IsSameState z x
@@ -280,7 +279,7 @@ pub keep_all : (states : List AutomatonState) → KeepNumbers states states
 keep_all states number x e = e
 
 -- a step to a state that is made leads to the state that is found for it
-pub leads_to_found : (p : ByteProgram) (alphabet : AlphabetView) (states : List AutomatonState) (x made : AutomatonState) (ahead : Ahead) (number : ℕ) → IsStep p alphabet.asked x ahead made → quits alphabet.asked ahead.seen ≡ false
+pub leads_to_found : (p : Directed) (alphabet : AlphabetView) (states : List AutomatonState) (x made : AutomatonState) (ahead : Ahead) (number : ℕ) → IsStep p alphabet.asked x ahead made → quits alphabet.asked ahead.seen ≡ false
     → (y : AutomatonState) × (slice_get states number ≡ Some y) × IsSameState made y → LeadsTo p alphabet states x ahead number
 leads_to_found p alphabet states x made ahead number step told (y, stands, same) = record { next = y; stands = stands; step = step_same p alphabet x made y ahead step same; told = told }
 
@@ -291,20 +290,20 @@ there_is (x ∷ xs) (suc k) lt = there_is xs k (omega (arith, lt))
 
 -- ---- a step is entered
 
-pub quit_set : (p : ByteProgram) (alphabet : AlphabetView) (cache after : CacheView) (number column : ℕ) → HoldsSteps p alphabet cache → number < length cache.states → column < cache.width → quits alphabet.asked (ahead_in alphabet column).seen ≡ true
+pub quit_set : (p : Directed) (alphabet : AlphabetView) (cache after : CacheView) (number column : ℕ) → HoldsSteps p alphabet cache → number < length cache.states → column < cache.width → quits alphabet.asked (ahead_in alphabet column).seen ≡ true
     → after.table ≡ set cache.table (number * cache.width + column) 4294967294 → after.states ≡ cache.states → after.widths ≡ cache.widths → after.width ≡ cache.width → after.used ≡ cache.used → HoldsSteps p alphabet after
 quit_set p alphabet cache after number column made lt in_row told table states widths width used =
     let here = there_is cache.states number lt in
     cache_set p alphabet cache after number column 4294967294 here.0 made here.1 in_row (quit refl told) table states widths width used
 
-pub step_set : (p : ByteProgram) (alphabet : AlphabetView) (cache after : CacheView) (number column next entry : ℕ) (x : AutomatonState) → HoldsSteps p alphabet cache → slice_get cache.states number ≡ Some x → column < cache.width
+pub step_set : (p : Directed) (alphabet : AlphabetView) (cache after : CacheView) (number column next entry : ℕ) (x : AutomatonState) → HoldsSteps p alphabet cache → slice_get cache.states number ≡ Some x → column < cache.width
     → LeadsTo p alphabet cache.states x (ahead_in alphabet column) next → ((y : AutomatonState) → slice_get cache.states next ≡ Some y → IsEntryTo cache.width y next entry)
     → after.table ≡ set cache.table (number * cache.width + column) entry → after.states ≡ cache.states → after.widths ≡ cache.widths → after.width ≡ cache.width → after.used ≡ cache.used → HoldsSteps p alphabet after
 step_set p alphabet cache after number column next entry x made stands in_row to is_to table states widths width used =
     cache_set p alphabet cache after number column entry x made stands in_row (entry_right p alphabet cache.width cache.states x (ahead_in alphabet column) next entry to (is_to to.next to.stands)) table states widths width used
 
 -- before what stands there a search can't go on
-pub entry_quits : (p : ByteProgram) (alphabet : AlphabetView) (w : ℕ) (states : List AutomatonState) (x : AutomatonState) (ahead : Ahead) (entry : ℕ) → entry ≡ 4294967294 → IsEntry p alphabet w states x ahead entry → quits alphabet.asked ahead.seen ≡ true
+pub entry_quits : (p : Directed) (alphabet : AlphabetView) (w : ℕ) (states : List AutomatonState) (x : AutomatonState) (ahead : Ahead) (entry : ℕ) → entry ≡ 4294967294 → IsEntry p alphabet w states x ahead entry → quits alphabet.asked ahead.seen ≡ true
 entry_quits p alphabet w states x ahead entry is (unknown e) = absurd (omega (arith, is, e))
 entry_quits p alphabet w states x ahead entry is (quit e told) = told
 entry_quits p alphabet w states x ahead entry is (plain to e below none) = absurd (omega (arith, is, below))

@@ -1,6 +1,8 @@
 -- The alphabet of a program's automaton.
-use Rattle.std.specs.Prelude.{ℕ, ◌+◌, ◌==◌, Bool, Option, None, Some, length, slice_get}
+use Rattle.std.specs.Prelude.{◌≡◌, ℕ, ◌+◌, ◌==◌, Bool, false, Option, None, Some, length, slice_get}
 use Rattle.rx_program.specs.Programs.{ByteProgram, IsByteProgram}
+use Rattle.rx_program.specs.Reversed.{IsReverseByteProgram, ReverseByteProgram}
+use Rattle.rx_steps.specs.Reversed.{bytes_of}
 use Rattle.rx_steps.specs.declared.asked.AskedLooks.{AskedLooks}
 use Rattle.rx_dfa.specs.declared.states.Ahead.{Ahead}
 use Rattle.rx_dfa.specs.Classes.{ByteClassesView, AreClassesOf}
@@ -15,11 +17,22 @@ pub record AlphabetView : Type 0 where
   pub utf8_empty : Bool
   pub capacity : ℕ
 
--- what it knows is so of this program, whose automata read the characters of its sets
-pub record IsAlphabetOf (p : ByteProgram) (alphabet : AlphabetView) : Type 0 where
-  pub reads : IsByteProgram p
+-- what it knows is so of this program
+pub record TellsApart (p : ByteProgram) (alphabet : AlphabetView) : Type 0 where
   pub asked : AreAskedBy p.states alphabet.asked
   pub classes : AreClassesOf p alphabet.asked alphabet.classes
+
+-- so it is, and the program's automata read the characters of its sets
+pub record IsAlphabetOf (p : ByteProgram) (alphabet : AlphabetView) : Type 0 where
+  pub reads : IsByteProgram p
+  pub tells : TellsApart p alphabet
+
+-- so it is of a program turned round, whose automata read the characters of their sets from the
+-- last byte back; a walk may start inside a character
+pub record IsAlphabetBack (turned : ReverseByteProgram) (alphabet : AlphabetView) : Type 0 where
+  pub reads : IsReverseByteProgram turned
+  pub tells : TellsApart (bytes_of turned) alphabet
+  pub utf8_empty : alphabet.utf8_empty ≡ false
 
 -- the columns of a table are the classes, and behind them two for the end of the slice: where a
 -- match may begin, and where none may

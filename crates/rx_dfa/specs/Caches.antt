@@ -3,7 +3,6 @@ use Rattle.std.specs.Prelude.{◌≡◌, ℕ, ◌+◌, ◌-◌, ◌*◌, ◌^◌
 use Rattle.std.specs.HashMap.{HashMap, get}
 use Rattle.rx_util.specs.declared.search.MatchError.{MatchError}
 use Rattle.rx_util.specs.declared.search.MatchError.TheVariants.{GaveUp}
-use Rattle.rx_program.specs.Programs.{ByteProgram}
 use Rattle.rx_steps.specs.Nodes.{widths_of}
 use Rattle.rx_steps.specs.Alike.{AreBare}
 use Rattle.rx_dfa.specs.declared.cache.TheConstants.{CLEARS, ENDS, ENTRY_BYTES, NODE_BYTES, QUIT, STATE_BYTES, STOPS, UNKNOWN}
@@ -12,6 +11,7 @@ use Rattle.rx_dfa.specs.declared.states.AutomatonState.{AutomatonState}
 use Rattle.rx_dfa.specs.declared.behind.Behind.{Behind}
 use Rattle.rx_dfa.specs.declared.states.Starting.{Starting}
 use Rattle.rx_dfa.specs.Behind.{quits}
+use Rattle.rx_dfa.specs.Directions.{Directed}
 use Rattle.rx_dfa.specs.States.{IsFirstState, IsStateOf, IsStep}
 use Rattle.rx_dfa.specs.Alphabets.{AlphabetView, column_count, ahead_in}
 use Rattle.rx_dfa.specs.Hashes.{hash_of}
@@ -28,7 +28,7 @@ pub record CacheView : Type 0 where
   pub cleared : ℕ
 
 -- the state with this number is one to which a state leads
-pub record LeadsTo (p : ByteProgram) (alphabet : AlphabetView) (states : List AutomatonState)
+pub record LeadsTo (p : Directed) (alphabet : AlphabetView) (states : List AutomatonState)
     (x : AutomatonState) (ahead : Ahead) (number : ℕ) : Type 0 where
   pub next : AutomatonState
   pub stands : slice_get states number ≡ Some next
@@ -38,7 +38,7 @@ pub record LeadsTo (p : ByteProgram) (alphabet : AlphabetView) (states : List Au
 -- what an entry says of a state and what stands ahead: nothing; that a search can't go on; or where
 -- the row of the next state begins, from `ENDS` on where an end is met, and from `STOPS` on where a
 -- search has to look at that state
-pub data IsEntry (p : ByteProgram) (alphabet : AlphabetView) (width : ℕ)
+pub data IsEntry (p : Directed) (alphabet : AlphabetView) (width : ℕ)
     (states : List AutomatonState) (x : AutomatonState) (ahead : Ahead) (entry : ℕ) : Type 0 where
   unknown : entry ≡ UNKNOWN → IsEntry p alphabet width states x ahead entry
   quit : entry ≡ QUIT → quits alphabet.asked ahead.seen ≡ true
@@ -63,13 +63,13 @@ pub data IsEntryTo (width : ℕ) (y : AutomatonState) (number entry : ℕ) : Typ
       → IsEntryTo width y number entry
 
 -- a step came to a state, or can't be made
-abbrev pub HasStepped : ByteProgram → AlphabetView → List AutomatonState → AutomatonState → Ahead
+abbrev pub HasStepped : Directed → AlphabetView → List AutomatonState → AutomatonState → Ahead
     → Option ℕ → Type 0
 HasStepped p alphabet states x ahead None = quits alphabet.asked ahead.seen ≡ true
 HasStepped p alphabet states x ahead (Some number) = LeadsTo p alphabet states x ahead number
 
 -- each entry of each row is right
-abbrev pub AreEntries : ByteProgram → AlphabetView → ℕ → List AutomatonState → List ℕ → Type 0
+abbrev pub AreEntries : Directed → AlphabetView → ℕ → List AutomatonState → List ℕ → Type 0
 AreEntries p alphabet width states table = (number column entry : ℕ) (x : AutomatonState)
     → slice_get states number ≡ Some x → column < width
     → slice_get table (number * width + column) ≡ Some entry
@@ -114,8 +114,8 @@ abbrev pub used_with : CacheView → AutomatonState → ℕ
 used_with cache x = counted (cache.used + counted (size_of cache.width x))
 
 -- what is known of the states and steps of an automaton of a program
-pub record HoldsSteps (p : ByteProgram) (alphabet : AlphabetView) (cache : CacheView) : Type 0 where
-  pub widths : cache.widths ≡ widths_of p
+pub record HoldsSteps (p : Directed) (alphabet : AlphabetView) (cache : CacheView) : Type 0 where
+  pub widths : cache.widths ≡ widths_of p.bytes
   pub width : cache.width ≡ column_count alphabet
   pub states : All (IsStateOf p) cache.states
   pub apart : StandApart cache.states
@@ -128,7 +128,7 @@ abbrev pub IsBounded : ℕ → CacheView → Type 0
 IsBounded capacity cache = (length cache.states ≤ 2) ⊎ (cache.used ≤ capacity)
 
 -- a cache for searches by an automaton of a program
-pub record IsCacheOf (p : ByteProgram) (alphabet : AlphabetView) (cache : CacheView) : Type 0 where
+pub record IsCacheOf (p : Directed) (alphabet : AlphabetView) (cache : CacheView) : Type 0 where
   pub steps : HoldsSteps p alphabet cache
   pub bounded : IsBounded alphabet.capacity cache
 

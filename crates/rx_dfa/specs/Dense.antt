@@ -1,17 +1,18 @@
 -- Engines that search by closed automata.
 use Rattle.std.specs.Prelude.{◌≡◌}
 use Rattle.rx_engine.specs.Engines.{Engine}
-use Rattle.rx_program.specs.Reversed.{ReverseByteProgram}
 use Rattle.rx_steps.specs.Reversed.{IsReverseOf}
 use Rattle.rx_dfa.specs.Alphabets.{AlphabetView, IsAlphabetOf}
+use Rattle.rx_dfa.specs.BackTables.{BackTableView}
 use Rattle.rx_dfa.specs.Caches.{CacheView}
+use Rattle.rx_dfa.specs.Directions.{forward}
 use Rattle.rx_dfa.specs.DenseTables.{IsClosedOf}
 
--- an automaton, all its states and steps, and its program turned round
+-- an automaton, all its states and steps, and its program turned round with those of that
 pub record AutomatonView : Type 0 where
   pub dfa : AlphabetView
   pub closed : CacheView
-  pub reverse : ReverseByteProgram
+  pub back : BackTableView
 
 -- an engine, and the automaton of its program
 pub record DenseView : Type 0 where
@@ -22,5 +23,5 @@ pub record DenseView : Type 0 where
 pub record IsDense (re : DenseView) : Type 0 where
   pub dfa : IsAlphabetOf re.engine.program re.automaton.dfa
   pub utf8_empty : re.automaton.dfa.utf8_empty ≡ re.engine.utf8_empty
-  pub closed : IsClosedOf re.engine.program re.automaton.dfa re.automaton.closed
-  pub reverse : IsReverseOf re.engine.program re.automaton.reverse
+  pub closed : IsClosedOf (forward re.engine.program) re.automaton.dfa re.automaton.closed
+  pub reverse : IsReverseOf re.engine.program re.automaton.back.reverse

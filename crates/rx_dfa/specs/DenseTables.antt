@@ -1,10 +1,10 @@
 -- Automata that are closed: every state to which a search may come is there, with all its steps.
-use Rattle.std.specs.Prelude.{◌≡◌, ℕ, ◌+◌, ◌-◌, ◌*◌, ◌<◌, ◌≤◌, List, length, Option, Some, None, slice_get}
+use Rattle.std.specs.Prelude.{◌≡◌, ℕ, ◌+◌, ◌-◌, ◌*◌, ◌<◌, ◌≤◌, Bool, false, List, length, Option, Some, None, slice_get}
 use Rattle.rx_util.specs.declared.search.MatchError.{MatchError}
 use Rattle.rx_util.specs.declared.search.MatchError.TheVariants as error
 use Rattle.rx_walks.specs.Finds.{Anchoring, Search}
 use Rattle.rx_walks.specs.ProgramFinds.{start_node}
-use Rattle.rx_program.specs.Programs.{ByteProgram, characters_of}
+use Rattle.rx_program.specs.Programs.{characters_of}
 use Rattle.rx_steps.specs.declared.asked.AskedLooks.{AskedLooks}
 use Rattle.rx_dfa.specs.declared.cache.TheConstants.{ENDS, UNKNOWN}
 use Rattle.rx_dfa.specs.declared.states.AutomatonState.{AutomatonState}
@@ -12,6 +12,7 @@ use Rattle.rx_dfa.specs.declared.states.Starting.{Starting}
 use Rattle.rx_dfa.specs.declared.states.Starting.TheVariants.{Never, Once, Always}
 use Rattle.rx_dfa.specs.declared.behind.Behind.{Behind}
 use Rattle.rx_dfa.specs.Behind.{behind_of}
+use Rattle.rx_dfa.specs.Directions.{Directed}
 use Rattle.rx_dfa.specs.Alphabets.{AlphabetView}
 use Rattle.rx_dfa.specs.Caches.{CacheView, HasFirst, HoldsSteps, KeepNumbers}
 use Rattle.rx_dfa.specs.Passing.{IsRefusal}
@@ -42,11 +43,16 @@ pub data HaveRows (before after : CacheView) : Type 0 where
 abbrev pub HasOneFirst : List AutomatonState → Starting → Behind → Type 0
 HasOneFirst states starting behind = (number : ℕ) × HasFirst states starting behind number
 
--- however walks start from this state of the program, where this stands before
-pub record HasStarts (states : List AutomatonState) (q : ℕ) (behind : Behind) : Type 0 where
-  pub never : HasOneFirst states Never behind
-  pub once : HasOneFirst states (Once q) behind
-  pub always : HasOneFirst states (Always q) behind
+-- so may walks of a search start from this state of the program; back they start once
+abbrev pub StartsFrom : Bool → ℕ → Starting → Type 0
+StartsFrom is_back q Never = is_back ≡ false
+StartsFrom is_back q (Once r) = r ≡ q
+StartsFrom is_back q (Always r) = (is_back ≡ false) × (r ≡ q)
+
+-- however they start, where this stands before
+abbrev pub HasStarts : Bool → List AutomatonState → ℕ → Behind → Type 0
+HasStarts is_back states q behind = (starting : Starting) → StartsFrom is_back q starting
+    → HasOneFirst states starting behind
 
 -- this is none, or a byte
 abbrev pub MayBeByte : Option ℕ → Type 0
@@ -54,17 +60,17 @@ MayBeByte None = Unit {0}
 MayBeByte (Some b) = b < 256
 
 -- whatever stands before
-abbrev pub HasStartsFrom : ByteProgram → AlphabetView → List AutomatonState → ℕ → Type 0
+abbrev pub HasStartsFrom : Directed → AlphabetView → List AutomatonState → ℕ → Type 0
 HasStartsFrom p alphabet states q = (byte : Option ℕ) → MayBeByte byte
-    → HasStarts states q (behind_of alphabet.asked p.line_terminator byte)
+    → HasStarts p.is_back states q (behind_of alphabet.asked p.bytes.line_terminator byte)
 
 -- from wherever walks of a search start
-abbrev pub HasAllStarts : ByteProgram → AlphabetView → List AutomatonState → Type 0
+abbrev pub HasAllStarts : Directed → AlphabetView → List AutomatonState → Type 0
 HasAllStarts p alphabet states = (anchoring : Anchoring) (q : ℕ)
-    → start_node (characters_of p) anchoring ≡ Some q → HasStartsFrom p alphabet states q
+    → start_node (characters_of p.bytes) anchoring ≡ Some q → HasStartsFrom p alphabet states q
 
 -- the states in which searches begin are there, and of each state each entry is known
-pub record IsClosedOf (p : ByteProgram) (alphabet : AlphabetView) (cache : CacheView) : Type 0 where
+pub record IsClosedOf (p : Directed) (alphabet : AlphabetView) (cache : CacheView) : Type 0 where
   pub made : HoldsSteps p alphabet cache
   pub starts : HasAllStarts p alphabet cache.states
   pub known : AreKnown cache (length cache.states)

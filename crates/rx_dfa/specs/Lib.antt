@@ -1,12 +1,17 @@
 pub mod Classes
 pub mod Behind
+pub mod Directions
 pub mod States
 pub mod Searching
 pub mod Alphabets
+pub mod Automata
 pub mod Hashes
 pub mod Caches
 pub mod Passing
 pub mod DenseTables
 pub mod Tables
+pub mod Back
+pub mod BackCaches
+pub mod BackTables
 pub mod Hybrid
 pub mod Dense

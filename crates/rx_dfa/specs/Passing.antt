@@ -15,6 +15,8 @@ use Rattle.rx_dfa.specs.declared.scan.PassedEnd.{PassedEnd}
 use Rattle.rx_dfa.specs.declared.states.AutomatonState.{AutomatonState}
 use Rattle.rx_dfa.specs.declared.states.Starting.TheVariants.{Never}
 use Rattle.rx_dfa.specs.Behind.{quits}
+use Rattle.rx_dfa.specs.Directions.{forward}
+use Rattle.rx_dfa.specs.Automata.{directed}
 use Rattle.rx_dfa.specs.declared.states.Ahead.{Ahead}
 use Rattle.rx_dfa.specs.States.{ahead_of, EndsSo, IsStep}
 use Rattle.rx_dfa.specs.Alphabets.{ahead_in, column_count}
@@ -31,7 +33,7 @@ pub data Passes (a : Automaton) : List ℕ → ℕ → AutomatonState → Option
   none : {i : ℕ} {x : AutomatonState} {met : Option HalfFound} → Passes a [] i x met x met
   more : {b i : ℕ} {bytes : List ℕ} {x y z : AutomatonState} {met met' : Option HalfFound}
       → AreBare x.threads.threads
-      → IsStep a.program.now a.alphabet.now.asked x (ahead_of a.alphabet.now.utf8_empty b) y
+      → IsStep (directed a) a.alphabet.now.asked x (ahead_of a.alphabet.now.utf8_empty b) y
       → quits a.alphabet.now.asked (Some b) ≡ false
       → Passes a bytes (i + 1) y (met_after i y.ended met) z met'
       → Passes a (b ∷ bytes) i x met z met'
@@ -92,8 +94,8 @@ pub record StandsAt (a : Automaton) (s : Search) (q i : ℕ) (states : List Auto
     (number : ℕ) (met : Option HalfFound) : Type 0 where
   pub state : AutomatonState
   pub stands : slice_get states number ≡ Some state
-  pub reached : HasReached a.program.now s q i state met
-  pub behind : IsBehind a.program.now a.alphabet.now.asked s i state
+  pub reached : HasReached (directed a).bytes s q i state met
+  pub behind : IsBehind (directed a).bytes a.alphabet.now.asked s i state
 
 -- from a place on these bytes stand in the content, none of them behind the last place
 pub record StandThere (s : Search) (i : ℕ) (bytes : List ℕ) : Type 0 where
@@ -107,7 +109,7 @@ pub record MeetsEnd (p : ByteProgram) (asked : AskedLooks) (s : Search) (i : ℕ
   pub ahead : Ahead
   pub read : ahead.read ≡ None
   pub here : IsAhead p asked s i ahead
-  pub ends : EndsSo p asked x ahead ended
+  pub ends : EndsSo (forward p) asked x ahead ended
 
 -- in this column a search can go on, and the step in it tells the end that is met at the place,
 -- where no byte is read
@@ -115,8 +117,8 @@ pub record IsLastColumn (a : Automaton) (s : Search) (i column : ℕ) : Type 0 w
   pub inside : column < column_count a.alphabet.now
   pub goes_on : quits a.alphabet.now.asked (ahead_in a.alphabet.now column).seen ≡ false
   pub tells : (x y : AutomatonState) → AreBare x.threads.threads
-      → IsStep a.program.now a.alphabet.now.asked x (ahead_in a.alphabet.now column) y
-      → MeetsEnd a.program.now a.alphabet.now.asked s i x y.ended
+      → IsStep (directed a) a.alphabet.now.asked x (ahead_in a.alphabet.now column) y
+      → MeetsEnd (directed a).bytes a.alphabet.now.asked s i x y.ended
 
 -- why a search answers nothing: there was no memory; it met a byte of the slice before which it
 -- can't go on; or it gave up at a place inside

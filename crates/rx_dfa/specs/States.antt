@@ -1,11 +1,9 @@
 -- The states of an automaton, and the steps between them.
 use Rattle.std.specs.Prelude.{◌≡◌, ℕ, Bool, true, false, not, ◌||◌, List, [], ◌∷◌, ◌++◌, All, Option, Some, None}
 use Rattle.rx_walks.specs.Steps.{Thins}
-use Rattle.rx_program.specs.Programs.{ByteProgram}
 use Rattle.rx_steps.specs.declared.asked.AskedLooks.{AskedLooks}
 use Rattle.rx_steps.specs.declared.place.Place.{Place}
 use Rattle.rx_steps.specs.Threads.{Slots, Thread, IsThreadOf, first_node}
-use Rattle.rx_steps.specs.Lists.{IsNextList}
 use Rattle.rx_steps.specs.Alike.{AreBare}
 use Rattle.rx_dfa.specs.declared.states.Starting.{Starting}
 use Rattle.rx_dfa.specs.declared.states.Starting.TheVariants.{Never, Once, Always}
@@ -14,6 +12,7 @@ use Rattle.rx_dfa.specs.declared.states.AutomatonState.{AutomatonState}
 use Rattle.rx_dfa.specs.declared.behind.Behind.{Behind}
 use Rattle.rx_dfa.specs.Classes.{continues}
 use Rattle.rx_dfa.specs.Behind.{behind_of, looks_of}
+use Rattle.rx_dfa.specs.Directions.{Directed, IsList, looks_by}
 
 -- the state of the program from which a walk starts at a place, where a match may begin there or
 -- not
@@ -44,14 +43,17 @@ abbrev pub ahead_of_end : Bool → Ahead
 ahead_of_end may_begin = record { read = None; seen = None; may_begin = may_begin }
 
 -- where a state's threads make their step
-abbrev pub place_of_step : ℕ → AutomatonState → Ahead → Place
-place_of_step terminator x ahead =
-    record { at = 0; byte = ahead.read; looks = looks_of terminator x.behind ahead.seen }
+abbrev pub place_of_step : Directed → AutomatonState → Ahead → Place
+place_of_step p x ahead = record {
+  at = 0;
+  byte = ahead.read;
+  looks = looks_by p.is_back (looks_of p.bytes.line_terminator x.behind ahead.seen);
+}
 
 -- a state of an automaton of a program: its threads have no slots
-pub record IsStateOf (p : ByteProgram) (x : AutomatonState) : Type 0 where
+pub record IsStateOf (p : Directed) (x : AutomatonState) : Type 0 where
   pub bare : AreBare x.threads.threads
-  pub threads : All (IsThreadOf p.states) x.threads.threads
+  pub threads : All (IsThreadOf p.bytes.states) x.threads.threads
 
 -- the state in which a search stands at its first place, where walks start so and this stands
 -- before
@@ -63,18 +65,18 @@ pub record IsFirstState (starting : Starting) (behind : Behind) (x : AutomatonSt
 
 -- A state leads to another one: the step of its threads, and of a walk that starts after them,
 -- gives the other's threads, of which some were left out, and the end that is met there.
-pub record IsStep (p : ByteProgram) (asked : AskedLooks) (x : AutomatonState) (ahead : Ahead)
+pub record IsStep (p : Directed) (asked : AskedLooks) (x : AutomatonState) (ahead : Ahead)
     (y : AutomatonState) : Type 0 where
   pub next : List Thread
   pub slots : Slots
-  pub list : IsNextList p (place_of_step p.line_terminator x ahead)
+  pub list : IsList p.is_back p.bytes (place_of_step p x ahead)
       (x.threads.threads ++ started (start_at x.starting ahead.may_begin)) next y.ended slots
   pub thins : Thins [] next y.threads.threads
   pub starting : y.starting ≡ starting_after x.starting y.ended
-  pub behind : y.behind ≡ behind_of asked p.line_terminator ahead.read
+  pub behind : y.behind ≡ behind_of asked p.bytes.line_terminator ahead.read
 
 -- before what stands ahead the end of this pattern is met, or none
-pub record EndsSo (p : ByteProgram) (asked : AskedLooks) (x : AutomatonState) (ahead : Ahead)
+pub record EndsSo (p : Directed) (asked : AskedLooks) (x : AutomatonState) (ahead : Ahead)
     (ended : Option ℕ) : Type 0 where
   pub next : AutomatonState
   pub step : IsStep p asked x ahead next

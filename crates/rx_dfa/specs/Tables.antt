@@ -9,51 +9,41 @@ use Rattle.rx_dfa.specs.declared.automaton.Automaton.{Automaton}
 use Rattle.rx_dfa.specs.declared.behind.Behind.{Behind}
 use Rattle.rx_dfa.specs.declared.states.AutomatonState.{AutomatonState}
 use Rattle.rx_dfa.specs.declared.states.Starting.{Starting}
-use Rattle.rx_dfa.specs.declared.states.Starting.TheVariants.{Never, Once, Always}
 use Rattle.rx_dfa.specs.Behind.{behind_of, quits}
-use Rattle.rx_dfa.specs.Alphabets.{IsAlphabetOf, ahead_in}
+use Rattle.rx_dfa.specs.Alphabets.{ahead_in}
+use Rattle.rx_dfa.specs.Automata.{directed}
 use Rattle.rx_dfa.specs.Caches as caches
 use Rattle.rx_dfa.specs.Caches.{CacheView, HoldsSteps, IsCacheOf}
-use Rattle.rx_dfa.specs.DenseTables.{IsClosedOf, IsQuit, MayBeByte}
+use Rattle.rx_dfa.specs.DenseTables.{IsClosedOf, IsQuit, MayBeByte, StartsFrom}
 use Rattle.rx_dfa.specs.Passing.{IsRefusal}
-
--- the alphabet is the program's
-abbrev pub IsAutomaton : Automaton → Type 0
-IsAutomaton a = IsAlphabetOf a.program.now a.alphabet.now
 
 -- what is known of an automaton's states and steps
 abbrev pub HoldsBy : Automaton → CacheView → Type 0
-HoldsBy a cache = HoldsSteps a.program.now a.alphabet.now cache
+HoldsBy a cache = HoldsSteps (directed a) a.alphabet.now cache
 
 -- a cache of an automaton
 abbrev pub IsCacheBy : Automaton → CacheView → Type 0
-IsCacheBy a cache = IsCacheOf a.program.now a.alphabet.now cache
+IsCacheBy a cache = IsCacheOf (directed a) a.alphabet.now cache
 
 -- a table of an automaton, in which some states and steps are known, or all
 abbrev pub IsTable : Bool → Automaton → CacheView → Type 0
 IsTable false a table = IsCacheBy a table
-IsTable true a table = IsClosedOf a.program.now a.alphabet.now table
+IsTable true a table = IsClosedOf (directed a) a.alphabet.now table
 
 -- a step in a column came to a state, or can't be made
 abbrev pub HasStepped : Automaton → List AutomatonState → AutomatonState → ℕ → Option ℕ → Type 0
 HasStepped a states x column next =
-    caches.HasStepped a.program.now a.alphabet.now states x (ahead_in a.alphabet.now column) next
-
--- from this state of the program walks start, if they do
-abbrev pub StartsFrom : ℕ → Starting → Type 0
-StartsFrom q Never = Unit {0}
-StartsFrom q (Once r) = r ≡ q
-StartsFrom q (Always r) = r ≡ q
+    caches.HasStepped (directed a) a.alphabet.now states x (ahead_in a.alphabet.now column) next
 
 -- a search may begin so
 pub record IsBeginning (a : Automaton) (starting : Starting) (behind : Behind) : Type 0 where
   pub anchoring : Anchoring
   pub start : ℕ
-  pub starts : start_node (characters_of a.program.now) anchoring ≡ Some start
-  pub starting_is : StartsFrom start starting
+  pub starts : start_node (characters_of (directed a).bytes) anchoring ≡ Some start
+  pub starting_is : StartsFrom (directed a).is_back start starting
   pub byte : Option ℕ
   pub may_be : MayBeByte byte
-  pub behind_is : behind ≡ behind_of a.alphabet.now.asked a.program.now.line_terminator byte
+  pub behind_is : behind ≡ behind_of a.alphabet.now.asked (directed a).bytes.line_terminator byte
 
 -- why a table has no step at a place, or no first state: there was no memory, or no room; nothing
 -- lacks where all is known

@@ -4,12 +4,12 @@ ghost use Rattle.std.specs.Prelude.{◌≡◌, ◌<◌, None, Some, true, false,
 ghost use Rattle.rx_dfa.specs.Behind.{quits};
 ghost use Rattle.rx_dfa.specs.Classes.{class_of};
 ghost use Rattle.rx_dfa.specs.States.{ahead_of_end};
-ghost use Rattle.rx_dfa.specs.Alphabets.{IsAlphabetOf, column_count, ahead_in};
+ghost use Rattle.rx_dfa.specs.Alphabets.{IsAlphabetBack, IsAlphabetOf, column_count, ahead_in};
 
 use crate::behind::{byte_that_quits, quits_at};
 use crate::classes::ByteClasses;
 use crate::states::Ahead;
-use rx_program::Program;
+use rx_program::{Program, ReverseProgram};
 use rx_steps::AskedLooks;
 use std::alloc::{AllocError, Global};
 use std::marker::Model;
@@ -62,6 +62,27 @@ impl Alphabet {
             asked,
             classes,
             utf8_empty,
+            capacity,
+        })
+    }
+
+    /// The alphabet of a program turned round, to whose walks it is the same where they begin. It
+    /// takes time in proportion to the program's states and the ranges of their automata, and a few
+    /// hundred bytes.
+    pub fn new_back(
+        alloc: Global,
+        reverse: &ReverseProgram,
+        capacity: usize,
+    ) -> Result<Alphabet, AllocError>
+        ensures made { IfOk result (IsAlphabetBack reverse.now) }
+        ensures capacity { IfOk result (λ alphabet. alphabet.capacity ≡ capacity) }
+    {
+        let asked = AskedLooks::of_back(reverse.states());
+        let classes = ByteClasses::new_back(alloc, reverse, asked)?;
+        Ok(Alphabet {
+            asked,
+            classes,
+            utf8_empty: false,
             capacity,
         })
     }

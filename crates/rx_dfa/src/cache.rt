@@ -4,18 +4,20 @@ ghost use Rattle.std.specs.Prelude.{◌≡◌, ◌⊎◌, ◌+◌, ◌*◌, ◌<
 ghost use Rattle.rx_util.specs.declared.search.MatchError.{MatchError};
 ghost use Rattle.rx_dfa.specs.declared.states.AutomatonState.{AutomatonState};
 ghost use Rattle.rx_dfa.specs.Alphabets.{column_count};
+ghost use Rattle.rx_dfa.specs.Automata.{directed, directed_by};
 ghost use Rattle.rx_dfa.specs.Caches.{GivesUpLate, HasFirst, IsBare, IsCacheOf, IsEntryTo, IsNew, IsSameState, KeepNumbers, counted, size_of, size_of_parts, used_with};
 ghost use Rattle.rx_dfa.specs.DenseTables.{HasOneFirst};
+ghost use Rattle.rx_dfa.specs.Directions.{backward, forward};
 ghost use Rattle.rx_dfa.specs.States.{IsFirstState, IsStateOf, IsStep};
 ghost use Rattle.rx_dfa.specs.Tables.{HasStepped, HoldsBy, IsCacheBy};
 
 use crate::alphabet::Alphabet;
-use crate::automaton::Automaton;
+use crate::automaton::{Automaton, Way};
 use crate::behind::Behind;
 use crate::maker::Maker;
 use crate::states::{Ahead, AutomatonState, Starting};
 use crate::table::Table;
-use rx_program::Program;
+use rx_program::{Program, ReverseProgram};
 use rx_steps::Node;
 use rx_util::MatchError;
 use std::alloc::{AllocError, Global};
@@ -113,14 +115,14 @@ fn push_row(table: &mut Vec<u32>, width: usize) -> Result<(), AllocError>
 }
 
 impl Cache {
-    /// A cache for searches by an automaton of a program. The one refusal is `Memory`.
+    /// A cache for searches by an automaton.
     #[tactic(auto, using(crate::proofs::TableLaws::cache_begun))]
-    pub fn new(alloc: Global, program: &Program, alphabet: &Alphabet) -> Result<Cache, MatchError>
-        ensures made { IfOk result (λ cache. IsCacheOf program.now alphabet.now cache) }
+    pub(crate) fn of(alloc: Global, way: &Way, alphabet: &Alphabet) -> Result<Cache, MatchError>
+        ensures made { IfOk result (λ cache. IsCacheOf (directed_by way.now) alphabet.now cache) }
         ensures refused { IfErr result (λ error. error ≡ MatchError.Memory) }
     {
         Ok(Cache {
-            maker: Maker::new(alloc, program)?,
+            maker: Maker::new(alloc, way)?,
             width: alphabet.column_count(),
             table: Vec::new(alloc),
             states: Vec::new(alloc),
@@ -132,15 +134,36 @@ impl Cache {
         })
     }
 
+    /// A cache for searches by an automaton of a program. The one refusal is `Memory`.
+    pub fn new(alloc: Global, program: &Program, alphabet: &Alphabet) -> Result<Cache, MatchError>
+        ensures made { IfOk result (λ cache. IsCacheOf (forward program.now) alphabet.now cache) }
+        ensures refused { IfErr result (λ error. error ≡ MatchError.Memory) }
+    {
+        Cache::of(alloc, &Way::Forward(program), alphabet)
+    }
+
+    /// A cache for searches back by an automaton of a program turned round. The one refusal is
+    /// `Memory`.
+    pub fn new_back(
+        alloc: Global,
+        reverse: &ReverseProgram,
+        alphabet: &Alphabet,
+    ) -> Result<Cache, MatchError>
+        ensures made { IfOk result (λ cache. IsCacheOf (backward reverse.now) alphabet.now cache) }
+        ensures refused { IfErr result (λ error. error ≡ MatchError.Memory) }
+    {
+        Cache::of(alloc, &Way::Back(reverse), alphabet)
+    }
+
     /// Makes the cache one for searches by this automaton, of which it knows nothing yet. The one
     /// refusal is `Memory`; the cache is then as it was.
     #[tactic(auto, using(crate::proofs::TableLaws::cache_begun))]
     pub fn reset(&mut self, program: &Program, alphabet: &Alphabet) -> Result<(), MatchError>
-        ensures made { OnOk result (IsCacheOf program.now alphabet.now self.new) }
+        ensures made { OnOk result (IsCacheOf (forward program.now) alphabet.now self.new) }
         ensures kept { OnErr result (self.new ≡ self.old) }
         ensures refused { IfErr result (λ error. error ≡ MatchError.Memory) }
     {
-        self.maker = Maker::new(self.maker.allocator(), program)?;
+        self.maker = Maker::new(self.maker.allocator(), &Way::Forward(program))?;
         self.width = alphabet.column_count();
         self.clear();
         self.clear_count = 0;
@@ -288,7 +311,7 @@ impl Cache {
         state: AutomatonState,
     ) -> Result<usize, MatchError>
         requires made { HoldsBy automaton.now self.old }
-        requires state { IsStateOf automaton.now.program.now state }
+        requires state { IsStateOf (directed automaton.now) state }
         requires is_new { IsNew self.old.states state }
         ensures made { HoldsBy automaton.now self.new }
         ensures number { IfOk result (λ number.
@@ -335,7 +358,7 @@ impl Cache {
         at: usize,
     ) -> Result<(usize, bool), MatchError>
         requires made { IsCacheBy automaton.now self.old }
-        requires state { IsStateOf automaton.now.program.now state }
+        requires state { IsStateOf (directed automaton.now) state }
         ensures made { IsCacheBy automaton.now self.new }
         ensures number { IfOk result (λ told. (x : AutomatonState)
             × (slice_get self.new.states told.0 ≡ Some x) × IsSameState state x) }
@@ -496,8 +519,8 @@ impl Cache {
         requires number { number < length self.old.states }
         ensures step { IfOk result (λ next. (x : AutomatonState)
             → slice_get self.old.states number ≡ Some x
-            → IsStep automaton.now.program.now automaton.now.alphabet.now.asked x ahead.now next) }
-        ensures state { IfOk result (λ next. IsStateOf automaton.now.program.now next) }
+            → IsStep (directed automaton.now) automaton.now.alphabet.now.asked x ahead.now next) }
+        ensures state { IfOk result (λ next. IsStateOf (directed automaton.now) next) }
         ensures made { HoldsBy automaton.now self.new }
         ensures states { self.new.states ≡ self.old.states }
         ensures table { self.new.table ≡ self.old.table }
@@ -581,7 +604,7 @@ impl Table for Cache {
         if let Some(number) = self.kept_first(&starting, &side) {
             return Ok(number);
         }
-        let state = AutomatonState::first(automaton.program.allocator(), starting, side);
+        let state = AutomatonState::first(automaton.way.allocator(), starting, side);
         let number = match self.number_of(automaton, state, at) {
             Ok((number, _)) => number,
             Err(error) => return Err(error),

@@ -1,12 +1,13 @@
 //! Classes of bytes that are alike to a program.
 
-ghost use Rattle.std.specs.Prelude.{◌≡◌, ℕ, ◌+◌, ◌-◌, ◌<◌, ◌≤◌, length, slice_get, All, IfOk, true, false};
+ghost use Rattle.std.specs.Prelude.{◌≡◌, ℕ, ◌+◌, ◌-◌, ◌<◌, ◌≤◌, length, map, slice_get, All, IfOk, true, false};
 ghost use Rattle.unicode.specs.Perl.{is_word_char};
+ghost use Rattle.rx_steps.specs.Reversed.{bytes_of, state_of};
 ghost use Rattle.rx_dfa.specs.Classes.{HasCut, HasMoreCuts, RowIsCut, AutomatonIsCut, StateIsCut, WordsAreCut, LooksAreCut, AreClasses, AreClassesOf, class_of};
 
-use rx_program::{Program, State};
+use rx_program::{Program, ReverseProgram, ReverseState, State};
 use rx_steps::AskedLooks;
-use rx_utf8::{ByteRange, SetAutomaton};
+use rx_utf8::{ByteRange, ReverseAutomaton, SetAutomaton};
 use std::alloc::{AllocError, Global};
 use std::marker::Model;
 use unicode::perl::is_word_code;
@@ -48,6 +49,26 @@ fn cut_state(cuts: &mut [bool; 257], state: &State)
 {
     if let State::Ranges(automaton, _) = state {
         cut_ranges(cuts, automaton);
+    }
+}
+
+/// Cuts round each range of an automaton that reads backwards.
+fn cut_ranges_back(cuts: &mut [bool; 257], automaton: &ReverseAutomaton)
+    ensures cut { AutomatonIsCut cuts.new automaton.now }
+    ensures more { HasMoreCuts cuts.old cuts.new }
+{
+    for number in 0..automaton.state_count() {
+        cut_row(cuts, automaton.row(number));
+    }
+}
+
+/// Cuts round each range of the automaton of a state of a program turned round, if it has one.
+fn cut_state_back(cuts: &mut [bool; 257], state: &ReverseState)
+    ensures cut { StateIsCut cuts.new (state_of state.now) }
+    ensures more { HasMoreCuts cuts.old cuts.new }
+{
+    if let ReverseState::Ranges(automaton, _) = state {
+        cut_ranges_back(cuts, automaton);
     }
 }
 
@@ -118,6 +139,18 @@ fn cuts_of(program: &Program, asked: AskedLooks) -> [bool; 257]
     cuts
 }
 
+/// Where bytes stop being alike to a program turned round.
+fn cuts_of_back(reverse: &ReverseProgram, asked: AskedLooks) -> [bool; 257]
+    ensures looks { LooksAreCut asked reverse.now.line_terminator result }
+    ensures states { All (StateIsCut result) (map state_of reverse.now.states) }
+{
+    let mut cuts = look_cuts(asked, reverse.line_terminator());
+    for state in reverse.states() {
+        cut_state_back(&mut cuts, state);
+    }
+    cuts
+}
+
 /// The class of each byte, and a byte of each class. Contracts see both as lists.
 #[derive(Debug, Drop)]
 pub(crate) struct ByteClasses {
@@ -161,6 +194,20 @@ impl ByteClasses {
         ensures { IfOk result (λ classes. AreClassesOf program.now asked classes) }
     {
         let cuts = cuts_of(program, asked);
+        let classes = ByteClasses::between(alloc, &cuts)?;
+        Ok(classes)
+    }
+
+    /// Those of a program turned round that asks for these looks. `O(n)` in the ranges of its
+    /// automata.
+    pub(crate) fn new_back(
+        alloc: Global,
+        reverse: &ReverseProgram,
+        asked: AskedLooks,
+    ) -> Result<ByteClasses, AllocError>
+        ensures { IfOk result (AreClassesOf (bytes_of reverse.now) asked) }
+    {
+        let cuts = cuts_of_back(reverse, asked);
         let classes = ByteClasses::between(alloc, &cuts)?;
         Ok(classes)
     }

@@ -1,6 +1,6 @@
 //! The engine that searches by an automaton whose states are all made as it is built.
 
-ghost use Rattle.std.specs.Prelude.{◌≡◌, true, map, IfErr, IfOk, IsTrue, OnOk};
+ghost use Rattle.std.specs.Prelude.{◌≡◌, ◌+◌, ◌≤◌, true, map, max, IfErr, IfOk, IsTrue, OnOk};
 ghost use Rattle.rx_util.specs.declared.search.MatchError.{MatchError};
 ghost use Rattle.rx_input.specs.Cursors.{IsSameContent};
 ghost use Rattle.rx_walks.specs.Finds.{is_anchored};
@@ -8,29 +8,32 @@ ghost use Rattle.rx_steps.specs.Reversed.{IsHalfAnswerBack, IsRefusalBack, IsRev
 ghost use Rattle.rx_steps.specs.Searching.{anchoring_of, search_of};
 ghost use Rattle.rx_grammar.specs.Postorder.{tree_of};
 ghost use Rattle.rx_engine.specs.Engines.{AreRefused, IsBuiltOf, IsBuiltOfAll, IsBuiltOfTrees, IsRefused, IsRefusedOfAll, by_default, nothing_set};
+ghost use Rattle.rx_dfa.specs.BackTables.{used_by};
+ghost use Rattle.rx_dfa.specs.Caches.{counted};
 ghost use Rattle.rx_dfa.specs.DenseTables.{IsClosedOf, IsQuit};
+ghost use Rattle.rx_dfa.specs.Directions.{forward};
 ghost use Rattle.rx_dfa.specs.Alphabets.{IsAlphabetOf};
 ghost use Rattle.rx_dfa.specs.Searching.{IsHalfAnswer};
 
-use crate::alphabet::Alphabet;
+use crate::alphabet::{Alphabet, CACHE_CAPACITY};
+use crate::back_table::BackTable;
 use crate::dense_table::DenseTable;
 use crate::reverse::reverse_of;
 use rx_engine::{Builder, Compiled};
 use rx_grammar::Hir;
 use rx_input::{Cursor, Input};
-use rx_program::{BuildError, Program, ReverseProgram};
-use rx_steps::{ReverseCache, search_rev};
+use rx_program::{BuildError, Program};
 use rx_util::{HalfMatch, MatchError};
 use std::alloc::{AllocError, Global};
 use std::marker::Model;
 use std::rc::Rc;
 
-/// An automaton, with all its states and steps, and its program turned round.
+/// An automaton, with all its states and steps, and its program turned round with those of that.
 #[derive(Debug, Drop)]
 struct Automaton {
     dfa: Alphabet,
     closed: DenseTable,
-    reverse: ReverseProgram,
+    back: BackTable,
 }
 
 impl Model for Automaton {
@@ -38,7 +41,7 @@ impl Model for Automaton {
 
     ghost Value = { AutomatonView };
 
-    ghost view = { λ a. record { dfa = a.dfa; closed = a.closed; reverse = a.reverse } };
+    ghost view = { λ a. record { dfa = a.dfa; closed = a.closed; back = a.back } };
 }
 
 /// An engine that searches for patterns by an automaton, all of whose states are made as it is
@@ -64,7 +67,7 @@ impl Model for Regex {
 /// All states and steps of a program's automaton. As many states as can't be counted have no room.
 fn closed_of(alloc: Global, program: &Program, dfa: &Alphabet) -> Result<DenseTable, AllocError>
     requires { IsAlphabetOf program.now dfa.now }
-    ensures { IfOk result (IsClosedOf program.now dfa.now) }
+    ensures { IfOk result (IsClosedOf (forward program.now) dfa.now) }
 {
     match DenseTable::new(alloc, program, dfa, usize::MAX, usize::MAX)? {
         Some(closed) => Ok(closed),
@@ -77,19 +80,18 @@ fn shared_automaton(alloc: Global, compiled: &Compiled) -> Result<Rc<Automaton>,
     ensures dfa { IfOk result (λ automaton. IsAlphabetOf compiled.now.program automaton.value.dfa) }
     ensures utf8_empty { IfOk result (λ automaton. automaton.value.dfa.utf8_empty ≡ true) }
     ensures closed { IfOk result (λ automaton.
-        IsClosedOf compiled.now.program automaton.value.dfa automaton.value.closed) }
+        IsClosedOf (forward compiled.now.program) automaton.value.dfa automaton.value.closed) }
     ensures reverse { IfOk result (λ automaton.
-        IsReverseOf compiled.now.program automaton.value.reverse) }
+        IsReverseOf compiled.now.program automaton.value.back.reverse) }
+    ensures limit { IfOk result (λ automaton. used_by automaton.value.back.closed
+        ≤ max CACHE_CAPACITY automaton.value.closed.used) }
 {
     let reverse = reverse_of(compiled)?;
     let dfa = Alphabet::new(alloc, compiled.program(), true, usize::MAX)?;
     let closed = closed_of(alloc, compiled.program(), &dfa)?;
-    let automaton = Automaton {
-        dfa,
-        closed,
-        reverse,
-    };
-    Ok(Rc::new(alloc, automaton)?)
+    let size_limit = CACHE_CAPACITY.max(closed.memory_usage());
+    let back = BackTable::new(alloc, reverse, size_limit)?;
+    Ok(Rc::new(alloc, Automaton { dfa, closed, back })?)
 }
 
 impl Regex {
@@ -108,7 +110,8 @@ impl Regex {
     /// The engine for a pattern, under default settings. A pattern is refused as by
     /// `pikevm::Builder::build`. The automaton may have very many more states than the program: it
     /// takes memory in proportion to them times the program's classes of bytes, and may be refused
-    /// as `Memory` after a long time.
+    /// as `Memory` after a long time. That of the program turned round may take as much room, or
+    /// about two megabytes; where it would take more, it isn't made.
     pub fn new(alloc: Global, pattern: &str) -> Result<Regex, BuildError>
         ensures built { IfOk result (λ re. IsBuiltOf pattern.now by_default re.engine) }
         ensures refused { IfErr result (λ error. IsRefused pattern.now by_default error) }
@@ -155,12 +158,14 @@ impl Regex {
         })
     }
 
-    /// About how many bytes the automaton's states take: of each the nodes, the row in the table,
-    /// and what is kept of it beside.
+    /// About how many bytes the automaton's states take, of searches forward and backwards: of each
+    /// the nodes, the row in the table, and what is kept of it beside.
     pub fn memory_usage(&self) -> usize
-        ensures { result ≡ self.now.automaton.closed.used }
+        ensures { result ≡ counted (self.now.automaton.closed.used
+            + used_by self.now.automaton.back.closed) }
     {
-        self.automaton.closed.memory_usage()
+        let closed = self.automaton.closed.memory_usage();
+        closed.saturating_add(self.automaton.back.memory_usage())
     }
 }
 
@@ -191,9 +196,10 @@ pub fn try_search_fwd<C: Cursor>(
 /// `Anchored::Pattern` of that pattern's alone.
 ///
 /// The refusals are `UnsupportedAnchored` where the input isn't anchored, and else `Memory`. It
-/// reads back to the span's start, or to where no match may start any more; at each place it
-/// follows walks through the program side by side, without an automaton, and takes memory in
-/// proportion to the program for it.
+/// reads back to the span's start, or to where no match may start any more. It takes a look-up in a
+/// table for each byte, and no memory. Where the automaton can't tell, since it would have to quit
+/// or has too many states, walks through the program are followed side by side, for which it takes
+/// memory in proportion to the program.
 pub fn try_search_rev<C: Cursor>(
     re: &Regex,
     input: &mut Input<C>,
@@ -206,7 +212,5 @@ pub fn try_search_rev<C: Cursor>(
     ensures refused { IfErr result (IsRefusalBack
         (search_of re.now.engine.utf8_empty input.old)) }
 {
-    let reverse = &re.automaton.reverse;
-    let mut room = ReverseCache::new(reverse.allocator(), reverse)?;
-    search_rev(reverse, &mut room, input, re.compiled.utf8_empty())
+    re.automaton.back.search(input, re.compiled.utf8_empty())
 }

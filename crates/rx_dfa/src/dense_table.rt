@@ -1,24 +1,31 @@
 //! Automata all of whose states and steps are made at once. A search takes no memory.
 
-ghost use Rattle.std.specs.Prelude.{◌≡◌, ◌<◌, ◌≤◌, true, Some, length, slice_get, IfSome, IfOk, IfErr};
+ghost use Rattle.std.specs.Prelude.{◌≡◌, ◌<◌, ◌≤◌, true, Some, length, slice_get, IfSome, IfOk, IfErr, IsTrue, OnOk};
 ghost use Rattle.rx_input.specs.Cursors.{IsSameContent};
-ghost use Rattle.rx_steps.specs.Searching.{search_of};
+ghost use Rattle.rx_walks.specs.Finds.{is_anchored};
+ghost use Rattle.rx_program.specs.Programs.{ByteProgram};
+ghost use Rattle.rx_steps.specs.Reversed.{IsHalfAnswerBack, IsReverseOf};
+ghost use Rattle.rx_steps.specs.Searching.{anchoring_of, search_of};
 ghost use Rattle.rx_dfa.specs.declared.states.AutomatonState.{AutomatonState};
-ghost use Rattle.rx_dfa.specs.Alphabets.{IsAlphabetOf, column_count};
-ghost use Rattle.rx_dfa.specs.Caches.{HasFirst, HoldsSteps, IsWithin};
+ghost use Rattle.rx_dfa.specs.Alphabets.{IsAlphabetBack, IsAlphabetOf, column_count};
+ghost use Rattle.rx_dfa.specs.Automata.{IsAutomaton, directed};
+ghost use Rattle.rx_dfa.specs.Back.{IsDenseRefusalBack};
+ghost use Rattle.rx_dfa.specs.Caches.{HasFirst, IsWithin};
 ghost use Rattle.rx_dfa.specs.DenseTables.{IsClosedOf, IsQuit};
+ghost use Rattle.rx_dfa.specs.Directions.{backward, forward};
 ghost use Rattle.rx_dfa.specs.Searching.{IsHalfAnswer};
-ghost use Rattle.rx_dfa.specs.Tables.{HasStepped, IsBeginning, IsTable};
+ghost use Rattle.rx_dfa.specs.Tables.{HasStepped, HoldsBy, IsBeginning, IsTable};
 
 use crate::alphabet::Alphabet;
-use crate::automaton::Automaton;
+use crate::automaton::{Automaton, Way};
+use crate::back::search_back;
 use crate::behind::Behind;
 use crate::cache::{Cache, QUIT};
 use crate::search::search;
 use crate::states::Starting;
 use crate::table::Table;
 use rx_input::{Cursor, Input};
-use rx_program::Program;
+use rx_program::{Program, ReverseProgram};
 use rx_util::{HalfMatch, MatchError};
 use std::alloc::{AllocError, Global};
 use std::marker::Model;
@@ -38,17 +45,40 @@ impl Model for DenseTable {
     ghost view = { λ c. c.cache };
 }
 
-/// A cache for searches by an automaton of a program.
-fn new_cache(alloc: Global, program: &Program, alphabet: &Alphabet) -> Result<Cache, AllocError>
-    ensures { IfOk result (HoldsSteps program.now alphabet.now) }
+/// A cache for searches by an automaton.
+fn new_cache(alloc: Global, automaton: &Automaton) -> Result<Cache, AllocError>
+    ensures { IfOk result (HoldsBy automaton.now) }
 {
-    match Cache::new(alloc, program, alphabet) {
+    match Cache::of(alloc, &automaton.way, automaton.alphabet) {
         Ok(cache) => Ok(cache),
         Err(_) => Err(AllocError),
     }
 }
 
 impl DenseTable {
+    /// The states and steps of an automaton. There are none where it has more states than
+    /// `state_limit`, or they take more room than about `size_limit`, in bytes.
+    fn of(
+        alloc: Global,
+        automaton: &Automaton,
+        state_limit: usize,
+        size_limit: usize,
+    ) -> Result<Option<DenseTable>, AllocError>
+        requires { IsAutomaton automaton.now }
+        ensures made { IfOk result (λ closed. IfSome closed
+            (IsClosedOf (directed automaton.now) automaton.now.alphabet.now)) }
+        ensures limit { IfOk result (λ closed. IfSome closed (IsWithin state_limit size_limit)) }
+    {
+        let mut cache = new_cache(alloc, automaton)?;
+        cache.add_all_starts(automaton)?;
+        let is_closed = cache.close(automaton, state_limit, size_limit)?;
+        if is_closed {
+            Ok(Some(DenseTable { cache }))
+        } else {
+            Ok(None)
+        }
+    }
+
     /// The states and steps of a program's automaton. There are none where it has more states than
     /// `state_limit`, or they take more room than about `size_limit`, in bytes. It takes the steps
     /// of the walks from each state before each class of bytes.
@@ -60,18 +90,35 @@ impl DenseTable {
         size_limit: usize,
     ) -> Result<Option<DenseTable>, AllocError>
         requires { IsAlphabetOf program.now alphabet.now }
-        ensures made { IfOk result (λ closed. IfSome closed (IsClosedOf program.now alphabet.now)) }
+        ensures made { IfOk result
+            (λ closed. IfSome closed (IsClosedOf (forward program.now) alphabet.now)) }
         ensures limit { IfOk result (λ closed. IfSome closed (IsWithin state_limit size_limit)) }
     {
-        let automaton = Automaton { program, alphabet };
-        let mut cache = new_cache(alloc, program, alphabet)?;
-        cache.add_all_starts(&automaton)?;
-        let is_closed = cache.close(&automaton, state_limit, size_limit)?;
-        if is_closed {
-            Ok(Some(DenseTable { cache }))
-        } else {
-            Ok(None)
-        }
+        let automaton = Automaton {
+            way: Way::Forward(program),
+            alphabet,
+        };
+        DenseTable::of(alloc, &automaton, state_limit, size_limit)
+    }
+
+    /// Those of the automaton of a program turned round, for searches back: as `new` makes them.
+    pub fn new_back(
+        alloc: Global,
+        reverse: &ReverseProgram,
+        alphabet: &Alphabet,
+        state_limit: usize,
+        size_limit: usize,
+    ) -> Result<Option<DenseTable>, AllocError>
+        requires { IsAlphabetBack reverse.now alphabet.now }
+        ensures made { IfOk result
+            (λ closed. IfSome closed (IsClosedOf (backward reverse.now) alphabet.now)) }
+        ensures limit { IfOk result (λ closed. IfSome closed (IsWithin state_limit size_limit)) }
+    {
+        let automaton = Automaton {
+            way: Way::Back(reverse),
+            alphabet,
+        };
+        DenseTable::of(alloc, &automaton, state_limit, size_limit)
     }
 
     /// About how many bytes its states take, as those of a cache.
@@ -129,7 +176,7 @@ impl DenseTable {
         input: &mut Input<C>,
     ) -> Result<Option<HalfMatch>, MatchError>
         requires alphabet { IsAlphabetOf program.now alphabet.now }
-        requires closed { IsClosedOf program.now alphabet.now self.now }
+        requires closed { IsClosedOf (forward program.now) alphabet.now self.now }
         ensures answer { IfOk result
             (IsHalfAnswer program.now (search_of alphabet.now.utf8_empty input.old)) }
         ensures same { IsSameContent input.old.cursor input.new.cursor }
@@ -137,9 +184,46 @@ impl DenseTable {
         ensures refused { IfErr result
             (IsQuit alphabet.now.asked (search_of alphabet.now.utf8_empty input.old)) }
     {
-        let automaton = Automaton { program, alphabet };
+        let automaton = Automaton {
+            way: Way::Forward(program),
+            alphabet,
+        };
         let mut table = self;
-        search(&mut table, &automaton, input)
+        search(&mut table, &automaton, program, input)
+    }
+
+    /// Searches backwards: of the matches that end at the end of the span and lie inside span and
+    /// slice, answers the least start, and the least pattern with it, as the program that this one
+    /// was turned from finds them. `utf8_empty` passes over an empty match inside a character.
+    ///
+    /// The refusals are `UnsupportedAnchored` where the input isn't anchored, and `Quit`, with a
+    /// byte of 128 or more of the slice and its place, where the program asks for looks of words.
+    /// It reads back from the end of the span to its start, or to where no walk lives. It takes a
+    /// look-up in a table for each byte, and no memory.
+    pub fn try_search_back<C: Cursor>(
+        &self,
+        reverse: &ReverseProgram,
+        alphabet: &Alphabet,
+        input: &mut Input<C>,
+        utf8_empty: bool,
+    ) -> Result<Option<HalfMatch>, MatchError>
+        requires alphabet { IsAlphabetBack reverse.now alphabet.now }
+        requires closed { IsClosedOf (backward reverse.now) alphabet.now self.now }
+        ensures answer { IfOk result (λ found. (p : ByteProgram) → IsReverseOf p reverse.now
+            → IsHalfAnswerBack p (search_of utf8_empty input.old) found) }
+        ensures anchored { OnOk result
+            (IsTrue (is_anchored (anchoring_of input.old.asked.anchored))) }
+        ensures same { IsSameContent input.old.cursor input.new.cursor }
+        ensures asked { input.new.asked ≡ input.old.asked }
+        ensures refused { IfErr result
+            (IsDenseRefusalBack alphabet.now.asked (search_of utf8_empty input.old)) }
+    {
+        let automaton = Automaton {
+            way: Way::Back(reverse),
+            alphabet,
+        };
+        let mut table = self;
+        search_back(&mut table, &automaton, reverse, input, utf8_empty)
     }
 }
 

@@ -1,14 +1,15 @@
 //! Makes all states to which searches may come, and all steps between them.
 
-ghost use Rattle.std.specs.Prelude.{◌≡◌, ◌+◌, ◌*◌, ◌<◌, ◌≤◌, ℕ, true, Some, length, max, slice_get, IfOk, OnOk};
+ghost use Rattle.std.specs.Prelude.{◌≡◌, ◌+◌, ◌*◌, ◌<◌, ◌≤◌, ℕ, false, true, Some, length, max, slice_get, IfOk, OnOk};
+ghost use Rattle.rx_dfa.specs.Automata.{IsAutomaton, directed};
 ghost use Rattle.rx_dfa.specs.declared.states.AutomatonState.{AutomatonState};
 ghost use Rattle.rx_dfa.specs.Alphabets.{ahead_in, column_count};
 ghost use Rattle.rx_dfa.specs.Caches.{IsEntry, IsSameState, IsWithin, KeepNumbers};
 ghost use Rattle.rx_dfa.specs.DenseTables.{AreKnown, Grows, HasAllStarts, HasOneFirst, HasStarts, HasStartsFrom, HaveRows, IsKnownAt};
 ghost use Rattle.rx_dfa.specs.States.{IsStateOf};
-ghost use Rattle.rx_dfa.specs.Tables.{IsAutomaton, HoldsBy};
+ghost use Rattle.rx_dfa.specs.Tables.{HoldsBy};
 
-use crate::automaton::Automaton;
+use crate::automaton::{Automaton, Way};
 use crate::behind::Behind;
 use crate::cache::{Cache, QUIT, UNKNOWN};
 use crate::states::{AutomatonState, Starting};
@@ -23,7 +24,7 @@ impl Cache {
         state: AutomatonState,
     ) -> Result<usize, AllocError>
         requires made { HoldsBy automaton.now self.old }
-        requires state { IsStateOf automaton.now.program.now state }
+        requires state { IsStateOf (directed automaton.now) state }
         ensures made { HoldsBy automaton.now self.new }
         ensures number { IfOk result (λ number. (x : AutomatonState)
             × (slice_get self.new.states number ≡ Some x) × IsSameState state x) }
@@ -52,14 +53,14 @@ impl Cache {
         ensures first { OnOk result (HasOneFirst self.new.states starting side) }
         ensures kept { OnOk result (KeepNumbers self.old.states self.new.states) }
     {
-        let state = AutomatonState::first(automaton.program.allocator(), starting, side);
+        let state = AutomatonState::first(automaton.way.allocator(), starting, side);
         let number = self.found_or_added(automaton, state)?;
         self.keep_first(&starting, &side, number);
         Ok(())
     }
 
-    /// Adds those in which walks start from a state of the program, where this stands before.
-    fn add_starts(
+    /// Adds those in which walks may start from a state of the program, where this stands before.
+    fn add_all_firsts(
         &mut self,
         automaton: &Automaton,
         start: StateID,
@@ -67,7 +68,7 @@ impl Cache {
     ) -> Result<(), AllocError>
         requires made { HoldsBy automaton.now self.old }
         ensures made { HoldsBy automaton.now self.new }
-        ensures starts { OnOk result (HasStarts self.new.states start side) }
+        ensures starts { OnOk result (HasStarts false self.new.states start side) }
         ensures kept { OnOk result (KeepNumbers self.old.states self.new.states) }
     {
         self.add_first(automaton, Starting::Never, side)?;
@@ -76,12 +77,32 @@ impl Cache {
         Ok(())
     }
 
+    /// Adds those in which a search begins with walks that start from a state of the program, where
+    /// this stands before. A search back begins once.
+    fn add_starts(
+        &mut self,
+        automaton: &Automaton,
+        start: StateID,
+        side: Behind,
+    ) -> Result<(), AllocError>
+        requires made { HoldsBy automaton.now self.old }
+        ensures made { HoldsBy automaton.now self.new }
+        ensures starts { OnOk result
+            (HasStarts (directed automaton.now).is_back self.new.states start side) }
+        ensures kept { OnOk result (KeepNumbers self.old.states self.new.states) }
+    {
+        match automaton.way {
+            Way::Forward(_) => self.add_all_firsts(automaton, start, side),
+            Way::Back(_) => self.add_first(automaton, Starting::Once(start), side),
+        }
+    }
+
     /// Adds them for whatever may stand before.
     fn add_sides(&mut self, automaton: &Automaton, start: StateID) -> Result<(), AllocError>
         requires is { IsAutomaton automaton.now }
         requires made { HoldsBy automaton.now self.old }
         ensures made { HoldsBy automaton.now self.new }
-        ensures starts { OnOk result (HasStartsFrom automaton.now.program.now
+        ensures starts { OnOk result (HasStartsFrom (directed automaton.now)
             automaton.now.alphabet.now self.new.states start) }
         ensures kept { OnOk result (KeepNumbers self.old.states self.new.states) }
     {
@@ -98,11 +119,11 @@ impl Cache {
         requires made { HoldsBy automaton.now self.old }
         ensures made { HoldsBy automaton.now self.new }
         ensures starts { OnOk result ((k q : ℕ)
-            → slice_get automaton.now.program.now.patterns k ≡ Some q
-            → HasStartsFrom automaton.now.program.now automaton.now.alphabet.now
+            → slice_get (directed automaton.now).bytes.patterns k ≡ Some q
+            → HasStartsFrom (directed automaton.now) automaton.now.alphabet.now
             self.new.states q) }
     {
-        for start in automaton.program.patterns() {
+        for start in automaton.way.patterns() {
             self.add_sides(automaton, *start)?;
         }
         Ok(())
@@ -113,11 +134,11 @@ impl Cache {
         requires is { IsAutomaton automaton.now }
         requires made { HoldsBy automaton.now self.old }
         ensures made { HoldsBy automaton.now self.new }
-        ensures starts { OnOk result (HasAllStarts automaton.now.program.now
+        ensures starts { OnOk result (HasAllStarts (directed automaton.now)
             automaton.now.alphabet.now self.new.states) }
     {
         self.add_patterns(automaton)?;
-        self.add_sides(automaton, automaton.program.start())?;
+        self.add_sides(automaton, automaton.way.start())?;
         Ok(())
     }
 }
@@ -138,7 +159,7 @@ impl Cache {
         ensures grows { OnOk result (Grows self.old self.new) }
         ensures entry { IfOk result (λ entry. (x : AutomatonState)
             → slice_get self.old.states number ≡ Some x
-            → IsEntry automaton.now.program.now automaton.now.alphabet.now self.new.width
+            → IsEntry (directed automaton.now) automaton.now.alphabet.now self.new.width
             self.new.states x (ahead_in automaton.now.alphabet.now column) entry) }
         ensures rows { IfOk result (λ entry. (entry ≡ UNKNOWN → ⊥) → HaveRows self.old self.new) }
     {

@@ -1,6 +1,6 @@
 //! The engine that searches by an automaton whose states are made as a search comes to them.
 
-ghost use Rattle.std.specs.Prelude.{◌≡◌, true, map, IfErr, IfOk, IsTrue, OnErr, OnOk};
+ghost use Rattle.std.specs.Prelude.{◌≡◌, ◌+◌, true, map, IfErr, IfOk, IsTrue, OnErr, OnOk};
 ghost use Rattle.rx_util.specs.declared.search.MatchError.{MatchError};
 ghost use Rattle.rx_program.specs.declared.error.BuildError.{BuildError};
 ghost use Rattle.rx_input.specs.Cursors.{IsSameContent};
@@ -9,20 +9,20 @@ ghost use Rattle.rx_steps.specs.Reversed.{IsHalfAnswerBack, IsRefusalBack};
 ghost use Rattle.rx_steps.specs.Searching.{anchoring_of, search_of};
 ghost use Rattle.rx_grammar.specs.Postorder.{tree_of};
 ghost use Rattle.rx_engine.specs.Engines.{AreRefused, IsBuiltOf, IsBuiltOfAll, IsBuiltOfTrees, IsRefused, IsRefusedOfAll, by_default, nothing_set};
-ghost use Rattle.rx_dfa.specs.Caches.{GivesUpLate};
-ghost use Rattle.rx_dfa.specs.Hybrid.{IsHybridCacheOf};
+ghost use Rattle.rx_dfa.specs.Caches.{GivesUpLate, counted};
+ghost use Rattle.rx_dfa.specs.Hybrid.{HasCapacity, IsHybridCacheOf};
 ghost use Rattle.rx_dfa.specs.Alphabets.{IsAlphabetOf};
 ghost use Rattle.rx_dfa.specs.Passing.{IsRefusal};
 ghost use Rattle.rx_dfa.specs.Searching.{IsHalfAnswer};
 
 use crate::alphabet::{Alphabet, CACHE_CAPACITY};
+use crate::back_cache::{BackCache, search_back};
 use crate::reverse::reverse_of;
 use crate::{cache as states, search};
 use rx_engine::{Builder, Compiled};
 use rx_grammar::Hir;
 use rx_input::{Cursor, Input};
 use rx_program::{BuildError, ReverseProgram};
-use rx_steps::{ReverseCache, search_rev};
 use rx_util::{HalfMatch, MatchError};
 use std::alloc::{AllocError, Global};
 use std::marker::Model;
@@ -30,13 +30,14 @@ use std::rc::Rc;
 
 /// An engine that searches for patterns by an automaton, whose states a cache keeps. Contracts see
 /// the engine that was built of the patterns, the automaton of its program, and the program turned
-/// round, by which it searches backwards.
+/// round with its own, by which it searches backwards.
 #[derive(Debug, Drop)]
 pub struct Regex {
     compiled: Compiled,
     dfa: Rc<Alphabet>,
-    // The program turned round.
+    // The program turned round, and its automaton.
     reverse: Rc<ReverseProgram>,
+    back: Rc<Alphabet>,
 }
 
 impl Model for Regex {
@@ -48,12 +49,14 @@ impl Model for Regex {
       engine = re.compiled;
       dfa = re.dfa.value;
       reverse = re.reverse.value;
+      back = re.back.value;
     } };
 
     ghost invariant = { λ re. IsHybrid (record {
       engine = re.compiled;
       dfa = re.dfa.value;
       reverse = re.reverse.value;
+      back = re.back.value;
     }) };
 }
 
@@ -76,14 +79,16 @@ impl Regex {
     fn over(alloc: Global, compiled: Compiled, capacity: usize) -> Result<Regex, AllocError>
         requires { compiled.utf8_empty ≡ true }
         ensures engine { IfOk result (λ re. re.engine ≡ compiled) }
-        ensures capacity { IfOk result (λ re. re.dfa.capacity ≡ capacity) }
+        ensures capacity { IfOk result (HasCapacity capacity) }
     {
         let dfa = shared_dfa(alloc, &compiled, capacity)?;
         let reverse = Rc::new(alloc, reverse_of(&compiled)?)?;
+        let back = Rc::new(alloc, Alphabet::new_back(alloc, &reverse, capacity)?)?;
         Ok(Regex {
             compiled,
             dfa,
             reverse,
+            back,
         })
     }
 
@@ -91,7 +96,7 @@ impl Regex {
     /// two megabytes. A pattern is refused as by `pikevm::Builder::build`.
     pub fn new(alloc: Global, pattern: &str) -> Result<Regex, BuildError>
         ensures built { IfOk result (λ re. IsBuiltOf pattern.now by_default re.engine) }
-        ensures capacity { IfOk result (λ re. re.dfa.capacity ≡ CACHE_CAPACITY) }
+        ensures capacity { IfOk result (HasCapacity CACHE_CAPACITY) }
         ensures refused { IfErr result (λ error. IsRefused pattern.now by_default error) }
     {
         let compiled = Compiled::new(alloc, pattern)?;
@@ -105,7 +110,7 @@ impl Regex {
     pub fn new_many(alloc: Global, patterns: &[&str]) -> Result<Regex, BuildError>
         ensures built { IfOk result (λ re.
             IsBuiltOfAll (map (λ text. text.now) patterns.now) by_default re.engine) }
-        ensures capacity { IfOk result (λ re. re.dfa.capacity ≡ CACHE_CAPACITY) }
+        ensures capacity { IfOk result (HasCapacity CACHE_CAPACITY) }
         ensures refused { IfErr result (λ error.
             IsRefusedOfAll (map (λ text. text.now) patterns.now) by_default error) }
     {
@@ -121,7 +126,7 @@ impl Regex {
     ) -> Result<Regex, BuildError>
         ensures built { IfOk result (λ re.
             IsBuiltOfAll (map (λ text. text.now) patterns.now) by_default re.engine) }
-        ensures capacity { IfOk result (λ re. re.dfa.capacity ≡ capacity) }
+        ensures capacity { IfOk result (HasCapacity capacity) }
         ensures refused { IfErr result (λ error.
             IsRefusedOfAll (map (λ text. text.now) patterns.now) by_default error) }
     {
@@ -135,7 +140,7 @@ impl Regex {
     pub fn build_from_hirs(alloc: Global, hirs: &[&Hir]) -> Result<Regex, BuildError>
         ensures built { IfOk result (λ re. IsBuiltOfTrees
             (map (λ hir. tree_of hir.now) hirs.now) nothing_set re.engine) }
-        ensures capacity { IfOk result (λ re. re.dfa.capacity ≡ CACHE_CAPACITY) }
+        ensures capacity { IfOk result (HasCapacity CACHE_CAPACITY) }
         ensures refused { IfErr result (λ error. AreRefused
             (map (λ hir. tree_of hir.now) hirs.now) nothing_set error) }
     {
@@ -152,6 +157,7 @@ impl Regex {
             compiled: self.compiled.clone()?,
             dfa: self.dfa.clone()?,
             reverse: self.reverse.clone()?,
+            back: self.back.clone()?,
         })
     }
 
@@ -164,13 +170,13 @@ impl Regex {
     }
 }
 
-/// What searches with an engine keep from one to the next: the states that they have come to, and
-/// room for searches backwards. It serves the engine that it was made for or reset for, after each
-/// search again, refused or not. Contracts see both.
+/// What searches with an engine keep from one to the next: the states that they have come to,
+/// forward and backwards. It serves the engine that it was made for or reset for, after each search
+/// again, refused or not. Contracts see both.
 #[derive(Debug, Drop)]
 pub struct Cache {
     states: states::Cache,
-    back: ReverseCache,
+    back: BackCache,
 }
 
 impl Model for Cache {
@@ -190,7 +196,7 @@ impl Cache {
     {
         Ok(Cache {
             states: states::Cache::new(alloc, re.compiled.program(), &re.dfa)?,
-            back: ReverseCache::new(alloc, &re.reverse)?,
+            back: BackCache::new(alloc, &re.reverse, &re.back)?,
         })
     }
 
@@ -213,18 +219,21 @@ impl Cache {
         ensures kept { OnErr result (self.new ≡ self.old) }
         ensures refused { IfErr result (λ error. error ≡ MatchError.Memory) }
     {
-        let back = ReverseCache::new(re.compiled.program().allocator(), &re.reverse)?;
+        let back = BackCache::new(re.compiled.program().allocator(), &re.reverse, &re.back)?;
         self.states.reset(re.compiled.program(), &re.dfa)?;
         self.back = back;
         Ok(())
     }
 
-    /// About how many bytes its states take: of each the nodes, the row in the table, and what is
-    /// kept of it beside. Where there are more than two states, it is at most the capacity.
+    /// About how many bytes its states take, of searches forward and backwards: of each the nodes,
+    /// the row in the table, and what is kept of it beside. Where there are more than two states of
+    /// one kind, these take at most the capacity.
     pub fn memory_usage(&self) -> usize
-        ensures { result ≡ self.now.states.used }
+        ensures { result ≡ counted (self.now.states.used + self.now.back.states.used) }
     {
-        self.states.memory_usage()
+        self.states
+            .memory_usage()
+            .saturating_add(self.back.memory_usage())
     }
 }
 
@@ -257,8 +266,9 @@ pub fn try_search_fwd<C: Cursor>(
 /// one afterwards, whatever is answered.
 ///
 /// The refusals are `UnsupportedAnchored` where the input isn't anchored, and else `Memory`. It
-/// reads back to the span's start, or to where no match may start any more; at each place it
-/// follows walks through the program side by side, without an automaton.
+/// reads back to the span's start, or to where no match may start any more, and takes a look-up in
+/// a table for each byte of which the step is known. Where the automaton can't tell, since it would
+/// have to quit or to give up, walks through the program are followed side by side.
 pub fn try_search_rev<C: Cursor>(
     re: &Regex,
     cache: &mut Cache,
@@ -275,8 +285,9 @@ pub fn try_search_rev<C: Cursor>(
     ensures refused { IfErr result (IsRefusalBack
         (search_of re.now.engine.utf8_empty input.old)) }
 {
-    search_rev(
+    search_back(
         &re.reverse,
+        &re.back,
         &mut cache.back,
         input,
         re.compiled.utf8_empty(),

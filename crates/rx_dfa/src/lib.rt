@@ -3,6 +3,9 @@
 
 mod alphabet;
 mod automaton;
+mod back;
+mod back_cache;
+mod back_table;
 mod behind;
 mod cache;
 mod classes;
@@ -19,6 +22,8 @@ mod states;
 mod table;
 
 pub use alphabet::{Alphabet, CACHE_CAPACITY};
+pub use back::try_search_back;
+pub use back_cache::{BackCache, search_back};
 pub use cache::Cache;
 pub use dense_table::DenseTable;
 pub use search::try_search_fwd;

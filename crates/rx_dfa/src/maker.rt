@@ -4,13 +4,16 @@ ghost use Rattle.std.specs.Prelude.{◌≡◌, ◌++◌, All, IfOk, IfErr, OnOk}
 ghost use Rattle.rx_util.specs.declared.search.MatchError.{MatchError};
 ghost use Rattle.rx_steps.specs.Nodes.{widths_of};
 ghost use Rattle.rx_steps.specs.Alike.{AreBare};
+ghost use Rattle.rx_steps.specs.Threads.{IsThreadOf};
+ghost use Rattle.rx_dfa.specs.Automata.{directed, directed_by};
+ghost use Rattle.rx_dfa.specs.Behind.{looks_of};
+ghost use Rattle.rx_dfa.specs.Directions.{IsList, looks_by, turned_looks};
 ghost use Rattle.rx_dfa.specs.States.{started, place_of_step, IsStateOf, IsStep};
 
-use crate::automaton::Automaton;
+use crate::automaton::{Automaton, Way};
 use crate::states::{Ahead, AutomatonState};
-use rx_program::Program;
-use rx_steps::{Node, Place, Stepper, ThreadList};
-use rx_util::{MatchError, NonMaxUsize, StateID};
+use rx_steps::{Looks, Node, Place, Stepper, ThreadList};
+use rx_util::{MatchError, NonMaxUsize, PatternID, StateID};
 use std::alloc::{AllocError, Global};
 
 /// Adds a thread for each of the others, which have no slots.
@@ -27,14 +30,52 @@ fn push_all(threads: &mut ThreadList, others: &ThreadList) -> Result<(), AllocEr
     Ok(())
 }
 
+/// The looks of a place whose sides have changed places.
+fn turned(looks: Looks) -> Looks
+    ensures { result ≡ turned_looks looks }
+{
+    Looks {
+        start: looks.end,
+        end: looks.start,
+        start_line: looks.end_line,
+        end_line: looks.start_line,
+        word_boundary: looks.word_boundary,
+        no_word_boundary: looks.no_word_boundary,
+    }
+}
+
+/// The looks that hold at a place where a state's step is made.
+fn looks_of(way: &Way, state: &AutomatonState, ahead: &Ahead) -> Looks
+    ensures { result ≡ looks_by (directed_by way.now).is_back
+        (looks_of (directed_by way.now).bytes.line_terminator state.now.behind ahead.now.seen) }
+{
+    let looks = state.behind.looks(way.line_terminator(), ahead.seen);
+    match way {
+        Way::Forward(_) => looks,
+        Way::Back(_) => turned(looks),
+    }
+}
+
 /// The place at which a state's step is made.
-fn place_of(state: &AutomatonState, line_terminator: u8, ahead: &Ahead) -> Place
-    ensures { result ≡ place_of_step line_terminator state.now ahead.now }
+fn place_of(way: &Way, state: &AutomatonState, ahead: &Ahead) -> Place
+    ensures { result ≡ place_of_step (directed_by way.now) state.now ahead.now }
 {
     Place {
         at: NonMaxUsize::new(0).unwrap(),
         byte: ahead.read,
-        looks: state.behind.looks(line_terminator, ahead.seen),
+        looks: looks_of(way, state, ahead),
+    }
+}
+
+/// Room for the steps of a program's walks.
+fn stepper_of(alloc: Global, way: &Way) -> Result<Stepper, MatchError>
+    ensures made { IfOk result
+        (λ stepper. stepper.widths ≡ widths_of (directed_by way.now).bytes) }
+    ensures refused { IfErr result (λ error. error ≡ MatchError.Memory) }
+{
+    match way {
+        Way::Forward(program) => Stepper::new(alloc, program),
+        Way::Back(reverse) => Stepper::new_back(alloc, reverse),
     }
 }
 
@@ -50,13 +91,14 @@ pub(crate) struct Maker {
 
 impl Maker {
     /// Room for the steps of a program. The one refusal is `Memory`.
-    pub(crate) fn new(alloc: Global, program: &Program) -> Result<Maker, MatchError>
-        ensures made { IfOk result (λ maker. maker.stepper.widths ≡ widths_of program.now) }
+    pub(crate) fn new(alloc: Global, way: &Way) -> Result<Maker, MatchError>
+        ensures made { IfOk result
+            (λ maker. maker.stepper.widths ≡ widths_of (directed_by way.now).bytes) }
         ensures refused { IfErr result (λ error. error ≡ MatchError.Memory) }
     {
         Ok(Maker {
             alloc,
-            stepper: Stepper::new(alloc, program)?,
+            stepper: stepper_of(alloc, way)?,
             from: ThreadList::new(alloc, 0),
             next: ThreadList::new(alloc, 0),
         })
@@ -96,6 +138,30 @@ impl Maker {
         Ok(())
     }
 
+    /// Makes the step of the threads that were taken over, which have no slots.
+    fn step(&mut self, way: &Way, place: &Place) -> Result<Option<PatternID>, MatchError>
+        requires made { self.old.stepper.widths ≡ widths_of (directed_by way.now).bytes }
+        requires threads { All (IsThreadOf (directed_by way.now).bytes.states)
+            self.old.from.threads }
+        requires slots { self.old.from.slot_len ≡ 0 }
+        ensures list { IfOk result (λ met. IsList (directed_by way.now).is_back
+            (directed_by way.now).bytes place.now self.old.from.threads self.new.next.threads met
+            self.new.stepper.slots) }
+        ensures threads { OnOk result (All (IsThreadOf (directed_by way.now).bytes.states)
+            self.new.next.threads) }
+        ensures slots { OnOk result (self.new.next.slot_len ≡ 0) }
+        ensures made { self.new.stepper.widths ≡ self.old.stepper.widths }
+        ensures refused { IfErr result (λ error. error ≡ MatchError.Memory) }
+    {
+        let stepper = &mut self.stepper;
+        match way {
+            Way::Forward(program) => stepper.next_list(program, place, &self.from, &mut self.next),
+            Way::Back(reverse) => {
+                stepper.next_list_back(reverse, place, &self.from, &mut self.next)
+            }
+        }
+    }
+
     /// The state to which a state leads before what stands ahead. The one refusal is `Memory`.
     pub(crate) fn next_state(
         &mut self,
@@ -103,21 +169,18 @@ impl Maker {
         state: &AutomatonState,
         ahead: &Ahead,
     ) -> Result<AutomatonState, MatchError>
-        requires made { self.old.stepper.widths ≡ widths_of automaton.now.program.now }
-        requires state { IsStateOf automaton.now.program.now state.now }
-        ensures step { IfOk result (λ next. IsStep automaton.now.program.now
+        requires made { self.old.stepper.widths ≡ widths_of (directed automaton.now).bytes }
+        requires state { IsStateOf (directed automaton.now) state.now }
+        ensures step { IfOk result (λ next. IsStep (directed automaton.now)
             automaton.now.alphabet.now.asked state.now ahead.now next) }
-        ensures state { IfOk result (λ next. IsStateOf automaton.now.program.now next) }
+        ensures state { IfOk result (λ next. IsStateOf (directed automaton.now) next) }
         ensures made { self.new.stepper.widths ≡ self.old.stepper.widths }
         ensures refused { IfErr result (λ error. error ≡ MatchError.Memory) }
     {
-        let program = automaton.program;
         let start = state.starting.at(ahead.may_begin);
         self.begin(&state.threads, start)?;
-        let place = place_of(state, program.line_terminator(), ahead);
-        let ended = self
-            .stepper
-            .next_list(program, &place, &self.from, &mut self.next)?;
+        let place = place_of(&automaton.way, state, ahead);
+        let ended = self.step(&automaton.way, &place)?;
         let mut threads = ThreadList::new(self.alloc, 0);
         self.stepper.thin(&self.next, &mut threads)?;
         // A law, for the proof alone.

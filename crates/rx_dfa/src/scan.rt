@@ -7,7 +7,8 @@ ghost use Rattle.rx_dfa.specs.declared.states.AutomatonState.{AutomatonState};
 ghost use Rattle.rx_dfa.specs.Caches.{GivesUpLate};
 ghost use Rattle.rx_dfa.specs.Searching.{met_after};
 ghost use Rattle.rx_dfa.specs.Passing.{HasPassed, IsNoted, IsOverAt};
-ghost use Rattle.rx_dfa.specs.Tables.{HoldsBy, IsAutomaton, IsRefusalAmong, IsTable};
+ghost use Rattle.rx_dfa.specs.Automata.{IsAutomaton};
+ghost use Rattle.rx_dfa.specs.Tables.{HoldsBy, IsRefusalAmong, IsTable};
 
 use crate::automaton::Automaton;
 use crate::cache::{Cache, ENDS, STOPS};

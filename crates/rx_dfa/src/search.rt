@@ -6,20 +6,22 @@ ghost use Rattle.rx_walks.specs.Finds.{IsInside};
 ghost use Rattle.rx_walks.specs.ProgramFinds.{start_node, lowest, highest};
 ghost use Rattle.rx_input.specs.Cursors.{IsSameContent};
 ghost use Rattle.rx_input.specs.Inputs.{IsMoved};
-ghost use Rattle.rx_program.specs.Programs.{characters_of};
+ghost use Rattle.rx_program.specs.Programs.{IsByteProgram, characters_of};
 ghost use Rattle.rx_steps.specs.Searching.{search_of, anchoring_of};
+ghost use Rattle.rx_dfa.specs.Automata.{IsAutomaton, ReadsForward, directed};
 ghost use Rattle.rx_dfa.specs.declared.states.AutomatonState.{AutomatonState};
 ghost use Rattle.rx_dfa.specs.Behind.{quits};
+ghost use Rattle.rx_dfa.specs.Directions.{forward};
 ghost use Rattle.rx_dfa.specs.States.{EndsSo};
 ghost use Rattle.rx_dfa.specs.Classes.{class_of};
 ghost use Rattle.rx_dfa.specs.Alphabets.{IsAlphabetOf, ahead_in, column_count};
 ghost use Rattle.rx_dfa.specs.Caches.{GivesUpLate, IsCacheOf};
 ghost use Rattle.rx_dfa.specs.Passing.{IsLastColumn, StandThere, StandsAt, IsRefusal, search_by};
 ghost use Rattle.rx_dfa.specs.Searching.{StartsSo, IsHalfAnswer, byte_before, byte_after};
-ghost use Rattle.rx_dfa.specs.Tables.{IsAutomaton, IsLack, IsRefusalBy, IsTable};
+ghost use Rattle.rx_dfa.specs.Tables.{IsLack, IsRefusalBy, IsTable};
 
 use crate::alphabet::Alphabet;
-use crate::automaton::Automaton;
+use crate::automaton::{Automaton, Way};
 use crate::cache::Cache;
 use crate::scan::scan;
 use crate::states::{Starting, last_met};
@@ -57,7 +59,7 @@ fn is_at_last<C: Cursor>(input: &Input<C>) -> bool
 }
 
 /// The byte of the slice that stands where an input stands, if there is one.
-fn byte_seen<C: Cursor>(input: &Input<C>) -> Option<u8>
+pub(crate) fn byte_seen<C: Cursor>(input: &Input<C>) -> Option<u8>
     ensures { (utf8_empty : Bool)
         → result ≡ byte_after (search_of utf8_empty input.now) input.now.position }
 {
@@ -70,7 +72,7 @@ fn byte_seen<C: Cursor>(input: &Input<C>) -> Option<u8>
 
 /// Whether a match may begin where an input stands, if empty ones inside a character are passed
 /// over or not.
-fn may_begin<C: Cursor>(input: &Input<C>, utf8_empty: bool) -> bool
+pub(crate) fn may_begin<C: Cursor>(input: &Input<C>, utf8_empty: bool) -> bool
     ensures { IsTrue result
         ↔ (IsTrue utf8_empty → IsCharBoundary input.now.cursor.content input.now.position) }
 {
@@ -78,7 +80,7 @@ fn may_begin<C: Cursor>(input: &Input<C>, utf8_empty: bool) -> bool
 }
 
 /// The class of a byte that is seen.
-fn seen_class(alphabet: &Alphabet, byte: u8) -> usize
+pub(crate) fn seen_class(alphabet: &Alphabet, byte: u8) -> usize
     ensures class { result ≡ class_of alphabet.now.classes byte }
     ensures byte { byte < 256 }
 {
@@ -88,7 +90,8 @@ fn seen_class(alphabet: &Alphabet, byte: u8) -> usize
 /// The column in which a state is told the end that it meets where an input stands, at the last
 /// place, ahead of which this byte of the slice stands, or none.
 fn last_column<C: Cursor>(automaton: &Automaton, input: &Input<C>, seen: Option<u8>) -> usize
-    requires { IsAutomaton automaton.now }
+    requires is { IsAutomaton automaton.now }
+    requires forward { ReadsForward automaton.now }
     ensures { input.now.position ≡ highest (search_by automaton.now input.now)
         → seen ≡ byte_after (search_by automaton.now input.now) input.now.position
         → quits automaton.now.alphabet.now.asked seen ≡ false
@@ -144,7 +147,7 @@ fn byte_looked_behind<C: Cursor>(input: &mut Input<C>) -> Option<u8>
 
 /// The byte of the slice before the place at which an input stands, if looks are asked for. The
 /// piece that is shown may be another afterwards.
-fn byte_behind<C: Cursor>(input: &mut Input<C>, asks_looks: bool) -> Option<u8>
+pub(crate) fn byte_behind<C: Cursor>(input: &mut Input<C>, asks_looks: bool) -> Option<u8>
     ensures asked { asks_looks ≡ true → (utf8_empty : Bool)
         → IsInside (search_of utf8_empty input.old) input.old.position
         → result ≡ byte_before (search_of utf8_empty input.old) input.old.position }
@@ -170,6 +173,7 @@ fn pass_piece<T: Table, C: Cursor>(
     met: &mut Option<HalfMatch>,
 ) -> Result<usize, MatchError>
     requires is { IsAutomaton automaton.now }
+    requires forward { ReadsForward automaton.now }
     requires table { IsTable T.is_whole automaton.now (T.shown table.old) }
     requires number { number < length (T.shown table.old).states }
     requires inside { IsInside (search_by automaton.now input.old) input.old.position }
@@ -201,7 +205,7 @@ fn pass_piece<T: Table, C: Cursor>(
 }
 
 /// The pattern whose end a state meets before what stands in a column, in which a search can go on.
-fn last_end<T: Table>(
+pub(crate) fn last_end<T: Table>(
     table: &mut T,
     automaton: &Automaton,
     number: usize,
@@ -216,7 +220,7 @@ fn last_end<T: Table>(
     ensures table { IsTable T.is_whole automaton.now (T.shown table.new) }
     ensures step { IfOk result (λ ended. (x : AutomatonState)
         → slice_get (T.shown table.old).states number ≡ Some x
-        → EndsSo automaton.now.program.now automaton.now.alphabet.now.asked x
+        → EndsSo (directed automaton.now) automaton.now.alphabet.now.asked x
         (ahead_in automaton.now.alphabet.now column) ended) }
     ensures refused { IfErr result (IsLack T.is_whole at) }
     ensures late { IfErr result (GivesUpLate (T.shown table.new)) }
@@ -237,17 +241,18 @@ fn finish<T: Table, C: Cursor>(
     met: Option<HalfMatch>,
 ) -> Result<Option<HalfMatch>, MatchError>
     requires is { IsAutomaton automaton.now }
+    requires forward { ReadsForward automaton.now }
     requires table { IsTable T.is_whole automaton.now (T.shown table.old) }
     requires number { number < length (T.shown table.old).states }
     requires inside { IsInside (search_by automaton.now input.now) input.now.position }
     requires last { input.now.position ≡ highest (search_by automaton.now input.now) }
     ensures table { IsTable T.is_whole automaton.now (T.shown table.new) }
     ensures answer { IfOk result (λ found. (q : ℕ)
-        → start_node (characters_of automaton.now.program.now)
+        → start_node (characters_of (directed automaton.now).bytes)
         (anchoring_of input.now.asked.anchored) ≡ Some q
         → StandsAt automaton.now (search_by automaton.now input.now) q
         input.now.position (T.shown table.old).states number met
-        → IsHalfAnswer automaton.now.program.now (search_by automaton.now input.now) found) }
+        → IsHalfAnswer (directed automaton.now).bytes (search_by automaton.now input.now) found) }
     ensures refused { IfErr result
         (IsRefusalBy T.is_whole automaton.now (search_by automaton.now input.now)) }
     ensures late { IfErr result (GivesUpLate (T.shown table.new)) }
@@ -272,16 +277,17 @@ fn follow<T: Table, C: Cursor>(
     first: usize,
 ) -> Result<Option<HalfMatch>, MatchError>
     requires is { IsAutomaton automaton.now }
+    requires forward { ReadsForward automaton.now }
     requires table { IsTable T.is_whole automaton.now (T.shown table.old) }
     requires first { first < length (T.shown table.old).states }
     requires inside { IsInside (search_by automaton.now input.old) input.old.position }
     ensures table { IsTable T.is_whole automaton.now (T.shown table.new) }
     ensures answer { IfOk result (λ found. (q : ℕ)
-        → start_node (characters_of automaton.now.program.now)
+        → start_node (characters_of (directed automaton.now).bytes)
         (anchoring_of input.old.asked.anchored) ≡ Some q
         → StandsAt automaton.now (search_by automaton.now input.old) q
         input.old.position (T.shown table.old).states first None
-        → IsHalfAnswer automaton.now.program.now (search_by automaton.now input.old) found) }
+        → IsHalfAnswer (directed automaton.now).bytes (search_by automaton.now input.old) found) }
     ensures same { IsSameContent input.old.cursor input.new.cursor }
     ensures asked { input.new.asked ≡ input.old.asked }
     ensures refused { IfErr result
@@ -309,14 +315,15 @@ fn start<T: Table, C: Cursor>(
     start: StateID,
 ) -> Result<Option<HalfMatch>, MatchError>
     requires is { IsAutomaton automaton.now }
+    requires forward { ReadsForward automaton.now }
     requires table { IsTable T.is_whole automaton.now (T.shown table.old) }
-    requires start { start_node (characters_of automaton.now.program.now)
+    requires start { start_node (characters_of (directed automaton.now).bytes)
         (anchoring_of input.old.asked.anchored) ≡ Some start }
     requires inside { IsInside (search_by automaton.now input.old) input.old.position }
     requires first { input.old.position ≡ lowest (search_by automaton.now input.old) }
     ensures table { IsTable T.is_whole automaton.now (T.shown table.new) }
     ensures answer { IfOk result
-        (IsHalfAnswer automaton.now.program.now (search_by automaton.now input.old)) }
+        (IsHalfAnswer (directed automaton.now).bytes (search_by automaton.now input.old)) }
     ensures same { IsSameContent input.old.cursor input.new.cursor }
     ensures asked { input.new.asked ≡ input.old.asked }
     ensures refused { IfErr result
@@ -344,20 +351,23 @@ fn start<T: Table, C: Cursor>(
 pub(crate) fn search<T: Table, C: Cursor>(
     table: &mut T,
     automaton: &Automaton,
+    program: &Program,
     input: &mut Input<C>,
 ) -> Result<Option<HalfMatch>, MatchError>
     requires is { IsAutomaton automaton.now }
+    requires forward { directed automaton.now ≡ forward program.now }
+    requires reads { IsByteProgram program.now }
     requires table { IsTable T.is_whole automaton.now (T.shown table.old) }
     ensures table { IsTable T.is_whole automaton.now (T.shown table.new) }
     ensures answer { IfOk result
-        (IsHalfAnswer automaton.now.program.now (search_by automaton.now input.old)) }
+        (IsHalfAnswer program.now (search_by automaton.now input.old)) }
     ensures same { IsSameContent input.old.cursor input.new.cursor }
     ensures asked { input.new.asked ≡ input.old.asked }
     ensures refused { IfErr result
         (IsRefusalBy T.is_whole automaton.now (search_by automaton.now input.old)) }
     ensures late { IfErr result (GivesUpLate (T.shown table.new)) }
 {
-    let Some(first) = start_state(automaton.program, input.get_anchored()) else {
+    let Some(first) = start_state(program, input.get_anchored()) else {
         return Ok(None);
     };
     if !enter(input) {
@@ -383,16 +393,19 @@ pub fn try_search_fwd<C: Cursor>(
     input: &mut Input<C>,
 ) -> Result<Option<HalfMatch>, MatchError>
     requires alphabet { IsAlphabetOf program.now alphabet.now }
-    requires made { IsCacheOf program.now alphabet.now cache.old }
+    requires made { IsCacheOf (forward program.now) alphabet.now cache.old }
     ensures answer { IfOk result
         (IsHalfAnswer program.now (search_of alphabet.now.utf8_empty input.old)) }
-    ensures made { IsCacheOf program.now alphabet.now cache.new }
+    ensures made { IsCacheOf (forward program.now) alphabet.now cache.new }
     ensures same { IsSameContent input.old.cursor input.new.cursor }
     ensures asked { input.new.asked ≡ input.old.asked }
     ensures refused { IfErr result
         (IsRefusal alphabet.now.asked (search_of alphabet.now.utf8_empty input.old)) }
     ensures late { IfErr result (GivesUpLate cache.new) }
 {
-    let automaton = Automaton { program, alphabet };
-    search(cache, &automaton, input)
+    let automaton = Automaton {
+        way: Way::Forward(program),
+        alphabet,
+    };
+    search(cache, &automaton, program, input)
 }

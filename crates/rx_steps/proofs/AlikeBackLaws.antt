@@ -161,7 +161,11 @@ all_more s front (left_out {q = q} {xs = xs} c thins) stand steps =
 none_gone : (q : ℕ × ℕ) → Contains [] q → StandsAmong q []
 none_gone q (k, within, is) = absurd (omega (arith, within))
 
+-- a step from the walks that are left is one from all
+pub steps_thinned : {m : NodeMachine} {i : ℕ} {next : List Started} {ms : List (ℕ × ℕ)} {threads thin : List Thread} (s : ℕ) → Thins [] threads thin → StepsAll m i [] (started_at s (nodes_of thin)) next ms → StepsAll m i [] (started_at s (nodes_of threads)) next ms
+steps_thinned s thins steps = all_more s [] thins none_gone steps
+
 pub steps_back_are_thinned : (p : ByteProgram) → StepsBackAreThinned p
 steps_back_are_thinned p place threads thin next met' thins list = λ m i start moves.
     let step = list m i start moves in
-    record { ends = step.ends; steps = all_more start [] thins none_gone step.steps; best = step.best }
+    record { ends = step.ends; steps = steps_thinned start thins step.steps; best = step.best }

@@ -99,7 +99,7 @@ begins_back : (s : Search) → Begins (mirrored_search s) (mirror_of s s.end)
 begins_back s = (((omega arith, omega arith, omega arith, omega arith, omega (arith, length_zeros s.content)), λ on. refl), λ on. absurd (not_true on))
 
 -- no walk begins at a further place
-begins_not : (s : Search) (k : ℕ) → mirror_of s s.end < k → Begins (mirrored_search s) k → ⊥
+pub begins_not : (s : Search) (k : ℕ) → mirror_of s s.end < k → Begins (mirrored_search s) k → ⊥
 begins_not s k lt begins = omega (arith, lt, begins.0.1 refl)
 
 -- a search begins with one walk

@@ -23,7 +23,7 @@ pub use asked::AskedLooks;
 pub use idle::last_place;
 pub use node::Node;
 pub use place::{Looks, Place};
-pub use reverse_search::{ReverseCache, search_rev};
+pub use reverse_search::{ReverseCache, enter_end, search_rev, start_back, told_back};
 pub use search::{Cache, advance, begins, enter, search_all, search_slots, start_state};
 pub use started::{MetEnd, StartedNode};
 pub use stepper::Stepper;

@@ -33,7 +33,7 @@ use std::marker::Model;
 use std::mem;
 
 /// The state from which walks back of a search start, if there is one: an unknown pattern has none.
-fn start_state(program: &ReverseProgram, anchored: Anchored) -> Option<StateID>
+pub fn start_back(program: &ReverseProgram, anchored: Anchored) -> Option<StateID>
     ensures { result ≡ start_node (back_characters_of program.now) (anchoring_of anchored) }
 {
     match anchored {
@@ -44,7 +44,7 @@ fn start_state(program: &ReverseProgram, anchored: Anchored) -> Option<StateID>
 
 /// Moves an input to the end of its span, and tells whether that lies inside slice and content and
 /// not before the start; where it doesn't, the input stands anywhere.
-fn enter_end<C: Cursor>(input: &mut Input<C>) -> bool
+pub fn enter_end<C: Cursor>(input: &mut Input<C>) -> bool
     ensures inside { result ≡ true → (utf8_empty : Bool)
         → IsInside (search_of utf8_empty input.old) input.new.position }
     ensures end { result ≡ true → input.new.position ≡ input.old.asked.span.end }
@@ -255,7 +255,7 @@ impl ReverseCache {
 
 /// What is told of the match that was met, if one was: an empty one, which starts at the span's
 /// end, only where it may stand there.
-fn told(best: Option<HalfMatch>, end: usize, may_be_empty: bool) -> Option<HalfMatch>
+pub fn told_back(best: Option<HalfMatch>, end: usize, may_be_empty: bool) -> Option<HalfMatch>
     ensures { (s : Search) → s.end ≡ end → IsInside s s.end
         → IfSome best (λ met. IsInside s met.offset)
         → (IsTrue may_be_empty ↔ (IsTrue s.utf8_empty → IsCharBoundary s.content s.end))
@@ -306,11 +306,11 @@ pub fn search_rev<C: Cursor>(
     if !enter_end(input) {
         return Ok(None);
     }
-    let Some(start) = start_state(program, mode) else {
+    let Some(start) = start_back(program, mode) else {
         return Ok(None);
     };
     let end = input.position();
     let may = may_be_empty(input, utf8_empty);
     let best = cache.walks.follow(program, input, start)?;
-    Ok(told(best, end, may))
+    Ok(told_back(best, end, may))
 }

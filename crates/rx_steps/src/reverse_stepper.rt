@@ -244,6 +244,7 @@ impl Stepper {
             (nodes_of threads.now.threads) (nodes_of next.new.threads)) }
         ensures threads { OnOk result
             (All (IsThreadOf (bytes_of program.now).states) next.new.threads) }
+        ensures slot_len { OnOk result (next.new.slot_len ≡ 0) }
         ensures made { self.new.widths ≡ self.old.widths }
         ensures work { self.new.followed
             ≤ self.old.followed + node_count (bytes_of program.now) }

@@ -1,6 +1,7 @@
 use Rattle.std.proofs.Common.{◌≡◌, ◌+◌, ◌-◌, ◌<◌, Some, length, take, drop, get_or, slice_get, sym, subst, arith}
 use Rattle.std.proofs.lemmas.Option.{slice_get-get_or, slice_get_within}
 use Rattle.std.proofs.lemmas.Result.{err_from_is_err_and}
+use Rattle.rx_dfa.specs.Automata.{directed}
 use Rattle.rx_dfa.specs.Caches.{CacheView, HoldsSteps}
 use Rattle.rx_dfa.proofs.TableLaws.{there_is}
 use Rattle.rx_dfa.proofs.ScanLaws.{byte_after_them, cache_in, passed_none, refused_on, run_after, run_shown}
@@ -17,7 +18,7 @@ loop-len-init g c = record {
 pub run-there-requires-clause-made : goal.run-there-requires-clause-made
 run-there-requires-clause-made g c =
     let a = c.args.automaton.now in
-    subst (λ v. HoldsSteps a.program.now a.alphabet.now v) (sym c.known-known.ensures) (cache_in g.T.Table.is_whole a (g.T.Table.shown c.loop-len.table) c.loop-len.invariant.table)
+    subst (λ v. HoldsSteps (directed a) a.alphabet.now v) (sym c.known-known.ensures) (cache_in g.T.Table.is_whole a (g.T.Table.shown c.loop-len.table) c.loop-len.invariant.table)
 
 pub run-there-requires-clause-first : goal.run-there-requires-clause-first
 run-there-requires-clause-first g c = subst (λ (v : CacheView). c.loop-len.number < length v.states) (sym c.known-known.ensures) c.loop-len.invariant.number

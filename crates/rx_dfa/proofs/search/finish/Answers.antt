@@ -1,4 +1,5 @@
 use Rattle.std.proofs.Common.{◌≡◌, Some, slice_get, arith, sym, ap, subst, ◌∙◌}
+use Rattle.rx_dfa.specs.Automata.{directed}
 use Rattle.rx_dfa.specs.Passing.{IsLastColumn, search_by}
 use Rattle.rx_dfa.specs.Searching.{IsHalfAnswer, met_after}
 use Rattle.rx_dfa.proofs.LoopLaws.{Laws}
@@ -39,9 +40,9 @@ returns-in-Ok-clause-answer g c = λ q starts at.
     let i = c.args.input.now.position in
     let is : IsLastColumn a s i c.last_column-column.result = c.last_column-column.ensures c.requires.last (c.byte_seen-seen.ensures a.alphabet.now.utf8_empty) (c.byte_that_quits.ensures.none c.in_default.is) in
     let laws : Laws = record { alike = steps_are_alike; end = steps_end; one_byte = one_byte_tells; first = first_character; last = last_character } in
-    let whole = last_answers laws a s q i c.last_column-column.result at.state c.in-Ok.ended c.args.met c.requires.is.reads keeping_law starts c.requires.is.asked
-    (state_at a.program.now a.alphabet.now old c.args.number at.state (cache_in g.T.Table.is_whole a old c.requires.table) at.stands).bare c.requires.inside c.requires.last is at.behind (c.in-Ok.ensures.step at.state at.stands) at.reached in
-    subst (λ o. IsHalfAnswer a.program.now s o) (ap (λ k. met_after k c.in-Ok.ended c.args.met) (sym c.position-at.ensures.position) ∙ sym c.last_met.ensures) whole
+    let whole = last_answers laws a s q i c.last_column-column.result at.state c.in-Ok.ended c.args.met c.requires.forward.reads keeping_law starts c.requires.is.asked
+    (state_at (directed a) a.alphabet.now old c.args.number at.state (cache_in g.T.Table.is_whole a old c.requires.table) at.stands).bare c.requires.inside c.requires.last is at.behind (c.in-Ok.ensures.step at.state at.stands) at.reached in
+    subst (λ o. IsHalfAnswer (directed a).bytes s o) (ap (λ k. met_after k c.in-Ok.ended c.args.met) (sym c.position-at.ensures.position) ∙ sym c.last_met.ensures) whole
 
 pub returns-in-Err-clause-refused : goal.returns-in-Err-clause-refused
 returns-in-Err-clause-refused g c =

@@ -5,6 +5,7 @@ use Rattle.rx_program.specs.Programs.{characters_of}
 use Rattle.rx_steps.specs.Searching.{anchoring_of}
 use Rattle.rx_steps.proofs.FollowLaws.{if_ok}
 use Rattle.rx_steps.proofs.OverLaws.{same_search}
+use Rattle.rx_dfa.specs.Automata.{directed}
 use Rattle.rx_dfa.specs.declared.states.AutomatonState.{AutomatonState}
 use Rattle.rx_dfa.specs.Caches.{CacheView}
 use Rattle.rx_dfa.specs.Passing.{IsOverAt, StandsAt, search_by}
@@ -24,7 +25,7 @@ returns-then-is_over-clause-answer g c = λ q starts at.
     let now = c.loop-met.invariant.stands q at in
     let over = subst (λ (v : CacheView). IsOverAt v.states c.loop-met.number) c.known.ensures (c.is_over.ensures c.if-is_over.true) in
     let same = the_same now.stands over.stands in
-    over_answers a.program.now s q c.loop-met.input.position now.state c.loop-met.met c.requires.is.reads keeping_law starts
+    over_answers (directed a).bytes s q c.loop-met.input.position now.state c.loop-met.met c.requires.forward.reads keeping_law starts
     (ap (λ (x : AutomatonState). x.threads.threads) same ∙ over.threads) (ap (λ (x : AutomatonState). x.starting) same ∙ over.starting) now.reached
 
 pub finish-requires-clause-last : goal.finish-requires-clause-last
@@ -37,7 +38,7 @@ finish-requires-clause-last g c =
 pub returns-then-is_at_last-clause-answer : goal.returns-then-is_at_last-clause-answer
 returns-then-is_at_last-clause-answer g c =
     let a = c.args.automaton.now in
-    let p = a.program.now in
+    let p = (directed a).bytes in
     let here = c.loop-met.input in
     let states = (g.T.Table.shown c.loop-met.table).states in
     let same = same_search a.alphabet.now.utf8_empty here c.args.input.now c.loop-met.invariant.same.content c.loop-met.invariant.asked in

@@ -43,7 +43,7 @@ returns-in-Ok-clause-stands g c = λ q at.
     let passed : (x : AutomatonState) → slice_get old c.args.number ≡ Some x → HasPassed a new x (take n bytes) input.position c.args.met.now c.in-Ok.next c.scan.new.met =
     λ x stands. subst (λ i. HasPassed a new x (take n bytes) i c.args.met.now c.in-Ok.next c.scan.new.met) c.position-at.ensures.position (c.in-Ok.ensures.passed x stands) in
     subst (λ i. StandsAt a s q i new c.in-Ok.next c.scan.new.met) far
-    (stands_on laws a s q input.position n bytes old new c.args.number c.in-Ok.next c.args.met.now c.scan.new.met c.requires.is.asked refl there c.in-Ok.ensures.within passed at)
+    (stands_on laws a s q input.position n bytes old new c.args.number c.in-Ok.next c.args.met.now c.scan.new.met c.requires.forward.way c.requires.is.asked refl there c.in-Ok.ensures.within passed at)
 
 pub returns-in-Ok-clause-inside : goal.returns-in-Ok-clause-inside
 returns-in-Ok-clause-inside g c =

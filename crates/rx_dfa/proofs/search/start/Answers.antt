@@ -5,6 +5,7 @@ use Rattle.rx_program.specs.Programs.{characters_of}
 use Rattle.rx_steps.specs.Searching.{anchoring_of}
 use Rattle.rx_steps.proofs.FollowLaws.{if_ok}
 use Rattle.rx_steps.proofs.OverLaws.{same_search}
+use Rattle.rx_dfa.specs.Automata.{directed}
 use Rattle.rx_dfa.specs.Passing.{StandsAt, search_by}
 use Rattle.rx_dfa.specs.Searching.{StartsSo, IsHalfAnswer, byte_before}
 use Rattle.rx_dfa.proofs.DenseLaws.{starts_from}
@@ -55,7 +56,7 @@ first-requires-clause-begins g c =
       anchoring = anchoring_of old.asked.anchored;
       start = q;
       starts = c.requires.start;
-      starting_is = starts_from s q new.position c.first_starting-starting.result None (c.first_starting-starting.ensures b first);
+      starting_is = starts_from (directed a).is_back s q new.position c.first_starting-starting.result None c.requires.forward.way (c.first_starting-starting.ensures b first);
       byte = c.byte_behind-behind.result;
       may_be = c.side-side.ensures.byte;
       behind_is = c.side-side.ensures.side;
@@ -74,7 +75,7 @@ follow-requires-clause-first g c =
 pub returns-in-Ok-clause-answer : goal.returns-in-Ok-clause-answer
 returns-in-Ok-clause-answer g c =
     let a = c.args.automaton.now in
-    let p = a.program.now in
+    let p = (directed a).bytes in
     let alphabet = a.alphabet.now in
     let b = alphabet.utf8_empty in
     let q = c.args.start in

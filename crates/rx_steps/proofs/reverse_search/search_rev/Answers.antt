@@ -28,7 +28,7 @@ returns-in_default-clause-answer g c = λ p is.
     let old = c.args.input.now in
     let s = search_of b old in
     let starts : start_node (back_characters_of turned) (anchoring_of old.asked.anchored) ≡ None =
-    subst (λ a. start_node (back_characters_of turned) (anchoring_of a) ≡ None) c.get_anchored-mode.ensures (sym c.start_state.ensures ∙ c.in_default.is) in
+    subst (λ a. start_node (back_characters_of turned) (anchoring_of a) ≡ None) c.get_anchored-mode.ensures (sym c.start_back.ensures ∙ c.in_default.is) in
     let last : IsInside s s.end = subst (λ k. IsInside s k) (c.enter_end.ensures.end c.if-not-enter_end.false) (c.enter_end.ensures.inside c.if-not-enter_end.false b) in
     unknown_answers p turned s is c.reads_backwards.ensures c.program_is_searched_back.ensures last starts
 
@@ -48,15 +48,15 @@ returns-clause-answer g c = λ p is.
     let s = search_of b old in
     let q = c.in-Some.start in
     let best = c.in_ok-best.best in
-    let answer = c.told.result in
+    let answer = c.told_back.result in
     let same : search_of b new ≡ s = same_search b new old c.enter_end.ensures.same.same.content c.enter_end.ensures.same.asked_is in
     let starts : start_node (back_characters_of turned) (anchoring_of old.asked.anchored) ≡ Some q =
-    subst (λ a. start_node (back_characters_of turned) (anchoring_of a) ≡ Some q) c.get_anchored-mode.ensures (sym c.start_state.ensures ∙ c.in-Some.is) in
+    subst (λ a. start_node (back_characters_of turned) (anchoring_of a) ≡ Some q) c.get_anchored-mode.ensures (sym c.start_back.ensures ∙ c.in-Some.is) in
     let place : new.position ≡ s.end = c.enter_end.ensures.end c.if-not-enter_end.false in
     let last : IsInside s s.end = subst (λ k. IsInside s k) place (c.enter_end.ensures.inside c.if-not-enter_end.false b) in
     let way : IsOverBack (bytes_of turned) s q best = subst (λ x. IsOverBack (bytes_of turned) x q best) same (c.in_ok-best.ensures.over b) in
     let met : IfSome best (λ f. IsInside s f.offset) = each best (λ f inside. subst (λ x. IsInside x f.offset) same (inside b)) c.in_ok-best.ensures.inside in
     let tells : Tells s c.may_be_empty-may.result = subst (λ k. IsTrue c.may_be_empty-may.result ↔ (IsTrue b → IsCharBoundary s.content k)) place
     (subst (λ xs. IsTrue c.may_be_empty-may.result ↔ (IsTrue b → IsCharBoundary xs new.position)) c.enter_end.ensures.same.same.content c.may_be_empty-may.ensures) in
-    let told : IsHalfToldBack s best answer = c.told.ensures s (sym place ∙ sym c.position-end.ensures.position) last met tells in
+    let told : IsHalfToldBack s best answer = c.told_back.ensures s (sym place ∙ sym c.position-end.ensures.position) last met tells in
     over_answers_back p turned s is c.reads_backwards.ensures c.program_is_searched_back.ensures last q best answer starts way told

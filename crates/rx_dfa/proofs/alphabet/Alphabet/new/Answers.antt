@@ -8,6 +8,8 @@ use Rattle.rx_dfa.proofs.alphabet.Alphabet.new.Goals as goal
 pub returns-clause-made : goal.returns-clause-made
 returns-clause-made c = record {
   reads = reads_members c.args.program.now (subst (All ReadsItsSet) c.states.ensures.states c.states.ensures.reads);
-  asked = subst (λ states. AreAskedBy states c.of-asked.result) c.states.ensures.states (record { any = c.of-asked.ensures.any; lines = c.of-asked.ensures.lines; words = c.of-asked.ensures.words });
-  classes = c.in_ok-classes.ensures;
+  tells = record {
+    asked = subst (λ states. AreAskedBy states c.of-asked.result) c.states.ensures.states (record { any = c.of-asked.ensures.any; lines = c.of-asked.ensures.lines; words = c.of-asked.ensures.words });
+    classes = c.in_ok-classes.ensures;
+  };
 }

@@ -1,5 +1,6 @@
 use Rattle.std.proofs.Common.{◌≡◌, length, slice_get, ap, ◌∙◌, arith, vec_len}
 use Rattle.std.proofs.lemmas.Grind.{common_steps}
+use Rattle.rx_dfa.specs.Automata.{directed}
 use Rattle.rx_dfa.specs.Caches.{CacheView}
 use Rattle.rx_dfa.proofs.TableLaws.{cache_more, kept_more, stands_last}
 use Rattle.rx_dfa.proofs.cache.Cache.add.Goals as goal
@@ -7,7 +8,7 @@ use Rattle.rx_dfa.proofs.cache.Cache.add.Goals as goal
 pub returns-in-Ok-clause-made : goal.returns-in-Ok-clause-made
 returns-in-Ok-clause-made c =
     let push = c.push_state.ensures in
-    cache_more c.args.automaton.now.program.now c.args.automaton.now.alphabet.now c.args.self.now _ c.args.state c.requires.made c.requires.state c.requires.is_new
+    cache_more (directed c.args.automaton.now) c.args.automaton.now.alphabet.now c.args.self.now _ c.args.state c.requires.made c.requires.state c.requires.is_new
     (ap (λ (v : CacheView). v.table) c.self-in-Ok.view_is ∙ c.in-Ok.ensures.table) (ap (λ (v : CacheView). v.states) c.self-in-Ok.view_is ∙ c.in-Ok.ensures.states)
     (ap (λ (v : CacheView). v.widths) c.self-in-Ok.view_is ∙ push.widths) (ap (λ (v : CacheView). v.width) c.self-in-Ok.view_is ∙ push.width) c.used_with-used.ensures
 

@@ -1,4 +1,5 @@
 use Rattle.std.proofs.Common.{ℕ, ◌<◌, slice_get}
+use Rattle.rx_dfa.specs.Automata.{directed}
 use Rattle.rx_dfa.specs.Behind.{behind_of}
 use Rattle.rx_dfa.specs.Tables.{HoldsBy}
 use Rattle.rx_dfa.specs.Caches.{KeepNumbers}
@@ -10,5 +11,5 @@ abbrev pub invariant-loop-column : goal.invariant-loop-column
 invariant-loop-column l = record {
   made : HoldsBy l.automaton l.self;
   kept : KeepNumbers l.fn.self.states l.self.states;
-  starts : (k : ℕ) → k < l.column → HasStarts l.self.states l.start (behind_of l.automaton.alphabet.now.asked l.automaton.program.now.line_terminator (slice_get l.automaton.alphabet.now.classes.bytes k));
+  starts : (k : ℕ) → k < l.column → HasStarts (directed l.automaton).is_back l.self.states l.start (behind_of l.automaton.alphabet.now.asked (directed l.automaton).bytes.line_terminator (slice_get l.automaton.alphabet.now.classes.bytes k));
 }

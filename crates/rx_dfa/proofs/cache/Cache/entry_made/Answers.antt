@@ -1,5 +1,6 @@
 use Rattle.std.proofs.Common.{◌≡◌, true, false, List, length, refl, sym, ap, subst, ◌∙◌, arith}
 use Rattle.std.proofs.lemmas.Option.{slice_get_within}
+use Rattle.rx_dfa.specs.Automata.{directed}
 use Rattle.rx_dfa.specs.declared.states.Ahead.{Ahead}
 use Rattle.rx_dfa.specs.Behind.{quits}
 use Rattle.rx_dfa.specs.Caches.{quit}
@@ -31,7 +32,7 @@ returns-clause-grows c = grows_both c.args.self.now c.next_state.new.self c.foun
 
 pub returns-clause-entry : goal.returns-clause-entry
 returns-clause-entry c = λ x stands.
-    let p = c.args.automaton.now.program.now in
+    let p = directed c.args.automaton.now in
     let alphabet = c.args.automaton.now.alphabet.now in
     let cache = c.found_or_added.new.self in
     let ahead = ahead_in alphabet c.args.column in

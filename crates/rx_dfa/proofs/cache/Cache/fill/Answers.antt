@@ -1,5 +1,6 @@
 use Rattle.std.proofs.Common.{◌+◌, ◌*◌, arith}
 use Rattle.std.proofs.lemmas.Option.{slice_get_within}
+use Rattle.rx_dfa.specs.Automata.{directed}
 use Rattle.rx_dfa.proofs.TableLaws.{there_is}
 use Rattle.rx_dfa.proofs.DenseLaws.{entered, entered_known, grows_both, grows_entered, rows_as}
 use Rattle.rx_dfa.proofs.cache.Cache.fill.Goals as goal
@@ -14,7 +15,7 @@ set_entry-requires-clause-column c = omega (arith, c.requires.column, c.entry_ma
 
 pub returns-clause-made : goal.returns-clause-made
 returns-clause-made c =
-    entered c.args.automaton.now.program.now c.args.automaton.now.alphabet.now c.args.self.now c.entry_made.new.self c.set_entry.new.self c.args.number c.args.column c.in_ok-entry.entry c.requires.made c.entry_made.ensures.made c.in_ok-entry.ensures.grows c.requires.number
+    entered (directed c.args.automaton.now) c.args.automaton.now.alphabet.now c.args.self.now c.entry_made.new.self c.set_entry.new.self c.args.number c.args.column c.in_ok-entry.entry c.requires.made c.entry_made.ensures.made c.in_ok-entry.ensures.grows c.requires.number
     (omega (arith, c.requires.column, c.requires.made.width)) c.in_ok-entry.ensures.entry c.set_entry.ensures.table c.set_entry.ensures.states c.set_entry.ensures.widths c.set_entry.ensures.width c.set_entry.ensures.used
 
 pub returns-clause-grows : goal.returns-clause-grows
@@ -25,7 +26,7 @@ returns-clause-grows c =
 
 pub returns-clause-known : goal.returns-clause-known
 returns-clause-known c =
-    entered_known c.args.automaton.now.program.now c.args.automaton.now.alphabet.now c.args.self.now c.entry_made.new.self c.set_entry.new.self c.args.number c.args.column c.in_ok-entry.entry c.requires.made c.entry_made.ensures.made c.in_ok-entry.ensures.grows c.requires.number
+    entered_known (directed c.args.automaton.now) c.args.automaton.now.alphabet.now c.args.self.now c.entry_made.new.self c.set_entry.new.self c.args.number c.args.column c.in_ok-entry.entry c.requires.made c.entry_made.ensures.made c.in_ok-entry.ensures.grows c.requires.number
     (omega (arith, c.requires.column, c.requires.made.width)) c.if-entry.false c.set_entry.ensures.table c.set_entry.ensures.width
 
 pub returns-clause-rows : goal.returns-clause-rows

@@ -1,5 +1,6 @@
 use Rattle.std.proofs.Common.{sym, arith}
 use Rattle.std.proofs.lemmas.Option.{slice_get_within}
+use Rattle.rx_dfa.specs.Automata.{directed}
 use Rattle.rx_dfa.specs.Alphabets.{column_count}
 use Rattle.rx_dfa.proofs.TableLaws.{keep_all, there_is}
 use Rattle.rx_dfa.proofs.DenseLaws.{known_grown, known_more, row_more, rows_both}
@@ -11,7 +12,7 @@ loop-column-init c = record { made = c.requires.made; number = c.requires.number
 
 pub loop-column-preserved : goal.loop-column-preserved
 loop-column-preserved c =
-    let p = c.args.automaton.now.program.now in
+    let p = directed c.args.automaton.now in
     let alphabet = c.args.automaton.now.alphabet.now in
     let old = c.loop-column.self in
     let new = c.fill.new.self in

@@ -1,5 +1,6 @@
 use Rattle.std.proofs.Common.{◌≡◌, true, false, slice_get, sym, ap, subst, ◌∙◌, arith}
 use Rattle.std.proofs.lemmas.Option.{slice_get_within}
+use Rattle.rx_dfa.specs.Automata.{directed}
 use Rattle.rx_dfa.specs.declared.states.Ahead.{Ahead}
 use Rattle.rx_dfa.specs.Behind.{quits}
 use Rattle.rx_dfa.specs.States.{IsStep}
@@ -15,7 +16,7 @@ returns-then-quits_at-clause-made c =
     let told : quits alphabet.asked (ahead_in alphabet c.args.column).seen ≡ true =
     sym (ap (λ (y : Ahead). quits alphabet.asked y.seen) c.ahead-ahead.ensures) ∙ sym c.quits_at.ensures ∙ c.if-quits_at.true in
     record {
-      steps = quit_set c.args.automaton.now.program.now alphabet c.args.self.now c.set_entry.new.self c.args.number c.args.column c.requires.made.steps c.requires.number c.requires.column told
+      steps = quit_set (directed c.args.automaton.now) alphabet c.args.self.now c.set_entry.new.self c.args.number c.args.column c.requires.made.steps c.requires.number c.requires.column told
           c.set_entry.ensures.table c.set_entry.ensures.states c.set_entry.ensures.widths c.set_entry.ensures.width c.set_entry.ensures.used;
       bounded = same_bounded alphabet.capacity c.args.self.now c.set_entry.new.self c.set_entry.ensures.states c.set_entry.ensures.used c.requires.made.bounded;
     }
@@ -33,7 +34,7 @@ set_entry-requires-then-not-was_cleared-clause-number c =
 
 pub returns-clause-made : goal.returns-clause-made
 returns-clause-made c =
-    let p = c.args.automaton.now.program.now in
+    let p = directed c.args.automaton.now in
     let alphabet = c.args.automaton.now.alphabet.now in
     let cache = c.number_of.new.self in
     let made = c.number_of.ensures.made in
@@ -57,7 +58,7 @@ returns-clause-made c =
 
 pub returns-clause-step : goal.returns-clause-step
 returns-clause-step c = λ x stands.
-    let p = c.args.automaton.now.program.now in
+    let p = directed c.args.automaton.now in
     let alphabet = c.args.automaton.now.alphabet.now in
     let cache = c.number_of.new.self in
     let told : quits alphabet.asked (ahead_in alphabet c.args.column).seen ≡ false =

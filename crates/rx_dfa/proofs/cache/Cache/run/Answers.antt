@@ -6,7 +6,7 @@ use Rattle.rx_dfa.specs.Caches.{CacheView}
 use Rattle.rx_dfa.specs.Passing.{IsRunning}
 use Rattle.rx_dfa.proofs.TableLaws.{there_is}
 use Rattle.rx_dfa.proofs.PassLaws.{run_of, run_begun, entry_inside, run_on, run_notes, run_ends, noted_inside}
-use Rattle.rx_steps.proofs.AlikeLaws.{steps_are_alike}
+use Rattle.rx_dfa.proofs.LowerLaws.{alike_laws}
 use Rattle.rx_dfa.proofs.cache.Cache.run.Goals as goal
 
 pub loop-byte-init : goal.loop-byte-init
@@ -60,7 +60,7 @@ loop-byte-preserved-then-next-lt-ENDS c =
     sym (ap (λ (v : CacheView). slice_get v.table (row + class_of c.args.automaton.now.alphabet.now.classes byte)) c.self.view_is) ∙ sym (ap (λ k. slice_get table.items (row + k)) column) ∙ read in
     let at : slice_get bytes c.loop-byte.len ≡ Some byte = ap (λ k. slice_get bytes k) c.loop-byte.invariant.len ∙ slice_get-get_or bytes c.loop-byte.byte-index 0 c.loop-byte-test.true in
     record {
-      running = λ x stands. run_on steps_are_alike c.args.automaton.now cache x bytes c.loop-byte.len c.args.at row byte c.index-next.result.now c.args.met.now c.loop-byte.end c.requires.is c.requires.made low at entry (omega (arith, c.if-next-lt-ENDS.true)) (c.loop-byte.invariant.running x stands);
+      running = λ x stands. run_on alike_laws c.args.automaton.now cache x bytes c.loop-byte.len c.args.at row byte c.index-next.result.now c.args.met.now c.loop-byte.end c.requires.is c.requires.made low at entry (omega (arith, c.if-next-lt-ENDS.true)) (c.loop-byte.invariant.running x stands);
       len = omega (arith, c.loop-byte.invariant.len);
     }
 
@@ -82,7 +82,7 @@ loop-byte-preserved c =
     sym (ap (λ (v : CacheView). slice_get v.table (row + class_of c.args.automaton.now.alphabet.now.classes byte)) c.self.view_is) ∙ sym (ap (λ k. slice_get table.items (row + k)) column) ∙ read in
     let at : slice_get bytes c.loop-byte.len ≡ Some byte = ap (λ k. slice_get bytes k) c.loop-byte.invariant.len ∙ slice_get-get_or bytes c.loop-byte.byte-index 0 c.loop-byte-test.true in
     record {
-      running = λ x stands. run_notes steps_are_alike c.args.automaton.now cache x bytes c.loop-byte.len c.args.at row byte c.index-next.result.now (c.index-next.result.now - 2147483648) c.args.met.now c.loop-byte.end c.requires.is c.requires.made low at entry
+      running = λ x stands. run_notes alike_laws c.args.automaton.now cache x bytes c.loop-byte.len c.args.at row byte c.index-next.result.now (c.index-next.result.now - 2147483648) c.args.met.now c.loop-byte.end c.requires.is c.requires.made low at entry
           (omega (arith, c.if-next-lt-ENDS.false)) (omega (arith, c.if-next-ge-STOPS.false)) (omega (arith, c.if-next-lt-ENDS.false)) (c.loop-byte.invariant.running x stands);
       len = omega (arith, c.loop-byte.invariant.len);
     }

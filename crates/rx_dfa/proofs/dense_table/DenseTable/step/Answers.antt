@@ -1,4 +1,5 @@
 use Rattle.std.proofs.Common.{◌≡◌, Some, slice_get, sym, subst}
+use Rattle.rx_dfa.specs.Automata.{directed}
 use Rattle.rx_dfa.specs.Caches.{LeadsTo}
 use Rattle.rx_dfa.specs.DenseTables.{IsClosedOf}
 use Rattle.rx_dfa.specs.Alphabets.{ahead_in}
@@ -7,7 +8,7 @@ use Rattle.rx_dfa.proofs.dense_table.DenseTable.step.Goals as goal
 
 pub returns : goal.returns
 returns c = λ x stands.
-    let p = c.args.automaton.now.program.now in
+    let p = directed c.args.automaton.now in
     let alphabet = c.args.automaton.now.alphabet.now in
     let cache = c.self.inside.cache in
     let view : cache ≡ c.args.self.now = c.self.view_is in

@@ -3,8 +3,8 @@ use Rattle.std.specs.Prelude.{IfSome}
 use Rattle.rx_util.specs.Search.{HalfFound}
 use Rattle.rx_walks.specs.Finds.{Search, IsInside}
 use Rattle.rx_steps.proofs.BackAnswerLaws.{told_none, told_some, told_not}
-use Rattle.rx_steps.proofs.reverse_search.told.Goals as goal
-use Rattle.rx_steps.proofs.reverse_search.told.Goals.{else-offset-end-via-then-offset-end+else-not-may_be_empty, else-offset-end-via-else-offset-end}
+use Rattle.rx_steps.proofs.reverse_search.told_back.Goals as goal
+use Rattle.rx_steps.proofs.reverse_search.told_back.Goals.{else-offset-end-via-then-offset-end+else-not-may_be_empty, else-offset-end-via-else-offset-end}
 
 met_inside : (s : Search) (best : Option HalfFound) (f : HalfFound) → best ≡ Some f → IfSome best (λ met. IsInside s met.offset) → IsInside s f.offset
 met_inside s best f e inside = subst (λ o. IfSome o (λ met. IsInside s met.offset)) e inside

@@ -1,9 +1,0 @@
-use Rattle.rx_dfa.proofs.DenseLaws.{all_starts_still}
-use Rattle.rx_dfa.proofs.dense_table.DenseTable.new.Goals as goal
-
-pub returns-then-is_closed-clause-made : goal.returns-then-is_closed-clause-made
-returns-then-is_closed-clause-made c = record {
-  made = c.close.ensures.made;
-  starts = all_starts_still c.args.program.now c.args.alphabet.now c.add_all_starts.new.self.states c.close.new.self.states c.in_ok-is_closed.ensures.kept c.in_ok-add_all_starts.ensures.starts;
-  known = c.in_ok-is_closed.ensures.known c.if-is_closed.true;
-}

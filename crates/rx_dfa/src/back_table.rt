@@ -1,0 +1,114 @@
+//! Searches back by an automaton of a program turned round all of whose states are made, and by its
+//! walks where that can't tell or has too many.
+
+ghost use Rattle.std.specs.Prelude.{◌≡◌, ◌≤◌, IsTrue, IfErr, IfOk, OnOk};
+ghost use Rattle.rx_input.specs.Cursors.{IsSameContent};
+ghost use Rattle.rx_walks.specs.Finds.{is_anchored};
+ghost use Rattle.rx_program.specs.Programs.{ByteProgram};
+ghost use Rattle.rx_steps.specs.Reversed.{IsHalfAnswerBack, IsRefusalBack, IsReverseOf};
+ghost use Rattle.rx_steps.specs.Searching.{anchoring_of, search_of};
+ghost use Rattle.rx_dfa.specs.BackTables.{used_by};
+
+use crate::alphabet::Alphabet;
+use crate::dense_table::DenseTable;
+use rx_input::{Cursor, Input};
+use rx_program::ReverseProgram;
+use rx_steps::{ReverseCache, search_rev};
+use rx_util::{HalfMatch, MatchError};
+use std::alloc::{AllocError, Global};
+use std::marker::Model;
+
+/// A program turned round, and all states and steps of its automaton, unless they take too much
+/// room.
+#[derive(Debug, Drop)]
+pub(crate) struct BackTable {
+    reverse: ReverseProgram,
+    alphabet: Alphabet,
+    closed: Option<DenseTable>,
+}
+
+impl Model for BackTable {
+    ghost use Rattle.rx_dfa.specs.BackTables.{BackTableView, IsBackTable};
+
+    ghost Value = { BackTableView };
+
+    ghost view = { λ b. record { reverse = b.reverse; alphabet = b.alphabet; closed = b.closed } };
+
+    ghost invariant = { λ b. IsBackTable
+        (record { reverse = b.reverse; alphabet = b.alphabet; closed = b.closed }) };
+}
+
+impl BackTable {
+    /// A program turned round with the states and steps of its automaton, which there are not where
+    /// they take more room than about `size_limit`, in bytes.
+    pub(crate) fn new(
+        alloc: Global,
+        reverse: ReverseProgram,
+        size_limit: usize,
+    ) -> Result<BackTable, AllocError>
+        ensures reverse { IfOk result (λ back. back.reverse ≡ reverse) }
+        ensures limit { IfOk result (λ back. used_by back.closed ≤ size_limit) }
+    {
+        let alphabet = Alphabet::new_back(alloc, &reverse, size_limit)?;
+        let closed = DenseTable::new_back(alloc, &reverse, &alphabet, usize::MAX, size_limit)?;
+        Ok(BackTable {
+            reverse,
+            alphabet,
+            closed,
+        })
+    }
+
+    /// About how many bytes the states take.
+    pub(crate) fn memory_usage(&self) -> usize
+        ensures { result ≡ used_by self.now.closed }
+    {
+        match &self.closed {
+            Some(closed) => closed.memory_usage(),
+            None => 0,
+        }
+    }
+
+    /// Searches by walks side by side.
+    fn walk<C: Cursor>(
+        &self,
+        input: &mut Input<C>,
+        utf8_empty: bool,
+    ) -> Result<Option<HalfMatch>, MatchError>
+        ensures answer { IfOk result (λ found. (p : ByteProgram) → IsReverseOf p self.now.reverse
+            → IsHalfAnswerBack p (search_of utf8_empty input.old) found) }
+        ensures anchored { OnOk result
+            (IsTrue (is_anchored (anchoring_of input.old.asked.anchored))) }
+        ensures same { IsSameContent input.old.cursor input.new.cursor }
+        ensures asked { input.new.asked ≡ input.old.asked }
+        ensures refused { IfErr result (IsRefusalBack (search_of utf8_empty input.old)) }
+    {
+        let mut room = ReverseCache::new(self.reverse.allocator(), &self.reverse)?;
+        search_rev(&self.reverse, &mut room, input, utf8_empty)
+    }
+
+    /// Searches backwards: of the matches that end at the end of the span and lie inside span and
+    /// slice, answers the least start, and the least pattern with it, as the program that this one
+    /// was turned from finds them. `utf8_empty` passes over an empty match inside a character. The
+    /// refusals are `UnsupportedAnchored` where the input isn't anchored, and else `Memory`.
+    pub(crate) fn search<C: Cursor>(
+        &self,
+        input: &mut Input<C>,
+        utf8_empty: bool,
+    ) -> Result<Option<HalfMatch>, MatchError>
+        ensures answer { IfOk result (λ found. (p : ByteProgram) → IsReverseOf p self.now.reverse
+            → IsHalfAnswerBack p (search_of utf8_empty input.old) found) }
+        ensures anchored { OnOk result
+            (IsTrue (is_anchored (anchoring_of input.old.asked.anchored))) }
+        ensures same { IsSameContent input.old.cursor input.new.cursor }
+        ensures asked { input.new.asked ≡ input.old.asked }
+        ensures refused { IfErr result (IsRefusalBack (search_of utf8_empty input.old)) }
+    {
+        let Some(closed) = &self.closed else {
+            return self.walk(input, utf8_empty);
+        };
+        match closed.try_search_back(&self.reverse, &self.alphabet, input, utf8_empty) {
+            Err(MatchError::Quit { .. }) => self.walk(input, utf8_empty),
+            told => told,
+        }
+    }
+}
