@@ -69,7 +69,7 @@ two_on here beyond a b told never iff = ((λ y. (suc zero, first_node b, refl, i
     by_number (suc zero) r e c = iff.1 (subst (λ z. Contains here z) (sym (same (first_node b) r e)) c)
     by_number (suc (suc k)) r e c = absurd (cc e)
 
-edge_of : (xs : List ℕ) (k : ℕ) (r : ℕ × ℕ) → slice_get (map first_node xs) k ≡ Some r → (q : ℕ) × (slice_get xs k ≡ Some q) × (first_node q ≡ r)
+pub edge_of : (xs : List ℕ) (k : ℕ) (r : ℕ × ℕ) → slice_get (map first_node xs) k ≡ Some r → (q : ℕ) × (slice_get xs k ≡ Some q) × (first_node q ≡ r)
 edge_of [] k r e = absurd (cc e)
 edge_of (x ∷ xs) zero r e = (x, refl, same e)
   where

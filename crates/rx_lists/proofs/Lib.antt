@@ -7,6 +7,7 @@ pub mod SetLaws
 pub mod BitLaws
 pub mod IndexLaws
 pub mod NumberLaws
+pub mod ArrivalLaws
 pub mod RoundLaws
 pub mod PassLaws
 pub mod WayLaws

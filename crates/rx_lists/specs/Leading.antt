@@ -63,11 +63,23 @@ AreClosed p place beyond here those = (q : ℕ × ℕ) → those q → (k i : �
     → index_from 0 (widths_of p) q.0 q.1 ≡ Some k → slice_get p.states q.0 ≡ Some x
     → LeadsOn here beyond (move_at place i q x) → Contains here q
 
--- nodes in this order were looked at, and some came into the set, or none
-pub record IsRound (p : ByteProgram) (place : Place) (order beyond old new : List (ℕ × ℕ))
-    (has_grown : Bool) : Type 0 where
+-- a move is an empty edge to a node, or one of them is
+abbrev pub GoesTo : Move (ℕ × ℕ) → ℕ × ℕ → Type 0
+GoesTo (ends k) r = ⊥
+GoesTo (goes rs) r = (n : ℕ) × (slice_get rs n ≡ Some r)
+GoesTo (reads next j) r = ⊥
+
+-- nodes are of states of a program
+abbrev pub AreReal : ByteProgram → List (ℕ × ℕ) → Type 0
+AreReal p nodes = (q : ℕ × ℕ) → Contains nodes q → q.0 < length p.states
+
+-- those nodes were looked at, and each that leads on came into the set, and no other one
+pub record IsRound (p : ByteProgram) (place : Place) (those : ℕ × ℕ → Type 0)
+    (beyond old new : List (ℕ × ℕ)) : Type 0 where
   pub sound : AreSound p place beyond old → AreSound p place beyond new
-  pub grown : has_grown ≡ true → length old < length new
-  pub same : has_grown ≡ false → new ≡ old
-  pub closed : has_grown ≡ false → AreClosed p place beyond new (λ q. Contains order q)
+  pub kept : (k : ℕ) (q : ℕ × ℕ) → slice_get old k ≡ Some q → slice_get new k ≡ Some q
+  pub reached : (q : ℕ × ℕ) → those q → (k i : ℕ) (x : State)
+      → index_from 0 (widths_of p) q.0 q.1 ≡ Some k → slice_get p.states q.0 ≡ Some x
+      → LeadsOn old beyond (move_at place i q x) → Contains new q
   pub room : length old ≤ node_count p → length new ≤ node_count p
+  pub real : AreReal p old → AreReal p new

@@ -1,5 +1,6 @@
 pub mod Bits
 pub mod Sets
+pub mod Arrivals
 pub mod Leading
 pub mod LeadingSets
 pub mod Passes

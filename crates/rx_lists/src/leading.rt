@@ -1,12 +1,14 @@
 //! Which nodes of a program lead to a match, by those that lead from the next place.
 
-ghost use Rattle.std.specs.Prelude.{◌≡◌, ◌↔◌, ℕ, [], Some, None, Contains, IsTrue, IfOk, OnOk, MatchOption, slice_get};
+ghost use Rattle.std.specs.Prelude.{◌≡◌, ◌↔◌, ℕ, [], Some, None, Contains, IsTrue, IfOk, OnOk, MatchOption, length, slice_get};
 ghost use Rattle.rx_utf8.specs.Automata.{step_of};
 ghost use Rattle.rx_steps.specs.Nodes.{widths_of};
 ghost use Rattle.rx_steps.specs.Lists.{move_at, read_next};
 ghost use Rattle.rx_lists.specs.Sets.{AreAllNodes};
+ghost use Rattle.rx_lists.specs.Arrivals.{IsTold, TellEdges};
 ghost use Rattle.rx_lists.specs.Leading.{AreFilled, IsMarked, IsRound, LeadsOn};
 
+use crate::arrivals::Arrivals;
 use crate::node_set::NodeSet;
 use rx_program::{Program, State};
 use rx_steps::{Node, Place};
@@ -99,50 +101,76 @@ fn mark(
     here.add(node)
 }
 
-/// Looks at each node once, and tells whether some came into the set.
+/// Looks at each of these nodes once.
 fn mark_all(
     program: &Program,
     place: &Place,
-    order: &[Node],
+    nodes: &[Node],
     beyond: &NodeSet,
     here: &mut NodeSet,
-) -> Result<bool, AllocError>
+) -> Result<(), AllocError>
     requires widths { here.old.widths ≡ widths_of program.now }
-    ensures round { IfOk result (IsRound program.now place.now order.now beyond.now.nodes
-        here.old.nodes here.new.nodes) }
+    ensures round { OnOk result (IsRound program.now place.now (λ q. Contains nodes.now q)
+        beyond.now.nodes here.old.nodes here.new.nodes) }
     ensures widths { here.new.widths ≡ here.old.widths }
 {
-    let mut has_grown = false;
-    for node in order {
-        if mark(program, place, *node, beyond, here)? {
-            has_grown = true;
-        }
+    for node in nodes {
+        mark(program, place, *node, beyond, here)?;
     }
-    Ok(has_grown)
+    Ok(())
+}
+
+/// Looks at the nodes with an empty edge to a node here.
+fn go_back(
+    program: &Program,
+    place: &Place,
+    arrivals: &Arrivals,
+    node: Node,
+    beyond: &NodeSet,
+    here: &mut NodeSet,
+) -> Result<(), AllocError>
+    requires widths { here.old.widths ≡ widths_of program.now }
+    ensures round { OnOk result (IsRound program.now place.now
+        (λ q. (node.1 ≡ 0) × IsTold arrivals.now node.0 q)
+        beyond.now.nodes here.old.nodes here.new.nodes) }
+    ensures widths { here.new.widths ≡ here.old.widths }
+{
+    if node.within() != 0 {
+        return Ok(());
+    }
+    match arrivals.at(node.state()) {
+        Some(nodes) => mark_all(program, place, nodes, beyond, here),
+        None => Ok(()),
+    }
 }
 
 /// Makes a set that of the nodes that lead from a place, by those that lead from the next one. The
 /// order is of all nodes of the program; it tells in which they are looked at, and the set is the
 /// same for each.
 ///
-/// It looks at all nodes, over and over until none more leads: at worst once for each node.
+/// It looks at all nodes once, and at the empty edges that lead to those that lead.
 pub(crate) fn fill(
     program: &Program,
     place: &Place,
     order: &[Node],
+    arrivals: &Arrivals,
     beyond: &NodeSet,
     here: &mut NodeSet,
 ) -> Result<(), AllocError>
     requires widths { here.old.widths ≡ widths_of program.now }
     requires order { AreAllNodes program.now.states order.now }
+    requires arrivals { TellEdges program.now.states (length program.now.states) arrivals.now }
     ensures filled { OnOk result (AreFilled program.now place.now beyond.now.nodes
         here.new.nodes) }
     ensures widths { here.new.widths ≡ here.old.widths }
 {
     here.clear();
-    loop {
-        if !mark_all(program, place, order, beyond, here)? {
-            return Ok(());
-        }
+    mark_all(program, place, order, beyond, here)?;
+    let mut done = 0_usize;
+    while done < here.len() {
+        let node = here.node(done);
+        go_back(program, place, arrivals, node, beyond, here)?;
+        done += 1;
     }
+    Ok(())
 }

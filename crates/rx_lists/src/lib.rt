@@ -3,6 +3,7 @@
 //! along the one walk that is due.
 #![tactic(auto)]
 
+mod arrivals;
 mod bits;
 mod blocks;
 mod leading;

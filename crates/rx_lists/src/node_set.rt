@@ -1,6 +1,6 @@
 //! A set of nodes of a program that can be gone through.
 
-ghost use Rattle.std.specs.Prelude.{◌≡◌, ◌↔◌, ◌<◌, ℕ, [], Some, Contains, IsTrue, IfOk, IfErr, OnOk};
+ghost use Rattle.std.specs.Prelude.{◌≡◌, ◌↔◌, ◌<◌, ℕ, [], Some, Contains, IsTrue, IfOk, IfErr, OnOk, length, slice_get};
 ghost use Rattle.rx_util.specs.declared.search.MatchError.{MatchError};
 ghost use Rattle.rx_steps.specs.Nodes.{widths_of, width_of, index_from};
 ghost use Rattle.rx_lists.specs.Sets.{AreAllNodes, IsAdded, IsAddedIf};
@@ -54,6 +54,21 @@ impl NodeSet {
         ensures { result.now ≡ self.now.nodes }
     {
         &self.nodes
+    }
+
+    /// How many nodes there are.
+    pub(crate) fn len(&self) -> usize
+        ensures { result ≡ length self.now.nodes }
+    {
+        self.nodes.len()
+    }
+
+    /// The node that came with this number.
+    pub(crate) fn node(&self, number: usize) -> Node
+        requires { number < length self.now.nodes }
+        ensures { slice_get self.now.nodes number ≡ Some result }
+    {
+        self.nodes[number]
     }
 
     /// Takes all nodes out. The memory is kept.

@@ -13,6 +13,7 @@ ghost use Rattle.rx_lists.specs.Leading.{AreKnown, AreLeading};
 ghost use Rattle.rx_lists.specs.LeadingSets.{AreLeadingSets, IsLeadingSet};
 ghost use Rattle.rx_lists.specs.Passes.{IsReady};
 
+use crate::arrivals::Arrivals;
 use crate::bits::Bits;
 use crate::leading::fill;
 use crate::node_index::NodeIndex;
@@ -40,6 +41,8 @@ pub(crate) struct PassBack {
     // All nodes of the program, and their numbers.
     pub(crate) order: Vec<Node>,
     pub(crate) index: NodeIndex,
+    // The empty edges of the program, by where they lead.
+    pub(crate) arrivals: Arrivals,
     // Whether the program asks for looks.
     pub(crate) asks_looks: bool,
     // The nodes that lead from the place that was passed last.
@@ -59,6 +62,7 @@ impl PassBack {
         Ok(PassBack {
             order: all_nodes(alloc, program)?,
             index: NodeIndex::new(alloc, program)?,
+            arrivals: Arrivals::new(alloc, program.states())?,
             asks_looks: AskedLooks::of(program.states()).any,
             here: NodeSet::new(alloc, program)?,
             beyond: NodeSet::new(alloc, program)?,
@@ -87,7 +91,14 @@ impl PassBack {
         read.add();
         let place = Place::of(input, program.line_terminator(), self.asks_looks);
         mem::swap(&mut self.here, &mut self.beyond);
-        fill(program, &place, &self.order, &self.beyond, &mut self.here)
+        fill(
+            program,
+            &place,
+            &self.order,
+            &self.arrivals,
+            &self.beyond,
+            &mut self.here,
+        )
     }
 
     /// Takes the nodes of a set for those that lead.

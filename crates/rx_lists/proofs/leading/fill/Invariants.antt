@@ -1,15 +1,22 @@
-use Rattle.std.proofs.Common.{◌≡◌, ◌-◌, ◌≤◌, length}
-use Rattle.rx_steps.specs.Nodes.{node_count}
-use Rattle.rx_lists.specs.Leading.{AreSound}
+use Rattle.std.proofs.Common.{◌≡◌, ℕ, ◌-◌, ◌<◌, ◌≤◌, [], Some, length, slice_get, Contains}
+use Rattle.rx_program.specs.declared.states.State.{State}
+use Rattle.rx_steps.specs.Nodes.{node_count, widths_of, index_from}
+use Rattle.rx_steps.specs.Lists.{move_at}
+use Rattle.rx_lists.specs.Leading.{LeadsOn, AreSound, AreReal}
+use Rattle.rx_lists.proofs.RoundLaws.{IsBack}
 use Rattle.rx_lists.proofs.leading.fill.Given as goal
 
--- all nodes here lead on, and there are at most as many as the program has
-abbrev pub invariant-loop : goal.invariant-loop
-invariant-loop l = record {
+-- all nodes here lead on, those that do so by no others came in, and from each up to this one it was gone back
+abbrev pub invariant-loop-done : goal.invariant-loop-done
+invariant-loop-done l = record {
   sound : AreSound l.program l.place l.beyond.nodes l.here.nodes;
   room : length l.here.nodes ≤ node_count l.program;
+  real : AreReal l.program l.here.nodes;
+  begun : (q : ℕ × ℕ) → Contains l.order q → (k i : ℕ) (x : State) → index_from 0 (widths_of l.program) q.0 q.1 ≡ Some k → slice_get l.program.states q.0 ≡ Some x
+      → LeadsOn [] l.beyond.nodes (move_at l.place i q x) → Contains l.here.nodes q;
+  back : (j : ℕ) (r : ℕ × ℕ) → j < l.done → slice_get l.here.nodes j ≡ Some r → IsBack l.program l.place l.arrivals r l.here.nodes;
   widths : l.here.widths ≡ l.fn.here.widths;
 }
 
-abbrev pub decreases-loop : goal.decreases-loop
-decreases-loop l = node_count l.program - length l.here.nodes
+abbrev pub decreases-loop-done : goal.decreases-loop-done
+decreases-loop-done l = node_count l.program - l.done

@@ -1,4 +1,4 @@
-use Rattle.std.proofs.Common.{◌≡◌}
+use Rattle.std.proofs.Common.{◌≡◌, Contains}
 use Rattle.rx_lists.specs.Leading.{IsRound}
 use Rattle.rx_lists.proofs.leading.mark_all.Given as goal
 use Rattle.std.specs.Prelude.{take}
@@ -6,6 +6,6 @@ use Rattle.std.specs.Prelude.{take}
 -- the nodes up to this one were looked at
 abbrev pub invariant-loop-node : goal.invariant-loop-node
 invariant-loop-node l = record {
-  round : IsRound l.program l.place (take l.node-index l.order) l.beyond.nodes l.fn.here.nodes l.here.nodes l.has_grown;
+  round : IsRound l.program l.place (λ q. Contains (take l.node-index l.nodes) q) l.beyond.nodes l.fn.here.nodes l.here.nodes;
   widths : l.here.widths ≡ l.fn.here.widths;
 }
