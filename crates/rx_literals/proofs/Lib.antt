@@ -12,3 +12,4 @@ pub mod KeptLaws
 pub mod MapLaws
 pub mod SpellingLaws
 pub mod LiteralLaws
+pub mod EndingLaws

@@ -5,3 +5,4 @@ pub mod Beginnings
 pub mod Literals
 pub mod Spellings
 pub mod Ways
+pub mod Endings

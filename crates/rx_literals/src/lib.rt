@@ -2,6 +2,7 @@
 #![tactic(auto)]
 
 mod beginning;
+mod ending;
 mod exact;
 mod first_bytes;
 pub mod laws;
@@ -9,4 +10,5 @@ pub mod literal;
 mod members;
 mod prefilter;
 
+pub use ending::ends_with_slice;
 pub use prefilter::Prefilter;

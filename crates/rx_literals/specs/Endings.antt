@@ -1,0 +1,41 @@
+-- Programs whose matches end where the slice does, and how that is told of them.
+use Rattle.std.specs.Prelude.{◌≡◌, ℕ, Bool, false, List, length, min, Some, slice_get}
+use Rattle.rx_sets.specs.Sets.{Range}
+use Rattle.rx_utf8.specs.Automata.{is_in}
+use Rattle.rx_walks.specs.Looks.{Look, end_text}
+use Rattle.rx_walks.specs.Machines.{Outcome}
+use Rattle.rx_walks.specs.Finds.{Search}
+use Rattle.rx_walks.specs.Programs.{Node, Program, Notes, match, pass, note, look, set}
+use Rattle.rx_walks.specs.ProgramFinds.{ProgramFinds, start_node, end_of}
+
+-- whatever is found from the start node ends at the slice's end, or at the content's where that
+-- comes before
+abbrev pub EndsWithSlice : Program Look (List Range) → Type 0
+EndsWithSlice p = (is_word : ℕ → Bool) (s : Search) (t : Outcome Notes)
+    → start_node p s.anchoring ≡ Some p.start → ProgramFinds is_in is_word p s (Some t)
+    → end_of t ≡ min s.slice_end (length s.content)
+
+-- ---- marks at nodes
+
+-- a walk may come to a node, by marks at those to which it may
+abbrev pub MayCome : List Bool → ℕ → Type 0
+MayCome marks q = slice_get marks q ≡ Some false → ⊥
+
+-- no match ends at a node, and a walk may come to where its edges lead, but for one that asks for
+-- the slice's end
+abbrev pub LeadsOn : List Bool → Node Look (List Range) → Type 0
+LeadsOn marks (match k) = ⊥
+LeadsOn marks (pass rs) = (k r : ℕ) → slice_get rs k ≡ Some r → MayCome marks r
+LeadsOn marks (note slot r) = MayCome marks r
+LeadsOn marks (look end_text r) = Unit {0}
+LeadsOn marks (look l r) = MayCome marks r
+LeadsOn marks (set x r) = MayCome marks r
+
+-- so it is at each node to which a walk may come
+abbrev pub AreClosed : List (Node Look (List Range)) → List Bool → Type 0
+AreClosed nodes marks = (q : ℕ) (here : Node Look (List Range)) → slice_get nodes q ≡ Some here
+    → MayCome marks q → LeadsOn marks here
+
+-- where one mark more can do no harm
+abbrev pub Grows : List Bool → List Bool → Type 0
+Grows old new = (q : ℕ) → MayCome old q → MayCome new q

@@ -1,0 +1,113 @@
+//! Whether all matches of a program end where the slice does.
+
+ghost use Rattle.std.specs.Prelude.{◌≡◌, ◌<◌, ℕ, false, map, slice_get, IfOk, IsTrue, Some};
+ghost use Rattle.rx_program.specs.Programs.{characters_of, node_of};
+ghost use Rattle.rx_literals.specs.declared.ending.Told.{Told};
+ghost use Rattle.rx_literals.specs.Endings.{AreClosed, EndsWithSlice, Grows, LeadsOn, MayCome};
+
+use rx_grammar::Look;
+use rx_program::{Program, State};
+use rx_util::StateID;
+use std::alloc::{AllocError, Global};
+
+/// How often the states are gone through at most. Most edges lead to states with greater numbers,
+/// so that a few times do.
+const ROUNDS: usize = 16;
+
+/// What going through the states tells of those that are marked.
+#[derive(Clone, Copy, Debug)]
+enum Told {
+    /// A match ends at one of them.
+    Match,
+    /// More were marked.
+    More,
+    /// No edge leads from them to others, but for those that ask for the slice's end.
+    Closed,
+}
+
+/// Marks a state, and answers whether it wasn't.
+fn mark(marks: &mut [bool], state: StateID) -> bool
+    ensures kept { result ≡ false → marks.new ≡ marks.old }
+    ensures marked { MayCome marks.new state }
+    ensures grows { Grows marks.old marks.new }
+{
+    let at = state.as_usize();
+    if at >= marks.len() || marks[at] {
+        return false;
+    }
+    marks[at] = true;
+    true
+}
+
+/// Marks states, and answers whether one of them wasn't.
+fn mark_all(marks: &mut [bool], states: &[StateID]) -> bool
+    ensures kept { result ≡ false → marks.new ≡ marks.old }
+    ensures marked { (k r : ℕ) → slice_get states.now k ≡ Some r → MayCome marks.new r }
+    ensures grows { Grows marks.old marks.new }
+{
+    let mut more = false;
+    for state in states {
+        if mark(marks, *state) {
+            more = true;
+        }
+    }
+    more
+}
+
+/// Marks the states to which the edges of one lead at which no match ends.
+fn mark_next(marks: &mut [bool], state: &State) -> Told
+    ensures closed { result ≡ Told.Closed → marks.new ≡ marks.old }
+    ensures leads { result ≡ Told.Closed → LeadsOn marks.new (node_of state.now) }
+    ensures grows { Grows marks.old marks.new }
+{
+    let more = match state {
+        State::Match(_) => return Told::Match,
+        State::Look(Look::End, _) => false,
+        State::Look(_, next) => mark(marks, *next),
+        State::Empty(next) => mark(marks, *next),
+        State::Capture(_, next) => mark(marks, *next),
+        State::Ranges(_, next) => mark(marks, *next),
+        State::BinaryUnion(first, second) => mark_all(marks, &[*first, *second]),
+        State::Union(alternates) => mark_all(marks, alternates),
+    };
+    if more { Told::More } else { Told::Closed }
+}
+
+/// Goes through the states once, and marks those to which the edges of marked ones lead.
+fn go_through(marks: &mut [bool], states: &[State]) -> Told
+    ensures closed { result ≡ Told.Closed → AreClosed (map node_of states.now) marks.new }
+    ensures grows { Grows marks.old marks.new }
+{
+    let mut told = Told::Closed;
+    for (index, state) in states.iter().enumerate() {
+        if index < marks.len() && !marks[index] {
+            continue;
+        }
+        match mark_next(marks, state) {
+            Told::Match => return Told::Match,
+            Told::More => told = Told::More,
+            Told::Closed => {}
+        }
+    }
+    told
+}
+
+/// Whether each match of a program, unless it is one of a pattern that was asked for, is known to
+/// end at the slice's end, or at the content's where that comes before: from the state that walks
+/// start from, all edges to a match pass a look for that end. The one error is want of memory, of
+/// which it takes a byte for each state. It takes time in proportion to the states.
+pub fn ends_with_slice(alloc: Global, program: &Program) -> Result<bool, AllocError>
+    ensures { IfOk result (λ ends. IsTrue ends → EndsWithSlice (characters_of program.now)) }
+{
+    let states = program.states();
+    let mut marks = vec![in alloc; false; states.len()]?;
+    mark(&mut marks, program.start());
+    for _ in 0..ROUNDS {
+        match go_through(&mut marks, states) {
+            Told::Match => return Ok(false),
+            Told::More => {}
+            Told::Closed => return Ok(true),
+        }
+    }
+    Ok(false)
+}
