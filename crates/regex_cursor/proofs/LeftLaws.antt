@@ -15,7 +15,7 @@ use Rattle.rx_literals.specs.Literals.{FindsLiteral, literal_match, within}
 use Rattle.rx_chunk.specs.Engines.{Finds}
 use Rattle.rx_chunk.specs.Iterating.{ComesNext}
 use Rattle.regex_cursor.specs.declared.engines.meta.left.Left.{Left}
-use Rattle.regex_cursor.specs.declared.engines.meta.left.Left.TheVariants.{Nothing, Match, In}
+use Rattle.regex_cursor.specs.declared.engines.meta.left.Left.TheVariants.{Nothing, Match, Found, In}
 use Rattle.regex_cursor.specs.declared.engines.meta.left.Part.{Part}
 use Rattle.regex_cursor.specs.Strategies.{BeginsFrom, FindsUpTo, HoldsFind, HoldsNext, IsLeft, IsPart}
 use Rattle.regex_cursor.proofs.StrategyLaws.{CutLaw, ExistLaw, InsideLaw, OneLaw}
@@ -108,6 +108,7 @@ module _ (p : ByteProgram) (s : Search) where
   pub left_from : (place : ℕ) (left : Left) → BeginsFrom p s place → IsLeft p (from_place_on s place) left → IsLeft p s left
   left_from place Nothing begins left = begins.finds None left
   left_from place (Match span) begins left = record { some = left.some; finds = begins.finds (Some (literal_match span)) left.finds; alone = left.alone }
+  left_from place (Found found) begins left = (left.0, begins.finds left.0 left.1, left.2)
   left_from place (In part) begins left = record {
     holds = record {
       behind = omega (arith, left.holds.behind, begins.behind);

@@ -8,9 +8,11 @@ pub mod ShowingLaws
 pub mod PatternLemmas
 pub mod PlaceLaws
 pub mod LeftLaws
+pub mod ListingLaws
 pub mod LiteralLaws
 pub mod StrategyLaws
 pub mod SetLaws
 pub mod StartLaws
 pub mod LowerLaws
 pub mod TreeLaws
+pub mod LastLaws

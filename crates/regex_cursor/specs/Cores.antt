@@ -4,6 +4,7 @@ use Rattle.rx_program.specs.Reversed.{ReverseByteProgram}
 use Rattle.rx_steps.specs.Caches as steps
 use Rattle.rx_steps.specs.Reversed.{IsReverseOf}
 use Rattle.rx_dfa.specs.Caches as automata
+use Rattle.rx_dfa.specs.Directions.{forward}
 use Rattle.rx_dfa.specs.Alphabets.{AlphabetView, IsAlphabetOf}
 use Rattle.rx_engine.specs.Engines.{Engine, IsEngine}
 use Rattle.regex_cursor.specs.Configs.{RegexSettings, capacity_of}
@@ -26,5 +27,5 @@ pub record IsCore (c : CoreView) : Type 0 where
 pub record AreCachesOf (c : CoreView) (vm : steps.CacheView) (automaton : automata.CacheView)
     (back : Option ReverseByteProgram) : Type 0 where
   pub for_vm : steps.IsCacheOf c.vm.program vm
-  pub for_automaton : automata.IsCacheOf c.vm.program c.dfa automaton
+  pub for_automaton : automata.IsCacheOf (forward c.vm.program) c.dfa automaton
   pub turned : IfSome back (IsReverseOf c.vm.program)

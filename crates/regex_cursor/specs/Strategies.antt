@@ -1,5 +1,5 @@
 -- The engines of a regex, what searches by them keep, and what one of them leaves to the other.
-use Rattle.std.specs.Prelude.{◌≡◌, ℕ, ◌≤◌, false, Option, Some, None, IfSome}
+use Rattle.std.specs.Prelude.{◌≡◌, ℕ, ◌≤◌, Bool, false, IsTrue, Option, Some, None, IfSome}
 use Rattle.unicode.specs.Perl.{is_word_char}
 use Rattle.rx_util.specs.declared.search.Span.{Span}
 use Rattle.rx_walks.specs.Finds.{Search, from_place_on}
@@ -8,12 +8,14 @@ use Rattle.rx_walks.specs.Programs.{Notes}
 use Rattle.rx_walks.specs.ProgramFinds.{end_of}
 use Rattle.rx_dfa.specs.Caches as automata
 use Rattle.rx_dfa.specs.DenseTables.{IsClosedOf}
+use Rattle.rx_dfa.specs.Directions.{forward}
 use Rattle.rx_dfa.specs.Alphabets.{AlphabetView, IsAlphabetOf}
 use Rattle.rx_dfa.specs.Searching.{IsHalfAnswer}
 use Rattle.rx_program.specs.Programs.{ByteProgram, characters_of}
+use Rattle.rx_literals.specs.Endings.{EndsWithSlice}
 use Rattle.rx_literals.specs.Literals.{FindsLiteral, within}
 use Rattle.rx_engine.specs.Engines.{Engine}
-use Rattle.rx_chunk.specs.Engines.{Finds}
+use Rattle.rx_chunk.specs.Engines.{Finds, IsFound}
 use Rattle.rx_chunk.specs.Iterating.{ComesNext}
 use Rattle.regex_cursor.specs.Cores.{AreCachesOf}
 use Rattle.regex_cursor.specs.Configs.{RegexSettings, WantsNoLiterals, dfa_of}
@@ -30,13 +32,15 @@ use Rattle.regex_cursor.specs.declared.engines.meta.left.Start.TheVariants as st
 use Rattle.regex_cursor.specs.declared.engines.meta.left.Start.{Start}
 
 -- what is searched for, the automaton of its program, the settings, perhaps all states of the
--- automaton, and what is known of the literals that matches begin with
+-- automaton, what is known of the literals that matches begin with, and whether all matches are known
+-- to end where the slice does
 pub record Engines : Type 0 where
   pub vm : Engine
   pub dfa : AlphabetView
   pub settings : RegexSettings
   pub closed : Option automata.CacheView
   pub literals : Literals
+  pub ends_last : Bool
 
 -- the regex that they are the engines of
 abbrev pub regex_of : Engines → RegexView
@@ -46,8 +50,9 @@ regex_of e = record { engine = e.vm; settings = e.settings }
 pub record AreEngines (e : Engines) : Type 0 where
   pub dfa : IsAlphabetOf e.vm.program e.dfa
   pub utf8_empty : e.dfa.utf8_empty ≡ e.vm.utf8_empty
-  pub closed : IfSome e.closed (IsClosedOf e.vm.program e.dfa)
+  pub closed : IfSome e.closed (IsClosedOf (forward e.vm.program) e.dfa)
   pub literals : AreLiteralsOf e.vm.program e.literals
+  pub ends_last : IsTrue e.ends_last → EndsWithSlice (characters_of e.vm.program)
   pub no_dfa : dfa_of e.settings ≡ false → e.closed ≡ None
   pub no_prefilter : WantsNoLiterals e.settings → e.literals ≡ no_literals
 
@@ -86,6 +91,7 @@ pub record IsPart (p : ByteProgram) (s : Search) (part : Part) : Type 0 where
 abbrev pub IsLeft : ByteProgram → Search → Left → Type 0
 IsLeft p s left.Nothing = Finds p s None
 IsLeft p s (left.Match span) = FindsLiteral (characters_of p) is_word_char s span
+IsLeft p s (left.Found found) = IsFound (Finds p) s (Some found)
 IsLeft p s (left.In part) = IsPart p s part
 
 -- the part in which a match lies, if there is one

@@ -1,5 +1,6 @@
 //! The regex that users take: it chooses among the engines.
 
+mod all;
 mod back;
 mod builder;
 mod cache;

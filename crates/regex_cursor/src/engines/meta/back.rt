@@ -5,17 +5,22 @@ ghost use Rattle.rx_util.specs.declared.search.Anchored.TheVariants.{No};
 ghost use Rattle.rx_util.specs.declared.search.MatchError.{MatchError};
 ghost use Rattle.rx_input.specs.Cursors.{IsSameContent};
 ghost use Rattle.rx_walks.specs.Backward.{back_from};
-ghost use Rattle.rx_program.specs.Programs.{ByteProgram};
+ghost use Rattle.rx_program.specs.Programs.{ByteProgram, characters_of};
+ghost use Rattle.rx_literals.specs.Endings.{EndsWithSlice};
 ghost use Rattle.rx_steps.specs.Reversed.{IsHalfAnswerBack, IsReverseOf};
 ghost use Rattle.rx_steps.specs.Searching.{search_of};
 ghost use Rattle.regex_cursor.specs.Backs.{EndsLast, IsWhole};
+ghost use Rattle.regex_cursor.specs.Strategies.{IsLeft};
 
+use super::config::Config;
+use super::left::Left;
 use rx_chunk::pikevm::PikeVM;
+use rx_dfa::{Alphabet, BackCache, search_back};
 use rx_input::{Cursor, Input};
 use rx_matches::halves::{starts_first, turn_back, turn_forward, whole};
 use rx_program::ReverseProgram;
 use rx_program::laws::{programs_are_above_patterns, programs_keep_patterns};
-use rx_steps::{ReverseCache, search_rev};
+use rx_steps::enter_end;
 use rx_util::{HalfMatch, Match, MatchError, PatternID};
 use std::alloc::AllocError;
 use std::marker::Model;
@@ -31,33 +36,47 @@ fn turned(vm: &PikeVM) -> Result<ReverseProgram, AllocError>
     Ok(reverse)
 }
 
-/// A program turned round, with room for searches through it. Contracts see the program.
+/// A program turned round, with its automaton and what searches through it keep. Contracts see the
+/// program.
 #[derive(Debug, Drop)]
 pub(super) struct Back {
     reverse: ReverseProgram,
-    room: ReverseCache,
+    dfa: Alphabet,
+    cache: BackCache,
 }
 
 impl Model for Back {
     ghost use Rattle.rx_program.specs.Reversed.{ReverseByteProgram};
-    ghost use Rattle.rx_steps.specs.ComingBack.{IsReverseCacheOf};
+    ghost use Rattle.rx_dfa.specs.Alphabets.{IsAlphabetBack};
+    ghost use Rattle.rx_dfa.specs.BackCaches.{IsBackCacheOf};
 
     ghost Value = { ReverseByteProgram };
 
     ghost view = { λ b. b.reverse };
 
-    ghost invariant = { λ b. IsReverseCacheOf b.reverse b.room };
+    ghost invariant = { λ b. IsAlphabetBack b.reverse b.dfa
+        × IsBackCacheOf b.reverse b.dfa b.cache };
 }
 
 impl Back {
-    /// The program of a PikeVM turned round, with room. The one refusal is `Memory`.
-    pub(super) fn of(vm: &PikeVM) -> Result<Back, MatchError>
+    /// The program of a PikeVM turned round. Its automaton has as much room for its states as that
+    /// of the program, and none where no such automaton is wanted. The one refusal is `Memory`.
+    pub(super) fn of(vm: &PikeVM, config: &Config) -> Result<Back, MatchError>
         ensures program { IfOk result (IsReverseOf vm.now.program) }
         ensures refused { IfErr result (λ error. error ≡ MatchError.Memory) }
     {
         let reverse = turned(vm)?;
-        let room = ReverseCache::new(reverse.allocator(), &reverse)?;
-        Ok(Back { reverse, room })
+        let alloc = reverse.allocator();
+        let dfa = Alphabet::new_back(alloc, &reverse, config.get_hybrid_cache_capacity())?;
+        let mut cache = BackCache::new(alloc, &reverse, &dfa)?;
+        if !config.get_hybrid() {
+            cache.walk_alone();
+        }
+        Ok(Back {
+            reverse,
+            dfa,
+            cache,
+        })
     }
 
     /// Searches back from the end of a match, in an input that isn't anchored. The one refusal is
@@ -79,7 +98,7 @@ impl Back {
         ensures refused { IfErr result (λ error. error ≡ MatchError.Memory) }
     {
         let last = turn_back(input, end);
-        let back = search_rev(&self.reverse, &mut self.room, input, utf8_empty);
+        let back = search_back(&self.reverse, &self.dfa, &mut self.cache, input, utf8_empty);
         turn_forward(input, last);
         back
     }
@@ -111,6 +130,43 @@ impl Back {
         match self.search(input, utf8_empty, end)? {
             Some(back) if back.offset() <= end => Ok(Some(whole(half, back.offset()))),
             _ => Ok(None),
+        }
+    }
+
+    /// What is found in an input that isn't anchored and whose span ends where its slice does, of a
+    /// program whose matches all end there; nothing is told where the content ends before, nor where
+    /// walks side by side alone serve, since the automaton that goes forward is quicker than these.
+    /// The one refusal is `Memory`.
+    pub(super) fn search_last<C: Cursor>(
+        &mut self,
+        input: &mut Input<C>,
+        utf8_empty: bool,
+    ) -> Result<Option<Left>, MatchError>
+        requires ordered { input.old.asked.span.start ≤ input.old.asked.span.end }
+        requires unanchored { input.old.asked.anchored ≡ No }
+        requires slice { input.old.asked.span.end ≡ input.old.asked.slice.end }
+        ensures left { IfOk result (λ told. (p : ByteProgram) → IsReverseOf p self.old
+            → EndsWithSlice (characters_of p)
+            → IfSome told (IsLeft p (search_of utf8_empty input.old))) }
+        ensures program { self.new ≡ self.old }
+        ensures same { IsSameContent input.old.cursor input.new.cursor }
+        ensures asked { input.new.asked ≡ input.old.asked }
+        ensures refused { IfErr result (λ error. error ≡ MatchError.Memory) }
+    {
+        if self.cache.walks_alone() {
+            return Ok(None);
+        }
+        let end = input.end();
+        if !enter_end(input) {
+            return Ok(None);
+        }
+        match self.search(input, utf8_empty, end)? {
+            Some(back) if back.offset() <= end => {
+                let half = HalfMatch::new(back.pattern(), end);
+                Ok(Some(Left::Found(whole(half, back.offset()))))
+            }
+            Some(_) => Ok(None),
+            None => Ok(Some(Left::Nothing)),
         }
     }
 }

@@ -1,16 +1,21 @@
 //! What searches keep from one to the next.
 
 ghost use Rattle.std.specs.Prelude.{◌≡◌, ◌≤◌, IfErr, IfOk, IfSome, OnErr, OnOk};
+ghost use Rattle.rx_util.specs.declared.search.Anchored.TheVariants.{No};
 ghost use Rattle.rx_util.specs.declared.search.MatchError.{MatchError};
 ghost use Rattle.rx_input.specs.Cursors.{IsSameContent};
+ghost use Rattle.rx_program.specs.Programs.{characters_of};
+ghost use Rattle.rx_literals.specs.Endings.{EndsWithSlice};
 ghost use Rattle.rx_steps.specs.Caches as steps;
 ghost use Rattle.rx_dfa.specs.Searching.{IsHalfAnswer};
 ghost use Rattle.regex_cursor.specs.Backs.{EndsLast, IsWhole};
 ghost use Rattle.regex_cursor.specs.Regexes.{IsCacheOf, search_by};
 ghost use Rattle.regex_cursor.specs.Configs.{capacity_of};
 ghost use Rattle.regex_cursor.specs.Cores.{AreCachesOf};
+ghost use Rattle.regex_cursor.specs.Strategies.{IsLeft};
 
 use super::back::Back;
+use super::left::Left;
 use super::regex::Regex;
 use super::strategy::Core;
 use rx_chunk::pikevm;
@@ -121,7 +126,7 @@ impl Kept {
         if self.walked < BYTES_A_TURN {
             return Ok(());
         }
-        let back = Back::of(self.core.vm())?;
+        let back = Back::of(self.core.vm(), self.core.config())?;
         self.back = Some(back);
         Ok(())
     }
@@ -157,6 +162,41 @@ impl Kept {
         let utf8_empty = self.core.vm().utf8_empty();
         match &mut self.back {
             Some(back) => back.whole_match(input, utf8_empty, pattern),
+            None => Ok(None),
+        }
+    }
+}
+
+impl Kept {
+    /// What is found in an input that isn't anchored, by a search back from the end of its slice,
+    /// where all matches end there; nothing is told where the span doesn't, or before it pays. The
+    /// one refusal is `Memory`.
+    pub(super) fn search_last<C: Cursor>(
+        &mut self,
+        input: &mut Input<C>,
+    ) -> Result<Option<Left>, MatchError>
+        requires serve { AreCachesOf self.old.core.value self.old.vm self.old.automaton
+            self.old.back }
+        requires ordered { input.old.asked.span.start ≤ input.old.asked.span.end }
+        requires unanchored { input.old.asked.anchored ≡ No }
+        ensures left { IfOk result (λ told.
+            EndsWithSlice (characters_of self.old.core.value.vm.program)
+            → IfSome told (IsLeft self.old.core.value.vm.program
+            (search_by self.old.core.value.vm input.old))) }
+        ensures serve { AreCachesOf self.new.core.value self.new.vm self.new.automaton
+            self.new.back }
+        ensures core { self.new.core ≡ self.old.core }
+        ensures asked { input.new.asked ≡ input.old.asked }
+        ensures same { IsSameContent input.old.cursor input.new.cursor }
+        ensures refused { IfErr result (λ error. error ≡ MatchError.Memory) }
+    {
+        if input.end() != input.get_slice().end {
+            return Ok(None);
+        }
+        self.turn(input.end() - input.start())?;
+        let utf8_empty = self.core.vm().utf8_empty();
+        match &mut self.back {
+            Some(back) => back.search_last(input, utf8_empty),
             None => Ok(None),
         }
     }

@@ -3,6 +3,7 @@
 ghost use Rattle.std.specs.Prelude.{◌≡◌, IfOk, IfSome, None, false};
 ghost use Rattle.rx_dfa.specs.Caches.{IsWithin};
 ghost use Rattle.rx_dfa.specs.DenseTables.{IsClosedOf};
+ghost use Rattle.rx_dfa.specs.Directions.{forward};
 ghost use Rattle.rx_dfa.specs.Alphabets.{IsAlphabetOf};
 ghost use Rattle.regex_cursor.specs.Configs.{dfa_of, dfa_size_limit_of, dfa_state_limit_of, most};
 
@@ -44,7 +45,7 @@ pub(super) fn closed_of(
     config: &Config,
 ) -> Result<Option<DenseTable>, AllocError>
     requires { IsAlphabetOf program.now dfa.now }
-    ensures closed { IfOk result (λ closed. IfSome closed (IsClosedOf program.now dfa.now)) }
+    ensures closed { IfOk result (λ closed. IfSome closed (IsClosedOf (forward program.now) dfa.now)) }
     ensures small { IfOk result (λ closed. IfSome closed
         (IsWithin (most (dfa_state_limit_of config.now)) (most (dfa_size_limit_of config.now)))) }
     ensures unwanted { IfOk result (λ closed. dfa_of config.now ≡ false → closed ≡ None) }

@@ -58,6 +58,8 @@ pub(super) enum Left {
     Nothing,
     /// Nothing: the match takes this span, and has no groups besides.
     Match(Span),
+    /// Its groups: it is this match.
+    Found(Match),
     /// To search in this part of the span.
     In(Part),
 }
@@ -97,12 +99,23 @@ impl Left {
                 span,
                 pattern: Some(PatternID::ZERO),
             }),
+            Left::Found(found) => Some(Part::of(found)),
             Left::In(part) => Some(part),
         }
     }
 }
 
 impl Part {
+    /// The part that a match takes.
+    pub(super) fn of(found: Match) -> Part
+        ensures { result ≡ record { span = found.span; pattern = Some found.pattern } }
+    {
+        Part {
+            span: found.span(),
+            pattern: Some(found.pattern()),
+        }
+    }
+
     /// Whether a match in it may end where the last match did, if there was one.
     fn may_end_at(&self, last_match_end: Option<usize>) -> bool
         ensures known { (k : ℕ) → self.now.pattern ≡ Some k

@@ -13,10 +13,10 @@ ghost use Rattle.rx_chunk.specs.Engines.{EngineFinds, TellsWhether};
 ghost use Rattle.rx_chunk.specs.Iterating.{EndsAhead, IsFoundNext, IsNextAnswer, StartsFrom};
 ghost use Rattle.regex_cursor.specs.Backs.{EndsLast};
 ghost use Rattle.regex_cursor.specs.Regexes.{HoldsMatches, IsCacheOf, TellsHalf, TellsMatch, TellsSlots, TellsWhole, search_by};
-ghost use Rattle.regex_cursor.specs.Strategies.{regex_of};
+ghost use Rattle.regex_cursor.specs.Strategies.{IsPart, regex_of};
 
 use super::cache::Cache;
-use super::left::{Left, clear_slots, half_of, note_nothing, put_back, put_match};
+use super::left::{Left, Part, clear_slots, half_of, note_nothing, put_back, put_match};
 use super::strategy::Strategy;
 use rx_chunk::pikevm;
 use rx_input::{Cursor, Input};
@@ -41,6 +41,7 @@ pub(super) fn is_match<C: Cursor>(
     match strategy.ask(&mut cache.kept, input)? {
         Left::Nothing => Ok(false),
         Left::Match(_) => Ok(true),
+        Left::Found(_) => Ok(true),
         Left::In(part) => {
             if part.pattern.is_some() {
                 return Ok(true);
@@ -72,6 +73,7 @@ pub(super) fn find<C: Cursor>(
     match strategy.ask(&mut cache.kept, input)? {
         Left::Nothing => Ok(None),
         Left::Match(span) => Ok(Some(Match::new(PatternID::ZERO, span))),
+        Left::Found(found) => Ok(Some(found)),
         Left::In(part) => {
             let pattern = part.pattern;
             let whole = part.cut(input);
@@ -102,6 +104,7 @@ pub(super) fn find_half<C: Cursor>(
     match strategy.ask(&mut cache.kept, input)? {
         Left::Nothing => Ok(None),
         Left::Match(span) => Ok(Some(HalfMatch::new(PatternID::ZERO, span.end))),
+        Left::Found(found) => Ok(half_of(Some(found))),
         Left::In(part) => {
             if let Some(pattern) = part.pattern {
                 return Ok(Some(HalfMatch::new(pattern, part.span.end)));
@@ -169,14 +172,37 @@ pub(super) fn search_slots<C: Cursor>(
             put_match(slots, span);
             Ok(Some(PatternID::ZERO))
         }
-        Left::In(part) => {
-            let pattern = part.pattern;
-            let whole = part.cut(input);
-            let found = slots_in(strategy, cache, input, slots, pattern);
-            put_back(input, whole);
-            found
-        }
+        Left::Found(found) => slots_of_part(strategy, cache, input, slots, Part::of(found)),
+        Left::In(part) => slots_of_part(strategy, cache, input, slots, part),
     }
+}
+
+/// The pattern of the match that is found in a part of an input's span, with its places in slots,
+/// which hold none before.
+fn slots_of_part<C: Cursor>(
+    strategy: &Strategy,
+    cache: &mut Cache,
+    input: &mut Input<C>,
+    slots: &mut [Option<NonMaxUsize>],
+    part: Part,
+) -> Result<Option<PatternID>, MatchError>
+    requires made { IsCacheOf (regex_of strategy.now) cache.old }
+    requires first { strategy.now.vm.match_kind ≡ MatchKind.LeftmostFirst }
+    requires clear { slots.old ≡ no_slots (length slots.old) }
+    requires part { IsPart strategy.now.vm.program (search_by strategy.now.vm input.old) part }
+    ensures answer { IfOk result
+        (λ pattern. TellsSlots strategy.now.vm input.old pattern slots.new) }
+    ensures none { OnErr result (slots.new ≡ no_slots (length slots.new)) }
+    ensures made { IsCacheOf (regex_of strategy.now) cache.new }
+    ensures asked { input.new.asked ≡ input.old.asked }
+    ensures same { IsSameContent input.old.cursor input.new.cursor }
+    ensures refused { IfErr result (λ error. error ≡ MatchError.Memory) }
+{
+    let pattern = part.pattern;
+    let whole = part.cut(input);
+    let found = slots_in(strategy, cache, input, slots, pattern);
+    put_back(input, whole);
+    found
 }
 
 /// Whether the places of this pattern's match are all that is asked for in so many slots: it is the
@@ -250,7 +276,7 @@ pub(super) fn search<C: Cursor>(
     ensures refused { IfErr result (λ error. error ≡ MatchError.Memory) }
 {
     note_nothing(caps);
-    match strategy.ask(&mut cache.kept, input)?.part() {
+    match strategy.find_part(&mut cache.kept, input)? {
         None => Ok(()),
         Some(part) => {
             let whole = part.cut(input);

@@ -22,7 +22,7 @@ ghost use Rattle.regex_cursor.specs.Regexes.{HoldsMatches, IsCacheOf, TellsHalf,
 ghost use Rattle.regex_cursor.specs.Configs.{WantsNoLiterals, capacity_of};
 ghost use Rattle.regex_cursor.specs.Cores.{IsCore};
 ghost use Rattle.regex_cursor.specs.Literals.{AreLiteralsOf, no_literals};
-ghost use Rattle.regex_cursor.specs.Strategies.{AreKeptFor, IsLeft, IsNextLeft, IsStart, IsTold, regex_of};
+ghost use Rattle.regex_cursor.specs.Strategies.{AreKeptFor, IsLeft, IsNextLeft, IsPart, IsPartLeft, IsStart, IsTold, regex_of};
 
 use super::cache::{Cache, Kept};
 use super::config::Config;
@@ -33,7 +33,7 @@ use super::literals::Literals;
 use rx_chunk::pikevm::{self, PikeVM};
 use rx_dfa::{Alphabet, DenseTable};
 use rx_input::{Cursor, Input};
-use rx_literals::Prefilter;
+use rx_literals::{Prefilter, ends_with_slice};
 use rx_program::Program;
 use rx_util::{Captures, HalfMatch, Match, MatchError, MatchKind, NonMaxUsize, PatternID};
 use std::alloc::{AllocError, Global};
@@ -108,6 +108,8 @@ pub(super) struct Strategy {
     // Where program and automaton are small.
     closed: Option<DenseTable>,
     literals: Literals,
+    // Whether each match is known to end where the slice does.
+    ends_last: bool,
 }
 
 impl Model for Strategy {
@@ -121,6 +123,7 @@ impl Model for Strategy {
       settings = s.core.value.settings;
       closed = s.closed;
       literals = s.literals;
+      ends_last = s.ends_last;
     } };
 
     ghost invariant = { λ s. AreEngines (record {
@@ -129,6 +132,7 @@ impl Model for Strategy {
       settings = s.core.value.settings;
       closed = s.closed;
       literals = s.literals;
+      ends_last = s.ends_last;
     }) };
 }
 
@@ -176,10 +180,12 @@ impl Strategy {
         ensures settings { IfOk result (λ strategy. strategy.settings ≡ core.value.settings) }
     {
         let closed = closed_of(alloc, core.program(), core.dfa(), core.config())?;
+        let ends_last = ends_with_slice(alloc, core.program())?;
         Ok(Strategy {
             core,
             closed,
             literals,
+            ends_last,
         })
     }
 
@@ -324,13 +330,54 @@ impl Strategy {
     {
         let whole = input.get_span();
         input.set_start(place);
-        let rest = input.get_span();
-        let answer = self.ask_automaton(kept, input);
+        let left = self.ask_rest(kept, input);
         put_back(input, whole);
-        match answer {
-            Ok(told) => Ok(told.left_in(rest)),
-            Err(error) => Err(error),
+        left
+    }
+
+    /// Asks what is left of a search, of which literals tell no more: first back from the end of
+    /// the slice, where all matches end there, and else the automaton.
+    fn ask_rest<C: Cursor>(&self, kept: &mut Kept, input: &mut Input<C>) -> Result<Left, MatchError>
+        requires ordered { input.old.asked.span.start ≤ input.old.asked.span.end }
+        requires serve { AreKeptFor self.now kept.old }
+        ensures left { IfOk result (IsLeft self.now.vm.program (search_by self.now.vm input.old)) }
+        ensures serve { AreKeptFor self.now kept.new }
+        ensures core { kept.new.core ≡ kept.old.core }
+        ensures asked { input.new.asked ≡ input.old.asked }
+        ensures same { IsSameContent input.old.cursor input.new.cursor }
+        ensures refused { IfErr result (λ error. error ≡ MatchError.Memory) }
+    {
+        match self.ask_back(kept, input)? {
+            Some(left) => Ok(left),
+            None => {
+                let rest = input.get_span();
+                let told = self.ask_automaton(kept, input)?;
+                Ok(told.left_in(rest))
+            }
         }
+    }
+
+    /// Asks what a search back from the end of the slice tells, where all matches end there, the
+    /// search isn't anchored, and it pays. The one refusal is `Memory`.
+    fn ask_back<C: Cursor>(
+        &self,
+        kept: &mut Kept,
+        input: &mut Input<C>,
+    ) -> Result<Option<Left>, MatchError>
+        requires ordered { input.old.asked.span.start ≤ input.old.asked.span.end }
+        requires serve { AreKeptFor self.now kept.old }
+        ensures left { IfOk result (λ told. IfSome told
+            (IsLeft self.now.vm.program (search_by self.now.vm input.old))) }
+        ensures serve { AreKeptFor self.now kept.new }
+        ensures core { kept.new.core ≡ kept.old.core }
+        ensures asked { input.new.asked ≡ input.old.asked }
+        ensures same { IsSameContent input.old.cursor input.new.cursor }
+        ensures refused { IfErr result (λ error. error ≡ MatchError.Memory) }
+    {
+        if !self.ends_last || input.get_anchored().is_anchored() {
+            return Ok(None);
+        }
+        kept.search_last(input)
     }
 
     /// Asks the automaton what it tells of a search: that there is no match, or where the match
@@ -543,6 +590,61 @@ impl Strategy {
         }
     }
 
+    /// The part of an input's span in which the match lies that is found there: from its start to
+    /// its end, where both are known. None where nothing is found. The one refusal is `Memory`.
+    pub(super) fn find_part<C: Cursor>(
+        &self,
+        kept: &mut Kept,
+        input: &mut Input<C>,
+    ) -> Result<Option<Part>, MatchError>
+        requires serve { AreKeptFor self.now kept.old }
+        ensures part { IfOk result
+            (IsPartLeft self.now.vm.program (search_by self.now.vm input.old)) }
+        ensures serve { AreKeptFor self.now kept.new }
+        ensures core { kept.new.core ≡ kept.old.core }
+        ensures asked { input.new.asked ≡ input.old.asked }
+        ensures same { IsSameContent input.old.cursor input.new.cursor }
+        ensures refused { IfErr result (λ error. error ≡ MatchError.Memory) }
+    {
+        match self.ask(kept, input)? {
+            Left::In(part) => {
+                let shorter = self.shorten(kept, input, part)?;
+                Ok(Some(shorter))
+            }
+            left => Ok(left.part()),
+        }
+    }
+
+    /// Of a part in which the match lies that is found, what that match takes, where its start is
+    /// found by a search back. The one refusal is `Memory`.
+    fn shorten<C: Cursor>(
+        &self,
+        kept: &mut Kept,
+        input: &mut Input<C>,
+        part: Part,
+    ) -> Result<Part, MatchError>
+        requires serve { AreKeptFor self.now kept.old }
+        requires part { IsPart self.now.vm.program (search_by self.now.vm input.old) part }
+        ensures part { IfOk result
+            (IsPart self.now.vm.program (search_by self.now.vm input.old)) }
+        ensures serve { AreKeptFor self.now kept.new }
+        ensures core { kept.new.core ≡ kept.old.core }
+        ensures asked { input.new.asked ≡ input.old.asked }
+        ensures same { IsSameContent input.old.cursor input.new.cursor }
+        ensures refused { IfErr result (λ error. error ≡ MatchError.Memory) }
+    {
+        let Some(pattern) = part.pattern else {
+            return Ok(part);
+        };
+        let whole = part.cut(input);
+        let found = self.whole_match(kept, input, pattern);
+        put_back(input, whole);
+        match found? {
+            Some(found) => Ok(Part::of(found)),
+            None => Ok(part),
+        }
+    }
+
     /// The part of an input's span in which that comes next which comes next in the span, where the
     /// last match, if there was one, ended at `last_match_end`; none where nothing more is found.
     /// The one refusal is `Memory`.
@@ -561,7 +663,7 @@ impl Strategy {
         ensures same { IsSameContent input.old.cursor input.new.cursor }
         ensures refused { IfErr result (λ error. error ≡ MatchError.Memory) }
     {
-        match self.ask(kept, input)?.part() {
+        match self.find_part(kept, input)? {
             None => Ok(None),
             Some(part) => Ok(Some(part.behind(last_match_end, input.get_span()))),
         }

@@ -1,4 +1,4 @@
-use Rattle.std.proofs.Common.{◌≡◌, sym, ap, subst, ◌∙◌, arith}
+use Rattle.std.proofs.Common.{◌≡◌, Some, sym, ap, subst, ◌∙◌, arith}
 use Rattle.std.proofs.lemmas.Option.{same_Some}
 use Rattle.rx_util.specs.declared.search.Span.{Span}
 use Rattle.rx_util.specs.Search.{Found}
@@ -6,7 +6,8 @@ use Rattle.rx_input.specs.Inputs.{Asked}
 use Rattle.rx_steps.specs.Searching.{search_of}
 use Rattle.rx_chunk.proofs.EngineLaws.{if_ok}
 use Rattle.regex_cursor.specs.Strategies.{IsLeft}
-use Rattle.regex_cursor.proofs.BackLaws.{known_last}
+use Rattle.rx_matches.proofs.HalfLaws as halves
+use Rattle.regex_cursor.proofs.BackLaws.{found_told, known_last}
 use Rattle.regex_cursor.proofs.StrategyLaws.{cut_asked, cut_search, whole_inside, whole_is_span, no_match_told, literal_inside, literal_told, whole_match}
 use Rattle.regex_cursor.proofs.LowerLaws.{inside_law}
 use Rattle.regex_cursor.proofs.engines.meta.leftmost.find.Goals as goal
@@ -84,3 +85,17 @@ find_in-found-requires-clause-known g c =
     let is = subst (λ left. IsLeft re.program (search_of re.utf8_empty i) left) c.in-In.is c.in_ok-ask.ensures.left in
     let search = cut_search re.utf8_empty i c.ask.new.input c.cut-whole.new.input part.span c.in_ok-ask.ensures.same c.in_ok-ask.ensures.asked c.cut-whole.ensures.same c.cut-whole.ensures.asked in
     known_last re.program re.utf8_empty (search_of re.utf8_empty i) c.cut-whole.new.input part.span part.pattern is.match search (ap (λ (a : Asked). a.span.end) c.cut-whole.ensures.asked)
+
+pub returns-in-Found-clause-answer : goal.returns-in-Found-clause-answer
+returns-in-Found-clause-answer g c =
+    let i = c.args.input.now in
+    let re = c.args.strategy.now.vm in
+    let is = subst (λ left. IsLeft re.program (search_of re.utf8_empty i) left) c.in-Found.is c.in_ok-ask.ensures.left in
+    found_told re c.requires.first (search_of re.utf8_empty i) c.in-Found.found i.asked.earliest is
+
+pub returns-in-Found-clause-inside : goal.returns-in-Found-clause-inside
+returns-in-Found-clause-inside g c =
+    let i = c.args.input.now in
+    let re = c.args.strategy.now.vm in
+    let is = subst (λ left. IsLeft re.program (search_of re.utf8_empty i) left) c.in-Found.is c.in_ok-ask.ensures.left in
+    halves.whole_inside re.program re.utf8_empty i (Some c.in-Found.found) c.ask.ensures.bound is

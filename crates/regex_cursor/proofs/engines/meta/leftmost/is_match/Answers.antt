@@ -4,6 +4,7 @@ use Rattle.rx_chunk.specs.Engines.{EngineFinds, TellsWhether}
 use Rattle.rx_engine.specs.Engines.{Engine}
 use Rattle.rx_chunk.proofs.EngineLaws.{if_ok}
 use Rattle.regex_cursor.specs.Strategies.{IsLeft}
+use Rattle.regex_cursor.proofs.BackLaws.{found_told}
 use Rattle.regex_cursor.proofs.StrategyLaws.{cut_search, whole_is_span, literal_there, none_there, match_there, whole_whether}
 use Rattle.regex_cursor.proofs.engines.meta.leftmost.is_match.Goals as goal
 
@@ -50,3 +51,10 @@ returns-then-is_some-clause-answer g c =
     let re = c.args.strategy.now.vm in
     let is = subst (λ left. IsLeft re.program (search_of re.utf8_empty i) left) c.in-In.is c.in_ok-ask.ensures.left in
     match_there re c.requires.first (search_of re.utf8_empty i) c.in-In.part is (sym c.is_some.ensures ∙ c.if-is_some.true)
+
+pub returns-in-Found-clause-answer : goal.returns-in-Found-clause-answer
+returns-in-Found-clause-answer g c =
+    let i = c.args.input.now in
+    let re = c.args.strategy.now.vm in
+    let is = subst (λ left. IsLeft re.program (search_of re.utf8_empty i) left) c.in-Found.is c.in_ok-ask.ensures.left in
+    (found_told re c.requires.first (search_of re.utf8_empty i) c.in-Found.field-0 i.asked.earliest is).whether

@@ -1,5 +1,6 @@
-use Rattle.std.proofs.Common.{subst}
-use Rattle.regex_cursor.specs.Strategies.{IsLeft}
+use Rattle.std.proofs.Common.{subst, sym}
+use Rattle.regex_cursor.specs.Strategies.{IsLeft, IsPart}
+use Rattle.regex_cursor.proofs.LastLaws.{found_left}
 use Rattle.regex_cursor.proofs.LeftLaws.{literal_left}
 use Rattle.regex_cursor.proofs.LowerLaws.{inside_law, one_law}
 use Rattle.regex_cursor.proofs.engines.meta.left.Left.part.Goals as goal
@@ -13,3 +14,7 @@ returns-in-Match c = λ p s left.
 
 pub returns-in-In : goal.returns-in-In
 returns-in-In c = λ p s left. subst (λ x. IsLeft p s x) c.in-In.is left
+
+pub returns-in-Found : goal.returns-in-Found
+returns-in-Found c = λ p s left.
+    subst (λ x. IsPart p s x) (sym c.of.ensures) (found_left p s c.in-Found.found (subst (λ x. IsLeft p s x) c.in-Found.is left))

@@ -10,6 +10,6 @@ returns-in-Some-clause-next g c =
     let i = c.args.input.now in
     let re = c.args.self.now.vm in
     let s = search_of re.utf8_empty i in
-    let span : c.get_span.result ≡ i.asked.span = c.get_span.ensures ∙ ap (λ (a : Asked). a.span) c.in_ok-ask.ensures.asked in
-    let is = subst (λ o. IsPartLeft re.program s o) c.in-Some.is (c.part.ensures re.program s c.in_ok-ask.ensures.left) in
+    let span : c.get_span.result ≡ i.asked.span = c.get_span.ensures ∙ ap (λ (a : Asked). a.span) c.in_ok-find_part.ensures.asked in
+    let is = subst (λ o. IsPartLeft re.program s o) c.in-Some.is c.in_ok-find_part.ensures.part in
     c.behind.ensures re.program s (sym (ap (λ (x : Span). x.start) span)) (sym (ap (λ (x : Span). x.end) span)) is

@@ -1,0 +1,40 @@
+-- Lists of all matches of a regex.
+use Rattle.std.specs.Prelude.{◌≡◌, ◌≤◌, List, map, Option, Some, option_map}
+use Rattle.rx_util.specs.declared.search.MatchKind.TheVariants.{LeftmostFirst}
+use Rattle.rx_util.specs.Search.{Found}
+use Rattle.rx_util.specs.Captured.{Captured}
+use Rattle.rx_util.specs.Groups.{Groups}
+use Rattle.rx_walks.specs.Machines.{Outcome}
+use Rattle.rx_walks.specs.Programs.{Notes}
+use Rattle.rx_walks.specs.Finds.{Search}
+use Rattle.rx_chunk.specs.Engines.{Engine, whole_span}
+use Rattle.rx_chunk.specs.Iterating.{EngineMatches}
+use Rattle.rx_lists.specs.Lists.{Listed}
+
+-- the engine, where the leftmost match is found, and of those that start there the preferred one
+abbrev pub leftmost_first : Engine → Engine
+leftmost_first e = record e { match_kind = LeftmostFirst }
+
+-- of all matches of an engine in a search, in order, this is told
+pub record TellsAll {A : Type 0} (e : Engine) (s : Search) (item_of : Outcome Notes → A)
+    (items : List A) : Type 0 where
+  pub matches : List (Outcome Notes)
+  pub are_all : EngineMatches e s matches
+  pub items_are : items ≡ map item_of matches
+
+-- ---- of one that was listed
+
+-- the match by the two slots of its pattern's group 0
+abbrev pub match_listed : Listed → Option Found
+match_listed l =
+    option_map (λ span. record { pattern = l.pattern; span = span }) (whole_span l.pattern l.slots)
+
+-- both are there, in order
+pub record IsWhole (l : Listed) : Type 0 where
+  pub match : Found
+  pub is_listed : match_listed l ≡ Some match
+  pub ordered : match.span.start ≤ match.span.end
+
+-- what is noted of it in captures
+abbrev pub captures_listed : Groups → Listed → Captured
+captures_listed groups l = record { groups = groups; pattern = Some l.pattern; slots = l.slots }
