@@ -1,6 +1,6 @@
 -- The number of a byte that is tested with the two bytes before it and what follows it.
-use Rattle.std.proofs.Common.{◌≡◌, ℕ, zero, suc, ◌+◌, ◌-◌, ◌<◌, ◌≤◌, Bool, List, [], ◌∷◌, length, drop, get_or, cond, refl, ap, ◌∙◌, arith}
-use Rattle.std.specs.Prelude.{◌==◌, ◌||◌}
+use Rattle.std.proofs.Common.{◌≡◌, ℕ, zero, suc, ◌+◌, ◌-◌, ◌<◌, ◌≤◌, Bool, true, false, List, [], ◌∷◌, length, drop, get_or, cond, refl, ap, ◌∙◌, arith}
+use Rattle.std.specs.Prelude.{◌==◌, ◌&&◌, ◌||◌}
 use Rattle.std.proofs.lemmas.Bool.Decides.{nat_tests}
 use Rattle.str_indices.specs.Text.{starts_with_lf}
 use Rattle.str_indices.specs.Bytes.{tested_weights, ends_ascii_line, ends_two_byte_line, ends_three_byte_line, ends_line}
@@ -38,3 +38,9 @@ ways_to_end_a_line b2 b1 b next rest same = rw same (apart (next == 10))
     apart : (lf : Bool) → cond (ends_ascii_line b lf) 1 0 + cond (ends_two_byte_line b1 b) 1 0 + cond (ends_three_byte_line b2 b1 b) 1 0
         ≡ cond (ends_ascii_line b lf || ends_two_byte_line b1 b || ends_three_byte_line b2 b1 b) 1 0
     apart lf = grind (arith, nat_tests)
+
+-- a byte that is no CR ends a break exactly if it is an LF
+pub lf_alone : (lf cr last : Bool) → cond {A = ℕ} cr 1 0 ≡ 0 → cond {A = ℕ} (lf || (cr && last)) 1 0 ≡ cond lf 1 0
+lf_alone lf true last e = absurd (omega (arith, e))
+lf_alone true false last e = refl
+lf_alone false false last e = refl

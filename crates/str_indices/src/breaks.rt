@@ -164,7 +164,12 @@ impl Measure for CrlfBreaks {
 
     #[inline(always)]
     fn chunk_weights<C: ByteChunk>(bytes: &[u8], at: usize) -> C {
-        crlf_breaks(C::load(bytes, at), C::load(bytes, at + 1))
+        let chunk = C::load(bytes, at);
+        // Most chunks have no CR, and so no break of two bytes.
+        if chunk.cmp_eq_byte(CR).first_nonzero() == C::SIZE {
+            return chunk.cmp_eq_byte(LF);
+        }
+        crlf_breaks(chunk, C::load(bytes, at + 1))
     }
 }
 

@@ -5,9 +5,10 @@ ghost use Rattle.std.specs.List.{prefix_len};
 ghost use Rattle.str_indices.specs.Lanes.{HasLanes, MarksLanes, is_between, LanesUpTo};
 
 mod vector;
+mod wide;
 mod word;
 
-pub use std::simd::u8x16 as Chunk;
+pub use std::simd::{u8x16 as Chunk, u8x64 as WideChunk};
 
 /// Some bytes side by side. A contract sees them as a list of `SIZE` lanes, each a number from 0 to
 /// 255.

@@ -38,7 +38,7 @@ pub(crate) fn count_impl<M: CharMeasure, C: ByteChunk>(
     ensures one_by_one { turns.old + min leading (length text.now) ≤ turns.new }
     ensures turns { turns.new ≤ turns.old + min leading (length text.now) + C.SIZE + 4 }
 {
-    scan::count_before::<M, C>(text.as_bytes(), text.len(), leading, turns)
+    scan::count_before::<M, C, C>(text.as_bytes(), text.len(), leading, turns)
 }
 
 pub(crate) fn to_byte_idx_impl<M: CharMeasure, C: ByteChunk>(
@@ -52,5 +52,5 @@ pub(crate) fn to_byte_idx_impl<M: CharMeasure, C: ByteChunk>(
     ensures one_by_one { turns.old + min leading result ≤ turns.new }
     ensures turns { turns.new ≤ turns.old + min leading (length text.now) + C.SIZE + 4 }
 {
-    scan::find_past::<M, C>(text.as_bytes(), idx, leading, turns)
+    scan::find_past::<M, C, C>(text.as_bytes(), idx, leading, turns)
 }

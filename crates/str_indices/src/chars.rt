@@ -1,7 +1,7 @@
 //! Characters, which are Unicode scalar values, as the Rust crate `str_indices` counts them: its
 //! `chars::count`, `from_byte_idx` and `to_byte_idx`.
 //!
-//! Each call takes `O(n)` for a text of n bytes, by 16 bytes at a time, and no memory. Every index
+//! Each call takes `O(n)` for a text of n bytes, by 64 bytes at a time, and no memory. Every index
 //! has an answer.
 
 ghost use Rattle.std.specs.Prelude.{◌≡◌, ◌+◌, ◌≤◌, min, length};

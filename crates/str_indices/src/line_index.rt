@@ -70,7 +70,7 @@ pub(crate) fn count_breaks_impl<M: BreakMeasure, C: ByteChunk>(
     ensures one_by_one { turns.old + min leading (length text.now) ≤ turns.new }
     ensures turns { turns.new ≤ turns.old + min leading (length text.now) + C.SIZE + 4 }
 {
-    scan::count_before::<M, C>(text.as_bytes(), text.len(), leading, turns)
+    scan::count_before::<M, C, C>(text.as_bytes(), text.len(), leading, turns)
 }
 
 pub(crate) fn to_byte_idx_impl<M: BreakMeasure, C: ByteChunk>(
@@ -87,6 +87,6 @@ pub(crate) fn to_byte_idx_impl<M: BreakMeasure, C: ByteChunk>(
     if line_idx == 0 {
         return 0;
     }
-    let last = scan::find_past::<M, C>(text.as_bytes(), line_idx - 1, leading, turns);
+    let last = scan::find_past::<M, C, C>(text.as_bytes(), line_idx - 1, leading, turns);
     if last < text.len() { last + 1 } else { last }
 }

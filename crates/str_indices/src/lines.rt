@@ -1,7 +1,7 @@
 //! Lines by Unicode's mandatory breaks (UAX 14), as the Rust crate `str_indices` counts them: LF,
 //! VT, FF, CR, U+0085, U+2028 and U+2029, where CR LF is one break.
 //!
-//! Each call takes `O(n)` for a text of n bytes, by 16 bytes at a time, and no memory. Every index
+//! Each call takes `O(n)` for a text of n bytes, by 64 bytes at a time, and no memory. Every index
 //! has an answer.
 
 ghost use Rattle.std.specs.Prelude.{◌≡◌, ◌+◌, ◌≤◌, ◌↔◌, min, length, IsNone, IfSome};

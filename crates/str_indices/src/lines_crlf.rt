@@ -1,6 +1,6 @@
 //! Lines by LF, CR and CR LF, which is one break, as the Rust crate `str_indices` counts them.
 //!
-//! Each call takes `O(n)` for a text of n bytes, by 16 bytes at a time, and no memory. Every index
+//! Each call takes `O(n)` for a text of n bytes, by 64 bytes at a time, and no memory. Every index
 //! has an answer.
 
 ghost use Rattle.std.specs.Prelude.{◌≡◌, ◌+◌, ◌≤◌, ◌↔◌, min, length, IsNone, IfSome};

@@ -1,7 +1,7 @@
 //! Lines by LF alone, as the Rust crate `str_indices` counts them. A CR before an LF is part of the
 //! line.
 //!
-//! Each call takes `O(n)` for a text of n bytes, by 16 bytes at a time, and no memory. Every index
+//! Each call takes `O(n)` for a text of n bytes, by 64 bytes at a time, and no memory. Every index
 //! has an answer.
 
 ghost use Rattle.std.specs.Prelude.{◌≡◌, ◌+◌, ◌≤◌, ◌↔◌, min, length, IsNone, IfSome};

@@ -10,8 +10,9 @@ use crate::measure::Measure;
 use counters::Counter;
 use std::ops::ControlFlow;
 
-/// How many chunks are summed at a time where a search may have to go back to the first of them.
-const SEARCH_ROUND: usize = 16;
+/// How many bytes, or else one chunk, are summed at a time where a search may have to go back to
+/// the first of them.
+const SEARCH_ROUND: usize = 64;
 
 /// What the bytes from `from` to `end` count, one by one.
 fn count_bytes<M: Measure>(bytes: &[u8], from: usize, end: usize, turns: &mut Counter) -> usize
@@ -83,9 +84,10 @@ fn count_chunks<M: Measure, C: ByteChunk>(bytes: &[u8], from: usize, end: usize)
     (count, at)
 }
 
-/// What the bytes before `end` count, with at least the first `leading` of them one by one.
+/// What the bytes before `end` count, with at least the first `leading` of them one by one, by wide
+/// chunks and then by others.
 #[inline(always)]
-pub(crate) fn count_before<M: Measure, C: ByteChunk>(
+pub(crate) fn count_before<M: Measure, W: ByteChunk, C: ByteChunk>(
     bytes: &[u8],
     end: usize,
     leading: usize,
@@ -98,11 +100,10 @@ pub(crate) fn count_before<M: Measure, C: ByteChunk>(
 {
     let first = leading.max(2).min(end);
     let head = count_bytes::<M>(bytes, 0, first, turns);
-    let (middle, at) = count_chunks::<M, C>(bytes, first, end);
-    // Of what is left, less than a chunk, eight bytes may still go at once.
-    let (small, at) = count_chunks::<M, usize>(bytes, at, end);
+    let (wide, at) = count_chunks::<M, W>(bytes, first, end);
+    let (middle, at) = count_chunks::<M, C>(bytes, at, end);
     let tail = count_bytes::<M>(bytes, at, end, turns);
-    head + middle + small + tail
+    head + wide + middle + tail
 }
 
 /// Goes on from `from`, before which the bytes count `count`, to the first byte with which they
@@ -176,9 +177,9 @@ fn skip_chunks<M: Measure, C: ByteChunk>(
 }
 
 /// The first byte with which the bytes count more than `k`, or the length, with at least the first
-/// `leading` bytes one by one.
+/// `leading` bytes one by one. It goes by wide chunks and then by others.
 #[inline(always)]
-pub(crate) fn find_past<M: Measure, C: ByteChunk>(
+pub(crate) fn find_past<M: Measure, W: ByteChunk, C: ByteChunk>(
     bytes: &[u8],
     k: usize,
     leading: usize,
@@ -195,7 +196,8 @@ pub(crate) fn find_past<M: Measure, C: ByteChunk>(
     if at < first {
         return at;
     }
-    let (count, at) = skip_chunks::<M, C>(bytes, k, count, at, SEARCH_ROUND.min(C::MAX_ACC / 2));
+    let round = (SEARCH_ROUND / W::SIZE).max(1).min(W::MAX_ACC / 2);
+    let (count, at) = skip_chunks::<M, W>(bytes, k, count, at, round);
     let (count, at) = skip_chunks::<M, C>(bytes, k, count, at, 1);
     let (_, at) = skip_bytes::<M>(bytes, k, count, at, end, turns);
     at

@@ -1,9 +1,9 @@
-//! The scans by the widest chunk, for callers that count no turns.
+//! The scans by the widest chunks, for callers that count no turns.
 
 ghost use Rattle.std.specs.Prelude.{◌≡◌, ◌≤◌, length, sum, take};
 ghost use Rattle.str_indices.specs.Bytes.{IsFirstPast};
 
-use crate::byte_chunk::Chunk;
+use crate::byte_chunk::{Chunk, WideChunk};
 use crate::measure::Measure;
 use crate::scan;
 use counters::Counter;
@@ -14,7 +14,7 @@ pub(crate) fn count_before<M: Measure>(bytes: &[u8], end: usize) -> usize
     ensures { result ≡ sum (take end (M.weights bytes.now)) }
 {
     let mut turns = Counter::new();
-    scan::count_before::<M, Chunk>(bytes, end, 0, &mut turns)
+    scan::count_before::<M, WideChunk, Chunk>(bytes, end, 0, &mut turns)
 }
 
 /// The first byte with which the bytes count more than `k`, or the length.
@@ -22,7 +22,7 @@ pub(crate) fn find_past<M: Measure>(bytes: &[u8], k: usize) -> usize
     ensures { IsFirstPast (M.weights bytes.now) k result }
 {
     let mut turns = Counter::new();
-    scan::find_past::<M, Chunk>(bytes, k, 0, &mut turns)
+    scan::find_past::<M, WideChunk, Chunk>(bytes, k, 0, &mut turns)
 }
 
 /// The first byte that counts, or the length.

@@ -2,7 +2,7 @@
 //! `count_surrogates`, `from_byte_idx` and `to_byte_idx`. A character takes two units, a surrogate
 //! pair, from U+10000 on, and else one. Language servers count columns in them.
 //!
-//! Each call takes `O(n)` for a text of n bytes, by 16 bytes at a time, and no memory. Every index
+//! Each call takes `O(n)` for a text of n bytes, by 64 bytes at a time, and no memory. Every index
 //! has an answer.
 
 ghost use Rattle.std.specs.Prelude.{◌≡◌, ◌+◌, ◌≤◌, min, length, slice_index_or};

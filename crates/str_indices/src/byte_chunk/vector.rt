@@ -8,21 +8,21 @@ use crate::byte_chunk::ByteChunk;
 use std::simd::prelude::*;
 
 #[inline(always)]
-fn at_least(lanes: u8x16, byte: u8) -> u8x16
-    ensures { MarksLanes 16 result (λ i. nat_le byte (slice_index lanes i)) }
+pub(super) fn at_least<const N: usize>(lanes: Simd<u8, N>, byte: u8) -> Simd<u8, N>
+    ensures { MarksLanes N result (λ i. nat_le byte (slice_index lanes.entry i)) }
 {
     lanes
-        .simd_ge(u8x16::splat(byte))
-        .select(u8x16::splat(1), u8x16::splat(0))
+        .simd_ge(Simd::splat(byte))
+        .select(Simd::splat(1), Simd::splat(0))
 }
 
 #[inline(always)]
-fn at_most(lanes: u8x16, byte: u8) -> u8x16
-    ensures { MarksLanes 16 result (λ i. nat_le (slice_index lanes i) byte) }
+pub(super) fn at_most<const N: usize>(lanes: Simd<u8, N>, byte: u8) -> Simd<u8, N>
+    ensures { MarksLanes N result (λ i. nat_le (slice_index lanes.entry i) byte) }
 {
     lanes
-        .simd_le(u8x16::splat(byte))
-        .select(u8x16::splat(1), u8x16::splat(0))
+        .simd_le(Simd::splat(byte))
+        .select(Simd::splat(1), Simd::splat(0))
 }
 
 impl ByteChunk for u8x16 {

@@ -6,8 +6,8 @@ use Rattle.str_indices.proofs.Vectors.{HasLanes-left}
 use Rattle.str_indices.proofs.byte_chunk.vector.at_least.Goals as goal
 
 pub returns : goal.returns
-returns c =
+returns g c =
     let v = c.args.lanes in
     let b = c.args.byte in
-    subst (λ ms. HasLanes 16 (sel_l ms (replicate 16 1) (replicate 16 0)) (λ k. cond (leb b (get_or v k 0)) 1 0))
-    (sym (tops_compared w8 leb (replicate 16 b) v)) (HasLanes-left 16 leb b v c.fits-lanes.0)
+    subst (λ ms. HasLanes g.row.N (sel_l ms (replicate g.row.N 1) (replicate g.row.N 0)) (λ k. cond (leb b (get_or v k 0)) 1 0))
+    (sym (tops_compared w8 leb (replicate g.row.N b) v)) (HasLanes-left g.row.N leb b v c.fits-lanes.0)
