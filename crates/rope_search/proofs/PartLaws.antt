@@ -13,7 +13,7 @@ use Rattle.rope_search_reports.specs.declared.positions.Place.{Place}
 use Rattle.rope_search_reports.specs.declared.positions.Position.{Position}
 use Rattle.rope_search_reports.specs.Laws.{HasOnePlace}
 use Rattle.rope_search_reports.specs.Text.{bytes_of, IsText}
-use Rattle.rope_search_reports.specs.Position.{line_at, column_at, text_end, IsAt}
+use Rattle.rope_search_reports.specs.Position.{line_at, column_at, text_end, IsAt, IsNowhere, IsPlaceOf}
 use Rattle.rope_search.specs.Session.{BufferState, current_text, with_edit}
 use Rattle.rope_search.specs.Places.{IsBetween, HasNoneBetween, GetsTooLong, IsEdit, IsMarked, IsMarkedBetween, with_replaced}
 use Rattle.rope_search.specs.declared.parts.Part.{Part}
@@ -231,6 +231,14 @@ pub record StandsAt (text : List ℕ) (spot : Position) (place : Place) : Type 0
   pub at : IsAt text (spot.line, spot.column) place.byte_idx
   pub within : place.char_idx ≤ length text
   pub bytes : byte_len (take place.char_idx text) ≡ place.byte_idx
+
+pub stands : (text : List ℕ) (spot : Position) (place : Place) → IsPlaceOf text (spot.line, spot.column) place → StandsAt text spot place
+stands text spot place is = record { at = is.at; within = is.within; bytes = is.bytes }
+
+-- nothing is between two positions where one of them is nowhere
+pub none_between : (text : List ℕ) (from to : Position) → IsNowhere text (from.line, from.column) ⊎ IsNowhere text (to.line, to.column) → HasNoneBetween text from to
+none_between text from to (inl nowhere) before part behind h = nowhere (byte_len before) h.starts
+none_between text from to (inr nowhere) before part behind h = nowhere (byte_len (before ++ part)) h.ends
 
 -- more characters have more bytes
 pub fewer_bytes : (text : List ℕ) (m n : ℕ) → m < n → n ≤ length text → byte_len (take m text) < byte_len (take n text)

@@ -1,13 +1,16 @@
 -- The lines and the rows that make way where changes lead from one text to another.
-use Rattle.std.proofs.Common.{◌≡◌, ℕ, zero, suc, ◌+◌, ◌-◌, ◌≤◌, List, [], ◌∷◌, ◌++◌, length, take, drop, map, inl, inr, refl, sym, ap, subst, ◌∙◌, arith, append_assoc, length-take, max, None, Some}
+use Rattle.std.proofs.Common.{◌≡◌, ℕ, zero, suc, ◌+◌, ◌-◌, ◌≤◌, List, [], ◌∷◌, ◌++◌, length, take, drop, map, inl, inr, refl, sym, ap, subst, ◌∙◌, arith, append_assoc, length-append, length-take, max, None, Some}
 use Rattle.std.specs.Prelude.{slice_get}
 use Rattle.std.proofs.Math.Seq.{take-append_seam, drop-append_seam}
 use Rattle.std.proofs.lemmas.List.{take-append-le}
 use Rattle.str_indices.specs.Text.{byte_len, breaks}
 use Rattle.ropey.specs.Chunks.{is_break}
-use Rattle.rope_search_reports.specs.Text.{bytes_of}
+use Rattle.rope_search_reports.specs.Text.{bytes_of, line_count}
+use Rattle.rope_search_reports.specs.Patches.{AreInTurn, patched}
+use Rattle.rope_search_reports.specs.declared.patches.Patch.{Patch}
+use Rattle.rope_search_reports.proofs.LineLemmas.{lines-counted}
 use Rattle.rope_search_reports.specs.Changes.{AreChanges, ChangesKeepLines, TailsKeepLines}
-use Rattle.rope_search_reports.specs.Report.{line_texts, columns, AreRows}
+use Rattle.rope_search_reports.specs.Report.{line_texts, columns, AreRows, IsReport}
 use Rattle.rope_search_reports.specs.Position.{line_at}
 use Rattle.rope_search_reports.specs.Laws.{HasOneListOfMatches}
 use Rattle.rope_search_reports.specs.Turned.{Lead}
@@ -175,6 +178,43 @@ rows-stretch law pattern old new s lines = λ rows rows' are are'.
       within = omega (arith, lines.within, as-many pattern (line_texts old) rows are);
       within_new = omega (arith, lines.within_new, as-many pattern (line_texts new) rows' are');
     }
+
+-- ---- by one patch
+
+-- a list with a part of another in the place of some of its own
+put-stretch : {A : Type 0} (old new made : List A) (first end : ℕ) → first ≤ end → end ≤ length old → new ≡ take first old ++ made ++ drop end old
+    → IsStretch old new (record { first = first; removed = end - first; added = length made })
+put-stretch old new made first end low within is =
+    let long : length (take first old) ≡ first = omega (arith, length-take first old, low, within) in
+    let long' : length (take first old ++ made) ≡ first + length made = omega (arith, length-append (take first old) made, long) in
+    let all : first + (end - first) ≡ end = omega (arith, low) in
+    record {
+      before =
+          ap (take first) (is ∙ append_assoc (take first old) made (drop end old)) ∙ ap (λ n. take n (take first old ++ (made ++ drop end old))) (sym long)
+          ∙ take-append_seam (take first old) (made ++ drop end old);
+      behind =
+          ap (drop (first + length made)) is ∙ ap (λ n. drop n (take first old ++ made ++ drop end old)) (sym long')
+          ∙ drop-append_seam (take first old ++ made) (drop end old) ∙ ap (λ n. drop n old) (sym all);
+      within = omega (arith, all, within);
+      within_new = omega (arith, ap length is, length-append (take first old ++ made) (drop end old), long');
+    }
+
+pub one-item : {A : Type 0} (xs : List A) → length xs ≡ 1 → (x : A) × (xs ≡ x ∷ [])
+one-item [] one = absurd (omega (arith, one))
+one-item (x ∷ []) one = (x, refl)
+one-item (x ∷ y ∷ xs) one = absurd (omega (arith, one))
+
+-- the only patch tells which rows make way
+pub patch-stretch : HasOneListOfMatches → (pattern old new : List ℕ) (patches : List Patch) (patch : Patch) → patches ≡ patch ∷ [] → AreInTurn 0 (line_count old) patches
+    → ((rows : List (List (ℕ × ℕ))) → IsReport old pattern rows → IsReport new pattern (patched 0 rows patches))
+    → ReplacesIn old new pattern (record { first = patch.first; removed = patch.end - patch.first; added = length patch.made.items })
+patch-stretch law pattern old new patches patch one turn report rows rows' are are' =
+    let turn' : AreInTurn 0 (line_count old) (patch ∷ []) = subst (AreInTurn 0 (line_count old)) one turn in
+    let same : rows' ≡ patched 0 rows (patch ∷ []) =
+    alike law pattern (line_texts new) rows' (patched 0 rows patches) are' (report rows are) ∙ ap (patched 0 rows) one in
+    let none : patch.first - 0 ≡ patch.first = omega arith in
+    put-stretch rows rows' patch.made.items patch.first patch.end turn'.1 (omega (arith, turn'.2, as-many pattern (line_texts old) rows are, lines-counted old))
+    (same ∙ ap (λ n. take n rows ++ patch.made.items ++ drop patch.end rows) none)
 
 -- nothing changed
 pub same-stretch : (pattern old new : List ℕ) (stretch : Stretch) → HasOneListOfMatches → old ≡ new → stretch ≡ none → ReplacesIn old new pattern stretch

@@ -169,7 +169,8 @@ impl Buffer {
     /// Replaces what stands from the first position to the second by a text. The pattern stays, and
     /// of the report the rows of the lines that are touched are made anew. What could be redone is
     /// dropped. `O(log n)`, and linear in the inserted text and in the lines that are touched;
-    /// where the number of lines changes, the rows behind them are moved.
+    /// where the number of lines changes, the rows behind them are moved. Inside a line that lies
+    /// in one chunk, before and after, it goes down the tree twice, and four times under a pattern.
     ///
     /// Errors, which leave the buffer as it was: `Fault::Range` where a position is nowhere in the
     /// text or the second one is before the first, else `Fault::Size` where the new text would have

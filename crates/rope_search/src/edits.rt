@@ -1,7 +1,6 @@
 //! Several edits of a text as one.
-ghost use Rattle.std.specs.Prelude.{◌≡◌, ◌⊎◌, ℕ, List, map, true, false, chars, IsUtf8, Err, IfOk, IfErr, IfNone, IfSome, OnOk, MatchOption};
+ghost use Rattle.std.specs.Prelude.{◌≡◌, ◌⊎◌, ℕ, List, map, true, false, chars, IsUtf8, Err, IfOk, IfErr, IfNone, IfSome, OnOk};
 ghost use Rattle.ropey.specs.Chunks.{text_of};
-ghost use Rattle.rope_search_reports.specs.Position.{IsAt, IsNowhere};
 ghost use Rattle.rope_search_templates.specs.Substitutions.{told};
 ghost use Rattle.rope_search_templates.specs.Substitutions as places;
 ghost use Rattle.rope_search_reports.specs.Changes.{AreChanges};
@@ -9,7 +8,7 @@ ghost use Rattle.rope_search.specs.Edits.{AcceptsEdits, AreUtf8, IsFirstAgainst,
 
 use crate::limits::Limits;
 use rope_search_io::Fault;
-use rope_search_reports::{Position, byte_of};
+use rope_search_reports::{Position, places_of};
 use rope_search_templates::{Replacement, Substitution, substitute_all};
 use ropey::Rope;
 use std::alloc::Global;
@@ -25,20 +24,6 @@ pub struct Edit<'a> {
     pub text: &'a [u8],
 }
 
-/// The byte at which an edit's second position is, by that of its first; none where it is nowhere.
-fn end_of(text: &Rope, edit: &Edit<'_>, start: usize) -> Option<usize>
-    requires { IsAt (text_of text.now) (edit.now.from.line, edit.now.from.column) start }
-    ensures { MatchOption result
-        (IsNowhere (text_of text.now) (edit.now.to.line, edit.now.to.column))
-        (λ end. IsAt (text_of text.now) (edit.now.to.line, edit.now.to.column) end) }
-{
-    // What is inserted takes no second look-up.
-    if edit.to == edit.from {
-        return Some(start);
-    }
-    byte_of(text, edit.to)
-}
-
 /// The bytes between which an edit lies; none where one of its positions is nowhere, or the second
 /// is before the first, or the first before `at`.
 fn span_behind(text: &Rope, at: usize, edit: &Edit<'_>) -> Option<(usize, usize)>
@@ -50,8 +35,8 @@ fn span_behind(text: &Rope, at: usize, edit: &Edit<'_>) -> Option<(usize, usize)
     // A law, and the text's facts, for the proof alone.
     rope_search_reports::laws::one_place();
     let _ = text.len_bytes();
-    let start = byte_of(text, edit.from)?;
-    let end = end_of(text, edit, start)?;
+    let (from, to) = places_of(text, edit.from, edit.to)?;
+    let (start, end) = (from.byte_idx, to.byte_idx);
     if start < at || end < start {
         return None;
     }

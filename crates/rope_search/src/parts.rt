@@ -8,7 +8,7 @@ ghost use Rattle.rope_search_reports.specs.Changes.{AreChanges};
 ghost use Rattle.rope_search.specs.Places.{HasNoneBetween, IsMarked, IsMarkedBetween, with_replaced};
 
 use rope_search_io::Fault;
-use rope_search_reports::{Change, Place, Position, place_of};
+use rope_search_reports::{Change, Place, Position, places_of};
 use ropey::Rope;
 
 /// A part of a text: from one place to another.
@@ -30,12 +30,7 @@ impl Part {
     {
         // A law, for the proof alone.
         rope_search_reports::laws::one_place();
-        let start = place_of(text, from)?;
-        let end = if to == from {
-            start
-        } else {
-            place_of(text, to)?
-        };
+        let (start, end) = places_of(text, from, to)?;
         if end.char_idx < start.char_idx {
             return None;
         }

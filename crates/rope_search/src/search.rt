@@ -18,7 +18,7 @@ ghost use Rattle.rope_search.specs.Histories.{AreReplacements};
 ghost use Rattle.rope_search.specs.Stretches.{ReplacesIn, lines_spanned};
 
 use crate::limits::Limits;
-use crate::stretches::{Stretch, stretch_of};
+use crate::stretches::{Stretch, stretch_by};
 use rope_search_io::Fault;
 use rope_search_reports::{
     Change, Changes, Finder, Groups, Lines, Patch, Position, Row, find_all, find_from, find_spans,
@@ -159,7 +159,7 @@ impl Search {
         let len = new.len_lines();
         let patches = patches_of(tick, alloc, &mut self.finder, old, new, changes)?;
         let room = room_for(alloc, &mut self.rows, &patches, len)?;
-        let changed = stretch_of(old, new, changes);
+        let changed = stretch_by(old, new, changes, &patches);
         Ok(Patches {
             patches,
             room,

@@ -1,13 +1,15 @@
 //! Which rows of a report others took the place of.
 ghost use Rattle.std.specs.Prelude.{◌≡◌, ◌≤◌, List, ℕ, [], ◌∷◌};
 ghost use Rattle.ropey.specs.Chunks.{text_of};
-ghost use Rattle.rope_search_reports.specs.Text.{bytes_of};
-ghost use Rattle.rope_search_reports.specs.Report.{line_texts};
+ghost use Rattle.rope_search_reports.specs.Text.{bytes_of, line_count};
+ghost use Rattle.rope_search_reports.specs.Changes.{AreChanges};
+ghost use Rattle.rope_search_reports.specs.Patches.{AreInTurn, made_by, patched};
+ghost use Rattle.rope_search_reports.specs.Report.{IsReport, line_texts};
 ghost use Rattle.rope_search_reports.specs.Turned.{Lead, lines_put};
 ghost use Rattle.rope_search.specs.Stretches.{IsStretch, ReplacesIn, hull_of, lines_spanned};
 ghost use Rattle.rope_search.specs.Stretches as stretches;
 
-use rope_search_reports::Change;
+use rope_search_reports::{Change, Patch};
 use ropey::Rope;
 
 /// Rows of a report that others took the place of: all rows before them are as they were, and so
@@ -87,7 +89,7 @@ fn lines_by(old: &Rope, new: &Rope, change: Change) -> Stretch
 /// The rows of a report that make way where changes lead to another text: those of the lines from
 /// where the first change starts to where the last ends. Requires changes that lead from the old
 /// text to the new one. `O(log n)`.
-pub fn stretch_of(old: &Rope, new: &Rope, changes: &[Change]) -> Stretch
+fn stretch_of(old: &Rope, new: &Rope, changes: &[Change]) -> Stretch
     requires { Lead changes.now (text_of old.now) (text_of new.now) }
     ensures rows { (pattern : List ℕ)
         → ReplacesIn (text_of old.now) (text_of new.now) pattern result }
@@ -99,5 +101,32 @@ pub fn stretch_of(old: &Rope, new: &Rope, changes: &[Change]) -> Stretch
     match hull(changes) {
         None => Stretch::none(),
         Some(change) => lines_by(old, new, change),
+    }
+}
+
+/// The rows of a report that make way for its patches where changes lead to another text, as
+/// `stretch_of` has them. Those of one change are told by its patch, without a look-up.
+pub fn stretch_by(old: &Rope, new: &Rope, changes: &[Change], patches: &[Patch]) -> Stretch
+    requires led { Lead changes.now (text_of old.now) (text_of new.now) }
+    requires turn { AreInTurn 0 (line_count (text_of old.now)) patches.now }
+    requires few { (n : ℕ) → AreChanges changes.now 0 0 (text_of old.now) (text_of new.now) n
+        → made_by patches.now ≤ n }
+    ensures rows { (pattern : List ℕ) → ((rows : List (List (ℕ × ℕ)))
+        → IsReport (text_of old.now) pattern rows
+        → IsReport (text_of new.now) pattern (patched 0 rows patches.now))
+        → ReplacesIn (text_of old.now) (text_of new.now) pattern result }
+    ensures added { result.added ≤ lines_spanned (bytes_of (text_of new.now)) changes.now }
+{
+    // Laws, and the text's facts, for the proof alone.
+    rope_search_reports::laws::one_list_of_matches();
+    let _ = new.len_bytes();
+    if changes.len() != 1 || patches.len() != 1 {
+        return stretch_of(old, new, changes);
+    }
+    let patch = &patches[0];
+    Stretch {
+        first: patch.first,
+        removed: patch.end - patch.first,
+        added: patch.made.len(),
     }
 }

@@ -14,7 +14,7 @@ use Rattle.rope_search_reports.specs.Pattern.{FindsMatch}
 use Rattle.rope_search_reports.specs.Position.{line_at, line_start, line_text, text_end}
 use Rattle.rope_search_reports.specs.Report.{line_texts, IsRow, AreRows}
 use Rattle.rope_search_reports.specs.Ticks.{Ticks, MakesAsMany, MakesAtMost}
-use Rattle.rope_search_reports.specs.Drafts.{AddsRows, AreBare, HasNoneBetween, lines_between}
+use Rattle.rope_search_reports.specs.Drafts.{AddsRows, AreBare, FindsNoneBetween, lines_between}
 use Rattle.rope_search_reports.proofs.TextPlaces.{PlaceLaws}
 use Rattle.rope_search_reports.proofs.ChangeLemmas.{dropped, two}
 use Rattle.rope_search_reports.proofs.LineLemmas.{byte_len-one, lines-counted, lines-in-place}
@@ -25,11 +25,11 @@ use Rattle.rope_search_reports.proofs.ReportLaws.{AreRows-join}
 use Rattle.rope_search_reports.proofs.RowLemmas.{columns_of, last-row, row-is}
 
 -- what a regex tells of the tree of a pattern is told of the pattern
-none-between : (pattern content : List ℕ) (from place : ℕ) (tree : Tree) → SpellsTree pattern tree → HasNoMatchBetween tree content from place → HasNoneBetween pattern content from place
+none-between : (pattern content : List ℕ) (from place : ℕ) (tree : Tree) → SpellsTree pattern tree → HasNoMatchBetween tree content from place → FindsNoneBetween pattern content from place
 none-between pattern content from place tree spells none start end behind before = record { tree = tree; spells = spells; finds = none start end behind before }
 
 pub none-told : (pattern content content' : List ℕ) (from from' : ℕ) (tree : Tree) (place : Option ℕ) → SpellsTree pattern tree → content' ≡ content → from' ≡ from
-    → IfSome place (HasNoMatchBetween tree content' from') → IfSome place (HasNoneBetween pattern content from)
+    → IfSome place (HasNoMatchBetween tree content' from') → IfSome place (FindsNoneBetween pattern content from)
 none-told pattern content content' from from' tree None spells same start told = tt
 none-told pattern content content' from from' tree (Some place) spells same start told =
     let there : HasNoMatchBetween tree content from' place = subst (λ cs. HasNoMatchBetween tree cs from' place) same told in
@@ -42,7 +42,7 @@ bare-row finds pattern line is =
     row-is pattern line is.tree [] is.spells (last-row is.tree line None [] has (nothing is.finds) (Searched-start (columns_of (bytes_of line)) is.tree (bytes_of line) has))
 
 -- where no part of a text has a match, the empty text has none
-pub bare-empty : AllHaveFinds → (pattern content : List ℕ) (place : ℕ) → HasNoneBetween pattern content 0 place → IsRow pattern [] []
+pub bare-empty : AllHaveFinds → (pattern content : List ℕ) (place : ℕ) → FindsNoneBetween pattern content 0 place → IsRow pattern [] []
 bare-empty finds pattern content place none = bare-row finds pattern [] (none 0 0 (omega arith) (omega arith))
 
 -- where lines start
@@ -63,7 +63,7 @@ module _ (law : PlaceLaws) (rises : RisesWithIndex (break_ends is_break)) (text 
             omega (arith, next, start)
       ]
 
-  pub bare-line : AllHaveFinds → (pattern : List ℕ) (first place line : ℕ) → first ≤ line → line < line_at text place → HasNoneBetween pattern (bytes_of text) (line_start text first) place
+  pub bare-line : AllHaveFinds → (pattern : List ℕ) (first place line : ℕ) → first ≤ line → line < line_at text place → FindsNoneBetween pattern (bytes_of text) (line_start text first) place
       → IsRow pattern (line_text text line) []
   bare-line finds pattern first place line behind before none =
       let inside = line_inside text place in
@@ -152,9 +152,9 @@ at-most a b n old mid new one other fits =
 
 -- the lines of a text that end before a place up to which nothing matches
 pub bare-front : PlaceLaws → RisesWithIndex (break_ends is_break) → AllHaveFinds → (pattern bytes : List ℕ) (place count : ℕ) → IsUtf8 bytes
-    → count ≡ line_at (chars bytes) place → HasNoneBetween pattern bytes 0 place → AreBare pattern (chars bytes) 0 count
+    → count ≡ line_at (chars bytes) place → FindsNoneBetween pattern bytes 0 place → AreBare pattern (chars bytes) 0 count
 bare-front law rises finds pattern bytes place count utf8 is none line low high =
-    let own : HasNoneBetween pattern (bytes_of (chars bytes)) 0 place = subst (λ bs. HasNoneBetween pattern bs 0 place) (sym (encodes-chars bytes utf8)) none in
+    let own : FindsNoneBetween pattern (bytes_of (chars bytes)) 0 place = subst (λ bs. FindsNoneBetween pattern bs 0 place) (sym (encodes-chars bytes utf8)) none in
     bare-line law rises (chars bytes) finds pattern 0 place line low (omega (arith, high, is)) own
 
 -- they are lines of the text that the chunk shows
@@ -169,7 +169,7 @@ bare-shown pattern text rest line count shows inside bare l low high =
 
 -- so those that end there before such a place have no match
 pub bare-ahead : PlaceLaws → RisesWithIndex (break_ends is_break) → AllHaveFinds → (pattern bytes text rest : List ℕ) (line place count : ℕ) → IsUtf8 bytes → chars bytes ≡ rest
-    → count ≡ line_at (chars bytes) place → HasNoneBetween pattern bytes 0 place → ((k : ℕ) → k < breaks is_break rest → line_text text (line + k) ≡ line_text rest k)
+    → count ≡ line_at (chars bytes) place → FindsNoneBetween pattern bytes 0 place → ((k : ℕ) → k < breaks is_break rest → line_text text (line + k) ≡ line_text rest k)
     → AreBare pattern text line (line + count)
 bare-ahead law rises finds pattern bytes text rest line place count utf8 same is none shows =
     let own : AreBare pattern rest 0 count = subst (λ t. AreBare pattern t 0 count) same (bare-front law rises finds pattern bytes place count utf8 is none) in
@@ -185,12 +185,12 @@ ahead-within bytes text rest line place count same is few =
 
 -- ---- lines from one on
 
-module _ (law : PlaceLaws) (pattern text : List ℕ) (line start place count : ℕ) (start_is : start ≡ line_start text line) (none : HasNoneBetween pattern (bytes_of text) start place)
+module _ (law : PlaceLaws) (pattern text : List ℕ) (line start place count : ℕ) (start_is : start ≡ line_start text line) (none : FindsNoneBetween pattern (bytes_of text) start place)
     (count_is : count ≡ line_at text place - line) where
   -- those that end before a place up to which nothing matches
   pub bare-from : RisesWithIndex (break_ends is_break) → AllHaveFinds → AreBare pattern text line (line + count)
   bare-from rises finds l low high =
-      bare-line law rises text finds pattern line place l low (omega (arith, low, high, count_is)) (subst (λ n. HasNoneBetween pattern (bytes_of text) n place) start_is none)
+      bare-line law rises text finds pattern line place l low (omega (arith, low, high, count_is)) (subst (λ n. FindsNoneBetween pattern (bytes_of text) n place) start_is none)
 
   -- they are not all
   pub from-within : line < line_count text → line + count < line_count text

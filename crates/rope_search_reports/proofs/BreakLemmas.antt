@@ -5,7 +5,7 @@ use Rattle.std.proofs.Math.Seq.{take-append_seam, get_or-append_seam}
 use Rattle.std.proofs.lemmas.List.{get_or_append_left}
 use Rattle.str_indices.specs.FirstBreak.{IsBreak}
 use Rattle.ropey.specs.Chunks.{is_break}
-use Rattle.rope_search_reports.specs.Drafts.{IsLine}
+use Rattle.rope_search_reports.specs.Drafts.{HasOwnText}
 
 plain_at : (own : List ℕ) (i : ℕ) → NonePass is_break own → i < length own → is_break (get_or own i 0) ≡ false
 plain_at [] i none inside = absurd (omega (arith, inside))
@@ -39,7 +39,7 @@ crlf-by line own (c ∷ d ∷ []) parts plain (inr is) some lf cr =
     ap (λ n. take n line) cut ∙ ap (take (length own)) parts ∙ take-append_seam own (c ∷ d ∷ [])
 crlf-by line own (c ∷ d ∷ e ∷ es) parts plain (inr is) some lf cr = absurd is
 
-pub without-crlf : (line own : List ℕ) → IsLine line own → 1 < length line → get_or line (length line - 1) 0 ≡ 10 → get_or line (length line - 2) 0 ≡ 13
+pub without-crlf : (line own : List ℕ) → HasOwnText line own → 1 < length line → get_or line (length line - 1) 0 ≡ 10 → get_or line (length line - 2) 0 ≡ 13
     → take (length line - 2) line ≡ own
 without-crlf line own is some lf cr = crlf-by line own is.one is.parts is.plain is.ended some lf cr
 
@@ -67,7 +67,7 @@ one-by line own (c ∷ d ∷ []) parts plain (inr is) some last not_both =
     absurd (not_both lf (omega (arith, sizes)) cr)
 one-by line own (c ∷ d ∷ e ∷ es) parts plain (inr is) some last not_both = absurd is
 
-pub without-one : (line own : List ℕ) → IsLine line own → 0 < length line → (get_or line (length line - 1) 0 ≡ 10) ⊎ (get_or line (length line - 1) 0 ≡ 13)
+pub without-one : (line own : List ℕ) → HasOwnText line own → 0 < length line → (get_or line (length line - 1) 0 ≡ 10) ⊎ (get_or line (length line - 1) 0 ≡ 13)
     → (get_or line (length line - 1) 0 ≡ 10 → 1 < length line → get_or line (length line - 2) 0 ≡ 13 → ⊥) → take (length line - 1) line ≡ own
 without-one line own is some last not_both = one-by line own is.one is.parts is.plain is.ended some (is_break-of _ last) not_both
 
@@ -93,5 +93,5 @@ none-by line own (c ∷ d ∷ []) parts (inr is) not_last =
     absurd (not_last (ap is_break lf))
 none-by line own (c ∷ d ∷ e ∷ es) parts (inr is) not_last = absurd is
 
-pub without-none : (line own : List ℕ) → IsLine line own → (is_break (get_or line (length line - 1) 0) ≡ true → ⊥) → line ≡ own
+pub without-none : (line own : List ℕ) → HasOwnText line own → (is_break (get_or line (length line - 1) 0) ≡ true → ⊥) → line ≡ own
 without-none line own is not_last = none-by line own is.one is.parts is.ended not_last

@@ -4,7 +4,7 @@ use Rattle.std.proofs.Math.Seq.{take-append_seam}
 use Rattle.ropey.specs.Chunks.{text_of}
 use Rattle.rope_search_reports.specs.Ticks.{Ticks}
 use Rattle.rope_search_reports.specs.Report.{IsRow, AreRows}
-use Rattle.rope_search_reports.specs.Drafts.{AddsRows, IsLine}
+use Rattle.rope_search_reports.specs.Drafts.{AddsRows, HasOwnText}
 use Rattle.rope_search_reports.proofs.PartLemmas.{AreLines}
 use Rattle.rope_search_reports.proofs.ReportLaws.{AreRows-join}
 
@@ -43,7 +43,7 @@ record First (line : List (List ℕ)) (after : List (List (List ℕ))) (left : L
   pub own : List ℕ
   pub others : List (List ℕ)
   pub parts : left ≡ own ∷ others
-  pub is : IsLine (text_of line) own
+  pub is : HasOwnText (text_of line) own
   pub lines : AreLines after others
 
 first-of : (line : List (List ℕ)) (after ahead : List (List (List ℕ))) (left : List (List ℕ)) → AreLines ahead left → ahead ≡ line ∷ after → First line after left
@@ -55,7 +55,7 @@ first-of line after ahead left lines e = by left (subst (λ (ls : List (List (Li
 
 pub RowsSoFar-more : (pattern : List ℕ) (owns : List (List ℕ)) (ahead after : List (List (List ℕ))) (count : ℕ) (before rows rows' : List (List (ℕ × ℕ))) (row : List (ℕ × ℕ))
     (old mid new : Ticks) (line : List (List ℕ)) (shown : List ℕ)
-    → RowsSoFar pattern owns ahead count before rows old mid → ahead ≡ line ∷ after → ((own : List ℕ) → IsLine (text_of line) own → shown ≡ own) → IsRow pattern shown row
+    → RowsSoFar pattern owns ahead count before rows old mid → ahead ≡ line ∷ after → ((own : List ℕ) → HasOwnText (text_of line) own → shown ≡ own) → IsRow pattern shown row
     → rows' ≡ rows ++ row ∷ [] → new.count ≡ min (mid.count + 1) (2 ^ 64 - 1) → new.wholes ≡ mid.wholes → RowsSoFar pattern owns after (count + 1) before rows' old new
 RowsSoFar-more pattern owns ahead after count before rows rows' row old mid new line shown sofar next own_is is rows_are ticks wholes =
     let first = first-of line after ahead sofar.left sofar.lines next in

@@ -13,7 +13,7 @@ use Rattle.ropey.specs.Slices.{pieces_from_char, pieces_to_char, clip, char_of_l
 use Rattle.rope_search_reports.specs.Text.{line_count}
 use Rattle.rope_search_reports.specs.Report.{line_texts}
 use Rattle.rope_search_reports.specs.Position.{line_start, line_text}
-use Rattle.rope_search_reports.specs.Drafts.{IsLine}
+use Rattle.rope_search_reports.specs.Drafts.{HasOwnText}
 use Rattle.rope_search_reports.proofs.TextPlaces.{PlaceLaws}
 use Rattle.rope_search_reports.proofs.LineLemmas.{lines-counted, byte_len-append, lines-in-place}
 use Rattle.rope_search_reports.proofs.PlaceLemmas.{front_of}
@@ -96,7 +96,7 @@ module _ (law : PlaceLaws) where
       ∙ ap (λ n. drop n (before ++ part)) starts ∙ drop-append_seam before part
 
   -- a line's pieces are its text and the break that ends it
-  pub line-is : (pieces : List (List ℕ)) (line : ℕ) → line < line_count (text_of pieces) → IsLine (text_of (line_pieces pieces line)) (line_text (text_of pieces) line)
+  pub line-is : (pieces : List (List ℕ)) (line : ℕ) → line < line_count (text_of pieces) → HasOwnText (text_of (line_pieces pieces line)) (line_text (text_of pieces) line)
   line-is pieces line inside =
       let text = text_of pieces in
       let own = line_text text line in
@@ -138,17 +138,17 @@ module _ (law : PlaceLaws) where
 -- of each of these lines, given as pieces, this is the text
 abbrev pub AreLines : List (List (List ℕ)) → List (List ℕ) → Type 0
 AreLines [] [] = Unit {0}
-AreLines (line ∷ lines) (own ∷ owns) = IsLine (text_of line) own × AreLines lines owns
+AreLines (line ∷ lines) (own ∷ owns) = HasOwnText (text_of line) own × AreLines lines owns
 AreLines lines owns = ⊥
 
 each-line : (pieces_at : ℕ → List (List ℕ)) (owns : List (List ℕ)) (from count : ℕ) → count ≡ length owns
-    → ((k : ℕ) → k < length owns → IsLine (text_of (pieces_at (from + k))) (slice_index_or owns k []))
+    → ((k : ℕ) → k < length owns → HasOwnText (text_of (pieces_at (from + k))) (slice_index_or owns k []))
     → AreLines (map pieces_at (range_with_len from count)) owns
 each-line pieces_at [] from zero counted is = tt
 each-line pieces_at [] from (suc count) counted is = absurd (omega (arith, counted))
 each-line pieces_at (own ∷ owns) from zero counted is = absurd (omega (arith, counted))
 each-line pieces_at (own ∷ owns) from (suc count) counted is =
-    let P : ℕ → ℕ → Type 0 = λ i k. IsLine (text_of (pieces_at i)) (slice_index_or (own ∷ owns) k []) in
+    let P : ℕ → ℕ → Type 0 = λ i k. HasOwnText (text_of (pieces_at i)) (slice_index_or (own ∷ owns) k []) in
     let here : from + 0 ≡ from = omega arith in (
       subst (λ i. P i 0) here (is 0 (omega arith)),
       each-line pieces_at owns (from + 1) count (omega (arith, counted)) (λ k below.
@@ -162,7 +162,7 @@ lines-are law pieces =
     let counted = lines-counted text in
     each-line (line_pieces pieces) (line_texts text) 0 (line_count text) (sym counted) (λ k below.
     let here : k ≡ 0 + k = omega arith in
-    subst (λ i. IsLine (text_of (line_pieces pieces i)) (slice_index_or (line_texts text) k [])) here (line-is law pieces k (omega (arith, below, counted))))
+    subst (λ i. HasOwnText (text_of (line_pieces pieces i)) (slice_index_or (line_texts text) k [])) here (line-is law pieces k (omega (arith, below, counted))))
 
 pub lines-from : (n : ℕ) (lines : List (List (List ℕ))) (owns : List (List ℕ)) → AreLines lines owns → AreLines (drop n lines) (drop n owns)
 lines-from zero lines owns are = are

@@ -18,15 +18,15 @@ use Rattle.rope_search_reports.specs.declared.line.Line.{Line}
 use Rattle.rope_search_reports.specs.declared.line.Line.TheVariants.{Whole, Parted}
 
 -- a line with the break that ends it, if one does: this is its text, the break left off
-pub record IsLine (line own : List ℕ) : Type 0 where
+pub record HasOwnText (line own : List ℕ) : Type 0 where
   pub one : List ℕ
   pub parts : line ≡ own ++ one
   pub plain : NonePass is_break own
   pub ended : (one ≡ []) ⊎ IsBreak is_break one []
 
 -- no part of a content from one place up to another has a match, searched by itself
-abbrev pub HasNoneBetween : List ℕ → List ℕ → ℕ → ℕ → Type 0
-HasNoneBetween pattern content from to =
+abbrev pub FindsNoneBetween : List ℕ → List ℕ → ℕ → ℕ → Type 0
+FindsNoneBetween pattern content from to =
     (start end : ℕ) → from ≤ start → end ≤ to
     → FindsMatch pattern (between start end content) 0 None
 

@@ -8,7 +8,7 @@ ghost use Rattle.ropey_walk.specs.Slices.{slice_text};
 ghost use Rattle.rope_search_reports.specs.Text.{line_count};
 ghost use Rattle.rope_search_reports.specs.Report.{line_texts};
 ghost use Rattle.rope_search_reports.specs.Position.{line_text};
-ghost use Rattle.rope_search_reports.specs.Drafts.{HoldsText, IsLine, IsRestOf, ShowsLines, own_text};
+ghost use Rattle.rope_search_reports.specs.Drafts.{HasOwnText, HoldsText, IsRestOf, ShowsLines, own_text};
 
 use crate::line::Line;
 use crate::line_start::LineStart;
@@ -46,7 +46,7 @@ impl<'a> Model for Walk<'a> {
 
 /// A line's text: the line without the break that ends it, where it has one. `O(log n)`.
 pub(crate) fn without_break(line: RopeSlice<'_>) -> RopeSlice<'_>
-    ensures { (own : List ℕ) → IsLine (slice_text line.entry) own → slice_text result ≡ own }
+    ensures { (own : List ℕ) → HasOwnText (slice_text line.entry) own → slice_text result ≡ own }
 {
     let len = line.len_chars();
     if len == 0 {

@@ -13,7 +13,7 @@ ghost use Rattle.rope_search_reports.specs.Report.{IsRow};
 ghost use Rattle.rope_search_reports.specs.Matches.{AreGroups, IsMatches};
 ghost use Rattle.rope_search_reports.specs.Replacement.{AreMatchesIn, alone};
 ghost use Rattle.rope_search_reports.specs.Finders.{matches_in};
-ghost use Rattle.rope_search_reports.specs.Drafts.{AreBare, HasNoneBetween, HoldsText, own_text};
+ghost use Rattle.rope_search_reports.specs.Drafts.{AreBare, FindsNoneBetween, HoldsText, own_text};
 
 use super::Lines;
 use super::counted::CountedRegex;
@@ -106,7 +106,7 @@ impl Finder {
     /// with, and by no search; `None` where no such literals are known. Time is linear in the text
     /// up to the place.
     fn no_match_before(&self, text: &str) -> Option<usize>
-        ensures no_match { IfSome result (λ place. HasNoneBetween self.now text.now 0 place) }
+        ensures no_match { IfSome result (λ place. FindsNoneBetween self.now text.now 0 place) }
         ensures within { IfSome result (λ place. place ≤ length text.now) }
     {
         self.regex.no_match_before(text, text.len(), 0)
@@ -116,7 +116,7 @@ impl Finder {
     fn no_match_from(&self, text: RopeSlice<'_>, from: usize) -> Option<usize>
         requires { from ≤ byte_len (slice_text text) }
         ensures no_match { IfSome result (λ place.
-            HasNoneBetween self.now (slice_bytes text.entry) from place) }
+            FindsNoneBetween self.now (slice_bytes text.entry) from place) }
         ensures within { IfSome result (λ place. place ≤ byte_len (slice_text text.entry)) }
     {
         self.regex

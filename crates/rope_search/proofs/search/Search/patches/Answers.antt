@@ -1,5 +1,6 @@
 use Rattle.std.proofs.Common.{◌^◌, ◌<◌, length, sym, subst, arith}
 use Rattle.ropey.specs.Chunks.{text_of}
+use Rattle.rope_search_reports.specs.Report.{IsReport}
 use Rattle.rope_search_reports.specs.Patches.{patched, AreInTurn, growth_by, made_by}
 use Rattle.rope_search.specs.Searched.{HasRoom}
 use Rattle.rope_search.proofs.PatchLemmas.{growth-made, made-within}
@@ -36,4 +37,6 @@ returns-clause-few c =
     omega (arith, few, c.len_bytes.ensures.bytes, c.len_bytes.ensures.fits)
 
 pub returns-clause-changed : goal.returns-clause-changed
-returns-clause-changed c = c.stretch_of-changed.ensures.rows c.args.self.now.finder
+returns-clause-changed c =
+    c.stretch_by-changed.ensures.rows c.args.self.now.finder (λ rows is.
+    subst (λ ps. IsReport (text_of c.args.new.now) c.args.self.now.finder (patched 0 rows ps)) (sym c.deref-2.ensures.value) (c.in_ok-patches.ensures.report rows is))

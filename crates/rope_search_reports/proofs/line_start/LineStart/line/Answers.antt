@@ -2,7 +2,7 @@ use Rattle.std.proofs.Common.{◌≡◌, take, chars, sym, ap, subst, ◌∙◌}
 use Rattle.ropey.specs.Chunks.{is_break, text_of}
 use Rattle.ropey_walk.specs.Slices.{slice_pieces, slice_text}
 use Rattle.str_indices.specs.FirstBreak.{IsFirstBreak}
-use Rattle.rope_search_reports.specs.Drafts.{IsLine}
+use Rattle.rope_search_reports.specs.Drafts.{HasOwnText}
 use Rattle.rope_search_reports.specs.Position.{line_text}
 use Rattle.rope_search_reports.proofs.PartLemmas.{line-is}
 use Rattle.rope_search_reports.proofs.StartLemmas.{line-here}
@@ -22,6 +22,6 @@ pub returns-in-None-clause-own : goal.returns-in-None-clause-own
 returns-in-None-clause-own c =
     let text = slice_text c.args.text.now in
     let own = line_text text c.args.line_idx in
-    let is : IsLine (slice_text c.line.result) own =
-    subst (λ ps. IsLine (text_of ps) own) (sym c.line.ensures) (line-is places (slice_pieces c.args.text.now) c.args.line_idx c.requires.below) in
+    let is : HasOwnText (slice_text c.line.result) own =
+    subst (λ ps. HasOwnText (text_of ps) own) (sym c.line.ensures) (line-is places (slice_pieces c.args.text.now) c.args.line_idx c.requires.below) in
     c.of.ensures.text ∙ c.without_break.ensures own is

@@ -5,7 +5,7 @@ use Rattle.ropey_walk.specs.Slices.{slice_text}
 use Rattle.regex_cursor.proofs.TreeLaws.{finds_of_trees}
 use Rattle.rope_search_reports.specs.Text.{bytes_of, line_count}
 use Rattle.rope_search_reports.specs.Position.{line_at, line_start}
-use Rattle.rope_search_reports.specs.Drafts.{HasNoneBetween}
+use Rattle.rope_search_reports.specs.Drafts.{FindsNoneBetween}
 use Rattle.rope_search_reports.proofs.BareLemmas.{bare-from, from-empty, from-within, starts-within}
 use Rattle.rope_search_reports.proofs.TextPlaces.{places}
 use Rattle.rope_search_reports.proofs.rows.engine.Finder.lines_from.Goals as goal
@@ -22,7 +22,7 @@ returns-in-Some-clause-within c =
     let own : slice_text c.text-text.result ≡ text = c.text-text.ensures in
     let line_is = c.line_idx-line_idx.ensures.line in
     let start_is : c.line_to_byte-start.result ≡ line_start text c.args.walk.now.line = c.line_to_byte-start.ensures ∙ ap (λ t. line_start t c.line_idx-line_idx.result) own ∙ ap (line_start text) line_is in
-    let none = subst (λ t. HasNoneBetween c.args.self.now (bytes_of t) c.line_to_byte-start.result c.in-Some.place) own c.in-Some.ensures.no_match in
+    let none = subst (λ t. FindsNoneBetween c.args.self.now (bytes_of t) c.line_to_byte-start.result c.in-Some.place) own c.in-Some.ensures.no_match in
     let at : c.byte_to_line.result ≡ line_at text c.in-Some.place = c.byte_to_line.ensures ∙ ap (λ t. line_at t c.in-Some.place) own in
     from-within places c.args.self.now text c.args.walk.now.line c.line_to_byte-start.result c.in-Some.place c.saturating_sub.result start_is none (omega (arith, c.saturating_sub.ensures, at, line_is)) c.requires
 
@@ -32,7 +32,7 @@ returns-in-Some-clause-bare c =
     let own : slice_text c.text-text.result ≡ text = c.text-text.ensures in
     let line_is = c.line_idx-line_idx.ensures.line in
     let start_is : c.line_to_byte-start.result ≡ line_start text c.args.walk.now.line = c.line_to_byte-start.ensures ∙ ap (λ t. line_start t c.line_idx-line_idx.result) own ∙ ap (line_start text) line_is in
-    let none = subst (λ t. HasNoneBetween c.args.self.now (bytes_of t) c.line_to_byte-start.result c.in-Some.place) own c.in-Some.ensures.no_match in
+    let none = subst (λ t. FindsNoneBetween c.args.self.now (bytes_of t) c.line_to_byte-start.result c.in-Some.place) own c.in-Some.ensures.no_match in
     let at : c.byte_to_line.result ≡ line_at text c.in-Some.place = c.byte_to_line.ensures ∙ ap (λ t. line_at t c.in-Some.place) own in
     bare-from places c.args.self.now text c.args.walk.now.line c.line_to_byte-start.result c.in-Some.place c.saturating_sub.result start_is none (omega (arith, c.saturating_sub.ensures, at, line_is))
     (to_byte_idx_is_monotone-lines is_break) finds_of_trees
@@ -43,7 +43,7 @@ returns-in-Some-clause-empty c =
     let own : slice_text c.text-text.result ≡ text = c.text-text.ensures in
     let line_is = c.line_idx-line_idx.ensures.line in
     let start_is : c.line_to_byte-start.result ≡ line_start text c.args.walk.now.line = c.line_to_byte-start.ensures ∙ ap (λ t. line_start t c.line_idx-line_idx.result) own ∙ ap (line_start text) line_is in
-    let none = subst (λ t. HasNoneBetween c.args.self.now (bytes_of t) c.line_to_byte-start.result c.in-Some.place) own c.in-Some.ensures.no_match in
+    let none = subst (λ t. FindsNoneBetween c.args.self.now (bytes_of t) c.line_to_byte-start.result c.in-Some.place) own c.in-Some.ensures.no_match in
     let at : c.byte_to_line.result ≡ line_at text c.in-Some.place = c.byte_to_line.ensures ∙ ap (λ t. line_at t c.in-Some.place) own in
     from-empty places c.args.self.now text c.args.walk.now.line c.line_to_byte-start.result c.in-Some.place c.saturating_sub.result start_is none (omega (arith, c.saturating_sub.ensures, at, line_is)) finds_of_trees
 
