@@ -1,6 +1,6 @@
 """Which rows of its report the library tells as replaced, beside what the model knows of the texts before and after."""
 from library import reply
-from protocol import Session, lines_of, parts_replaced, place_of, position_at, rows_of
+from protocol import Session, lines_of, parts_replaced, place_of, rows_of
 
 CHANGING = ("text", "edit", "undo", "redo", "pattern", "off", "replace")
 

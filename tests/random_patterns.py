@@ -1,6 +1,6 @@
 """Patterns at random, as trees, and haystacks in which they may be found."""
 from walks import LOOKS, Alternation, Concat, Empty, Group, Look, Program, Repeat, Set, is_digit, is_space, is_word
-from walks import may_be_empty, spelled
+from walks import may_be_empty
 
 CHARACTERS = "aaabbbx3_éせ🐸 \r\n"
 ESCAPES = {"\r": "\\r", "\n": "\\n"}

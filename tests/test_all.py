@@ -14,7 +14,7 @@ from harness import short, test
 from memory import counted
 from random_patterns import Maker, character
 from test_searches import asked_at_random, pairs
-from walks import LOOKS, Alternation, Concat, Empty, Look, Repeat, Search, Set, spelled
+from walks import Alternation, Concat, Empty, Look, Repeat, Search, Set, spelled
 
 SIZES = (0, 1, 2, 3)  # how many bytes a piece has; 0: all are one piece
 RANDOM_CASES = 4_000

@@ -1,14 +1,17 @@
 """What searches backwards find, of one pattern or of several, on bin/search-driver: of the matches that end at the end
 of the span the least start, then the least pattern, in haystacks that lie in pieces, and perhaps in slices and spans
-and under settings. Both engines over automata must answer so too.
+and under settings. Both engines over automata must answer so too, and the automaton of the program turned round, by
+caches of four capacities: it may also quit before a byte of 128 or more, where a pattern has `\\b` or `\\B`, and give
+up where its cache is small.
 
 Its answers are those that stand here, and those of the model of tests/walks.py to cases at random and to all spans of
 short haystacks.
 """
 import itertools
 import random
+import re
 
-from driver import WANT, Case, Settings, check_memory, line_of, problems, written
+from driver import WANT, Case, Settings, answers, check_memory, line_of, problems, written
 from harness import short, test
 from random_patterns import Maker
 from test_all import ANYWHERE, AT_START, FIRST, SECOND, SMALL_HAYSTACKS, SMALL_TREES, model_of
@@ -16,7 +19,9 @@ from test_searches import asked_at_random, pairs
 from walks import spelled
 
 SIZES = (0, 1, 2, 3, 5)  # how many bytes a piece has; 0: all are one piece
-RANDOM_CASES = 4_000
+LITTLE_ROOM, ALL_ROOM = (0, 700), 2**64 - 1  # of caches, in bytes
+CAPACITIES = (*LITTLE_ROOM, None, ALL_ROOM)  # none: as it is by default
+RANDOM_CASES, TABLE_CASES, IN_ONE_RUN = 4_000, 10_000, 500
 UNSUPPORTED = "the search doesn't support this anchoring"
 
 # Patterns, haystacks, and what is found, as pattern and start; where not all is asked for, also the slice, the span and
@@ -65,33 +70,143 @@ VECTORS = [
     (["a"], "a", UNSUPPORTED, ((0, 1), (0, 9), ANYWHERE)),
 ]
 
+# By an automaton that has looks of words: before which byte it quits, if one is met before the search is over.
+QUITS = [
+    (["o\\b"], "oé", "the search met the byte 195 at 1, and can't go on", ((0, 3), (0, 1), AT_START)),
+    (["o\\b"], "oé", "0 0", ((0, 1), (0, 1), AT_START)),
+    (["\\bo"], "éo", "the search met the byte 169 at 1, and can't go on"),
+    (["\\bo"], "éo", "the search met the byte 169 at 1, and can't go on", ((0, 3), (2, 3), AT_START)),
+    (["\\bo"], "éo", "0 2", ((2, 3), (2, 3), AT_START)),
+    (["\\b.+o"], "aéo", "the search met the byte 169 at 2, and can't go on"),
+    (["a\\b"], "éa bb", "none"),
+    (["o"], "éoé", "0 2", ((0, 5), (2, 3), AT_START)),
+]
 
-def about(patterns, haystack, answer, cut=0, asked=None, inside=False, settings=Settings(), times=1):
-    """A case of one search with a cache that served so often before. It is asked for a slice, a span, and where matches
-    start."""
+# With a cache that has room for two states: each letter leads to another one, and so does the first place, and when
+# they would be taken out for the fourth time it gives up.
+IN_TWO_STATES = [
+    (["abcdef"], "abcdef", "0 0"),
+    (["abcdefg"], "abcdefg", "the search gave up at 0"),
+    (["abcdefgh"], "abcdefgh", "the search gave up at 1"),
+    (["abcdefgh"], "xabcdefgh", "the search gave up at 2", ((0, 9), (2, 9), AT_START)),
+]
+IN_ALL_ROOM = [(["abcdefgh"], "abcdefgh", "0 0"), (["[ab]{5}a[ab]*"], "b" * 99 + "abbab" * 40, "0 94")]
+
+
+def about(
+    patterns, haystack, answer, cut=0, asked=None, inside=False, settings=Settings(), times=1, room=None, by="backwards"
+):
+    """A case of one search with a cache of this capacity that served so often before. It is asked for a slice, a span,
+    and where matches start."""
     slice_, span, anchored = asked or ((0, len(haystack)), (0, len(haystack)), AT_START)
     texts = ".".join(map(written, patterns)) if patterns else "-"
-    fields = [texts, *settings.fields(), cut, haystack.hex(), *slice_, *span, anchored, int(inside), times]
-    name = f"{patterns} in {short(haystack)}, cut by {cut}, {asked}, inside {inside}, {settings}"
-    return Case(name, line_of("backwards", *fields), answer)
+    fields = [texts, *settings.fields(), cut, haystack.hex(), *slice_, *span, anchored, int(inside), times, room]
+    name = f"{by} {patterns} in {short(haystack)}, cut by {cut}, {asked}, inside {inside}, {settings}"
+    return Case(f"{name}, {times} before, capacity {room}", line_of(by, *fields), answer)
 
 
-def case_of(trees, haystack, cut, asked, inside=False, line_end=b"\n"):
-    """A case that the model answers."""
+class ByTable:
+    """Searches by the automaton of a program turned round, of which is known what is found."""
+
+    def __init__(self, patterns, haystack, answer, cut, asked, inside, settings, times):
+        self.answer, self.haystack = answer, haystack
+        self.asked = asked or ((0, len(haystack)), (0, len(haystack)), AT_START)
+        self.has_words = any(re.search(r"\\[bB]", pattern) for pattern in patterns)
+        how = patterns, haystack, answer, cut, asked, inside, settings, times
+        self.cases = [about(*how, room, "by_table") for room in CAPACITIES]
+
+    def places(self):
+        """The places of the search, from the span's end back."""
+        slice_, span, _ = self.asked
+        return range(min(span[1], len(self.haystack)), max(slice_[0], span[0]) - 1, -1)
+
+    def quit(self):
+        """How a search quits, if there is a byte before which it may have to."""
+        start, end = self.asked[0]
+        if self.has_words:
+            for place in [*self.places(), min(self.places(), default=0) - 1]:
+                if start <= place < min(end, len(self.haystack)) and self.haystack[place] >= 128:
+                    return f"the search met the byte {self.haystack[place]} at {place}, and can't go on"
+        return None
+
+    def is_given_up(self, answer):
+        """Whether it is that a search gave up at a place inside."""
+        told = re.fullmatch(r"the search gave up at (\d+)", answer)
+        return told is not None and int(told[1]) in self.places()
+
+    def wrong(self, told):
+        """The cases that have wrong answers, with these."""
+        for room, case, answer in zip(CAPACITIES, self.cases, told):
+            gave_up = room in LITTLE_ROOM and self.is_given_up(answer)
+            if answer not in (self.answer, self.quit()) and not gave_up:
+                yield f"{case.name}: {short(answer.encode())}, and not {self.answer}"
+
+
+def in_runs(cases):
+    """What is wrong with the answers to cases, which are sent in runs of some each."""
+    cases = iter(cases)
+    while batch := list(itertools.islice(cases, IN_ONE_RUN)):
+        yield from problems(batch)
+
+
+def by_tables(searches):
+    """What is wrong with the answers to such searches, and how they were answered, which has to be in each way."""
+    counts, wrong = {"with a match": 0, "that quit": 0, "that gave up": 0}, []
+    searches = iter(searches)
+    while batch := list(itertools.islice(searches, IN_ONE_RUN)):
+        told, with_run = answers([case for search in batch for case in search.cases])
+        wrong += with_run
+        for number, search in enumerate(batch):
+            here = told[len(CAPACITIES) * number : len(CAPACITIES) * (number + 1)]
+            wrong += search.wrong(here)
+            counts["with a match"] += re.fullmatch(r"\d+ \d+", here[-1]) is not None
+            counts["that quit"] += "can't go on" in here[-1]
+            counts["that gave up"] += any("gave up" in answer for answer in here)
+    wrong += [f"no searches {what}" for what, count in counts.items() if not count]
+    return wrong, ", ".join(f"{count} {what}" for what, count in counts.items())
+
+
+def found_by_model(trees, haystack, asked, inside, line_end):
+    """What the model finds."""
     model, pattern = model_of(trees, haystack, asked, inside, line_end)
     found = model.find_backwards(pattern)
-    answer = UNSUPPORTED if asked[2] == ANYWHERE else "none" if found is None else " ".join(map(str, found))
+    return UNSUPPORTED if asked[2] == ANYWHERE else "none" if found is None else " ".join(map(str, found))
+
+
+def told_of(trees, haystack, cut, asked, inside=False, line_end=b"\n"):
+    """A search of which the model tells what is found."""
+    answer = found_by_model(trees, haystack, asked, inside, line_end)
     settings = Settings() if line_end == b"\n" else Settings(line_end=line_end[0])
-    return about([spelled(tree) for tree in trees], haystack, answer, cut, asked, inside, settings)
+    return list(map(spelled, trees)), haystack, answer, cut, asked, inside, settings
+
+
+def cases_of(searches):
+    """Cases of such searches, with caches that served once, of each capacity in turn."""
+    for told, room in zip(itertools.starmap(told_of, searches), itertools.cycle(CAPACITIES)):
+        yield about(*told, room=room)
+
+
+def by_table_of(searches):
+    """Such searches by the automaton of the program turned round, with caches that served up to twice."""
+    for told, times in zip(itertools.starmap(told_of, searches), itertools.cycle(range(3))):
+        yield ByTable(*told, times)
 
 
 def vectors():
+    rooms = itertools.cycle(CAPACITIES)
     for size, (patterns, haystack, answer, *asked) in itertools.product(SIZES, VECTORS):
-        yield about(patterns, haystack.encode(), answer, size, *asked)
+        yield about(patterns, haystack.encode(), answer, size, *asked, room=next(rooms))
 
 
-def at_random(count=RANDOM_CASES):
-    chance = random.Random(56)
+def told_by_tables(rows, times, room):
+    """Rows whose answer an automaton gives with a cache of this capacity that served so often."""
+    for size, (patterns, haystack, answer, *asked) in itertools.product(SIZES, rows):
+        yield about(patterns, haystack.encode(), answer, size, *asked, times=times, room=room, by="by_table")
+
+
+def drawn(count, seed):
+    """Patterns, haystacks, how these are cut, what is asked for, and settings."""
+    chance = random.Random(seed)
     maker = Maker(chance, most_nodes=30)
     for _ in range(count):
         trees = tuple(maker.tree() for _ in range(chance.choice((0, 1, 1, 2, 2, 3, 4))))
@@ -99,29 +214,49 @@ def at_random(count=RANDOM_CASES):
         slice_, span, _ = asked_at_random(chance, len(haystack))
         asked = slice_, span, chance.choice((AT_START, AT_START, chance.randint(AT_START, len(trees) + FIRST)))
         settings = chance.random() < 0.3, chance.choice([b"\n", b"\n", b"a", b"\x81"])
-        yield case_of(trees, haystack, chance.choice(SIZES), asked, *settings)
+        yield trees, haystack, chance.choice(SIZES), asked, *settings
 
 
-def spans():
+def tables():
+    """Searches at random, in short haystacks, in contents that are no UTF-8, and each that stands here, by the
+    automaton of the program turned round."""
+    yield from by_table_of(itertools.chain(drawn(TABLE_CASES, 57), in_spans(), in_cut_characters()))
+    for size, (patterns, haystack, answer, *told) in itertools.product(SIZES, VECTORS):
+        asked, inside = (*told, None, False)[:2]
+        yield ByTable(patterns, haystack.encode(), answer, size, asked, bool(inside), Settings(), 1)
+
+
+def in_spans():
+    """All spans of short haystacks."""
     sizes = itertools.cycle(SIZES)
     for text, trees in itertools.product(SMALL_HAYSTACKS, SMALL_TREES):
         haystack = text.encode()
         for slice_ in pairs(0, len(haystack)):
             for span, anchored in itertools.product(pairs(0, len(haystack)), (ANYWHERE, AT_START, FIRST, SECOND)):
-                yield case_of(trees, haystack, next(sizes), (slice_, span, anchored))
+                yield trees, haystack, next(sizes), (slice_, span, anchored)
 
 
-def cut_characters():
+def in_cut_characters():
     """Contents that are no UTF-8."""
     sizes = itertools.cycle(SIZES)
     for haystack, trees in itertools.product((b"\xe3\x81a\x80", b"a\xc3", b"\x80\x80b", b"\xc3\xa9\xa9"), SMALL_TREES):
         for span, inside in itertools.product(pairs(0, len(haystack)), (False, True)):
-            yield case_of(trees, haystack, next(sizes), ((0, len(haystack)), span, AT_START), inside)
+            yield trees, haystack, next(sizes), ((0, len(haystack)), span, AT_START), inside
 
 
 def test_all():
     check_memory(about(["a|ab", "(b)+"], b"abb", "1 1", 1), [WANT])
+    check_memory(about(["\\b(a|é)+b"], "aéb".encode(), "0 0", 1), [WANT])
+    for room in (0, None):
+        case = about(["(a)|b", "[a-é]+b"], "xéab".encode(), "1 0", 2, times=0, room=room, by="by_table")
+        check_memory(case, [WANT, b"again"], f"{case.answer}\n".encode())
     test("searches backwards answer as they should", problems(vectors()))
-    test("searches backwards at random answer as the model", problems(at_random()))
-    test("searches backwards in all spans of short haystacks answer as the model", problems(spans()))
-    test("searches backwards in contents that are no UTF-8 answer as the model", problems(cut_characters()))
+    test("searches backwards at random answer as the model", in_runs(cases_of(drawn(RANDOM_CASES, 56))))
+    test("searches backwards in all spans of short haystacks answer as the model", in_runs(cases_of(in_spans())))
+    wrong = problems(cases_of(in_cut_characters()))
+    test("searches backwards in contents that are no UTF-8 answer as the model", wrong)
+    wrong, how = by_tables(tables())
+    test(f"automata of programs turned round answer as the model: {how}", wrong)
+    for name, rows, *how in (("two states", IN_TWO_STATES, 0, 0), ("all states", IN_ALL_ROOM + QUITS, 1, ALL_ROOM)):
+        wrong = problems(told_by_tables(rows, *how))
+        test(f"automata of programs turned round with a cache that has room for {name} answer as they should", wrong)

@@ -49,7 +49,7 @@ VECTORS = [
 ]
 
 # Of these letters each is a match, and each find but the last ones reads to the end.
-HOSTILE = ["a*b|a", ".*?x|a", "(a|b)*c|a", "(?:a{0,20})*b|a"]
+HOSTILE = ["a*b|a", ".*?x|a", ".*x|.", "(a|b)*c|a", "(?:a{0,20})*b|a"]
 LETTERS = 20_000
 
 # The least number of places of a block. Blocks end at the haystack's end and at each such distance before it.

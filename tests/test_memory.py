@@ -60,6 +60,8 @@ MOST_FOR_A_FORK = 12_288  # one with an edit: beside that it is a buffer of its 
 BUFFERS, MOST_FOR_A_BUFFER = 2_000, ((b"mark", 16_000), (rb"(?i)todo|error", 16_000), (rb"\w+", 80_000))
 # Patterns that say a class again and again, and the most that one takes.
 SAID_AGAIN, MOST_FOR_A_PATTERN = ((rb"[\wa]", 13_107), (rb"[^\w]", 13_107), (rb"[^a]", 16_384)), 10_000_000
+# Such that are refused by their weight, and the most that each byte of one takes.
+TOO_HEAVY, MOST_FOR_A_BYTE = (rb"[\wa]", rb"[^\w]"), 64
 # How many breaks are replaced, and the most that each takes, as a match, a line and a change.
 BREAKS, MOST_FOR_A_BREAK = 1_000_000, 120
 # A text, how often it is edited, and how much an edit may leave behind in the history.
@@ -327,6 +329,15 @@ def test_bounds():
         ended, most = most_held(lambda environment, data=given("pattern", part * count): run(data, environment=environment))
         wrong = differences(ended, ended.out, 0) + ([] if most <= MOST_FOR_A_PATTERN else [f"{most} bytes"])
         test(f"{count} times {part.decode()}, taken or refused, takes at most {MOST_FOR_A_PATTERN} bytes", wrong)
+    for part in TOO_HEAVY:
+        wrong, held = [], []
+        for count in (3_000, 13_000):
+            ended, most = most_held(lambda environment, data=given("pattern", part * count): run(data, environment=environment))
+            wrong += differences(ended, b"error limit\n", 0)
+            held.append(most)
+        each = (held[1] - held[0]) // (10_000 * len(part))
+        wrong += [] if each <= MOST_FOR_A_BYTE else [f"a byte takes {each}"]
+        test(f"{part.decode()} again and again, refused, takes at most {MOST_FOR_A_BYTE} bytes for each of its own", wrong)
 
 
 def test_histories():

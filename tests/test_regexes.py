@@ -16,7 +16,7 @@ from harness import TOP, short, test
 from memory import library
 from random_patterns import Maker
 from test_searches import EXTREMES, VECTORS, asked_at_random, is_worth, listed
-from walks import Search, spelled
+from walks import Alternation, Concat, Look, Search, spelled
 
 RANDOM_CASES, TIMES = 700, 3_000
 
@@ -129,6 +129,22 @@ def often():
         yield in_rope("rope", row["pattern"], row["haystack"], listed(row["matches"]), (2,), count=TIMES)
 
 
+def at_the_end(count=250):
+    """Patterns of which all matches end at the slice's end, or nearly all: one cache serves so many searches that they
+    are looked for back from there, and where groups are told, between where a match starts and where it ends."""
+    chance = random.Random(18)
+    for tree, text in texts_at_random(chance, count):
+        last = Look(chance.choice(("$", "$", "\\z", "(?m:$)")))
+        tree = chance.choice((Concat((tree, last)), Concat((tree, last, last)), Alternation((Concat((tree, last)), last))))
+        asked = chance.choice([None, None, asked_at_random(chance, len(text.encode()))])
+        answer = listed(searched(tree, text, asked))
+        around = chance.choice(AROUND)
+        times = 30_000 // max(len(text.encode()), 10)
+        case = in_rope("rope", spelled(tree), text, answer, (chance.randint(1, 4),), asked, around, count=times)
+        if is_worth(chance, case):
+            yield case
+
+
 def counted():
     """So many calls of `next`, and then `count`, of both iterators. What is over gives no more."""
     for row in rows()[::4]:
@@ -188,6 +204,7 @@ def test_all():
         ("searches at random, in pieces and in parts of ropes", at_random()),
         ("searches with a cursor that is made at a place", from_places()),
         (f"searches, each {TIMES:,} times with one cache", often()),
+        ("searches of matches at the end, often with one cache", at_the_end()),
         ("counts of what is left of iterators", counted()),
         ("lists of parts between matches", [*told_parts(), *split()]),
     ]

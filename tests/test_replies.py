@@ -436,6 +436,8 @@ def test_large_patterns():
         out = b"ok\nok\n" + b"".join(listed) + b"ok %d\n" % len(listed)
         out += b"m 0 %b 0 %b\n" % tuple(listed[0].split()[2:]) if listed else b"no match\n"
         test(f"{short(pattern[:40].encode())}, of {len(pattern)} bytes, is a pattern", differences(run(data), out, 0))
+    data = with_payload("text", "x" * 4_000) + with_payload("pattern", "x{0,65535}y{32763}") + b"list\nnext 0 0\n"
+    test("a long line under such a pattern, of which it has a front", differences(run(data), b"ok\nok\nok 0\nno match\n", 0))
 
 
 def read_past(line, before=b""):

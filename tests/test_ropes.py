@@ -6,7 +6,7 @@ ROPE_DRIVER names another program than bin/rope-driver.
 import itertools
 import random
 
-from rope_model import CHUNK_KINDS, MOST_BYTES, hexed
+from rope_model import CHUNK_KINDS, hexed
 from rope_rows import RopeRow, check
 from rope_texts import UNITS, full, pairs, small_texts
 

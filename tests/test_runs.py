@@ -12,8 +12,10 @@ from test_replies import MORE_EXAMPLES, examples_of_page
 
 BATCH = 5_000  # how many rows go into one run of the driver
 ENDINGS = {"input": "Input", "command": "Command", "cut": "Cut"}
-# An input of more bytes isn't cut, or failed at, after each of them, but for the shortest that lies in several chunks.
-LONG, ACROSS_CHUNKS = 400, spelled("text", (1_969,), b"a" * 983 + b"xyz" + b"a" * 983) + spelled("pattern", (3,), b"xyz") + b"list\n"
+# An input of more bytes is cut, and failed at, near its ends and at some places between alone, but for the shortest that
+# lies in several chunks; one of more than MOST bytes isn't.
+LONG, LONGER, MOST = 400, 10_000, 70_000
+ACROSS_CHUNKS = spelled("text", (1_969,), b"a" * 983 + b"xyz" + b"a" * 983) + spelled("pattern", (3,), b"xyz") + b"list\n"
 
 
 @dataclass(frozen=True)
@@ -72,11 +74,16 @@ def problems(runs, wrong_with):
             yield f"{short(run.data)} {replace(run, data=b'')}: {wrong}"
 
 
-def due(run):
+@functools.lru_cache(maxsize=10)
+def due_under(data, limit):
     """The ending and the text that the model gives, and its bounds of rows and searches of whole texts."""
-    commands, ending = read_commands(run.data)
-    told, most = replies_and_costs(commands, run.limit)
+    commands, ending = read_commands(data)
+    told, most = replies_and_costs(commands, limit)
     return ENDINGS[ending], b"".join(told) + CLOSING[ending], most
+
+
+def due(run):
+    return due_under(run.data, run.limit)
 
 
 def wrong_with(run, outcome):
@@ -119,23 +126,34 @@ def wrong_with_room(run, outcome):
         yield f"{outcome.ending} with {short(outcome.written)}"
 
 
+def places(length, each=False):
+    """The places up to a length: of a long one those near its ends and some between, if not each."""
+    if each or length <= LONG:
+        return range(length)
+    near = 6 if length <= LONGER else 2
+    return sorted({*range(near), *range(near, length - near, length // near), *range(length - near, length)})
+
+
 def test_worked(inputs):
     """Every worked input: in reads and writes of few bytes, cut after each byte, and with each call failing in turn."""
     for data in inputs:
         name = short(data[:60]) + (f".. ({len(data)} bytes)" if len(data) > 60 else "")
         steps = [Run(data, read=read, write=write) for read, write in ((1, 1), (2, 3), (4096, 1), (3, 4096))]
         test(f"{name} over memory, within its rows", problems(steps, wrong_with))
-        written = len(due(steps[0])[1])
-        if max(len(data), written) > LONG and data != ACROSS_CHUNKS:
+        if len(data) > MOST:
             continue
-        cut = (Run(data[:length], read=1, write=1) for length in range(len(data)))
-        test(f"{name} over memory, cut after each of its bytes", problems(cut, wrong_with))
-        reads = (Run(data, read=1, failed_read=call) for call in range(1, len(data) + 4))
-        test(f"{name} over memory, each read failing", problems(reads, wrong_with_failed_read))
-        writes = (Run(data, write=1, failed_write=call) for call in range(1, written + 4))
-        test(f"{name} over memory, each write failing", problems(writes, wrong_with_failed_write))
-        rooms = (Run(data, room=room) for room in range(0, written + 2))
-        test(f"{name} over memory, with little room", problems(rooms, wrong_with_room))
+        written, each = len(due(steps[0])[1]), data == ACROSS_CHUNKS
+        lengths, reads, writes, rooms = (
+            places(count, each) for count in (len(data), len(data) + 3, written + 3, written + 2)
+        )
+        cut = (Run(data[:length], read=1, write=1) for length in lengths)
+        test(f"{name} over memory, cut at {len(lengths)} places", problems(cut, wrong_with))
+        failed = (Run(data, read=1, failed_read=call + 1) for call in reads)
+        test(f"{name} over memory, each of {len(reads)} reads failing", problems(failed, wrong_with_failed_read))
+        failed = (Run(data, write=1, failed_write=call + 1) for call in writes)
+        test(f"{name} over memory, each of {len(writes)} writes failing", problems(failed, wrong_with_failed_write))
+        runs = (Run(data, room=room) for room in rooms)
+        test(f"{name} over memory, with little room, {len(rooms)} times", problems(runs, wrong_with_room))
 
 
 # Inputs, with the rows that they make and how often they search a whole text, exactly.

@@ -103,9 +103,11 @@ def test_figures():
 
 
 def test_length():
-    """The page of results can be read: it has 3,000 words at most."""
-    count = len(read(os.path.join(TOP, "bench", "RESULTS.md")).split())
-    test("bench/RESULTS.md has 3,000 words at most", [] if count <= 3000 else [f"it has {count}"])
+    """The pages can be read: that of results has 3,000 words at most, all together have 28,000."""
+    pages = [os.path.join(TOP, name) for name in ("README.md", "CONTRIBUTING.md", "bench/RESULTS.md")]
+    counts = [len(read(path).split()) for path in (*pages, *glob.glob(os.path.join(TOP, "docs", "*.md")))]
+    test("bench/RESULTS.md has 3,000 words at most", [] if counts[2] <= 3_000 else [f"it has {counts[2]}"])
+    test("the pages have 28,000 words at most", [] if sum(counts) <= 28_000 else [f"they have {sum(counts)}"])
 
 
 def test_all():

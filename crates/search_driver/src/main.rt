@@ -41,11 +41,15 @@
 //!   by commas, by the PikeVM; a `Regex` must give the same.
 //! - `listed,PATTERNS,SETTINGS,CUT,HAYSTACK,ASKED,INSIDE,COUNT`: all matches of several patterns,
 //!   listed by two passes, each as its pattern, where it ends, and what is noted in so many slots.
-//! - `backwards,PATTERNS,SETTINGS,CUT,HAYSTACK,ASKED,INSIDE,TIMES`: of the matches of several
-//!   patterns that end at the end of the span the one of the least start, then of the least
+//! - `backwards,PATTERNS,SETTINGS,CUT,HAYSTACK,ASKED,INSIDE,TIMES,CAPACITY`: of the matches of
+//!   several patterns that end at the end of the span the one of the least start, then of the least
 //!   pattern, as its pattern and start, or `none`, or why there is no answer; once the cache has
-//!   served so many searches before. Where no byte is told that ends lines and `INSIDE` isn't 1,
-//!   both engines over automata must answer the same.
+//!   served so many searches before. A search by the automaton, whose states a cache of that
+//!   capacity keeps, and by walks where that can't tell, must answer the same; and where no byte is
+//!   told that ends lines and `INSIDE` isn't 1, so must both engines over automata.
+//! - `by_table,PATTERNS,SETTINGS,CUT,HAYSTACK,ASKED,INSIDE,TIMES,CAPACITY`: the same by the
+//!   automaton alone, or why that can't tell. Where it is refused memory, it is asked again, and
+//!   `again` stands first.
 //! - `several,PATTERNS,SETTINGS,CUT,HAYSTACK,ASKED`: all matches of several patterns, each with the
 //!   number of its pattern where there are two or more, by a `Regex` of them; the first of them
 //!   must be found by each other engine too, and all by the iterators of both engines over
@@ -139,6 +143,7 @@ fn answer(alloc: Global, line: &str) -> Result<String, Fault> {
         "best" => best::matches(alloc, &fields),
         "listed" => listed::matches(alloc, &fields),
         "backwards" => backwards::found(alloc, &fields),
+        "by_table" => backwards::by_table(alloc, &fields),
         "under" => settings::matches(alloc, &fields),
         "counted" => settings::counts(alloc, &fields),
         "static" => settings::each_match(alloc, &fields),
