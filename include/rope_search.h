@@ -141,7 +141,8 @@ enum {
     ROPE_SEARCH_CLASS_ITEM = 11,        /* a class has no such item */
     ROPE_SEARCH_RANGE_ORDER = 12,       /* a range of characters runs backwards */
     ROPE_SEARCH_GROUP_HEAD = 13,        /* the head of a group isn't finished, or isn't one */
-    ROPE_SEARCH_REPEATED_NAME = 14      /* two groups have one name */
+    ROPE_SEARCH_REPEATED_NAME = 14,     /* two groups have one name */
+    ROPE_SEARCH_DOT = 15  /* `.` stands beside a line terminator that isn't an ASCII byte */
 };
 
 /* ---- opening and closing ---- */

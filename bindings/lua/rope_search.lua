@@ -82,6 +82,7 @@ M.reasons = {
   "a range of characters runs backwards",
   "the head of a group isn't finished, or isn't one",
   "two groups have one name",
+  "`.` stands beside a line terminator that isn't an ASCII byte",
 }
 
 local function is_there(path)

@@ -115,6 +115,7 @@ REASONS: Tuple[str, ...] = (
     "a range of characters runs backwards",
     "the head of a group isn't finished, or isn't one",
     "two groups have one name",
+    "`.` stands beside a line terminator that isn't an ASCII byte",
 )
 
 
