@@ -12,3 +12,4 @@ pub mod RoundLaws
 pub mod PassLaws
 pub mod WayLaws
 pub mod GoOnLaws
+pub mod KnownLaws

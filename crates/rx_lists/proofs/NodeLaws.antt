@@ -13,6 +13,7 @@ use Rattle.rx_steps.specs.declared.place.Place.{Place}
 use Rattle.rx_steps.specs.Nodes.{MayStand, IsNodeOf, widths_of, index_from}
 use Rattle.rx_steps.specs.Threads.{Slots, first_node}
 use Rattle.rx_steps.specs.Lists.{MakesMoves, move_at, read_next, is_among}
+use Rattle.rx_lists.specs.Leading.{Moves}
 use Rattle.rx_steps.proofs.IndexLaws.{behind}
 use Rattle.rx_steps.proofs.FollowLaws.{behind_reads}
 
@@ -75,7 +76,10 @@ stays_at place i q (state.Match pattern) = tt
 
 -- ---- in a machine that makes a program's moves
 
-module _ (p : ByteProgram) (place : Place) (m : Machine (ℕ × ℕ) Slots) (i : ℕ) (moves : MakesMoves m i p.states place) where
+pub moves_of : {m : Machine (ℕ × ℕ) Slots} {i : ℕ} {states : List State} {place : Place} → MakesMoves m i states place → Moves m i states place
+moves_of makes = record { at_state = makes.at_state; elsewhere = makes.elsewhere }
+
+module _ (p : ByteProgram) (place : Place) (m : Machine (ℕ × ℕ) Slots) (i : ℕ) (moves : Moves m i p.states place) where
   first_is_node : (r : ℕ × ℕ) → r.1 ≡ 0 → IsNodeOf p.states r
   first_is_node r e = subst (λ s. MayStand (slice_get p.states r.0) s) (sym e) (first_may (slice_get p.states r.0))
 

@@ -9,19 +9,19 @@ use Rattle.rx_walks.specs.Finds.{Search, IsInside}
 use Rattle.rx_walks.specs.ProgramFinds.{lowest, highest}
 use Rattle.rx_program.specs.Programs.{ByteProgram, characters_of, automata_of}
 use Rattle.rx_steps.specs.declared.place.Place.{Place}
-use Rattle.rx_steps.specs.Nodes.{IsNodeOf}
-use Rattle.rx_steps.specs.Lists.{MakesMoves}
+use Rattle.rx_steps.specs.Nodes.{IsNodeOf, widths_of}
 use Rattle.rx_steps.specs.Searching.{haystack_in}
 use Rattle.rx_steps.specs.Coming.{machine_in}
-use Rattle.rx_lists.specs.Leading.{AreKnown, AreLeading, AreFilled}
-use Rattle.rx_lists.specs.LeadingSets.{AreLeadingSets, IsLeadingSet}
+use Rattle.rx_lists.specs.Leading.{Moves, AreLeading, AreFilled}
+use Rattle.rx_lists.specs.LeadingSets.{AreKnown, AreLeadingSets, IsLeadingSet}
+use Rattle.rx_lists.specs.Bits.{HasNode}
 use Rattle.rx_lists.proofs.FillLaws.{Nodes}
 use Rattle.rx_lists.proofs.SetLaws.{none_in}
 use Rattle.rx_lists.proofs.LeadLaws.{leads_so, leads_by}
 use Rattle.rx_lists.proofs.NodeLaws.{edge_stays, read_stays_in, path_does}
 
 -- the nodes that a set was filled with lead
-pub leading_by : (p : ByteProgram) (s : Search) (i : ℕ) (place : Place) (beyond here : Nodes) → MakesMoves (machine_in p s) i p.states place → AreFilled p place beyond here → AreLeading p s (i + 1) beyond → AreLeading p s i here
+pub leading_by : (p : ByteProgram) (s : Search) (i : ℕ) (place : Place) (beyond here : Nodes) → Moves (machine_in p s) i p.states place → AreFilled p place beyond here → AreLeading p s (i + 1) beyond → AreLeading p s i here
 leading_by p s i place beyond here moves filled next = let m = machine_in p s in record {
   leads = λ q c. leads_so (filled.leads m i moves q c) next.leads;
   all = λ q may leads. filled.all m i moves q may
@@ -49,12 +49,24 @@ got_pushed [] y (suc k) z at = absurd (cc at)
 got_pushed (x ∷ xs) y zero z at = inl at
 got_pushed (x ∷ xs) y (suc k) z at = elim (got_pushed xs y k z at) [ inl e ↦ inl e | inr both ↦ inr (ap suc both.0, both.1) ]
 
+-- the empty set is that of a place behind the last one
+pub none_leads_past : (p : ByteProgram) (s : Search) (i : ℕ) (set : List ℕ) → highest s < i → ((q : ℕ × ℕ) → HasNode (widths_of p) set q → ⊥) → IsLeadingSet p s i set
+none_leads_past p s i set past none = record {
+  leads = λ q has. absurd (none q has);
+  all = λ q may leads. absurd (none_in q ((none_past p s i past).all q may leads));
+}
+
 -- one more set
 pub sets_more : (p : ByteProgram) (s : Search) (last distance : ℕ) (sets sets' : List (List ℕ)) (set : List ℕ) → sets' ≡ sets ++ set ∷ [] → AreLeadingSets p s last distance sets → IsLeadingSet p s (last - length sets * distance) set → AreLeadingSets p s last distance sets'
 sets_more p s last distance sets sets' set more each leading k other get = elim (got_pushed sets set k other (subst (λ xs. slice_get xs k ≡ Some other) more get)) [
   | inl before ↦ each k other before
   | inr both ↦ subst (λ j. IsLeadingSet p s (last - j * distance) other) (sym both.0) (subst (λ xs. IsLeadingSet p s (last - length sets * distance) xs) both.1 leading)
 ]
+
+-- one more, of the place whose turn it is
+pub kept_more : (p : ByteProgram) (s : Search) (last distance i : ℕ) (sets sets' : List (List ℕ)) (set : List ℕ) → sets' ≡ sets ++ set ∷ [] → IsLeadingSet p s i set → last - length sets * distance ≡ i → AreLeadingSets p s last distance sets
+    → AreLeadingSets p s last distance sets'
+kept_more p s last distance i sets sets' set more leading here each = sets_more p s last distance sets sets' set more each (subst (λ j. IsLeadingSet p s j set) (sym here) leading)
 
 pub no_sets : (p : ByteProgram) (s : Search) (last distance : ℕ) (sets : List (List ℕ)) → sets ≡ [] → AreLeadingSets p s last distance sets
 no_sets p s last distance sets none k set get = let e : slice_get [] k ≡ Some set = ap (λ xs. slice_get xs k) (sym none) ∙ get in absurd (cc e)
@@ -63,9 +75,9 @@ pub count_more : (sets sets' : List (List ℕ)) (set : List ℕ) → sets' ≡ s
 count_more sets sets' set more = ap (λ xs. length xs) more ∙ length-append sets (set ∷ [])
 
 -- one more place is known
-pub known_more : (p : ByteProgram) (s : Search) (i : ℕ) (nodes : Nodes) → AreKnown p s (i + 1) → AreLeading p s i nodes → AreKnown p s i
-known_more p s i nodes known leading j above below = elim (cases_eq j i) [
-  | inl same ↦ (nodes, subst (λ k. AreLeading p s k nodes) (sym same) leading)
+pub known_more : (p : ByteProgram) (s : Search) (i : ℕ) (set : List ℕ) → AreKnown p s (i + 1) → IsLeadingSet p s i set → AreKnown p s i
+known_more p s i set known leading j above below = elim (cases_eq j i) [
+  | inl same ↦ (set, subst (λ k. IsLeadingSet p s k set) (sym same) leading)
   | inr other ↦ known j (omega (arith, above, other)) below
 ]
 

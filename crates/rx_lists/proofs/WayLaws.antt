@@ -1,5 +1,5 @@
 -- The walk that is followed alone, from place to place.
-use Rattle.std.proofs.Common.{◌≡◌, ℕ, zero, suc, ◌+◌, ◌-◌, ◌*◌, ◌<◌, ◌≤◌, ◌⊎◌, true, All, Result, Ok, Err, OnOk, IfSome, IsSomeAnd, List, [], ◌∷◌, length, Option, Some, None, slice_get, Contains, refl, sym, ap, subst, ◌∙◌, arith, inl, inr}
+use Rattle.std.proofs.Common.{◌≡◌, ℕ, zero, suc, ◌+◌, ◌-◌, ◌<◌, ◌≤◌, ◌⊎◌, Bool, true, false, All, Result, Ok, Err, OnOk, IfSome, IsSomeAnd, List, [], ◌∷◌, Option, Some, None, slice_get, Contains, refl, sym, ap, subst, ◌∙◌, arith, inl, inr}
 use Rattle.std.proofs.lemmas.Option.{slice_get_within, get_or_from_slice_get}
 use Rattle.std.proofs.lemmas.List.Elements.{All-get_or}
 use Rattle.rx_walks.specs.Machines.{Machine, Outcome}
@@ -14,15 +14,14 @@ use Rattle.rx_program.specs.Programs.{ByteProgram}
 use Rattle.rx_steps.specs.declared.place.Place.{Place}
 use Rattle.rx_steps.specs.Nodes.{IsNodeOf, widths_of, index_from}
 use Rattle.rx_steps.specs.Threads.{Slots, Thread, IsThreadOf}
-use Rattle.rx_steps.specs.Lists.{MakesMoves, IsPlace, is_among, met_at}
+use Rattle.rx_steps.specs.Lists.{IsPlace, is_among, met_at}
 use Rattle.rx_steps.specs.Searching.{haystack_in}
 use Rattle.rx_steps.specs.Coming.{machine_in}
 use Rattle.rx_steps.proofs.ByteLaws.{within_is}
-use Rattle.rx_steps.proofs.FollowLaws.{seen_or_new}
 use Rattle.rx_steps.proofs.PlaceLaws.{moves_at_place}
-use Rattle.rx_lists.specs.Bits.{HasNode, IsSetOf, IsKept}
-use Rattle.rx_lists.specs.Leading.{AreKnown, AreLeading}
-use Rattle.rx_lists.specs.LeadingSets.{AreLeadingSets, IsLeadingSet}
+use Rattle.rx_lists.specs.Bits.{has_bit, HasNode, IsSetOf}
+use Rattle.rx_lists.specs.Leading.{Moves, AreLeading}
+use Rattle.rx_lists.specs.LeadingSets.{AreKnown, AreLeadingSets, IsLeadingSet}
 use Rattle.rx_lists.specs.declared.pass_back.Block.{Block}
 use Rattle.rx_lists.specs.declared.blocks.Blocks.{Blocks}
 use Rattle.rx_lists.specs.Blocks.{AreBlocks, Reaches}
@@ -31,8 +30,8 @@ use Rattle.rx_lists.specs.declared.walk.Ending.{Ending}
 use Rattle.rx_lists.specs.Passes.{IsFirstAmong, outcome_of}
 use Rattle.rx_lists.proofs.FillLaws.{Nodes}
 use Rattle.rx_lists.proofs.StepLaws.{Chosen, none_leads, other_leads, first_leads, thread_follows}
-use Rattle.rx_lists.proofs.NodeLaws.{edge_stays, node_index, path_does}
-use Rattle.rx_lists.proofs.PassLaws.{none_past, sets_more, count_more}
+use Rattle.rx_lists.proofs.NodeLaws.{edge_stays, moves_of, node_index, path_does}
+use Rattle.rx_lists.proofs.PassLaws.{none_past}
 use Rattle.rx_lists.proofs.RoundLaws.{in_order}
 use Rattle.rx_lists.proofs.SetLaws.{none_in}
 
@@ -65,8 +64,8 @@ is_place states h i inside = record { at = refl; inside = inside; byte = refl; l
     holds no_word_boundary = refl
 
 -- a program's moves at a place inside are those of some place
-pub moves_inside : (p : ByteProgram) (s : Search) (i : ℕ) → lowest s ≤ i → i ≤ highest s → (place : Place) × MakesMoves (machine_in p s) i p.states place
-moves_inside p s i above below = let h = haystack_in p.line_terminator s in (place_at h i, moves_at_place p h i (place_at h i) (is_place p.states h i (within_is (lowest s) (highest s) i above below)))
+pub moves_inside : (p : ByteProgram) (s : Search) (i : ℕ) → lowest s ≤ i → i ≤ highest s → (place : Place) × Moves (machine_in p s) i p.states place
+moves_inside p s i above below = let h = haystack_in p.line_terminator s in (place_at h i, moves_of (moves_at_place p h i (place_at h i) (is_place p.states h i (within_is (lowest s) (highest s) i above below))))
 
 pub inside_is : (s : Search) (i : ℕ) → IsInside s i → (lowest s ≤ i) × (i ≤ highest s)
 inside_is s i inside = (omega (arith, inside.0, inside.2), omega (arith, inside.1, inside.3, inside.4))
@@ -89,8 +88,21 @@ reached p s b block at next blocks is so above reaches =
     let here = so at (omega (arith, blocks.first_is, above)) (omega (arith, is)) reaches in
     (here, omega (arith, here, is))
 
-pub leads_or_not : (p : ByteProgram) (s : Search) (i : ℕ) (nodes : Nodes) → AreLeading p s i nodes → (q : ℕ × ℕ) → IsNodeOf p.states q → LeadsToMatch (machine_in p s) q i ⊎ (LeadsToMatch (machine_in p s) q i → ⊥)
-leads_or_not p s i nodes leading q may = elim (seen_or_new nodes q) [ inl c ↦ inl (leading.leads q c) | inr new ↦ inr (λ leads. new (leading.all q may leads)) ]
+pub leads_or_not : (p : ByteProgram) (s : Search) (i : ℕ) (set : List ℕ) → IsLeadingSet p s i set → (q : ℕ × ℕ) → IsNodeOf p.states q → LeadsToMatch (machine_in p s) q i ⊎ (LeadsToMatch (machine_in p s) q i → ⊥)
+leads_or_not p s i set leading q may = by_index (index_from 0 (widths_of p) q.0 q.1) refl
+  where
+    by_bit : (k : ℕ) → index_from 0 (widths_of p) q.0 q.1 ≡ Some k → (b : Bool) → has_bit set k ≡ b → LeadsToMatch (machine_in p s) q i ⊎ (LeadsToMatch (machine_in p s) q i → ⊥)
+    by_bit k at true is = inl (leading.leads q (k, at, is))
+    by_bit k at false is = inr (λ leads. let has = leading.all q may leads in
+        let same : has.0 ≡ k = one (sym has.1 ∙ at) in
+        absurd (cc (sym (subst (λ n. has_bit set n ≡ true) same has.2) ∙ is)))
+      where
+        one : {a b : ℕ} → Some a ≡ Some b → a ≡ b
+        one e = cc e
+
+    by_index : (o : Option ℕ) → index_from 0 (widths_of p) q.0 q.1 ≡ o → LeadsToMatch (machine_in p s) q i ⊎ (LeadsToMatch (machine_in p s) q i → ⊥)
+    by_index (Some k) at = by_bit k at (has_bit set k) refl
+    by_index None at = inr (λ leads. let has = leading.all q may leads in absurd (cc (sym at ∙ has.1)))
 
 -- a set in bits of nodes that lead
 pub leading_set : (p : ByteProgram) (s : Search) (i : ℕ) (widths : List ℕ) (nodes : Nodes) (set : List ℕ) → widths ≡ widths_of p → lowest s ≤ i → i ≤ highest s → AreLeading p s i nodes → IsSetOf widths nodes set → IsLeadingSet p s i set
@@ -101,13 +113,6 @@ leading_set p s i widths nodes set same above below leading is = record {
       let at = node_index p moves.0 (machine_in p s) i moves.1 q may (path_does leads.path) in
       subst (λ w. HasNode w set q) same (is.all q at.0 (leading.all q may leads) (subst (λ w. index_from 0 w q.0 q.1 ≡ Some at.0) (sym same) at.2));
 }
-
-pub keep_more : (p : ByteProgram) (s : Search) (last distance i : ℕ) (widths : List ℕ) (nodes : Nodes) (sets sets' : List (List ℕ)) → widths ≡ widths_of p → lowest s ≤ i → i ≤ highest s → AreLeading p s i nodes → IsKept widths nodes sets sets' → last - length sets * distance ≡ i
-    → AreLeadingSets p s last distance sets → AreLeadingSets p s last distance sets'
-keep_more p s last distance i widths nodes sets sets' same above below leading kept here each = sets_more p s last distance sets sets' kept.0 kept.1 each (subst (λ j. IsLeadingSet p s j kept.0) (sym here) (leading_set p s i widths nodes kept.0 same above below leading kept.2))
-
-pub keep_count : (widths : List ℕ) (nodes : Nodes) (sets sets' : List (List ℕ)) → IsKept widths nodes sets sets' → length sets' ≡ length sets + 1
-keep_count widths nodes sets sets' kept = count_more sets sets' kept.0 kept.1
 
 -- and the nodes of it
 pub loaded_set : (p : ByteProgram) (s : Search) (i : ℕ) (order nodes : Nodes) (widths widths' set : List ℕ) → widths ≡ widths_of p → widths' ≡ widths_of p → AreAllNodes p.states order → ((q : ℕ × ℕ) → Contains nodes q → HasNode widths set q)

@@ -1,5 +1,5 @@
 -- Sets of numbers in bits, and of nodes by their numbers.
-use Rattle.std.specs.Prelude.{◌≡◌, ◌⊎◌, ℕ, ◌/◌, ◌%◌, Bool, true, eqb, List, [], ◌∷◌, ◌++◌, get_or, Some, Contains}
+use Rattle.std.specs.Prelude.{◌≡◌, ◌⊎◌, ℕ, ◌/◌, ◌%◌, Bool, true, eqb, List, get_or, Some, Contains}
 use Rattle.std.specs.Int.{bit_at}
 use Rattle.rx_steps.specs.Nodes.{index_from}
 
@@ -23,7 +23,3 @@ pub record IsSetOf (widths : List ℕ) (nodes : List (ℕ × ℕ)) (set : List �
   pub these : (q : ℕ × ℕ) → HasNode widths set q → Contains nodes q
   pub all : (q : ℕ × ℕ) (k : ℕ) → Contains nodes q → index_from 0 widths q.0 q.1 ≡ Some k
       → HasNode widths set q
-
--- that of these nodes was put behind other sets
-abbrev pub IsKept : List ℕ → List (ℕ × ℕ) → List (List ℕ) → List (List ℕ) → Type 0
-IsKept widths nodes old new = (set : List ℕ) × (new ≡ old ++ set ∷ []) × IsSetOf widths nodes set

@@ -5,13 +5,12 @@ use Rattle.rx_walks.specs.ProgramFinds.{lowest, highest}
 use Rattle.rx_program.specs.Programs.{ByteProgram}
 use Rattle.rx_lists.specs.declared.pass_back.Block.{Block}
 use Rattle.rx_lists.specs.declared.blocks.Blocks.{Blocks}
-use Rattle.rx_lists.specs.Leading.{AreKnown}
-use Rattle.rx_lists.specs.LeadingSets.{AreLeadingSets}
+use Rattle.rx_lists.specs.LeadingSets.{AreKnown, AreLeadingSets}
 use Rattle.rx_lists.specs.Passes.{IsReady}
 
 -- the sets of a block go back to a place
 abbrev pub Reaches : Block → ℕ → Type 0
-Reaches b i = b.top < i + length b.sets.items
+Reaches b i = b.top < i + length b.sets
 
 -- sets that were kept at distances from the last place of a search, and those of the block at hand,
 -- which begins at one of these places, are of the nodes that lead
@@ -20,8 +19,8 @@ pub record AreBlocks (p : ByteProgram) (s : Search) (b : Blocks) : Type 0 where
   pub first_is : b.first ≡ lowest s
   pub last_is : b.last ≡ highest s
   pub spaced : 0 < b.every
-  pub kept : AreLeadingSets p s b.last b.every b.kept.items
-  pub sets : AreLeadingSets p s b.block.top 1 b.block.sets.items
-  pub numbered : (k : ℕ) × (k < length b.kept.items) × (b.block.top + k * b.every ≡ b.last)
+  pub kept : AreLeadingSets p s b.last b.every b.kept
+  pub sets : AreLeadingSets p s b.block.top 1 b.block.sets
+  pub numbered : (k : ℕ) × (k < length b.kept) × (b.block.top + k * b.every ≡ b.last)
   pub above : lowest s ≤ b.block.top
   pub known : AreKnown p s (lowest s)

@@ -1,15 +1,15 @@
 -- The nodes that lead to a match, place by place from the last one back.
-use Rattle.std.specs.Prelude.{◌≡◌, ℕ, ◌<◌, ◌≤◌, ◌++◌, Bool, true, false, List, [], ◌∷◌, length, Some, slice_get, Contains}
+use Rattle.std.specs.Prelude.{◌≡◌, ℕ, ◌<◌, ◌≤◌, ◌++◌, Bool, true, false, List, [], ◌∷◌}
+use Rattle.std.specs.Prelude.{length, Some, None, slice_get, Contains}
 use Rattle.rx_walks.specs.Machines.{Machine, Move, ends, goes, reads}
 use Rattle.rx_walks.specs.Leading.{LeadsToMatch, LeadsBy}
 use Rattle.rx_walks.specs.Finds.{Search}
-use Rattle.rx_walks.specs.ProgramFinds.{highest}
 use Rattle.rx_program.specs.Programs.{ByteProgram}
 use Rattle.rx_program.specs.declared.states.State.{State}
 use Rattle.rx_steps.specs.declared.place.Place.{Place}
 use Rattle.rx_steps.specs.Nodes.{widths_of, node_count, index_from, IsNodeOf}
 use Rattle.rx_steps.specs.Threads.{Slots}
-use Rattle.rx_steps.specs.Lists.{MakesMoves, move_at}
+use Rattle.rx_steps.specs.Lists.{move_at}
 use Rattle.rx_steps.specs.Coming.{machine_in}
 
 -- these are the nodes of a program that lead to a match from a place of a search
@@ -17,10 +17,6 @@ pub record AreLeading (p : ByteProgram) (s : Search) (i : ℕ) (nodes : List (�
   pub leads : (q : ℕ × ℕ) → Contains nodes q → LeadsToMatch (machine_in p s) q i
   pub all : (q : ℕ × ℕ) → IsNodeOf p.states q → LeadsToMatch (machine_in p s) q i
       → Contains nodes q
-
--- such nodes are known at each place up to the last one, from this one on
-abbrev pub AreKnown : ByteProgram → Search → ℕ → Type 0
-AreKnown p s i = (j : ℕ) → i ≤ j → j ≤ highest s → (nodes : List (ℕ × ℕ)) × AreLeading p s j nodes
 
 -- ---- a place, by the one behind it
 
@@ -31,11 +27,18 @@ LeadsOn here beyond (ends k) = Unit {0}
 LeadsOn here beyond (goes rs) = (k : ℕ) × (r : ℕ × ℕ) × (slice_get rs k ≡ Some r) × Contains here r
 LeadsOn here beyond (reads r j) = Contains beyond r
 
+-- a machine moves at a place as the states of a program do
+pub record Moves (m : Machine (ℕ × ℕ) Slots) (i : ℕ) (states : List State) (place : Place)
+    : Type 0 where
+  pub at_state : (q : ℕ × ℕ) (x : State) → slice_get states q.0 ≡ Some x
+      → m.move i q ≡ move_at place i q x
+  pub elsewhere : (q : ℕ × ℕ) → slice_get states q.0 ≡ None → m.move i q ≡ goes []
+
 -- the nodes here are those that lead by those beyond
 pub record AreFilled (p : ByteProgram) (place : Place) (beyond here : List (ℕ × ℕ)) : Type 0 where
-  pub leads : (m : Machine (ℕ × ℕ) Slots) (i : ℕ) → MakesMoves m i p.states place
+  pub leads : (m : Machine (ℕ × ℕ) Slots) (i : ℕ) → Moves m i p.states place
       → (q : ℕ × ℕ) → Contains here q → LeadsBy m i (λ r. Contains beyond r) q
-  pub all : (m : Machine (ℕ × ℕ) Slots) (i : ℕ) → MakesMoves m i p.states place
+  pub all : (m : Machine (ℕ × ℕ) Slots) (i : ℕ) → Moves m i p.states place
       → (q : ℕ × ℕ) → IsNodeOf p.states q → LeadsBy m i (λ r. Contains beyond r) q
       → Contains here q
 
@@ -54,7 +57,7 @@ IsMarked p place q beyond old new false = (new ≡ old)
 
 -- what leads by one set leads by another one too, if all that is new leads on
 abbrev pub AreSound : ByteProgram → Place → List (ℕ × ℕ) → List (ℕ × ℕ) → Type 0
-AreSound p place beyond here = (m : Machine (ℕ × ℕ) Slots) (i : ℕ) → MakesMoves m i p.states place
+AreSound p place beyond here = (m : Machine (ℕ × ℕ) Slots) (i : ℕ) → Moves m i p.states place
     → (q : ℕ × ℕ) → Contains here q → LeadsBy m i (λ r. Contains beyond r) q
 
 -- each of these nodes that leads on is among those here

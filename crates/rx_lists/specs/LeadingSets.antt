@@ -1,7 +1,8 @@
 -- Sets of the nodes that lead to a match.
-use Rattle.std.specs.Prelude.{◌≡◌, ℕ, ◌-◌, ◌*◌, List, Some, slice_get}
+use Rattle.std.specs.Prelude.{◌≡◌, ℕ, ◌-◌, ◌*◌, ◌≤◌, List, Some, slice_get}
 use Rattle.rx_walks.specs.Leading.{LeadsToMatch}
 use Rattle.rx_walks.specs.Finds.{Search}
+use Rattle.rx_walks.specs.ProgramFinds.{highest}
 use Rattle.rx_program.specs.Programs.{ByteProgram}
 use Rattle.rx_steps.specs.Nodes.{widths_of, IsNodeOf}
 use Rattle.rx_steps.specs.Coming.{machine_in}
@@ -17,3 +18,7 @@ pub record IsLeadingSet (p : ByteProgram) (s : Search) (i : ℕ) (set : List ℕ
 abbrev pub AreLeadingSets : ByteProgram → Search → ℕ → ℕ → List (List ℕ) → Type 0
 AreLeadingSets p s last distance sets = (k : ℕ) (set : List ℕ) → slice_get sets k ≡ Some set
     → IsLeadingSet p s (last - k * distance) set
+
+-- such a set is known of each place up to the last one, from this one on
+abbrev pub AreKnown : ByteProgram → Search → ℕ → Type 0
+AreKnown p s i = (j : ℕ) → i ≤ j → j ≤ highest s → (set : List ℕ) × IsLeadingSet p s j set

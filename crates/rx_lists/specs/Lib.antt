@@ -3,6 +3,7 @@ pub mod Sets
 pub mod Arrivals
 pub mod Leading
 pub mod LeadingSets
+pub mod Known
 pub mod Passes
 pub mod Blocks
 pub mod Lists

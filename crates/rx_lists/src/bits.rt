@@ -1,6 +1,6 @@
 //! Sets of numbers in bits.
 
-ghost use Rattle.std.specs.Prelude.{◌≡◌, ◌≢◌, ◌<◌, ◌≤◌, ◌*◌, ℕ, true, false, IfOk, length};
+ghost use Rattle.std.specs.Prelude.{◌≡◌, ◌≢◌, ◌<◌, ◌≤◌, ◌*◌, ℕ, true, false, IfOk, IsTrue, length};
 ghost use Rattle.rx_lists.specs.Bits.{has_bit};
 
 use std::alloc::{AllocError, Global};
@@ -50,5 +50,12 @@ impl Bits {
             Some(word) => *word >> (number % 64) & 1 == 1,
             None => false,
         }
+    }
+
+    /// Whether it has the same words as another one.
+    pub(crate) fn is_same(&self, other: &Bits) -> bool
+        ensures { IsTrue result → self.now ≡ other.now }
+    {
+        self.words == other.words
     }
 }

@@ -7,10 +7,11 @@ ghost use Rattle.rx_walks.specs.ProgramFinds.{highest, lowest};
 ghost use Rattle.rx_input.specs.Cursors.{IsSameContent};
 ghost use Rattle.rx_steps.specs.Searching.{search_of};
 ghost use Rattle.rx_lists.specs.Blocks.{AreBlocks, Reaches};
-ghost use Rattle.rx_lists.specs.Leading.{AreKnown, AreLeading};
+ghost use Rattle.rx_lists.specs.LeadingSets.{AreKnown, IsLeadingSet};
 ghost use Rattle.rx_lists.specs.Passes.{IsReady};
 
 use crate::bits::Bits;
+use crate::known::Sets;
 use crate::pass_back::{Block, PassBack};
 use counters::Counter;
 use rx_input::{Cursor, Input};
@@ -20,14 +21,6 @@ use std::alloc::{AllocError, Global};
 
 // The least distance at which sets are kept.
 const LEAST: usize = 4096;
-
-/// The set with this number.
-fn set_in(sets: &[Bits], number: usize) -> &Bits
-    requires { number < length sets.now }
-    ensures { slice_get sets.now number ≡ Some result.now }
-{
-    &sets[number]
-}
 
 /// The nodes that lead from each place of a span: those of places at distances are kept, and those
 /// of the places between are made from these, a block at a time. A block's last place is one of
@@ -43,7 +36,7 @@ pub(crate) struct Blocks {
     pub(crate) every: usize,
     // The nodes that lead from the last place, from the one that lies the distance before it, and
     // so on.
-    pub(crate) kept: Vec<Bits>,
+    pub(crate) kept: Sets,
     // The block at hand.
     pub(crate) block: Block,
 }
@@ -79,10 +72,10 @@ impl Blocks {
             first,
             last,
             every: (last - first).isqrt().max(LEAST),
-            kept: Vec::new(alloc),
+            kept: Sets::new(alloc),
             block: Block {
                 top: last,
-                sets: Vec::new(alloc),
+                sets: Sets::new(alloc),
             },
         };
         blocks.pass.pass(program, input, read)?;
@@ -107,8 +100,8 @@ impl Blocks {
         requires ready { IsReady program.now self.old.pass }
         requires inside { (utf8_empty : Bool)
             → IsInside (search_of utf8_empty input.old) input.old.position }
-        requires leading { (utf8_empty : Bool) → AreLeading program.now
-            (search_of utf8_empty input.old) input.old.position self.old.pass.here.nodes }
+        requires leading { (utf8_empty : Bool) → IsLeadingSet program.now
+            (search_of utf8_empty input.old) input.old.position self.old.pass.set.value }
         requires known { (utf8_empty : Bool) → AreKnown program.now
             (search_of utf8_empty input.old) input.old.position }
         requires first { (utf8_empty : Bool)
@@ -117,7 +110,7 @@ impl Blocks {
             → self.old.last ≡ highest (search_of utf8_empty input.old) }
         requires there { input.old.position ≡ self.old.last }
         requires spaced { 0 < self.old.every }
-        requires none { self.old.kept.items ≡ [] }
+        requires none { self.old.kept ≡ [] }
         ensures blocks { OnOk result ((utf8_empty : Bool) → AreBlocks program.now
             (search_of utf8_empty input.old) self.new) }
         ensures reaches { OnOk result (Reaches self.new.block self.old.first) }
@@ -165,7 +158,7 @@ impl Blocks {
             return Ok(());
         }
         let number = (self.last - at) / self.every;
-        self.pass.load(set_in(&self.kept, number))?;
+        self.pass.load(self.kept.at(number))?;
         let top = self.last - number * self.every;
         input.move_to(top);
         let bottom = self.bottom(top);
@@ -179,9 +172,9 @@ impl Blocks {
     pub(crate) fn set(&self, at: usize) -> &Bits
         requires there { at ≤ self.now.block.top }
         requires reaches { Reaches self.now.block at }
-        ensures { slice_get self.now.block.sets.items (self.now.block.top - at)
+        ensures { slice_get self.now.block.sets (self.now.block.top - at)
             ≡ Some result.now }
     {
-        &self.block.sets[self.block.top - at]
+        self.block.sets.at(self.block.top - at)
     }
 }

@@ -6,6 +6,7 @@
 mod arrivals;
 mod bits;
 mod blocks;
+mod known;
 mod leading;
 mod lists;
 mod node_index;

@@ -297,10 +297,11 @@ fn list_all<C: Cursor>(
 /// `Memory`.
 ///
 /// Which nodes of the program lead to a match is told back from the span's end. Of that the sets of
-/// places at distances are kept, and those between are made anew, a block at a time, as the list
+/// places at distances are kept, and those between are come to anew, a block at a time, as the list
 /// comes to them: a distance is the square root of the span's length, and at least 4,096 places. So
-/// it takes memory for the matches, for lists of the program's nodes and empty edges, and for as
-/// many bits as the program has nodes for each place of one block and for each distance.
+/// it takes memory for the matches, for lists of the program's nodes and empty edges, for at most
+/// 500 sets of nodes that are known, each with four kilobytes, and for each place of one block and
+/// for each distance a pointer, with as many bits as the program has nodes for a set that isn't.
 ///
 /// `read` counts each place that is read: once back, at most once more for the blocks, and forward
 /// where a match may start and where a walk comes by. With them the one before and the one behind

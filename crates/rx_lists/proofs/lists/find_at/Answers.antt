@@ -34,7 +34,7 @@ returns-then-not-has-clause-found g c = λ b leads.
     let come = c.in_ok-come_to.ensures in
     let set = c.set-set.result.now in
     let stays : c.position.result ≡ i = c.position.ensures.position ∙ come.position in
-    let leading : IsLeadingSet p s i set = set_at p s c.come_to.new.self.block.top c.position.result i c.come_to.new.self.block.sets.items set (come.blocks u).sets c.set-set.ensures (omega (arith, stays, come.there)) stays in
+    let leading : IsLeadingSet p s i set = set_at p s c.come_to.new.self.block.top c.position.result i c.come_to.new.self.block.sets set (come.blocks u).sets c.set-set.ensures (omega (arith, stays, come.there)) stays in
     let there : HasNode c.come_to.new.self.pass.index set (first_node c.args.of.now.start) = subst (λ w. HasNode w set (first_node c.args.of.now.start)) (sym (come.blocks u).ready.index_is)
     (leading.all (first_node c.args.of.now.start) (first_may (slice_get p.states c.args.of.now.start)) leads) in
     let told : c.has.result ≡ true = c.has.ensures.1 (subst (λ z. HasNode c.come_to.new.self.pass.index set z) (sym c.first.ensures) there) in
@@ -52,7 +52,7 @@ returns-clause-found g c =
     let come = c.in_ok-come_to.ensures in
     let set = c.set-set.result.now in
     let stays : c.position.result ≡ i = c.position.ensures.position ∙ come.position in
-    let leading : IsLeadingSet p s i set = set_at p s c.come_to.new.self.block.top c.position.result i c.come_to.new.self.block.sets.items set (come.blocks u).sets c.set-set.ensures (omega (arith, stays, come.there)) stays in
+    let leading : IsLeadingSet p s i set = set_at p s c.come_to.new.self.block.top c.position.result i c.come_to.new.self.block.sets set (come.blocks u).sets c.set-set.ensures (omega (arith, stays, come.there)) stays in
     let leads : LeadsToMatch (machine_in p s) (first_node c.args.of.now.start) i = leading.leads (first_node c.args.of.now.start)
     (subst (λ w. HasNode w set (first_node c.args.of.now.start)) (come.blocks u).ready.index_is (subst (λ z. HasNode c.come_to.new.self.pass.index set z) c.first.ensures (c.has.ensures.0 c.if-not-has.false))) in
     let same : search_of u c.come_to.new.input ≡ s = same_search u c.come_to.new.input c.args.input.now come.same.content come.asked in
@@ -71,7 +71,7 @@ returns-clause-reaches g c =
     let come = c.in_ok-come_to.ensures in
     let set = c.set-set.result.now in
     let stays : c.position.result ≡ i = c.position.ensures.position ∙ come.position in
-    let leading : IsLeadingSet p s i set = set_at p s c.come_to.new.self.block.top c.position.result i c.come_to.new.self.block.sets.items set (come.blocks u).sets c.set-set.ensures (omega (arith, stays, come.there)) stays in
+    let leading : IsLeadingSet p s i set = set_at p s c.come_to.new.self.block.top c.position.result i c.come_to.new.self.block.sets set (come.blocks u).sets c.set-set.ensures (omega (arith, stays, come.there)) stays in
     let leads : LeadsToMatch (machine_in p s) (first_node c.args.of.now.start) i = leading.leads (first_node c.args.of.now.start)
     (subst (λ w. HasNode w set (first_node c.args.of.now.start)) (come.blocks u).ready.index_is (subst (λ z. HasNode c.come_to.new.self.pass.index set z) c.first.ensures (c.has.ensures.0 c.if-not-has.false))) in
     let same : search_of u c.come_to.new.input ≡ s = same_search u c.come_to.new.input c.args.input.now come.same.content come.asked in
@@ -89,7 +89,7 @@ returns-clause-counted g c =
     let come = c.in_ok-come_to.ensures in
     let set = c.set-set.result.now in
     let stays : c.position.result ≡ i = c.position.ensures.position ∙ come.position in
-    let leading : IsLeadingSet p s i set = set_at p s c.come_to.new.self.block.top c.position.result i c.come_to.new.self.block.sets.items set (come.blocks u).sets c.set-set.ensures (omega (arith, stays, come.there)) stays in
+    let leading : IsLeadingSet p s i set = set_at p s c.come_to.new.self.block.top c.position.result i c.come_to.new.self.block.sets set (come.blocks u).sets c.set-set.ensures (omega (arith, stays, come.there)) stays in
     let leads : LeadsToMatch (machine_in p s) (first_node c.args.of.now.start) i = leading.leads (first_node c.args.of.now.start)
     (subst (λ w. HasNode w set (first_node c.args.of.now.start)) (come.blocks u).ready.index_is (subst (λ z. HasNode c.come_to.new.self.pass.index set z) c.first.ensures (c.has.ensures.0 c.if-not-has.false))) in
     let same : search_of u c.come_to.new.input ≡ s = same_search u c.come_to.new.input c.args.input.now come.same.content come.asked in

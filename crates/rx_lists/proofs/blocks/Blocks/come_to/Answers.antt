@@ -1,10 +1,9 @@
-use Rattle.std.proofs.Common.{◌≡◌, ◌-◌, ◌*◌, ◌/◌, ◌≤◌, Bool, true, length, Some, slice_get, refl, sym, ap, subst, ◌∙◌, arith}
+use Rattle.std.proofs.Common.{◌≡◌, ◌-◌, ◌*◌, ◌/◌, ◌≤◌, Bool, true, refl, sym, subst, arith}
 use Rattle.rx_walks.specs.Finds.{IsInside}
 use Rattle.rx_walks.specs.ProgramFinds.{lowest}
 use Rattle.rx_steps.specs.Searching.{search_of}
 use Rattle.rx_steps.proofs.OverLaws.{same_search}
-use Rattle.rx_lists.specs.Leading.{AreKnown, AreLeading}
-use Rattle.rx_lists.specs.LeadingSets.{AreLeadingSets}
+use Rattle.rx_lists.specs.LeadingSets.{AreKnown, AreLeadingSets, IsLeadingSet}
 use Rattle.rx_lists.proofs.NumberLaws.{further_top}
 use Rattle.rx_lists.proofs.PassLaws.{inside_up}
 use Rattle.rx_lists.proofs.WayLaws.{inside_is}
@@ -22,8 +21,8 @@ overflow_sub-number g c = omega (arith, c.position-at.ensures.position, (c.requi
 pub nonzero_div-number : goal.nonzero_div-number
 nonzero_div-number g c = (c.requires.blocks true).spaced
 
-pub set_in-requires : goal.set_in-requires
-set_in-requires g c =
+pub at-requires : goal.at-requires
+at-requires g c =
     let p = c.args.program.now in
     let self = c.args.self.now in
     let at = c.position-at.result in
@@ -34,7 +33,7 @@ set_in-requires g c =
     let there : at ≡ i = c.position-at.ensures.position in
     let within : at ≤ self.last = omega (arith, there, (blocks true).last_is, (inside_is (search_of true c.args.input.now) i (c.requires.inside true)).1) in
     let far = further_top self.last at self.block.top self.every (blocks true).numbered.0 n (blocks true).spaced (blocks true).numbered.2 (omega (arith, c.if-at-self.false)) within refl in
-    omega (arith, far.0, (blocks true).numbered.1, ap (λ xs. length xs) c.deref.ensures.value)
+    omega (arith, far.0, (blocks true).numbered.1)
 
 pub pass_block-requires-clause-ready : goal.pass_block-requires-clause-ready
 pass_block-requires-clause-ready g c = c.load.ensures.ready c.args.program.now (c.requires.blocks true).ready
@@ -109,10 +108,9 @@ pass_block-requires-clause-leading g c =
     let inside : (b : Bool) → IsInside (search_of b c.args.input.now) top = λ b. inside_up (search_of b c.args.input.now) i top (c.requires.inside b) (omega (arith, far.2, there)) (omega (arith, (blocks b).last_is)) in
     let to : moved.position ≡ top = let deep = inside true in omega (arith, c.move_to.ensures.position_is, deep.4) in
     let same : (b : Bool) → search_of b moved ≡ search_of b c.args.input.now = λ b. same_search b moved c.args.input.now c.move_to.ensures.same.content c.move_to.ensures.asked_is in
-    let nodes = c.load.new.self.here.nodes in
-    let get : slice_get self.kept.items n ≡ Some c.set_in.result.now = ap (λ xs. slice_get xs n) (sym c.deref.ensures.value) ∙ c.set_in.ensures in
-    λ b. subst (λ x. AreLeading p x moved.position nodes) (sym (same b)) (subst (λ j. AreLeading p (search_of b c.args.input.now) j nodes) (sym to)
-    (c.in_ok-load.ensures.leading p (search_of b c.args.input.now) top (blocks b).ready ((blocks b).kept n c.set_in.result.now get)))
+    let set = c.load.new.self.set.value in
+    λ b. subst (λ x. IsLeadingSet p x moved.position set) (sym (same b)) (subst (λ j. IsLeadingSet p (search_of b c.args.input.now) j set) (sym to)
+    (subst (λ x. IsLeadingSet p (search_of b c.args.input.now) top x) (sym c.in_ok-load.ensures.set) ((blocks b).kept n c.at.result.now.value c.at.ensures)))
 
 pub pass_block-requires-clause-known : goal.pass_block-requires-clause-known
 pass_block-requires-clause-known g c =
@@ -167,7 +165,7 @@ returns-clause-blocks g c =
     let to : moved.position ≡ top = let deep = inside true in omega (arith, c.move_to.ensures.position_is, deep.4) in
     let same : (b : Bool) → search_of b moved ≡ search_of b c.args.input.now = λ b. same_search b moved c.args.input.now c.move_to.ensures.same.content c.move_to.ensures.asked_is in
     let pass = c.in_ok-pass_block.ensures in
-    let sets = c.pass_block.new.block.sets.items in
+    let sets = c.pass_block.new.block.sets in
     λ b. record {
       ready = pass.ready;
       first_is = (blocks b).first_is;

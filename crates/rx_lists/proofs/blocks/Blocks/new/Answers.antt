@@ -4,8 +4,8 @@ use Rattle.rx_walks.specs.ProgramFinds.{highest}
 use Rattle.rx_steps.specs.Searching.{search_of}
 use Rattle.rx_steps.proofs.OverLaws.{same_search}
 use Rattle.rx_lists.specs.Blocks.{AreBlocks}
-use Rattle.rx_lists.specs.Leading.{AreKnown, AreLeading}
-use Rattle.rx_lists.proofs.PassLaws.{none_past, known_more, known_none}
+use Rattle.rx_lists.specs.LeadingSets.{AreKnown, IsLeadingSet}
+use Rattle.rx_lists.proofs.PassLaws.{none_leads_past, known_more, known_none}
 use Rattle.rx_lists.proofs.WayLaws.{inside_is}
 use Rattle.rx_lists.proofs.blocks.Blocks.new.Goals as goal
 
@@ -24,12 +24,12 @@ pass_all-requires-clause-inside g c =
     let at = c.args.input.now.position in
     let pass = c.in_ok-pass.ensures in
     let moved = c.pass.new.input in
-    let nodes = c.pass.new.self.here.nodes in
+    let set = c.pass.new.self.set.value in
     let same : (b : Bool) → search_of b moved ≡ search_of b c.args.input.now = λ b. same_search b moved c.args.input.now pass.same.same.content pass.same.asked_is in
     let stays : moved.position ≡ at = pass.same.position_is in
     let past : (b : Bool) → highest (search_of b c.args.input.now) < at + 1 = λ b. omega (arith, c.requires.last b) in
-    let leading : (b : Bool) → AreLeading p (search_of b c.args.input.now) at nodes = λ b. pass.leading b (c.requires.inside b)
-    (subst (λ xs. AreLeading p (search_of b c.args.input.now) (at + 1) xs) (sym c.in_ok-new.ensures.empty) (none_past p (search_of b c.args.input.now) (at + 1) (past b))) in
+    let leading : (b : Bool) → IsLeadingSet p (search_of b c.args.input.now) at set = λ b. pass.leading b (c.requires.inside b)
+    (none_leads_past p (search_of b c.args.input.now) (at + 1) c.in_ok-new.field-0.set.value (past b) c.in_ok-new.ensures.empty) in
     λ b. subst (λ x. IsInside x moved.position) (sym (same b)) (subst (λ j. IsInside (search_of b c.args.input.now) j) (sym stays) (c.requires.inside b))
 
 pub pass_all-requires-clause-leading : goal.pass_all-requires-clause-leading
@@ -38,13 +38,13 @@ pass_all-requires-clause-leading g c =
     let at = c.args.input.now.position in
     let pass = c.in_ok-pass.ensures in
     let moved = c.pass.new.input in
-    let nodes = c.pass.new.self.here.nodes in
+    let set = c.pass.new.self.set.value in
     let same : (b : Bool) → search_of b moved ≡ search_of b c.args.input.now = λ b. same_search b moved c.args.input.now pass.same.same.content pass.same.asked_is in
     let stays : moved.position ≡ at = pass.same.position_is in
     let past : (b : Bool) → highest (search_of b c.args.input.now) < at + 1 = λ b. omega (arith, c.requires.last b) in
-    let leading : (b : Bool) → AreLeading p (search_of b c.args.input.now) at nodes = λ b. pass.leading b (c.requires.inside b)
-    (subst (λ xs. AreLeading p (search_of b c.args.input.now) (at + 1) xs) (sym c.in_ok-new.ensures.empty) (none_past p (search_of b c.args.input.now) (at + 1) (past b))) in
-    λ b. subst (λ x. AreLeading p x moved.position nodes) (sym (same b)) (subst (λ j. AreLeading p (search_of b c.args.input.now) j nodes) (sym stays) (leading b))
+    let leading : (b : Bool) → IsLeadingSet p (search_of b c.args.input.now) at set = λ b. pass.leading b (c.requires.inside b)
+    (none_leads_past p (search_of b c.args.input.now) (at + 1) c.in_ok-new.field-0.set.value (past b) c.in_ok-new.ensures.empty) in
+    λ b. subst (λ x. IsLeadingSet p x moved.position set) (sym (same b)) (subst (λ j. IsLeadingSet p (search_of b c.args.input.now) j set) (sym stays) (leading b))
 
 pub pass_all-requires-clause-known : goal.pass_all-requires-clause-known
 pass_all-requires-clause-known g c =
@@ -52,14 +52,14 @@ pass_all-requires-clause-known g c =
     let at = c.args.input.now.position in
     let pass = c.in_ok-pass.ensures in
     let moved = c.pass.new.input in
-    let nodes = c.pass.new.self.here.nodes in
+    let set = c.pass.new.self.set.value in
     let same : (b : Bool) → search_of b moved ≡ search_of b c.args.input.now = λ b. same_search b moved c.args.input.now pass.same.same.content pass.same.asked_is in
     let stays : moved.position ≡ at = pass.same.position_is in
     let past : (b : Bool) → highest (search_of b c.args.input.now) < at + 1 = λ b. omega (arith, c.requires.last b) in
-    let leading : (b : Bool) → AreLeading p (search_of b c.args.input.now) at nodes = λ b. pass.leading b (c.requires.inside b)
-    (subst (λ xs. AreLeading p (search_of b c.args.input.now) (at + 1) xs) (sym c.in_ok-new.ensures.empty) (none_past p (search_of b c.args.input.now) (at + 1) (past b))) in
+    let leading : (b : Bool) → IsLeadingSet p (search_of b c.args.input.now) at set = λ b. pass.leading b (c.requires.inside b)
+    (none_leads_past p (search_of b c.args.input.now) (at + 1) c.in_ok-new.field-0.set.value (past b) c.in_ok-new.ensures.empty) in
     λ b. subst (λ x. AreKnown p x moved.position) (sym (same b)) (subst (λ j. AreKnown p (search_of b c.args.input.now) j) (sym stays)
-    (known_more p (search_of b c.args.input.now) at nodes (known_none p (search_of b c.args.input.now) (at + 1) (past b)) (leading b)))
+    (known_more p (search_of b c.args.input.now) at set (known_none p (search_of b c.args.input.now) (at + 1) (past b)) (leading b)))
 
 pub pass_all-requires-clause-last : goal.pass_all-requires-clause-last
 pass_all-requires-clause-last g c =
@@ -67,12 +67,12 @@ pass_all-requires-clause-last g c =
     let at = c.args.input.now.position in
     let pass = c.in_ok-pass.ensures in
     let moved = c.pass.new.input in
-    let nodes = c.pass.new.self.here.nodes in
+    let set = c.pass.new.self.set.value in
     let same : (b : Bool) → search_of b moved ≡ search_of b c.args.input.now = λ b. same_search b moved c.args.input.now pass.same.same.content pass.same.asked_is in
     let stays : moved.position ≡ at = pass.same.position_is in
     let past : (b : Bool) → highest (search_of b c.args.input.now) < at + 1 = λ b. omega (arith, c.requires.last b) in
-    let leading : (b : Bool) → AreLeading p (search_of b c.args.input.now) at nodes = λ b. pass.leading b (c.requires.inside b)
-    (subst (λ xs. AreLeading p (search_of b c.args.input.now) (at + 1) xs) (sym c.in_ok-new.ensures.empty) (none_past p (search_of b c.args.input.now) (at + 1) (past b))) in
+    let leading : (b : Bool) → IsLeadingSet p (search_of b c.args.input.now) at set = λ b. pass.leading b (c.requires.inside b)
+    (none_leads_past p (search_of b c.args.input.now) (at + 1) c.in_ok-new.field-0.set.value (past b) c.in_ok-new.ensures.empty) in
     λ b. subst (λ x. c.position-last.result ≡ highest x) (sym (same b)) (c.position-last.ensures.position ∙ c.requires.last b)
 
 pub returns-clause-blocks : goal.returns-clause-blocks
@@ -81,10 +81,10 @@ returns-clause-blocks g c =
     let at = c.args.input.now.position in
     let pass = c.in_ok-pass.ensures in
     let moved = c.pass.new.input in
-    let nodes = c.pass.new.self.here.nodes in
+    let set = c.pass.new.self.set.value in
     let same : (b : Bool) → search_of b moved ≡ search_of b c.args.input.now = λ b. same_search b moved c.args.input.now pass.same.same.content pass.same.asked_is in
     let stays : moved.position ≡ at = pass.same.position_is in
     let past : (b : Bool) → highest (search_of b c.args.input.now) < at + 1 = λ b. omega (arith, c.requires.last b) in
-    let leading : (b : Bool) → AreLeading p (search_of b c.args.input.now) at nodes = λ b. pass.leading b (c.requires.inside b)
-    (subst (λ xs. AreLeading p (search_of b c.args.input.now) (at + 1) xs) (sym c.in_ok-new.ensures.empty) (none_past p (search_of b c.args.input.now) (at + 1) (past b))) in
+    let leading : (b : Bool) → IsLeadingSet p (search_of b c.args.input.now) at set = λ b. pass.leading b (c.requires.inside b)
+    (none_leads_past p (search_of b c.args.input.now) (at + 1) c.in_ok-new.field-0.set.value (past b) c.in_ok-new.ensures.empty) in
     λ b. subst (λ x. AreBlocks p x c.pass_all.new.self) (same b) (c.in_ok-pass_all.ensures.blocks b)

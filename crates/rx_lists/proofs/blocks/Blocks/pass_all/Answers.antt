@@ -3,11 +3,10 @@ use Rattle.rx_walks.specs.Finds.{IsInside}
 use Rattle.rx_walks.specs.ProgramFinds.{lowest, highest}
 use Rattle.rx_steps.specs.Searching.{search_of}
 use Rattle.rx_steps.proofs.OverLaws.{same_search}
-use Rattle.rx_lists.specs.Leading.{AreKnown, AreLeading}
-use Rattle.rx_lists.specs.LeadingSets.{AreLeadingSets}
+use Rattle.rx_lists.specs.LeadingSets.{AreKnown, AreLeadingSets, IsLeadingSet}
 use Rattle.rx_lists.proofs.NumberLaws.{one_more_times}
-use Rattle.rx_lists.proofs.PassLaws.{inside_down}
-use Rattle.rx_lists.proofs.WayLaws.{inside_is, keep_more, keep_count}
+use Rattle.rx_lists.proofs.PassLaws.{count_more, inside_down, kept_more}
+use Rattle.rx_lists.proofs.WayLaws.{inside_is}
 use Rattle.rx_lists.proofs.blocks.Blocks.pass_all.Goals as goal
 
 pub returns-in_err-keep-clause-counted : goal.returns-in_err-keep-clause-counted
@@ -80,12 +79,12 @@ returns-then-bottom-self-clause-blocks g c =
     let same : (b : Bool) → search_of b input ≡ search_of b c.args.input.now = λ b. same_search b input c.args.input.now inv.same.content inv.asked in
     let first : (b : Bool) → self.first ≡ lowest (search_of b c.args.input.now) = λ b. inv.first ∙ c.requires.first b in
     let bounds : (b : Bool) → (lowest (search_of b c.args.input.now) ≤ at) × (at ≤ highest (search_of b c.args.input.now)) = λ b. inside_is (search_of b c.args.input.now) at (inv.inside b) in
-    let kept' = c.keep.new.sets.items in
+    let kept' = c.keep.new.sets in
     let pass = c.in_ok-pass_block.ensures in
-    let kept : (b : Bool) → AreLeadingSets p (search_of b c.args.input.now) self.last self.every kept' = λ b. keep_more p (search_of b c.args.input.now) self.last self.every at self.pass.index self.pass.here.nodes self.kept.items kept' inv.ready.index_is (bounds b).0 (bounds b).1
-    (inv.leading b) c.in_ok-keep.ensures (omega (arith, inv.numbered)) (inv.kept b) in
-    let count : length kept' ≡ length self.kept.items + 1 = keep_count self.pass.index self.pass.here.nodes self.kept.items kept' c.in_ok-keep.ensures in
-    let sets = c.pass_block.new.block.sets.items in
+    let kept : (b : Bool) → AreLeadingSets p (search_of b c.args.input.now) self.last self.every kept' = λ b. kept_more p (search_of b c.args.input.now) self.last self.every at self.kept kept' self.pass.set.value
+    c.in_ok-keep.ensures (inv.leading b) (omega (arith, inv.numbered)) (inv.kept b) in
+    let count : length kept' ≡ length self.kept + 1 = count_more self.kept kept' self.pass.set.value c.in_ok-keep.ensures in
+    let sets = c.pass_block.new.block.sets in
     λ b. record {
       ready = pass.ready;
       first_is = first b;
@@ -93,7 +92,7 @@ returns-then-bottom-self-clause-blocks g c =
       spaced = omega (arith, inv.every, c.requires.spaced);
       kept = kept b;
       sets = subst (λ j. AreLeadingSets p (search_of b c.args.input.now) j 1 sets) (sym pass.top) (subst (λ x. AreLeadingSets p x at 1 sets) (same b) (pass.sets b));
-      numbered = (length self.kept.items, omega (arith, count), omega (arith, pass.top, inv.numbered));
+      numbered = (length self.kept, omega (arith, count), omega (arith, pass.top, inv.numbered));
       above = omega (arith, pass.top, (bounds b).0);
       known = subst (λ j. AreKnown p (search_of b c.args.input.now) j) (omega (arith, c.if-bottom-self.true, c.bottom-bottom.ensures, first b)) (subst (λ x. AreKnown p x c.bottom-bottom.result) (same b) (pass.known b));
     }
@@ -108,18 +107,18 @@ loop-self-preserved g c =
     let same : (b : Bool) → search_of b input ≡ search_of b c.args.input.now = λ b. same_search b input c.args.input.now inv.same.content inv.asked in
     let first : (b : Bool) → self.first ≡ lowest (search_of b c.args.input.now) = λ b. inv.first ∙ c.requires.first b in
     let bounds : (b : Bool) → (lowest (search_of b c.args.input.now) ≤ at) × (at ≤ highest (search_of b c.args.input.now)) = λ b. inside_is (search_of b c.args.input.now) at (inv.inside b) in
-    let kept' = c.keep.new.sets.items in
+    let kept' = c.keep.new.sets in
     let pass = c.in_ok-pass_block.ensures in
-    let kept : (b : Bool) → AreLeadingSets p (search_of b c.args.input.now) self.last self.every kept' = λ b. keep_more p (search_of b c.args.input.now) self.last self.every at self.pass.index self.pass.here.nodes self.kept.items kept' inv.ready.index_is (bounds b).0 (bounds b).1
-    (inv.leading b) c.in_ok-keep.ensures (omega (arith, inv.numbered)) (inv.kept b) in
-    let count : length kept' ≡ length self.kept.items + 1 = keep_count self.pass.index self.pass.here.nodes self.kept.items kept' c.in_ok-keep.ensures in
+    let kept : (b : Bool) → AreLeadingSets p (search_of b c.args.input.now) self.last self.every kept' = λ b. kept_more p (search_of b c.args.input.now) self.last self.every at self.kept kept' self.pass.set.value
+    c.in_ok-keep.ensures (inv.leading b) (omega (arith, inv.numbered)) (inv.kept b) in
+    let count : length kept' ≡ length self.kept + 1 = count_more self.kept kept' self.pass.set.value c.in_ok-keep.ensures in
     let there : c.pass_block.new.input.position ≡ c.bottom-bottom.result = pass.bottom in
     let below : c.bottom-bottom.result ≤ at = omega (arith, c.bottom-bottom.ensures, c.position.ensures.position, first true, (bounds true).0) in
-    let times : length kept' * self.every ≡ length self.kept.items * self.every + self.every = ap (λ k. k * self.every) count ∙ one_more_times (length self.kept.items) self.every in
+    let times : length kept' * self.every ≡ length self.kept * self.every + self.every = ap (λ k. k * self.every) count ∙ one_more_times (length self.kept) self.every in
     record {
       ready = pass.ready;
       inside = λ b. subst (λ j. IsInside (search_of b c.args.input.now) j) (sym there) (inside_down (search_of b c.args.input.now) at c.bottom-bottom.result (inv.inside b) below (omega (arith, c.bottom-bottom.ensures, first b)));
-      leading = λ b. subst (λ j. AreLeading p (search_of b c.args.input.now) j c.pass_block.new.self.here.nodes) (sym there) (subst (λ x. AreLeading p x c.bottom-bottom.result c.pass_block.new.self.here.nodes) (same b) (pass.leading b));
+      leading = λ b. subst (λ j. IsLeadingSet p (search_of b c.args.input.now) j c.pass_block.new.self.set.value) (sym there) (subst (λ x. IsLeadingSet p x c.bottom-bottom.result c.pass_block.new.self.set.value) (same b) (pass.leading b));
       known = λ b. subst (λ j. AreKnown p (search_of b c.args.input.now) j) (sym there) (subst (λ x. AreKnown p x c.bottom-bottom.result) (same b) (pass.known b));
       kept = kept;
       numbered = omega (arith, inv.numbered, c.if-bottom-self.false, c.bottom-bottom.ensures, c.position.ensures.position, there, times);

@@ -56,7 +56,7 @@ loop-met-preserved g c =
     let stays : c.position.result ≡ at + 1 = c.position.ensures.position ∙ come.position ∙ pos in
     let blocks : (b : Bool) → AreBlocks p (search_of b c.args.input.now) c.come_to.new.self = λ b. subst (λ x. AreBlocks p x c.come_to.new.self) (same'' b) (come.blocks b) in
     let leading : (b : Bool) → IsLeadingSet p (search_of b c.args.input.now) (at + 1) set = λ b.
-    set_at p (search_of b c.args.input.now) c.come_to.new.self.block.top c.position.result (at + 1) c.come_to.new.self.block.sets.items set (blocks b).sets c.set-set.ensures (omega (arith, stays, come.there, pos)) stays in
+    set_at p (search_of b c.args.input.now) c.come_to.new.self.block.top c.position.result (at + 1) c.come_to.new.self.block.sets set (blocks b).sets c.set-set.ensures (omega (arith, stays, come.there, pos)) stays in
     let first : IsFirstAmong next (λ r. HasNode (widths_of p) set r) (Some k) = subst (λ w. IsFirstAmong next (λ r. HasNode w set r) (Some k)) (blocks true).ready.index_is
     (subst (λ o. IsFirstAmong next (λ r. HasNode c.come_to.new.self.pass.index set r) o) c.in-Some.is c.first_among.ensures) in
     record {
@@ -128,7 +128,7 @@ returns-in_default-clause-followed g c =
     let stays : c.position.result ≡ at + 1 = c.position.ensures.position ∙ come.position ∙ pos in
     let blocks : (b : Bool) → AreBlocks p (search_of b c.args.input.now) c.come_to.new.self = λ b. subst (λ x. AreBlocks p x c.come_to.new.self) (same'' b) (come.blocks b) in
     let leading : (b : Bool) → IsLeadingSet p (search_of b c.args.input.now) (at + 1) set = λ b.
-    set_at p (search_of b c.args.input.now) c.come_to.new.self.block.top c.position.result (at + 1) c.come_to.new.self.block.sets.items set (blocks b).sets c.set-set.ensures (omega (arith, stays, come.there, pos)) stays in
+    set_at p (search_of b c.args.input.now) c.come_to.new.self.block.top c.position.result (at + 1) c.come_to.new.self.block.sets set (blocks b).sets c.set-set.ensures (omega (arith, stays, come.there, pos)) stays in
     λ b.
     let s = search_of b c.args.input.now in
     let m = machine_in p s in
