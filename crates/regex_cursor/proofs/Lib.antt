@@ -3,6 +3,7 @@ pub mod BackLaws
 pub mod BetweenLaws
 pub mod BuildLaws
 pub mod FewLaws
+pub mod FurtherLaws
 pub mod OrderLaws
 pub mod ShowingLaws
 pub mod PatternLemmas

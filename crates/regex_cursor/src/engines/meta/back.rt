@@ -134,8 +134,8 @@ impl Back {
     }
 
     /// What is found in an input that isn't anchored and whose span ends where its slice does, of a
-    /// program whose matches all end there; nothing is told where the content ends before, nor where
-    /// walks side by side alone serve, since the automaton that goes forward is quicker than these.
+    /// program whose matches all end there. Nothing is told where the content ends before, nor where
+    /// walks side by side alone serve, since the automaton that goes forward is quicker than they.
     /// The one refusal is `Memory`.
     pub(super) fn search_last<C: Cursor>(
         &mut self,

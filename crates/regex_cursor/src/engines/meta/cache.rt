@@ -33,12 +33,9 @@ const CLEARS: usize = 3;
 /// state that has room, since to make one takes as long as the PikeVM takes for some bytes.
 const BYTES_A_CLEAR: usize = 50_000;
 
-/// In how many bytes the PikeVM may have looked for matches whose ends are known before the program
-/// is turned round, which takes about as long.
-const BYTES_A_TURN: usize = 20_000;
-
-/// In fewer bytes the PikeVM finds where a match starts as soon as a search back does.
-const BYTES_A_SEARCH: usize = 4;
+/// In how many bytes for each state of the program the PikeVM may have looked for matches whose ends
+/// are known before the program is turned round, which takes about as long.
+const BYTES_A_STATE: usize = 50;
 
 /// What searches with a regex keep from one to the next, so that they ask for memory once. It
 /// serves the regex that it was made for or reset for, after each search again, refused or not.
@@ -123,7 +120,7 @@ impl Kept {
             return Ok(());
         }
         self.walked = self.walked.saturating_add(bytes);
-        if self.walked < BYTES_A_TURN {
+        if self.walked < self.core.states().saturating_mul(BYTES_A_STATE) {
             return Ok(());
         }
         let back = Back::of(self.core.vm(), self.core.config())?;
@@ -154,11 +151,7 @@ impl Kept {
         ensures same { IsSameContent input.old.cursor input.new.cursor }
         ensures refused { IfErr result (λ error. error ≡ MatchError.Memory) }
     {
-        let bytes = input.end() - input.start();
-        if bytes < BYTES_A_SEARCH {
-            return Ok(None);
-        }
-        self.turn(bytes)?;
+        self.turn(input.end() - input.start())?;
         let utf8_empty = self.core.vm().utf8_empty();
         match &mut self.back {
             Some(back) => back.whole_match(input, utf8_empty, pattern),

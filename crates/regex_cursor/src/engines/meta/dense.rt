@@ -18,7 +18,7 @@ const STATE_BYTES: usize = size_of::<State>();
 
 /// How many states a program has where those that read a character of a set, byte by byte, are
 /// counted.
-fn state_count(program: &Program) -> usize {
+pub(super) fn state_count(program: &Program) -> usize {
     let mut count: usize = 0;
     for state in program.states() {
         let more = match state {
@@ -45,7 +45,8 @@ pub(super) fn closed_of(
     config: &Config,
 ) -> Result<Option<DenseTable>, AllocError>
     requires { IsAlphabetOf program.now dfa.now }
-    ensures closed { IfOk result (λ closed. IfSome closed (IsClosedOf (forward program.now) dfa.now)) }
+    ensures closed { IfOk result (λ closed. IfSome closed
+        (IsClosedOf (forward program.now) dfa.now)) }
     ensures small { IfOk result (λ closed. IfSome closed
         (IsWithin (most (dfa_state_limit_of config.now)) (most (dfa_size_limit_of config.now)))) }
     ensures unwanted { IfOk result (λ closed. dfa_of config.now ≡ false → closed ≡ None) }

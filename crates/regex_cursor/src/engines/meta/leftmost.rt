@@ -1,7 +1,7 @@
 //! Searches for the leftmost match by the engines of a regex: the literals that matches begin with
 //! are looked for first, then the automaton is asked, and what it leaves is searched by the PikeVM.
 
-ghost use Rattle.std.specs.Prelude.{◌≡◌, ℕ, ◌*◌, ◌≤◌, IfOk, IfErr, IfSome, OnOk, OnErr, None, Some, true, length};
+ghost use Rattle.std.specs.Prelude.{◌≡◌, ℕ, ◌*◌, ◌≤◌, IfOk, IfErr, IfSome, OnOk, OnErr, None, Some, true, false, length};
 ghost use Rattle.std.specs.Option.{ForSome};
 ghost use Rattle.rx_util.specs.declared.search.MatchError.{MatchError};
 ghost use Rattle.rx_util.specs.declared.search.MatchKind.{MatchKind};
@@ -11,7 +11,7 @@ ghost use Rattle.rx_steps.specs.Threads.{no_slots};
 ghost use Rattle.rx_engine.specs.Engines.{IsEngine};
 ghost use Rattle.rx_chunk.specs.Engines.{EngineFinds, TellsWhether};
 ghost use Rattle.rx_chunk.specs.Iterating.{EndsAhead, IsFoundNext, IsNextAnswer, StartsFrom};
-ghost use Rattle.regex_cursor.specs.Backs.{EndsLast};
+ghost use Rattle.regex_cursor.specs.Backs.{EndsLast, IsWhole};
 ghost use Rattle.regex_cursor.specs.Regexes.{HoldsMatches, IsCacheOf, TellsHalf, TellsMatch, TellsSlots, TellsWhole, search_by};
 ghost use Rattle.regex_cursor.specs.Strategies.{IsPart, regex_of};
 
@@ -172,9 +172,39 @@ pub(super) fn search_slots<C: Cursor>(
             put_match(slots, span);
             Ok(Some(PatternID::ZERO))
         }
-        Left::Found(found) => slots_of_part(strategy, cache, input, slots, Part::of(found)),
+        Left::Found(found) => slots_of_found(strategy, cache, input, slots, found),
         Left::In(part) => slots_of_part(strategy, cache, input, slots, part),
     }
+}
+
+/// The pattern of a match that is found, with its places in slots, which hold none before.
+fn slots_of_found<C: Cursor>(
+    strategy: &Strategy,
+    cache: &mut Cache,
+    input: &mut Input<C>,
+    slots: &mut [Option<NonMaxUsize>],
+    found: Match,
+) -> Result<Option<PatternID>, MatchError>
+    requires made { IsCacheOf (regex_of strategy.now) cache.old }
+    requires first { strategy.now.vm.match_kind ≡ MatchKind.LeftmostFirst }
+    requires clear { slots.old ≡ no_slots (length slots.old) }
+    requires found { IsWhole strategy.now.vm.program strategy.now.vm.utf8_empty input.old found }
+    ensures answer { IfOk result
+        (λ pattern. TellsSlots strategy.now.vm input.old pattern slots.new) }
+    ensures none { OnErr result (slots.new ≡ no_slots (length slots.new)) }
+    ensures made { IsCacheOf (regex_of strategy.now) cache.new }
+    ensures asked { input.new.asked ≡ input.old.asked }
+    ensures same { IsSameContent input.old.cursor input.new.cursor }
+    ensures refused { IfErr result (λ error. error ≡ MatchError.Memory) }
+{
+    if !asks_whole(Some(found.pattern()), slots.len()) {
+        return slots_of_part(strategy, cache, input, slots, Part::of(found));
+    }
+    // How long the content may be, and of what the engine is, for the proof alone.
+    let _at = input.position();
+    let _vm = strategy.vm();
+    put_match(slots, found.span());
+    Ok(Some(PatternID::ZERO))
 }
 
 /// The pattern of the match that is found in a part of an input's span, with its places in slots,
@@ -253,8 +283,45 @@ fn slots_in<C: Cursor>(
     }
 }
 
+/// How many slots captures have.
+fn slot_count(caps: &mut Captures) -> usize
+    ensures count { result ≡ length caps.old.slots }
+    ensures same { caps.new ≡ caps.old }
+{
+    caps.slots_mut().len()
+}
+
 /// Notes what is found, as `Strategy::search` does.
 pub(super) fn search<C: Cursor>(
+    strategy: &Strategy,
+    cache: &mut Cache,
+    input: &mut Input<C>,
+    caps: &mut Captures,
+) -> Result<(), MatchError>
+    requires made { IsCacheOf (regex_of strategy.now) cache.old }
+    requires first { strategy.now.vm.match_kind ≡ MatchKind.LeftmostFirst }
+    ensures answer { OnOk result
+        (TellsSlots strategy.now.vm input.old caps.new.pattern caps.new.slots) }
+    ensures whole { HoldsMatches strategy.now.vm caps.old
+        → OnOk result (TellsWhole strategy.now.vm input.old caps.new) }
+    ensures groups { caps.new.groups ≡ caps.old.groups }
+    ensures slot_len { length caps.new.slots ≡ length caps.old.slots }
+    ensures no_answer { OnErr result (caps.new.pattern ≡ None) }
+    ensures none { OnErr result (caps.new.slots ≡ no_slots (length caps.new.slots)) }
+    ensures made { IsCacheOf (regex_of strategy.now) cache.new }
+    ensures asked { input.new.asked ≡ input.old.asked }
+    ensures same { IsSameContent input.old.cursor input.new.cursor }
+    ensures refused { IfErr result (λ error. error ≡ MatchError.Memory) }
+{
+    let slots = slot_count(caps);
+    if slots > 2 || input.get_earliest() {
+        return search_groups(strategy, cache, input, caps);
+    }
+    search_whole(strategy, cache, input, caps)
+}
+
+/// The same, with groups besides the whole match: by the PikeVM, between the match's ends.
+fn search_groups<C: Cursor>(
     strategy: &Strategy,
     cache: &mut Cache,
     input: &mut Input<C>,
@@ -287,6 +354,38 @@ pub(super) fn search<C: Cursor>(
     }
 }
 
+/// The same, of which the whole match is all that matters: as `search_slots` finds it.
+fn search_whole<C: Cursor>(
+    strategy: &Strategy,
+    cache: &mut Cache,
+    input: &mut Input<C>,
+    caps: &mut Captures,
+) -> Result<(), MatchError>
+    requires made { IsCacheOf (regex_of strategy.now) cache.old }
+    requires first { strategy.now.vm.match_kind ≡ MatchKind.LeftmostFirst }
+    requires exact { input.old.asked.earliest ≡ false }
+    ensures answer { OnOk result
+        (TellsSlots strategy.now.vm input.old caps.new.pattern caps.new.slots) }
+    ensures whole { HoldsMatches strategy.now.vm caps.old
+        → OnOk result (TellsWhole strategy.now.vm input.old caps.new) }
+    ensures groups { caps.new.groups ≡ caps.old.groups }
+    ensures slot_len { length caps.new.slots ≡ length caps.old.slots }
+    ensures no_answer { OnErr result (caps.new.pattern ≡ None) }
+    ensures none { OnErr result (caps.new.slots ≡ no_slots (length caps.new.slots)) }
+    ensures made { IsCacheOf (regex_of strategy.now) cache.new }
+    ensures asked { input.new.asked ≡ input.old.asked }
+    ensures same { IsSameContent input.old.cursor input.new.cursor }
+    ensures refused { IfErr result (λ error. error ≡ MatchError.Memory) }
+{
+    note_nothing(caps);
+    // How long the content may be, and of what the engine is, for the proof alone.
+    let _at = input.position();
+    let _vm = strategy.vm();
+    let found = search_slots(strategy, cache, input, caps.slots_mut())?;
+    caps.set_pattern(found);
+    Ok(())
+}
+
 /// The pattern of the match that comes next, with its places in slots, as `Strategy::next_slots`
 /// answers it.
 pub(super) fn next_slots<C: Cursor>(
@@ -309,6 +408,9 @@ pub(super) fn next_slots<C: Cursor>(
 {
     clear_slots(slots);
     let vm = strategy.vm();
+    if slots.len() <= 2 {
+        return next_whole(strategy, cache, input, slots, last_match_end);
+    }
     let Some(part) = strategy.next_part(&mut cache.kept, input, last_match_end)? else {
         return Ok(None);
     };
@@ -316,6 +418,36 @@ pub(super) fn next_slots<C: Cursor>(
     let found = pikevm::next_slots(vm, &mut cache.kept.vm, input, slots, last_match_end);
     put_back(input, whole);
     found
+}
+
+/// The same, in slots for the whole match alone, which hold none before: as `find_next` finds it.
+fn next_whole<C: Cursor>(
+    strategy: &Strategy,
+    cache: &mut Cache,
+    input: &mut Input<C>,
+    slots: &mut [Option<NonMaxUsize>],
+    last_match_end: Option<usize>,
+) -> Result<Option<PatternID>, MatchError>
+    requires made { IsCacheOf (regex_of strategy.now) cache.old }
+    requires first { strategy.now.vm.match_kind ≡ MatchKind.LeftmostFirst }
+    requires slots { 2 * length strategy.now.vm.groups ≤ length slots.old }
+    requires few { length slots.old ≤ 2 }
+    requires clear { slots.old ≡ no_slots (length slots.old) }
+    ensures answer { IfOk result (λ pattern. IsNextAnswer (EngineFinds strategy.now.vm)
+        (search_by strategy.now.vm input.old) last_match_end pattern slots.new) }
+    ensures none { OnErr result (slots.new ≡ no_slots (length slots.new)) }
+    ensures made { IsCacheOf (regex_of strategy.now) cache.new }
+    ensures same { (start : ℕ) × StartsFrom input.old input.new start }
+    ensures refused { IfErr result (λ error. error ≡ MatchError.Memory) }
+{
+    // How long the content may be, and of what the engine is, for the proof alone.
+    let _at = input.position();
+    let _vm = strategy.vm();
+    let Some(found) = find_next(strategy, cache, input, last_match_end)? else {
+        return Ok(None);
+    };
+    put_match(slots, found.span());
+    Ok(Some(found.pattern()))
 }
 
 /// The match that comes next, as `Strategy::find_next` answers it. An empty one where the last one

@@ -26,7 +26,7 @@ ghost use Rattle.regex_cursor.specs.Strategies.{AreKeptFor, IsLeft, IsNextLeft, 
 
 use super::cache::{Cache, Kept};
 use super::config::Config;
-use super::dense::{bytes_of_states, closed_of};
+use super::dense::{bytes_of_states, closed_of, state_count};
 use super::left::{Left, Part, Start, Told, find_literal, half_of, put_back, start_of_literal};
 use super::leftmost;
 use super::literals::Literals;
@@ -47,6 +47,8 @@ pub(super) struct Core {
     vm: PikeVM,
     dfa: Alphabet,
     config: Config,
+    // How many states the program and the automata of its sets have.
+    states: usize,
 }
 
 impl Model for Core {
@@ -67,7 +69,13 @@ impl Core {
     {
         let capacity = config.get_hybrid_cache_capacity();
         let dfa = Alphabet::new(alloc, vm.program(), vm.utf8_empty(), capacity)?;
-        Ok(Core { vm, dfa, config })
+        let states = state_count(vm.program());
+        Ok(Core {
+            vm,
+            dfa,
+            config,
+            states,
+        })
     }
 
     /// The engine that serves any search.
@@ -98,6 +106,11 @@ impl Core {
         ensures { result.now ≡ self.now.vm.program }
     {
         self.vm.program()
+    }
+
+    /// How many states the program and the automata of its sets have.
+    pub(super) fn states(&self) -> usize {
+        self.states
     }
 }
 

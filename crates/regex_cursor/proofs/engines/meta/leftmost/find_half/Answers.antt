@@ -1,4 +1,4 @@
-use Rattle.std.proofs.Common.{◌≡◌, Some, sym, ap, ap₂, subst, refl, ◌∙◌}
+use Rattle.std.proofs.Common.{Some, sym, ap, ap₂, subst, refl, ◌∙◌}
 use Rattle.std.proofs.lemmas.Option.{same_Some}
 use Rattle.rx_util.specs.Search.{HalfFound}
 use Rattle.rx_input.specs.Searchers.{EndsInside}

@@ -1,7 +1,6 @@
-use Rattle.std.proofs.Common.{◌≡◌, refl, ap}
+use Rattle.std.proofs.Common.{refl, ap}
 use Rattle.rx_input.specs.Inputs.{Asked}
 use Rattle.rx_steps.specs.Searching.{search_of}
-use Rattle.rx_literals.specs.Literals.{within}
 use Rattle.rx_chunk.proofs.EngineLaws.{if_ok}
 use Rattle.regex_cursor.proofs.BackLaws.{known_last}
 use Rattle.regex_cursor.proofs.StrategyLaws.{cut_search, whole_is_span, whole_slots}

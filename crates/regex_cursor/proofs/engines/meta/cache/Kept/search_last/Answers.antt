@@ -1,1 +1,0 @@
-use Rattle.regex_cursor.proofs.engines.meta.cache.Kept.search_last.Goals as goal

@@ -1,6 +1,4 @@
-use Rattle.std.proofs.Common.{subst, arith}
-use Rattle.rx_walks.specs.Finds.{from_place_on}
-use Rattle.rx_steps.specs.Searching.{search_of}
+use Rattle.std.proofs.Common.{subst}
 use Rattle.rx_chunk.proofs.EngineLaws.{if_ok}
 use Rattle.regex_cursor.specs.Strategies.{IsLeft}
 use Rattle.regex_cursor.proofs.StartLaws.{start_search}

@@ -1,4 +1,4 @@
-use Rattle.std.proofs.Common.{◌≡◌, sym, ap, subst, ◌∙◌}
+use Rattle.std.proofs.Common.{sym, subst}
 use Rattle.rx_steps.specs.Searching.{search_of}
 use Rattle.regex_cursor.specs.Strategies.{IsLeft, IsPart}
 use Rattle.regex_cursor.proofs.StartLaws.{same_search}

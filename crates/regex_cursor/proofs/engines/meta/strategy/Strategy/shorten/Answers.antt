@@ -1,4 +1,4 @@
-use Rattle.std.proofs.Common.{◌≡◌, IfSome, refl, sym, ap, subst, ◌∙◌}
+use Rattle.std.proofs.Common.{IfSome, refl, sym, ap, subst}
 use Rattle.rx_input.specs.Inputs.{Asked}
 use Rattle.rx_steps.specs.Searching.{search_of}
 use Rattle.regex_cursor.specs.Backs.{EndsLast, IsWhole}
