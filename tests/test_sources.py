@@ -9,6 +9,8 @@ from harness import TOP, example_rows, test
 
 # The crates of ropes and of reports.
 CITES_LAWS = re.compile(r"(str_indices|ropey|ropey_tree|ropey_walk|rope_leaves|rope_search_(changes|templates|reports))/")
+# A line whose call does nothing but to show a proof what the type keeps.
+FOR_PROOFS = r"^ *let _ = \(?[\w.]+\(\)"
 
 
 def sources():
@@ -67,6 +69,8 @@ def test_laws():
     bodies = [(path, text) for path, text in sources() if CITES_LAWS.match(path) and not path.endswith("/laws.rt")]
     calling = that_name(r"\blaws\s*::\s*\w+(::<\w+>)?\s*\(", bodies)
     test("ropes and reports call no law", [f"{path} does" for path in calling])
+    lines = sum(len(re.findall(FOR_PROOFS, text, re.M)) for _, text in bodies)
+    test("they have at most 45 lines for the proof alone", [] if 0 < lines <= 45 else [f"they have {lines}"])
 
 
 def test_messages():

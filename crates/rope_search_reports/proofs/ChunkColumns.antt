@@ -1,6 +1,6 @@
 -- The position of a place, told by the chunk in which its line starts too.
-use Rattle.std.proofs.Common.{◌≡◌, ℕ, ◌+◌, ◌-◌, ◌^◌, ◌<◌, ◌≤◌, ◌⊎◌, inl, cond, min, List, ◌++◌, length, take, drop, sym, ap, subst, ◌∙◌, arith, append_assoc, chars, IsUtf8}
-use Rattle.std.specs.Str.{all_scalars, IsCharBoundary}
+use Rattle.std.proofs.Common.{◌≡◌, ℕ, ◌+◌, ◌-◌, ◌^◌, ◌<◌, ◌≤◌, inl, cond, min, List, ◌++◌, length, take, drop, sym, ap, subst, ◌∙◌, arith, append_assoc, chars, IsUtf8}
+use Rattle.std.specs.Str.{IsCharBoundary}
 use Rattle.std.proofs.Math.Seq.{drop-append-add}
 use Rattle.std.proofs.lemmas.List.{drop-append-le, length-drop, take-append-le}
 use Rattle.std.proofs.lemmas.List.Sums.{count_by-le-length}
@@ -12,9 +12,63 @@ use Rattle.ropey.specs.Chunks.{IsCutting, ShowsChunk, is_break, text_of}
 use Rattle.rope_search_reports.specs.Text.{bytes_of}
 use Rattle.rope_search_reports.specs.Position.{column_at, line_at, line_start}
 use Rattle.rope_search_reports.proofs.PlaceLemmas.{line_inside, rope-scalars, split_at}
-use Rattle.rope_search_reports.proofs.StartLemmas.{few-lines}
+use Rattle.rope_search_reports.specs.declared.line_start.LineStart.{LineStart}
+use Rattle.rope_search_reports.specs.Drafts.{IsWalk, StartsIn}
+use Rattle.rope_search_reports.proofs.StartLemmas.{few-lines, walk-from}
 use Rattle.rope_search_reports.proofs.TellerLemmas.{is-shown, is-teller, line-told, reached-there}
-use Rattle.rope_search_reports.proofs.WalkLemmas.{shown-rest}
+use Rattle.rope_search_reports.proofs.WalkLemmas.{shown-rest, uncut-behind}
+
+-- the line of a place, by the breaks of the chunk that end up to it
+pub line-of-place : (pieces : List (List ℕ)) (bytes : List ℕ) (place start char first count : ℕ) → IsCutting pieces → IsUtf8 bytes → byte_len (text_of pieces) < 2 ^ 63
+    → ShowsChunk pieces byte_len place (chars bytes) start char first → place ≤ byte_len (text_of pieces) → count ≡ ends_up_to (place - start) (break_ends is_break (chars bytes))
+    → first + count ≡ line_at (text_of pieces) place
+line-of-place pieces bytes place start char first count cut utf8 fits s inside count_is =
+    let text = text_of pieces in
+    let reach = reached-there pieces bytes place start char first utf8 s inside in
+    let teller = is-teller (ends_of_a_part-lines is_break) pieces bytes place start char first cut utf8 s (few-lines text fits) fits in
+    ap (λ n. first + n) count_is ∙ line-told (ends_of_a_part-lines is_break) (ends_behind_a_boundary-lines is_break) text bytes start first place teller reach.0 reach.1
+
+-- where some do, the line starts in the chunk, behind the last of them
+pub walk-in-chunk : (pieces : List (List ℕ)) (place first count : ℕ) (start : LineStart) → IsCutting pieces → IsUtf8 start.chunk.now → byte_len (text_of pieces) < 2 ^ 63
+    → ShowsChunk pieces byte_len place (chars start.chunk.now) start.byte_idx start.char_idx first → place ≤ byte_len (text_of pieces)
+    → count ≡ ends_up_to (place - start.byte_idx) (break_ends is_break (chars start.chunk.now)) → 0 < count
+    → start.at ≡ end_place (break_ends is_break (chars start.chunk.now)) count (length start.chunk.now)
+    → IsWalk (text_of pieces) (first + count) (start.byte_idx + start.at) (drop start.at start.chunk.now) × IsCharBoundary start.chunk.now start.at
+walk-in-chunk pieces place first count start cut utf8 fits s inside count_is some at_is =
+    let bytes = start.chunk.now in
+    let text = text_of pieces in
+    let chunk = chars bytes in
+    let ends = break_ends is_break chunk in
+    let h = (is-shown byte_len pieces place start.byte_idx start.char_idx first chunk cut s).0 in
+    let start_is = h.start_is in
+    let first_is = h.line_is in
+    let width : byte_len chunk ≡ length bytes = ap length (encodes-chars bytes utf8) in
+    let line_is = line-of-place pieces bytes place start.byte_idx start.char_idx first count cut utf8 fits s inside count_is in
+    let there : start.at ≡ end_place ends count (byte_len chunk) = at_is ∙ ap (end_place ends count) (sym width) in
+    let few = count_by-le-length (λ e. nat_le e (place - start.byte_idx)) ends in
+    let none : cond {A = ℕ} (cuts_cr_lf h.before chunk) 1 0 ≡ 0 = ap (λ b. cond {A = ℕ} b 1 0) h.whole in
+    let joined = breaks_of_joined_texts-lines_crlf h.before chunk in
+    let within : first + count ≤ breaks is_break (h.before ++ chunk) = omega (arith, joined, none, few, count_is, first_is) in
+    let part = places_of_a_part-lines is_break h.before chunk h.after (first + count) h.whole h.whole_behind (omega (arith, some, first_is)) (inl within) in
+    let less : first + count - breaks is_break h.before ≡ count = omega (arith, first_is) in
+    let started : line_start text (first + count) ≡ byte_len h.before + start.at =
+    ap (λ t. line_start t (first + count)) h.parts ∙ part ∙ ap (λ n. byte_len h.before + end_place ends n (byte_len chunk)) less ∙ ap (λ n. byte_len h.before + n) (sym there) in
+    let between : IsCharBoundary (bytes_of chunk) (end_place ends count (byte_len chunk)) = to_byte_idx_is_a_boundary-lines is_break chunk count (scalars-chars bytes utf8) in
+    let here = subst (λ (n : ℕ). IsCharBoundary bytes n) (sym there) (subst (λ (bs : List ℕ). IsCharBoundary bs (end_place ends count (byte_len chunk))) (encodes-chars bytes utf8) between) in
+    let starts : StartsIn text (first + count) start = record {
+      first = h.before;
+      others = h.after;
+      parts = h.parts ∙ append_assoc h.before chunk h.after;
+      utf8 = utf8;
+      whole = uncut-behind h.before chunk h.after h.whole_behind;
+      byte_is = h.start_is;
+      char_is = h.char_is;
+      there = omega (arith, started, start_is);
+      between = here;
+      scalars = rope-scalars pieces cut;
+      fits = fits;
+    } in
+    (walk-from text (first + count) start starts (omega (arith, line_is, line_inside text place)), here)
 
 -- some breaks end in the chunk up to the place, and the last of them there
 pub record IsInChunk (text bytes : List ℕ) (first place end count at : ℕ) : Type 0 where
@@ -39,9 +93,7 @@ in-chunk pieces bytes place start char first count at cut utf8 fits s boundary c
     let first_is = h.line_is in
     let width : byte_len chunk ≡ length bytes = ap length (encodes-chars bytes utf8) in
     let reach = reached-there pieces bytes place start char first utf8 s boundary.0 in
-    let teller = is-teller (ends_of_a_part-lines is_break) pieces bytes place start char first cut utf8 s (few-lines text fits) fits in
-    let told = line-told (ends_of_a_part-lines is_break) (ends_behind_a_boundary-lines is_break) text bytes start first place teller reach.0 reach.1 in
-    let line_is : first + count ≡ line_at text place = ap (λ n. first + n) count_is ∙ told in
+    let line_is : first + count ≡ line_at text place = line-of-place pieces bytes place start char first count cut utf8 fits s boundary.0 count_is in
     let there : at ≡ end_place ends count (byte_len chunk) = at_is ∙ ap (end_place ends count) (sym width) in
     let back : end_place ends (ends_up_to end ends) (byte_len chunk) ≤ min end (byte_len chunk) = place_there_and_back-lines is_break chunk end in
     let same : end_place ends count (byte_len chunk) ≡ end_place ends (ends_up_to end ends) (byte_len chunk) = ap (λ n. end_place ends n (byte_len chunk)) count_is in

@@ -8,15 +8,15 @@ use Rattle.std.proofs.lemmas.Str.{encodes-chars}
 use Rattle.str_indices.specs.Text.{byte_len, units, units_of, char_ends, unit_ends, unit_starts, ends_up_to, end_place}
 use Rattle.rope_search_reports.specs.declared.positions.OwnLine.{OwnLine}
 use Rattle.rope_search_reports.specs.declared.positions.Place.{Place}
-use Rattle.rope_search_reports.specs.Text.{bytes_of, line_count}
+use Rattle.rope_search_reports.specs.Text.{bytes_of}
 use Rattle.rope_search_reports.specs.Position.{line_start, line_text, IsAt, IsNowhere, IsPlaceOf}
 use Rattle.rope_search_reports.specs.Drafts.{HasColumn, HasNoColumn, IsOwnLine, own_text}
 use Rattle.rope_search_reports.proofs.BoundaryLemmas.{at_column, own_scalars}
 use Rattle.rope_search_reports.proofs.ColumnLemmas.{column-is}
 use Rattle.rope_search_reports.proofs.LineLemmas.{byte_len-append, lines-in-place}
-use Rattle.rope_search_reports.proofs.PlaceLemmas.{front_of, chars_there, split_at, units_there}
+use Rattle.rope_search_reports.proofs.PlaceLemmas.{front_of, chars_there, split_at}
 use Rattle.rope_search_reports.proofs.SpotLemmas.{led}
-use Rattle.rope_search_reports.proofs.SpotsInLines.{few-chars, in_own, no_line}
+use Rattle.rope_search_reports.proofs.SpotsInLines.{few-chars, in_own}
 use Rattle.rope_search_reports.proofs.TextPlaces.{places}
 
 -- ---- by the code units up to the place that one leads to

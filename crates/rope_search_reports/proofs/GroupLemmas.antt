@@ -1,18 +1,18 @@
 -- The groups of all matches in a content: that there is one list of them, how they stand, and that
 -- what takes the matches' places is a text.
-use Rattle.std.proofs.Common.{◌≡◌, ℕ, zero, suc, ◌+◌, ◌-◌, ◌*◌, ◌<◌, ◌≤◌, Bool, true, false, List, [], ◌∷◌, ◌++◌, Option, None, Some, length, map, take, drop, slice_index_or, chars, refl, sym, ap, ap₂, subst, ◌∙◌, inl, inr, All, arith}
-use Rattle.std.specs.Prelude.{IfSome, nat_le, ◌==◌, ◌&&◌, if◌then◌else◌}
+use Rattle.std.proofs.Common.{◌≡◌, ℕ, suc, ◌+◌, ◌-◌, ◌*◌, ◌≤◌, Bool, true, false, List, [], ◌∷◌, ◌++◌, Option, None, Some, length, map, take, drop, slice_index_or, chars, refl, sym, ap, ap₂, subst, ◌∙◌, inl, inr, All, arith}
+use Rattle.std.specs.Prelude.{IfSome, ◌==◌, ◌&&◌, if◌then◌else◌}
 use Rattle.std.specs.List.{AllPairs, range_with_len}
 use Rattle.std.specs.Str.{IsUtf8, IsCharBoundary}
 use Rattle.std.proofs.lemmas.Bool.{and_parts, and_from, cases_lt}
 use Rattle.std.proofs.lemmas.List.{length-map, get_or_past}
 use Rattle.std.proofs.lemmas.List.Elements.{All-cons, All-head, All-tail, All-map}
 use Rattle.std.proofs.lemmas.Str.{IsUtf8-between, IsUtf8-drop, IsCharBoundary-start, chars-nil, scalars-chars}
-use Rattle.regex_cursor.specs.Patterns.{Tree, FoundMatch, TreeFinds, TreeMatches, search_from, slot_of, start_of, end_of}
+use Rattle.regex_cursor.specs.Patterns.{Tree, FoundMatch, TreeMatches, search_from, slot_of, start_of, end_of}
 use Rattle.regex_cursor.specs.PatternLaws.{HasFinds, HasNotedGroups, IsNotedWhole, noted, not_noted, SpellsOneTree, StandsAtBoundaries}
 use Rattle.rope_search_reports.specs.Text.{IsText, bytes_of}
-use Rattle.rope_search_reports.specs.Pattern.{IsPattern, span_of}
-use Rattle.rope_search_reports.specs.Matches.{AreGroups, both, group_of, groups_of}
+use Rattle.rope_search_reports.specs.Pattern.{span_of}
+use Rattle.rope_search_reports.specs.Matches.{both, group_of, groups_of}
 use Rattle.rope_search_reports.specs.Replacement.{Groups, whole, alone, between, text_of_span, group_text, is_digit, expand, replaced, FollowEachOther, IsSpanIn, HasSpansIn, AreMatchesIn}
 use Rattle.rope_search_reports.specs.Laws.{HasOneListOfGroups, HasGroups, HasFewGroups, GroupsFollowEachOther, ReplacedIsText}
 use Rattle.rope_search_reports.proofs.MatchLemmas.{AllHaveFinds, AllNote}

@@ -36,3 +36,5 @@ mod StartLemmas
 mod ColumnPlaces
 mod ChunkColumns
 mod KeptLemmas
+mod BackLemmas
+mod FurtherLemmas

@@ -1,11 +1,11 @@
 -- Where a position is, by its line's text.
-use Rattle.std.proofs.Common.{◌≡◌, ℕ, ◌+◌, ◌-◌, ◌<◌, ◌≤◌, true, List, [], ◌∷◌, ◌++◌, length, take, slice_index_or, refl, sym, ap, subst, ◌∙◌, arith, append_assoc, length-append}
-use Rattle.std.specs.Str.{all_scalars, IsCharBoundary}
+use Rattle.std.proofs.Common.{◌≡◌, ℕ, ◌+◌, ◌<◌, ◌≤◌, true, List, [], ◌∷◌, ◌++◌, length, take, slice_index_or, refl, sym, ap, subst, ◌∙◌, arith, append_assoc, length-append}
+use Rattle.std.specs.Str.{all_scalars}
 use Rattle.std.proofs.Math.Seq.{take-append_seam}
 use Rattle.std.proofs.lemmas.List.Sums.{sum_by-append}
 use Rattle.std.proofs.lemmas.Str.{len_utf8_bounds}
 use Rattle.str_indices.specs.Text.{byte_len, units, units_of, char_ends, unit_ends, unit_starts, ends_up_to, end_place}
-use Rattle.rope_search_reports.specs.Text.{bytes_of, line_count}
+use Rattle.rope_search_reports.specs.Text.{line_count}
 use Rattle.rope_search_reports.proofs.TextPlaces.{PlaceLaws}
 use Rattle.rope_search_reports.specs.Position.{line_at, line_start, line_text, text_end, IsAt, IsNowhere}
 use Rattle.rope_search_reports.proofs.BoundaryLemmas.{at_column, own_scalars}

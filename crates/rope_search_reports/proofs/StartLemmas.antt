@@ -1,14 +1,13 @@
 -- Where a line starts, as a chunk tells it.
-use Rattle.std.proofs.Common.{◌≡◌, ℕ, zero, suc, ◌+◌, ◌-◌, ◌^◌, ◌<◌, ◌≤◌, ◌⊎◌, inl, inr, List, [], ◌∷◌, ◌++◌, length, take, drop, refl, sym, ap, subst, ◌∙◌, arith, append-nil, append_assoc, length-append, chars, IsUtf8}
-use Rattle.std.specs.Str.{all_scalars, IsCharBoundary}
+use Rattle.std.proofs.Common.{◌≡◌, ℕ, zero, suc, ◌+◌, ◌-◌, ◌^◌, ◌<◌, ◌≤◌, ◌⊎◌, inl, inr, List, [], ◌++◌, length, take, drop, refl, sym, ap, subst, ◌∙◌, arith, append_assoc, length-append, chars, IsUtf8}
+use Rattle.std.specs.Str.{IsCharBoundary}
 use Rattle.std.proofs.lemmas.Bool.{cases_lt}
 use Rattle.std.proofs.lemmas.List.{drop_all}
 use Rattle.std.proofs.lemmas.Str.{IsUtf8-drop, encodes-chars, scalars-chars}
-use Rattle.str_indices.specs.Laws.{PlacesAddUp}
-use Rattle.str_indices.specs.Text.{breaks, break_ends, byte_len, char_ends, end_place, ends_up_to, NoCrLfBetween}
+use Rattle.str_indices.specs.Text.{breaks, break_ends, byte_len, char_ends, end_place, ends_up_to}
 use Rattle.str_indices.specs.FirstBreak.{IsFirstBreak}
 use Rattle.str_indices.proofs.TextLaws.{counts_are_at_most_bytes-lines, places_of_a_part-lines, to_byte_idx_is_a_boundary-lines}
-use Rattle.ropey.specs.Chunks.{IsCutting, ShowsChunk, ShowsChunkOfBreak, is_break, text_of}
+use Rattle.ropey.specs.Chunks.{IsCutting, ShowsChunkOfBreak, is_break, text_of}
 use Rattle.rope_search_reports.specs.declared.line_start.LineStart.{LineStart}
 use Rattle.rope_search_reports.specs.Text.{bytes_of, line_count}
 use Rattle.rope_search_reports.specs.Position.{line_start, line_text}
@@ -19,7 +18,7 @@ use Rattle.rope_search_reports.proofs.PlaceLemmas.{front_of, rope-scalars, split
 use Rattle.rope_search_reports.proofs.SpotsInLines.{few-chars}
 use Rattle.rope_search_reports.proofs.TellerLemmas.{IsShown, is-shown}
 use Rattle.rope_search_reports.proofs.TextPlaces.{places}
-use Rattle.rope_search_reports.proofs.WalkLemmas.{behind-line, next-line, rest-at, rest-chars, uncut-behind, walk-behind, walk-end}
+use Rattle.rope_search_reports.proofs.WalkLemmas.{behind-line, line-between, next-line, rest-at, rest-chars, uncut-behind, walk-behind, walk-end}
 
 -- the lines up to a chunk are no more than told, and so many further on the line starts
 record IsTold (pieces : List (List ℕ)) (line : ℕ) (chunk : List ℕ) (byte char first : ℕ) : Type 0 where
@@ -169,3 +168,17 @@ chars-there text line start s =
       few = omega (arith, counted, sizes, char_is, bytes_are, few-chars s.first, few-chars chunk);
       near = omega (arith, byte_is, inside, width, bytes_are);
     }
+
+-- where the whole text has as many characters as bytes, they are the bytes before it
+pub ascii-there : (text : List ℕ) (line : ℕ) (start : LineStart) → StartsIn text line start → line < line_count text → length text ≡ byte_len text
+    → start.byte_idx + start.at ≡ ends_up_to (line_start text line) (char_ends text)
+ascii-there text line start s below ascii =
+    let place = start.byte_idx + start.at in
+    let there = s.there in
+    let split = split_at text place s.scalars (line-between text line place s.scalars below (sym there)) in
+    let front = front_of places text split.front split.back split.parts in
+    let place_is = split.place_is in
+    let counted : ends_up_to (line_start text line) (char_ends text) ≡ length split.front = ap (λ n. ends_up_to n (char_ends text)) (there ∙ place_is) ∙ front.chars_are in
+    let characters = ap length split.parts ∙ length-append split.front split.back in
+    let bytes = ap byte_len split.parts ∙ byte_len-append split.front split.back in
+    omega (arith, counted, place_is, ascii, few-chars split.front, few-chars split.back, characters, bytes)

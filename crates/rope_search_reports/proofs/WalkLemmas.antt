@@ -1,5 +1,5 @@
 -- A walk over the lines of a text: where a line starts, and what a chunk shows from there on.
-use Rattle.std.proofs.Common.{◌≡◌, ℕ, zero, suc, ◌+◌, ◌-◌, ◌^◌, ◌<◌, ◌≤◌, ◌==◌, ◌&&◌, not, Bool, true, false, ◌⊎◌, inl, inr, List, [], ◌∷◌, ◌++◌, length, take, drop, get_or, refl, sym, ap, subst, ◌∙◌, append-nil, append_assoc, arith, chars, IsUtf8, length-drop}
+use Rattle.std.proofs.Common.{◌≡◌, ℕ, zero, suc, ◌+◌, ◌-◌, ◌^◌, ◌<◌, ◌≤◌, ◌==◌, ◌&&◌, not, Bool, true, false, inl, inr, List, [], ◌∷◌, ◌++◌, length, take, drop, get_or, refl, sym, ap, subst, ◌∙◌, append-nil, append_assoc, arith, chars, IsUtf8, length-drop}
 use Rattle.std.specs.List.{slice_range}
 use Rattle.std.specs.Str.{all_scalars, IsCharBoundary}
 use Rattle.std.proofs.Math.Seq.{drop-append_seam, take-append_seam}
@@ -7,13 +7,14 @@ use Rattle.std.proofs.lemmas.Bool.{cases_lt}
 use Rattle.std.proofs.lemmas.List.{drop-drop, get_or-take, get_or-drop, get_or_past}
 use Rattle.std.proofs.lemmas.List.Folds.{concat-append}
 use Rattle.std.proofs.lemmas.Str.{IsCharBoundary-from_drop, IsUtf8-drop, IsUtf8-nil, chars-nil, chars-encodes, chars_from_encodes, encodes-append, encodes-chars, scalars-chars}
-use Rattle.str_indices.specs.Text.{breaks, break_ends, byte_len, end_place, cuts_cr_lf, ends_with_cr, starts_with_lf, NoCrLfBetween}
+use Rattle.str_indices.specs.Text.{breaks, break_ends, byte_len, end_place, ends_with_cr, starts_with_lf, NoCrLfBetween}
 use Rattle.str_indices.specs.FirstBreak.{IsBreak, IsFirstBreak}
 use Rattle.ropey.specs.Chunks.{is_break, text_of, piece_of, IsCutting, ShowsChunk}
 use Rattle.rope_search_reports.specs.Text.{bytes_of, line_count}
 use Rattle.rope_search_reports.specs.Report.{line_texts}
 use Rattle.rope_search_reports.specs.Position.{line_start, line_text}
 use Rattle.rope_search_reports.specs.Drafts.{IsRestOf, IsWalk, StartsLine, WalkState}
+use Rattle.rope_search_reports.proofs.FurtherLemmas.{there-further}
 use Rattle.rope_search_reports.proofs.LineLemmas.{IsCutOff, byte_len-append, cut-ends, cut-lines, ends-joined_cr, ends_at, first_line, line-last, line_texts-nil, lines-counted, lines-cut, start-is, start-later, start_at}
 use Rattle.rope_search_reports.proofs.PartLemmas.{past-last}
 use Rattle.rope_search_reports.proofs.PlaceLemmas.{cut_off, front_within, scalars-parts}
@@ -273,7 +274,7 @@ some-lines text = omega (arith, lines-counted text)
 not-all : (text behind : List ℕ) (line : ℕ) → drop line (line_texts text) ≡ line_texts behind → line < line_count text
 not-all text behind line is = omega (arith, length-drop line (line_texts text), ap length is, some-lines behind, lines-counted text)
 
-length-chars : (bytes : List ℕ) → IsUtf8 bytes → byte_len (chars bytes) ≡ length bytes
+pub length-chars : (bytes : List ℕ) → IsUtf8 bytes → byte_len (chars bytes) ≡ length bytes
 length-chars bytes utf8 = ap length (encodes-chars bytes utf8)
 
 -- from one line of what is left to another
@@ -299,6 +300,7 @@ skipped text line byte rest count place utf8 w inside is =
       behind = h.behind ++ after;
       parts = w.parts ∙ ap (λ t. w.before ++ t) (w.shown.parts ∙ ap (λ t. t ++ after) h.parts ∙ append_assoc h.before h.behind after) ∙ sym (append_assoc w.before h.before (h.behind ++ after));
       place = omega (arith, byte_is, place_is, byte_len-append w.before h.before);
+      there = there-further text line byte own count place w inside (is ∙ there);
       lines = sym (drop-drop count line (line_texts text)) ∙ ap (drop count) (w.lines ∙ ap line_texts w.shown.parts) ∙ h.lines;
       shown = record { after = after; parts = refl; whole = uncut-behind h.before h.behind after (subst (λ (t : List ℕ). NoCrLfBetween t after) h.parts w.shown.whole) };
     } in (
@@ -390,7 +392,7 @@ walk-behind text line byte rest scalars fits bytes_fit utf8 below h place shown 
   near = omega (arith, place, ap byte_len h.parts, byte_len-append h.before h.behind);
   utf8 = utf8;
   within = omega (arith, below);
-  starts = λ _. record { before = h.before; behind = h.behind; parts = h.parts; place = place; lines = h.lines; shown = shown };
+  starts = λ _. record { before = h.before; behind = h.behind; parts = h.parts; place = place; there = place ∙ sym h.place; lines = h.lines; shown = shown };
   nothing = λ end. absurd (omega (arith, below, end));
 }
 
@@ -451,6 +453,7 @@ next-line text line byte rest start end walk below found =
       behind = left ++ after;
       parts = w.parts ∙ ap (λ t. w.before ++ t) (behind_is ∙ sym (append_assoc own one (left ++ after))) ∙ sym (append_assoc w.before (own ++ one) (left ++ after));
       place = omega (arith, byte_is, sizes, gone, within, byte_len-append w.before (own ++ one), byte_len-append own one);
+      there = there-further text line byte (chars rest) 1 end w (omega (arith, ap length found.break_ends)) (sym (ap (λ es. end_place es 1 (byte_len (chars rest))) found.break_ends));
       lines = sym (drop-drop 1 line (line_texts text)) ∙ ap (drop 1) (w.lines ∙ lines);
       shown = record { after = after; parts = refl; whole = uncut-behind (own ++ one) left after (subst (λ (t : List ℕ). NoCrLfBetween t after) (sym (append_assoc own one left)) whole) };
     } in
@@ -537,23 +540,3 @@ shown-next fields shown old is text line below =
 -- a range from the start
 pub from-start : (bytes : List ℕ) (end : ℕ) → slice_range bytes 0 end ≡ take end bytes
 from-start bytes end = let same : end - 0 ≡ end = omega arith in ap (λ n. take n bytes) same
-
--- a walk that has shown nothing yet
-pub walk-start : (text : List ℕ) → all_scalars text ≡ true → line_count text < 2 ^ 64 → byte_len text < 2 ^ 63 → IsWalk text 0 0 []
-walk-start text scalars fits bytes_fit = record {
-  text_is = scalars;
-  fits = fits;
-  bytes_fit = bytes_fit;
-  near = omega arith;
-  utf8 = IsUtf8-nil;
-  within = omega arith;
-  starts = λ low. record {
-    before = [];
-    behind = text;
-    parts = refl;
-    place = refl;
-    lines = refl;
-    shown = record { after = text; parts = ap (λ t. t ++ text) (sym chars-nil); whole = subst (λ t. NoCrLfBetween t text) (sym chars-nil) refl };
-  };
-  nothing = λ e. refl;
-}

@@ -352,3 +352,16 @@ drop-none i xs l = drop_all i xs l
 
 pub max-is : (a b : ℕ) → ord_max nat_cmp a b ≡ max a b
 max-is a b = grind (arith, nat_tests)
+
+-- ---- the first change
+
+pub first-is : (changes : List Change) (first : ℕ) → ((d : Change) → 0 < length changes → first ≡ (slice_index_or changes 0 d).new_start) → (length changes ≡ 0 → first ≡ 0)
+    → first ≡ (change_at changes 0).new_start
+first-is [] first some none = none refl
+first-is (c ∷ cs) first some none = some (record { old_end = 0; new_start = 0; new_end = 0 }) (omega arith)
+
+pub first-within : (old new : List ℕ) (changes : List Change) (n first : ℕ) → AreChanges changes 0 0 old new n → first ≡ (change_at changes 0).new_start → first ≤ byte_len new
+first-within old new [] n first are is = omega (arith, is)
+first-within old new (c ∷ cs) n first are is =
+    let next = next-at [] old new (c ∷ cs) 0 n 0 0 [] (omega arith) (Woven-start [] old new (c ∷ cs) n [] refl are) in
+    omega (arith, is, next.new_ordered, next.new_within)

@@ -119,6 +119,7 @@ pub record StartsLine (text : List ℕ) (line byte : ℕ) (rest : List ℕ) : Ty
   pub behind : List ℕ
   pub parts : text ≡ before ++ behind
   pub place : byte ≡ byte_len before
+  pub there : byte ≡ line_start text line
   pub lines : drop line (line_texts text) ≡ line_texts behind
   pub shown : IsRestOf behind rest
 

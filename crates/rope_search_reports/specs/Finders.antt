@@ -1,5 +1,5 @@
 -- What a finder is made of, for the contracts of the code that searches.
-use Rattle.std.specs.Prelude.{◌≡◌, ℕ, ◌+◌, ◌*◌, Bool, true, List, [], ◌∷◌, ◌++◌, length, Option, None, Some, option_map, slice_index_or, unwrap_or, map}
+use Rattle.std.specs.Prelude.{◌≡◌, ℕ, ◌+◌, ◌*◌, Bool, true, List, [], ◌∷◌, ◌++◌, length, Option, None, option_map, slice_index_or, unwrap_or, map}
 use Rattle.std.specs.Str.{chars}
 use Rattle.regex_cursor.specs.Patterns.{Tree, FoundMatch, TreeFinds, TreeMatches, answer_slots}
 use Rattle.regex_cursor.specs.Regexes.{RegexView, IsRegexOf}

@@ -1,5 +1,5 @@
 -- Rows with patches in them.
-use Rattle.std.specs.Prelude.{ℕ, ◌-◌, ◌≤◌, List, [], ◌∷◌, ◌++◌, length, take, drop, sum_by}
+use Rattle.std.specs.Prelude.{ℕ, ◌+◌, ◌-◌, ◌≤◌, ◌==◌, Bool, not, List, [], ◌∷◌, ◌++◌, length, take, drop, sum_by, count_by}
 use Rattle.rope_search_reports.specs.declared.patches.Patch.{Patch}
 
 -- the rows from one on, each patch in the place of the rows that are gone
@@ -21,6 +21,14 @@ growth_of patch = length patch.made.items - (patch.end - patch.first)
 -- how many all do
 abbrev pub growth_by : List Patch → ℕ
 growth_by patches = sum_by growth_of patches
+
+-- whether the rows behind a patch move: it doesn't bring as many as it takes
+abbrev pub shifts : Patch → Bool
+shifts patch = not (patch.first + length patch.made.items == patch.end)
+
+-- how many patches move them
+abbrev pub shift_count : List Patch → ℕ
+shift_count patches = count_by shifts patches
 
 -- how many rows they bring
 abbrev pub made_by : List Patch → ℕ

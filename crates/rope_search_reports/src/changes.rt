@@ -1,5 +1,6 @@
 //! Changes of a text, the way back from them, and the rows that they make anew.
-ghost use Rattle.std.specs.Prelude.{◌≡◌, ℕ, ◌+◌, ◌-◌, ◌^◌, ◌<◌, ◌≤◌, List, [], take, drop, min, true, IfOk, IfErr};
+ghost use Rattle.std.specs.Prelude.{◌≡◌, ℕ, ◌+◌, ◌-◌, ◌^◌, ◌<◌, ◌≤◌, List, [], true, IfOk, IfErr};
+ghost use Rattle.std.specs.Prelude.{length, take, drop, min, slice_index_or};
 ghost use Rattle.rope_search_reports.specs.Report.{IsReport};
 ghost use Rattle.rope_search_reports.specs.Text.{line_count};
 ghost use Rattle.ropey.specs.Chunks.{text_of};
@@ -113,6 +114,18 @@ fn lines_kept(
     old_lines.line(old_end) + 1
 }
 
+/// Where the first of some changes starts in the new text, or 0 where there is none.
+fn first_start(changes: &[Change]) -> usize
+    ensures first { (d : Change) → 0 < length changes.now
+        → result ≡ (slice_index_or changes.now 0 d).new_start }
+    ensures none { length changes.now ≡ 0 → result ≡ 0 }
+{
+    match changes.first() {
+        Some(change) => change.new_start,
+        None => 0,
+    }
+}
+
 /// Returns the patches that make a report that of the text after some changes. Each line of the new
 /// text is searched once at most, and at most as many as the changes' new parts have breaks, and
 /// one more for each change. Requires changes that lead from the old text to the new one.
@@ -156,9 +169,9 @@ pub fn patches_of(
         LooksAtMost (made_by patches.items) tick.old tick.new) }
 {
     let mut patches = Vec::new(alloc);
-    let mut walk = Walk::start(new.slice(..));
+    let mut walk = Walk::at_place(new.slice(..), first_start(changes));
     let mut old_lines = LineTeller::of(old.slice(..));
-    let mut new_lines = LineTeller::of(new.slice(..));
+    let mut new_lines = walk.teller();
     // The lines of both texts up to the last change: the old one's that are kept or gone, and the
     // new one's that have a row.
     let (mut kept, mut done) = (0, 0);

@@ -1,13 +1,19 @@
 //! Where a line of a text starts, told by one way down the tree.
-ghost use Rattle.std.specs.Prelude.{◌≡◌, ◌<◌, ◌≤◌};
+ghost use Rattle.std.specs.Prelude.{◌≡◌, ◌+◌, ◌<◌, ◌≤◌, ◌==◌, ◌&&◌, drop, length, slice_index};
+ghost use Rattle.std.specs.Str.{chars};
+ghost use Rattle.str_indices.specs.Text.{break_ends, char_ends, end_place, ends_up_to};
+ghost use Rattle.str_indices.specs.Text.{starts_with_lf};
+ghost use Rattle.ropey.specs.Chunks.{is_break};
 ghost use Rattle.ropey_walk.specs.Slices.{slice_text};
 ghost use Rattle.rope_search_reports.specs.Text.{line_count};
-ghost use Rattle.rope_search_reports.specs.Position.{line_text};
+ghost use Rattle.rope_search_reports.specs.Position.{line_start, line_text};
 ghost use Rattle.rope_search_reports.specs.Drafts.{HoldsText, StartsIn, own_text};
 
 use crate::line::Line;
 use crate::walk::without_break;
+use memchr::memrchr2;
 use ropey::{RopeSlice, breaks};
+use str_indices::chars;
 
 /// Where a line of a text starts: a chunk, what stands before that, and the place in it, which may
 /// be its end.
@@ -21,6 +27,34 @@ pub(crate) struct LineStart<'a> {
     pub(crate) char_idx: usize,
     /// The byte of the chunk at which the line starts.
     pub(crate) at: usize,
+}
+
+/// Whether a byte is the CR of a CR LF.
+fn is_cr_of_cr_lf(bytes: &[u8], at: usize) -> bool
+    requires { at < length bytes.now }
+    ensures { result
+        ≡ ((slice_index bytes.now at == 13) && starts_with_lf (drop (at + 1) bytes.now)) }
+{
+    bytes[at] == b'\r' && bytes.get(at + 1) == Some(&b'\n')
+}
+
+/// Where the line starts that a place of a text is in: behind the last break that ends there or
+/// before. That is looked for backwards from the place, so it takes time linear in what lies
+/// between the two.
+pub(crate) fn line_start_before(text: &str, place: usize) -> usize
+    requires { place ≤ length text.now }
+    ensures { result ≡ end_place (break_ends is_break (chars text.now))
+        (ends_up_to place (break_ends is_break (chars text.now))) (length text.now) }
+{
+    let bytes = text.as_bytes();
+    let Some(last) = memrchr2(b'\n', b'\r', &bytes[..place]) else {
+        return 0;
+    };
+    if is_cr_of_cr_lf(bytes, last) {
+        // The place is between the two, and so in the line that they end.
+        return breaks::to_byte_idx(text, breaks::from_byte_idx(text, place));
+    }
+    last + 1
 }
 
 impl<'a> LineStart<'a> {
@@ -38,6 +72,20 @@ impl<'a> LineStart<'a> {
             char_idx,
             at: breaks::to_byte_idx(chunk, line_idx - first),
         }
+    }
+
+    /// How many characters stand before the line. In a text of characters of one byte none is
+    /// counted, else those of the chunk up to there.
+    pub(crate) fn chars_before(&self, text: &RopeSlice<'a>, line_idx: usize) -> usize
+        requires starts { StartsIn (slice_text text.now) line_idx self.now }
+        requires below { line_idx < line_count (slice_text text.now) }
+        ensures { result ≡ ends_up_to (line_start (slice_text text.now) line_idx)
+            (char_ends (slice_text text.now)) }
+    {
+        if text.len_chars() == text.len_bytes() {
+            return self.byte_idx + self.at;
+        }
+        self.char_idx + chars::from_byte_idx(self.chunk, self.at)
     }
 
     /// The line that starts there, its break left off. Where that stands in the same chunk, this

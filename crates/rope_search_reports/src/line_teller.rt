@@ -4,6 +4,7 @@ ghost use Rattle.str_indices.specs.Text.{byte_len};
 ghost use Rattle.ropey_walk.specs.Slices.{slice_text};
 ghost use Rattle.rope_search_reports.specs.Text.{line_count};
 ghost use Rattle.rope_search_reports.specs.Position.{line_at};
+ghost use Rattle.rope_search_reports.specs.Drafts.{IsTeller};
 
 use ropey::{RopeSlice, breaks};
 use std::marker::Model;
@@ -43,12 +44,29 @@ impl<'a> LineTeller<'a> {
     {
         // The slice's facts, for the proof alone.
         let _ = text.len_bytes();
-        let _ = text.len_lines();
         LineTeller {
             text,
             rest: "",
             start: 0,
             line_idx: 0,
+        }
+    }
+
+    /// One that shows what is left of a chunk from a place on, which is in this line.
+    pub(crate) fn with_rest(
+        text: RopeSlice<'a>,
+        rest: &'a str,
+        start: usize,
+        line_idx: usize,
+    ) -> LineTeller<'a>
+        requires { IsTeller (slice_text text) rest.now start line_idx }
+        ensures { result.text ≡ slice_text text.entry }
+    {
+        LineTeller {
+            text,
+            rest,
+            start,
+            line_idx,
         }
     }
 
@@ -61,7 +79,6 @@ impl<'a> LineTeller<'a> {
     {
         // The slice's facts, for the proof alone.
         let _ = text.len_bytes();
-        let _ = text.len_lines();
         let (rest, start, _, line_idx) = text.chunk_at_byte(byte_idx);
         LineTeller {
             text,

@@ -1,8 +1,11 @@
 //! Rows put in the place of others, at several places of a list.
-ghost use Rattle.std.specs.Prelude.{◌≡◌, ◌+◌, ◌-◌, ◌^◌, ◌<◌, ◌≤◌, [], length, ◌++◌, take, drop, vec_len, vec_capacity, OnOk, IfErr};
+ghost use Rattle.std.specs.Prelude.{◌≡◌, ◌+◌, ◌-◌, ◌^◌, ◌<◌, ◌≤◌, ◌↔◌, ◌++◌, []};
+ghost use Rattle.std.specs.Prelude.{length, take, drop};
+ghost use Rattle.std.specs.Prelude.{vec_len, vec_capacity, IsTrue, OnOk, IfErr};
 ghost use Rattle.std.specs.Vec.Iter.{into_iter_items, into_iter_len};
 ghost use Rattle.rope_search_reports.specs.Drafts.{IsAdded};
 ghost use Rattle.rope_search_reports.specs.Patches.{patched, AreInTurn, growth_by, growth_of};
+ghost use Rattle.rope_search_reports.specs.Patches.{shift_count, shifts};
 
 use crate::replacing::replace_rows;
 use crate::rows::Row;
@@ -32,8 +35,13 @@ impl Patch {
     }
 
     /// Whether the rows behind it move: it doesn't bring as many as it takes.
-    fn shifts(&self) -> bool {
-        self.end.checked_sub(self.first) != Some(self.made.len())
+    fn shifts(&self) -> bool
+        ensures { result ≡ shifts self.now }
+    {
+        match self.end.checked_sub(self.first) {
+            Some(gone) => gone != self.made.len(),
+            None => true,
+        }
     }
 }
 
@@ -66,12 +74,16 @@ pub(crate) fn add_patch(patches: &mut Vec<Patch>, patch: Patch) -> Result<(), Fa
 }
 
 /// Returns whether at most one of the patches moves the rows behind it. `O(k)` for k patches.
-pub fn shift_once(patches: &[Patch]) -> bool {
-    patches
-        .iter()
-        .filter(|patch| patch.shifts())
-        .nth(1)
-        .is_none()
+pub fn shift_once(patches: &[Patch]) -> bool
+    ensures { IsTrue result ↔ shift_count patches.now ≤ 1 }
+{
+    let mut count: usize = 0;
+    for patch in patches {
+        if patch.shifts() {
+            count += 1;
+        }
+    }
+    count <= 1
 }
 
 /// Returns how many rows the patches bring more than they take, each for itself: one that brings

@@ -12,7 +12,7 @@ ghost use Rattle.rope_search_reports.specs.Drafts.{IsOwnLine};
 use crate::line::Line;
 use crate::line_start::LineStart;
 use ropey::{Rope, breaks};
-use str_indices::{chars, utf16};
+use str_indices::utf16;
 
 /// A line, and a column in it: how many UTF-16 code units stand between the line's start and the
 /// place. Both begin at 0.
@@ -86,6 +86,7 @@ impl<'a> OwnLine<'a> {
     fn of(text: &'a Rope, line_idx: usize) -> Option<OwnLine<'a>>
         ensures line { IfSome result (λ line. IsOwnLine (text_of text.now) line_idx line) }
         ensures none { IfNone result (line_count (text_of text.now) ≤ line_idx) }
+        ensures scalars { IsText (text_of text.now) }
     {
         // The text's facts, for the proof alone.
         let _ = text.len_bytes();
@@ -97,7 +98,7 @@ impl<'a> OwnLine<'a> {
         Some(OwnLine {
             start: Place {
                 byte_idx: start.byte_idx + start.at,
-                char_idx: start.char_idx + chars::from_byte_idx(start.chunk, start.at),
+                char_idx: start.chars_before(&text, line_idx),
             },
             text: start.line(&text, line_idx),
         })
@@ -140,8 +141,6 @@ pub fn place_of(text: &Rope, position: Position) -> Option<Place>
         (place.char_idx ≤ length (text_of text.now))
         × (byte_len (take place.char_idx (text_of text.now)) ≡ place.byte_idx)) }
 {
-    // The text's facts, for the proof alone.
-    let _ = text.len_bytes();
     let line = OwnLine::of(text, position.line)?;
     line.place_at(position.column)
 }
@@ -157,8 +156,6 @@ pub fn places_of(text: &Rope, from: Position, to: Position) -> Option<(Place, Pl
         ⊎ IsNowhere (text_of text.now) (to.line, to.column)) }
     ensures scalars { IsText (text_of text.now) }
 {
-    // The text's facts, for the proof alone.
-    let _ = text.len_bytes();
     let line = OwnLine::of(text, from.line)?;
     let start = line.place_at(from.column)?;
     let end = if to == from {

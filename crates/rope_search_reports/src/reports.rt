@@ -128,7 +128,6 @@ fn pass_over(
     }
     let passed = finder.bare_lines(tick, walk, left);
     push_bare(tick, finder, rows, passed)?;
-    walk.pass(passed);
     Ok(passed)
 }
 

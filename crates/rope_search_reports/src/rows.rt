@@ -140,6 +140,7 @@ impl Row {
 /// error. It alone makes rows.
 ///
 /// Errors: `Fault::Memory`; the finder serves on.
+#[inline(always)]
 pub(crate) fn row_of(tick: &mut Lines, finder: &mut Finder, line: Line<'_>) -> Result<Row, Fault>
     requires { HoldsText line }
     ensures row { IfOk result (λ row. IsRow finder.old (own_text line.entry) row) }

@@ -1,17 +1,19 @@
 //! A walk over the lines of a text, forwards alone: chunk by chunk, and line by line in a chunk.
-ghost use Rattle.std.specs.Prelude.{◌≡◌, ◌+◌, ◌^◌, ◌<◌, ◌≤◌, ℕ, List, ◌++◌, take};
+ghost use Rattle.std.specs.Prelude.{◌≡◌, ◌+◌, ◌-◌, ◌^◌, ◌<◌, ◌≤◌, ℕ, List, ◌++◌, take};
 ghost use Rattle.std.specs.Str.{chars, IsUtf8, IsCharBoundary};
-ghost use Rattle.str_indices.specs.Text.{breaks, byte_len, NoCrLfBetween};
+ghost use Rattle.str_indices.specs.Text.{breaks, break_ends, byte_len, ends_up_to, NoCrLfBetween};
 ghost use Rattle.ropey.specs.Chunks.{is_break, text_of};
 ghost use Rattle.ropey_walk.specs.Comparing.{slice_bytes};
 ghost use Rattle.ropey_walk.specs.Slices.{slice_text};
 ghost use Rattle.rope_search_reports.specs.Text.{line_count};
 ghost use Rattle.rope_search_reports.specs.Report.{line_texts};
-ghost use Rattle.rope_search_reports.specs.Position.{line_text};
-ghost use Rattle.rope_search_reports.specs.Drafts.{HasOwnText, HoldsText, IsRestOf, ShowsLines, own_text};
+ghost use Rattle.rope_search_reports.specs.Position.{line_at, line_start, line_text};
+ghost use Rattle.rope_search_reports.specs.Drafts.{HasOwnText, HoldsText, IsRestOf, ShowsLines};
+ghost use Rattle.rope_search_reports.specs.Drafts.{own_text};
 
 use crate::line::Line;
-use crate::line_start::LineStart;
+use crate::line_start::{LineStart, line_start_before};
+use crate::line_teller::LineTeller;
 use ropey::{Rope, RopeSlice, breaks};
 use std::marker::Model;
 
@@ -97,9 +99,6 @@ impl<'a> Walk<'a> {
         ensures text { result.text ≡ slice_text text.entry }
         ensures line { result.line ≡ line_idx }
     {
-        // The slice's facts, for the proof alone.
-        let _ = text.len_bytes();
-        let _ = text.len_lines();
         let start = LineStart::of(&text, line_idx);
         Walk {
             text,
@@ -109,21 +108,36 @@ impl<'a> Walk<'a> {
         }
     }
 
-    /// The walk over the lines of a slice from its start on. It looks nothing up before a line is
-    /// asked for, or passed over.
-    pub(crate) fn start(text: RopeSlice<'a>) -> Walk<'a>
+    /// The walk over the lines of a slice from the one that a place is in. `O(log n)`: it goes down
+    /// the tree once where that line starts in the chunk of the place, else twice.
+    pub(crate) fn at_place(text: RopeSlice<'a>, byte_idx: usize) -> Walk<'a>
+        requires { byte_idx ≤ byte_len (slice_text text) }
         ensures text { result.text ≡ slice_text text.entry }
-        ensures line { result.line ≡ 0 }
+        ensures line { result.line ≡ line_at (slice_text text.entry) byte_idx }
     {
         // The slice's facts, for the proof alone.
         let _ = text.len_bytes();
-        let _ = text.len_lines();
+        let (chunk, start, _, first) = text.chunk_at_byte(byte_idx);
+        let within = byte_idx - start;
+        let count = breaks::from_byte_idx(chunk, within);
+        if count == 0 {
+            return Walk::at(text, first);
+        }
+        let at = line_start_before(chunk, within);
         Walk {
             text,
-            line_idx: 0,
-            byte_idx: 0,
-            rest: "",
+            line_idx: first + count,
+            byte_idx: start + at,
+            rest: &chunk[at..],
         }
+    }
+
+    /// What tells the lines of places from the next line on. It looks nothing up.
+    pub(crate) fn teller(&self) -> LineTeller<'a>
+        requires { self.now.line < line_count self.now.text }
+        ensures { result.text ≡ self.now.text }
+    {
+        LineTeller::with_rest(self.text, self.rest, self.byte_idx, self.line_idx)
     }
 
     /// The text whose lines these are.
@@ -139,6 +153,14 @@ impl<'a> Walk<'a> {
         ensures within { result ≤ line_count self.now.text }
     {
         self.line_idx
+    }
+
+    /// Where the next line starts.
+    pub(crate) fn byte_idx(&self) -> usize
+        requires { self.now.line < line_count self.now.text }
+        ensures { result ≡ line_start self.now.text self.now.line }
+    {
+        self.byte_idx
     }
 
     /// What is left of the chunk in which the next line starts: the lines that end in it are the
@@ -168,6 +190,40 @@ impl<'a> Walk<'a> {
         self.line_idx += count;
         self.byte_idx += place;
         self.rest = &self.rest[place..];
+    }
+
+    /// Passes over the next lines that end before a place in what is left of the chunk, or there,
+    /// and returns how many they are. It takes no look-up.
+    pub(crate) fn pass_in_chunk(&mut self, place: usize) -> usize
+        requires within { place < byte_len self.old.rest }
+        requires below { self.old.line < line_count self.old.text }
+        ensures count { result ≡ ends_up_to place (break_ends is_break self.old.rest) }
+        ensures text { self.new.text ≡ self.old.text }
+        ensures line { self.new.line ≡ self.old.line + result }
+    {
+        let rest = self.rest;
+        let count = breaks::from_byte_idx(rest, place);
+        let start = line_start_before(rest, place);
+        self.line_idx += count;
+        self.byte_idx += start;
+        self.rest = &rest[start..];
+        count
+    }
+
+    /// Passes over the next lines that end before a place of the text, or there, and returns how
+    /// many they are. `O(log n)`.
+    pub(crate) fn pass_to(&mut self, byte_idx: usize) -> usize
+        requires { byte_idx ≤ byte_len self.old.text }
+        ensures count { result ≡ line_at self.old.text byte_idx - self.old.line }
+        ensures text { self.new.text ≡ self.old.text }
+        ensures line { self.new.line ≡ self.old.line + result }
+    {
+        let ahead = Walk::at_place(self.text, byte_idx);
+        let count = ahead.line_idx.saturating_sub(self.line_idx);
+        if count > 0 {
+            *self = ahead;
+        }
+        count
     }
 
     /// Shows the chunk in which the next line starts, where nothing is left of the one before.

@@ -8,6 +8,7 @@ ghost use Rattle.regex_cursor.specs.Patterns.{AsksFrom, HasNoMatchBetween, TreeF
 ghost use Rattle.regex_cursor.specs.PatternLaws.{SaysOfText};
 ghost use Rattle.regex_cursor.specs.Regexes.{IsCacheOf, IsRegexOf};
 ghost use Rattle.regex_cursor.specs.NextMatches.{TreeFindsNext};
+ghost use Rattle.rope_search_reports.specs.Text.{IsText};
 ghost use Rattle.rope_search_reports.specs.Finders.{IsTold, group_told, start_behind};
 
 use super::Lines;
@@ -241,6 +242,7 @@ impl CountedRegex {
           last = None;
           is_over = false;
         } }
+        ensures scalars { IsText (slice_text text.entry) }
         ensures count { tick.new.count ≡ tick.old.count }
         ensures wholes { tick.new.wholes ≡ min (tick.old.wholes + 1) (2 ^ 64 - 1) }
         ensures looked { tick.new.looked ≡ tick.old.looked }

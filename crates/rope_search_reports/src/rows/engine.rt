@@ -27,7 +27,7 @@ use crate::walk::Walk;
 use regex_cursor::{BuildError, RopeyCursor};
 use rope_search_changes::Groups;
 use rope_search_io::Fault;
-use ropey::{Rope, RopeSlice, breaks};
+use ropey::{Rope, RopeSlice};
 use std::alloc::Global;
 use std::marker::Model;
 
@@ -123,30 +123,33 @@ impl Finder {
             .no_match_before(RopeyCursor::at(text, from), text.len_bytes(), from)
     }
 
-    /// How many of the lines that come next end before the place at which a match may begin, as far
-    /// as the literals tell that each match begins with. They are looked for from the next line on,
-    /// over chunks.
-    fn lines_from(&self, walk: &Walk<'_>) -> usize
-        requires { walk.now.line < line_count walk.now.text }
-        ensures within { walk.now.line + result < line_count walk.now.text }
-        ensures bare { AreBare self.now walk.now.text walk.now.line (walk.now.line + result) }
+    /// Passes over the lines that come next and end before the place at which a match may begin, as
+    /// far as the literals tell that each match begins with, and returns how many they are. The
+    /// literals are looked for from the next line on, over chunks.
+    fn pass_chunks(&self, walk: &mut Walk<'_>) -> usize
+        requires { walk.old.line < line_count walk.old.text }
+        ensures text { walk.new.text ≡ walk.old.text }
+        ensures line { walk.new.line ≡ walk.old.line + result }
+        ensures within { walk.old.line + result < line_count walk.old.text }
+        ensures bare { AreBare self.now walk.old.text walk.old.line (walk.old.line + result) }
         ensures empty { 0 < result → IsRow self.now [] [] }
     {
         let text = walk.text();
-        let line_idx = walk.line_idx();
-        let start = text.line_to_byte(line_idx);
+        let start = walk.byte_idx();
         match self.no_match_from(text, start) {
-            Some(place) => text.byte_to_line(place).saturating_sub(line_idx),
+            Some(place) => walk.pass_to(place),
             None => 0,
         }
     }
 
     /// The same, but they are looked for in what is left of the chunk at first.
-    fn lines_before(&self, walk: &Walk<'_>) -> usize
-        requires { walk.now.line < line_count walk.now.text }
-        ensures within { walk.now.line + result < line_count walk.now.text }
+    fn pass_bare(&self, walk: &mut Walk<'_>) -> usize
+        requires { walk.old.line < line_count walk.old.text }
+        ensures text { walk.new.text ≡ walk.old.text }
+        ensures line { walk.new.line ≡ walk.old.line + result }
+        ensures within { walk.old.line + result < line_count walk.old.text }
         ensures fits { result + 1 < 2 ^ 64 }
-        ensures bare { AreBare self.now walk.now.text walk.now.line (walk.now.line + result) }
+        ensures bare { AreBare self.now walk.old.text walk.old.line (walk.old.line + result) }
         ensures empty { 0 < result → IsRow self.now [] [] }
     {
         let rest = walk.rest();
@@ -154,38 +157,58 @@ impl Finder {
             None => 0,
             Some(place) => {
                 if place < rest.len() {
-                    breaks::from_byte_idx(rest, place)
+                    walk.pass_in_chunk(place)
                 } else {
-                    self.lines_from(walk)
+                    self.pass_chunks(walk)
                 }
             }
         }
     }
 
-    /// How many of the next `left` lines end before the place at which a match may begin, as far as
-    /// the literals tell that each match begins with. These lines and the one behind them are
-    /// counted as looked through. Requires that no line of the walk comes behind them, but for an
-    /// empty one. Time is linear in the text up to that place.
-    pub(crate) fn bare_lines(&self, tick: &mut Lines, walk: &Walk<'_>, left: usize) -> usize
+    /// Passes over those of the next `left` lines that end before the place at which a match may
+    /// begin, as far as the literals tell that each match begins with, and returns how many they
+    /// are. These lines and the one behind them are counted as looked through. Requires that no
+    /// line of the walk comes behind the `left`, but for an empty one. Time is linear in the text up
+    /// to that place.
+    pub(crate) fn bare_lines(&self, tick: &mut Lines, walk: &mut Walk<'_>, left: usize) -> usize
         requires some { 0 < left }
-        requires within { walk.now.line + left ≤ line_count walk.now.text }
-        requires all { line_count walk.now.text ≤ walk.now.line + left + 1 }
+        requires within { walk.old.line + left ≤ line_count walk.old.text }
+        requires all { line_count walk.old.text ≤ walk.old.line + left + 1 }
+        ensures text { walk.new.text ≡ walk.old.text }
+        ensures line { walk.new.line ≡ walk.old.line + result }
         ensures within { result ≤ left }
-        ensures bare { AreBare self.now walk.now.text walk.now.line (walk.now.line + result) }
+        ensures bare { AreBare self.now walk.old.text walk.old.line (walk.old.line + result) }
         ensures empty { 0 < result → IsRow self.now [] [] }
         ensures count { tick.new.count ≡ tick.old.count }
         ensures wholes { tick.new.wholes ≡ tick.old.wholes }
         ensures looked { tick.new.looked
             ≡ min (tick.old.looked + min (result + 1) left) (2 ^ 64 - 1) }
     {
-        let passed = self.lines_before(walk);
+        let passed = self.pass_bare(walk);
         tick.add_looked((passed + 1).min(left));
         passed
+    }
+
+    /// `columns_of` by a search of the line.
+    fn searched_columns(&mut self, tick: &mut Lines, line: Line<'_>) -> Result<Found, Fault>
+        requires { HoldsText line }
+        ensures row { IfOk result
+            (λ found. IsRow self.old (own_text line.entry) (matches_in found)) }
+        ensures fault { IfErr result (λ fault. fault ≡ Fault.Memory) }
+        ensures finder { self.new ≡ self.old }
+        ensures count { tick.new.count ≡ min (tick.old.count + 1) (2 ^ 64 - 1) }
+        ensures wholes { tick.new.wholes ≡ tick.old.wholes }
+        ensures looked { tick.new.looked ≡ tick.old.looked }
+    {
+        self.columns.clear();
+        columns_in_line(tick, &mut self.columns, &mut self.regex, line)?;
+        Ok(Found::of(self.alloc, self.columns.as_slice())?)
     }
 
     /// The matches in a line, by their columns. One row is counted, also after an error.
     ///
     /// Errors: `Fault::Memory`; the finder serves on.
+    #[inline(always)]
     pub(super) fn columns_of(&mut self, tick: &mut Lines, line: Line<'_>) -> Result<Found, Fault>
         requires { HoldsText line }
         ensures row { IfOk result
@@ -200,9 +223,7 @@ impl Finder {
             tick.add_row();
             return Ok(Found::Nothing);
         }
-        self.columns.clear();
-        columns_in_line(tick, &mut self.columns, &mut self.regex, line)?;
-        Ok(Found::of(self.alloc, self.columns.as_slice())?)
+        self.searched_columns(tick, line)
     }
 
     /// The first match in a whole text from a place on. One search of a whole text is counted, also

@@ -49,8 +49,6 @@ pub fn all_groups(
     ensures wholes { tick.new.wholes ≡ min (tick.old.wholes + 1) (2 ^ 64 - 1) }
     ensures looked { tick.new.looked ≡ tick.old.looked }
 {
-    // The slice's facts, for the proof alone.
-    let _ = text.len_bytes();
     let mut pass = regex.in_text(tick, text);
     let mut groups = Vec::new(alloc);
     let mut slots = [None; SLOT_COUNT];
@@ -78,8 +76,6 @@ pub fn all_spans(
     ensures wholes { tick.new.wholes ≡ min (tick.old.wholes + 1) (2 ^ 64 - 1) }
     ensures looked { tick.new.looked ≡ tick.old.looked }
 {
-    // The slice's facts, for the proof alone.
-    let _ = text.len_bytes();
     let mut pass = regex.in_text(tick, text);
     let mut spans = Vec::new(alloc);
     let mut slots = [None; 2];

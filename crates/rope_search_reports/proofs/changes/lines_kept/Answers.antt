@@ -1,6 +1,5 @@
-use Rattle.std.proofs.Common.{◌≡◌, ap, ◌∙◌, arith}
+use Rattle.std.proofs.Common.{ap, arith}
 use Rattle.ropey.specs.Chunks.{text_of}
-use Rattle.rope_search_reports.specs.Position.{line_at}
 use Rattle.rope_search_reports.specs.Text.{line_count}
 use Rattle.rope_search_reports.proofs.KeptLemmas.{as-many}
 use Rattle.rope_search_reports.proofs.changes.lines_kept.Goals as goal

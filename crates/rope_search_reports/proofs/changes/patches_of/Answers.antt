@@ -5,11 +5,13 @@ use Rattle.str_indices.specs.Text.{byte_len}
 use Rattle.rope_search_reports.specs.Position.{line_at}
 use Rattle.rope_search_reports.specs.Text.{line_count}
 use Rattle.ropey.specs.Chunks.{text_of}
-use Rattle.rope_search_reports.proofs.WeaveLemmas.{Woven, change_at, next-at, Woven-at, Woven-start, Woven-added, Woven-step, Woven-turn, Woven-report, start-is, ordered-at, count-at, few-at, last-alike, rows-at, once-at, drop-none, max-is}
+use Rattle.rope_search_reports.proofs.WeaveLemmas.{Woven, change_at, next-at, Woven-at, Woven-start, Woven-added, Woven-step, Woven-turn, Woven-report, start-is, ordered-at, count-at, few-at, last-alike, rows-at, once-at, drop-none, max-is, first-is, first-within}
 use Rattle.rope_search_reports.specs.Patches.{AreInTurn, made_by}
 use Rattle.rope_search_reports.proofs.MadeLemmas.{counted-made, made-added, rows-counted}
 use Rattle.rope_search_reports.proofs.FinderLemmas.{whole-is}
+use Rattle.ropey_walk.specs.Slices.{slice_text}
 use Rattle.rope_search_reports.proofs.LineLemmas.{lines-counted}
+use Rattle.rope_search_reports.proofs.PlaceLemmas.{line_inside}
 use Rattle.rope_search_reports.proofs.changes.patches_of.Goals as goal
 
 pub loop-change-init : goal.loop-change-init
@@ -23,12 +25,32 @@ loop-change-init c =
       omega arith,
       omega (arith, none),
       omega arith,
-      c.of-new_lines.ensures ∙ ap text_of c.slice-3.ensures ∙ whole-is c.args.new.now,
+      c.teller-new_lines.ensures ∙ c.at_place-walk.ensures.text ∙ ap text_of c.slice.ensures ∙ whole-is c.args.new.now,
       c.of-old_lines.ensures ∙ ap text_of c.slice-2.ensures ∙ whole-is c.args.old.now,
-      c.start-walk.ensures.text ∙ ap text_of c.slice.ensures ∙ whole-is c.args.new.now,
-      omega (arith, c.start-walk.ensures.line),
+      c.at_place-walk.ensures.text ∙ ap text_of c.slice.ensures ∙ whole-is c.args.new.now,
+      omega (
+        arith,
+        c.at_place-walk.ensures.line,
+        ap (λ t. line_at t c.first_start.result) (ap text_of c.slice.ensures ∙ whole-is c.args.new.now),
+        ap (line_at (text_of c.args.new.now)) (first-is c.args.changes.now c.first_start.result c.first_start.ensures.first c.first_start.ensures.none),
+      ),
       omega arith,
     )
+
+pub at_place-walk-requires : goal.at_place-walk-requires
+at_place-walk-requires c =
+    let first = first-is c.args.changes.now c.first_start.result c.first_start.ensures.first c.first_start.ensures.none in
+    let within = first-within (text_of c.args.old.now) (text_of c.args.new.now) c.args.changes.now c.requires.changed.0 c.first_start.result c.requires.changed.1 first in
+    omega (arith, within, ap byte_len (ap text_of c.slice.ensures ∙ whole-is c.args.new.now))
+
+pub teller-new_lines-requires : goal.teller-new_lines-requires
+teller-new_lines-requires c =
+    omega (arith, c.at_place-walk.ensures.line, ap line_count c.at_place-walk.ensures.text, line_inside (slice_text c.slice.result) c.first_start.result)
+
+pub rows_ahead-requires-clause-ahead : goal.rows_ahead-requires-clause-ahead
+rows_ahead-requires-clause-ahead c =
+    let start = start-is c.loop-change.done _ c.line.result c.max-start.result (c.line.ensures.line ∙ ap (λ t. line_at t (change_at c.args.changes.now c.loop-change.change-index).new_start) c.loop-change.invariant.8) (c.max-start.ensures ∙ max-is c.loop-change.done c.line.result) in
+    omega (arith, c.loop-change.invariant.11, start)
 
 pub line-requires : goal.line-requires
 line-requires c =
@@ -133,7 +155,7 @@ loop-change-preserved c =
       c.line-end.ensures.text ∙ c.line.ensures.text ∙ so.8,
       c.lines_kept-kept.ensures.text ∙ so.9,
       c.in_ok-made.ensures.text ∙ so.10,
-      c.in_ok-made.ensures.line,
+      omega (arith, c.in_ok-made.ensures.line),
       omega (arith, so.12, c.loop-change-test.true),
     )
 

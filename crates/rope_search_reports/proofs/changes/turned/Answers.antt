@@ -1,5 +1,5 @@
-use Rattle.std.proofs.Common.{◌≡◌, ◌+◌, ◌-◌, ◌≤◌, List, [], ◌∷◌, ◌++◌, drop, refl, ap, sym, subst, ◌∙◌, arith}
-use Rattle.rope_search_reports.proofs.WeaveLemmas.{change_at, drop-none}
+use Rattle.std.proofs.Common.{◌+◌, [], ◌∷◌, ◌++◌, ap, ◌∙◌, arith}
+use Rattle.rope_search_reports.proofs.WeaveLemmas.{drop-none}
 use Rattle.rope_search_reports.proofs.TurnLemmas.{turns-start, turns-at, turns-behind, turns-more, turns-all}
 use Rattle.rope_search_reports.proofs.changes.turned.Goals as goal
 

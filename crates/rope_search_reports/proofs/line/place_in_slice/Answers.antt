@@ -1,4 +1,4 @@
-use Rattle.std.proofs.Common.{◌≡◌, ap, sym, ◌∙◌, arith}
+use Rattle.std.proofs.Common.{sym, ◌∙◌}
 use Rattle.ropey_walk.specs.Slices.{slice_text}
 use Rattle.rope_search_reports.proofs.ColumnPlaces.{char-inside, column-by-char, column-by-char-missed}
 use Rattle.rope_search_reports.proofs.line.place_in_slice.Goals as goal

@@ -1,4 +1,4 @@
-use Rattle.std.proofs.Common.{◌≡◌, ap, sym, ◌∙◌, chars}
+use Rattle.std.proofs.Common.{ap, sym, ◌∙◌, chars}
 use Rattle.std.proofs.lemmas.Str.{scalars-chars}
 use Rattle.str_indices.specs.Text.{unit_starts}
 use Rattle.std.specs.Prelude.{slice_index_or}

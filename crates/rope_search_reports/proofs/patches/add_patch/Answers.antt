@@ -1,4 +1,4 @@
-use Rattle.std.proofs.Common.{◌≡◌, inr, refl, arith}
+use Rattle.std.proofs.Common.{inr, refl, arith}
 use Rattle.rope_search_reports.proofs.patches.add_patch.Goals as goal
 
 pub returns-clause-added : goal.returns-clause-added

@@ -1,4 +1,4 @@
-use Rattle.std.proofs.Common.{◌≡◌, ◌≤◌, [], ◌∷◌, ◌++◌, length, subst, arith, vec_len}
+use Rattle.std.proofs.Common.{◌≡◌, length, subst, arith, vec_len}
 use Rattle.std.proofs.lemmas.Grind.{common_steps}
 use Rattle.rope_search_reports.specs.Patches.{AreInTurn}
 use Rattle.rope_search_reports.proofs.PutLemmas.{last-fits, last-turn, IsPutDown-step}

@@ -1,6 +1,5 @@
-use Rattle.std.proofs.Common.{◌≡◌, ◌+◌, ◌-◌, ◌≤◌, chars, sym, ap, subst, ◌∙◌, arith}
+use Rattle.std.proofs.Common.{chars, sym, ap, subst, ◌∙◌, arith}
 use Rattle.std.specs.Str.{IsCharBoundary}
-use Rattle.std.specs.List.{slice_range}
 use Rattle.str_indices.specs.Text.{byte_len, units}
 use Rattle.ropey.specs.Chunks.{text_of}
 use Rattle.ropey_walk.specs.Slices.{slice_pieces}

@@ -1,6 +1,4 @@
-use Rattle.std.proofs.Common.{◌≡◌, ◌+◌, ◌-◌, ◌≤◌, ℕ, min, refl, sym, ap, subst, ◌∙◌, arith}
-use Rattle.rope_search_reports.specs.Drafts.{AddsRows, AreBare, lines_between}
-use Rattle.rope_search_reports.specs.Ticks.{MakesAtMost}
+use Rattle.std.proofs.Common.{◌+◌, arith}
 use Rattle.rope_search_reports.proofs.BareLemmas.{adds-none, bare-added, counted-start, counted-few, looked-many, looked-most, rows-so}
 use Rattle.rope_search_reports.proofs.reports.pass_over.Goals as goal
 

@@ -1,5 +1,5 @@
-use Rattle.std.proofs.Common.{◌≡◌, ◌+◌, ◌<◌, [], ◌++◌, replicate, refl, sym, ap, subst, ◌∙◌, arith, append-nil, chars}
-use Rattle.std.proofs.lemmas.Str.{IsUtf8-nil, chars-nil}
+use Rattle.std.proofs.Common.{◌≡◌, ◌<◌, [], ◌++◌, replicate, refl, sym, subst, ◌∙◌, arith, append-nil, chars}
+use Rattle.std.proofs.lemmas.Str.{chars-nil}
 use Rattle.regex_cursor.proofs.TreeLaws.{finds_of_trees, one_tree}
 use Rattle.rope_search_reports.specs.Report.{IsRow}
 use Rattle.rope_search_reports.specs.Ticks.{MakesAsMany}

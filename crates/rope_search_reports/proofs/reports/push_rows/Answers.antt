@@ -1,4 +1,4 @@
-use Rattle.std.proofs.Common.{◌≡◌, ◌+◌, ◌<◌, refl, sym, ap, subst, ◌∙◌, arith}
+use Rattle.std.proofs.Common.{◌≡◌, ◌+◌, ◌<◌, refl, ap, subst, ◌∙◌, arith}
 use Rattle.rope_search_reports.specs.Report.{IsRow}
 use Rattle.rope_search_reports.specs.Position.{line_text}
 use Rattle.rope_search_reports.specs.Text.{line_count}

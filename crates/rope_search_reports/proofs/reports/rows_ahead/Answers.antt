@@ -1,4 +1,4 @@
-use Rattle.std.proofs.Common.{◌≡◌, ℕ, ◌+◌, ◌-◌, ◌≤◌, sym, ap, subst, ◌∙◌, arith}
+use Rattle.std.proofs.Common.{◌≡◌, ◌+◌, ap, subst, ◌∙◌, arith}
 use Rattle.ropey.specs.Chunks.{text_of}
 use Rattle.rope_search_reports.specs.Drafts.{AddsRows, lines_between}
 use Rattle.rope_search_reports.specs.Report.{AreRows}

@@ -1,13 +1,12 @@
-use Rattle.std.proofs.Common.{◌≡◌, ◌+◌, ◌-◌, ◌<◌, ◌≤◌, take, drop, length, IsUtf8, refl, sym, ap, subst, ◌∙◌, arith}
+use Rattle.std.proofs.Common.{◌≡◌, ◌<◌, take, IsUtf8, refl, sym, ap, subst, ◌∙◌, arith}
 use Rattle.std.specs.Str.{all_scalars, IsCharBoundary}
 use Rattle.std.proofs.lemmas.Str.{IsCharBoundary-from_drop}
 use Rattle.ropey.specs.Chunks.{text_of}
 use Rattle.ropey_walk.specs.Slices.{slice_text}
 use Rattle.rope_search_reports.specs.Text.{bytes_of, line_count}
-use Rattle.rope_search_reports.specs.Report.{line_texts}
 use Rattle.rope_search_reports.proofs.FinderLemmas.{whole-is}
 use Rattle.rope_search_reports.proofs.PlaceLemmas.{rope-scalars}
-use Rattle.rope_search_reports.proofs.WalkLemmas.{UpTo, line-between, up-to, up-to-all}
+use Rattle.rope_search_reports.proofs.WalkLemmas.{line-between, up-to, up-to-all}
 use Rattle.rope_search_reports.proofs.walk.lines_up_to.Goals as goal
 
 pub returns-then-end-len_lines-clause-lines : goal.returns-then-end-len_lines-clause-lines

@@ -1,4 +1,4 @@
-use Rattle.std.proofs.Common.{◌≡◌, [], ◌∷◌, refl, subst}
+use Rattle.std.proofs.Common.{[], ◌∷◌, refl, subst}
 use Rattle.rope_search_reports.specs.Turned.{Lead, listed}
 use Rattle.rope_search_reports.specs.declared.changes.Changes.{Changes}
 use Rattle.rope_search_reports.proofs.TurnLemmas.{turns-start, turns-behind}

@@ -1,4 +1,4 @@
-use Rattle.std.proofs.Common.{chars, sym, ap, ◌∙◌, arith}
+use Rattle.std.proofs.Common.{chars, ap, arith}
 use Rattle.str_indices.specs.Text.{units}
 use Rattle.rope_search_reports.specs.Report.{column}
 use Rattle.rope_search_reports.proofs.OwnLemmas.{counts-on, whole-bytes}

@@ -1,4 +1,4 @@
-use Rattle.std.proofs.Common.{length, sym, ap, ◌∙◌}
+use Rattle.std.proofs.Common.{length, sym, ap}
 use Rattle.rope_search_reports.proofs.OwnLemmas.{whole-bytes}
 use Rattle.rope_search_reports.proofs.line.Line.len_bytes.Goals as goal
 

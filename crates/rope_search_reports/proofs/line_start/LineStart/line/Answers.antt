@@ -1,4 +1,4 @@
-use Rattle.std.proofs.Common.{◌≡◌, take, chars, sym, ap, subst, ◌∙◌}
+use Rattle.std.proofs.Common.{take, chars, sym, ap, subst, ◌∙◌}
 use Rattle.ropey.specs.Chunks.{is_break, text_of}
 use Rattle.ropey_walk.specs.Slices.{slice_pieces, slice_text}
 use Rattle.str_indices.specs.FirstBreak.{IsFirstBreak}

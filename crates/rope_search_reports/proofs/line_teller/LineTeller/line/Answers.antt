@@ -1,4 +1,4 @@
-use Rattle.std.proofs.Common.{◌≡◌, ℕ, ◌+◌, ◌-◌, ◌<◌, ◌≤◌, length, ap, sym, subst, ◌∙◌, arith}
+use Rattle.std.proofs.Common.{◌+◌, ◌≤◌, length, ap, sym, subst, ◌∙◌, arith}
 use Rattle.str_indices.proofs.TextLaws.{ends_behind_a_boundary-lines, ends_of_a_part-lines}
 use Rattle.ropey.specs.Chunks.{is_break}
 use Rattle.ropey_walk.specs.Slices.{slice_text}

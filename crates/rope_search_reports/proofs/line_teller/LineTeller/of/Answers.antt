@@ -1,10 +1,13 @@
-use Rattle.std.proofs.Common.{◌≡◌, ap, arith}
-use Rattle.std.proofs.lemmas.Grind.{common_steps}
+use Rattle.std.proofs.Common.{◌^◌, ◌<◌, arith}
+use Rattle.str_indices.specs.Text.{byte_len}
 use Rattle.str_indices.proofs.TextLaws.{ends_of_a_part-lines}
 use Rattle.ropey.specs.Chunks.{is_break}
 use Rattle.ropey_walk.specs.Slices.{slice_text}
+use Rattle.rope_search_reports.proofs.StartLemmas.{few-lines}
 use Rattle.rope_search_reports.proofs.TellerLemmas.{teller-start}
 use Rattle.rope_search_reports.proofs.line_teller.LineTeller.of.Goals as goal
 
 pub invariant_of-result : goal.invariant_of-result
-invariant_of-result c = teller-start (ends_of_a_part-lines is_break) (slice_text c.args.text) (grind (arith, common_steps)) (omega (arith, c.len_bytes.ensures.bytes, c.len_bytes.ensures.fits))
+invariant_of-result c =
+    let fits : byte_len (slice_text c.args.text) < 2 ^ 63 = omega (arith, c.len_bytes.ensures.bytes, c.len_bytes.ensures.fits) in
+    teller-start (ends_of_a_part-lines is_break) (slice_text c.args.text) (few-lines (slice_text c.args.text) fits) fits

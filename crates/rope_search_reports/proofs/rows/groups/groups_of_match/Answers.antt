@@ -1,4 +1,4 @@
-use Rattle.std.proofs.Common.{◌≡◌, ℕ, List, None, Some, IsUtf8, length, refl, ap, sym, subst, ◌∙◌, arith}
+use Rattle.std.proofs.Common.{ℕ, List, IsUtf8, length, refl, ap, sym, subst, ◌∙◌, arith}
 use Rattle.ropey_walk.specs.Comparing.{slice_bytes}
 use Rattle.ropey_walk.specs.Slices.{slice_pieces, slice_text}
 use Rattle.regex_cursor.specs.Regexes.{IsRegexOf}
@@ -6,7 +6,7 @@ use Rattle.regex_cursor.proofs.TreeLaws.{finds_of_trees, regexes_have_trees}
 use Rattle.regex_cursor.specs.NextMatches.{TreeFindsNext}
 use Rattle.rope_search_reports.specs.Finders.{IsTold}
 use Rattle.rope_search_reports.specs.Replacement.{HasSpansIn}
-use Rattle.rope_search_reports.proofs.AmongLemmas.{HasPassed, among-here, among-none, next-spans, passed-more, passed-none}
+use Rattle.rope_search_reports.proofs.AmongLemmas.{among-here, among-none, next-spans, passed-more, passed-none}
 use Rattle.rope_search_reports.proofs.MatchLemmas.{room_behind}
 use Rattle.rope_search_reports.proofs.PlaceLemmas.{rope-scalars}
 use Rattle.rope_search_reports.proofs.RowLemmas.{groups-told, next-told, next-further, none-next}

@@ -1,7 +1,7 @@
-use Rattle.std.proofs.Common.{◌≡◌, ℕ, [], ◌∷◌, ◌++◌, List, None, Some, IsUtf8, length, map, refl, ap, sym, subst, ◌∙◌, arith}
+use Rattle.std.proofs.Common.{◌≡◌, ℕ, [], ◌∷◌, ◌++◌, List, IsUtf8, length, map, refl, ap, sym, subst, ◌∙◌, arith}
 use Rattle.std.specs.List.{range_with_len}
 use Rattle.ropey_walk.specs.Comparing.{slice_bytes}
-use Rattle.ropey_walk.specs.Slices.{slice_pieces, slice_text}
+use Rattle.ropey_walk.specs.Slices.{slice_text}
 use Rattle.regex_cursor.specs.Regexes.{IsRegexOf}
 use Rattle.regex_cursor.proofs.TreeLaws.{finds_of_trees, regexes_have_trees}
 use Rattle.regex_cursor.specs.NextMatches.{TreeFindsNext}
@@ -9,8 +9,7 @@ use Rattle.rope_search_reports.specs.Finders.{IsTold, group_told}
 use Rattle.rope_search_reports.specs.Matches.{groups_of}
 use Rattle.rope_search_reports.specs.Replacement.{AreMatchesIn}
 use Rattle.rope_search_reports.proofs.GroupLemmas.{matches-in}
-use Rattle.rope_search_reports.proofs.MatchLemmas.{Searched, Searched-start, room_behind}
-use Rattle.rope_search_reports.proofs.PlaceLemmas.{rope-scalars}
+use Rattle.rope_search_reports.proofs.MatchLemmas.{Searched-start, room_behind}
 use Rattle.rope_search_reports.proofs.RowLemmas.{groups-told, next-told, next-further, next-shown, none-next, last-groups}
 use Rattle.rope_search_reports.proofs.rows.searching.all_groups.Goals as goal
 
@@ -71,7 +70,7 @@ returns-clause-stand c =
     let content = slice_bytes c.args.text in
     let told : (text : List ℕ) → (built : IsRegexOf text c.args.regex.now) → IsTold (TreeFindsNext built.tree c.loop-groups.pass.content c.loop-groups.pass.last) c.in_ok-next.field-0 c.next.new.slots =
     subst (λ re. (text : List ℕ) → (built : IsRegexOf text re) → IsTold (TreeFindsNext built.tree c.loop-groups.pass.content c.loop-groups.pass.last) c.in_ok-next.field-0 c.next.new.slots) c.loop-groups.invariant.0 (c.in_ok-next.ensures.found c.loop-groups.invariant.1) in
-    let utf8 : IsUtf8 content = (slice_text c.args.text, (rope-scalars (slice_pieces c.args.text) c.len_bytes.ensures.cut.cut, refl)) in
+    let utf8 : IsUtf8 content = (slice_text c.args.text, (c.in_text-pass.ensures.scalars, refl)) in
     let text = c.requires.0 in
     let built = c.requires.1 in
     let has = finds_of_trees built.tree in

@@ -1,4 +1,4 @@
-use Rattle.std.proofs.Common.{◌≡◌, ℕ, ◌∷◌, ◌++◌, [], List, None, Some, IsUtf8, length, refl, ap, sym, subst, ◌∙◌, arith}
+use Rattle.std.proofs.Common.{ℕ, List, length, refl, ap, sym, subst, ◌∙◌, arith}
 use Rattle.std.proofs.lemmas.Str.{IsCharBoundary-from_drop, chars-nil}
 use Rattle.str_indices.specs.Text.{units}
 use Rattle.regex_cursor.specs.Regexes.{IsRegexOf}
@@ -7,7 +7,7 @@ use Rattle.rope_search_reports.specs.Text.{bytes_of}
 use Rattle.rope_search_reports.specs.Drafts.{own_text}
 use Rattle.regex_cursor.specs.NextMatches.{TreeFindsNext}
 use Rattle.rope_search_reports.specs.Finders.{IsTold, start_behind}
-use Rattle.rope_search_reports.proofs.MatchLemmas.{Searched, Searched-start, room_behind}
+use Rattle.rope_search_reports.proofs.MatchLemmas.{Searched-start, room_behind}
 use Rattle.rope_search_reports.proofs.OwnLemmas.{own-utf8}
 use Rattle.rope_search_reports.proofs.RowLemmas.{columns_of, columns-are, next-told, next-follows, next-stands, next-further, next-shown, none-next, last-row}
 use Rattle.rope_search_reports.proofs.rows.searching.columns_in.Goals as goal

@@ -1,4 +1,4 @@
-use Rattle.std.proofs.Common.{List, ℕ, sym, subst}
+use Rattle.std.proofs.Common.{sym, subst}
 use Rattle.std.specs.Prelude.{OnOk}
 use Rattle.rope_search_reports.specs.Drafts.{HoldsText, own_text}
 use Rattle.rope_search_reports.specs.Finders.{IsRowOf}

@@ -1,4 +1,4 @@
-use Rattle.std.proofs.Common.{◌≡◌, ◌+◌, sym, subst, arith}
+use Rattle.std.proofs.Common.{◌+◌, sym, subst, arith}
 use Rattle.ropey_walk.specs.Slices.{slice_text}
 use Rattle.rope_search_reports.specs.Drafts.{IsWalk}
 use Rattle.rope_search_reports.proofs.StartLemmas.{chars-there, walk-from}

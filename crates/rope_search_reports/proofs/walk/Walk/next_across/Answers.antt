@@ -1,4 +1,4 @@
-use Rattle.std.proofs.Common.{◌≡◌, ◌<◌, sym, ap, subst, ◌∙◌, arith}
+use Rattle.std.proofs.Common.{◌<◌, sym, ap, subst, ◌∙◌, arith}
 use Rattle.ropey.specs.Chunks.{text_of}
 use Rattle.ropey_walk.specs.Slices.{slice_pieces, slice_text}
 use Rattle.rope_search_reports.specs.Text.{line_count}

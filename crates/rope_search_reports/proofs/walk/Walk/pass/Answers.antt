@@ -1,8 +1,7 @@
-use Rattle.std.proofs.Common.{◌≡◌, ◌+◌, ◌<◌, ◌≤◌, ℕ, List, chars, length, sym, subst, arith}
+use Rattle.std.proofs.Common.{sym, subst, arith}
 use Rattle.ropey_walk.specs.Slices.{slice_text}
-use Rattle.rope_search_reports.specs.Text.{line_count}
-use Rattle.rope_search_reports.specs.Drafts.{IsWalk, WalkState}
-use Rattle.rope_search_reports.proofs.WalkLemmas.{SkipsTo, inside-rest, skip-walk}
+use Rattle.rope_search_reports.specs.Drafts.{IsWalk}
+use Rattle.rope_search_reports.proofs.WalkLemmas.{inside-rest, skip-walk}
 use Rattle.rope_search_reports.proofs.walk.Walk.pass.Goals as goal
 
 pub invariant_of-self-2 : goal.invariant_of-self-2

@@ -1,4 +1,4 @@
-use Rattle.std.proofs.Common.{◌≤◌, ◌+◌, ℕ, List, Option, length, refl, ap, sym, subst, arith}
+use Rattle.std.proofs.Common.{◌≤◌, ℕ, List, length, refl, ap, sym, subst, arith}
 use Rattle.regex_cursor.specs.Patterns.{AsksFrom}
 use Rattle.regex_cursor.specs.Regexes.{IsRegexOf, RegexView}
 use Rattle.regex_cursor.proofs.TreeLaws.{finds_of_trees}

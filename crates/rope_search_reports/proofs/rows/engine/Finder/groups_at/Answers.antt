@@ -1,4 +1,4 @@
-use Rattle.std.proofs.Common.{None, Some, sym, subst, ◌∙◌}
+use Rattle.std.proofs.Common.{Some, sym, subst, ◌∙◌}
 use Rattle.std.specs.Prelude.{IfOk, Option, option_map}
 use Rattle.ropey_walk.specs.Slices.{slice_text}
 use Rattle.regex_cursor.specs.Patterns.{SpellsTree}

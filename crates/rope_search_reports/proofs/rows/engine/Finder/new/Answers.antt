@@ -1,5 +1,4 @@
-use Rattle.std.proofs.Common.{[], arith, ap, sym, subst, refl, ◌∙◌}
-use Rattle.regex_cursor.specs.Patterns.{Asked}
+use Rattle.std.proofs.Common.{[], arith, sym, subst, refl, ◌∙◌}
 use Rattle.regex_cursor.specs.PatternLaws.{SaysOfText}
 use Rattle.rope_search_reports.proofs.BareLemmas.{never-empty}
 use Rattle.rope_search_reports.proofs.FinderLemmas.{short-none}
