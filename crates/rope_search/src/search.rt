@@ -1,10 +1,11 @@
 //! A pattern that is set, and its report, which edits and replacements patch.
-ghost use Rattle.std.specs.Prelude.{◌≡◌, None, Some, if◌then◌else◌, is_some, ℕ, ◌+◌, ◌^◌, ◌<◌, ◌≤◌, ◌↔◌, ◌⊎◌, length, chars, Err, OnOk, OnErr, IfOk, IfErr};
+ghost use Rattle.std.specs.Prelude.{◌≡◌, None, Some, if◌then◌else◌, is_some, ℕ, ◌+◌, ◌^◌, ◌<◌, ◌≤◌, ◌↔◌, ◌⊎◌};
+ghost use Rattle.std.specs.Prelude.{length, chars, Err, OnOk, OnErr, IfOk, IfErr, IsSome};
 ghost use Rattle.ropey.specs.Chunks.{text_of};
 ghost use Rattle.rope_search_reports.specs.Text.{bytes_of, line_count};
 ghost use Rattle.rope_search_reports.specs.Report.{IsReport, match_count};
 ghost use Rattle.rope_search_reports.specs.Changes.{AreChanges};
-ghost use Rattle.rope_search_reports.specs.Patches.{patched, growth_by};
+ghost use Rattle.rope_search_reports.specs.Patches.{patched, growth_by, shift_count};
 ghost use Rattle.rope_search_reports.specs.Position.{IsNowhere};
 ghost use Rattle.rope_search_reports.specs.Ticks.{MakesAtMost, SearchesOneWhole};
 ghost use Rattle.rope_search_reports.specs.LineGroups.{SearchesOneLine};
@@ -84,6 +85,8 @@ fn room_for(
     requires within { length (patched 0 rows.old.items patches.now) ≤ len }
     requires few { growth_by patches.now < 2 ^ 64 }
     ensures room { IfOk result (λ room. HasRoom rows.new patches.now room) }
+    ensures in_place { shift_count patches.now ≤ 1 → IfOk result (λ room. room ≡ None) }
+    ensures anew { 2 ≤ shift_count patches.now → IfOk result (λ room. IsSome room) }
     ensures rows { rows.new.items ≡ rows.old.items }
     ensures fault { IfErr result (λ fault. fault ≡ Fault.Memory) }
 {
@@ -133,7 +136,8 @@ impl Search {
         changes: &[Change],
     ) -> Result<Patches, Fault>
         requires report { IsReport (text_of old.now) self.old.finder self.old.rows.items }
-        requires changed { (n : ℕ) × AreChanges changes.now 0 0 (text_of old.now) (text_of new.now) n }
+        requires changed { (n : ℕ)
+            × AreChanges changes.now 0 0 (text_of old.now) (text_of new.now) n }
         ensures fit { IfOk result (λ patches. FitIn self.new patches) }
         ensures report { IfOk result (λ patches.
             IsReport (text_of new.now) self.old.finder
