@@ -104,6 +104,13 @@ def problems(cases):
     yield from wrong
 
 
+def in_runs(cases, count=500):
+    """What is wrong with the answers to cases, which are sent in runs of so many, each of which ends in time."""
+    cases = iter(cases)
+    while batch := list(itertools.islice(cases, count)):
+        yield from problems(batch)
+
+
 def without_again(out):
     """An answer without the marks of searches that were refused and asked for again."""
     return b" ".join(word for word in out[:-1].split(b" ") if word and word != b"again") + out[-1:]

@@ -16,7 +16,7 @@ from random_patterns import Maker, character
 from test_searches import asked_at_random, pairs
 from walks import Alternation, Concat, Empty, Look, Repeat, Search, Set, spelled
 
-SIZES = (0, 1, 2, 3)  # how many bytes a piece has; 0: all are one piece
+SIZES = (0, 1, 2, 3, 5)  # how many bytes a piece has; 0: all are one piece
 RANDOM_CASES = 4_000
 ANYWHERE, AT_START, FIRST, SECOND = 0, 1, 2, 3  # where matches start: at the span's start alone, of this pattern
 BY_SEMICOLON = Settings("m", line_end=ord(";"))

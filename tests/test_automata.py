@@ -1,6 +1,7 @@
 """What the engines find, on bin/search-driver: where the first match ends, by the PikeVM, by an automaton whose states
-a cache keeps, of three capacities, and by one all of whose states are made before; and all matches, by a `Regex`, which
-chooses among them. Haystacks lie in pieces, and perhaps in slices and spans, and searches are perhaps anchored.
+a cache keeps, of four capacities, and by one all of whose states are made before; and all matches, by a `Regex`, which
+chooses among them, and by one for which some of them are off. Haystacks lie in pieces and in ropes, and perhaps in
+slices and spans, and searches are perhaps anchored.
 
 The answers are those of the table tests/searches.jsonl and those of the model of tests/walks.py. An automaton may also
 quit before the first byte of 128 or more that it sees, where a pattern has `\\b` or `\\B`, and give up where a cache
@@ -17,13 +18,15 @@ from driver import answer_to, answers, check_memory, line_of, problems, search, 
 from harness import TOP, differences, short, test
 from memory import library, tallied
 from random_patterns import Maker
+from test_all import SIZES
 from test_regexes import in_rope
 from test_searches import EXTREMES, SECOND, VECTORS, asked_at_random, listed
+from test_settings import about, engines
 from walks import Search, spelled
 
-SIZES = (0, 1, 2, 3)  # how many bytes a piece has; 0: all are one piece
-RANDOM_CASES, LITERAL_CASES, IN_ONE_RUN = 20_000, 2_000, 500
-CAPACITIES = (0, 700, None)  # of caches, in bytes; none: as it is by default
+RANDOM_CASES, LITERAL_CASES, IN_ONE_RUN = 24_000, 2_000, 500
+LITTLE_ROOM, ALL_ROOM = (0, 700), 2**64 - 1  # of caches, in bytes
+CAPACITIES = (*LITTLE_ROOM, None, ALL_ROOM)  # none: as it is by default
 
 # An automaton all of whose states are made before may have so many of these that it takes long to make.
 MANY = re.compile(r"\\[dDsSwW]")
@@ -49,20 +52,34 @@ def regex(pattern, haystack, cut=0, asked=None):
     return Case(f"regex {case.name}", "regex" + case.line[len("search") :])
 
 
+def under(ways, pattern, haystack, cut=0, asked=None):
+    """A case of a search for all matches by a `Regex`, of whose engines some are off."""
+    slice_, span, anchored = asked or ((None, None), (None, None), 0)
+    return about("under", [pattern], None, ways, haystack, cut, (slice_, span, int(anchored)))
+
+
 class Wanted:
     """A search, all of whose matches are known, and what each engine may answer."""
+
+    engines = itertools.cycle(engines())  # each in turn is on and off
 
     def __init__(self, pattern, haystack, matches, cut=0, asked=None, times=0, is_dense=True):
         self.pattern, self.haystack, self.matches = pattern, haystack, matches
         self.cut, self.asked, self.times, self.is_dense = cut, asked, times, is_dense
+        text = haystack.decode(errors="ignore")
+        self.text = text if text.encode() == haystack else None
 
     def cases(self):
-        """By the PikeVM, by a regex, by an automaton with caches of each capacity, and by one with all states."""
+        """By the PikeVM, by a regex, by one of whose engines some are off, by an automaton with caches of each capacity,
+        in a rope, if it is one of text, and by an automaton with all states."""
         how = self.pattern, self.haystack, self.cut, self.asked
         yield search(self.pattern, self.haystack, None, self.cut, self.asked, slots=2)
         yield regex(*how)
+        yield under(next(self.engines), *how)
         for capacity in CAPACITIES:
             yield automaton("lazy", *how, self.times, capacity)
+        if self.text is not None:
+            yield in_rope("rope", self.pattern, self.text, None, (1 + self.cut, 2), self.asked)
         if self.is_dense:
             yield automaton("dense", *how, self.times)
 
@@ -90,18 +107,20 @@ class Wanted:
 
     def wrong(self, told):
         """The numbers of the cases that have wrong answers."""
-        by_vm, by_regex, *by_caches = told[:5]
+        by_caches = told[3:7]
         whole = self.matches[0][0] if self.matches else None
         end = f"0 {whole[1]}" if whole else "none"
-        if by_vm != (f"0 {whole[0]} {whole[1]}" if whole else "none - -"):
+        if told[0] != (f"0 {whole[0]} {whole[1]}" if whole else "none - -"):
             yield 0
-        if by_regex != listed(self.matches):
-            yield 1
-        for number, (capacity, answer) in enumerate(zip(CAPACITIES, by_caches), 2):
-            if answer not in (end, self.quit()) and (capacity is None or not self.is_given_up(answer)):
+        for number in (1, 2) if self.text is None else (1, 2, 7):
+            if told[number] != listed(self.matches):
                 yield number
-        if self.is_dense and told[5] != by_caches[-1]:
-            yield 5
+        for number, (capacity, answer) in enumerate(zip(CAPACITIES, by_caches), 3):
+            gave_up = capacity in LITTLE_ROOM and self.is_given_up(answer)
+            if answer not in (end, self.quit()) and not gave_up:
+                yield number
+        if self.is_dense and told[-1] != by_caches[-1]:
+            yield len(told) - 1
 
 
 def answered(searches, wrong):
@@ -123,7 +142,7 @@ def compared(searches):
         for number in wanted.wrong(here):
             wrong.append(f"{about[number].name}: {short(here[number].encode())}, of matches {wanted.matches[:1]}")
         counts["with a match"] += bool(wanted.matches)
-        counts["that quit"] += "can't go on" in here[4]
+        counts["that quit"] += "can't go on" in here[5]
         counts["that gave up"] += any("gave up" in answer for answer in here)
     wrong += [f"no searches {what}" for what, count in counts.items() if not count]
     return wrong, ", ".join(f"{count} {what}" for what, count in counts.items())
@@ -213,7 +232,6 @@ IN_LITTLE_ROOM = [
 ]
 # With one that has room for all states that there can be none gives up.
 IN_ALL_ROOM = [*IN_LITTLE_ROOM[:2], ("abcdefg", b"abcdefg", "0 7"), ("[ab]*a[ab]{5}", b"abbab" * 40 + b"c", "0 199")]
-ALL_ROOM = 2**64 - 1
 
 # Each has its requests for memory refused in turn. After each that comes in a search with a cache there is one more.
 IN_NEED = [

@@ -11,14 +11,13 @@ import itertools
 import random
 import re
 
-from driver import WANT, Case, Settings, answers, check_memory, line_of, problems, written
+from driver import WANT, Case, Settings, answers, check_memory, in_runs, line_of, problems, written
 from harness import short, test
 from random_patterns import Maker
-from test_all import ANYWHERE, AT_START, FIRST, SECOND, SMALL_HAYSTACKS, SMALL_TREES, model_of
+from test_all import ANYWHERE, AT_START, FIRST, SECOND, SIZES, SMALL_HAYSTACKS, SMALL_TREES, model_of
 from test_searches import asked_at_random, pairs
 from walks import spelled
 
-SIZES = (0, 1, 2, 3, 5)  # how many bytes a piece has; 0: all are one piece
 LITTLE_ROOM, ALL_ROOM = (0, 700), 2**64 - 1  # of caches, in bytes
 CAPACITIES = (*LITTLE_ROOM, None, ALL_ROOM)  # none: as it is by default
 RANDOM_CASES, TABLE_CASES, IN_ONE_RUN = 4_000, 10_000, 500
@@ -140,13 +139,6 @@ class ByTable:
             gave_up = room in LITTLE_ROOM and self.is_given_up(answer)
             if answer not in (self.answer, self.quit()) and not gave_up:
                 yield f"{case.name}: {short(answer.encode())}, and not {self.answer}"
-
-
-def in_runs(cases):
-    """What is wrong with the answers to cases, which are sent in runs of some each."""
-    cases = iter(cases)
-    while batch := list(itertools.islice(cases, IN_ONE_RUN)):
-        yield from problems(batch)
 
 
 def by_tables(searches):

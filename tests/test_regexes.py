@@ -38,13 +38,16 @@ def leaves(text, counts):
 
 
 def in_rope(word, pattern, text, answer, counts=(1,), asked=None, around=("", ""), at=None, count=None):
-    """A case about a part of a rope, and what stands around it. It may be about a cursor that is made at a place, and
-    has a number."""
+    """A case about a part of a rope, and what stands around it, of a pattern or of a list of them. It may be about a
+    cursor that is made at a place, and has a number."""
     whole, start = around[0] + text + around[1], len(around[0].encode())
     slice_, span, anchored = asked or ((None, None), (None, None), None)
-    fields = [written(pattern), *Settings().fields(), leaves(whole, counts), whole.encode().hex(), *slice_, *span]
+    patterns = [pattern] if isinstance(pattern, str) else pattern
+    texts = ".".join(map(written, patterns)) if patterns else "-"
+    fields = [texts, *Settings().fields(), leaves(whole, counts), whole.encode().hex(), *slice_, *span]
     fields += ["" if anchored is None else int(anchored), start, start + len(text.encode()), at, count]
-    name = f"{word} {pattern[:70]!r} in {short(text.encode())} of {short(whole.encode())} by leaves of {counts}"
+    shown = " and ".join(repr(text[:70]) for text in patterns)
+    name = f"{word} {shown} in {short(text.encode())} of {short(whole.encode())} by leaves of {counts}"
     name += f" (slice, span, anchored: {asked})" if asked else ""
     name += "".join(f", {what} {number}" for what, number in (("at", at), ("with", count)) if number is not None)
     return Case(name, line_of(word, *fields), answer)

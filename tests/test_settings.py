@@ -22,7 +22,7 @@ LINES = Settings("m")  # under which `^` and `$` are those of lines
 
 # What changes no answer: engines on and off, how many bytes a cache may keep, and how many states are made before.
 ENGINES = ["hybrid", "dfa", "auto_prefilter"]
-CAPACITIES = ["", "hybrid_cache_capacity=0", "hybrid_cache_capacity=700"]
+CAPACITIES = ["", *(f"hybrid_cache_capacity={size}" for size in (0, 700, 2**64 - 1))]
 LIMITS = ["", "dfa_state_limit=none.dfa_size_limit=none", "dfa_state_limit=3", "dfa_size_limit=0"]
 IDLE = ["byte_classes=0", "backtrack=0", "onepass_size_limit=1", "prefilter=" + written("b"), "prefilter=none"]
 

@@ -1,17 +1,18 @@
 """What is found of several patterns that are searched for together, on bin/search-driver, which asks each engine: all
 matches in haystacks that lie in pieces, each with its pattern and its groups, perhaps in slices and spans, anchored, and
-anchored to a pattern, also by the iterators of both engines over automata, with a cache and with its clone; and why
-patterns are refused.
+anchored to a pattern, also by the iterators of both engines over automata, with a cache and with its clone; all in parts
+of ropes, by a `Regex`; and why patterns are refused.
 
 Its answers are those that stand here, and those of the model of tests/walks.py to cases at random.
 """
 import itertools
 import random
 
-from driver import WANT, Case, Settings, check_memory, line_of, problems, written
+from driver import WANT, Case, Settings, check_memory, in_runs, line_of, problems, written
 from harness import short, test
 from random_patterns import Maker
 from test_all import ANYWHERE, AT_START, FIRST, SECOND, SIZES
+from test_regexes import AROUND, in_rope
 from test_searches import asked_at_random, listed
 from walks import Search, spelled
 
@@ -88,9 +89,11 @@ def answer_of(trees, haystack, asked):
 
 
 def vectors():
-    for patterns, haystack, answer, *asked in VECTORS:
+    for (patterns, haystack, answer, *asked), around in zip(VECTORS, itertools.cycle(AROUND)):
         for size in SIZES:
             yield about(patterns, haystack.encode(), answer, size, *asked)
+        yield in_rope("rope", patterns, haystack, answer, (1,), *asked)
+        yield in_rope("rope", patterns, haystack, answer, (2, 1, 3), *(asked or [None]), around)
 
 
 def far():
@@ -107,23 +110,19 @@ def at_random(count=RANDOM_CASES):
     maker = Maker(chance, most_nodes=30)
     for _ in range(count):
         trees = tuple(maker.tree() for _ in range(chance.choice((0, 1, 2, 2, 2, 3, 3, 4))))
+        patterns = [spelled(tree) for tree in trees]
         haystack = "".join(map(maker.haystack, trees[:2])).encode()[:14]
         slice_, span, is_tied = asked_at_random(chance, len(haystack))
         asked = slice_, span, chance.randint(AT_START, len(trees) + FIRST) if is_tied else ANYWHERE
         answer = answer_of(trees, haystack, asked)
-        yield about([spelled(tree) for tree in trees], haystack, answer, chance.choice(SIZES), asked)
-
-
-def in_turn(cases):
-    """What is wrong with cases, of which a run of the driver has so many that it ends in time."""
-    cases = iter(cases)
-    while batch := list(itertools.islice(cases, 1_000)):
-        yield from problems(batch)
+        yield about(patterns, haystack, answer, chance.choice(SIZES), asked)
+        if (text := haystack.decode(errors="ignore")).encode() == haystack:
+            yield in_rope("rope", patterns, text, answer, (chance.randint(1, 4), 1), asked, chance.choice(AROUND))
 
 
 def test_all():
     test("several patterns are found as they should", problems(vectors()))
     test("several patterns are found far from one another", problems(far()))
-    test("several patterns at random are found as by the model", in_turn(at_random()))
+    test("several patterns at random are found as by the model", in_runs(at_random()))
     test("why several patterns are refused", problems(about(patterns, b"", answer) for patterns, answer in REFUSED))
     check_memory(about(["a|ab", "(b)+"], b"abb", "0:0-1,- 1:1-3,2-3", 1), [WANT])

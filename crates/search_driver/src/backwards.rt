@@ -46,7 +46,7 @@ fn told(alloc: Global, answer: Result<Option<HalfMatch>, MatchError>) -> Result<
     }
 }
 
-/// What is answered once a cache has served so often.
+/// What walks find once a cache of them has served so often.
 fn answer_after(
     alloc: Global,
     program: &ReverseProgram,
@@ -57,25 +57,22 @@ fn answer_after(
     requires { IsReverseCacheOf program.now cache.old }
     ensures { IsReverseCacheOf program.now cache.new }
 {
-    let utf8_empty = fields.number(INSIDE) != Some(1);
+    let utf8_empty = is_passed_over(fields);
     for _ in 0..fields.number(TIMES).unwrap_or(0) {
         let _before = search_rev(program, cache, input, utf8_empty);
     }
     told(alloc, search_rev(program, cache, input, utf8_empty))
 }
 
-/// The same by both engines over automata, which know of no settings.
-fn by_engines(
+/// The same by a cache of its own.
+fn by_walks(
     alloc: Global,
-    trees: &[&Hir],
+    program: &ReverseProgram,
     input: &mut Input<ChunkCursor>,
-) -> Result<(String, String), Fault> {
-    let lazy = hybrid::Regex::build_from_hirs(alloc, trees)?;
-    let mut cache = lazy.create_cache()?;
-    let first = told(alloc, hybrid::try_search_rev(&lazy, &mut cache, input))?;
-    let dense = dfa::Regex::build_from_hirs(alloc, trees)?;
-    let second = told(alloc, dfa::try_search_rev(&dense, input))?;
-    Ok((first, second))
+    fields: &Fields,
+) -> Result<String, Fault> {
+    let mut cache = ReverseCache::new(alloc, program)?;
+    answer_after(alloc, program, &mut cache, input, fields)
 }
 
 /// The same by the automaton of the program, and by walks where that can't tell, once the cache has
@@ -86,19 +83,83 @@ fn by_automaton(
     input: &mut Input<ChunkCursor>,
     fields: &Fields,
 ) -> Result<String, Fault> {
-    let utf8_empty = fields.number(INSIDE) != Some(1);
     let alphabet = Alphabet::new_back(alloc, program, capacity(fields))?;
     let mut cache = BackCache::new(alloc, program, &alphabet)?;
+    let utf8_empty = is_passed_over(fields);
     let _before = search_back(program, &alphabet, &mut cache, input, utf8_empty);
-    told(
-        alloc,
-        search_back(program, &alphabet, &mut cache, input, utf8_empty),
-    )
+    let answer = search_back(program, &alphabet, &mut cache, input, utf8_empty);
+    told(alloc, answer)
+}
+
+/// The same by the engine whose states a cache keeps. It knows of no settings.
+fn by_hybrid(
+    alloc: Global,
+    trees: &[&Hir],
+    input: &mut Input<ChunkCursor>,
+) -> Result<String, Fault> {
+    let re = hybrid::Regex::build_from_hirs(alloc, trees)?;
+    let mut cache = re.create_cache()?;
+    told(alloc, hybrid::try_search_rev(&re, &mut cache, input))
+}
+
+/// The same by the engine all of whose states are made before.
+fn by_dfa(alloc: Global, trees: &[&Hir], input: &mut Input<ChunkCursor>) -> Result<String, Fault> {
+    let re = dfa::Regex::build_from_hirs(alloc, trees)?;
+    told(alloc, dfa::try_search_rev(&re, input))
+}
+
+/// Whether an empty match inside a character is passed over.
+fn is_passed_over(fields: &Fields) -> bool {
+    fields.number(INSIDE) != Some(1)
 }
 
 /// How much room the states of an automaton may take.
 fn capacity(fields: &Fields) -> usize {
     fields.number(CAPACITY).unwrap_or(CACHE_CAPACITY)
+}
+
+/// The program of these patterns, turned round.
+fn reversed(alloc: Global, fields: &Fields, trees: &[&Hir]) -> Result<ReverseProgram, Fault> {
+    let terminator = fields.byte(TERMINATOR).unwrap_or(b'\n');
+    let program = compile(alloc, trees, terminator, None)?;
+    Ok(program.reversed()?)
+}
+
+/// Whether an answer is the same as this one.
+fn agree(told: &str, answer: &str) -> Result<(), Fault> {
+    if told == answer {
+        Ok(())
+    } else {
+        Err(Fault::Differs)
+    }
+}
+
+/// Whether both engines over automata answer so, as far as they know of what is set.
+fn engines_agree(
+    alloc: Global,
+    fields: &Fields,
+    trees: &[&Hir],
+    input: &mut Input<ChunkCursor>,
+    answer: &str,
+) -> Result<(), Fault> {
+    if fields.byte(TERMINATOR).is_some() || !is_passed_over(fields) {
+        return Ok(());
+    }
+    agree(&by_hybrid(alloc, trees, input)?, answer)?;
+    agree(&by_dfa(alloc, trees, input)?, answer)
+}
+
+/// What is found in an input by walks and by the automaton, which must agree.
+fn by_program(
+    alloc: Global,
+    fields: &Fields,
+    trees: &[&Hir],
+    input: &mut Input<ChunkCursor>,
+) -> Result<String, Fault> {
+    let program = reversed(alloc, fields, trees)?;
+    let answer = by_walks(alloc, &program, input, fields)?;
+    agree(&by_automaton(alloc, &program, input, fields)?, &answer)?;
+    Ok(answer)
 }
 
 /// What is found in pieces of a haystack.
@@ -110,20 +171,9 @@ fn found_in(
 ) -> Result<String, Fault>
     requires { length (joined pieces.now) < 2 ^ 63 }
 {
-    let terminator = fields.byte(TERMINATOR);
-    let program = compile(alloc, trees, terminator.unwrap_or(b'\n'), None)?.reversed()?;
-    let mut cache = ReverseCache::new(alloc, &program)?;
     let mut input = input(pieces, &Asked::read(fields, ASKED));
-    let answer = answer_after(alloc, &program, &mut cache, &mut input, fields)?;
-    if by_automaton(alloc, &program, &mut input, fields)? != answer {
-        return Err(Fault::Differs);
-    }
-    if terminator.is_none() && fields.number(INSIDE) != Some(1) {
-        let (lazy, dense) = by_engines(alloc, trees, &mut input)?;
-        if lazy != answer || dense != answer {
-            return Err(Fault::Differs);
-        }
-    }
+    let answer = by_program(alloc, fields, trees, &mut input)?;
+    engines_agree(alloc, fields, trees, &mut input, &answer)?;
     Ok(answer)
 }
 
@@ -137,31 +187,70 @@ pub fn found(alloc: Global, fields: &Fields) -> Result<String, Fault> {
     found_in(alloc, fields, &trees, &pieces)
 }
 
-/// What an automaton tells once a cache of it has served so often. Where the search was refused
-/// memory, it is asked for again with the same cache, and `again` stands first.
-fn told_after(
-    alloc: Global,
+/// Searches by an automaton so often before an answer is told.
+fn serve(
     program: &ReverseProgram,
     alphabet: &Alphabet,
     cache: &mut Cache,
     input: &mut Input<ChunkCursor>,
     fields: &Fields,
+)
+    requires alphabet { IsAlphabetBack program.now alphabet.now }
+    requires made { IsCacheOf (backward program.now) alphabet.now cache.old }
+    ensures { IsCacheOf (backward program.now) alphabet.now cache.new }
+{
+    let utf8_empty = is_passed_over(fields);
+    for _ in 0..fields.number(TIMES).unwrap_or(0) {
+        let _before = try_search_back(program, alphabet, cache, input, utf8_empty);
+    }
+}
+
+/// What an automaton tells. Where the search is refused memory, it is asked for again with the same
+/// cache, and `again` stands first.
+fn told_or_again(
+    alloc: Global,
+    program: &ReverseProgram,
+    alphabet: &Alphabet,
+    cache: &mut Cache,
+    input: &mut Input<ChunkCursor>,
+    utf8_empty: bool,
 ) -> Result<String, Fault>
     requires alphabet { IsAlphabetBack program.now alphabet.now }
     requires made { IsCacheOf (backward program.now) alphabet.now cache.old }
 {
-    let utf8_empty = fields.number(INSIDE) != Some(1);
-    for _ in 0..fields.number(TIMES).unwrap_or(0) {
-        let _before = try_search_back(program, alphabet, cache, input, utf8_empty);
+    let answer = try_search_back(program, alphabet, cache, input, utf8_empty);
+    if answer != Err(MatchError::Memory) {
+        return told(alloc, answer);
     }
-    match try_search_back(program, alphabet, cache, input, utf8_empty) {
-        Err(MatchError::Memory) => {
-            let again = try_search_back(program, alphabet, cache, input, utf8_empty);
-            let answer = told(alloc, again)?;
-            Ok(format!(in alloc; "again {answer}")?)
-        }
-        answer => told(alloc, answer),
-    }
+    let answer = try_search_back(program, alphabet, cache, input, utf8_empty);
+    again(alloc, told(alloc, answer)?)
+}
+
+/// An answer behind the word `again`.
+fn again(alloc: Global, answer: String) -> Result<String, Fault> {
+    Ok(format!(in alloc; "again {answer}")?)
+}
+
+/// What an automaton tells once a cache of it has served so often.
+fn by_alphabet(
+    alloc: Global,
+    program: &ReverseProgram,
+    alphabet: &Alphabet,
+    input: &mut Input<ChunkCursor>,
+    fields: &Fields,
+) -> Result<String, Fault>
+    requires { IsAlphabetBack program.now alphabet.now }
+{
+    let mut cache = Cache::new_back(alloc, program, alphabet)?;
+    serve(program, alphabet, &mut cache, input, fields);
+    told_or_again(
+        alloc,
+        program,
+        alphabet,
+        &mut cache,
+        input,
+        is_passed_over(fields),
+    )
 }
 
 /// What an automaton tells of pieces of a haystack.
@@ -173,12 +262,10 @@ fn told_in(
 ) -> Result<String, Fault>
     requires { length (joined pieces.now) < 2 ^ 63 }
 {
-    let terminator = fields.byte(TERMINATOR).unwrap_or(b'\n');
-    let program = compile(alloc, trees, terminator, None)?.reversed()?;
+    let program = reversed(alloc, fields, trees)?;
     let alphabet = Alphabet::new_back(alloc, &program, capacity(fields))?;
-    let mut cache = Cache::new_back(alloc, &program, &alphabet)?;
     let mut input = input(pieces, &Asked::read(fields, ASKED));
-    told_after(alloc, &program, &alphabet, &mut cache, &mut input, fields)
+    by_alphabet(alloc, &program, &alphabet, &mut input, fields)
 }
 
 /// The same by an automaton of the program turned round alone, or why that can't tell.

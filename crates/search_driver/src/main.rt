@@ -39,8 +39,9 @@
 //!   The PikeVM and a `Regex` must find it too.
 //! - `best,PATTERNS,SETTINGS,CUT,HAYSTACK,ASKED,INSIDE`: these matches one after the other, parted
 //!   by commas, by the PikeVM; a `Regex` must give the same.
-//! - `listed,PATTERNS,SETTINGS,CUT,HAYSTACK,ASKED,INSIDE,COUNT`: all matches of several patterns,
-//!   listed by two passes, each as its pattern, where it ends, and what is noted in so many slots.
+//! - `listed,PATTERNS,SETTINGS,CUT,HAYSTACK,ASKED,INSIDE,COUNT,ITERATED`: all matches of several
+//!   patterns, listed by two passes, each as its pattern, where it ends, and what is noted in so
+//!   many slots. A `Regex` must list them too, and its iterator give them where `ITERATED` is 1.
 //! - `backwards,PATTERNS,SETTINGS,CUT,HAYSTACK,ASKED,INSIDE,TIMES,CAPACITY`: of the matches of
 //!   several patterns that end at the end of the span the one of the least start, then of the least
 //!   pattern, as its pattern and start, or `none`, or why there is no answer; once the cache has
@@ -67,12 +68,13 @@
 //!   and of a cache before a search and behind it.
 //! - `regex,PATTERN,SETTINGS,CUT,HAYSTACK,ASKED`: all matches, with their groups, by a `Regex`. It
 //!   has no settings: these fields aren't read.
-//! - `rope,PATTERN,SETTINGS,CUT,HAYSTACK,ASKED,START,END,AT,TIMES`: the same in the part from the
-//!   byte `START` to the byte `END` of a rope whose leaves are the pieces, by a cursor that is made
-//!   at the place `AT`. One cache serves so often. No leaf cuts a character or a CR LF.
-//! - `counts,PATTERN,SETTINGS,CUT,HAYSTACK,ASKED,START,END,AT,CALLS`: of both iterators there, how
+//! - `rope,PATTERNS,SETTINGS,CUT,HAYSTACK,ASKED,START,END,AT,TIMES`: the same of several patterns in
+//!   the part from the byte `START` to the byte `END` of a rope whose leaves are the pieces, by a
+//!   cursor that is made at the place `AT`. One cache serves so often. No leaf cuts a character or
+//!   a CR LF.
+//! - `counts,PATTERNS,SETTINGS,CUT,HAYSTACK,ASKED,START,END,AT,CALLS`: of both iterators there, how
 //!   many matches so many calls of `next` give, and how many `count` tells then.
-//! - `split,PATTERN,SETTINGS,CUT,HAYSTACK,ASKED,START,END,AT,LIMIT`: the parts between matches
+//! - `split,PATTERNS,SETTINGS,CUT,HAYSTACK,ASKED,START,END,AT,LIMIT`: the parts between matches
 //!   there, at most so many.
 //! - `lazy,PATTERN,SETTINGS,CUT,HAYSTACK,ASKED,TIMES,CAPACITY`: the pattern and the end of the
 //!   first match, by an automaton whose states a cache of that capacity keeps, once the cache has

@@ -5,10 +5,10 @@ ghost use Rattle.regex_cursor.specs.Regexes.{IsCacheOf};
 
 use crate::fields::{Fault, Fields};
 use crate::haystacks::{Asked, ask, haystack, input, pieces};
-use crate::ropes;
 use crate::searches::{ASKED, CUT, HAYSTACK, tell};
+use crate::{ropes, several};
 use regex_cursor::engines::meta::{Cache, Regex};
-use regex_cursor::{Captures, Cursor, Input, Match, MatchError, NonMaxUsize, Span};
+use regex_cursor::{Captures, Cursor, Input, Match, MatchError, NonMaxUsize, PatternID, Span};
 use std::alloc::{AllocError, Global};
 
 /// Where it stands which part of a rope is searched, and where a cursor over it is made.
@@ -27,10 +27,17 @@ pub fn in_pieces(alloc: Global, fields: &Fields) -> Result<String, Fault> {
     all_matches(alloc, &re, &mut input, 1)
 }
 
+/// The regex of a line's patterns, which are parted by dots.
+fn of_patterns(alloc: Global, fields: &Fields) -> Result<Regex, Fault> {
+    let texts = several::texts(alloc, fields)?;
+    let patterns = several::listed(alloc, &texts)?;
+    Ok(Regex::new_many(alloc, &patterns)?)
+}
+
 /// What a line asks for in a part of a rope.
 pub fn in_rope(alloc: Global, fields: &Fields) -> Result<String, Fault> {
     let haystack = haystack(alloc, fields, HAYSTACK)?;
-    let re = Regex::new(alloc, &fields.pattern(alloc)?)?;
+    let re = of_patterns(alloc, fields)?;
     let tree = ropes::tree(alloc, &pieces(alloc, &haystack, fields.word(CUT))?)?;
     let mut input = Input::new(ropes::cursor(&tree, fields, PART)?);
     ask(&mut input, &Asked::read(fields, ASKED));
@@ -193,6 +200,14 @@ fn span_between(start: Option<NonMaxUsize>, end: Option<NonMaxUsize>) -> Option<
     }
 }
 
+/// Where a match of this pattern lies, if that is the first one, of which the first two slots are.
+fn of_first(pattern: Option<PatternID>, found: Option<Span>) -> Option<Span> {
+    match pattern {
+        Some(pattern) if pattern == PatternID::ZERO => found,
+        _ => None,
+    }
+}
+
 /// The match that is found with a cache, as each of three calls must tell it.
 fn found_with<C: Cursor>(
     re: &Regex,
@@ -208,8 +223,8 @@ fn found_with<C: Cursor>(
     let searched = re.search_with(cache, input)?.map(|found| found.span());
     let mut slots = [None; 3];
     let pattern = re.search_slots_with(cache, input, &mut slots)?;
-    let noted = span_between(slots[0], slots[1]);
-    if searched == found && noted == found && pattern.is_some() == found.is_some() {
+    let noted = span_between(slots[0], slots[1]) == of_first(pattern, found);
+    if searched == found && noted && pattern == caps.pattern() {
         Ok(found)
     } else {
         Err(Fault::Differs)
