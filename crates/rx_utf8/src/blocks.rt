@@ -5,7 +5,7 @@ ghost use Rattle.rx_sets.specs.Sets.{in_ranges};
 ghost use Rattle.rx_utf8.specs.Automata.{step_in, IsRow};
 ghost use Rattle.rx_utf8.specs.Blocks.{Extends, prepared, limit, size, AllBetween, Fits, rows_of, any_next};
 
-use crate::byte_ranges::{ByteRange, push_byte};
+use crate::byte_ranges::{ByteRange, push_byte, state_number};
 use rx_sets::Range;
 use std::alloc::{AllocError, Global};
 
@@ -85,7 +85,7 @@ pub(crate) fn target(
     ranges: &[Range],
     rest: u32,
     value: u32,
-) -> Result<Option<Option<usize>>, AllocError>
+) -> Result<Option<Option<u16>>, AllocError>
     requires rest { rest ≤ 3 }
     requires value { value < limit rest }
     requires prepared { Extends prepared (rows_of rows.old.items) }
@@ -106,7 +106,7 @@ pub(crate) fn target(
     let high = low + (size(rest) - 1);
     match cover(ranges, low, high) {
         Some(false) => return Ok(None),
-        Some(true) => return Ok(Some(Some(rest as usize))),
+        Some(true) => return Ok(Some(Some(rest as u16))),
         None => {}
     }
     // What lies outside the block is left out, so that its parts don't look at it again.
@@ -119,11 +119,11 @@ pub(crate) fn target(
     }
     let state = rows.len();
     push_row(rows, row)?;
-    Ok(Some(Some(state)))
+    Ok(Some(Some(state_number(state)?)))
 }
 
 /// Appends a row that leads from each byte that continues a character to this state.
-fn push_any(rows: &mut Vec<Vec<ByteRange>>, next: Option<usize>) -> Result<(), AllocError>
+fn push_any(rows: &mut Vec<Vec<ByteRange>>, next: Option<u16>) -> Result<(), AllocError>
     ensures { OnOk result (rows_of rows.new.items ≡ rows_of rows.old.items
         ++ (any_next next ∷ [])) }
 {

@@ -1,6 +1,6 @@
 //! Ranges of bytes that lead to a state, and rows of them.
 
-ghost use Rattle.std.specs.Prelude.{ℕ, ◌≡◌, ◌+◌, ◌≤◌, ◌<◌, cond, nat_eq, Some, OnOk, MatchBool};
+ghost use Rattle.std.specs.Prelude.{ℕ, ◌≡◌, ◌+◌, ◌≤◌, ◌<◌, cond, nat_eq, Some, IfOk, OnOk, MatchBool};
 ghost use Rattle.rx_utf8.specs.Automata.{look_up, IsRow, RiseWithin};
 
 use std::alloc::AllocError;
@@ -13,12 +13,33 @@ pub struct ByteRange {
     /// The last byte, which is in the range.
     pub last: u8,
     /// The number of the state that they lead to, and `None` where they end a character.
-    pub next: Option<usize>,
+    pub next: Option<u16>,
+}
+
+/// The number of a state in the 16 bits that ranges have for it: rows have hundreds of them. An
+/// automaton has at most some 22,000 states, whatever its set, so that none is refused.
+pub(crate) fn state_number(state: usize) -> Result<u16, AllocError>
+    ensures { IfOk result (λ number. number ≡ state) }
+{
+    match u16::try_from(state) {
+        Ok(number) => Ok(number),
+        Err(_) => Err(AllocError),
+    }
+}
+
+/// Where a range leads, its state as an index.
+fn place(next: Option<u16>) -> Option<usize>
+    ensures { result ≡ next }
+{
+    match next {
+        Some(state) => Some(usize::from(state)),
+        None => None,
+    }
 }
 
 impl ByteRange {
     /// Whether the byte comes right after the range and leads to the same state.
-    fn takes_in(self, byte: u8, next: Option<usize>) -> bool
+    fn takes_in(self, byte: u8, next: Option<u16>) -> bool
         ensures { MatchBool result ((self.last + 1 ≡ byte) × (self.next ≡ next)) (Unit {0}) }
     {
         u32::from(self.last) + 1 == u32::from(byte) && self.next == next
@@ -35,7 +56,7 @@ pub(crate) fn look_up(row: &[ByteRange], byte: u8) -> Option<Option<usize>>
             return None;
         }
         if byte <= range.last {
-            return Some(range.next);
+            return Some(place(range.next));
         }
     }
     None
@@ -46,7 +67,7 @@ pub(crate) fn look_up(row: &[ByteRange], byte: u8) -> Option<Option<usize>>
 pub(crate) fn push_byte(
     row: &mut Vec<ByteRange>,
     byte: u8,
-    next: Option<usize>,
+    next: Option<u16>,
 ) -> Result<(), AllocError>
     requires { RiseWithin 0 byte row.old.items }
     ensures rises { OnOk result (RiseWithin 0 (byte + 1) row.new.items) }

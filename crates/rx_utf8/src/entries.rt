@@ -6,25 +6,25 @@ ghost use Rattle.rx_walks.specs.Reversed.{has};
 ghost use Rattle.rx_utf8.specs.Blocks.{rows_of};
 ghost use Rattle.rx_utf8.specs.Subsets.{covers, entries_from, entries_of, in_some, is_place, lists_of, sources};
 
-use crate::byte_ranges::ByteRange;
+use crate::byte_ranges::{ByteRange, state_number};
 use std::alloc::{AllocError, Global};
 
 /// A range of bytes that leads on from a state.
 #[derive(Clone, Copy)]
 pub(crate) struct Entry {
     /// The state.
-    pub(crate) source: usize,
+    pub(crate) source: u16,
     /// The bytes, and where they lead.
     pub(crate) range: ByteRange,
 }
 
 /// Whether it is one of the places: the end, if it is one, and those of the states that are.
-fn is_place(end: bool, states: &[bool], next: Option<usize>) -> bool
+fn is_place(end: bool, states: &[bool], next: Option<u16>) -> bool
     ensures { result ≡ is_place end states.now next }
 {
     match next {
         None => end,
-        Some(state) => match states.get(state) {
+        Some(state) => match states.get(usize::from(state)) {
             Some(is_one) => *is_one,
             None => false,
         },
@@ -32,20 +32,21 @@ fn is_place(end: bool, states: &[bool], next: Option<usize>) -> bool
 }
 
 /// Adds the states with these numbers, as far as there are such.
-fn insert(states: &mut Vec<bool>, numbers: &[usize])
+fn insert(states: &mut Vec<bool>, numbers: &[u16])
     ensures len { length states.new.items ≡ length states.old.items }
     ensures states { (s : ℕ) → get_or states.new.items s false ≡ (get_or states.old.items s false
         || (nat_lt s (length states.old.items) && has numbers.now s)) }
 {
     for number in numbers {
-        if *number < states.len() {
-            states[*number] = true;
+        let state = usize::from(*number);
+        if state < states.len() {
+            states[state] = true;
         }
     }
 }
 
 /// Makes them the states that are in one of the sets.
-pub(crate) fn set_states(states: &mut Vec<bool>, sets: &[Vec<usize>])
+pub(crate) fn set_states(states: &mut Vec<bool>, sets: &[Vec<u16>])
     ensures len { length states.new.items ≡ length states.old.items }
     ensures states { (s : ℕ) → get_or states.new.items s false
         ≡ (nat_lt s (length states.old.items) && in_some (lists_of sets.now) s) }
@@ -59,7 +60,7 @@ pub(crate) fn set_states(states: &mut Vec<bool>, sets: &[Vec<usize>])
 /// Appends the ranges of a row that lead to one of the places.
 fn push_entries(
     entries: &mut Vec<Entry>,
-    source: usize,
+    source: u16,
     row: &[ByteRange],
     end: bool,
     states: &[bool],
@@ -90,13 +91,19 @@ pub(crate) fn entries_into(
 {
     let mut entries = Vec::new(alloc);
     for source in 0..rows.len() {
-        push_entries(&mut entries, source, &rows[source], end, states)?;
+        push_entries(
+            &mut entries,
+            state_number(source)?,
+            &rows[source],
+            end,
+            states,
+        )?;
     }
     Ok(entries)
 }
 
 /// Empties the lists.
-fn clear(lists: &mut Vec<Vec<usize>>)
+fn clear(lists: &mut Vec<Vec<u16>>)
     ensures len { length lists.new.items ≡ length lists.old.items }
     ensures lists { (b : ℕ) → get_or (lists_of lists.new.items) b [] ≡ [] }
 {
@@ -106,11 +113,7 @@ fn clear(lists: &mut Vec<Vec<usize>>)
 }
 
 /// Appends a state to the lists of the bytes that lead on from it.
-fn push_source(
-    lists: &mut Vec<Vec<usize>>,
-    range: ByteRange,
-    source: usize,
-) -> Result<(), AllocError>
+fn push_source(lists: &mut Vec<Vec<u16>>, range: ByteRange, source: u16) -> Result<(), AllocError>
     requires { length lists.old.items ≡ 256 }
     ensures len { length lists.new.items ≡ 256 }
     ensures lists { OnOk result ((b : ℕ) → get_or (lists_of lists.new.items) b []
@@ -124,7 +127,7 @@ fn push_source(
 
 /// Makes the lists those of the states from which each byte leads to one of the places.
 pub(crate) fn set_sources(
-    lists: &mut Vec<Vec<usize>>,
+    lists: &mut Vec<Vec<u16>>,
     entries: &[Entry],
     end: bool,
     states: &[bool],

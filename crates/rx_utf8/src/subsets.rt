@@ -1,34 +1,45 @@
 //! An automaton turned round, and made deterministic: its states stand for sets of the states of
 //! the other one.
 
-ghost use Rattle.std.specs.Prelude.{ℕ, ◌≡◌, ◌<◌, ◌≤◌, ◌+◌, ◌++◌, [], ◌∷◌, length, get_or, All, IfOk, IfSome, OnOk};
+ghost use Rattle.std.specs.Prelude.{ℕ, ◌≡◌, ◌<◌, ◌≤◌, ◌+◌, ◌++◌, [], ◌∷◌, length, get_or, All, IsTrue, IfOk, IfSome, OnOk};
 ghost use Rattle.rx_walks.specs.Transposed.{ReadsBack, NeverReturns, at_the_end};
 ghost use Rattle.rx_utf8.specs.Automata.{look_up, step_in, IsRow};
 ghost use Rattle.rx_utf8.specs.Blocks.{Extends, rows_of};
 ghost use Rattle.rx_utf8.specs.Subsets.{AddsRows, IsLeadOf, lists_of};
 
-use crate::byte_ranges::{ByteRange, push_byte};
+use crate::byte_ranges::{ByteRange, push_byte, state_number};
 use crate::entries::{Entry, entries_into, set_sources, set_states};
 use rx_walks::laws_back::transposed_reads_alike;
 use std::alloc::{AllocError, Global};
-use std::collections::HashMap;
 
 /// A hash with a further number mixed in.
-fn mixed(hash: u64, number: usize) -> u64 {
+fn mixed(hash: u64, number: u64) -> u64 {
     hash.rotate_left(29)
         .wrapping_add(0xD1B5_4A32_D192_ED03)
-        .wrapping_add(number as u64)
+        .wrapping_add(number)
         .wrapping_mul(0x9E37_79B9_7F4A_7C15)
 }
 
 /// A number by which sets are looked up, among those of the states from this one on: the same sets
 /// have the same.
-fn hash(from: usize, set: &[usize]) -> u64 {
-    let mut hash = mixed(0, from);
+fn hash(from: usize, set: &[u16]) -> u64 {
+    let mut hash = mixed(0, from as u64);
     for state in set {
-        hash = mixed(hash, *state);
+        hash = mixed(hash, u64::from(*state));
     }
     hash
+}
+
+/// In which chain sets with this hash stand.
+fn chain(hash: u64) -> usize {
+    (hash >> 56) as usize
+}
+
+/// The hash of a state's set, and the next state in its chain, which is 0 where there is none.
+#[derive(Clone, Copy)]
+struct Link {
+    hash: u64,
+    next: u16,
 }
 
 /// The sets of states that the states of the automaton stand for. The first state stands for the
@@ -36,10 +47,13 @@ fn hash(from: usize, set: &[usize]) -> u64 {
 #[derive(Drop)]
 pub(crate) struct Subsets {
     alloc: Global,
-    sets: Vec<Vec<usize>>,
-    // By its hash the state that stands for a set. That each set is found again isn't proved: if it
-    // weren't, two states might stand for the same set.
-    numbers: HashMap<u64, usize>,
+    sets: Vec<Vec<u16>>,
+    // By state, and by chain the first state in it. That each set is found again isn't proved: if
+    // it weren't, two states might stand for the same set.
+    links: Vec<Link>,
+    heads: Vec<u16>,
+    // The one that was asked for last: often it is asked for again.
+    last: u16,
 }
 
 impl Subsets {
@@ -49,30 +63,66 @@ impl Subsets {
     {
         let mut sets = Vec::new(alloc);
         sets.push(Vec::new(alloc))?;
+        let mut links = Vec::new(alloc);
+        links.push(Link { hash: 0, next: 0 })?;
         Ok(Subsets {
             alloc,
             sets,
-            numbers: HashMap::new(alloc),
+            links,
+            heads: vec![in alloc; 0; 256]?,
+            last: 0,
         })
     }
 
+    /// Whether the state is one from `from` on that stands for the set.
+    fn stands_for(&self, number: u16, from: usize, set: &[u16]) -> bool
+        ensures from { IsTrue result → from ≤ number }
+        ensures known { IsTrue result → number < length self.now.sets.items }
+        ensures set { IsTrue result
+            → get_or (lists_of self.now.sets.items) number [] ≡ set.now }
+    {
+        match self.sets.get(usize::from(number)) {
+            Some(known) => from <= usize::from(number) && known.as_slice() == set,
+            None => false,
+        }
+    }
+
     /// The state from `from` on that is known to stand for the set.
-    fn find(&self, hash: u64, from: usize, set: &[usize]) -> Option<usize>
+    fn find(&self, hash: u64, from: usize, set: &[u16]) -> Option<u16>
         ensures from { IfSome result (λ t. from ≤ t) }
         ensures known { IfSome result (λ t. t < length self.now.sets.items) }
         ensures set { IfSome result (λ t. get_or (lists_of self.now.sets.items) t [] ≡ set.now) }
     {
-        let number = *self.numbers.get(&hash)?;
-        let known = self.sets.get(number)?;
-        if from <= number && known.as_slice() == set {
-            Some(number)
-        } else {
-            None
+        let mut number = *self.heads.get(chain(hash))?;
+        for _ in 0..self.links.len() {
+            if number == 0 {
+                return None;
+            }
+            let link = *self.links.get(usize::from(number))?;
+            if link.hash == hash && self.stands_for(number, from, set) {
+                return Some(number);
+            }
+            number = link.next;
         }
+        None
+    }
+
+    /// Puts a state at the head of its chain, as the one that was asked for last.
+    fn link(&mut self, hash: u64, number: u16) -> Result<(), AllocError>
+        ensures { self.new.sets ≡ self.old.sets }
+    {
+        self.last = number;
+        let Some(head) = self.heads.get_mut(chain(hash)) else {
+            return Ok(());
+        };
+        let next = *head;
+        *head = number;
+        self.links.push(Link { hash, next })?;
+        Ok(())
     }
 
     /// The state from `from` on that stands for the set: one that does so already, or a new one.
-    fn number(&mut self, from: usize, set: &[usize]) -> Result<usize, AllocError>
+    fn number(&mut self, from: usize, set: &[u16]) -> Result<u16, AllocError>
         requires { from ≤ length self.old.sets.items }
         ensures kept { OnOk result (Extends (lists_of self.old.sets.items)
             (lists_of self.new.sets.items)) }
@@ -80,20 +130,23 @@ impl Subsets {
         ensures known { IfOk result (λ t. t < length self.new.sets.items) }
         ensures set { IfOk result (λ t. get_or (lists_of self.new.sets.items) t [] ≡ set.now) }
     {
+        if self.stands_for(self.last, from, set) {
+            return Ok(self.last);
+        }
         let hash = hash(from, set);
         if let Some(number) = self.find(hash, from, set) {
+            self.last = number;
             return Ok(number);
         }
         let number = self.sets.len();
         self.sets.push(set.to_vec(self.alloc)?)?;
-        if self.numbers.insert(hash, number).is_err() {
-            return Err(AllocError);
-        }
+        let number = state_number(number)?;
+        self.link(hash, number)?;
         Ok(number)
     }
 
     /// Where a byte leads back that leads on from the states of the set.
-    fn lead(&mut self, from: usize, set: &[usize]) -> Result<Option<Option<usize>>, AllocError>
+    fn lead(&mut self, from: usize, set: &[u16]) -> Result<Option<Option<u16>>, AllocError>
         requires { from ≤ length self.old.sets.items }
         ensures kept { OnOk result (Extends (lists_of self.old.sets.items)
             (lists_of self.new.sets.items)) }
@@ -113,7 +166,7 @@ impl Subsets {
 /// from `from` on.
 fn set_row(
     row: &mut Vec<ByteRange>,
-    lists: &[Vec<usize>],
+    lists: &[Vec<u16>],
     subsets: &mut Subsets,
     from: usize,
 ) -> Result<(), AllocError>
@@ -144,7 +197,7 @@ struct Maker {
     // The states that are in a set.
     states: Vec<bool>,
     // By byte the states from which it leads into the set.
-    lists: Vec<Vec<usize>>,
+    lists: Vec<Vec<u16>>,
     // The row that is being made: it is copied once its length is known.
     row: Vec<ByteRange>,
 }

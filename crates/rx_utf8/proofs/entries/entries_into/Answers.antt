@@ -13,7 +13,7 @@ loop-source-preserved c =
     let old = c.loop-source.entries.items in
     let rest = entries_from into (s + 1) (drop (s + 1) (lists_of rows)) in
     let within : s < length rows = omega arith in
-    ap (λ xs. xs ++ rest) (c.in_ok-push_entries.ensures ∙ ap (λ x. old ++ entries_of into s x) c.deref.ensures.value)
+    ap (λ xs. xs ++ rest) (c.in_ok-push_entries.ensures ∙ ap (λ k. old ++ entries_of into k c.deref.result.now) c.in_ok-state_number.ensures ∙ ap (λ x. old ++ entries_of into s x) c.deref.ensures.value)
     ∙ append_assoc old (entries_of into s row.items) rest
     ∙ ap (λ xs. old ++ xs) (sym (entries_next into rows s row within c.index-rows-source.is))
     ∙ c.loop-source.invariant
