@@ -1,4 +1,5 @@
 pub mod Engines
+pub mod Configs
 pub mod Iterating
 pub mod FindMatches
 pub mod Searches

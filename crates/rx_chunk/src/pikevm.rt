@@ -29,10 +29,11 @@ use std::alloc::{AllocError, Global};
 use std::marker::Model;
 
 mod all;
+mod config;
 mod find_matches;
 
+pub use config::Config;
 pub use find_matches::FindMatches;
-pub use rx_engine::Config;
 
 /// Builds a `PikeVM` of a pattern, or of several.
 #[derive(Debug, Drop)]
@@ -68,14 +69,15 @@ impl Builder {
         })
     }
 
-    /// Takes over the settings that are set in these, and leaves the others.
+    /// Takes over the settings that are set in these, and leaves the others. It drops a prefilter:
+    /// a PikeVM goes by none.
     pub fn configure(&mut self, config: Config) -> &mut Builder
         ensures set { result.now ≡ record self.old {
-          settings = settings_over config self.old.settings;
+          settings = settings_over config.engine self.old.settings;
         } }
         ensures same_reference { result.ghost_name ≡ self.entry.ghost_name }
     {
-        self.builder.configure(config);
+        self.builder.configure(config.of_engine());
         self
     }
 
@@ -140,9 +142,18 @@ impl Builder {
 /// An engine that searches for a pattern, or for several. Contracts see their program, which match
 /// it finds, those of their groups that are noted, and whether it passes over empty matches inside
 /// a character.
-#[derive(Debug, Drop)]
+#[derive(Debug)]
 pub struct PikeVM {
     compiled: Compiled,
+}
+
+// Written out, so that no crate above proves anew how what it holds is let go.
+impl Drop for PikeVM {
+    fn drop(self) {
+        let PikeVM {
+            compiled: _compiled,
+        } = self;
+    }
 }
 
 impl Model for PikeVM {
@@ -257,11 +268,21 @@ impl PikeVM {
 
 /// What searches with an engine keep from one to the next, so that they ask for memory once. It
 /// serves the engine that it was made for or reset for, after each search again, refused or not.
-#[derive(Debug, Drop)]
+#[derive(Debug)]
 pub struct Cache {
     room: search::Cache,
     // Slots for the whole match of each pattern.
     places: Vec<Option<NonMaxUsize>>,
+}
+
+// Written out, so that no crate above proves anew how what it holds is let go.
+impl Drop for Cache {
+    fn drop(self) {
+        let Cache {
+            room: _room,
+            places: _places,
+        } = self;
+    }
 }
 
 impl Model for Cache {
@@ -316,9 +337,11 @@ impl Cache {
 }
 
 /// Returns the pattern of the match that is found, if there is one, and puts its places into the
-/// slots, as many as there are; all others hold none. Those of group k are 2k and 2k + 1. Where
-/// `earliest` of the input is set, it stops at the first end of a match: what is in the slots is
-/// what is found up to there. The input asks for the same afterwards.
+/// slots, as many as there are; all others hold none. Of a single pattern those of group k are 2k
+/// and 2k + 1; of several those of pattern p's group 0 are 2p and 2p + 1, and those of its further
+/// groups stand behind these of all patterns, as `group_info` tells. Where `earliest` of the input
+/// is set, it stops at the first end of a match: what is in the slots is what is found up to there.
+/// The input asks for the same afterwards.
 ///
 /// The one error is `Memory`: then no slot holds a place. Requires that the cache is one for the
 /// engine, as it is afterwards too.

@@ -22,12 +22,23 @@ use std::marker::Model;
 
 /// What searches back through a program turned round keep from one to the next: the states that its
 /// automaton has come to, and room for walks side by side. Contracts see both.
-#[derive(Debug, Drop)]
+#[derive(Debug)]
 pub struct BackCache {
     states: Cache,
     room: ReverseCache,
     // Whether walks alone serve: a search gave up for want of room, or it was asked for.
     walks_alone: bool,
+}
+
+// Written out, so that no crate above proves anew how what it holds is let go.
+impl Drop for BackCache {
+    fn drop(self) {
+        let BackCache {
+            states: _states,
+            room: _room,
+            walks_alone: _walks_alone,
+        } = self;
+    }
 }
 
 impl Model for BackCache {

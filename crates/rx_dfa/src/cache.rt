@@ -48,7 +48,7 @@ pub(crate) const STATE_BYTES: usize = size_of::<AutomatonState>();
 /// is of the program that it was made for, how many entries a row of its table has, the rows, the
 /// state of each, about how many bytes they take, and how often all of them were taken out in the
 /// search that it served last.
-#[derive(Debug, Drop)]
+#[derive(Debug)]
 pub struct Cache {
     pub(crate) maker: Maker,
     pub(crate) width: usize,
@@ -64,6 +64,23 @@ pub struct Cache {
     pub(crate) clear_count: usize,
     // The numbers that first states had, by how walks start and what stands before.
     pub(crate) firsts: [usize; 15],
+}
+
+// Written out, so that no crate above proves anew how what it holds is let go.
+impl Drop for Cache {
+    fn drop(self) {
+        let Cache {
+            maker: _maker,
+            width: _width,
+            table: _table,
+            states: _states,
+            numbers: _numbers,
+            used: _used,
+            cleared: _cleared,
+            clear_count: _clear_count,
+            firsts: _firsts,
+        } = self;
+    }
 }
 
 impl Model for Cache {
